@@ -1,0 +1,61 @@
+//! What follows from the definitions alone.
+
+ghost use Rattle.std.specs.Prelude.{◌≡◌, ℕ, ◌+◌, ◌-◌, ◌*◌, ◌<◌, ◌≤◌, ◌++◌, List, [], IsTrue, length, replicate};
+ghost use Rattle.block_store.specs.Blocks.{Blocks, block_count, nth_block, is_within, overwritten, filled, zeroed, run};
+
+/// What was written is read back.
+pub fn written_is_read_back()
+    ensures { (blocks : Blocks) (first count : ℕ) (bytes : List ℕ) → length bytes ≡ 512 * count →
+        run (overwritten blocks first bytes) first count ≡ bytes }
+{}
+
+/// A write changes no block before or behind its range.
+pub fn others_stay()
+    ensures before { (blocks : Blocks) (first : ℕ) (bytes : List ℕ) (b : ℕ) → b < first →
+        overwritten blocks first bytes b ≡ blocks b }
+    ensures behind { (blocks : Blocks) (first : ℕ) (bytes : List ℕ) (b : ℕ) → first + block_count bytes ≤ b →
+        overwritten blocks first bytes b ≡ blocks b }
+    ensures filled_before { (blocks : Blocks) (first count : ℕ) (bytes : List ℕ) (b : ℕ) → b < first →
+        filled blocks first count bytes b ≡ blocks b }
+    ensures filled_behind { (blocks : Blocks) (first count : ℕ) (bytes : List ℕ) (b : ℕ) → first + count ≤ b →
+        filled blocks first count bytes b ≡ blocks b }
+{}
+
+/// Where two writes meet, the later wins.
+pub fn later_write_wins()
+    ensures { (blocks : Blocks) (first' first : ℕ) (earlier later : List ℕ) (b : ℕ) →
+        IsTrue (is_within first (block_count later) b) →
+        overwritten (overwritten blocks first' earlier) first later b ≡ nth_block later (b - first) }
+{}
+
+/// Blocks that were zeroed read as zeros.
+pub fn zeroed_reads_as_zeros()
+    ensures { (blocks : Blocks) (first count : ℕ) →
+        run (zeroed blocks first count) first count ≡ replicate (512 * count) 0 }
+{}
+
+/// Filling with a block writes it into each place.
+pub fn filled_has_the_block()
+    ensures { (blocks : Blocks) (first count : ℕ) (bytes : List ℕ) (b : ℕ) → first ≤ b → b < first + count →
+        filled blocks first count bytes b ≡ bytes }
+{}
+
+/// An empty range changes nothing.
+pub fn nothing_written_changes_nothing()
+    ensures written { (blocks : Blocks) (first b : ℕ) → overwritten blocks first [] b ≡ blocks b }
+    ensures filled { (blocks : Blocks) (first : ℕ) (bytes : List ℕ) (b : ℕ) → filled blocks first 0 bytes b ≡ blocks b }
+    ensures zeroed { (blocks : Blocks) (first b : ℕ) → zeroed blocks first 0 b ≡ blocks b }
+{}
+
+/// Reading a range is reading its two parts.
+pub fn read_in_two_parts()
+    ensures { (blocks : Blocks) (first n m : ℕ) →
+        run blocks first (n + m) ≡ run blocks first n ++ run blocks (first + n) m }
+{}
+
+/// Reading whole blocks gives 512 bytes for each.
+pub fn read_gives_512_bytes_a_block()
+    ensures { (blocks : Blocks) (first count : ℕ) →
+        ((b : ℕ) → first ≤ b → b < first + count → length (blocks b) ≡ 512) →
+        length (run blocks first count) ≡ 512 * count }
+{}

@@ -1,0 +1,5 @@
+pub mod Decoding
+pub mod Fields
+pub mod Need
+pub mod Opcodes
+pub mod Profile

@@ -1,0 +1,35 @@
+-- How many bytes of data a command needs, from the driver and for it. A logical block has 512
+-- bytes; an allocation length and a parameter list length count whole.
+use Rattle.std.specs.Prelude.{ℕ, ◌*◌}
+use Rattle.cdb.specs.declared.transfers.Transfer.{Transfer}
+use Rattle.cdb.specs.declared.commands.Command.{Command}
+use Rattle.cdb.specs.declared.commands.Command.TheVariants.{TestUnitReady, RequestSense, Read, Write, Inquiry, ReadCapacity10, ReadCapacity16, SynchronizeCache, WriteSame, Unmap, CompareAndWrite, ReportLuns, Bad, Unknown}
+
+abbrev pub no_bytes : Transfer
+no_bytes = record { out = 0; into = 0 }
+
+-- from the driver
+abbrev pub bytes_out : ℕ → Transfer
+bytes_out n = record { out = n; into = 0 }
+
+-- to the driver
+abbrev pub bytes_in : ℕ → Transfer
+bytes_in n = record { out = 0; into = n }
+
+abbrev pub need_of : Command → Transfer
+need_of TestUnitReady = no_bytes
+need_of (RequestSense allocation) = bytes_in allocation
+need_of (Read lba blocks) = bytes_in (512 * blocks)
+need_of (Write lba blocks) = bytes_out (512 * blocks)
+need_of (Inquiry what allocation) = bytes_in allocation
+need_of ReadCapacity10 = bytes_in 8
+need_of (ReadCapacity16 allocation) = bytes_in allocation
+need_of (SynchronizeCache lba blocks) = no_bytes
+-- the one block that is written again and again
+need_of (WriteSame lba blocks) = bytes_out 512
+need_of (Unmap list_length) = bytes_out list_length
+-- the blocks to compare with, then the blocks to write
+need_of (CompareAndWrite lba blocks) = bytes_out (1024 * blocks)
+need_of (ReportLuns select allocation) = bytes_in allocation
+need_of (Bad opcode) = no_bytes
+need_of Unknown = no_bytes

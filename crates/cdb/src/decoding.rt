@@ -1,0 +1,403 @@
+//! From the bytes of a CDB to its command.
+
+ghost use Rattle.std.specs.Prelude.{◌≡◌, ◌<◌, ◌≤◌, ◌/◌, ◌%◌, ◌^◌, ◌==◌, [], ◌∷◌, if◌then◌else◌, unwrap_or};
+ghost use Rattle.cdb.specs.Fields.{bit, bits, byte, is_over, is_set, number};
+ghost use Rattle.cdb.specs.Profile.{length_6, lba_6, page_of, protect};
+ghost use Rattle.cdb.specs.Decoding.{command, fields_of, unless};
+
+use crate::commands::{
+    CDB_BYTES, Command, InquiryData, MOST_COMPARE_BLOCKS, MOST_TRANSFER_BLOCKS,
+    MOST_WRITE_SAME_BLOCKS, SelectReport,
+};
+use crate::opcodes;
+use byteorder::{BigEndian, ByteOrder};
+
+/// The service action of SERVICE ACTION IN (16) that is READ CAPACITY (16) (SBC-3 §5.16).
+const READ_CAPACITY_16: u8 = 0x10;
+
+/// The page code that a standard INQUIRY has.
+const NO_PAGE: u8 = 0x00;
+
+/// The bit NACA of the control byte (SAM-5 §5.2).
+const NACA: u8 = 2;
+
+/// The blocks that a CDB names.
+#[derive(Clone, Copy)]
+struct Blocks {
+    /// The first block.
+    lba: u64,
+    /// How many.
+    count: u32,
+}
+
+/// The command that a CDB asks for, with its fields read and held against the device's limits.
+/// Whatever stands in the CDB there is one: a command of the profile whose fields are refused, or
+/// that asks for NACA, is `Bad`, and an opcode that the profile lacks is `Unknown`.
+#[tactic(auto, using(crate::proofs::Rows::by_none))]
+pub fn decode(cdb: &[u8; CDB_BYTES]) -> Command
+    ensures { result ≡ command cdb.now }
+{
+    match cdb[0] {
+        0x00..=0x1f => decode_6(cdb),
+        0x20..=0x5f => decode_10(cdb),
+        0x80..=0x9f => decode_16(cdb),
+        0xa0..=0xbf => decode_12(cdb),
+        _ => Command::Unknown,
+    }
+}
+
+/// A CDB of 6 bytes.
+#[tactic(auto, using(crate::proofs::Rows::by_none))]
+fn decode_6(cdb: &[u8; CDB_BYTES]) -> Command
+    requires { byte 0 cdb.now < 0x20 }
+    ensures { result ≡ command cdb.now }
+{
+    let fields = match cdb[0] {
+        opcodes::TEST_UNIT_READY => Some(Command::TestUnitReady),
+        opcodes::REQUEST_SENSE => request_sense(cdb),
+        opcodes::READ_6 => Some(Command::Read {
+            lba: lba_6(cdb),
+            blocks: length_6(cdb),
+        }),
+        opcodes::WRITE_6 => Some(Command::Write {
+            lba: lba_6(cdb),
+            blocks: length_6(cdb),
+        }),
+        opcodes::INQUIRY => inquiry(cdb),
+        _ => return Command::Unknown,
+    };
+    under_control(cdb, 5, fields)
+}
+
+/// A CDB of 10 bytes.
+#[tactic(auto, using(crate::proofs::Rows::by_none))]
+fn decode_10(cdb: &[u8; CDB_BYTES]) -> Command
+    requires from { 0x20 ≤ byte 0 cdb.now }
+    requires to { byte 0 cdb.now < 0x60 }
+    ensures { result ≡ command cdb.now }
+{
+    let fields = match cdb[0] {
+        opcodes::READ_CAPACITY_10 => Some(Command::ReadCapacity10),
+        opcodes::READ_10 => read(cdb, blocks_10(cdb)),
+        opcodes::WRITE_10 => write(cdb, blocks_10(cdb)),
+        opcodes::SYNCHRONIZE_CACHE_10 => Some(synchronize_cache(blocks_10(cdb))),
+        opcodes::WRITE_SAME_10 => write_same(cdb, blocks_10(cdb)),
+        opcodes::UNMAP => unmap(cdb),
+        _ => return Command::Unknown,
+    };
+    under_control(cdb, 9, fields)
+}
+
+/// A CDB of 12 bytes.
+#[tactic(auto, using(crate::proofs::Rows::by_none))]
+fn decode_12(cdb: &[u8; CDB_BYTES]) -> Command
+    requires from { 0xa0 ≤ byte 0 cdb.now }
+    requires to { byte 0 cdb.now < 0xc0 }
+    ensures { result ≡ command cdb.now }
+{
+    let fields = match cdb[0] {
+        opcodes::REPORT_LUNS => report_luns(cdb),
+        opcodes::READ_12 => read(cdb, blocks_12(cdb)),
+        opcodes::WRITE_12 => write(cdb, blocks_12(cdb)),
+        _ => return Command::Unknown,
+    };
+    under_control(cdb, 11, fields)
+}
+
+/// A CDB of 16 bytes.
+#[tactic(auto, using(crate::proofs::Rows::by_none))]
+fn decode_16(cdb: &[u8; CDB_BYTES]) -> Command
+    requires from { 0x80 ≤ byte 0 cdb.now }
+    requires to { byte 0 cdb.now < 0xa0 }
+    ensures { result ≡ command cdb.now }
+{
+    let fields = match cdb[0] {
+        opcodes::READ_16 => read(cdb, blocks_16(cdb)),
+        opcodes::WRITE_16 => write(cdb, blocks_16(cdb)),
+        opcodes::COMPARE_AND_WRITE => compare_and_write(cdb),
+        opcodes::SYNCHRONIZE_CACHE_16 => Some(synchronize_cache(blocks_16(cdb))),
+        opcodes::WRITE_SAME_16 => write_same_16(cdb),
+        opcodes::SERVICE_ACTION_IN_16 => read_capacity_16(cdb),
+        _ => return Command::Unknown,
+    };
+    under_control(cdb, 15, fields)
+}
+
+/// What the fields say, if they aren't refused and the control byte at this place has no NACA.
+fn under_control(cdb: &[u8; CDB_BYTES], control: usize, fields: Option<Command>) -> Command
+    requires { control < 16 }
+    ensures { result
+        ≡ (if bit control 2 cdb.now then Command.Bad (byte 0 cdb.now)
+        else unwrap_or fields (Command.Bad (byte 0 cdb.now))) }
+{
+    match fields {
+        Some(command) if !has_bit(cdb[control], NACA) => command,
+        _ => Command::Bad { opcode: cdb[0] },
+    }
+}
+
+/// REQUEST SENSE, or nothing where its fields are refused. So with each command below.
+fn request_sense(cdb: &[u8; CDB_BYTES]) -> Option<Command>
+    ensures { result ≡ fields_of 0x03 cdb.now }
+{
+    let descriptor_format = has_bit(cdb[1], 0);
+    if descriptor_format {
+        return None;
+    }
+    Some(Command::RequestSense {
+        allocation: u32::from(cdb[4]),
+    })
+}
+
+/// INQUIRY.
+fn inquiry(cdb: &[u8; CDB_BYTES]) -> Option<Command>
+    ensures { result ≡ fields_of 0x12 cdb.now }
+{
+    let vital_product_data = has_bit(cdb[1], 0);
+    let what = if vital_product_data {
+        page(cdb[2])?
+    } else if cdb[2] == NO_PAGE {
+        InquiryData::Standard
+    } else {
+        return None;
+    };
+    Some(Command::Inquiry {
+        what,
+        allocation: u32::from(BigEndian::read_u16(&cdb[3..5])),
+    })
+}
+
+/// The page of vital product data of this page code, if the device has it.
+fn page(code: u8) -> Option<InquiryData>
+    ensures { result ≡ page_of code }
+{
+    match code {
+        0x00 => Some(InquiryData::SupportedPages),
+        0x80 => Some(InquiryData::SerialNumber),
+        0x83 => Some(InquiryData::DeviceIdentification),
+        0xb0 => Some(InquiryData::BlockLimits),
+        0xb2 => Some(InquiryData::LogicalBlockProvisioning),
+        _ => None,
+    }
+}
+
+/// REPORT LUNS.
+fn report_luns(cdb: &[u8; CDB_BYTES]) -> Option<Command>
+    ensures { result ≡ fields_of 0xa0 cdb.now }
+{
+    let select = match cdb[2] {
+        0x00 => SelectReport::LogicalUnits,
+        0x01 => SelectReport::WellKnownLogicalUnits,
+        0x02 => SelectReport::AllLogicalUnits,
+        _ => return None,
+    };
+    Some(Command::ReportLuns {
+        select,
+        allocation: BigEndian::read_u32(&cdb[6..10]),
+    })
+}
+
+/// READ CAPACITY (16), one of the service actions of its opcode.
+fn read_capacity_16(cdb: &[u8; CDB_BYTES]) -> Option<Command>
+    ensures { result ≡ fields_of 0x9e cdb.now }
+{
+    let service_action = low_bits(cdb[1], 5);
+    if service_action != READ_CAPACITY_16 {
+        return None;
+    }
+    Some(Command::ReadCapacity16 {
+        allocation: BigEndian::read_u32(&cdb[10..14]),
+    })
+}
+
+/// READ (10), (12) or (16), of these blocks.
+fn read(cdb: &[u8; CDB_BYTES], blocks: Blocks) -> Option<Command>
+    ensures { result
+        ≡ unless (protect cdb.now ∷ is_over MOST_TRANSFER_BLOCKS blocks.count ∷ [])
+        (Command.Read blocks.lba blocks.count) }
+{
+    Some(Command::Read {
+        lba: blocks.lba,
+        blocks: transfer_length(cdb, blocks.count)?,
+    })
+}
+
+/// WRITE (10), (12) or (16), of these blocks.
+fn write(cdb: &[u8; CDB_BYTES], blocks: Blocks) -> Option<Command>
+    ensures { result
+        ≡ unless (protect cdb.now ∷ is_over MOST_TRANSFER_BLOCKS blocks.count ∷ [])
+        (Command.Write blocks.lba blocks.count) }
+{
+    Some(Command::Write {
+        lba: blocks.lba,
+        blocks: transfer_length(cdb, blocks.count)?,
+    })
+}
+
+/// How many blocks a READ or a WRITE moves, unless it asks for protection information or for too
+/// many.
+fn transfer_length(cdb: &[u8; CDB_BYTES], count: u32) -> Option<u16>
+    ensures { result ≡ unless (protect cdb.now ∷ is_over MOST_TRANSFER_BLOCKS count ∷ []) count }
+{
+    if has_protect(cdb) || count > u32::from(MOST_TRANSFER_BLOCKS) {
+        return None;
+    }
+    Some(count as u16)
+}
+
+/// SYNCHRONIZE CACHE, of which no field is refused.
+fn synchronize_cache(blocks: Blocks) -> Command
+    ensures { result ≡ Command.SynchronizeCache blocks.lba blocks.count }
+{
+    Command::SynchronizeCache {
+        lba: blocks.lba,
+        blocks: blocks.count,
+    }
+}
+
+/// WRITE SAME, but for what is (16) alone.
+fn write_same(cdb: &[u8; CDB_BYTES], blocks: Blocks) -> Option<Command>
+    ensures { result
+        ≡ unless (protect cdb.now ∷ bit 1 4 cdb.now ∷ is_set (bits 1 2 1 cdb.now)
+        ∷ (blocks.count == 0) ∷ is_over MOST_WRITE_SAME_BLOCKS blocks.count ∷ [])
+        (Command.WriteSame blocks.lba blocks.count) }
+{
+    let anchor = has_bit(cdb[1], 4);
+    let obsolete = has_bit(cdb[1], 2) || has_bit(cdb[1], 1);
+    if has_protect(cdb) || anchor || obsolete {
+        return None;
+    }
+    if blocks.count == 0 || blocks.count > MOST_WRITE_SAME_BLOCKS {
+        return None;
+    }
+    Some(Command::WriteSame {
+        lba: blocks.lba,
+        blocks: blocks.count,
+    })
+}
+
+/// WRITE SAME (16).
+fn write_same_16(cdb: &[u8; CDB_BYTES]) -> Option<Command>
+    ensures { result ≡ fields_of 0x93 cdb.now }
+{
+    let no_data_out = has_bit(cdb[1], 0);
+    if no_data_out {
+        return None;
+    }
+    write_same(cdb, blocks_16(cdb))
+}
+
+/// UNMAP.
+fn unmap(cdb: &[u8; CDB_BYTES]) -> Option<Command>
+    ensures { result ≡ fields_of 0x42 cdb.now }
+{
+    let anchor = has_bit(cdb[1], 0);
+    if anchor {
+        return None;
+    }
+    Some(Command::Unmap {
+        list_length: BigEndian::read_u16(&cdb[7..9]),
+    })
+}
+
+/// COMPARE AND WRITE.
+fn compare_and_write(cdb: &[u8; CDB_BYTES]) -> Option<Command>
+    ensures { result ≡ fields_of 0x89 cdb.now }
+{
+    let blocks = cdb[13];
+    if has_protect(cdb) || blocks > MOST_COMPARE_BLOCKS {
+        return None;
+    }
+    Some(Command::CompareAndWrite {
+        lba: lba_64(cdb),
+        blocks,
+    })
+}
+
+/// The logical block address of 21 bits in a CDB of 6 bytes.
+fn lba_6(cdb: &[u8; CDB_BYTES]) -> u64
+    ensures { result ≡ lba_6 cdb.now }
+{
+    let high = u64::from(low_bits(cdb[1], 5));
+    (high << 16) + u64::from(BigEndian::read_u16(&cdb[2..4]))
+}
+
+/// The logical block address in a CDB of 10 or 12 bytes.
+fn lba_32(cdb: &[u8; CDB_BYTES]) -> u64
+    ensures { result ≡ number 2 5 cdb.now }
+{
+    u64::from(BigEndian::read_u32(&cdb[2..6]))
+}
+
+/// The logical block address in a CDB of 16 bytes.
+fn lba_64(cdb: &[u8; CDB_BYTES]) -> u64
+    ensures { result ≡ number 2 9 cdb.now }
+{
+    BigEndian::read_u64(&cdb[2..10])
+}
+
+/// The transfer length in a CDB of 6 bytes, in blocks: 0 means 256.
+fn length_6(cdb: &[u8; CDB_BYTES]) -> u16
+    ensures { result ≡ length_6 cdb.now }
+{
+    match cdb[4] {
+        0 => 256,
+        length => u16::from(length),
+    }
+}
+
+/// The blocks of a CDB of 10 bytes.
+fn blocks_10(cdb: &[u8; CDB_BYTES]) -> Blocks
+    ensures lba { result.lba ≡ number 2 5 cdb.now }
+    ensures count { result.count ≡ number 7 8 cdb.now }
+{
+    Blocks {
+        lba: lba_32(cdb),
+        count: u32::from(BigEndian::read_u16(&cdb[7..9])),
+    }
+}
+
+/// The blocks of a CDB of 12 bytes.
+fn blocks_12(cdb: &[u8; CDB_BYTES]) -> Blocks
+    ensures lba { result.lba ≡ number 2 5 cdb.now }
+    ensures count { result.count ≡ number 6 9 cdb.now }
+{
+    Blocks {
+        lba: lba_32(cdb),
+        count: BigEndian::read_u32(&cdb[6..10]),
+    }
+}
+
+/// The blocks of a CDB of 16 bytes.
+fn blocks_16(cdb: &[u8; CDB_BYTES]) -> Blocks
+    ensures lba { result.lba ≡ number 2 9 cdb.now }
+    ensures count { result.count ≡ number 10 13 cdb.now }
+{
+    Blocks {
+        lba: lba_64(cdb),
+        count: BigEndian::read_u32(&cdb[10..14]),
+    }
+}
+
+/// Whether RDPROTECT or WRPROTECT asks for protection information.
+fn has_protect(cdb: &[u8; CDB_BYTES]) -> bool
+    ensures { result ≡ protect cdb.now }
+{
+    cdb[1] >> 5 != 0
+}
+
+/// Whether this bit of a byte, 0 to 7, is 1.
+fn has_bit(byte: u8, place: u8) -> bool
+    requires { place < 8 }
+    ensures { result ≡ (byte / 2 ^ place % 2 == 1) }
+{
+    byte >> place & 1 == 1
+}
+
+/// The number in this many low bits of a byte, 0 to 7.
+fn low_bits(byte: u8, count: u8) -> u8
+    requires { count < 8 }
+    ensures { result ≡ byte % 2 ^ count }
+{
+    byte % (1 << count)
+}

@@ -1,0 +1,34 @@
+//! What follows from the definitions alone.
+
+ghost use Rattle.std.specs.Prelude.{◌≡◌, ◌≢◌, ℕ, List, IsTrue, IsFalse};
+ghost use Rattle.cdb.specs.Decoding.{command};
+ghost use Rattle.cdb.specs.Fields.{bit, bits, byte, number};
+ghost use Rattle.cdb.specs.Opcodes.{control_of, is_profiled};
+
+use crate::Command;
+
+/// A CDB is `Unknown` exactly where its opcode isn't the profile's, whatever else stands in it.
+pub fn opcodes()
+    ensures other { (cdb : List ℕ) → IsFalse (is_profiled (byte 0 cdb))
+        → command cdb ≡ Command.Unknown }
+    ensures profiled { (cdb : List ℕ) → IsTrue (is_profiled (byte 0 cdb))
+        → command cdb ≢ Command.Unknown }
+{}
+
+/// NACA, bit 2 of the last byte of the CDB's length, makes each command of the profile `Bad`.
+pub fn naca()
+    ensures { (cdb : List ℕ) → IsTrue (is_profiled (byte 0 cdb))
+        → IsTrue (bit (control_of (byte 0 cdb)) 2 cdb)
+        → command cdb ≡ Command.Bad (byte 0 cdb) }
+{}
+
+/// READ (10) has no other field than RDPROTECT, the logical block address, the transfer length
+/// and NACA: two CDBs that agree in these are decoded alike.
+pub fn read_10()
+    ensures { (a b : List ℕ) → byte 0 a ≡ 0x28 → byte 0 b ≡ 0x28
+        → bits 1 7 5 a ≡ bits 1 7 5 b
+        → number 2 5 a ≡ number 2 5 b
+        → number 7 8 a ≡ number 7 8 b
+        → bit 9 2 a ≡ bit 9 2 b
+        → command a ≡ command b }
+{}

@@ -1,0 +1,19 @@
+//! The commands of the device's SCSI profile: what the bytes of a CDB ask for (SPC-4, SBC-3), and
+//! how many bytes of data the command needs from the driver and for it.
+#![tactic(auto)]
+
+mod commands;
+mod decoding;
+pub mod laws;
+mod opcodes;
+mod transfers;
+
+pub use commands::{
+    CDB_BYTES, Command, InquiryData, MOST_COMPARE_BLOCKS, MOST_TRANSFER_BLOCKS,
+    MOST_WRITE_SAME_BLOCKS, SelectReport,
+};
+pub use decoding::decode;
+pub use transfers::{Transfer, need};
+
+#[cfg(test)]
+mod tests;

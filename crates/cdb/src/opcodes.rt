@@ -1,0 +1,41 @@
+//! The opcodes of the profile, byte 0 of a CDB (SPC-4 §4.3, SBC-3 §5.1).
+
+pub(crate) const TEST_UNIT_READY: u8 = 0x00;
+
+pub(crate) const REQUEST_SENSE: u8 = 0x03;
+
+pub(crate) const READ_6: u8 = 0x08;
+
+pub(crate) const WRITE_6: u8 = 0x0a;
+
+pub(crate) const INQUIRY: u8 = 0x12;
+
+pub(crate) const READ_CAPACITY_10: u8 = 0x25;
+
+pub(crate) const READ_10: u8 = 0x28;
+
+pub(crate) const WRITE_10: u8 = 0x2a;
+
+pub(crate) const SYNCHRONIZE_CACHE_10: u8 = 0x35;
+
+pub(crate) const WRITE_SAME_10: u8 = 0x41;
+
+pub(crate) const UNMAP: u8 = 0x42;
+
+pub(crate) const READ_16: u8 = 0x88;
+
+pub(crate) const COMPARE_AND_WRITE: u8 = 0x89;
+
+pub(crate) const WRITE_16: u8 = 0x8a;
+
+pub(crate) const SYNCHRONIZE_CACHE_16: u8 = 0x91;
+
+pub(crate) const WRITE_SAME_16: u8 = 0x93;
+
+pub(crate) const SERVICE_ACTION_IN_16: u8 = 0x9e;
+
+pub(crate) const REPORT_LUNS: u8 = 0xa0;
+
+pub(crate) const READ_12: u8 = 0xa8;
+
+pub(crate) const WRITE_12: u8 = 0xaa;

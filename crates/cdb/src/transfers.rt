@@ -1,0 +1,67 @@
+//! The data that a command moves.
+
+ghost use Rattle.std.specs.Prelude.{◌≡◌};
+ghost use Rattle.cdb.specs.Need.{bytes_in, bytes_out, need_of};
+
+use crate::Command;
+
+/// The bytes of a logical block.
+const BLOCK_BYTES: u32 = 512;
+
+/// How many bytes READ CAPACITY (10) returns (SBC-3 §5.15).
+const CAPACITY_10_BYTES: u32 = 8;
+
+/// How many bytes of data a command moves at most, each way.
+#[derive(Clone, Copy, Debug, PartialEq, Eq)]
+pub struct Transfer {
+    /// Bytes from the driver to the device.
+    pub out: u32,
+    /// Bytes from the device to the driver.
+    pub into: u32,
+}
+
+/// The data that a command needs room for: what it takes from the driver, and what it returns at
+/// most. A length that the CDB gives counts whole, so whoever has a request's buffers compares
+/// them with this before the command runs.
+pub fn need(command: &Command) -> Transfer
+    ensures { result ≡ need_of command.now }
+{
+    match *command {
+        Command::Read { blocks, .. } => from_device(u32::from(blocks) * BLOCK_BYTES),
+        Command::Write { blocks, .. } => from_driver(u32::from(blocks) * BLOCK_BYTES),
+        Command::WriteSame { .. } => from_driver(BLOCK_BYTES),
+        Command::CompareAndWrite { blocks, .. } => {
+            from_driver(2 * u32::from(blocks) * BLOCK_BYTES)
+        }
+        Command::Unmap { list_length } => from_driver(u32::from(list_length)),
+        Command::RequestSense { allocation }
+        | Command::Inquiry { allocation, .. }
+        | Command::ReadCapacity16 { allocation }
+        | Command::ReportLuns { allocation, .. } => from_device(allocation),
+        Command::ReadCapacity10 => from_device(CAPACITY_10_BYTES),
+        Command::TestUnitReady
+        | Command::SynchronizeCache { .. }
+        | Command::Bad { .. }
+        | Command::Unknown => Transfer { out: 0, into: 0 },
+    }
+}
+
+/// So many bytes from the driver alone.
+fn from_driver(bytes: u32) -> Transfer
+    ensures { result ≡ bytes_out bytes }
+{
+    Transfer {
+        out: bytes,
+        into: 0,
+    }
+}
+
+/// So many bytes to the driver alone.
+fn from_device(bytes: u32) -> Transfer
+    ensures { result ≡ bytes_in bytes }
+{
+    Transfer {
+        out: 0,
+        into: bytes,
+    }
+}

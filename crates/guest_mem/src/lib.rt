@@ -1,0 +1,11 @@
+//! The memory of a guest: one run of bytes, read and written in slices.
+#![tactic(auto)]
+
+mod laws;
+mod memory;
+
+pub use laws::{keeps_other_bytes, reads_what_was_written};
+pub use memory::{GuestMem, MOST_PAGES, MemFault, PAGE_BYTES};
+
+#[cfg(test)]
+mod tests;

@@ -1,0 +1,122 @@
+//! The memory itself.
+
+ghost use Rattle.std.specs.Prelude.{◌≡◌, ◌+◌, ◌*◌, ◌≤◌, ◌<◌, ◌^◌, List, ℕ, length, replicate, IfOk, OnOk, OnErr, IsOk, IfErr, ◌↔◌};
+ghost use Rattle.guest_mem.specs.Memory.{bytes_at, with_bytes, LiesIn};
+
+use std::alloc::{AllocError, Global};
+use std::error::Error;
+use std::fmt;
+use std::marker::Model;
+
+/// The bytes of a page.
+pub const PAGE_BYTES: usize = 4096;
+
+/// The most pages that a memory has.
+pub const MOST_PAGES: u32 = 65536;
+
+/// Why a call on the memory was refused.
+#[derive(Clone, Copy, Debug, PartialEq, Eq)]
+pub enum MemFault {
+    /// Some byte would lie outside the memory.
+    Outside = 1,
+    /// The memory could not be had.
+    NoMemory = 2,
+}
+
+impl fmt::Display for MemFault {
+    fn fmt<W: fmt::Write>(&self, f: &mut fmt::Formatter<W>) -> fmt::Result {
+        match self {
+            MemFault::Outside => write!(f, "outside guest memory"),
+            MemFault::NoMemory => write!(f, "no memory"),
+        }
+    }
+}
+
+impl Error for MemFault {}
+
+/// The memory of a guest, seen as the list of its bytes. Addresses begin at 0.
+#[derive(Debug, Drop)]
+pub struct GuestMem {
+    bytes: Vec<u8>,
+}
+
+impl Model for GuestMem {
+    ghost Value = { List ℕ };
+
+    ghost view = { λ m. m.bytes.items };
+
+    ghost invariant = { λ m. length m.bytes.items ≤ 2 ^ 28 };
+}
+
+impl GuestMem {
+    /// Zero bytes for `pages` pages of 4,096 bytes, from 1 to 65,536. Whoever sets the guest up
+    /// calls it once. The one refusal is `NoMemory`.
+    pub fn new(alloc: Global, pages: u32) -> Result<GuestMem, MemFault>
+        requires { pages ≤ MOST_PAGES }
+        ensures zeros { IfOk result (λ m. m ≡ replicate (pages * PAGE_BYTES) 0) }
+        ensures fault { IfErr result (λ fault. fault ≡ MemFault.NoMemory) }
+    {
+        match vec![in alloc; 0; pages as usize * PAGE_BYTES] {
+            Ok(bytes) => Ok(GuestMem { bytes }),
+            Err(AllocError) => Err(MemFault::NoMemory),
+        }
+    }
+
+    /// How many bytes there are, at most 2^28.
+    pub fn size(&self) -> u64
+        ensures size { result ≡ length self.now }
+        ensures bounded { result ≤ 2 ^ 28 }
+    {
+        self.bytes.len() as u64
+    }
+
+    /// The `len` bytes from `addr` on, where they stand. `Outside` exactly where one of them lies
+    /// behind the end; no bytes at the very end lie inside.
+    pub fn slice(&self, addr: u64, len: usize) -> Result<&[u8], MemFault>
+        ensures inside { IsOk result ↔ LiesIn (length self.now) addr len }
+        ensures bytes { IfOk result (λ bytes. bytes.now ≡ bytes_at self.now addr len) }
+        ensures fault { IfErr result (λ fault. fault ≡ MemFault.Outside) }
+    {
+        let size = self.bytes.len() as u64;
+        if addr > size || len as u64 > size - addr {
+            return Err(MemFault::Outside);
+        }
+        let start = addr as usize;
+        Ok(&self.bytes[start..start + len])
+    }
+
+    /// Copies the bytes from `addr` on into `out`, as many as it holds. It takes no memory.
+    /// `Outside`, with `out` as it was, exactly where one of them lies behind the end.
+    pub fn read(&self, addr: u64, out: &mut [u8]) -> Result<(), MemFault>
+        ensures inside { IsOk result ↔ LiesIn (length self.now) addr (length out.old) }
+        ensures bytes { OnOk result (out.new ≡ bytes_at self.now addr (length out.old)) }
+        ensures fault { IfErr result (λ fault. fault ≡ MemFault.Outside) }
+        ensures unchanged { OnErr result (out.new ≡ out.old) }
+    {
+        match self.slice(addr, out.len()) {
+            Ok(bytes) => {
+                out.copy_from_slice(bytes);
+                Ok(())
+            }
+            Err(fault) => Err(fault),
+        }
+    }
+
+    /// Puts `bytes` at `addr`, and changes nothing else. It takes no memory. `Outside`, with
+    /// nothing changed, exactly where one of them would lie behind the end.
+    pub fn write(&mut self, addr: u64, bytes: &[u8]) -> Result<(), MemFault>
+        ensures inside { IsOk result ↔ LiesIn (length self.old) addr (length bytes.now) }
+        ensures bytes { OnOk result (self.new ≡ with_bytes self.old addr bytes.now) }
+        ensures size { length self.new ≡ length self.old }
+        ensures fault { IfErr result (λ fault. fault ≡ MemFault.Outside) }
+        ensures unchanged { OnErr result (self.new ≡ self.old) }
+    {
+        let size = self.bytes.len() as u64;
+        if addr > size || bytes.len() as u64 > size - addr {
+            return Err(MemFault::Outside);
+        }
+        let start = addr as usize;
+        self.bytes[start..start + bytes.len()].copy_from_slice(bytes);
+        Ok(())
+    }
+}

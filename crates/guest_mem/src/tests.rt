@@ -1,0 +1,28 @@
+use super::*;
+use std::test::Fail;
+
+#[test]
+fn opens_with_zeros(rt: HostRuntime) -> Result<(), Fail> {
+    let memory = GuestMem::new(rt.alloc(), 1)?;
+    let mut out = [7; 4096];
+    memory.read(0, &mut out)?;
+    assert_eq!(rt; out.as_slice(), [0; 4096].as_slice());
+    Ok(())
+}
+
+#[test]
+fn refuses_what_lies_behind_the_end(rt: HostRuntime) -> Result<(), Fail> {
+    let mut memory = GuestMem::new(rt.alloc(), 512)?;
+    assert_eq!(rt; memory.size(), 2_097_152);
+    memory.write(2_097_150, &[1, 2])?;
+    let mut out = [7; 3];
+    assert_eq!(rt; memory.read(2_097_150, &mut out), Err(MemFault::Outside));
+    assert_eq!(rt; out, [7, 7, 7]);
+    memory.read(2_097_149, &mut out)?;
+    assert_eq!(rt; out, [0, 1, 2]);
+    assert_eq!(rt; memory.write(2_097_152, &[0]), Err(MemFault::Outside));
+    assert_eq!(rt; memory.write(2_097_152, &[]), Ok(()));
+    assert_eq!(rt; memory.write(2_097_153, &[]), Err(MemFault::Outside));
+    assert_eq!(rt; memory.write(u64::MAX, &[0, 0]), Err(MemFault::Outside));
+    Ok(())
+}

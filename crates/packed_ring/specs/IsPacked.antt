@@ -1,0 +1,13 @@
+-- What is true of every packed queue: it lies in its memory.
+use Rattle.std.specs.Prelude.{◌≡◌, ◌+◌, ◌*◌, ◌<◌, ◌≤◌, ◌^◌, length}
+use Rattle.ring_core.specs.State.{RingState}
+use Rattle.ring_core.specs.declared.layout.Form.TheVariants.{Packed}
+
+pub record IsPacked (s : RingState) : Type 0 where
+  pub form : s.form ≡ Packed
+  pub some : 0 < s.layout.size
+  pub most : s.layout.size ≤ 32768
+  pub ids : length s.outstanding ≡ 65536
+  pub slots : s.layout.desc + 16 * s.layout.size ≤ s.memory
+  pub driver : s.layout.driver + 4 ≤ s.memory
+  pub small : s.memory ≤ 2 ^ 28

@@ -1,0 +1,33 @@
+-- What a look at the next slots answers.
+use Rattle.std.specs.Prelude.{ℕ, ◌≡◌, List, length, map, Option, Some, None, Result, Ok, Err}
+use Rattle.ring_core.specs.State.{RingState}
+use Rattle.ring_core.specs.Walk.{part_of}
+use Rattle.ring_core.specs.Packed.{PackedChain, PackedFails, id_of}
+use Rattle.ring_core.specs.Offer.{PackedOffers, Nothing, Found, Refused, HasEntryInForm}
+use Rattle.ring_core.specs.declared.layout.Form.TheVariants.{Packed}
+use Rattle.ring_core.specs.declared.layout.Layout.{Layout}
+use Rattle.packed_ring.specs.declared.walk.Run.{Run}
+use Rattle.ring_core.specs.declared.descriptor.Descriptor.{Descriptor}
+use Rattle.ring_core.specs.declared.fault.RingFault.{RingFault}
+use Rattle.ring_core.specs.declared.fault.RingFault.TheVariants.{NoMemory}
+
+-- the run of slots is the chain from there on
+abbrev pub IsRun : List ℕ → Layout → ℕ → Run → Type 0
+IsRun m l t run =
+    (chain : List Descriptor) × PackedChain m l t chain
+    × (run.parts.items ≡ map part_of chain) × (run.id ≡ id_of chain) × (run.slots ≡ length chain)
+
+-- this is wrong with the slots from there on, unless memory was refused
+abbrev pub IsWrong : List ℕ → Layout → ℕ → RingFault → Type 0
+IsWrong m l t NoMemory = Unit {0}
+IsWrong m l t f = PackedFails m l t f
+
+-- the offer of an unbroken queue, unless memory was refused
+abbrev pub FaultFound : RingState → List ℕ → RingFault → Type 0
+FaultFound s m NoMemory = HasEntryInForm Packed s m
+FaultFound s m f = PackedOffers s m (Refused f)
+
+abbrev pub Finds : RingState → List ℕ → Result (Option Run) RingFault → Type 0
+Finds s m (Ok None) = PackedOffers s m Nothing
+Finds s m (Ok (Some run)) = PackedOffers s m (Found run.id run.slots run.parts.items)
+Finds s m (Err f) = FaultFound s m f

@@ -1,0 +1,13 @@
+//! A packed virtqueue: one ring of descriptors, and an event suppression area of each side
+//! (VIRTIO 1.2, 2.8).
+#![tactic(auto)]
+
+mod placement;
+mod ring;
+mod slots;
+mod walk;
+
+pub use ring::PackedRing;
+
+#[cfg(test)]
+mod tests;

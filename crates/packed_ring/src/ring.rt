@@ -1,0 +1,170 @@
+//! The queue itself.
+
+use crate::placement::check_layout;
+use crate::slots::{
+    descriptor_at, flags_of_used, is_available, number_at, place_of, put_used, wrap_at,
+};
+use crate::walk::{Run, walk};
+use guest_mem::GuestMem;
+use ring_core::{
+    Chain, Completion, FIRST_BYTES, Features, Fetched, Layout, LayoutFault, QueueLog, Ring,
+    RingBase, RingFault, Ticket, gather,
+};
+use std::alloc::Global;
+use std::marker::Model;
+
+/// RING_EVENT_FLAGS_DISABLE in the two low bits of the driver's flags: the driver asks for no
+/// notice (VIRTIO 1.2, 2.8.14).
+const DISABLE: u16 = 1;
+
+/// How many ids a chain may have: any of two bytes.
+const ALL_IDS: usize = 65536;
+
+/// A packed virtqueue, seen as its plain value. It takes its memory from the allocator that it
+/// was made with.
+#[derive(Debug, Drop)]
+pub struct PackedRing {
+    base: RingBase,
+}
+
+impl Model for PackedRing {
+    ghost use Rattle.ring_core.specs.State.{RingState};
+    ghost use Rattle.packed_ring.specs.IsPacked.{IsPacked};
+
+    ghost Value = { RingState };
+
+    ghost view = { λ r. r.base };
+
+    ghost invariant = { λ r. IsPacked r.base };
+}
+
+impl PackedRing {
+    ghost use Rattle.std.specs.Prelude.{◌≡◌, length, MatchResult, None};
+    ghost use Rattle.ring_core.specs.State.{opening};
+    ghost use Rattle.ring_core.specs.declared.layout.Form.TheVariants.{Packed};
+    ghost use Rattle.packed_ring.specs.Placement.{placement_fault, RefusedAs, no_features};
+
+    /// A queue with this number at this place, of which nothing was fetched yet. Whoever sets the
+    /// device up calls it once for each queue, with the memory that all later calls get. Refused
+    /// are, in this order, a size that is 0 or above 32,768 (`BadSize`), a descriptor ring not
+    /// aligned to 16 or an event suppression area not to 4 (`BadAlignment`), one of them that
+    /// doesn't lie in memory (`Outside`), and want of memory (`NoMemory`).
+    pub fn new(
+        alloc: Global,
+        queue: u16,
+        layout: Layout,
+        memory: &GuestMem,
+    ) -> Result<PackedRing, LayoutFault>
+        ensures made { MatchResult result (λ ring. (placement_fault (length memory.now) layout ≡ None) × (ring ≡ opening Packed queue layout no_features (length memory.now) ALL_IDS)) (λ fault. RefusedAs (length memory.now) layout fault) }
+    {
+        let bytes = memory.size();
+        check_layout(&layout, bytes)?;
+        let features = Features {
+            indirect_descriptors: false,
+            event_index: false,
+        };
+        let base = RingBase::packed(alloc, queue, layout, features, bytes, ALL_IDS);
+        Ok(PackedRing { base })
+    }
+}
+
+impl PackedRing {
+    ghost use Rattle.std.specs.Prelude.{◌≡◌, length, None};
+    ghost use Rattle.packed_ring.specs.Running.{Finds};
+    ghost use Rattle.ring_core.specs.Offer.{PackedOffers, Found};
+    ghost use Rattle.ring_core.specs.Fetch.{Fetches};
+
+    /// The next chain.
+    fn next(&self, memory: &GuestMem) -> Result<Option<Run>, RingFault>
+        requires { length memory.now ≡ self.now.memory }
+        ensures { Finds self.now memory.now result }
+    {
+        let layout = self.base.layout();
+        let accepted = self.base.accepted_slots();
+        let first = descriptor_at(memory, &layout, accepted);
+        if !is_available(&first, wrap_at(layout.size, accepted)) {
+            return Ok(None);
+        }
+        match walk(self.base.allocator(), memory, &layout, accepted) {
+            Ok(run) => {
+                let outstanding = accepted - self.base.used_slots();
+                if self.base.is_outstanding(run.id) {
+                    Err(RingFault::AlreadyOutstanding)
+                } else if outstanding + run.slots as u128 > layout.size as u128 {
+                    Err(RingFault::RingOverrun)
+                } else {
+                    Ok(Some(run))
+                }
+            }
+            Err(fault) => Err(fault),
+        }
+    }
+
+    /// Accepts the chain that was found, and reads its first bytes.
+    fn take(&mut self, memory: &GuestMem, run: Run) -> Result<Option<Fetched>, RingFault>
+        requires fits { length memory.now ≡ self.old.memory }
+        requires unbroken { self.old.broken ≡ None }
+        requires found { PackedOffers self.old memory.now (Found run.id run.slots run.parts.items) }
+        ensures { Fetches self.old memory.now result self.new }
+    {
+        let alloc = self.base.allocator();
+        let Run { id, slots, parts } = run;
+        let Ok(bytes) = gather(alloc, memory, parts.as_slice(), FIRST_BYTES) else {
+            return Err(RingFault::NoMemory);
+        };
+        match self.base.accept(id, slots, parts) {
+            Ok(chain) => Ok(Some(Fetched { chain, bytes })),
+            Err(_) => Err(RingFault::NoMemory),
+        }
+    }
+}
+
+impl Ring for PackedRing {
+    ghost state = { λ r. r };
+
+    fn fetch(&mut self, memory: &GuestMem) -> Result<Option<Fetched>, RingFault> {
+        if let Some(fault) = self.base.broken() {
+            return Err(fault);
+        }
+        match self.next(memory) {
+            Ok(None) => Ok(None),
+            Ok(Some(run)) => self.take(memory, run),
+            Err(RingFault::NoMemory) => Err(RingFault::NoMemory),
+            Err(fault) => {
+                self.base.break_with(fault);
+                Err(fault)
+            }
+        }
+    }
+
+    fn finish(
+        &mut self,
+        memory: &mut GuestMem,
+        chain: Chain,
+        len: u32,
+        _leave: Completion,
+    ) -> Ticket {
+        let _size = memory.size();
+        let layout = self.base.layout();
+        let used = self.base.used_slots();
+        let flags = flags_of_used(wrap_at(layout.size, used), len);
+        put_used(memory, place_of(&layout, used) + 8, len, chain.id(), flags);
+        self.base.release(chain)
+    }
+
+    fn wants_notice(&self, memory: &GuestMem) -> bool {
+        number_at(memory, self.base.layout().driver + 2) % 4 != DISABLE
+    }
+
+    fn log(&self) -> &QueueLog {
+        self.base.log()
+    }
+
+    fn fits(&self, memory: &GuestMem) -> bool {
+        memory.size() == self.base.memory()
+    }
+
+    fn owns(&self, chain: &Chain) -> bool {
+        self.base.owns(chain)
+    }
+}

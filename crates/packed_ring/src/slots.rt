@@ -1,0 +1,95 @@
+//! Reading and writing the slots of a packed queue.
+
+ghost use Rattle.std.specs.Prelude.{◌≡◌, ◌+◌, ◌*◌, ◌%◌, ◌<◌, ◌≤◌, ◌^◌, ◌++◌, ◌&&◌, not, cond, length};
+ghost use Rattle.guest_mem.specs.Memory.{bytes_at, with_bytes};
+ghost use Rattle.byteorder.specs.Endian.{little_number, little_bytes};
+ghost use Rattle.ring_core.specs.Packed.{slot_at, wrap_counter, avail_bit, used_bit, used_flags};
+
+use byteorder::{ByteOrder, LittleEndian};
+use guest_mem::GuestMem;
+use ring_core::{Descriptor, Layout};
+
+/// VIRTQ_DESC_F_WRITE in a used descriptor: something was written (VIRTIO 1.2, 2.8.8).
+const WRITE: u16 = 2;
+
+/// VIRTQ_DESC_F_AVAIL.
+const AVAIL: u16 = 128;
+
+/// VIRTQ_DESC_F_USED.
+const USED: u16 = 32768;
+
+/// The two bytes at an address, as a number.
+pub(crate) fn number_at(memory: &GuestMem, addr: u64) -> u16
+    requires { addr + 2 ≤ length memory.now }
+    ensures { result ≡ little_number 2 (bytes_at memory.now addr 2) }
+{
+    let mut bytes = [0; 2];
+    let _ = memory.read(addr, &mut bytes);
+    LittleEndian::read_u16(&bytes)
+}
+
+/// Where the slot lies that is reached once so many slots were passed.
+pub(crate) fn place_of(layout: &Layout, passed: u128) -> u64
+    requires some { 0 < layout.now.size }
+    requires small { layout.now.desc + 16 * layout.now.size ≤ 2 ^ 28 }
+    ensures place { result ≡ layout.now.desc + 16 * (passed % layout.now.size) }
+    ensures inside { result + 16 ≤ layout.now.desc + 16 * layout.now.size }
+{
+    layout.desc + 16 * (passed % layout.size as u128) as u64
+}
+
+/// The wrap counter once so many slots were passed.
+pub(crate) fn wrap_at(size: u16, passed: u128) -> bool
+    requires { 0 < size }
+    ensures { result ≡ wrap_counter size passed }
+{
+    passed / size as u128 % 2 == 0
+}
+
+/// The descriptor in the slot that is reached once so many slots were passed.
+pub(crate) fn descriptor_at(memory: &GuestMem, layout: &Layout, passed: u128) -> Descriptor
+    requires some { 0 < layout.now.size }
+    requires inside { layout.now.desc + 16 * layout.now.size ≤ length memory.now }
+    requires small { length memory.now ≤ 2 ^ 28 }
+    ensures { result ≡ slot_at layout.now memory.now passed }
+{
+    let mut bytes = [0; 16];
+    let _ = memory.read(place_of(layout, passed), &mut bytes);
+    Descriptor {
+        addr: LittleEndian::read_u64(&bytes),
+        len: LittleEndian::read_u32(&bytes[8..]),
+        flags: LittleEndian::read_u16(&bytes[14..]),
+        next_or_id: LittleEndian::read_u16(&bytes[12..]),
+    }
+}
+
+/// Whether a descriptor is available under a wrap counter of the driver.
+pub(crate) fn is_available(d: &Descriptor, wrap: bool) -> bool
+    ensures { result ≡ cond wrap (avail_bit d.now && not (used_bit d.now)) (not (avail_bit d.now) && used_bit d.now) }
+{
+    let avail = d.flags & AVAIL == AVAIL;
+    let used = d.flags & USED == USED;
+    if wrap { avail && !used } else { !avail && used }
+}
+
+/// The flags of a used descriptor under a wrap counter of the device, with so many bytes written.
+pub(crate) fn flags_of_used(wrap: bool, len: u32) -> u16
+    ensures { result ≡ used_flags wrap len }
+{
+    let turn = if wrap { AVAIL + USED } else { 0 };
+    let written = if len > 0 { WRITE } else { 0 };
+    turn + written
+}
+
+/// Puts len, id and flags of a used descriptor at an address.
+pub(crate) fn put_used(memory: &mut GuestMem, addr: u64, len: u32, id: u16, flags: u16)
+    requires { addr + 8 ≤ length memory.old }
+    ensures memory { memory.new ≡ with_bytes memory.old addr (little_bytes 4 len ++ little_bytes 2 id ++ little_bytes 2 flags) }
+    ensures size { length memory.new ≡ length memory.old }
+{
+    let mut bytes = [0; 8];
+    LittleEndian::write_u32(&mut bytes, len);
+    LittleEndian::write_u16(&mut bytes[4..], id);
+    LittleEndian::write_u16(&mut bytes[6..], flags);
+    let _ = memory.write(addr, &bytes);
+}

@@ -1,0 +1,11 @@
+pub use Rattle.guest_mem.specs.Memory
+pub mod State
+pub mod Sound
+pub mod Parts
+pub mod Walk
+pub mod Split
+pub mod Packed
+pub mod Offer
+pub mod Fetch
+pub mod Table
+pub mod Base

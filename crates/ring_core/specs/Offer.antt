@@ -1,0 +1,78 @@
+-- What a virtqueue has for the device, in either form.
+use Rattle.std.specs.Prelude.{ℕ, ◌≡◌, ◌≢◌, ◌≤◌, ◌⊎◌, Bool, true, false, List, length, map, Option, Some, None}
+use Rattle.ring_core.specs.State.{RingState}
+use Rattle.ring_core.specs.Walk.{part_of}
+use Rattle.ring_core.specs.Split.{SplitChain, SplitFails, pending, next_head, entry_wrong, split_used, split_wants_notice}
+use Rattle.ring_core.specs.Packed.{PackedChain, PackedFails, is_available, id_of, whole_wrong, packed_used, packed_wants_notice}
+use Rattle.ring_core.specs.declared.descriptor.Part.{Part}
+use Rattle.ring_core.specs.declared.descriptor.Descriptor.{Descriptor}
+use Rattle.ring_core.specs.declared.fault.RingFault.{RingFault}
+use Rattle.ring_core.specs.declared.layout.Form.{Form}
+use Rattle.ring_core.specs.declared.layout.Form.TheVariants.{Split, Packed}
+
+-- nothing, a chain (its head or id, its slots, its parts), or a fault
+pub data Offer : Type 0 where
+  Nothing : Offer
+  Found : ℕ → ℕ → List Part → Offer
+  Refused : RingFault → Offer
+
+-- a split queue offers this
+abbrev pub SplitOffers : RingState → List ℕ → Offer → Type 0
+SplitOffers s m Nothing = pending s m ≡ 0
+SplitOffers s m (Found id slots parts) =
+    (pending s m ≢ 0) × (entry_wrong s m ≡ None) × (id ≡ next_head s m) × (slots ≡ 1)
+    × SplitChain m s.layout.desc s.layout.size (next_head s m) parts
+SplitOffers s m (Refused f) =
+    (pending s m ≢ 0)
+    × ((entry_wrong s m ≡ Some f)
+    ⊎ ((entry_wrong s m ≡ None) × SplitFails m s.layout.desc s.layout.size (next_head s m) f))
+
+-- a packed queue offers this
+abbrev pub PackedOffers : RingState → List ℕ → Offer → Type 0
+PackedOffers s m Nothing = is_available s m ≡ false
+PackedOffers s m (Found id slots parts) =
+    (is_available s m ≡ true)
+    × ((chain : List Descriptor) × PackedChain m s.layout s.accepted_slots chain
+    × (whole_wrong s chain ≡ None) × (id ≡ id_of chain) × (slots ≡ length chain) × (parts ≡ map part_of chain))
+PackedOffers s m (Refused f) =
+    (is_available s m ≡ true)
+    × (PackedFails m s.layout s.accepted_slots f
+    ⊎ ((chain : List Descriptor) × PackedChain m s.layout s.accepted_slots chain × (whole_wrong s chain ≡ Some f)))
+
+abbrev pub OffersInForm : Form → RingState → List ℕ → Offer → Type 0
+OffersInForm Split s m o = SplitOffers s m o
+OffersInForm Packed s m o = PackedOffers s m o
+
+-- a broken queue offers its fault for good
+abbrev pub OffersUnless : Option RingFault → RingState → List ℕ → Offer → Type 0
+OffersUnless (Some f) s m o = o ≡ Refused f
+OffersUnless None s m o = OffersInForm s.form s m o
+
+-- with this memory the queue offers this
+abbrev pub Offers : RingState → List ℕ → Offer → Type 0
+Offers s m o = OffersUnless s.broken s m o
+
+-- there is a chain, or a fault that comes behind the test of a split queue's idx
+abbrev pub HasEntryInForm : Form → RingState → List ℕ → Type 0
+HasEntryInForm Split s m = (pending s m ≢ 0) × (pending s m ≤ s.layout.size)
+HasEntryInForm Packed s m = is_available s m ≡ true
+
+-- in its place want of memory may be answered
+abbrev pub MayLackMemory : RingState → List ℕ → Type 0
+MayLackMemory s m = (s.broken ≡ None) × HasEntryInForm s.form s m
+
+abbrev pub used_in_form : Form → RingState → List ℕ → ℕ → ℕ → List ℕ
+used_in_form Split s m id len = split_used s m id len
+used_in_form Packed s m id len = packed_used s m id len
+
+-- memory once a chain with this id was completed with so many bytes
+abbrev pub with_used : RingState → List ℕ → ℕ → ℕ → List ℕ
+with_used s m id len = used_in_form s.form s m id len
+
+abbrev pub notice_in_form : Form → RingState → List ℕ → Bool
+notice_in_form Split s m = split_wants_notice m s.layout.driver
+notice_in_form Packed s m = packed_wants_notice m s.layout.driver
+
+-- the driver asks for a notice
+abbrev pub wants_notice : RingState → List ℕ → Bool
+wants_notice s m = notice_in_form s.form s m

@@ -1,0 +1,28 @@
+-- What is true of every queue, whatever its guest wrote.
+use Rattle.std.specs.Prelude.{ℕ, ◌+◌, ◌≡◌, ◌<◌, ◌≤◌, ◌*◌, length, Option, Some, None, slice_get, sum_by, is_some, cond}
+use Rattle.ring_core.specs.State.{RingState, IsLawful, under}
+use Rattle.ring_core.specs.declared.outstanding.OutstandingChain.{OutstandingChain}
+use Rattle.ring_core.specs.declared.fault.RingFault.TheVariants.{NoMemory}
+
+-- how many chains are outstanding
+abbrev pub outstanding_count : RingState → ℕ
+outstanding_count s = sum_by (λ c. cond (is_some c) 1 0) s.outstanding
+
+-- the slots of a chain, if there is one
+abbrev pub slots_of : Option OutstandingChain → ℕ
+slots_of None = 0
+slots_of (Some c) = c.slots
+
+pub record IsSound (s : RingState) : Type 0 where
+  pub lawful : IsLawful s.queue s.log
+  -- what is outstanding was accepted and not used, each chain under one head or id
+  pub was_accepted : (id : ℕ) (c : OutstandingChain) → under s id ≡ Some c → c.number < length s.log.accepted
+  pub not_used : (id : ℕ) (c : OutstandingChain) (k : ℕ) → under s id ≡ Some c → slice_get s.log.used k ≡ Some (record { queue = s.queue; number = c.number }) → ⊥
+  pub under_one : (i j : ℕ) (c d : OutstandingChain) → under s i ≡ Some c → under s j ≡ Some d → c.number ≡ d.number → i ≡ j
+  -- what was accepted is outstanding or used
+  pub counted : length s.log.used + outstanding_count s ≡ length s.log.accepted
+  pub slots_counted : s.used_slots + sum_by slots_of s.outstanding ≡ s.accepted_slots
+  pub accepted_bounded : s.accepted_slots ≤ 65536 * length s.log.accepted
+  pub used_bounded : s.used_slots ≤ 65536 * length s.log.used
+  -- want of memory breaks no queue
+  pub broken_by_guest : s.broken ≡ Some NoMemory → ⊥

@@ -1,0 +1,88 @@
+-- A split virtqueue (VIRTIO 1.2, 2.7): which chain lies at its next place, and what a completion writes.
+use Rattle.std.specs.Prelude.{ℕ, zero, suc, ◌≡◌, ◌+◌, ◌*◌, ◌-◌, ◌%◌, ◌==◌, ◌&&◌, not, nat_lt, nat_le, Bool, map, List, [], ◌∷◌, ◌++◌, length, drop, Option, is_some, bit_and}
+use Rattle.byteorder.specs.Endian.{little_number, little_bytes}
+use Rattle.guest_mem.specs.Memory.{bytes_at, with_bytes}
+use Rattle.ring_core.specs.State.{RingState, under}
+use Rattle.ring_core.specs.Walk.{goes_on, is_indirect, part_of, first_of, buffer_tests, by_next, IsChain, IsFault}
+use Rattle.ring_core.specs.declared.descriptor.Part.{Part}
+use Rattle.ring_core.specs.declared.descriptor.Descriptor.{Descriptor}
+use Rattle.ring_core.specs.declared.before.Before.{Before}
+use Rattle.ring_core.specs.declared.fault.RingFault.{RingFault}
+use Rattle.ring_core.specs.declared.fault.RingFault.TheVariants.{BadIndirect, IndexJump, HeadOutOfRange, NextOutOfRange, ChainTooLong, AlreadyOutstanding}
+
+-- The table of descriptors (2.7.5): le64 addr, le32 len, le16 flags, le16 next
+
+abbrev pub split_descriptor : List ℕ → Descriptor
+split_descriptor bytes =
+    record {
+      addr = little_number 8 bytes;
+      len = little_number 4 (drop 8 bytes);
+      flags = little_number 2 (drop 12 bytes);
+      next_or_id = little_number 2 (drop 14 bytes);
+    }
+
+-- the descriptor of this number in a table
+abbrev pub in_table : List ℕ → ℕ → ℕ → Descriptor
+in_table m table number = split_descriptor (bytes_at m (table + 16 * number) 16)
+
+-- the number of the k-th descriptor on the path by `next` from a head
+unfoldable pub number_on : List ℕ → ℕ → ℕ → ℕ → ℕ
+number_on m table head zero = head
+number_on m table head (suc k) = (in_table m table (number_on m table head k)).next_or_id
+
+-- the path from a head, as a sequence
+abbrev pub path : List ℕ → ℕ → ℕ → ℕ → Descriptor
+path m table head k = in_table m table (number_on m table head k)
+
+-- what is wrong with a descriptor on the path, in a memory and a table of these sizes
+abbrev pub split_wrong : ℕ → ℕ → Before → Descriptor → Option RingFault
+split_wrong memory size before d =
+    first_of (
+    (is_indirect d, BadIndirect)
+    ∷ buffer_tests memory before d
+    ++ (goes_on d && nat_le size d.next_or_id, NextOutOfRange)
+    ∷ (goes_on d && nat_le size (before.count + 1), ChainTooLong)
+    ∷ [])
+
+-- the chain at a head has these parts: the descriptors on its path to the first without NEXT, each of them right
+abbrev pub SplitChain : List ℕ → ℕ → ℕ → ℕ → List Part → Type 0
+SplitChain m table size head parts =
+    (chain : List Descriptor) × IsChain by_next (split_wrong (length m) size) (path m table head) chain × (parts ≡ map part_of chain)
+
+-- the first thing wrong along its path
+abbrev pub SplitFails : List ℕ → ℕ → ℕ → ℕ → RingFault → Type 0
+SplitFails m table size head f = IsFault by_next (split_wrong (length m) size) (path m table head) f
+
+-- The available ring (2.7.6): le16 flags, le16 idx, le16 ring[size]
+
+-- how many of its entries weren't accepted yet: idx ahead of the accepted chains, modulo 65,536
+abbrev pub pending : RingState → List ℕ → ℕ
+pending s m = (little_number 2 (bytes_at m (s.layout.driver + 2) 2) + 65536 - length s.log.accepted % 65536) % 65536
+
+-- the head that the next entry names
+abbrev pub next_head : RingState → List ℕ → ℕ
+next_head s m = little_number 2 (bytes_at m (s.layout.driver + 4 + 2 * (length s.log.accepted % 65536 % s.layout.size)) 2)
+
+-- what is wrong with the next entry
+abbrev pub entry_wrong : RingState → List ℕ → Option RingFault
+entry_wrong s m =
+    first_of (
+    (nat_lt s.layout.size (pending s m), IndexJump)
+    ∷ (nat_le s.layout.size (next_head s m), HeadOutOfRange)
+    ∷ (is_some (under s (next_head s m)), AlreadyOutstanding)
+    ∷ [])
+
+-- VIRTQ_AVAIL_F_NO_INTERRUPT isn't set (2.7.7)
+abbrev pub split_wants_notice : List ℕ → ℕ → Bool
+split_wants_notice m driver = not (bit_and (little_number 2 (bytes_at m driver 2)) 1 == 1)
+
+-- The used ring (2.7.8): le16 flags, le16 idx, elements of le32 id and le32 len
+
+-- memory once a chain was completed: the element in the slot of the own index, and then the next index
+abbrev pub split_used : RingState → List ℕ → ℕ → ℕ → List ℕ
+split_used s m head len =
+    let own : ℕ = length s.log.used % 65536 in
+    with_bytes
+    (with_bytes m (s.layout.device + 4 + 8 * (own % s.layout.size)) (little_bytes 4 head ++ little_bytes 4 len))
+    (s.layout.device + 2)
+    (little_bytes 2 ((own + 1) % 65536))

@@ -1,0 +1,50 @@
+//! What a completion leaves in hand.
+
+ghost use Rattle.std.specs.Prelude.{◌≡◌};
+
+use crate::log::Ticket;
+use std::marker::Model;
+
+/// That a chain was completed. `Ring::complete` alone makes one.
+#[derive(Debug, Drop)]
+pub struct Answered {
+    ticket: Ticket,
+}
+
+impl Model for Answered {
+    ghost use Rattle.ring_core.specs.declared.log.Ticket.{Ticket};
+
+    ghost Value = { Ticket };
+
+    ghost view = { λ a. a.ticket };
+}
+
+impl Answered {
+    /// For `Ring::complete` alone.
+    pub(crate) fn of(ticket: Ticket) -> Answered
+        ensures { result ≡ ticket }
+    {
+        Answered { ticket }
+    }
+
+    /// The ticket of the chain that was completed.
+    pub fn ticket(&self) -> Ticket
+        ensures { result ≡ self.now }
+    {
+        self.ticket
+    }
+}
+
+/// The leave to finish a chain. `Ring::complete` alone makes one, so nothing else can call a
+/// ring's `finish`.
+#[derive(Debug, Drop)]
+pub struct Completion {
+    private: (),
+}
+
+impl Completion {
+    /// For `Ring::complete` alone.
+    pub(crate) fn begin() -> Completion {
+        Completion { private: () }
+    }
+}

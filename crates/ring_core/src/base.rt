@@ -1,0 +1,221 @@
+//! What both forms of queue keep.
+
+ghost use Rattle.std.specs.Prelude.{◌≡◌, ◌+◌, ◌*◌, ◌<◌, ◌≤◌, ◌^◌, ◌↔◌, length, IfOk, OnErr, OnOk, Some, None, IsTrue, is_some};
+ghost use Rattle.ring_core.specs.State.{under, accepting, using, breaking, opening, next_ticket, Owns, IsLawful};
+ghost use Rattle.ring_core.specs.Parts.{PartsFit};
+
+use crate::chain::Chain;
+use crate::descriptor::Part;
+use crate::fault::RingFault;
+use crate::layout::{Features, Form, Layout};
+use crate::log::{QueueLog, Ticket};
+use crate::outstanding::{OutstandingChain, OutstandingTable};
+use std::alloc::{AllocError, Global};
+use std::marker::Model;
+
+/// A queue's place, its log and its outstanding chains. For rings.
+#[derive(Debug, Drop)]
+pub struct RingBase {
+    alloc: Global,
+    form: Form,
+    queue: u16,
+    layout: Layout,
+    features: Features,
+    memory: u64,
+    log: QueueLog,
+    outstanding: OutstandingTable,
+    accepted_slots: u128,
+    used_slots: u128,
+    latest_slots: u16,
+    broken: Option<RingFault>,
+}
+
+impl Model for RingBase {
+    ghost use Rattle.ring_core.specs.State.{RingState};
+    ghost use Rattle.ring_core.specs.Sound.{IsSound};
+
+    ghost Value = { RingState };
+
+    ghost use Rattle.ring_core.specs.Base.{state_of};
+
+    ghost view = { state_of };
+
+    ghost invariant = { λ b. IsSound (state_of b) };
+}
+
+impl RingBase {
+    /// A split queue of which nothing was fetched yet, with a place for each head.
+    pub fn split(
+        alloc: Global,
+        queue: u16,
+        layout: Layout,
+        features: Features,
+        memory: u64,
+    ) -> Result<RingBase, AllocError>
+        ensures { IfOk result (λ base. base ≡ opening Form.Split queue layout features memory layout.size) }
+    {
+        let outstanding = OutstandingTable::by_head(alloc, layout.size as usize)?;
+        Ok(RingBase {
+            alloc,
+            form: Form::Split,
+            queue,
+            layout,
+            features,
+            memory,
+            log: QueueLog::new(alloc),
+            outstanding,
+            accepted_slots: 0,
+            used_slots: 0,
+            latest_slots: 0,
+            broken: None,
+        })
+    }
+
+    /// A packed queue of which nothing was fetched yet, whose ids are below `ids`. It takes no
+    /// memory.
+    pub fn packed(
+        alloc: Global,
+        queue: u16,
+        layout: Layout,
+        features: Features,
+        memory: u64,
+        ids: usize,
+    ) -> RingBase
+        ensures { result ≡ opening Form.Packed queue layout features memory ids }
+    {
+        RingBase {
+            alloc,
+            form: Form::Packed,
+            queue,
+            layout,
+            features,
+            memory,
+            log: QueueLog::new(alloc),
+            outstanding: OutstandingTable::by_id(alloc, ids),
+            accepted_slots: 0,
+            used_slots: 0,
+            latest_slots: 0,
+            broken: None,
+        }
+    }
+
+    /// The allocator that it was made with.
+    pub fn allocator(&self) -> Global {
+        self.alloc
+    }
+
+    /// Its log.
+    pub fn log(&self) -> &QueueLog
+        ensures log { result.now ≡ self.now.log }
+        ensures lawful { IsLawful self.now.queue self.now.log }
+    {
+        &self.log
+    }
+
+    /// Where it lies.
+    pub fn layout(&self) -> Layout
+        ensures { result ≡ self.now.layout }
+    {
+        self.layout
+    }
+
+    /// The size in bytes of the memory that it was made with.
+    pub fn memory(&self) -> u64
+        ensures { result ≡ self.now.memory }
+    {
+        self.memory
+    }
+
+    /// The slots of all accepted chains.
+    pub fn accepted_slots(&self) -> u128
+        ensures slots { result ≡ self.now.accepted_slots }
+        ensures bounded { result < 2 ^ 100 }
+    {
+        let _count = self.log.accepted().len();
+        self.accepted_slots
+    }
+
+    /// The slots of all used chains.
+    pub fn used_slots(&self) -> u128
+        ensures slots { result ≡ self.now.used_slots }
+        ensures below { result ≤ self.now.accepted_slots }
+    {
+        self.used_slots
+    }
+
+    /// The fault that broke it, if one did.
+    pub fn broken(&self) -> Option<RingFault>
+        ensures broken { result ≡ self.now.broken }
+        ensures by_guest { result ≡ Some RingFault.NoMemory → ⊥ }
+    {
+        self.broken
+    }
+
+    /// Whether a chain with this head or id is outstanding.
+    pub fn is_outstanding(&self, id: u16) -> bool
+        ensures { result ≡ is_some (under self.now id) }
+    {
+        self.outstanding.get(id).is_some()
+    }
+
+    /// Whether the chain is outstanding here, and of a memory of the same size.
+    pub fn owns(&self, chain: &Chain) -> bool
+        ensures { IsTrue result ↔ Owns self.now chain.now }
+    {
+        let ticket = chain.ticket();
+        ticket.queue == self.queue
+            && chain.memory() == self.memory
+            && self.outstanding.get(chain.id())
+                == Some(OutstandingChain {
+                    number: ticket.number,
+                    slots: chain.slots(),
+                })
+    }
+
+    /// A chain that was found is accepted, with room for its use.
+    pub fn accept(&mut self, id: u16, slots: u16, parts: Vec<Part>) -> Result<Chain, AllocError>
+        requires free { under self.old id ≡ None }
+        requires in_range { id < length self.old.outstanding }
+        requires fit { PartsFit self.old.memory parts.items }
+        ensures chain { IfOk result (λ c. c ≡ record { ticket = next_ticket self.old; id = id; slots = slots; parts = parts.items; memory = self.old.memory }) }
+        ensures ok { OnOk result (self.new ≡ accepting self.old id slots) }
+        ensures owned { IfOk result (λ c. Owns self.new c) }
+        ensures err { OnErr result (self.new ≡ self.old) }
+    {
+        let number = self.log.accepted().len() as u64;
+        let ticket = Ticket {
+            queue: self.queue,
+            number,
+        };
+        self.outstanding
+            .put(id, OutstandingChain { number, slots })?;
+        if let Err(refused) = self.log.accept(ticket) {
+            self.outstanding.remove(id);
+            return Err(refused);
+        }
+        self.accepted_slots += slots as u128;
+        Ok(Chain::of(ticket, id, slots, parts, self.memory))
+    }
+
+    /// An outstanding chain is used. It takes no memory.
+    pub fn release(&mut self, chain: Chain) -> Ticket
+        requires { Owns self.old chain }
+        ensures ticket { result ≡ chain.ticket }
+        ensures state { self.new ≡ using self.old chain }
+    {
+        let ticket = chain.ticket();
+        self.log.record_use(ticket);
+        self.outstanding.remove(chain.id());
+        self.used_slots += chain.slots() as u128;
+        self.latest_slots = chain.slots();
+        ticket
+    }
+
+    /// The queue is broken for good.
+    pub fn break_with(&mut self, fault: RingFault)
+        requires { fault ≡ RingFault.NoMemory → ⊥ }
+        ensures { self.new ≡ breaking self.old fault }
+    {
+        self.broken = Some(fault);
+    }
+}

@@ -1,0 +1,98 @@
+//! Reading and writing the bytes of a chain's parts.
+
+ghost use Rattle.std.specs.Prelude.{◌≡◌, ◌+◌, ◌≤◌, ◌<◌, ◌^◌, ◌-◌, ◌++◌, length, take, min, true, IfOk, OnOk};
+ghost use Rattle.guest_mem.specs.Memory.{bytes_at, with_bytes};
+ghost use Rattle.ring_core.specs.Parts.{PartsFit, inside, readable_of, readable_bytes, writable_total, scattered};
+
+use crate::chain::{Chain, total_readable};
+use crate::descriptor::Part;
+use guest_mem::GuestMem;
+use std::alloc::{AllocError, Global};
+
+/// How many of a chain's readable bytes are read when it is fetched: a request's 51 bytes and
+/// the 2,048 blocks of 512 bytes that a command writes at most.
+pub const FIRST_BYTES: usize = 1_048_627;
+
+/// Appends the readable bytes of a part, as far as there is room below `most`.
+fn append_part(
+    memory: &GuestMem,
+    part: &Part,
+    bytes: &mut Vec<u8>,
+    most: usize,
+) -> Result<(), AllocError>
+    requires inside { inside (length memory.now) part.now ≡ true }
+    requires most { most < 2 ^ 32 }
+    requires room { length bytes.old.items ≤ most }
+    ensures { OnOk result (bytes.new.items ≡ bytes.old.items ++ take (most - length bytes.old.items) (readable_of memory.now part.now)) }
+{
+    if part.writable || part.len == 0 {
+        return Ok(());
+    }
+    let len = (part.len as usize).min(most - bytes.len());
+    match memory.slice(part.addr, len) {
+        Ok(here) => bytes.extend_from_slice(here),
+        Err(_) => unreachable!(),
+    }
+}
+
+/// The first readable bytes of the parts, at most `most` of them. For rings.
+pub fn gather(
+    alloc: Global,
+    memory: &GuestMem,
+    parts: &[Part],
+    most: usize,
+) -> Result<Vec<u8>, AllocError>
+    requires fit { PartsFit (length memory.now) parts.now }
+    requires most { most < 2 ^ 32 }
+    ensures { IfOk result (λ bytes. bytes.items ≡ take most (readable_bytes memory.now parts.now)) }
+{
+    let total = total_readable(parts).min(most as u64);
+    let mut bytes = Vec::with_capacity(alloc, total as usize)?;
+    for part in parts {
+        append_part(memory, part, &mut bytes, most)?;
+    }
+    Ok(bytes)
+}
+
+/// Writes into a writable part from its byte `skip` on, and answers how many bytes.
+fn fill_part(memory: &mut GuestMem, part: &Part, skip: u64, bytes: &[u8]) -> usize
+    requires inside { part.now.addr + part.now.len ≤ length memory.old }
+    requires skip { skip < part.now.len }
+    ensures written { result ≡ min (length bytes.now) (part.now.len - skip) }
+    ensures memory { memory.new ≡ with_bytes memory.old (part.now.addr + skip) (take (part.now.len - skip) bytes.now) }
+    ensures size { length memory.new ≡ length memory.old }
+{
+    let _size = memory.size();
+    let here = bytes.len().min((part.len as u64 - skip) as usize);
+    let _ = memory.write(part.addr + skip, &bytes[..here]);
+    here
+}
+
+/// Writes `bytes` over the chain's writable parts in order, from their byte `at` on, and answers
+/// how many bytes that were: all of them. Where parts overlap the later write wins. It takes no
+/// memory. Whoever answers a chain calls it before `Ring::complete`, with a memory of the size
+/// that the chain's had, and with `at` and the bytes within the writable parts and below 2^32.
+pub fn scatter(memory: &mut GuestMem, chain: &Chain, at: u32, bytes: &[u8]) -> u32
+    requires fits { length memory.old ≡ chain.now.memory }
+    requires room { at + length bytes.now ≤ writable_total chain.now.parts }
+    requires small { at + length bytes.now < 2 ^ 32 }
+    ensures written { result ≡ length bytes.now }
+    ensures memory { memory.new ≡ scattered memory.old chain.now.parts at bytes.now }
+    ensures size { length memory.new ≡ length memory.old }
+{
+    let mut skip = at as u64;
+    let mut rest = bytes;
+    for part in chain.parts() {
+        if part.writable {
+            let len = part.len as u64;
+            if skip < len {
+                let here = fill_part(memory, part, skip, rest);
+                rest = &rest[here..];
+                skip = 0;
+            } else {
+                skip -= len;
+            }
+        }
+    }
+    bytes.len() as u32
+}

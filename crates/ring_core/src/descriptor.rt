@@ -1,0 +1,98 @@
+//! One descriptor, in whatever table or ring it stands.
+
+ghost use Rattle.std.specs.Prelude.{◌≡◌, ⊤, [], ◌∷◌, codes};
+ghost use Rattle.ring_core.specs.Walk.{goes_on, is_writable, is_indirect, part_of};
+
+use bitflags::{Flag, Flags, bitflag_items};
+
+/// What a descriptor's flags say (VIRTIO 1.2, 2.7.5 and 2.8.13). Other bits are ignored.
+#[derive(Clone, Copy, PartialEq, Eq, Debug)]
+pub struct DescriptorFlags(u16);
+
+bitflag_items! {
+    impl DescriptorFlags: u16 {
+        const NEXT = 1;
+        const WRITE = 2;
+        const INDIRECT = 4;
+    }
+}
+
+impl Flags for DescriptorFlags {
+    type Bits = u16;
+
+    ghost exact = { ⊤ };
+
+    ghost table = { (codes "NEXT", 1) ∷ (codes "WRITE", 2) ∷ (codes "INDIRECT", 4) ∷ [] };
+
+    ghost set_of = { λ f. f.0 };
+
+    fn flags<'a>() -> &'a [Flag<DescriptorFlags>] {
+        DescriptorFlags::FLAGS
+    }
+
+    fn bits(&self) -> u16 {
+        self.0
+    }
+
+    fn from_bits_retain(bits: u16) -> DescriptorFlags {
+        DescriptorFlags(bits)
+    }
+}
+
+/// One buffer of a chain.
+#[derive(Clone, Copy, Debug, PartialEq, Eq)]
+pub struct Part {
+    /// Where it begins in guest memory.
+    pub addr: u64,
+    /// Its bytes.
+    pub len: u32,
+    /// Whether the device writes it; else it reads it.
+    pub writable: bool,
+}
+
+/// A descriptor as it stands in memory.
+#[derive(Clone, Copy, Debug, PartialEq, Eq)]
+pub struct Descriptor {
+    /// Where its buffer begins.
+    pub addr: u64,
+    /// The bytes of its buffer.
+    pub len: u32,
+    /// Its flags, all sixteen bits.
+    pub flags: u16,
+    /// In a split queue the number of the next descriptor, in a packed one the buffer's id.
+    pub next_or_id: u16,
+}
+
+impl Descriptor {
+    /// Whether another descriptor follows: NEXT.
+    pub fn goes_on(&self) -> bool
+        ensures { result ≡ goes_on self.now }
+    {
+        DescriptorFlags(self.flags).contains(DescriptorFlags::NEXT)
+    }
+
+    /// Whether the device writes its buffer: WRITE.
+    pub fn is_writable(&self) -> bool
+        ensures { result ≡ is_writable self.now }
+    {
+        DescriptorFlags(self.flags).contains(DescriptorFlags::WRITE)
+    }
+
+    /// Whether its buffer is a table of descriptors: INDIRECT.
+    pub fn is_indirect(&self) -> bool
+        ensures { result ≡ is_indirect self.now }
+    {
+        DescriptorFlags(self.flags).contains(DescriptorFlags::INDIRECT)
+    }
+
+    /// Its buffer.
+    pub fn part(&self) -> Part
+        ensures { result ≡ part_of self.now }
+    {
+        Part {
+            addr: self.addr,
+            len: self.len,
+            writable: self.is_writable(),
+        }
+    }
+}

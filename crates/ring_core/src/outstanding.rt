@@ -1,0 +1,152 @@
+//! Which chain is outstanding under each head or id, found by index or by key.
+
+ghost use Rattle.std.specs.Prelude.{◌≡◌, ◌<◌, ℕ, length, replicate, get_or, slice_set, None, Some, IfOk, OnOk, OnErr};
+ghost use Rattle.std.specs.Ordering.{nat_cmp};
+ghost use Rattle.std.specs.BTreeMap.{get};
+ghost use Rattle.ring_core.specs.Table.{tabulated};
+
+use std::alloc::{AllocError, Global};
+use std::collections::BTreeMap;
+use std::marker::Model;
+
+/// An outstanding chain, as its queue remembers it.
+#[derive(Clone, Copy, Debug, PartialEq, Eq)]
+pub struct OutstandingChain {
+    /// The number of its ticket.
+    pub number: u64,
+    /// How many slots of the ring it takes.
+    pub slots: u16,
+}
+
+/// How the chains are kept.
+#[derive(Debug, Drop)]
+pub enum Entries {
+    /// A place for each head, made once: a split queue's heads are below its size.
+    ByHead(Vec<Option<OutstandingChain>>),
+    /// An entry for each outstanding chain: a packed queue's ids are any of 65,536, of which at
+    /// most as many as its size are outstanding.
+    ById(BTreeMap<u16, OutstandingChain>),
+}
+
+/// The chain under an id below a bound, if any.
+fn chain_at(
+    chains: &BTreeMap<u16, OutstandingChain>,
+    ids: usize,
+    id: u16,
+) -> Option<OutstandingChain>
+    ensures { result ≡ get_or (tabulated (get nat_cmp chains.now) ids) id None }
+{
+    if (id as usize) < ids {
+        chains.get(&id).copied()
+    } else {
+        None
+    }
+}
+
+/// Puts a chain under an id.
+fn put_chain(
+    chains: &mut BTreeMap<u16, OutstandingChain>,
+    id: u16,
+    chain: OutstandingChain,
+) -> Result<(), AllocError>
+    ensures ok { OnOk result ((ids : ℕ) → id < ids → tabulated (get nat_cmp chains.new) ids ≡ slice_set (tabulated (get nat_cmp chains.old) ids) id (Some chain)) }
+    ensures err { OnErr result ((ids : ℕ) → tabulated (get nat_cmp chains.new) ids ≡ tabulated (get nat_cmp chains.old) ids) }
+{
+    match chains.insert(id, chain) {
+        Ok(_) => Ok(()),
+        Err(_) => Err(AllocError),
+    }
+}
+
+/// Takes the chain from under an id.
+fn remove_chain(chains: &mut BTreeMap<u16, OutstandingChain>, id: u16)
+    ensures { (ids : ℕ) → id < ids → tabulated (get nat_cmp chains.new) ids ≡ slice_set (tabulated (get nat_cmp chains.old) ids) id None }
+{
+    let _ = chains.remove(&id);
+}
+
+/// Which chain is outstanding under each head or id below a bound, seen as a list.
+#[derive(Debug, Drop)]
+pub struct OutstandingTable {
+    entries: Entries,
+    ids: usize,
+}
+
+impl Model for OutstandingTable {
+    ghost use Rattle.std.specs.Prelude.{List, Option};
+    ghost use Rattle.ring_core.specs.declared.outstanding.OutstandingChain.{OutstandingChain};
+
+    ghost Value = { List (Option OutstandingChain) };
+
+    ghost use Rattle.ring_core.specs.Table.{entries_listed};
+
+    ghost view = { λ t. entries_listed t.entries t.ids };
+}
+
+impl OutstandingTable {
+    /// None outstanding under the heads below `ids`, with a place for each.
+    pub(crate) fn by_head(alloc: Global, ids: usize) -> Result<OutstandingTable, AllocError>
+        ensures { IfOk result (λ table. table ≡ replicate ids None) }
+    {
+        let mut places = Vec::new(alloc);
+        places.resize(ids, None)?;
+        Ok(OutstandingTable {
+            entries: Entries::ByHead(places),
+            ids,
+        })
+    }
+
+    /// None outstanding under the ids below `ids`. It takes no memory.
+    pub(crate) fn by_id(alloc: Global, ids: usize) -> OutstandingTable
+        ensures { result ≡ replicate ids None }
+    {
+        OutstandingTable {
+            entries: Entries::ById(BTreeMap::new(alloc)),
+            ids,
+        }
+    }
+
+    /// The chain under a head or id, if any.
+    pub(crate) fn get(&self, id: u16) -> Option<OutstandingChain>
+        ensures { result ≡ get_or self.now id None }
+    {
+        match &self.entries {
+            Entries::ByHead(places) => places.get(id as usize).copied().flatten(),
+            Entries::ById(chains) => chain_at(chains, self.ids, id),
+        }
+    }
+
+    /// Puts a chain under a head or id.
+    pub(crate) fn put(&mut self, id: u16, chain: OutstandingChain) -> Result<(), AllocError>
+        requires { id < length self.old }
+        ensures ok { OnOk result (self.new ≡ slice_set self.old id (Some chain)) }
+        ensures err { OnErr result (self.new ≡ self.old) }
+    {
+        match &mut self.entries {
+            Entries::ByHead(places) => {
+                places[id as usize] = Some(chain);
+                return Ok(());
+            }
+            Entries::ById(chains) => {
+                return put_chain(chains, id, chain);
+            }
+        }
+    }
+
+    /// Takes the chain from under a head or id. It takes no memory.
+    pub(crate) fn remove(&mut self, id: u16)
+        requires { id < length self.old }
+        ensures { self.new ≡ slice_set self.old id None }
+    {
+        match &mut self.entries {
+            Entries::ByHead(places) => {
+                places[id as usize] = None;
+                return;
+            }
+            Entries::ById(chains) => {
+                remove_chain(chains, id);
+                return;
+            }
+        }
+    }
+}

@@ -1,0 +1,67 @@
+//! What every virtqueue promises, in whatever form it lies in memory.
+
+ghost use Rattle.std.specs.Prelude.{◌≡◌, ◌↔◌, ◌<◌, ◌^◌, length, IsTrue};
+ghost use Rattle.ring_core.specs.State.{RingState, Owns, IsLawful, using};
+ghost use Rattle.ring_core.specs.Offer.{with_used, wants_notice};
+ghost use Rattle.ring_core.specs.Fetch.{Fetches};
+
+use crate::answered::{Answered, Completion};
+use crate::chain::{Chain, Fetched};
+use crate::fault::RingFault;
+use crate::log::{QueueLog, Ticket};
+use guest_mem::GuestMem;
+
+/// A virtqueue: the device's side of it.
+pub trait Ring {
+    /// The queue as a plain value.
+    ghost state: { Self → RingState };
+
+    /// Takes the next available chain, if there is one, and reads its first 1,048,627 readable
+    /// bytes at once. Called with a memory that `fits`. A fault of the guest breaks the queue
+    /// for good: later fetches answer the same fault, and chains accepted before can still be
+    /// completed. `NoMemory` leaves the queue as it was.
+    fn fetch(&mut self, memory: &GuestMem) -> Result<Option<Fetched>, RingFault>
+        requires { length memory.now ≡ (state self.old).memory }
+        ensures { Fetches (state self.old) memory.now result (state self.new) };
+
+    /// The part of `complete` that is the queue's own; `complete` alone can call it.
+    fn finish(&mut self, memory: &mut GuestMem, chain: Chain, len: u32, leave: Completion) -> Ticket
+        requires fits { length memory.old ≡ (state self.old).memory }
+        requires owned { Owns (state self.old) chain }
+        ensures ticket { result ≡ chain.ticket }
+        ensures state { state self.new ≡ using (state self.old) chain }
+        ensures memory { memory.new ≡ with_used (state self.old) memory.old chain.id len }
+        ensures size { length memory.new ≡ length memory.old };
+
+    /// Gives a chain back to the driver, into which `len` bytes were written: writes its used
+    /// entry. Called once for each chain, with a memory that `fits` and a chain that the queue
+    /// `owns`. It takes no memory.
+    final fn complete(&mut self, memory: &mut GuestMem, chain: Chain, len: u32) -> Answered
+        requires fits { length memory.old ≡ (state self.old).memory }
+        requires owned { Owns (state self.old) chain }
+        ensures ticket { result ≡ chain.ticket }
+        ensures state { state self.new ≡ using (state self.old) chain }
+        ensures memory { memory.new ≡ with_used (state self.old) memory.old chain.id len }
+        ensures size { length memory.new ≡ length memory.old }
+    {
+        Answered::of(self.finish(memory, chain, len, Completion::begin()))
+    }
+
+    /// Whether the driver asks for a notice of used chains. Called with a memory that `fits`.
+    fn wants_notice(&self, memory: &GuestMem) -> bool
+        requires { length memory.now ≡ (state self.now).memory }
+        ensures { result ≡ wants_notice (state self.now) memory.now };
+
+    /// Which chains were accepted, and which were used.
+    fn log(&self) -> &QueueLog
+        ensures log { result.now ≡ (state self.now).log }
+        ensures lawful { IsLawful (state self.now).queue (state self.now).log };
+
+    /// Whether the memory has the size that the queue was made with.
+    fn fits(&self, memory: &GuestMem) -> bool
+        ensures { IsTrue result ↔ (length memory.now ≡ (state self.now).memory) };
+
+    /// Whether the chain is outstanding here, and was fetched from a memory of that size.
+    fn owns(&self, chain: &Chain) -> bool
+        ensures { IsTrue result ↔ Owns (state self.now) chain.now };
+}

@@ -1,0 +1,39 @@
+-- The eight bytes that name a logical unit (VIRTIO 1.2 §5.6.6.1): 01, the target, the LUN as a
+-- single level LUN structure (SAM-5 §4.7), four zeros.
+use Rattle.std.specs.Prelude.{ℕ, ◌≡◌, ◌<◌, ◌≤◌, ◌+◌, ◌/◌, ◌%◌, ◌⊎◌, nat_lt, if◌then◌else◌, List, [], ◌∷◌, length, slice_index, Option, Some, None}
+use Rattle.scsi_codec.specs.declared.lun.Address.{Address}
+
+-- `00 nn`, by the peripheral device addressing method
+abbrev pub first_form : Address → List ℕ
+first_form a = 0x01 ∷ a.target ∷ 0x00 ∷ a.lun ∷ 0 ∷ 0 ∷ 0 ∷ 0 ∷ []
+
+-- `40 + hi, lo`, by the flat space addressing method
+abbrev pub second_form : Address → List ℕ
+second_form a = 0x01 ∷ a.target ∷ (0x40 + a.lun / 256) ∷ (a.lun % 256) ∷ 0 ∷ 0 ∷ 0 ∷ 0 ∷ []
+
+-- these bytes name this unit, in one form or the other
+abbrev pub IsAddress : List ℕ → Address → Type 0
+IsAddress bytes a =
+    ((a.lun < 256) × (bytes ≡ first_form a)) ⊎ ((a.lun < 16384) × (bytes ≡ second_form a))
+
+-- what bytes read as: the unit that they name, or none where they name no unit
+abbrev pub ReadsAddress : List ℕ → Option Address → Type 0
+ReadsAddress bytes (Some a) = IsAddress bytes a
+ReadsAddress bytes None = (a : Address) → ¬ IsAddress bytes a
+
+-- the form in which an address is written
+abbrev pub written_address : Address → List ℕ
+written_address a = if nat_lt a.lun 256 then first_form a else second_form a
+
+-- which byte stands where in bytes that name a unit
+pub record HasReadableForm (bytes : List ℕ) : Type 0 where
+  pub eight : length bytes ≡ 8
+  pub single_level : slice_index bytes 0 ≡ 0x01
+  pub method :
+      (slice_index bytes 2 ≡ 0x00)
+      ⊎ ((0x40 ≤ slice_index bytes 2) × (slice_index bytes 2 ≤ 0x7f))
+  pub four_zeros : (k : ℕ) → 4 ≤ k → k < 8 → slice_index bytes k ≡ 0
+
+-- a list of bytes
+abbrev pub AreBytes : List ℕ → Type 0
+AreBytes bytes = (k : ℕ) → slice_index bytes k < 256

@@ -1,0 +1,51 @@
+//! The eight bytes that name a logical unit.
+
+ghost use Rattle.std.specs.Prelude.{◌≡◌, ◌<◌, length};
+ghost use Rattle.scsi_codec.specs.Lun.{ReadsAddress, written_address};
+
+/// Which logical unit of the host (VIRTIO 1.2 §5.6.6.1).
+#[derive(Clone, Copy, Debug, PartialEq, Eq)]
+pub struct Address {
+    /// The target, 0 to 255.
+    pub target: u8,
+    /// The logical unit number, 0 to 16,383.
+    pub lun: u16,
+}
+
+/// The unit that the bytes name, by either addressing method of a single level LUN (SAM-5 §4.7),
+/// or `None` where they name none.
+pub fn read_lun(bytes: &[u8; 8]) -> Option<Address>
+    ensures { ReadsAddress bytes.now result }
+{
+    match *bytes {
+        [0x01, target, 0x00, low, 0, 0, 0, 0] => Some(Address {
+            target,
+            lun: u16::from(low),
+        }),
+        [0x01, target, high @ 0x40..=0x7f, low, 0, 0, 0, 0] => Some(Address {
+            target,
+            lun: u16::from(high - 0x40) * 256 + u16::from(low),
+        }),
+        _ => None,
+    }
+}
+
+/// The unit that eight bytes of a longer layout name.
+pub(crate) fn read_lun_field(bytes: &[u8]) -> Option<Address>
+    requires { length bytes.now ≡ 8 }
+    ensures { ReadsAddress bytes.now result }
+{
+    read_lun(bytes.try_into().ok()?)
+}
+
+/// The bytes that name a unit of a LUN up to 16,383: by peripheral device addressing below LUN 256,
+/// else by flat space addressing.
+pub fn write_lun(address: &Address) -> [u8; 8]
+    requires { address.now.lun < 16384 }
+    ensures { result ≡ written_address address.now }
+{
+    let high = (address.lun / 256) as u8;
+    let low = (address.lun % 256) as u8;
+    let method = if address.lun < 256 { 0x00 } else { 0x40 };
+    [0x01, address.target, method + high, low, 0, 0, 0, 0]
+}

@@ -1,0 +1,68 @@
+//! What the device writes in answer to a request.
+
+ghost use Rattle.std.specs.Prelude.{◌≡◌};
+ghost use Rattle.scsi_codec.specs.Responses.{response_bytes};
+
+use byteorder::{ByteOrder, LittleEndian};
+
+/// The bytes of a response before its data in.
+pub const RESPONSE_BYTES: usize = 108;
+
+/// The bytes that a response has for sense, as the field `sense_size` has them (VIRTIO 1.2 §5.6.4).
+pub const SENSE_AREA_BYTES: usize = 96;
+
+/// The bytes of sense in fixed format (SPC-4 §4.5.3).
+pub const SENSE_BYTES: usize = 18;
+
+/// What became of a request, beside the status of its command (VIRTIO 1.2 §5.6.6.1).
+#[derive(Clone, Copy, Debug, PartialEq, Eq)]
+pub enum ResponseCode {
+    /// The command ended with the status given, whichever that is.
+    Ok = 0,
+    /// The command asks for more data than there is room for.
+    Overrun = 1,
+    /// The command was ended by a task management function that aborts tasks.
+    Aborted = 2,
+    /// There is no such target.
+    BadTarget = 3,
+    /// The command was ended by a reset.
+    Reset = 4,
+    /// The request failed, and may pass when it is tried again.
+    Busy = 5,
+    /// The connection from the host to the target failed.
+    TransportFailure = 6,
+    /// The target failed, on every path to it.
+    TargetFailure = 7,
+    /// The nexus failed, and another path to the target may pass.
+    NexusFailure = 8,
+    /// Any other failure.
+    Failure = 9,
+}
+
+/// A response without its data in (VIRTIO 1.2 §5.6.6.1). Its status qualifier is 0.
+#[derive(Clone, Copy, Debug, PartialEq, Eq)]
+pub struct Response {
+    /// What became of the request.
+    pub code: ResponseCode,
+    /// The status of the command (SAM-5 §5.3), where the code is `Ok`.
+    pub status: u8,
+    /// How many bytes of the data buffers were not moved.
+    pub residual: u32,
+    /// The sense in fixed format, if there is any.
+    pub sense: Option<[u8; SENSE_BYTES]>,
+}
+
+/// The bytes of a response before its data in. Past the sense they are zeros.
+pub fn write_response(response: &Response) -> [u8; RESPONSE_BYTES]
+    ensures { result ≡ response_bytes response.now }
+{
+    let mut bytes = [0; RESPONSE_BYTES];
+    LittleEndian::write_u32(&mut bytes[4..], response.residual);
+    bytes[10] = response.status;
+    bytes[11] = response.code as u8;
+    if let Some(sense) = &response.sense {
+        LittleEndian::write_u32(&mut bytes, SENSE_BYTES as u32);
+        bytes[12..12 + SENSE_BYTES].copy_from_slice(sense);
+    }
+    bytes
+}

@@ -1,0 +1,43 @@
+-- The conditions that the device reports, each by its sense key, additional sense code and
+-- additional sense code qualifier, SPC-4 §4.5.
+use Rattle.std.specs.Prelude.{ℕ, None, Some}
+use Rattle.sense.specs.declared.Sense.{Sense}
+
+-- the condition of this key, code and qualifier, with no information
+abbrev pub condition : ℕ → ℕ → ℕ → Sense
+condition key asc ascq = record { key = key; asc = asc; ascq = ascq; information = None }
+
+-- sense key 0h, NO SENSE
+abbrev pub no_sense : Sense
+no_sense = condition 0x0 0x00 0x00
+
+-- sense key 5h, ILLEGAL REQUEST
+abbrev pub parameter_list_length_error : Sense
+parameter_list_length_error = condition 0x5 0x1a 0x00
+
+abbrev pub invalid_opcode : Sense
+invalid_opcode = condition 0x5 0x20 0x00
+
+abbrev pub lba_out_of_range : Sense
+lba_out_of_range = condition 0x5 0x21 0x00
+
+abbrev pub invalid_field_in_cdb : Sense
+invalid_field_in_cdb = condition 0x5 0x24 0x00
+
+abbrev pub logical_unit_not_supported : Sense
+logical_unit_not_supported = condition 0x5 0x25 0x00
+
+abbrev pub invalid_field_in_parameter_list : Sense
+invalid_field_in_parameter_list = condition 0x5 0x26 0x00
+
+abbrev pub invalid_message_error : Sense
+invalid_message_error = condition 0x5 0x49 0x00
+
+-- sense key 6h, UNIT ATTENTION
+abbrev pub unit_attention : ℕ → ℕ → Sense
+unit_attention asc ascq = condition 0x6 asc ascq
+
+-- sense key eh, MISCOMPARE: MISCOMPARE DURING VERIFY OPERATION, with the offset in bytes of the
+-- first unequal byte as its information
+abbrev pub miscompare : ℕ → Sense
+miscompare offset = record { key = 0xe; asc = 0x1d; ascq = 0x00; information = Some offset }

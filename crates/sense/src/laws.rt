@@ -1,0 +1,18 @@
+//! What the constants stand for.
+
+ghost use Rattle.std.specs.Prelude.{◌≡◌};
+ghost use Rattle.sense.specs.Conditions.{no_sense, parameter_list_length_error, invalid_opcode, lba_out_of_range, invalid_field_in_cdb, logical_unit_not_supported, invalid_field_in_parameter_list, invalid_message_error};
+
+use crate::Sense;
+
+/// Each constant of `Sense` is the condition of its name.
+pub fn constants()
+    ensures no_sense { Sense.NO_SENSE ≡ no_sense }
+    ensures length { Sense.PARAMETER_LIST_LENGTH_ERROR ≡ parameter_list_length_error }
+    ensures opcode { Sense.INVALID_OPCODE ≡ invalid_opcode }
+    ensures range { Sense.LBA_OUT_OF_RANGE ≡ lba_out_of_range }
+    ensures cdb { Sense.INVALID_FIELD_IN_CDB ≡ invalid_field_in_cdb }
+    ensures unit { Sense.LOGICAL_UNIT_NOT_SUPPORTED ≡ logical_unit_not_supported }
+    ensures list { Sense.INVALID_FIELD_IN_PARAMETER_LIST ≡ invalid_field_in_parameter_list }
+    ensures message { Sense.INVALID_MESSAGE_ERROR ≡ invalid_message_error }
+{}

@@ -1,0 +1,158 @@
+//! Sense data: what a device reports beside CHECK CONDITION, as a sense key, an additional sense
+//! code with its qualifier, and the 18 bytes of the fixed format (SPC-4 §4.5.3).
+#![tactic(auto)]
+
+ghost use Rattle.std.specs.Prelude.{◌≡◌};
+ghost use Rattle.sense.specs.Conditions.{miscompare, unit_attention};
+ghost use Rattle.sense.specs.Fixed.{fixed};
+
+pub mod laws;
+
+/// The bytes of sense data in the fixed format, as this device gives it: 8 and the 10 that byte 7
+/// counts.
+pub const FIXED_SENSE_BYTES: usize = 18;
+
+/// The sense key ILLEGAL REQUEST: a field of the CDB or of the parameter list is refused.
+pub const ILLEGAL_REQUEST: u8 = 0x05;
+
+/// The sense key UNIT ATTENTION: the state of the logical unit changed.
+pub const UNIT_ATTENTION: u8 = 0x06;
+
+/// The sense key MISCOMPARE: data didn't match the blocks.
+pub const MISCOMPARE: u8 = 0x0e;
+
+/// The response code of current sense data in the fixed format (SPC-4 §4.5.3).
+const CURRENT_FIXED: u8 = 0x70;
+
+/// The same with VALID, which says that the information field holds a value.
+const CURRENT_FIXED_VALID: u8 = 0xf0;
+
+/// How many bytes follow byte 7.
+const ADDITIONAL_SENSE_LENGTH: u8 = 0x0a;
+
+/// Sense data, by its meaning (SPC-4 §4.5). Whoever answers a command with CHECK CONDITION, or
+/// answers REQUEST SENSE, makes one.
+#[derive(Clone, Copy, Debug, PartialEq, Eq)]
+pub struct Sense {
+    /// The sense key, 0 to 15: what kind of condition it is.
+    pub key: u8,
+    /// The additional sense code: which condition.
+    pub asc: u8,
+    /// The additional sense code qualifier: its detail.
+    pub ascq: u8,
+    /// What the information field holds, if anything: of a miscompare the offset in bytes of the
+    /// first unequal byte.
+    pub information: Option<u32>,
+}
+
+impl Sense {
+    /// There is nothing to report.
+    pub const NO_SENSE: Sense = Sense {
+        key: 0x00,
+        asc: 0x00,
+        ascq: 0x00,
+        information: None,
+    };
+
+    /// PARAMETER LIST LENGTH ERROR: the parameter list is cut.
+    pub const PARAMETER_LIST_LENGTH_ERROR: Sense = Sense {
+        key: ILLEGAL_REQUEST,
+        asc: 0x1a,
+        ascq: 0x00,
+        information: None,
+    };
+
+    /// INVALID COMMAND OPERATION CODE: no command of the device has this opcode.
+    pub const INVALID_OPCODE: Sense = Sense {
+        key: ILLEGAL_REQUEST,
+        asc: 0x20,
+        ascq: 0x00,
+        information: None,
+    };
+
+    /// LOGICAL BLOCK ADDRESS OUT OF RANGE: a block past the capacity is named.
+    pub const LBA_OUT_OF_RANGE: Sense = Sense {
+        key: ILLEGAL_REQUEST,
+        asc: 0x21,
+        ascq: 0x00,
+        information: None,
+    };
+
+    /// INVALID FIELD IN CDB: a field has a value that the device doesn't take.
+    pub const INVALID_FIELD_IN_CDB: Sense = Sense {
+        key: ILLEGAL_REQUEST,
+        asc: 0x24,
+        ascq: 0x00,
+        information: None,
+    };
+
+    /// LOGICAL UNIT NOT SUPPORTED: the target has no such logical unit.
+    pub const LOGICAL_UNIT_NOT_SUPPORTED: Sense = Sense {
+        key: ILLEGAL_REQUEST,
+        asc: 0x25,
+        ascq: 0x00,
+        information: None,
+    };
+
+    /// INVALID FIELD IN PARAMETER LIST: the same of the parameter list.
+    pub const INVALID_FIELD_IN_PARAMETER_LIST: Sense = Sense {
+        key: ILLEGAL_REQUEST,
+        asc: 0x26,
+        ascq: 0x00,
+        information: None,
+    };
+
+    /// INVALID MESSAGE ERROR: the task attribute isn't one that the device takes.
+    pub const INVALID_MESSAGE_ERROR: Sense = Sense {
+        key: ILLEGAL_REQUEST,
+        asc: 0x49,
+        ascq: 0x00,
+        information: None,
+    };
+
+    /// MISCOMPARE DURING VERIFY OPERATION: what a COMPARE AND WRITE answers where its data and the
+    /// blocks differ. `offset` is the offset in bytes of the first unequal byte (SBC-3 §5.2).
+    pub const fn miscompare(offset: u32) -> Sense
+        ensures { result ≡ miscompare offset }
+    {
+        Sense {
+            key: MISCOMPARE,
+            asc: 0x1d,
+            ascq: 0x00,
+            information: Some(offset),
+        }
+    }
+
+    /// A unit attention of this additional sense code and qualifier, such as 29/00 after a power
+    /// on or a reset (SPC-4 §4.5, SAM-5 §5.14).
+    pub const fn unit_attention(asc: u8, ascq: u8) -> Sense
+        ensures { result ≡ unit_attention asc ascq }
+    {
+        Sense {
+            key: UNIT_ATTENTION,
+            asc,
+            ascq,
+            information: None,
+        }
+    }
+
+    /// The sense data in the fixed format (SPC-4 §4.5.3), of current information.
+    pub fn to_fixed(&self) -> [u8; FIXED_SENSE_BYTES]
+        ensures { result ≡ fixed self.now }
+    {
+        let mut bytes = [0; FIXED_SENSE_BYTES];
+        bytes[0] = CURRENT_FIXED;
+        if let Some(information) = self.information {
+            bytes[0] = CURRENT_FIXED_VALID;
+            bytes[3..7].copy_from_slice(&information.to_be_bytes());
+        }
+        bytes[2] = self.key;
+        bytes[7] = ADDITIONAL_SENSE_LENGTH;
+        bytes[12] = self.asc;
+        bytes[13] = self.ascq;
+        bytes
+    }
+}
+
+#[cfg(test)]
+mod tests;

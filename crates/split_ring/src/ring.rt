@@ -1,0 +1,206 @@
+//! The queue itself.
+
+use crate::areas::{number_at, put_element, put_number};
+use crate::placement::check_layout;
+use crate::walk::walk;
+use guest_mem::GuestMem;
+use ring_core::{
+    Chain, Completion, FIRST_BYTES, Features, Fetched, Layout, LayoutFault, Part, QueueLog, Ring,
+    RingBase, RingFault, Ticket, gather,
+};
+use std::alloc::Global;
+use std::marker::Model;
+
+/// VIRTQ_AVAIL_F_NO_INTERRUPT: the driver asks for no notice (VIRTIO 1.2, 2.7.7).
+const NO_INTERRUPT: u16 = 1;
+
+/// A chain that was found and not accepted yet.
+#[derive(Debug, Drop)]
+pub struct Candidate {
+    head: u16,
+    parts: Vec<Part>,
+}
+
+/// A split virtqueue, seen as its plain value. It takes its memory from the allocator that it
+/// was made with.
+#[derive(Debug, Drop)]
+pub struct SplitRing {
+    base: RingBase,
+}
+
+impl Model for SplitRing {
+    ghost use Rattle.ring_core.specs.State.{RingState};
+    ghost use Rattle.split_ring.specs.IsSplit.{IsSplit};
+
+    ghost Value = { RingState };
+
+    ghost view = { λ r. r.base };
+
+    ghost invariant = { λ r. IsSplit r.base };
+}
+
+impl SplitRing {
+    ghost use Rattle.std.specs.Prelude.{◌≡◌, length, MatchResult, None};
+    ghost use Rattle.ring_core.specs.State.{opening};
+    ghost use Rattle.ring_core.specs.declared.layout.Form.TheVariants.{Split};
+    ghost use Rattle.split_ring.specs.Placement.{placement_fault, RefusedAs, no_features};
+
+    /// A queue with this number at this place, of which nothing was fetched yet. Whoever sets the
+    /// device up calls it once for each queue, with the memory that all later calls get. Refused
+    /// are, in this order, a size that is 0, above 32,768 or no power of two (`BadSize`), a
+    /// descriptor table not aligned to 16, an available ring not to 2 or a used ring not to 4
+    /// (`BadAlignment`), one of them that doesn't lie in memory (`Outside`), and want of memory
+    /// (`NoMemory`).
+    #[tactic(auto, unfolding(ring_core::specs::State::opening))]
+    pub fn new(
+        alloc: Global,
+        queue: u16,
+        layout: Layout,
+        memory: &GuestMem,
+    ) -> Result<SplitRing, LayoutFault>
+        ensures made { MatchResult result (λ ring. (placement_fault (length memory.now) layout ≡ None) × (ring ≡ opening Split queue layout no_features (length memory.now) layout.size)) (λ fault. RefusedAs (length memory.now) layout fault) }
+    {
+        check_layout(&layout, memory.size())?;
+        let features = Features {
+            indirect_descriptors: false,
+            event_index: false,
+        };
+        match RingBase::split(alloc, queue, layout, features, memory.size()) {
+            Ok(base) => Ok(SplitRing { base }),
+            Err(_) => Err(LayoutFault::NoMemory),
+        }
+    }
+}
+
+impl SplitRing {
+    ghost use Rattle.std.specs.Prelude.{◌≡◌, length};
+    ghost use Rattle.split_ring.specs.Finding.{Names, Finds};
+
+    /// The head that the next entry of the available ring names.
+    fn entry(&self, memory: &GuestMem) -> Result<Option<u16>, RingFault>
+        requires { length memory.now ≡ self.now.memory }
+        ensures { Names self.now memory.now result }
+    {
+        let layout = self.base.layout();
+        let accepted = (self.base.log().accepted().len() % 65536) as u16;
+        let pending = number_at(memory, layout.driver + 2).wrapping_sub(accepted);
+        if pending == 0 {
+            return Ok(None);
+        }
+        if pending > layout.size {
+            return Err(RingFault::IndexJump);
+        }
+        let place = layout.driver + 4 + 2 * (accepted % layout.size) as u64;
+        let head = number_at(memory, place);
+        if head >= layout.size {
+            return Err(RingFault::HeadOutOfRange);
+        }
+        if self.base.is_outstanding(head) {
+            return Err(RingFault::AlreadyOutstanding);
+        }
+        Ok(Some(head))
+    }
+
+    /// The next chain.
+    fn next(&self, memory: &GuestMem) -> Result<Option<Candidate>, RingFault>
+        requires { length memory.now ≡ self.now.memory }
+        ensures { Finds self.now memory.now result }
+    {
+        match self.entry(memory) {
+            Ok(None) => Ok(None),
+            Err(fault) => Err(fault),
+            Ok(Some(head)) => {
+                let layout = self.base.layout();
+                match walk(
+                    self.base.allocator(),
+                    memory,
+                    layout.desc,
+                    layout.size,
+                    head,
+                ) {
+                    Ok(parts) => Ok(Some(Candidate { head, parts })),
+                    Err(fault) => Err(fault),
+                }
+            }
+        }
+    }
+}
+
+impl SplitRing {
+    ghost use Rattle.std.specs.Prelude.{◌≡◌, length, None};
+    ghost use Rattle.ring_core.specs.Offer.{SplitOffers, Found};
+    ghost use Rattle.ring_core.specs.Fetch.{Fetches};
+
+    /// Accepts the chain that was found, and reads its first bytes.
+    fn take(
+        &mut self,
+        memory: &GuestMem,
+        candidate: Candidate,
+    ) -> Result<Option<Fetched>, RingFault>
+        requires fits { length memory.now ≡ self.old.memory }
+        requires unbroken { self.old.broken ≡ None }
+        requires found { SplitOffers self.old memory.now (Found candidate.head 1 candidate.parts.items) }
+        ensures { Fetches self.old memory.now result self.new }
+    {
+        let alloc = self.base.allocator();
+        let Candidate { head, parts } = candidate;
+        let Ok(bytes) = gather(alloc, memory, parts.as_slice(), FIRST_BYTES) else {
+            return Err(RingFault::NoMemory);
+        };
+        match self.base.accept(head, 1, parts) {
+            Ok(chain) => Ok(Some(Fetched { chain, bytes })),
+            Err(_) => Err(RingFault::NoMemory),
+        }
+    }
+}
+
+impl Ring for SplitRing {
+    ghost state = { λ r. r };
+
+    fn fetch(&mut self, memory: &GuestMem) -> Result<Option<Fetched>, RingFault> {
+        if let Some(fault) = self.base.broken() {
+            return Err(fault);
+        }
+        match self.next(memory) {
+            Ok(None) => Ok(None),
+            Ok(Some(candidate)) => self.take(memory, candidate),
+            Err(RingFault::NoMemory) => Err(RingFault::NoMemory),
+            Err(fault) => {
+                self.base.break_with(fault);
+                Err(fault)
+            }
+        }
+    }
+
+    fn finish(
+        &mut self,
+        memory: &mut GuestMem,
+        chain: Chain,
+        len: u32,
+        _leave: Completion,
+    ) -> Ticket {
+        let _size = memory.size();
+        let layout = self.base.layout();
+        let own = (self.base.log().used().len() % 65536) as u16;
+        let place = layout.device + 4 + 8 * (own % layout.size) as u64;
+        put_element(memory, place, chain.id() as u32, len);
+        put_number(memory, layout.device + 2, own.wrapping_add(1));
+        self.base.release(chain)
+    }
+
+    fn wants_notice(&self, memory: &GuestMem) -> bool {
+        number_at(memory, self.base.layout().driver) & NO_INTERRUPT == 0
+    }
+
+    fn log(&self) -> &QueueLog {
+        self.base.log()
+    }
+
+    fn fits(&self, memory: &GuestMem) -> bool {
+        memory.size() == self.base.memory()
+    }
+
+    fn owns(&self, chain: &Chain) -> bool {
+        self.base.owns(chain)
+    }
+}
