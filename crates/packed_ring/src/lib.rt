@@ -7,6 +7,7 @@ mod ring;
 mod slots;
 mod walk;
 
+pub use placement::check_layout;
 pub use ring::PackedRing;
 
 #[cfg(test)]

@@ -49,13 +49,13 @@ module _ (on : Before → Descriptor → Bool) (wrong : Before → Descriptor �
   ended = from size 0 (omega arith) (λ k lt. absurd (omega arith))
 
 -- what is tested ends the walk
-split_ends : (memory size : ℕ) (b : Before) (d : Descriptor) → size ≤ b.count + 1 → split_wrong memory size b d ≡ None → goes_on d ≡ true → ⊥
+pub split_ends : (memory size : ℕ) (b : Before) (d : Descriptor) → size ≤ b.count + 1 → split_wrong memory size b d ≡ None → goes_on d ≡ true → ⊥
 split_ends memory size b d small right more = grind (arith, common_steps, nat_tests)
 
-packed_ends : (memory size : ℕ) (b : Before) (d : Descriptor) → size ≤ b.count + 1 → packed_wrong memory size b d ≡ None → goes_on d ≡ true → ⊥
+pub packed_ends : (memory size : ℕ) (b : Before) (d : Descriptor) → size ≤ b.count + 1 → packed_wrong memory size b d ≡ None → goes_on d ≡ true → ⊥
 packed_ends memory size b d small right more = grind (arith, common_steps, nat_tests)
 
-length-front : (at : ℕ → Descriptor) (n : ℕ) → length (front at n) ≡ n
+pub length-front : (at : ℕ → Descriptor) (n : ℕ) → length (front at n) ≡ n
 unfolding front
 length-front at zero = refl
 length-front at (suc n) = omega (arith, length-append (front at n) (at n ∷ []), length-front at n)

@@ -5,3 +5,6 @@ pub mod Sound
 pub mod Exact
 pub mod Exists
 pub mod Tabulated
+pub mod Scattering
+pub mod RightChains
+pub mod Cases

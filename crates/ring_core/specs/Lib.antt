@@ -7,5 +7,7 @@ pub mod Split
 pub mod Packed
 pub mod Offer
 pub mod Fetch
+pub mod RightChain
+pub mod Cases
 pub mod Table
 pub mod Base

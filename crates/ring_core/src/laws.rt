@@ -1,10 +1,20 @@
 //! What follows from the definitions alone.
 
-ghost use Rattle.std.specs.Prelude.{◌≡◌, ◌≤◌, ◌+◌, ◌^◌, ℕ, List, length, true, false};
-ghost use Rattle.std.specs.List.{AllPass};
+ghost use Rattle.std.specs.Prelude.{◌≡◌, ◌<◌, ◌≤◌, ℕ, List, length};
 ghost use Rattle.ring_core.specs.State.{RingState};
-ghost use Rattle.ring_core.specs.Parts.{PartsFit};
 ghost use Rattle.ring_core.specs.Offer.{Offer, Offers, Found};
+ghost use Rattle.ring_core.specs.RightChain.{IsRightChain};
+ghost use Rattle.ring_core.specs.declared.descriptor.Part.{Part};
+ghost use Rattle.ring_core.specs.declared.layout.Form.TheVariants.{Split};
+
+mod cases;
+mod scattering;
+
+pub use cases::{
+    a_loop_is_too_long, as_many_as_the_size_are_no_jump, descriptors_are_read_as_written,
+    one_descriptor_is_a_chain, the_index_counts_round, three_linked_descriptors_are_a_chain,
+};
+pub use scattering::{scatter_in_two, scattering_keeps_the_size, scattering_nothing};
 
 /// With one memory a queue offers no two things: nothing, a chain or a fault.
 pub fn one_offer()
@@ -14,4 +24,12 @@ pub fn one_offer()
 /// With any memory a queue offers something: nothing, a chain or a fault.
 pub fn some_offer()
     ensures { (s : RingState) (m : List ℕ) → (o : Offer) × Offers s m o }
+{}
+
+/// What a queue offers as a chain has at least one part and at most as many as the queue has
+/// descriptors, all of them in memory, and no readable one behind a writable one (VIRTIO 1.2,
+/// 2.6.4.2, 2.7.5 and 2.8). In a split queue its head is one of the descriptor table.
+pub fn chains_are_right()
+    ensures parts { (s : RingState) (m : List ℕ) (id slots : ℕ) (parts : List Part) → Offers s m (Found id slots parts) → 1 ≤ s.layout.size → IsRightChain (length m) s.layout.size parts }
+    ensures head { (s : RingState) (m : List ℕ) (id slots : ℕ) (parts : List Part) → Offers s m (Found id slots parts) → s.form ≡ Split → id < s.layout.size }
 {}

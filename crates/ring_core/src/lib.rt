@@ -26,7 +26,12 @@ pub use bytes::{FIRST_BYTES, gather, scatter};
 pub use chain::{Chain, Fetched};
 pub use descriptor::{Descriptor, DescriptorFlags, Part};
 pub use fault::RingFault;
-pub use laws::{one_offer, some_offer};
+pub use laws::{
+    a_loop_is_too_long, as_many_as_the_size_are_no_jump, chains_are_right,
+    descriptors_are_read_as_written, one_descriptor_is_a_chain, one_offer, scatter_in_two,
+    scattering_keeps_the_size, scattering_nothing, some_offer, the_index_counts_round,
+    three_linked_descriptors_are_a_chain,
+};
 pub use layout::{Features, Form, Layout, LayoutFault};
 pub use log::{QueueLog, Ticket};
 pub use outstanding::OutstandingChain;

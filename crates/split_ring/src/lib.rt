@@ -6,6 +6,7 @@ mod placement;
 mod ring;
 mod walk;
 
+pub use placement::check_layout;
 pub use ring::SplitRing;
 
 #[cfg(test)]

@@ -1,0 +1,61 @@
+-- Answers within a range of blocks.
+use Rattle.std.proofs.Common.{◌≡◌, ℕ, zero, suc, ◌+◌, ◌*◌, ◌<◌, ◌≤◌, true, false, Bool, List, ◌++◌, length, if◌then◌else◌, refl, ap, ◌∙◌, arith, Option, None, Some, Ok, Err, inl, inr, unwrap_or}
+use Rattle.std.proofs.lemmas.Bool.Decides.{leb_tells}
+use Rattle.sense.specs.declared.Sense.{Sense}
+use Rattle.cdb.specs.declared.commands.Command.{Command}
+use Rattle.cdb.specs.declared.commands.Command.TheVariants.{Read, Write, CompareAndWrite}
+use Rattle.block_store.specs.Blocks.{Blocks, run, overwritten, block_count, is_within}
+use Rattle.block_commands.specs.Comparing.{to_compare, first_unequal}
+use Rattle.block_commands.specs.Effects.{block_after, where_covered}
+use Rattle.block_commands.specs.Facts.{Facts}
+use Rattle.block_commands.specs.PlainReply.{PlainReply, replied}
+use Rattle.block_commands.specs.Replies.{Answer, within, compared, answer_of, reported}
+use Rattle.block_commands.specs.Statuses.{good}
+use Rattle.sense.specs.Conditions.{lba_out_of_range}
+
+-- blocks that agree below a number give the same run below it
+pub run-agree : (p q : Blocks) (first n limit : ℕ) → first + n ≤ limit → ((b : ℕ) → b < limit → p b ≡ q b) → run p first n ≡ run q first n
+run-agree p q first zero limit below agree = refl
+run-agree p q first (suc n) limit below agree =
+    let here : p first ≡ q first = agree first (omega arith) in
+    let later : run p (first + 1) n ≡ run q (first + 1) n = run-agree p q (first + 1) n limit (omega arith) agree in
+    ap (λ l. l ++ run p (first + 1) n) here ∙ ap (λ l. q first ++ l) later
+
+-- answers that are the same where the range is in range
+pub within-same : (blocks lba count : ℕ) (a b : Answer) → (lba + count ≤ blocks → a ≡ b) → within blocks lba count a ≡ within blocks lba count b
+within-same blocks lba count a b same =
+    elim (leb_tells (lba + count) blocks) [
+      | inl inside ↦ rw inside.0 (same inside.1)
+      | inr outside ↦ rw outside.0 refl
+    ]
+
+pub answer_of-agree : (facts : Facts) (command : Command) (bytes : List ℕ) (p q : Blocks) → ((b : ℕ) → b < facts.capacity → p b ≡ q b) →
+    answer_of facts command bytes p ≡ answer_of facts command bytes q
+answer_of-agree facts (Read lba count) bytes p q agree =
+    within-same facts.capacity lba count _ _ (λ below. ap (λ l. Ok l) (run-agree p q lba count facts.capacity below agree))
+answer_of-agree facts (CompareAndWrite lba count) bytes p q agree =
+    within-same facts.capacity lba count _ _
+    (λ below. ap (λ l. compared (first_unequal (to_compare count bytes) l)) (run-agree p q lba count facts.capacity below agree))
+answer_of-agree facts _ bytes p q agree = refl
+
+-- no attention stopped what ended with GOOD
+pub reported-good : (attention : Option Sense) (reply : PlainReply) → (reported attention reply).status ≡ good → attention ≡ None
+reported-good None reply ended = refl
+reported-good (Some s) reply ended = absurd (omega arith)
+
+-- and its range was in range
+pub within-good : (command : Command) (inside : Bool) (bytes : List ℕ) → (replied command (if inside then Ok bytes else Err lba_out_of_range)).status ≡ good → inside ≡ true
+within-good command true bytes ended = refl
+within-good command false bytes ended = absurd (omega arith)
+
+-- what a command gives, or what was there
+pub unwrap_or-where_covered : (covered : Bool) (bytes old : List ℕ) → unwrap_or (where_covered covered bytes) old ≡ (if covered then bytes else old)
+unwrap_or-where_covered true bytes old = refl
+unwrap_or-where_covered false bytes old = refl
+
+-- a GOOD write of these blocks overwrites them
+pub block_after-write : (lba count : ℕ) (bytes : List ℕ) (blocks : Blocks) (b : ℕ) → length bytes ≡ 512 * count →
+    block_after (Write lba count) bytes good blocks b ≡ overwritten blocks lba bytes b
+block_after-write lba count bytes blocks b size =
+    let same : block_count bytes ≡ count = omega arith in
+    rw (unwrap_or-where_covered (is_within lba count b), same) refl

@@ -1,0 +1,10 @@
+use Rattle.std.proofs.Common.{ap}
+use Rattle.block_commands.specs.Attention.{met}
+use Rattle.block_commands.specs.PlainReply.{replied}
+use Rattle.block_commands.specs.Replies.{reported}
+use Rattle.block_commands.proofs.Ranges.{answer_of-agree}
+use Rattle.block_commands.proofs.laws.blocks_below_the_capacity_alone.Goals as goal
+
+pub returns-clause-reply : goal.returns-clause-reply
+returns-clause-reply c = λ facts command bytes p q agree.
+    ap (λ a. reported (met command facts.pending) (replied command a)) (answer_of-agree facts command bytes p q agree)

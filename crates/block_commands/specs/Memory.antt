@@ -1,0 +1,35 @@
+-- Which commands may be refused memory: those with data to return or to write, unless a test that
+-- comes before refuses them. An UNMAP writes no data.
+use Rattle.std.specs.Prelude.{ℕ, Bool, true, false, not, ◌&&◌, is_some}
+use Rattle.cdb.specs.declared.commands.Command.{Command}
+use Rattle.cdb.specs.declared.commands.Command.TheVariants.{TestUnitReady, RequestSense, Read, Write, Inquiry, ReadCapacity10, ReadCapacity16, SynchronizeCache, WriteSame, Unmap, CompareAndWrite, ReportLuns, Bad, Unknown}
+use Rattle.cdb.specs.declared.commands.InquiryData.TheVariants.{Standard}
+use Rattle.block_commands.specs.Attention.{met}
+use Rattle.block_commands.specs.Capacity.{is_in_range}
+use Rattle.block_commands.specs.Facts.{Facts}
+
+-- where no attention stops the command, in a unit of so many blocks
+abbrev pub wants : ℕ → Command → Bool
+wants blocks TestUnitReady = false
+wants blocks (RequestSense allocation) = true
+wants blocks (Read lba count) = is_in_range blocks lba count
+wants blocks (Write lba count) = is_in_range blocks lba count
+wants blocks (Inquiry what allocation) = true
+wants blocks ReadCapacity10 = true
+wants blocks (ReadCapacity16 allocation) = true
+wants blocks (SynchronizeCache lba count) = false
+wants blocks (WriteSame lba count) = is_in_range blocks lba count
+wants blocks (Unmap list_length) = false
+wants blocks (CompareAndWrite lba count) = is_in_range blocks lba count
+wants blocks (ReportLuns select allocation) = true
+wants blocks (Bad opcode) = false
+wants blocks Unknown = false
+
+abbrev pub may_want : Facts → Command → Bool
+may_want facts command = not (is_some (met command facts.pending)) && wants facts.capacity command
+
+-- of a LUN that is absent
+abbrev pub absent_wants : Command → Bool
+absent_wants (RequestSense allocation) = true
+absent_wants (Inquiry Standard allocation) = true
+absent_wants _ = false

@@ -1,0 +1,41 @@
+//! Which commands meet a pending unit attention (SAM-5 §5.14).
+
+ghost use Rattle.std.specs.Prelude.{◌≡◌};
+ghost use Rattle.block_commands.specs.Attention.{takes, met};
+
+use cdb::Command;
+use sense::Sense;
+
+/// The opcode of REQUEST SENSE, which a CDB that is refused still has.
+pub(crate) const REQUEST_SENSE: u8 = 0x03;
+
+/// The opcode of INQUIRY.
+pub(crate) const INQUIRY: u8 = 0x12;
+
+/// The opcode of REPORT LUNS.
+const REPORT_LUNS: u8 = 0xa0;
+
+/// Whether the command takes the oldest pending attention, if there is one: every command but
+/// INQUIRY, REPORT LUNS and a refused CDB of these two or of REQUEST SENSE. Whoever keeps the
+/// attentions asks this when the command ran, and removes the oldest.
+pub fn takes_attention(command: &Command) -> bool
+    ensures { result ≡ takes command.now }
+{
+    match *command {
+        Command::Inquiry { .. } | Command::ReportLuns { .. } => false,
+        Command::Bad { opcode } => !matches!(opcode, REQUEST_SENSE | INQUIRY | REPORT_LUNS),
+        _ => true,
+    }
+}
+
+/// The attention that is reported in place of the command's own answer, if any. REQUEST SENSE takes
+/// it as its data.
+pub(crate) fn met_attention(command: &Command, pending: Option<Sense>) -> Option<Sense>
+    ensures { result ≡ met command.now pending }
+{
+    match *command {
+        Command::RequestSense { .. } => None,
+        _ if takes_attention(command) => pending,
+        _ => None,
+    }
+}

@@ -1,0 +1,53 @@
+//! COMPARE AND WRITE (SBC-3 §5.2).
+
+ghost use Rattle.std.specs.Prelude.{◌≡◌, ℕ, ◌*◌, ◌≤◌, ◌<◌, [], length, OnOk, OnErr, IfSome};
+ghost use Rattle.block_store.specs.Blocks.{run, overwritten};
+ghost use Rattle.block_commands.specs.Capacity.{is_in_range};
+ghost use Rattle.block_commands.specs.Comparing.{first_unequal, to_compare, to_write};
+ghost use Rattle.block_commands.specs.Replies.{within, compared};
+ghost use Rattle.block_commands.specs.Steps.{Gives, Wants};
+
+use crate::capacity::is_in_range;
+use crate::failure::Failure;
+use block_store::{BLOCK_BYTES, Store};
+use sense::Sense;
+use std::alloc::Global;
+
+/// Compares the blocks with the first half of the data, and puts the second half over them where
+/// they are equal. Where they differ, and after any other error, nothing is changed.
+pub(crate) fn compare_and_write<S: Store>(
+    alloc: Global,
+    store: &mut S,
+    lba: u64,
+    blocks: u8,
+    bytes: &[u8],
+) -> Result<(), Failure>
+    requires { length bytes.now ≡ 1024 * blocks }
+    ensures answer { Gives (λ _. []) (within (S.size store.old) lba blocks
+        (compared (first_unequal (to_compare blocks bytes.now) (run (S.block_at store.old) lba blocks)))) result }
+    ensures want { Wants (is_in_range (S.size store.old) lba blocks) result }
+    ensures ok { OnOk result ((b : ℕ) → S.block_at store.new b
+        ≡ overwritten (S.block_at store.old) lba (to_write blocks bytes.now) b) }
+    ensures err { OnErr result ((b : ℕ) → S.block_at store.new b ≡ S.block_at store.old b) }
+    ensures size { S.size store.new ≡ S.size store.old }
+{
+    if !is_in_range(store.capacity(), lba, u32::from(blocks)) {
+        return Err(Failure::Refused(Sense::LBA_OUT_OF_RANGE));
+    }
+    let (expected, written) = bytes.split_at(BLOCK_BYTES * usize::from(blocks));
+    let mut held = Vec::with_capacity(alloc, expected.len())?;
+    store.read_blocks(lba, u32::from(blocks), &mut held);
+    if let Some(offset) = first_unequal(expected, &held) {
+        return Err(Failure::Refused(Sense::miscompare(offset as u32)));
+    }
+    store.write_blocks(lba, written)?;
+    Ok(())
+}
+
+/// The offset of the first byte in which the two differ.
+fn first_unequal(left: &[u8], right: &[u8]) -> Option<usize>
+    ensures offset { result ≡ first_unequal left.now right.now }
+    ensures bound { IfSome result (λ offset. offset < length left.now) }
+{
+    left.iter().zip(right).position(|(a, b)| a != b)
+}

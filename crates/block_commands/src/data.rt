@@ -1,0 +1,13 @@
+//! Data to the driver, cut to what it asked for.
+
+ghost use Rattle.std.specs.Prelude.{◌≡◌, take, IfOk};
+
+use std::alloc::{AllocError, Global};
+
+/// The bytes, or as many of them from the front as the allocation length allows (SPC-4 §4.3.5.6).
+pub(crate) fn cut(alloc: Global, bytes: &[u8], allocation: u32) -> Result<Vec<u8>, AllocError>
+    ensures { IfOk result (λ kept. kept.items ≡ take allocation bytes.now) }
+{
+    let len = bytes.len().min(allocation as usize);
+    Vec::from_slice(alloc, &bytes[..len])
+}

@@ -1,0 +1,127 @@
+//! One command, run whole.
+
+ghost use Rattle.std.specs.Prelude.{◌≡◌, ◌≤◌, ◌+◌, ◌<◌, ◌^◌, ℕ, length, vec_len, IfOk, OnOk, OnErr, unwrap_or, MatchResult, IsOkAnd, IsTrue, [], Err};
+ghost use Rattle.cdb.specs.Need.{need_of};
+ghost use Rattle.block_commands.specs.Effects.{block_after, given};
+ghost use Rattle.block_commands.specs.Facts.{facts_of};
+ghost use Rattle.block_commands.specs.Memory.{may_want, wants};
+ghost use Rattle.block_commands.specs.PlainReply.{plain_of};
+ghost use Rattle.block_commands.specs.Replies.{data_of, reply_of, answer_of};
+ghost use Rattle.block_commands.specs.Steps.{Gives, Wants};
+
+use crate::attention::met_attention;
+use crate::capacity::{capacity_10, capacity_16};
+use crate::compare::compare_and_write;
+use crate::data::cut;
+use crate::facts::UnitFacts;
+use crate::failure::Failure;
+use crate::inquiry::inquiry;
+use crate::luns::{listed_luns, lun_list};
+use crate::reply::{Reply, replied};
+use crate::transfer::{read, synchronize, write, write_same};
+use crate::unmap::unmap;
+use block_store::{NoMemory, Store};
+use cdb::{Command, need};
+use sense::Sense;
+use std::alloc::Global;
+
+/// Runs one command on the blocks of a unit, whole.
+///
+/// `out` is what the driver sent: at least the bytes that the command needs, of which only those are
+/// used. Where an attention is pending, a command that meets it is answered with it and isn't run;
+/// the caller takes it from its list where `takes_attention` says so, of REQUEST SENSE too, which
+/// returns it as data.
+///
+/// Refuses only where memory can't be had, of the data to the driver or of the store; the blocks are
+/// then as before.
+pub fn exec<S: Store>(
+    alloc: Global,
+    store: &mut S,
+    command: &Command,
+    out: &[u8],
+    facts: &UnitFacts,
+) -> Result<Reply, NoMemory>
+    requires { (need_of command.now).out ≤ length out.now }
+    ensures reply { IfOk result (λ reply. plain_of reply
+        ≡ reply_of (facts_of facts.now (S.size store.old)) command.now (data_of command.now out.now) (S.block_at store.old)) }
+    ensures blocks { IfOk result (λ reply. (b : ℕ) → S.block_at store.new b
+        ≡ block_after command.now (data_of command.now out.now) reply.status (S.block_at store.old) b) }
+    ensures room { IfOk result (λ reply. vec_len reply.payload ≤ (need_of command.now).into) }
+    ensures want { OnErr result (IsTrue (may_want (facts_of facts.now (S.size store.old)) command.now)) }
+    ensures err { OnErr result ((b : ℕ) → S.block_at store.new b ≡ S.block_at store.old b) }
+    ensures capacity { S.size store.new ≡ S.size store.old }
+{
+    if let Some(attention) = met_attention(command, facts.pending) {
+        return Ok(Reply::refusal(alloc, attention));
+    }
+    let bytes = &out[..need(command).out as usize];
+    let answer = run(alloc, store, command, bytes, facts);
+    replied(alloc, command, answer)
+}
+
+/// Runs a command that no attention stops, on exactly the data that it needs. After an error nothing
+/// is changed.
+fn run<S: Store>(
+    alloc: Global,
+    store: &mut S,
+    command: &Command,
+    bytes: &[u8],
+    facts: &UnitFacts,
+) -> Result<Vec<u8>, Failure>
+    requires { length bytes.now ≡ (need_of command.now).out }
+    ensures answer { Gives (λ bytes. bytes.items)
+        (answer_of (facts_of facts.now (S.size store.old)) command.now bytes.now (S.block_at store.old)) result }
+    ensures ok { OnOk result ((b : ℕ) → S.block_at store.new b
+        ≡ unwrap_or (given command.now bytes.now b) (S.block_at store.old b)) }
+    ensures err { OnErr result ((b : ℕ) → S.block_at store.new b ≡ S.block_at store.old b) }
+    ensures size { S.size store.new ≡ S.size store.old }
+    ensures room { IfOk result (λ bytes. vec_len bytes ≤ (need_of command.now).into) }
+    ensures want { Wants (wants (S.size store.old) command.now) result }
+{
+    match *command {
+        Command::TestUnitReady => Ok(Vec::new(alloc)),
+        Command::RequestSense { allocation } => {
+            let sense = facts.pending.unwrap_or(Sense::NO_SENSE);
+            Ok(cut(alloc, &sense.to_fixed(), allocation)?)
+        }
+        Command::Read { lba, blocks } => read(alloc, store, lba, blocks),
+        Command::Write { lba, blocks } => without_data(alloc, write(store, lba, blocks, bytes)),
+        Command::Inquiry { what, allocation } => {
+            Ok(inquiry(alloc, what, facts.target, facts.lun, allocation)?)
+        }
+        Command::ReadCapacity10 => {
+            let data = capacity_10(store.capacity());
+            Ok(Vec::from_slice(alloc, &data)?)
+        }
+        Command::ReadCapacity16 { allocation } => {
+            Ok(cut(alloc, &capacity_16(store.capacity()), allocation)?)
+        }
+        Command::SynchronizeCache { lba, blocks } => {
+            synchronize(store, lba, blocks)?;
+            Ok(Vec::new(alloc))
+        }
+        Command::WriteSame { lba, blocks } => {
+            without_data(alloc, write_same(store, lba, blocks, bytes))
+        }
+        Command::Unmap { .. } => {
+            unmap(store, bytes)?;
+            Ok(Vec::new(alloc))
+        }
+        Command::CompareAndWrite { lba, blocks } => {
+            without_data(alloc, compare_and_write(alloc, store, lba, blocks, bytes))
+        }
+        Command::ReportLuns { select, allocation } => {
+            Ok(lun_list(alloc, listed_luns(select, &facts.luns), allocation)?)
+        }
+        Command::Bad { .. } => Err(Failure::Refused(Sense::INVALID_FIELD_IN_CDB)),
+        Command::Unknown => Err(Failure::Refused(Sense::INVALID_OPCODE)),
+    }
+}
+
+/// No data, where a command ended well.
+fn without_data(alloc: Global, ended: Result<(), Failure>) -> Result<Vec<u8>, Failure>
+    ensures { MatchResult ended (λ _. IsOkAnd result (λ bytes. bytes.items ≡ [])) (λ failure. result ≡ Err failure) }
+{
+    ended?;
+    Ok(Vec::new(alloc))
+}

@@ -1,0 +1,20 @@
+//! What a command is told of its logical unit.
+
+ghost use Rattle.std.specs.Prelude.{◌≤◌, length};
+
+use sense::Sense;
+
+/// What a command is told of its logical unit, apart from the blocks.
+#[derive(Debug, Drop)]
+pub struct UnitFacts {
+    /// The target of the unit.
+    pub target: u8,
+    /// The unit's logical unit number, 0 to 16,383.
+    pub lun: u16,
+    /// The LUNs of the target's units, its own among them, each once by rising number.
+    pub luns: Vec<u16>,
+    /// The oldest unit attention that is pending, if any: its sense key is UNIT ATTENTION.
+    pub pending: Option<Sense>,
+    // There are no more LUNs than flat space addresses tell apart (SAM-5 §4.7.7.3).
+    ghost few: { length luns.items ≤ 16384 },
+}

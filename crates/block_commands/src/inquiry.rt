@@ -1,0 +1,130 @@
+//! The data of INQUIRY (SPC-4 §6.6, §7.8, SBC-3 §6.6).
+
+ghost use Rattle.std.specs.Prelude.{◌≡◌, ◌+◌, ◌*◌, ◌/◌, ◌%◌, ◌<◌, take, IfOk};
+ghost use Rattle.block_commands.specs.Inquiry.{standard_data, serial, serial_page, identification_page, limits_page, inquiry_data};
+
+use crate::data::cut;
+use cdb::InquiryData;
+use std::alloc::{AllocError, Global};
+
+/// Byte 0 of the standard data of a block device that is there.
+pub(crate) const BLOCK_DEVICE: u8 = 0x00;
+
+/// Byte 0 of the standard data of a LUN that has no device.
+pub(crate) const NO_DEVICE: u8 = 0x7f;
+
+/// Supported VPD Pages.
+const SUPPORTED_PAGES: [u8; 9] = [0x00, 0x00, 0x00, 0x05, 0x00, 0x80, 0x83, 0xb0, 0xb2];
+
+/// Logical Block Provisioning: UNMAP and WRITE SAME unmap, to zeros; thin provisioning.
+const PROVISIONING_PAGE: [u8; 8] = [0x00, 0xb2, 0x00, 0x04, 0x00, 0xe4, 0x02, 0x00];
+
+/// What stands before the serial number on the page of that name.
+const SERIAL_HEADER: [u8; 4] = [0x00, 0x80, 0x00, 0x0d];
+
+/// What stands before the serial number in Device Identification: the designator is ASCII text that
+/// begins with the vendor.
+const IDENTIFICATION_HEADER: [u8; 16] = *b"\x00\x83\x00\x19\x02\x01\x00\x15VSCSI   ";
+
+/// The data that an INQUIRY asks for, of the unit of this target and LUN, cut to the allocation
+/// length.
+#[tactic(auto, unfolding(crate::specs::Inquiry::supported_pages, crate::specs::Inquiry::provisioning_page))]
+pub(crate) fn inquiry(
+    alloc: Global,
+    what: InquiryData,
+    target: u8,
+    lun: u16,
+    allocation: u32,
+) -> Result<Vec<u8>, AllocError>
+    ensures { IfOk result (λ bytes. bytes.items ≡ take allocation (inquiry_data what target lun)) }
+{
+    match what {
+        InquiryData::Standard => cut(alloc, &standard(BLOCK_DEVICE), allocation),
+        InquiryData::SupportedPages => cut(alloc, &SUPPORTED_PAGES, allocation),
+        InquiryData::SerialNumber => cut(alloc, &serial_page(target, lun), allocation),
+        InquiryData::DeviceIdentification => {
+            cut(alloc, &identification_page(target, lun), allocation)
+        }
+        InquiryData::BlockLimits => cut(alloc, &limits_page(), allocation),
+        InquiryData::LogicalBlockProvisioning => cut(alloc, &PROVISIONING_PAGE, allocation),
+    }
+}
+
+/// The standard data, with this byte 0.
+#[tactic(auto, unfolding(crate::specs::Inquiry::standard_data))]
+pub(crate) fn standard(peripheral: u8) -> [u8; 36]
+    ensures { result ≡ standard_data peripheral }
+{
+    let mut data = *b"\x00\x00\x06\x02\x1f\x00\x00\x02VSCSI   TASK SET DISK   0001";
+    data[0] = peripheral;
+    data
+}
+
+/// Unit Serial Number.
+#[tactic(auto, unfolding(crate::specs::Inquiry::serial_page, crate::specs::Inquiry::serial))]
+fn serial_page(target: u8, lun: u16) -> [u8; 17]
+    ensures { result ≡ serial_page target lun }
+{
+    let mut page = [0; 17];
+    page[..4].copy_from_slice(&SERIAL_HEADER);
+    page[4..].copy_from_slice(&serial(target, lun));
+    page
+}
+
+/// Device Identification.
+#[tactic(auto, unfolding(crate::specs::Inquiry::identification_page, crate::specs::Inquiry::serial))]
+fn identification_page(target: u8, lun: u16) -> [u8; 29]
+    ensures { result ≡ identification_page target lun }
+{
+    let mut page = [0; 29];
+    page[..16].copy_from_slice(&IDENTIFICATION_HEADER);
+    page[16..].copy_from_slice(&serial(target, lun));
+    page
+}
+
+/// The serial number of the unit of this target and LUN.
+#[tactic(auto, unfolding(crate::specs::Inquiry::serial))]
+fn serial(target: u8, lun: u16) -> [u8; 13]
+    ensures { result ≡ serial target lun }
+{
+    let target = u16::from(target);
+    [
+        b'V',
+        b'S',
+        b'C',
+        b'S',
+        b'I',
+        digit(target, 100),
+        digit(target, 10),
+        digit(target, 1),
+        digit(lun, 10_000),
+        digit(lun, 1_000),
+        digit(lun, 100),
+        digit(lun, 10),
+        digit(lun, 1),
+    ]
+}
+
+/// The decimal digit of the number whose place is worth so much, as text.
+fn digit(number: u16, worth: u16) -> u8
+    requires { 0 < worth }
+    ensures { result ≡ 0x30 + number / worth % 10 }
+{
+    b'0' + (number / worth % 10) as u8
+}
+
+/// Block Limits: what `cdb` and UNMAP refuse to exceed.
+#[tactic(auto, unfolding(crate::specs::Inquiry::limits_page))]
+fn limits_page() -> [u8; 64]
+    ensures { result ≡ limits_page }
+{
+    let mut page = [0; 64];
+    page[..8].copy_from_slice(&[0x00, 0xb0, 0x00, 0x3c, 0x01, 0x08, 0x00, 0x00]);
+    page[8..12].copy_from_slice(&[0x00, 0x00, 0x08, 0x00]);
+    page[12..16].copy_from_slice(&[0x00, 0x00, 0x08, 0x00]);
+    page[20..24].copy_from_slice(&[0x00, 0x01, 0x00, 0x00]);
+    page[24..28].copy_from_slice(&[0x00, 0x00, 0x00, 0x10]);
+    page[28..32].copy_from_slice(&[0x00, 0x00, 0x00, 0x01]);
+    page[36..44].copy_from_slice(&[0x00, 0x00, 0x00, 0x00, 0x00, 0x01, 0x00, 0x00]);
+    page
+}

@@ -1,0 +1,119 @@
+//! What follows from the definitions alone.
+
+ghost use Rattle.std.specs.Prelude.{◌≡◌, ◌≢◌, ◌⊎◌, ℕ, ◌+◌, ◌*◌, ◌<◌, [], List, length, slice_index, IsTrue, IsFalse, Some, None};
+ghost use Rattle.sense.specs.declared.Sense.{Sense};
+ghost use Rattle.sense.specs.Conditions.{miscompare};
+ghost use Rattle.cdb.specs.declared.commands.InquiryData.{InquiryData};
+ghost use Rattle.cdb.specs.declared.commands.SelectReport.{SelectReport};
+ghost use Rattle.cdb.specs.Need.{need_of};
+ghost use Rattle.block_store.specs.Blocks.{Blocks, run, zero_block};
+ghost use Rattle.block_commands.specs.Attention.{takes};
+ghost use Rattle.block_commands.specs.Capacity.{is_in_range};
+ghost use Rattle.block_commands.specs.Comparing.{to_compare};
+ghost use Rattle.block_commands.specs.Effects.{block_after};
+ghost use Rattle.block_commands.specs.Facts.{Facts};
+ghost use Rattle.block_commands.specs.PlainReply.{success, refusal};
+ghost use Rattle.block_commands.specs.Replies.{reply_of};
+ghost use Rattle.block_commands.specs.Statuses.{good, check_condition, busy, task_set_full};
+ghost use Rattle.block_commands.specs.UnmapList.{descriptors, are_in_range, is_named};
+
+use crate::reply::{BUSY, CHECK_CONDITION, GOOD, TASK_SET_FULL};
+use block_store::written_is_read_back;
+use cdb::Command;
+
+/// Each constant is the status code of its name.
+pub fn status_codes()
+    ensures good { GOOD ≡ good }
+    ensures check_condition { CHECK_CONDITION ≡ check_condition }
+    ensures busy { BUSY ≡ busy }
+    ensures task_set_full { TASK_SET_FULL ≡ task_set_full }
+{}
+
+/// A reply is GOOD or CHECK CONDITION. GOOD moves all that the command needs from the driver, and the
+/// data to it; CHECK CONDITION has no data and moves nothing.
+pub fn bytes_moved()
+    ensures status { (facts : Facts) (command : Command) (bytes : List ℕ) (blocks : Blocks) →
+        ((reply_of facts command bytes blocks).status ≡ good)
+        ⊎ ((reply_of facts command bytes blocks).status ≡ check_condition) }
+    ensures good { (facts : Facts) (command : Command) (bytes : List ℕ) (blocks : Blocks) →
+        (reply_of facts command bytes blocks).status ≡ good →
+        (reply_of facts command bytes blocks).moved
+        ≡ (need_of command).out + length (reply_of facts command bytes blocks).payload }
+    ensures check_condition { (facts : Facts) (command : Command) (bytes : List ℕ) (blocks : Blocks) →
+        (reply_of facts command bytes blocks).status ≡ check_condition →
+        ((reply_of facts command bytes blocks).moved ≡ 0) × ((reply_of facts command bytes blocks).payload ≡ []) }
+{}
+
+/// A reply depends on the blocks below the capacity alone, and a block after a command on that block
+/// before alone.
+pub fn blocks_below_the_capacity_alone()
+    ensures reply { (facts : Facts) (command : Command) (bytes : List ℕ) (p q : Blocks) →
+        ((b : ℕ) → b < facts.capacity → p b ≡ q b) →
+        reply_of facts command bytes p ≡ reply_of facts command bytes q }
+    ensures block { (command : Command) (bytes : List ℕ) (code : ℕ) (p q : Blocks) (b : ℕ) → p b ≡ q b →
+        block_after command bytes code p b ≡ block_after command bytes code q b }
+{}
+
+/// A READ behind a GOOD WRITE of the same blocks gives what was written.
+pub fn written_is_read()
+    ensures { (facts : Facts) (lba count : ℕ) (bytes : List ℕ) (blocks : Blocks) → length bytes ≡ 512 * count →
+        (reply_of facts (Command.Write lba count) bytes blocks).status ≡ good →
+        reply_of facts (Command.Read lba count) [] (block_after (Command.Write lba count) bytes good blocks)
+        ≡ success (Command.Read lba count) bytes }
+{
+    written_is_read_back();
+}
+
+/// A command that isn't GOOD changes no block.
+pub fn refused_changes_nothing()
+    ensures { (command : Command) (bytes : List ℕ) (code : ℕ) (blocks : Blocks) (b : ℕ) → code ≢ good →
+        block_after command bytes code blocks b ≡ blocks b }
+{}
+
+/// COMPARE AND WRITE with equal data is GOOD; else it changes nothing, and its sense has the offset
+/// of the first unequal byte.
+pub fn compared_first()
+    ensures equal { (facts : Facts) (lba count : ℕ) (bytes : List ℕ) (blocks : Blocks) → facts.pending ≡ None →
+        IsTrue (is_in_range facts.capacity lba count) →
+        run blocks lba count ≡ to_compare count bytes →
+        reply_of facts (Command.CompareAndWrite lba count) bytes blocks
+        ≡ success (Command.CompareAndWrite lba count) [] }
+    ensures unequal { (facts : Facts) (lba count : ℕ) (bytes : List ℕ) (blocks : Blocks) (k : ℕ) → facts.pending ≡ None →
+        IsTrue (is_in_range facts.capacity lba count) →
+        k < length (to_compare count bytes) → k < length (run blocks lba count) →
+        ((j : ℕ) → j < k → slice_index (to_compare count bytes) j ≡ slice_index (run blocks lba count) j) →
+        slice_index (to_compare count bytes) k ≢ slice_index (run blocks lba count) k →
+        reply_of facts (Command.CompareAndWrite lba count) bytes blocks ≡ refusal (miscompare k) }
+{}
+
+/// UNMAP is all or nothing: where it is GOOD, each range of its list lies below the capacity, the
+/// blocks that they name are zeros and all others as before. Where it isn't, all are as before
+/// (`refused_changes_nothing`).
+pub fn unmapped_whole()
+    ensures range { (facts : Facts) (list_length : ℕ) (bytes : List ℕ) (blocks : Blocks) →
+        (reply_of facts (Command.Unmap list_length) bytes blocks).status ≡ good →
+        IsTrue (are_in_range facts.capacity (descriptors bytes)) }
+    ensures named { (list_length : ℕ) (bytes : List ℕ) (blocks : Blocks) (b : ℕ) →
+        IsTrue (is_named (descriptors bytes) b) →
+        block_after (Command.Unmap list_length) bytes good blocks b ≡ zero_block }
+    ensures others { (list_length : ℕ) (bytes : List ℕ) (blocks : Blocks) (b : ℕ) →
+        IsFalse (is_named (descriptors bytes) b) →
+        block_after (Command.Unmap list_length) bytes good blocks b ≡ blocks b }
+{}
+
+/// INQUIRY and REPORT LUNS leave an attention, and are answered as if there were none.
+pub fn attention_is_left()
+    ensures inquiry { (what : InquiryData) (allocation : ℕ) → IsFalse (takes (Command.Inquiry what allocation)) }
+    ensures report_luns { (select : SelectReport) (allocation : ℕ) → IsFalse (takes (Command.ReportLuns select allocation)) }
+    ensures same { (facts : Facts) (command : Command) (bytes : List ℕ) (blocks : Blocks) (attention : Sense) →
+        IsFalse (takes command) →
+        reply_of (record facts { pending = Some attention }) command bytes blocks
+        ≡ reply_of (record facts { pending = None }) command bytes blocks }
+{}
+
+/// Every other command but REQUEST SENSE is answered with the attention, and isn't run.
+pub fn attention_is_met()
+    ensures { (facts : Facts) (command : Command) (bytes : List ℕ) (blocks : Blocks) (attention : Sense) →
+        IsTrue (takes command) → ((allocation : ℕ) → command ≢ Command.RequestSense allocation) →
+        reply_of (record facts { pending = Some attention }) command bytes blocks ≡ refusal attention }
+{}

@@ -1,0 +1,27 @@
+//! One SCSI command on a disk of blocks, run whole (SPC-4, SBC-3): what it is answered, and what it
+//! leaves in the blocks of any store.
+#![tactic(auto)]
+
+mod absent;
+mod attention;
+mod capacity;
+mod compare;
+mod data;
+mod execution;
+mod facts;
+mod failure;
+mod inquiry;
+pub mod laws;
+mod luns;
+mod reply;
+mod transfer;
+mod unmap;
+
+pub use absent::exec_absent;
+pub use attention::takes_attention;
+pub use execution::exec;
+pub use facts::UnitFacts;
+pub use reply::{BUSY, CHECK_CONDITION, GOOD, Reply, TASK_SET_FULL};
+
+#[cfg(test)]
+mod tests;

@@ -1,0 +1,83 @@
+//! A request on its way to the device.
+
+use crate::fault::LineFault;
+use crate::guest::Buffer;
+use crate::values::Bytes;
+use scsi_codec::{CDB_BYTES, REQUEST_BYTES};
+use std::alloc::{AllocError, Global};
+
+/// A request as a line names it.
+#[derive(Debug, Drop)]
+pub struct Send<'a> {
+    /// Its name.
+    pub name: &'a str,
+    /// The queue that it goes to.
+    pub queue: u16,
+    /// The bytes of its unit's address.
+    pub lun: [u8; 8],
+    /// Its id.
+    pub id: u64,
+    /// Its task attribute.
+    pub attribute: u8,
+    /// Its command block.
+    pub cdb: [u8; CDB_BYTES],
+    /// Its data out.
+    pub out: Bytes,
+    /// How many bytes of data in it has room for.
+    pub room: u32,
+}
+
+impl Send<'_> {
+    /// The bytes of the request before its data out (VIRTIO 1.2, 5.6.6.1): the unit's address, the
+    /// id, the attribute, two bytes that the device ignores, and the command block.
+    pub fn head(&self, alloc: Global) -> Result<Vec<u8>, AllocError> {
+        let mut head = Vec::with_capacity(alloc, REQUEST_BYTES)?;
+        head.extend_from_slice(&self.lun)?;
+        head.extend_from_slice(&self.id.to_le_bytes())?;
+        head.extend_from_slice(&[self.attribute, 0, 0])?;
+        head.extend_from_slice(&self.cdb)?;
+        Ok(head)
+    }
+}
+
+/// The buffers of a request.
+#[derive(Clone, Copy, Debug, PartialEq, Eq)]
+pub struct Pair {
+    /// What the device reads.
+    pub readable: Buffer,
+    /// What the device writes.
+    pub writable: Buffer,
+}
+
+/// What a queue says of a chain that was used.
+#[derive(Clone, Copy, Debug, PartialEq, Eq)]
+pub struct Used {
+    /// The key of its request.
+    pub key: usize,
+    /// How many bytes the device says that it wrote.
+    pub len: u32,
+}
+
+/// Where the next buffer goes. None is used again.
+#[derive(Clone, Copy, Debug, PartialEq, Eq)]
+pub struct Space {
+    next: u64,
+}
+
+impl Space {
+    /// Where the first buffer goes.
+    pub const START: Space = Space { next: 1 << 20 };
+
+    /// Places a buffer, each at a multiple of 16, in a memory of that size.
+    pub fn place(&mut self, len: u64, memory: u64) -> Result<Buffer, LineFault> {
+        let at = self.next;
+        if at > memory || len > memory - at {
+            return Err(LineFault::NoGuestMemory);
+        }
+        let Ok(size) = u32::try_from(len) else {
+            return Err(LineFault::NoGuestMemory);
+        };
+        self.next = (at + len).div_ceil(16).saturating_mul(16);
+        Ok(Buffer { at, len: size })
+    }
+}

@@ -1,0 +1,139 @@
+//! What stands in the places of a line: numbers, names, units and bytes.
+
+ghost use Rattle.std.specs.Prelude.{◌<◌, IfOk};
+
+use crate::fault::{LineFault, Stop};
+use hex::FromHexError;
+use scsi_codec::Address;
+use std::alloc::{AllocError, Global};
+use std::str::FromStr;
+
+/// The largest LUN of a unit.
+const LAST_LUN: u16 = 16383;
+
+/// The most letters and digits of a name.
+const LONGEST_NAME: usize = 16;
+
+/// A decimal number of a width. Leading zeros may stand; a sign may not.
+pub fn number<N: FromStr>(word: &str) -> Result<N, LineFault>
+where
+    N::Err: Drop,
+{
+    if !word.bytes().all(|byte| byte.is_ascii_digit()) {
+        return Err(LineFault::BadValue);
+    }
+    match word.parse::<N>() {
+        Ok(number) => Ok(number),
+        Err(_) => Err(LineFault::BadValue),
+    }
+}
+
+/// A name: 1 to 16 letters or digits.
+pub fn name(word: &str) -> Result<&str, LineFault> {
+    let fits = !word.is_empty() && word.len() <= LONGEST_NAME;
+    if fits && word.bytes().all(|byte| byte.is_ascii_alphanumeric()) {
+        Ok(word)
+    } else {
+        Err(LineFault::BadValue)
+    }
+}
+
+/// A unit that was written as two words, its target and its LUN.
+pub fn unit(target: &str, lun: &str) -> Result<Address, LineFault>
+    ensures { IfOk result (λ address. address.lun < 16384) }
+{
+    let target = number::<u8>(target)?;
+    let lun = number::<u16>(lun)?;
+    if lun > LAST_LUN {
+        return Err(LineFault::BadValue);
+    }
+    Ok(Address { target, lun })
+}
+
+/// A unit that was written as `T:L`.
+pub fn unit_pair(word: &str) -> Result<Address, LineFault>
+    ensures { IfOk result (λ address. address.lun < 16384) }
+{
+    match word.split_once(':') {
+        Some((target, lun)) => unit(target, lun),
+        None => Err(LineFault::BadValue),
+    }
+}
+
+/// Bytes that stand several times, one after the other.
+#[derive(Debug, Drop)]
+pub struct Item {
+    /// The bytes, one at least.
+    pub bytes: Vec<u8>,
+    /// How often they stand, once at least.
+    pub repeat: u32,
+}
+
+impl Item {
+    /// Reads an even number of hexadecimal digits, or that with `*N`.
+    fn read(alloc: Global, text: &str) -> Result<Item, Stop> {
+        let (digits, repeat) = match text.split_once('*') {
+            Some((digits, repeat)) => (digits, number::<u32>(repeat)?),
+            None => (text, 1),
+        };
+        if digits.is_empty() || repeat == 0 {
+            return Err(Stop::Fault(LineFault::BadValue));
+        }
+        match hex::decode(alloc, digits) {
+            Ok(bytes) => Ok(Item { bytes, repeat }),
+            Err(FromHexError::OutOfMemory) => Err(Stop::NoMemory),
+            Err(_) => Err(Stop::Fault(LineFault::BadValue)),
+        }
+    }
+
+    /// How many bytes they are in all.
+    pub fn length(&self) -> u64 {
+        (self.bytes.len() as u64).saturating_mul(u64::from(self.repeat))
+    }
+
+    /// Appends so many copies of the bytes.
+    pub fn append_copies(&self, copies: u32, into: &mut Vec<u8>) -> Result<(), AllocError> {
+        for _ in 0..copies {
+            into.extend_from_slice(self.bytes.as_slice())?;
+        }
+        Ok(())
+    }
+}
+
+/// Bytes as a line has them. Repeated bytes are kept once.
+#[derive(Debug, Drop)]
+pub struct Bytes {
+    items: Vec<Item>,
+    length: u64,
+}
+
+impl Bytes {
+    /// No bytes.
+    pub fn none(alloc: Global) -> Bytes {
+        Bytes {
+            items: Vec::new(alloc),
+            length: 0,
+        }
+    }
+
+    /// Reads items that are joined by commas.
+    pub fn read(alloc: Global, text: &str) -> Result<Bytes, Stop> {
+        let mut bytes = Bytes::none(alloc);
+        for part in text.split(',') {
+            let item = Item::read(alloc, part)?;
+            bytes.length = bytes.length.saturating_add(item.length());
+            bytes.items.push(item)?;
+        }
+        Ok(bytes)
+    }
+
+    /// The items, in order.
+    pub fn items(&self) -> &[Item] {
+        self.items.as_slice()
+    }
+
+    /// How many bytes there are; `u64::MAX` where there are more than that.
+    pub fn length(&self) -> u64 {
+        self.length
+    }
+}

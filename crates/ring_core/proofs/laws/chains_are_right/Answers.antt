@@ -1,0 +1,5 @@
+use Rattle.ring_core.proofs.RightChains.{offered_is_right, offered_head}
+use Rattle.ring_core.proofs.laws.chains_are_right.Goals as goal
+
+pub returns : goal.returns
+returns c = record { parts = offered_is_right; head = offered_head }

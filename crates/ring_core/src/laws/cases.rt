@@ -1,0 +1,46 @@
+//! Small cases, which show what the definitions of a queue say.
+
+ghost use Rattle.std.specs.Prelude.{◌≡◌, ◌+◌, ◌%◌, ◌^◌, ◌<◌, ◌++◌, ℕ, List, length, Some};
+ghost use Rattle.byteorder.specs.Endian.{little_number, little_bytes};
+ghost use Rattle.guest_mem.specs.Memory.{bytes_at};
+ghost use Rattle.ring_core.specs.State.{RingState};
+ghost use Rattle.ring_core.specs.Split.{split_descriptor, pending, entry_wrong};
+ghost use Rattle.ring_core.specs.Packed.{packed_descriptor};
+ghost use Rattle.ring_core.specs.Cases.{OneAlone, ThreeLinked, NamesItself};
+ghost use Rattle.ring_core.specs.declared.fault.RingFault.TheVariants.{IndexJump};
+
+/// A descriptor is what a driver writes: le64 addr, le32 len, le16 flags and le16 next in a split
+/// queue (VIRTIO 1.2, 2.7.5), le64 addr, le32 len, le16 id and le16 flags in a packed one (2.8.13).
+pub fn descriptors_are_read_as_written()
+    ensures split { (addr len flags next : ℕ) → addr < 2 ^ 64 → len < 2 ^ 32 → flags < 2 ^ 16 → next < 2 ^ 16 → split_descriptor (little_bytes 8 addr ++ little_bytes 4 len ++ little_bytes 2 flags ++ little_bytes 2 next) ≡ record { addr = addr; len = len; flags = flags; next_or_id = next } }
+    ensures packed { (addr len flags id : ℕ) → addr < 2 ^ 64 → len < 2 ^ 32 → flags < 2 ^ 16 → id < 2 ^ 16 → packed_descriptor (little_bytes 8 addr ++ little_bytes 4 len ++ little_bytes 2 id ++ little_bytes 2 flags) ≡ record { addr = addr; len = len; flags = flags; next_or_id = id } }
+{}
+
+/// A descriptor without flags, with its buffer in memory, is a chain of one part.
+pub fn one_descriptor_is_a_chain()
+    ensures { OneAlone }
+{}
+
+/// Three descriptors that are linked, two readable and one writable, are a chain of these parts.
+pub fn three_linked_descriptors_are_a_chain()
+    ensures { ThreeLinked }
+{}
+
+/// An empty descriptor that names itself as the next one is a chain that is too long.
+pub fn a_loop_is_too_long()
+    ensures { NamesItself }
+{}
+
+/// The available index counts modulo 65,536, however many chains were accepted: where it equals
+/// their number nothing is pending, one further one entry is, and k further k are.
+pub fn the_index_counts_round()
+    ensures none { (s : RingState) (m : List ℕ) → little_number 2 (bytes_at m (s.layout.driver + 2) 2) ≡ length s.log.accepted % 65536 → pending s m ≡ 0 }
+    ensures one { (s : RingState) (m : List ℕ) → little_number 2 (bytes_at m (s.layout.driver + 2) 2) ≡ (length s.log.accepted + 1) % 65536 → pending s m ≡ 1 }
+    ensures each { (s : RingState) (m : List ℕ) (k : ℕ) → k < 65536 → little_number 2 (bytes_at m (s.layout.driver + 2) 2) ≡ (length s.log.accepted + k) % 65536 → pending s m ≡ k }
+{}
+
+/// As many pending entries as the queue has descriptors are no jump of the index, and one more is.
+pub fn as_many_as_the_size_are_no_jump()
+    ensures size { (s : RingState) (m : List ℕ) → pending s m ≡ s.layout.size → entry_wrong s m ≡ Some IndexJump → ⊥ }
+    ensures one_more { (s : RingState) (m : List ℕ) → pending s m ≡ s.layout.size + 1 → entry_wrong s m ≡ Some IndexJump }
+{}

@@ -1,0 +1,5 @@
+pub mod Commits
+pub mod Payloads
+pub mod Turns
+pub mod Stepping
+pub mod Opening

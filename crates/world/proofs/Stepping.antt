@@ -1,0 +1,61 @@
+-- Turns, steps and runs of the device.
+use Rattle.std.proofs.Common.{◌≡◌, ◌≢◌, ℕ, ◌+◌, ◌<◌, ◌≤◌, List, [], ◌∷◌, ◌++◌, length, get_or, set, Bool, true, false, refl, sym, ap, ◌∙◌, subst, arith, ◌⊎◌, inl, inr, Result, Ok, Err}
+use Rattle.std.proofs.lemmas.List.{ext_get_or, length-set, get_or-set_same, get_or-set_other}
+use Rattle.std.proofs.lemmas.Option.{slice_get_read, slice_get_within, get_or_from_slice_get, same_Some}
+use Rattle.block_store.specs.declared.NoMemory.{NoMemory}
+use Rattle.world.specs.Queue.{PlainQueue, IsIdle}
+use Rattle.world.specs.Unit.{PlainUnit}
+use Rattle.world.specs.Serving.{Turns}
+use Rattle.world.specs.World.{PlainWorld, IdleAt, TurnsAt, IdleBelow, Steps, Runs, AreFitting}
+
+same_or_other : (j i : ℕ) → (j ≡ i) ⊎ (j ≢ i)
+same_or_other j i = grind arith
+
+-- putting back what stands at a place
+set_same : {X : Type 0} (xs : List X) (i : ℕ) (x : X) → i < length xs → x ≡ get_or xs i x → set xs i x ≡ xs
+set_same xs i x lt is =
+    ext_get_or x (set xs i x) xs (length-set xs i x) (λ j below.
+    elim (same_or_other j i) [
+      | inl same ↦ ap (λ (k : ℕ). get_or (set xs i x) k x) same ∙ get_or-set_same xs i x x lt ∙ is ∙ ap (λ (k : ℕ). get_or xs k x) (sym same)
+      | inr other ↦ get_or-set_other xs i j x x other
+    ])
+
+pub turned : (old : PlainWorld) (n : ℕ) (q q' : PlainQueue) (m' : List ℕ) (units' : List PlainUnit) (r : Result Bool NoMemory)
+    → n < length old.queues → q ≡ get_or old.queues n q → Turns q old.memory old.units r q' m' units'
+    → TurnsAt old n r (record { memory = m'; queues = set old.queues n q'; units = units' })
+turned old n q q' m' units' (Ok true) lt is turn =
+    record { queue = q; after = q'; there = slice_get_read old.queues (length old.queues) n q refl lt is; changed = turn; others = refl }
+turned old n q q' m' units' (Ok false) lt is (idle, (same_queue, same_memory, same_units)) =
+    let back : set old.queues n q' ≡ old.queues = ap (λ (x : PlainQueue). set old.queues n x) same_queue ∙ set_same old.queues n q lt is in (
+      rw (back, same_memory, same_units) refl,
+      λ x there.
+          let e : q ≡ x = same_Some q x (sym (slice_get_read old.queues (length old.queues) n q refl lt is) ∙ there) in
+          subst (λ (y : PlainQueue). IsIdle y.ring old.memory) e idle,
+    )
+turned old n q q' m' units' (Err e) lt is (lacks, (same_queue, same_memory, same_units)) =
+    let back : set old.queues n q' ≡ old.queues = ap (λ (x : PlainQueue). set old.queues n x) same_queue ∙ set_same old.queues n q lt is in
+    rw (back, same_memory, same_units) refl
+
+pub still_fitting : (queues : List PlainQueue) (m m' : List ℕ) (n : ℕ) (q q' : PlainQueue) → AreFitting queues m → length m' ≡ length m → n < length queues → q ≡ get_or queues n q
+    → q'.ring.memory ≡ q.ring.memory → AreFitting (set queues n q') m'
+still_fitting queues m m' n q q' fitting size lt is same k x there =
+    elim (same_or_other k n) [
+      | inl here ↦
+          let e : x ≡ q' = sym (get_or_from_slice_get (set queues n q') k x q' there) ∙ ap (λ (j : ℕ). get_or (set queues n q') j q') here ∙ get_or-set_same queues n q' q' lt in
+          size ∙ fitting n q (slice_get_read queues (length queues) n q refl lt is) ∙ sym same ∙ sym (ap (λ (y : PlainQueue). y.ring.memory) e)
+      | inr other ↦
+          let e : x ≡ get_or queues k x = sym (get_or_from_slice_get (set queues n q') k x x there) ∙ get_or-set_other queues n k q' x other in
+          let within : k < length queues = omega (arith, slice_get_within (set queues n q') k x there, length-set queues n q') in
+          size ∙ fitting k x (slice_get_read queues (length queues) k x refl within e)
+    ]
+
+below_again : (w : PlainWorld) (n k : ℕ) → IdleBelow w n → IdleAt w n → 2 ≤ k → k < n + 1 → IdleAt w k
+below_again w n k below here some lt =
+    elim (same_or_other k n) [ inl same ↦ rw same here | inr other ↦ below k some (omega arith) ]
+
+pub idle_more : (w : PlainWorld) (n : ℕ) → IdleBelow w n → IdleAt w n → IdleBelow w (n + 1)
+idle_more w n below here k some lt = below_again w n k below here some lt
+
+pub run_more : (old mid new : PlainWorld) (passed : List PlainWorld) → Runs old passed mid → Steps mid new → Runs old (passed ++ new ∷ []) new
+run_more old mid new [] same step = (subst (λ (w : PlainWorld). Steps w new) same step, refl)
+run_more old mid new (next ∷ later) (first, rest) step = (first, run_more next mid new later rest step)

@@ -1,0 +1,23 @@
+-- What a look at the device finds.
+use Rattle.std.specs.Prelude.{ℕ, ◌≡◌, ◌≤◌, ◌+◌, ◌==◌, ◌&&◌, ◌++◌, Bool, true, false, cond, List, Option, Some, None, is_some, find, ◌<◌, Result, Ok, Err}
+use Rattle.std.specs.List.{list_any}
+use Rattle.block_store.specs.Blocks.{run}
+use Rattle.block_store.specs.declared.NoMemory.{NoMemory}
+use Rattle.world.specs.Unit.{PlainUnit, blocks_of}
+use Rattle.world.specs.World.{PlainWorld}
+
+-- the unit of an address
+abbrev pub unit_at : PlainWorld → ℕ → ℕ → Option PlainUnit
+unit_at w target lun = find (λ u. (u.target == target) && (u.lun == lun)) w.units
+
+-- DEVICE_NEEDS_RESET (VIRTIO 1.2, 2.1) where a queue is broken
+abbrev pub status_of : PlainWorld → ℕ
+status_of w = cond (list_any (λ q. is_some q.ring.broken) w.queues) 64 0
+
+-- blocks of a unit, if it is there and they lie below its capacity
+abbrev pub Gives : Option PlainUnit → ℕ → ℕ → List ℕ → Result Bool NoMemory → List ℕ → Type 0
+Gives None first count old (Ok true) new = ⊥
+Gives (Some u) first count old (Ok true) new = (first + count ≤ u.capacity) × (new ≡ old ++ run (blocks_of u.commits) first count)
+Gives None first count old (Ok false) new = new ≡ old
+Gives (Some u) first count old (Ok false) new = (u.capacity < first + count) × (new ≡ old)
+Gives unit first count old (Err e) new = new ≡ old

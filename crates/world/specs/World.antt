@@ -1,0 +1,62 @@
+-- The device as a plain value, and its runs: one queue after another is served.
+use Rattle.std.specs.Prelude.{ℕ, ◌≡◌, ◌⊎◌, ◌≤◌, ◌<◌, List, [], ◌∷◌, length, slice_get, slice_set, Some, Bool, true, false, Result, Ok, Err}
+use Rattle.block_store.specs.declared.NoMemory.{NoMemory}
+use Rattle.world.specs.Queue.{PlainQueue, IsIdle}
+use Rattle.world.specs.Unit.{PlainUnit}
+use Rattle.world.specs.Serving.{Serves, OnlyBreaks}
+
+pub record PlainWorld : Type 0 where
+  pub memory : List ℕ
+  pub queues : List PlainQueue
+  pub units : List PlainUnit
+
+-- the queue of this number serves a chain whole, or is broken by a fault of the guest; other queues stay
+pub record StepAt (old : PlainWorld) (number : ℕ) (new : PlainWorld) : Type 0 where
+  pub queue : PlainQueue
+  pub after : PlainQueue
+  pub there : slice_get old.queues number ≡ Some queue
+  pub changed :
+      Serves queue old.memory old.units after new.memory new.units
+      ⊎ OnlyBreaks queue old.memory old.units after new.memory new.units
+  pub others : new.queues ≡ slice_set old.queues number after
+
+-- at the queue of this number nothing is to be done
+abbrev pub IdleAt : PlainWorld → ℕ → Type 0
+IdleAt w number = (q : PlainQueue) → slice_get w.queues number ≡ Some q → IsIdle q.ring w.memory
+
+-- a turn at the queue of this number: that something changed, that nothing was to be done, or want of memory
+abbrev pub TurnsAt : PlainWorld → ℕ → Result Bool NoMemory → PlainWorld → Type 0
+TurnsAt old number (Ok true) new = StepAt old number new
+TurnsAt old number (Ok false) new = (new ≡ old) × IdleAt old number
+TurnsAt old number (Err e) new = new ≡ old
+
+-- at no request queue below this number is anything to be done
+abbrev pub IdleBelow : PlainWorld → ℕ → Type 0
+IdleBelow w number = (k : ℕ) → 2 ≤ k → k < number → IdleAt w k
+
+-- the lowest request queue at which something is to be done takes its turn
+abbrev pub Steps : PlainWorld → PlainWorld → Type 0
+Steps old new = (number : ℕ) × (2 ≤ number) × IdleBelow old number × StepAt old number new
+
+-- at no request queue is anything to be done: each is broken or has nothing available
+abbrev pub IsSettled : PlainWorld → Type 0
+IsSettled w = IdleBelow w (length w.queues)
+
+-- step by step through these worlds
+abbrev pub Runs : PlainWorld → List PlainWorld → PlainWorld → Type 0
+Runs old [] new = new ≡ old
+Runs old (next ∷ later) new = Steps old next × Runs next later new
+
+-- the next step, if there is one
+abbrev pub NextTurns : PlainWorld → Result Bool NoMemory → PlainWorld → Type 0
+NextTurns old (Ok true) new = Steps old new
+NextTurns old (Ok false) new = (new ≡ old) × IsSettled old
+NextTurns old (Err e) new = new ≡ old
+
+-- a run of so many steps to where nothing is left to do
+abbrev pub Settles : PlainWorld → ℕ → PlainWorld → Type 0
+Settles old count new = (passed : List PlainWorld) × Runs old passed new × (length passed ≡ count) × IsSettled new
+
+-- each ring was made with a memory of this size
+abbrev pub AreFitting : List PlainQueue → List ℕ → Type 0
+AreFitting queues m = (k : ℕ) (q : PlainQueue) → slice_get queues k ≡ Some q → length m ≡ q.ring.memory

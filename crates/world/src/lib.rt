@@ -1,0 +1,24 @@
+//! The device: guest memory, its virtqueues and its units, and the service of what the guest makes
+//! available.
+#![tactic(auto)]
+
+mod answer;
+mod answering;
+mod any_ring;
+mod config;
+mod decision;
+mod queue;
+mod serving;
+mod unit;
+mod world;
+
+pub use answer::Answer;
+pub use any_ring::AnyRing;
+pub use config::{Config, RING_PACKED, StartFault, UnitSpec, VERSION_1};
+pub use decision::{ChainLengths, Decision};
+pub use queue::{Fetch, Queue};
+pub use unit::{Commit, Unit};
+pub use world::World;
+
+#[cfg(test)]
+mod tests;

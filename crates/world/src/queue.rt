@@ -1,0 +1,177 @@
+//! A virtqueue of the device: its ring, whether it is broken, and the notices that its driver
+//! wanted.
+
+ghost use Rattle.std.specs.Prelude.{◌≡◌, length, IfOk};
+ghost use Rattle.world.specs.AnyRing.{state_of};
+ghost use Rattle.world.specs.Config.{opening_queue};
+
+use crate::any_ring::AnyRing;
+use block_store::NoMemory;
+use guest_mem::GuestMem;
+use packed_ring::PackedRing;
+use ring_core::{Answered, Chain, Fetched, Form, Layout, QueueLog, Ring, RingFault};
+use split_ring::SplitRing;
+use std::alloc::Global;
+use std::marker::Model;
+
+/// A split ring.
+fn split_of(
+    alloc: Global,
+    number: u16,
+    layout: Layout,
+    memory: &GuestMem,
+) -> Result<AnyRing, NoMemory>
+    ensures { IfOk result (λ ring. state_of ring ≡ (opening_queue Form.Split (length memory.now) number layout).ring) }
+{
+    match SplitRing::new(alloc, number, layout, memory) {
+        Ok(ring) => Ok(AnyRing::Split(ring)),
+        Err(_) => Err(NoMemory),
+    }
+}
+
+/// A packed ring.
+fn packed_of(
+    alloc: Global,
+    number: u16,
+    layout: Layout,
+    memory: &GuestMem,
+) -> Result<AnyRing, NoMemory>
+    ensures { IfOk result (λ ring. state_of ring ≡ (opening_queue Form.Packed (length memory.now) number layout).ring) }
+{
+    match PackedRing::new(alloc, number, layout, memory) {
+        Ok(ring) => Ok(AnyRing::Packed(ring)),
+        Err(_) => Err(NoMemory),
+    }
+}
+
+/// A ring of either form.
+fn ring_of(
+    alloc: Global,
+    form: Form,
+    number: u16,
+    layout: Layout,
+    memory: &GuestMem,
+) -> Result<AnyRing, NoMemory>
+    ensures { IfOk result (λ ring. state_of ring ≡ (opening_queue form (length memory.now) number layout).ring) }
+{
+    match form {
+        Form::Split => split_of(alloc, number, layout, memory),
+        Form::Packed => packed_of(alloc, number, layout, memory),
+    }
+}
+
+/// What a look at a queue finds.
+#[derive(Debug, Drop)]
+pub enum Fetch {
+    /// Nothing to be done.
+    Idle,
+    /// A fault of the guest, which broke the queue now.
+    Broke,
+    /// A chain.
+    Got(Fetched),
+}
+
+/// A virtqueue of the device, seen as its ring's plain value with a count of notices.
+#[derive(Debug, Drop)]
+pub struct Queue {
+    ring: AnyRing,
+    notices: u64,
+    broken: bool,
+}
+
+impl Model for Queue {
+    ghost use Rattle.std.specs.Prelude.{◌≡◌, ◌≤◌, length, is_some};
+    ghost use Rattle.world.specs.AnyRing.{state_of};
+    ghost use Rattle.world.specs.Queue.{PlainQueue};
+
+    ghost Value = { PlainQueue };
+
+    ghost view = { λ q. record { ring = state_of q.ring; notices = q.notices } };
+
+    ghost invariant = { λ q. (q.broken ≡ is_some (state_of q.ring).broken) × (q.notices ≤ length (state_of q.ring).log.used) };
+}
+
+impl Queue {
+    ghost use Rattle.std.specs.Prelude.{◌≡◌, length, is_some, IfOk};
+    ghost use Rattle.world.specs.Config.{opening_queue};
+    ghost use Rattle.ring_core.specs.State.{Owns, IsLawful};
+    ghost use Rattle.ring_core.specs.Offer.{with_used};
+    ghost use Rattle.world.specs.Queue.{completing};
+    ghost use Rattle.world.specs.Fetching.{Looks};
+
+    /// A queue with this number at a place that its ring takes, of which nothing was fetched yet.
+    pub fn new(
+        alloc: Global,
+        form: Form,
+        number: u16,
+        layout: Layout,
+        memory: &GuestMem,
+    ) -> Result<Queue, NoMemory>
+        ensures { IfOk result (λ queue. queue ≡ opening_queue form (length memory.now) number layout) }
+    {
+        let ring = ring_of(alloc, form, number, layout, memory)?;
+        Ok(Queue {
+            ring,
+            notices: 0,
+            broken: false,
+        })
+    }
+
+    /// Looks for the next chain.
+    pub fn fetch(&mut self, memory: &GuestMem) -> Result<Fetch, NoMemory>
+        requires { length memory.now ≡ self.old.ring.memory }
+        ensures { Looks self.old memory.now result self.new }
+    {
+        if self.broken {
+            return Ok(Fetch::Idle);
+        }
+        match self.ring.fetch(memory) {
+            Ok(None) => Ok(Fetch::Idle),
+            Ok(Some(fetched)) => Ok(Fetch::Got(fetched)),
+            Err(RingFault::NoMemory) => Err(NoMemory),
+            Err(_) => {
+                self.broken = true;
+                Ok(Fetch::Broke)
+            }
+        }
+    }
+
+    /// Completes a chain, and counts the notice where the driver wants one.
+    pub fn complete(&mut self, memory: &mut GuestMem, chain: Chain, len: u32) -> Answered
+        requires fits { length memory.old ≡ self.old.ring.memory }
+        requires owned { Owns self.old.ring chain }
+        ensures ticket { result ≡ chain.ticket }
+        ensures memory { memory.new ≡ with_used self.old.ring memory.old chain.id len }
+        ensures size { length memory.new ≡ length memory.old }
+        ensures queue { self.new ≡ completing self.old chain memory.new }
+    {
+        let answered = self.ring.complete(memory, chain, len);
+        let _used = self.ring.log().used().len();
+        if self.ring.wants_notice(memory) {
+            self.notices += 1;
+        }
+        answered
+    }
+
+    /// How many notices were wanted.
+    pub fn notices(&self) -> u64
+        ensures { result ≡ self.now.notices }
+    {
+        self.notices
+    }
+
+    /// Whether a fault of the guest broke it.
+    pub fn is_broken(&self) -> bool
+        ensures { result ≡ is_some self.now.ring.broken }
+    {
+        self.broken
+    }
+
+    /// Its log.
+    pub fn log(&self) -> &QueueLog
+        ensures log { result.now ≡ self.now.ring.log }
+        ensures lawful { IsLawful self.now.ring.queue self.now.ring.log }
+    {
+        self.ring.log()
+    }
+}

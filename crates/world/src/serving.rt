@@ -1,0 +1,87 @@
+//! The service of one chain, from its fetch to its used entry.
+
+ghost use Rattle.std.specs.Prelude.{◌≡◌, ◌≤◌, ◌<◌, ◌^◌, length};
+ghost use Rattle.ring_core.specs.Parts.{readable_total, writable_total, scattered};
+ghost use Rattle.ring_core.specs.State.{Owns};
+ghost use Rattle.world.specs.Answering.{bytes_of};
+ghost use Rattle.world.specs.Serving.{Finishes, Turns};
+
+use crate::answer::Answer;
+use crate::answering::answer_request;
+use crate::decision::ChainLengths;
+use crate::queue::{Fetch, Queue};
+use crate::unit::Unit;
+use block_store::NoMemory;
+use guest_mem::GuestMem;
+use ring_core::{Chain, Fetched, scatter};
+use std::alloc::Global;
+
+/// Writes an answer over a chain's writable parts, and answers how many bytes it has.
+fn write_answer(memory: &mut GuestMem, chain: &Chain, answer: &Answer) -> u32
+    requires fits { length memory.old ≡ chain.now.memory }
+    requires room { length (bytes_of answer.now) ≤ writable_total chain.now.parts }
+    requires small { length (bytes_of answer.now) < 2 ^ 32 }
+    ensures written { result ≡ length (bytes_of answer.now) }
+    ensures memory { memory.new ≡ scattered memory.old chain.now.parts 0 (bytes_of answer.now) }
+    ensures size { length memory.new ≡ length memory.old }
+{
+    let _parts = chain.parts();
+    match answer {
+        Answer::Nothing => 0,
+        Answer::Bytes(head, payload) => {
+            let first = scatter(memory, chain, 0, head);
+            first + scatter(memory, chain, first, payload.as_slice())
+        }
+    }
+}
+
+/// Answers the request of a chain that was fetched, and uses the chain.
+fn finish_chain(
+    alloc: Global,
+    queue: &mut Queue,
+    memory: &mut GuestMem,
+    units: &mut [Unit],
+    fetched: Fetched,
+)
+    requires fits { length memory.old ≡ queue.old.ring.memory }
+    requires owned { Owns queue.old.ring fetched.chain }
+    requires read { length fetched.bytes.items ≤ readable_total fetched.chain.parts }
+    ensures finished { Finishes queue.old memory.old units.old fetched.chain fetched.bytes.items queue.new memory.new units.new }
+    ensures size { length memory.new ≡ length memory.old }
+    ensures ring { queue.new.ring.memory ≡ queue.old.ring.memory }
+{
+    let Fetched { chain, bytes } = fetched;
+    let _parts = chain.parts();
+    let lengths = ChainLengths {
+        fetched: bytes.len(),
+        readable: chain.readable_len(),
+        writable: chain.writable_len(),
+    };
+    let answer = answer_request(alloc, units, chain.ticket(), &lengths, bytes);
+    let len = write_answer(memory, &chain, &answer);
+    let _answered = queue.complete(memory, chain, len);
+}
+
+/// A turn at one queue: takes its next chain, if there is one, and serves it whole. Whether
+/// something changed: a chain was served, or a fault of the guest broke the queue.
+pub fn take_turn(
+    alloc: Global,
+    queue: &mut Queue,
+    memory: &mut GuestMem,
+    units: &mut [Unit],
+) -> Result<bool, NoMemory>
+    requires { length memory.old ≡ queue.old.ring.memory }
+    ensures turn { Turns queue.old memory.old units.old result queue.new memory.new units.new }
+    ensures size { length memory.new ≡ length memory.old }
+    ensures ring { queue.new.ring.memory ≡ queue.old.ring.memory }
+{
+    match queue.fetch(memory) {
+        Err(NoMemory) => Err(NoMemory),
+        Ok(Fetch::Idle) => Ok(false),
+        Ok(Fetch::Broke) => Ok(true),
+        Ok(Fetch::Got(fetched)) => {
+            finish_chain(alloc, queue, memory, units, fetched);
+            Ok(true)
+        }
+    }
+}

@@ -1,0 +1,233 @@
+//! One logical unit: its store, what it has pending, and the commands that it ran.
+
+ghost use Rattle.std.specs.Prelude.{◌≡◌, ◌+◌, ◌≤◌, ℕ, Option, if◌then◌else◌, length, drop, IfSome, IfNone, IfOk};
+ghost use Rattle.cdb.specs.Need.{need_of};
+ghost use Rattle.block_store.specs.Blocks.{block_count, nth_block};
+ghost use Rattle.block_commands.specs.Effects.{block_after};
+ghost use Rattle.block_commands.specs.Facts.{facts_of};
+ghost use Rattle.block_commands.specs.PlainReply.{plain_of};
+ghost use Rattle.block_commands.specs.Replies.{reply_of, data_of};
+ghost use Rattle.unit_attention.specs.Pending.{without_first};
+ghost use Rattle.block_commands.specs.Attention.{takes};
+ghost use Rattle.sense.specs.declared.Sense.{Sense};
+ghost use Rattle.world.specs.Unit.{as_sense, oldest, pending_at_start};
+ghost use Rattle.world.specs.Config.{luns_of};
+
+use crate::config::UnitSpec;
+use block_commands::{Reply, UnitFacts, exec, takes_attention};
+use block_store::{FlatStore, NoMemory, Store};
+use cdb::Command;
+use ring_core::Ticket;
+use scsi_codec::REQUEST_BYTES;
+use sense::Sense;
+use std::alloc::{AllocError, Global};
+use std::marker::Model;
+use unit_attention::{Attentions, Code};
+
+/// A command that the unit ran.
+#[derive(Debug, Drop)]
+pub struct Commit {
+    ticket: Ticket,
+    command: Command,
+    // The request as it was fetched: its data stand from byte 51 on.
+    bytes: Vec<u8>,
+    status: u8,
+}
+
+/// A logical unit, seen as its constants and the commands that it ran.
+#[derive(Drop)]
+pub struct Unit {
+    // What is pending is set before each command.
+    facts: UnitFacts,
+    calm: bool,
+    attentions: Attentions,
+    store: FlatStore,
+    commits: Vec<Commit>,
+}
+
+impl Model for Unit {
+    ghost use Rattle.world.specs.Unit.{PlainUnit};
+
+    ghost Value = { PlainUnit };
+
+    ghost use Rattle.world.specs.UnitFields.{unit_of, IsUnit};
+
+    ghost view = { unit_of };
+
+    ghost invariant = { IsUnit };
+}
+
+/// The LUNs of a target, rising where the units do.
+fn luns_of_target(alloc: Global, units: &[UnitSpec], target: u8) -> Result<Vec<u16>, AllocError>
+    ensures luns { IfOk result (λ luns. luns.items ≡ luns_of units.now target) }
+    ensures few { IfOk result (λ luns. length luns.items ≤ length units.now) }
+{
+    units
+        .iter()
+        .filter(|unit| unit.target == target)
+        .map(|unit| unit.lun)
+        .collect(alloc)
+}
+
+/// What is pending before any command.
+fn attentions_at_start(calm: bool) -> Attentions
+    ensures { result ≡ pending_at_start calm }
+{
+    let mut attentions = Attentions::new();
+    if !calm {
+        attentions.raise(Code::POWER_ON_OR_RESET);
+    }
+    attentions
+}
+
+/// A code as sense, key UNIT ATTENTION.
+fn sense_of(code: Code) -> Sense
+    ensures { result ≡ as_sense code }
+{
+    Sense::unit_attention(code.asc, code.ascq)
+}
+
+/// Puts what is pending first among the facts.
+fn tell_oldest(facts: &mut UnitFacts, attentions: &Attentions)
+    ensures { facts.new ≡ record facts.old { pending = oldest attentions.now } }
+{
+    facts.pending = match attentions.peek() {
+        Some(code) => Some(sense_of(code)),
+        None => None,
+    };
+}
+
+/// Runs a command on a store, on the data of its request; `None` where memory was refused.
+fn run_on(
+    alloc: Global,
+    store: &mut FlatStore,
+    command: &Command,
+    request: &[u8],
+    facts: &UnitFacts,
+) -> Option<Reply>
+    requires { 51 + (need_of command.now).out ≤ length request.now }
+    ensures reply { IfSome result (λ r. plain_of r ≡ reply_of (facts_of facts.now (block_count store.old)) command.now (data_of command.now (drop 51 request.now)) (nth_block store.old)) }
+    ensures blocks { IfSome result (λ r. (b : ℕ) → nth_block store.new b ≡ block_after command.now (data_of command.now (drop 51 request.now)) r.status (nth_block store.old) b) }
+    ensures none { IfNone result ((b : ℕ) → nth_block store.new b ≡ nth_block store.old b) }
+    ensures size { block_count store.new ≡ block_count store.old }
+    ensures fits { IfSome result (λ r. length r.payload.items ≤ (need_of command.now).into) }
+{
+    let (_, taken) = request.split_at(REQUEST_BYTES);
+    match exec(alloc, store, command, taken, facts) {
+        Ok(reply) => Some(reply),
+        Err(NoMemory) => None,
+    }
+}
+
+/// Clears what is pending first, where the command takes it.
+fn clear_oldest(attentions: &mut Attentions, command: &Command)
+    ensures { attentions.new ≡ (if takes command.now then without_first attentions.old else attentions.old) }
+{
+    if takes_attention(command) {
+        let _ = attentions.take();
+    }
+}
+
+impl Unit {
+    ghost use Rattle.std.specs.Prelude.{◌≡◌, ◌+◌, ◌≤◌, ◌<◌, ◌++◌, length, drop, IfSome, IfNone, IfOk, OnOk, OnErr, []};
+    ghost use Rattle.block_store.specs.Blocks.{run};
+    ghost use Rattle.world.specs.Unit.{blocks_of};
+    ghost use Rattle.cdb.specs.Need.{need_of};
+    ghost use Rattle.block_commands.specs.PlainReply.{plain_of};
+    ghost use Rattle.block_commands.specs.Replies.{data_of};
+    ghost use Rattle.world.specs.Unit.{reply_now, committing};
+    ghost use Rattle.world.specs.Config.{opening_unit};
+
+    /// A unit among those that are wanted, that ran nothing yet.
+    #[tactic(auto, unfolding(crate::specs::Unit::blocks_of, crate::specs::Unit::pending_of))]
+    pub fn new(alloc: Global, spec: &UnitSpec, units: &[UnitSpec]) -> Result<Unit, NoMemory>
+        requires { length units.now ≤ 64 }
+        ensures { IfOk result (λ unit. unit ≡ opening_unit units.now spec.now) }
+    {
+        let luns = luns_of_target(alloc, units, spec.target)?;
+        let store = FlatStore::new(alloc, spec.blocks)?;
+        Ok(Unit {
+            facts: UnitFacts {
+                target: spec.target,
+                lun: spec.lun,
+                luns,
+                pending: None,
+            },
+            calm: spec.calm,
+            attentions: attentions_at_start(spec.calm),
+            store,
+            commits: Vec::new(alloc),
+        })
+    }
+
+    /// Its target, 0 to 255.
+    pub fn target(&self) -> u8
+        ensures { result ≡ self.now.target }
+    {
+        self.facts.target
+    }
+
+    /// Its LUN, 0 to 16,383.
+    pub fn lun(&self) -> u16
+        ensures { result ≡ self.now.lun }
+    {
+        self.facts.lun
+    }
+
+    /// Its capacity in blocks of 512 bytes.
+    pub fn capacity(&self) -> u64
+        ensures { result ≡ self.now.capacity }
+    {
+        self.store.capacity()
+    }
+
+    /// Appends the bytes of `count` blocks from `first` on, as its commands left them; `NoMemory`
+    /// with the list as it was where that can't grow.
+    pub fn read_blocks(&self, first: u64, count: u32, into: &mut Vec<u8>) -> Result<(), NoMemory>
+        requires { first + count ≤ self.now.capacity }
+        ensures ok { OnOk result (into.new.items ≡ into.old.items ++ run (blocks_of self.now.commits) first count) }
+        ensures err { OnErr result (into.new.items ≡ into.old.items) }
+    {
+        into.reserve(512 * count as usize)?;
+        self.store.read_blocks(first, count, into);
+        Ok(())
+    }
+
+    /// Runs a command whole, on the data of its request, and keeps it; `None` with nothing changed
+    /// where memory was refused.
+    pub fn commit(
+        &mut self,
+        alloc: Global,
+        ticket: Ticket,
+        command: Command,
+        bytes: Vec<u8>,
+    ) -> Option<Reply>
+        requires { REQUEST_BYTES + (need_of command).out ≤ length bytes.items }
+        ensures reply { IfSome result (λ r. plain_of r ≡ reply_now self.old command (data_of command (drop REQUEST_BYTES bytes.items))) }
+        ensures some { IfSome result (λ _. self.new ≡ committing self.old ticket command (data_of command (drop REQUEST_BYTES bytes.items))) }
+        ensures none { IfNone result (self.new ≡ self.old) }
+        ensures fits { IfSome result (λ r. length r.payload.items ≤ (need_of command).into) }
+    {
+        if self.commits.reserve(1).is_err() {
+            return None;
+        }
+        tell_oldest(&mut self.facts, &self.attentions);
+        let Some(reply) = run_on(
+            alloc,
+            &mut self.store,
+            &command,
+            bytes.as_slice(),
+            &self.facts,
+        ) else {
+            return None;
+        };
+        clear_oldest(&mut self.attentions, &command);
+        self.commits.push_reserved(Commit {
+            ticket,
+            command,
+            bytes,
+            status: reply.status,
+        });
+        Some(reply)
+    }
+}

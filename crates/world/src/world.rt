@@ -1,0 +1,296 @@
+//! The device.
+
+ghost use Rattle.std.specs.Prelude.{◌≡◌, ◌<◌, ◌≤◌, length, IfOk, true, is_some};
+ghost use Rattle.std.specs.List.{list_any};
+ghost use Rattle.world.specs.Config.{AreOpening, AreFresh, Opens, is_config};
+ghost use Rattle.world.specs.World.{TurnsAt, AreFitting};
+
+use crate::config::{Config, StartFault, UnitSpec, form};
+use crate::queue::Queue;
+use crate::serving::take_turn;
+use crate::unit::Unit;
+use block_store::NoMemory;
+use guest_mem::GuestMem;
+use ring_core::{Form, Layout, QueueLog};
+use std::alloc::Global;
+use std::marker::Model;
+
+/// The number of the first request queue: queue 0 is the control queue, queue 1 the event queue
+/// (VIRTIO 1.2, 5.6.2).
+const FIRST_REQUEST_QUEUE: usize = 2;
+
+/// A turn at the queue of this number.
+fn turn_of(
+    alloc: Global,
+    memory: &mut GuestMem,
+    queues: &mut [Queue],
+    units: &mut [Unit],
+    number: usize,
+) -> Result<bool, NoMemory>
+    requires inside { number < length queues.old }
+    requires fits { AreFitting queues.old memory.old }
+    ensures turn { TurnsAt (record { memory = memory.old; queues = queues.old; units = units.old }) number result (record { memory = memory.new; queues = queues.new; units = units.new }) }
+    ensures fits { AreFitting queues.new memory.new }
+{
+    take_turn(alloc, &mut queues[number], memory, units)
+}
+
+/// Whether a fault of the guest broke a queue.
+fn is_any_broken(queues: &[Queue]) -> bool
+    ensures { result ≡ list_any (λ q. is_some q.ring.broken) queues.now }
+{
+    queues.iter().any(|queue| queue.is_broken())
+}
+
+/// The device: guest memory, its queues and its units.
+#[derive(Drop)]
+pub struct World {
+    alloc: Global,
+    memory: GuestMem,
+    queues: Vec<Queue>,
+    units: Vec<Unit>,
+}
+
+impl Model for World {
+    ghost use Rattle.world.specs.World.{PlainWorld, AreFitting};
+
+    ghost Value = { PlainWorld };
+
+    ghost view = { λ w. record { memory = w.memory; queues = w.queues.items; units = w.units.items } };
+
+    ghost invariant = { λ w. AreFitting w.queues.items w.memory };
+}
+
+/// The queues of these layouts, of which nothing was fetched yet.
+fn open_queues(
+    alloc: Global,
+    form: Form,
+    layouts: &[Layout],
+    memory: &GuestMem,
+) -> Result<Vec<Queue>, NoMemory>
+    requires { length layouts.now ≤ 18 }
+    ensures { IfOk result (λ queues. AreOpening form (length memory.now) layouts.now queues.items) }
+{
+    let mut queues = Vec::new(alloc);
+    for number in 0..layouts.len() {
+        let queue = Queue::new(alloc, form, number as u16, layouts[number], memory)?;
+        if queues.push(queue).is_err() {
+            return Err(NoMemory);
+        }
+    }
+    Ok(queues)
+}
+
+/// The units that are wanted, that ran nothing yet.
+fn open_units(alloc: Global, wanted: &[UnitSpec]) -> Result<Vec<Unit>, NoMemory>
+    requires { length wanted.now ≤ 64 }
+    ensures { IfOk result (λ units. AreFresh wanted.now units.items) }
+{
+    let mut units = Vec::new(alloc);
+    for number in 0..wanted.len() {
+        let unit = Unit::new(alloc, &wanted[number], wanted)?;
+        if units.push(unit).is_err() {
+            return Err(NoMemory);
+        }
+    }
+    Ok(units)
+}
+
+/// The device of a configuration that is valid.
+fn open_world(alloc: Global, config: &Config) -> Result<World, NoMemory>
+    requires { is_config config.now ≡ true }
+    ensures { IfOk result (λ w. Opens config.now w) }
+{
+    let Some(form) = form(config.features) else {
+        unreachable!()
+    };
+    let Ok(memory) = GuestMem::new(alloc, config.pages) else {
+        return Err(NoMemory);
+    };
+    let queues = open_queues(alloc, form, config.queues.as_slice(), &memory)?;
+    let units = open_units(alloc, config.units.as_slice())?;
+    Ok(World {
+        alloc,
+        memory,
+        queues,
+        units,
+    })
+}
+
+impl World {
+    ghost use Rattle.std.specs.Prelude.{true, ◌↔◌, IsTrue, slice_get};
+    ghost use Rattle.std.specs.Bool.{OnTrue, OnFalse};
+    ghost use Rattle.std.specs.Option.{option_copied, option_map};
+    ghost use Rattle.guest_mem.specs.Memory.{with_bytes, LiesIn};
+    ghost use Rattle.world.specs.Config.{is_config, Opens, RefusedAs};
+    ghost use Rattle.std.specs.Prelude.{◌≡◌, ◌<◌, length, MatchResult, List};
+    ghost use Rattle.world.specs.World.{PlainWorld, TurnsAt, NextTurns, Settles, Runs};
+    ghost use Rattle.world.specs.Views.{unit_at, status_of, Gives};
+
+    /// The device of a configuration. Whoever sets it up calls it once. `BadConfig` exactly where
+    /// the configuration isn't valid; else `NoMemory` where a growth was refused.
+    pub fn new(alloc: Global, config: &Config) -> Result<World, StartFault>
+        ensures { MatchResult result (λ w. (is_config config.now ≡ true) × Opens config.now w) (λ fault. RefusedAs config.now fault) }
+    {
+        if !config.is_valid() {
+            return Err(StartFault::BadConfig);
+        }
+        match open_world(alloc, config) {
+            Ok(world) => Ok(world),
+            Err(NoMemory) => Err(StartFault::NoMemory),
+        }
+    }
+
+    /// The guest's write: puts bytes at an address. False, with nothing changed, where one of them
+    /// would lie outside memory.
+    pub fn poke(&mut self, addr: u64, bytes: &[u8]) -> bool
+        ensures inside { IsTrue result ↔ LiesIn (length self.old.memory) addr (length bytes.now) }
+        ensures written { OnTrue result (self.new ≡ record self.old { memory = with_bytes self.old.memory addr bytes.now }) }
+        ensures unchanged { OnFalse result (self.new ≡ self.old) }
+    {
+        self.memory.write(addr, bytes).is_ok()
+    }
+
+    /// Guest memory.
+    pub fn memory(&self) -> &GuestMem
+        ensures { result.now ≡ self.now.memory }
+    {
+        &self.memory
+    }
+
+    /// How many queues there are.
+    pub fn queues(&self) -> usize
+        ensures { result ≡ length self.now.queues }
+    {
+        self.queues.len()
+    }
+
+    /// The queue of a number; `None` where there is none.
+    pub fn queue(&self, number: u16) -> Option<&Queue>
+        ensures { option_copied result ≡ slice_get self.now.queues number }
+    {
+        self.queues.get(number as usize)
+    }
+
+    /// The log of a queue: which chains it accepted, and which were used.
+    pub fn log(&self, number: u16) -> Option<&QueueLog>
+        ensures { option_copied result ≡ option_map (λ q. q.ring.log) (slice_get self.now.queues number) }
+    {
+        match self.queues.get(number as usize) {
+            Some(queue) => Some(queue.log()),
+            None => None,
+        }
+    }
+
+    /// How many notices a queue's driver wanted.
+    pub fn notices(&self, number: u16) -> Option<u64>
+        ensures { result ≡ option_map (λ q. q.notices) (slice_get self.now.queues number) }
+    {
+        match self.queues.get(number as usize) {
+            Some(queue) => Some(queue.notices()),
+            None => None,
+        }
+    }
+
+    /// The device's status: 64, DEVICE_NEEDS_RESET (VIRTIO 1.2, 2.1), where a queue is broken,
+    /// else 0.
+    pub fn status(&self) -> u8
+        ensures { result ≡ status_of self.now }
+    {
+        if is_any_broken(self.queues.as_slice()) {
+            64
+        } else {
+            0
+        }
+    }
+
+    /// The unit of an address; `None` where there is none.
+    pub fn unit(&self, target: u8, lun: u16) -> Option<&Unit>
+        ensures { option_copied result ≡ unit_at self.now target lun }
+    {
+        self.units
+            .iter()
+            .find(|unit| unit.target() == target && unit.lun() == lun)
+    }
+
+    /// The capacity in blocks of the unit of an address; `None` where there is none.
+    pub fn capacity(&self, target: u8, lun: u16) -> Option<u64>
+        ensures { result ≡ option_map (λ u. u.capacity) (unit_at self.now target lun) }
+    {
+        match self.unit(target, lun) {
+            Some(unit) => Some(unit.capacity()),
+            None => None,
+        }
+    }
+
+    /// Appends the bytes of blocks of a unit, as its commands left them. False where the unit is
+    /// absent or a block lies at or above its capacity, `NoMemory` where the list can't grow.
+    pub fn read_blocks(
+        &self,
+        target: u8,
+        lun: u16,
+        first: u64,
+        count: u32,
+        into: &mut Vec<u8>,
+    ) -> Result<bool, NoMemory>
+        ensures { Gives (unit_at self.now target lun) first count into.old.items result into.new.items }
+    {
+        match self.unit(target, lun) {
+            Some(unit) => {
+                let capacity = unit.capacity();
+                if first > capacity || count as u64 > capacity - first {
+                    return Ok(false);
+                }
+                unit.read_blocks(first, count, into)?;
+                Ok(true)
+            }
+            None => Ok(false),
+        }
+    }
+
+    /// A turn at one queue.
+    fn turn_at(&mut self, number: usize) -> Result<bool, NoMemory>
+        requires { number < length self.old.queues }
+        ensures { TurnsAt self.old number result self.new }
+    {
+        turn_of(
+            self.alloc,
+            &mut self.memory,
+            self.queues.as_mut_slice(),
+            self.units.as_mut_slice(),
+            number,
+        )
+    }
+
+    /// A turn at the lowest request queue at which something is to be done; whether there was one.
+    fn next_turn(&mut self) -> Result<bool, NoMemory>
+        ensures { NextTurns self.old result self.new }
+    {
+        for number in FIRST_REQUEST_QUEUE..self.queues.len() {
+            match self.turn_at(number) {
+                Ok(false) => {}
+                Ok(true) => return Ok(true),
+                Err(NoMemory) => return Err(NoMemory),
+            }
+        }
+        Ok(false)
+    }
+
+    /// Serves chains until no request queue has one: after each, the lowest queue that has a chain.
+    /// Answers how many chains were served and queues were broken. A queue that a fault of its guest
+    /// broke is served no more. `NoMemory` where a fetch was refused memory: what was served before
+    /// stands, and nothing else changed.
+    pub fn settle(&mut self) -> Result<u64, NoMemory>
+        ensures { MatchResult result (λ count. Settles self.old count self.new) (λ _. (passed : List PlainWorld) × Runs self.old passed self.new) }
+    {
+        // Each step lengthens a log or breaks a queue, and no log holds so many tickets.
+        for count in 0..u64::MAX {
+            match self.next_turn() {
+                Ok(true) => {}
+                Ok(false) => return Ok(count),
+                Err(NoMemory) => return Err(NoMemory),
+            }
+        }
+        Err(NoMemory)
+    }
+}
