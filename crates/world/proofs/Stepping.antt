@@ -33,8 +33,10 @@ turned old n q q' m' units' (Ok false) lt is (idle, (same_queue, same_memory, sa
           subst (λ (y : PlainQueue). IsIdle y.ring old.memory) e idle,
     )
 turned old n q q' m' units' (Err e) lt is (lacks, (same_queue, same_memory, same_units)) =
-    let back : set old.queues n q' ≡ old.queues = ap (λ (x : PlainQueue). set old.queues n x) same_queue ∙ set_same old.queues n q lt is in
-    rw (back, same_memory, same_units) refl
+    let back : set old.queues n q' ≡ old.queues = ap (λ (x : PlainQueue). set old.queues n x) same_queue ∙ set_same old.queues n q lt is in (
+      rw (back, same_memory, same_units) refl,
+      (q, slice_get_read old.queues (length old.queues) n q refl lt is, lacks),
+    )
 
 pub still_fitting : (queues : List PlainQueue) (m m' : List ℕ) (n : ℕ) (q q' : PlainQueue) → AreFitting queues m → length m' ≡ length m → n < length queues → q ≡ get_or queues n q
     → q'.ring.memory ≡ q.ring.memory → AreFitting (set queues n q') m'

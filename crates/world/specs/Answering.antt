@@ -1,9 +1,10 @@
 -- What a fetched request is answered, and what that leaves of the units.
-use Rattle.std.specs.Prelude.{ℕ, ◌≡◌, ◌⊎◌, List, [], ◌++◌, drop, slice_get, slice_set, Some}
+use Rattle.std.specs.Prelude.{ℕ, ◌≡◌, ◌⊎◌, IsTrue, List, [], ◌++◌, drop, slice_get, slice_set, Some}
 use Rattle.sense.specs.Conditions.{invalid_message_error}
 use Rattle.cdb.specs.declared.commands.Command.{Command}
 use Rattle.ring_core.specs.declared.log.Ticket.{Ticket}
 use Rattle.block_commands.specs.Absent.{absent_reply}
+use Rattle.block_commands.specs.Memory.{absent_wants}
 use Rattle.block_commands.specs.PlainReply.{refusal}
 use Rattle.block_commands.specs.Replies.{data_of}
 use Rattle.world.specs.Unit.{PlainUnit, reply_now, committing}
@@ -35,7 +36,7 @@ AnswersAs (Failed code) units ticket n bytes answer after = (answer ≡ failed c
 AnswersAs BadAttribute units ticket n bytes answer after =
     (answer ≡ answer_of_reply n.readable n.writable (refusal invalid_message_error)) × (after ≡ units)
 AnswersAs (Absent c) units ticket n bytes answer after =
-    ((answer ≡ answer_of_reply n.readable n.writable (absent_reply c)) ⊎ IsBusy n answer) × (after ≡ units)
+    ((answer ≡ answer_of_reply n.readable n.writable (absent_reply c)) ⊎ (IsTrue (absent_wants c) × IsBusy n answer)) × (after ≡ units)
 AnswersAs (Enter place c) units ticket n bytes answer after =
     (old : PlainUnit) × (new : PlainUnit) × (slice_get units place ≡ Some old)
     × RunsOn old ticket c n bytes answer new × (after ≡ slice_set units place new)

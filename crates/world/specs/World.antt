@@ -1,6 +1,7 @@
 -- The device as a plain value, and its runs: one queue after another is served.
-use Rattle.std.specs.Prelude.{ℕ, ◌≡◌, ◌⊎◌, ◌≤◌, ◌<◌, List, [], ◌∷◌, length, slice_get, slice_set, Some, Bool, true, false, Result, Ok, Err}
+use Rattle.std.specs.Prelude.{ℕ, ◌≡◌, ◌⊎◌, ◌≤◌, ◌<◌, ◌+◌, ◌^◌, List, [], ◌∷◌, length, slice_get, slice_set, Some, Bool, true, false, Result, Ok, Err}
 use Rattle.block_store.specs.declared.NoMemory.{NoMemory}
+use Rattle.ring_core.specs.Offer.{MayLackMemory}
 use Rattle.world.specs.Queue.{PlainQueue, IsIdle}
 use Rattle.world.specs.Unit.{PlainUnit}
 use Rattle.world.specs.Serving.{Serves, OnlyBreaks}
@@ -24,11 +25,15 @@ pub record StepAt (old : PlainWorld) (number : ℕ) (new : PlainWorld) : Type 0 
 abbrev pub IdleAt : PlainWorld → ℕ → Type 0
 IdleAt w number = (q : PlainQueue) → slice_get w.queues number ≡ Some q → IsIdle q.ring w.memory
 
+-- at the queue of this number there is what a fetch may be refused memory for
+abbrev pub WantsAt : PlainWorld → ℕ → Type 0
+WantsAt w number = (q : PlainQueue) × (slice_get w.queues number ≡ Some q) × MayLackMemory q.ring w.memory
+
 -- a turn at the queue of this number: that something changed, that nothing was to be done, or want of memory
 abbrev pub TurnsAt : PlainWorld → ℕ → Result Bool NoMemory → PlainWorld → Type 0
 TurnsAt old number (Ok true) new = StepAt old number new
 TurnsAt old number (Ok false) new = (new ≡ old) × IdleAt old number
-TurnsAt old number (Err e) new = new ≡ old
+TurnsAt old number (Err e) new = (new ≡ old) × WantsAt old number
 
 -- at no request queue below this number is anything to be done
 abbrev pub IdleBelow : PlainWorld → ℕ → Type 0
@@ -47,15 +52,23 @@ abbrev pub Runs : PlainWorld → List PlainWorld → PlainWorld → Type 0
 Runs old [] new = new ≡ old
 Runs old (next ∷ later) new = Steps old next × Runs next later new
 
+-- the lowest request queue at which something is to be done has what a fetch may be refused memory for
+abbrev pub WantsMemory : PlainWorld → Type 0
+WantsMemory w = (number : ℕ) × (2 ≤ number) × IdleBelow w number × WantsAt w number
+
 -- the next step, if there is one
 abbrev pub NextTurns : PlainWorld → Result Bool NoMemory → PlainWorld → Type 0
 NextTurns old (Ok true) new = Steps old new
 NextTurns old (Ok false) new = (new ≡ old) × IsSettled old
-NextTurns old (Err e) new = new ≡ old
+NextTurns old (Err e) new = (new ≡ old) × WantsMemory old
 
 -- a run of so many steps to where nothing is left to do
 abbrev pub Settles : PlainWorld → ℕ → PlainWorld → Type 0
 Settles old count new = (passed : List PlainWorld) × Runs old passed new × (length passed ≡ count) × IsSettled new
+
+-- a run to where a fetch may be refused memory, or of the most steps that can be counted
+abbrev pub EndsForMemory : PlainWorld → PlainWorld → Type 0
+EndsForMemory old new = (passed : List PlainWorld) × Runs old passed new × (WantsMemory new ⊎ (length passed + 1 ≡ 2 ^ 64))
 
 -- each ring was made with a memory of this size
 abbrev pub AreFitting : List PlainQueue → List ℕ → Type 0

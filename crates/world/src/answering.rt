@@ -1,8 +1,9 @@
 //! Answering a request that was fetched.
 
-ghost use Rattle.std.specs.Prelude.{◌≡◌, ◌+◌, ◌≤◌, ◌<◌, ◌^◌, ◌⊎◌, length, drop};
+ghost use Rattle.std.specs.Prelude.{◌≡◌, ◌+◌, ◌≤◌, ◌<◌, ◌^◌, ◌⊎◌, IsTrue, length, drop};
 ghost use Rattle.sense.specs.Conditions.{invalid_message_error};
 ghost use Rattle.block_commands.specs.Absent.{absent_reply};
+ghost use Rattle.block_commands.specs.Memory.{absent_wants};
 ghost use Rattle.block_commands.specs.PlainReply.{refusal};
 ghost use Rattle.block_commands.specs.Replies.{data_of};
 ghost use Rattle.world.specs.Answers.{answer_of_reply};
@@ -44,7 +45,7 @@ fn bad_attribute(alloc: Global, lengths: &ChainLengths) -> Answer
 fn absent(alloc: Global, lengths: &ChainLengths, command: &Command) -> Answer
     requires sum { lengths.now.readable + lengths.now.writable ≤ 2 ^ 32 }
     requires room { RESPONSE_BYTES + (need_of command.now).into ≤ lengths.now.writable }
-    ensures bytes { (bytes_of result ≡ answer_of_reply lengths.now.readable lengths.now.writable (absent_reply command.now)) ⊎ IsBusy lengths.now (bytes_of result) }
+    ensures bytes { (bytes_of result ≡ answer_of_reply lengths.now.readable lengths.now.writable (absent_reply command.now)) ⊎ (IsTrue (absent_wants command.now) × IsBusy lengths.now (bytes_of result)) }
     ensures fits { length (bytes_of result) ≤ lengths.now.writable }
 {
     match exec_absent(alloc, command) {

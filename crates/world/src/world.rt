@@ -123,8 +123,8 @@ impl World {
     ghost use Rattle.std.specs.Option.{option_copied, option_map};
     ghost use Rattle.guest_mem.specs.Memory.{with_bytes, LiesIn};
     ghost use Rattle.world.specs.Config.{is_config, Opens, RefusedAs};
-    ghost use Rattle.std.specs.Prelude.{◌≡◌, ◌<◌, length, MatchResult, List};
-    ghost use Rattle.world.specs.World.{PlainWorld, TurnsAt, NextTurns, Settles, Runs};
+    ghost use Rattle.std.specs.Prelude.{◌≡◌, ◌<◌, length, MatchResult};
+    ghost use Rattle.world.specs.World.{TurnsAt, NextTurns, Settles, EndsForMemory};
     ghost use Rattle.world.specs.Views.{unit_at, status_of, Gives};
 
     /// The device of a configuration. Whoever sets it up calls it once. `BadConfig` exactly where
@@ -278,10 +278,10 @@ impl World {
 
     /// Serves chains until no request queue has one: after each, the lowest queue that has a chain.
     /// Answers how many chains were served and queues were broken. A queue that a fault of its guest
-    /// broke is served no more. `NoMemory` where a fetch was refused memory: what was served before
-    /// stands, and nothing else changed.
+    /// broke is served no more. `NoMemory` where a fetch was refused memory, which has something to
+    /// fetch then: what was served before stands, and nothing else changed.
     pub fn settle(&mut self) -> Result<u64, NoMemory>
-        ensures { MatchResult result (λ count. Settles self.old count self.new) (λ _. (passed : List PlainWorld) × Runs self.old passed self.new) }
+        ensures { MatchResult result (λ count. Settles self.old count self.new) (λ _. EndsForMemory self.old self.new) }
     {
         // Each step lengthens a log or breaks a queue, and no log holds so many tickets.
         for count in 0..u64::MAX {
