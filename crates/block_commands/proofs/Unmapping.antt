@@ -70,3 +70,25 @@ unmapped-in_range facts n bytes blocks ended =
       | inl empty ↦ rw (descriptors-none bytes empty.1) refl
       | inr some ↦ tested-good n _ _ _ (rw (none, some.0) at ended)
     ]
+
+-- and it passed the test on its number of descriptors and of blocks
+counted-good : (n : ℕ) (cut too_much inside : Bool) →
+    (replied (Unmap n) (if cut then Err parameter_list_length_error else (if too_much then Err invalid_field_in_parameter_list else (if inside then done else Err lba_out_of_range)))).status ≡ good →
+    too_much ≡ false
+counted-good n true too_much inside ended = absurd (omega arith)
+counted-good n false true inside ended = absurd (omega arith)
+counted-good n false false inside ended = refl
+
+neither : (a b : Bool) → (a || b) ≡ false → (a ≡ false) × (b ≡ false)
+neither true b never = absurd (search rules)
+neither false b holds = (refl, holds)
+
+-- neither is over its limit
+pub unmapped-counted : (facts : Facts) (n : ℕ) (bytes : List ℕ) (blocks : Blocks) → (reply_of facts (Unmap n) bytes blocks).status ≡ good →
+    (nat_lt 16 (length (descriptors bytes)) ≡ false) × (nat_lt 65536 (blocks_named (descriptors bytes)) ≡ false)
+unmapped-counted facts n bytes blocks ended =
+    let none : facts.pending ≡ None = reported-good facts.pending _ ended in
+    elim (eqb_tells (length bytes) 0) [
+      | inl empty ↦ rw (descriptors-none bytes empty.1) (refl, refl)
+      | inr some ↦ neither _ _ (counted-good n _ _ _ (rw (none, some.0) at ended))
+    ]

@@ -1,10 +1,11 @@
 //! What follows from the definitions alone.
 
-ghost use Rattle.std.specs.Prelude.{◌≡◌, ◌≢◌, ◌⊎◌, ℕ, ◌+◌, ◌*◌, ◌<◌, [], List, length, slice_index, IsTrue, IsFalse, Some, None};
+ghost use Rattle.std.specs.Prelude.{◌≡◌, ◌≢◌, ◌⊎◌, ℕ, ◌+◌, ◌*◌, ◌<◌, ◌≤◌, [], List, length, slice_index, IsTrue, IsFalse, Some, None};
 ghost use Rattle.sense.specs.declared.Sense.{Sense};
 ghost use Rattle.sense.specs.Conditions.{miscompare};
 ghost use Rattle.cdb.specs.declared.commands.InquiryData.{InquiryData};
 ghost use Rattle.cdb.specs.declared.commands.SelectReport.{SelectReport};
+ghost use Rattle.cdb.specs.Fields.{number};
 ghost use Rattle.cdb.specs.Need.{need_of};
 ghost use Rattle.block_store.specs.Blocks.{Blocks, run, zero_block};
 ghost use Rattle.block_commands.specs.Attention.{takes};
@@ -12,14 +13,15 @@ ghost use Rattle.block_commands.specs.Capacity.{is_in_range};
 ghost use Rattle.block_commands.specs.Comparing.{to_compare};
 ghost use Rattle.block_commands.specs.Effects.{block_after};
 ghost use Rattle.block_commands.specs.Facts.{Facts};
+ghost use Rattle.block_commands.specs.Inquiry.{limits_page};
 ghost use Rattle.block_commands.specs.PlainReply.{success, refusal};
 ghost use Rattle.block_commands.specs.Replies.{reply_of};
 ghost use Rattle.block_commands.specs.Statuses.{good, check_condition, busy, task_set_full};
-ghost use Rattle.block_commands.specs.UnmapList.{descriptors, are_in_range, is_named};
+ghost use Rattle.block_commands.specs.UnmapList.{blocks_named, descriptors, are_in_range, is_named};
 
 use crate::reply::{BUSY, CHECK_CONDITION, GOOD, TASK_SET_FULL};
 use block_store::written_is_read_back;
-use cdb::Command;
+use cdb::{Command, MOST_COMPARE_BLOCKS, MOST_TRANSFER_BLOCKS, MOST_WRITE_SAME_BLOCKS};
 
 /// Each constant is the status code of its name.
 pub fn status_codes()
@@ -99,6 +101,20 @@ pub fn unmapped_whole()
     ensures others { (list_length : ℕ) (bytes : List ℕ) (blocks : Blocks) (b : ℕ) →
         IsFalse (is_named (descriptors bytes) b) →
         block_after (Command.Unmap list_length) bytes good blocks b ≡ blocks b }
+{}
+
+/// The page Block Limits names the limits that commands are held to: that of a READ or a WRITE, of a
+/// COMPARE AND WRITE, of a WRITE SAME, and those of an UNMAP that is GOOD.
+pub fn limits_are_told()
+    ensures transfer { number 8 11 limits_page ≡ MOST_TRANSFER_BLOCKS }
+    ensures compare { number 5 5 limits_page ≡ MOST_COMPARE_BLOCKS }
+    ensures write_same { number 36 43 limits_page ≡ MOST_WRITE_SAME_BLOCKS }
+    ensures unmap_descriptors { (facts : Facts) (list_length : ℕ) (bytes : List ℕ) (blocks : Blocks) →
+        (reply_of facts (Command.Unmap list_length) bytes blocks).status ≡ good →
+        length (descriptors bytes) ≤ number 24 27 limits_page }
+    ensures unmap_blocks { (facts : Facts) (list_length : ℕ) (bytes : List ℕ) (blocks : Blocks) →
+        (reply_of facts (Command.Unmap list_length) bytes blocks).status ≡ good →
+        blocks_named (descriptors bytes) ≤ number 20 23 limits_page }
 {}
 
 /// INQUIRY and REPORT LUNS leave an attention, and are answered as if there were none.
