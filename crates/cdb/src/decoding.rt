@@ -1,13 +1,16 @@
 //! From the bytes of a CDB to its command.
 
-ghost use Rattle.std.specs.Prelude.{◌≡◌, ◌<◌, ◌≤◌, ◌/◌, ◌%◌, ◌^◌, ◌==◌, [], ◌∷◌, if◌then◌else◌, unwrap_or};
-ghost use Rattle.cdb.specs.Fields.{bit, bits, byte, is_over, is_set, number};
-ghost use Rattle.cdb.specs.Profile.{length_6, lba_6, page_of, protect};
+ghost use Rattle.std.specs.Prelude.{◌≡◌, ◌<◌, ◌≤◌, ◌==◌, [], ◌∷◌, if◌then◌else◌, unwrap_or};
+ghost use Rattle.cdb.specs.Fields.{bit, bits, byte, is_over, is_set};
+ghost use Rattle.cdb.specs.Profile.{page_of, protect};
 ghost use Rattle.cdb.specs.Decoding.{command, fields_of, unless};
 
 use crate::commands::{
     CDB_BYTES, Command, InquiryData, MOST_COMPARE_BLOCKS, MOST_TRANSFER_BLOCKS,
     MOST_WRITE_SAME_BLOCKS, SelectReport,
+};
+use crate::fields::{
+    Blocks, blocks_10, blocks_12, blocks_16, has_bit, has_protect, lba_6, lba_64, length_6, low_bits,
 };
 use crate::opcodes;
 use byteorder::{BigEndian, ByteOrder};
@@ -20,15 +23,6 @@ const NO_PAGE: u8 = 0x00;
 
 /// The bit NACA of the control byte (SAM-5 §5.2).
 const NACA: u8 = 2;
-
-/// The blocks that a CDB names.
-#[derive(Clone, Copy)]
-struct Blocks {
-    /// The first block.
-    lba: u64,
-    /// How many.
-    count: u32,
-}
 
 /// The command that a CDB asks for, with its fields read and held against the device's limits.
 /// Whatever stands in the CDB there is one: a command of the profile whose fields are refused, or
@@ -312,92 +306,4 @@ fn compare_and_write(cdb: &[u8; CDB_BYTES]) -> Option<Command>
         lba: lba_64(cdb),
         blocks,
     })
-}
-
-/// The logical block address of 21 bits in a CDB of 6 bytes.
-fn lba_6(cdb: &[u8; CDB_BYTES]) -> u64
-    ensures { result ≡ lba_6 cdb.now }
-{
-    let high = u64::from(low_bits(cdb[1], 5));
-    (high << 16) + u64::from(BigEndian::read_u16(&cdb[2..4]))
-}
-
-/// The logical block address in a CDB of 10 or 12 bytes.
-fn lba_32(cdb: &[u8; CDB_BYTES]) -> u64
-    ensures { result ≡ number 2 5 cdb.now }
-{
-    u64::from(BigEndian::read_u32(&cdb[2..6]))
-}
-
-/// The logical block address in a CDB of 16 bytes.
-fn lba_64(cdb: &[u8; CDB_BYTES]) -> u64
-    ensures { result ≡ number 2 9 cdb.now }
-{
-    BigEndian::read_u64(&cdb[2..10])
-}
-
-/// The transfer length in a CDB of 6 bytes, in blocks: 0 means 256.
-fn length_6(cdb: &[u8; CDB_BYTES]) -> u16
-    ensures { result ≡ length_6 cdb.now }
-{
-    match cdb[4] {
-        0 => 256,
-        length => u16::from(length),
-    }
-}
-
-/// The blocks of a CDB of 10 bytes.
-fn blocks_10(cdb: &[u8; CDB_BYTES]) -> Blocks
-    ensures lba { result.lba ≡ number 2 5 cdb.now }
-    ensures count { result.count ≡ number 7 8 cdb.now }
-{
-    Blocks {
-        lba: lba_32(cdb),
-        count: u32::from(BigEndian::read_u16(&cdb[7..9])),
-    }
-}
-
-/// The blocks of a CDB of 12 bytes.
-fn blocks_12(cdb: &[u8; CDB_BYTES]) -> Blocks
-    ensures lba { result.lba ≡ number 2 5 cdb.now }
-    ensures count { result.count ≡ number 6 9 cdb.now }
-{
-    Blocks {
-        lba: lba_32(cdb),
-        count: BigEndian::read_u32(&cdb[6..10]),
-    }
-}
-
-/// The blocks of a CDB of 16 bytes.
-fn blocks_16(cdb: &[u8; CDB_BYTES]) -> Blocks
-    ensures lba { result.lba ≡ number 2 9 cdb.now }
-    ensures count { result.count ≡ number 10 13 cdb.now }
-{
-    Blocks {
-        lba: lba_64(cdb),
-        count: BigEndian::read_u32(&cdb[10..14]),
-    }
-}
-
-/// Whether RDPROTECT or WRPROTECT asks for protection information.
-fn has_protect(cdb: &[u8; CDB_BYTES]) -> bool
-    ensures { result ≡ protect cdb.now }
-{
-    cdb[1] >> 5 != 0
-}
-
-/// Whether this bit of a byte, 0 to 7, is 1.
-fn has_bit(byte: u8, place: u8) -> bool
-    requires { place < 8 }
-    ensures { result ≡ (byte / 2 ^ place % 2 == 1) }
-{
-    byte >> place & 1 == 1
-}
-
-/// The number in this many low bits of a byte, 0 to 7.
-fn low_bits(byte: u8, count: u8) -> u8
-    requires { count < 8 }
-    ensures { result ≡ byte % 2 ^ count }
-{
-    byte % (1 << count)
 }

@@ -4,6 +4,7 @@
 
 mod commands;
 mod decoding;
+mod fields;
 pub mod laws;
 mod opcodes;
 mod transfers;
