@@ -1,5 +1,9 @@
 //! How the program ends.
 
+ghost use Rattle.std.specs.Prelude.{◌≡◌};
+ghost use Rattle.std.specs.Process.{exit_status};
+ghost use Rattle.vscsi.specs.Endings.{status_of};
+
 use guest_script::ScriptFault;
 use std::io;
 use std::process::ExitCode;
@@ -23,16 +27,24 @@ pub enum Ending {
 
 impl Ending {
     /// Says on standard error what is to be said, and gives the status.
-    pub fn report<R: Eprint>(self, rt: &R) -> ExitCode {
-        let status = match &self {
+    pub fn report<R: Eprint>(self, rt: &R) -> ExitCode
+        ensures { exit_status result ≡ status_of self }
+    {
+        // Where standard error fails too, the status says what there is to say.
+        let _ = self.say(rt);
+        ExitCode::from(self.status())
+    }
+
+    /// The exit status.
+    fn status(&self) -> u8
+        ensures { result ≡ status_of self.now }
+    {
+        match self {
             Ending::Done => 0,
             Ending::Fault(_) | Ending::CannotWrite => 1,
             Ending::Refused(_) | Ending::NoText => 2,
             Ending::NoMemory => 3,
-        };
-        // Where standard error fails too, the status says what there is to say.
-        let _ = self.say(rt);
-        ExitCode::from(status)
+        }
     }
 
     /// Says what is to be said.
