@@ -1,5 +1,4 @@
 mod commands;
-mod examples;
 mod failing;
 mod faults;
 mod header_faults;
