@@ -5,7 +5,7 @@ mod laws;
 mod memory;
 
 pub use laws::{keeps_other_bytes, reads_what_was_written};
-pub use memory::{GuestMem, MOST_PAGES, MemFault, PAGE_BYTES};
+pub use memory::{GuestMem, MemFault, PAGE_BYTES};
 
 #[cfg(test)]
 mod tests;

@@ -11,9 +11,6 @@ use std::marker::Model;
 /// The bytes of a page.
 pub const PAGE_BYTES: usize = 4096;
 
-/// The most pages that a memory has.
-pub const MOST_PAGES: u32 = 65536;
-
 /// Why a call on the memory was refused.
 #[derive(Clone, Copy, Debug, PartialEq, Eq)]
 pub enum MemFault {
@@ -52,8 +49,8 @@ impl GuestMem {
     /// Zero bytes for `pages` pages of 4,096 bytes, from 1 to 65,536. Whoever sets the guest up
     /// calls it once. The one refusal is `NoMemory`.
     pub fn new(alloc: Global, pages: u32) -> Result<GuestMem, MemFault>
-        requires { pages ≤ MOST_PAGES }
-        ensures zeros { IfOk result (λ m. m ≡ replicate (pages * PAGE_BYTES) 0) }
+        requires { pages ≤ 65536 }
+        ensures zeros { IfOk result (λ m. m ≡ replicate (pages * 4096) 0) }
         ensures fault { IfErr result (λ fault. fault ≡ MemFault.NoMemory) }
     {
         match vec![in alloc; 0; pages as usize * PAGE_BYTES] {

@@ -1,4 +1,5 @@
 use super::*;
+use std::fmt::Write;
 use std::test::Fail;
 
 #[test]
@@ -24,5 +25,14 @@ fn refuses_what_lies_behind_the_end(rt: HostRuntime) -> Result<(), Fail> {
     assert_eq!(rt; memory.write(2_097_152, &[]), Ok(()));
     assert_eq!(rt; memory.write(2_097_153, &[]), Err(MemFault::Outside));
     assert_eq!(rt; memory.write(u64::MAX, &[0, 0]), Err(MemFault::Outside));
+    Ok(())
+}
+
+#[test]
+fn refusals_have_words_and_numbers(rt: HostRuntime) -> Result<(), Fail> {
+    let mut words = String::new(rt.alloc());
+    write!(words, "{}, {}", MemFault::Outside, MemFault::NoMemory)?;
+    assert_eq!(rt; words.as_str(), "outside guest memory, no memory");
+    assert_eq!(rt; (MemFault::Outside as u8, MemFault::NoMemory as u8), (1, 2));
     Ok(())
 }

@@ -10,7 +10,7 @@ use Rattle.ring_core.specs.declared.descriptor.Descriptor.{Descriptor}
 use Rattle.ring_core.specs.declared.before.Before.{Before}
 use Rattle.ring_core.specs.declared.fault.RingFault.{RingFault}
 use Rattle.ring_core.specs.declared.fault.RingFault.TheVariants.{NoMemory}
-use Rattle.ring_core.proofs.Along.{Along, along_start, along_more, along_end, along_wrong}
+use Rattle.ring_core.proofs.Along.{Along, along_start, along_more, along_end, along_first, along_wrong}
 use Rattle.packed_ring.specs.Running.{IsWrong}
 
 right_total : (memory size : ℕ) (b : Before) (d : Descriptor) → packed_wrong memory size b d ≡ None → b.total + d.len ≤ 2 ^ 32
@@ -18,6 +18,9 @@ right_total memory size b d e = grind (arith, common_steps, nat_tests)
 
 right_next : (memory size : ℕ) (b : Before) (d : Descriptor) → packed_wrong memory size b d ≡ None → goes_on d ≡ true → b.count + 1 < size
 right_next memory size b d e on = grind (arith, common_steps, nat_tests)
+
+never_memory : (memory size : ℕ) (b : Before) (d : Descriptor) → packed_wrong memory size b d ≡ Some NoMemory → ⊥
+never_memory memory size b d e = grind (arith, common_steps, nat_tests)
 
 id_of_last : (ds : List Descriptor) (d : Descriptor) → id_of (ds ++ d ∷ []) ≡ d.next_or_id
 id_of_last [] d = refl
@@ -61,6 +64,11 @@ module _ (m : List ℕ) (l : Layout) (t : ℕ) where
         let e = along_end by_next (packed_wrong (length m) l.size) (slots_from l m t) n b parts d w.along is right off in
         (front at (suc n), e.0, e.1, rw (id_of_last, is) refl, omega (arith, length-front at (suc n)))
 
+    pub walked_first : packed_wrong (length m) l.size b d ≡ None → IsWrong m l t NoMemory
+    walked_first right =
+        let e : t + 0 ≡ t = omega arith in
+        rw e at (along_first by_next (packed_wrong (length m) l.size) (slots_from l m t) n b parts d w.along is right)
+
     pub walked_wrong : (f : RingFault) → packed_wrong (length m) l.size b d ≡ Some f → IsWrong m l t f
-    walked_wrong NoMemory bad = tt
+    walked_wrong NoMemory bad = absurd (never_memory (length m) l.size b d bad)
     walked_wrong f bad = along_wrong by_next (packed_wrong (length m) l.size) (slots_from l m t) n b parts d w.along is f bad

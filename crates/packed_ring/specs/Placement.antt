@@ -3,7 +3,7 @@ use Rattle.std.specs.Prelude.{ℕ, ◌≡◌, ◌+◌, ◌*◌, ◌%◌, ◌&&�
 use Rattle.ring_core.specs.declared.layout.Layout.{Layout}
 use Rattle.ring_core.specs.declared.layout.Features.{Features}
 use Rattle.ring_core.specs.declared.layout.LayoutFault.{LayoutFault}
-use Rattle.ring_core.specs.declared.layout.LayoutFault.TheVariants.{BadSize, BadAlignment, Outside, NoMemory}
+use Rattle.ring_core.specs.declared.layout.LayoutFault.TheVariants.{BadSize, BadAlignment, Outside}
 
 abbrev pub size_is_right : ℕ → Bool
 size_is_right size = nat_lt 0 size && nat_le size 32768
@@ -22,11 +22,6 @@ placement_fault memory l =
     cond (not (size_is_right l.size)) (Some BadSize)
     (cond (not (is_aligned l)) (Some BadAlignment)
     (cond (not (lies_in_memory memory l)) (Some Outside) None))
-
--- a refusal names it, or want of memory where nothing is wrong
-abbrev pub RefusedAs : ℕ → Layout → LayoutFault → Type 0
-RefusedAs memory l NoMemory = placement_fault memory l ≡ None
-RefusedAs memory l f = placement_fault memory l ≡ Some f
 
 -- neither indirect descriptors nor event indices were agreed
 abbrev pub no_features : Features

@@ -1,9 +1,9 @@
 -- What a look at the next slots answers.
-use Rattle.std.specs.Prelude.{ℕ, ◌≡◌, List, length, map, Option, Some, None, Result, Ok, Err}
+use Rattle.std.specs.Prelude.{ℕ, ◌≡◌, List, [], length, map, Option, Some, None, Result, Ok, Err}
 use Rattle.ring_core.specs.State.{RingState}
-use Rattle.ring_core.specs.Walk.{part_of}
-use Rattle.ring_core.specs.Packed.{PackedChain, PackedFails, id_of}
-use Rattle.ring_core.specs.Offer.{PackedOffers, Nothing, Found, Refused, HasEntryInForm}
+use Rattle.ring_core.specs.Walk.{part_of, amount}
+use Rattle.ring_core.specs.Packed.{slot_at, packed_wrong, PackedChain, PackedFails, id_of}
+use Rattle.ring_core.specs.Offer.{PackedOffers, Nothing, Found, Refused, BeginsInForm}
 use Rattle.ring_core.specs.declared.layout.Form.TheVariants.{Packed}
 use Rattle.ring_core.specs.declared.layout.Layout.{Layout}
 use Rattle.packed_ring.specs.declared.walk.Run.{Run}
@@ -17,14 +17,14 @@ IsRun m l t run =
     (chain : List Descriptor) × PackedChain m l t chain
     × (run.parts.items ≡ map part_of chain) × (run.id ≡ id_of chain) × (run.slots ≡ length chain)
 
--- this is wrong with the slots from there on, unless memory was refused
+-- this is wrong with the slots from there on; memory is wanted once the first descriptor was found right
 abbrev pub IsWrong : List ℕ → Layout → ℕ → RingFault → Type 0
-IsWrong m l t NoMemory = Unit {0}
+IsWrong m l t NoMemory = packed_wrong (length m) l.size (amount []) (slot_at l m t) ≡ None
 IsWrong m l t f = PackedFails m l t f
 
--- the offer of an unbroken queue, unless memory was refused
+-- the offer of an unbroken queue; memory is wanted only where a chain begins
 abbrev pub FaultFound : RingState → List ℕ → RingFault → Type 0
-FaultFound s m NoMemory = HasEntryInForm Packed s m
+FaultFound s m NoMemory = BeginsInForm Packed s m
 FaultFound s m f = PackedOffers s m (Refused f)
 
 abbrev pub Finds : RingState → List ℕ → Result (Option Run) RingFault → Type 0

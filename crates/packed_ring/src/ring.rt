@@ -39,23 +39,23 @@ impl Model for PackedRing {
 }
 
 impl PackedRing {
-    ghost use Rattle.std.specs.Prelude.{◌≡◌, length, MatchResult, None};
+    ghost use Rattle.std.specs.Prelude.{◌≡◌, length, MatchResult, None, Some};
     ghost use Rattle.ring_core.specs.State.{opening};
     ghost use Rattle.ring_core.specs.declared.layout.Form.TheVariants.{Packed};
-    ghost use Rattle.packed_ring.specs.Placement.{placement_fault, RefusedAs, no_features};
+    ghost use Rattle.packed_ring.specs.Placement.{placement_fault, no_features};
 
     /// A queue with this number at this place, of which nothing was fetched yet. Whoever sets the
     /// device up calls it once for each queue, with the memory that all later calls get. Refused
     /// are, in this order, a size that is 0 or above 32,768 (`BadSize`), a descriptor ring not
-    /// aligned to 16 or an event suppression area not to 4 (`BadAlignment`), one of them that
-    /// doesn't lie in memory (`Outside`), and want of memory (`NoMemory`).
+    /// aligned to 16 or an event suppression area not to 4 (`BadAlignment`), and one of them that
+    /// doesn't lie in memory (`Outside`). It takes no memory, so it is never `NoMemory`.
     pub fn new(
         alloc: Global,
         queue: u16,
         layout: Layout,
         memory: &GuestMem,
     ) -> Result<PackedRing, LayoutFault>
-        ensures made { MatchResult result (λ ring. (placement_fault (length memory.now) layout ≡ None) × (ring ≡ opening Packed queue layout no_features (length memory.now) ALL_IDS)) (λ fault. RefusedAs (length memory.now) layout fault) }
+        ensures made { MatchResult result (λ ring. (placement_fault (length memory.now) layout ≡ None) × (ring ≡ opening Packed queue layout no_features (length memory.now) ALL_IDS)) (λ fault. placement_fault (length memory.now) layout ≡ Some fault) }
     {
         let bytes = memory.size();
         check_layout(&layout, bytes)?;

@@ -1,5 +1,5 @@
 -- A step along a sequence of descriptors.
-use Rattle.std.proofs.Common.{◌≡◌, ℕ, suc, ◌+◌, List, [], ◌∷◌, ◌++◌, length, Bool, true, false, Option, Some, None, refl, arith, map, below_more, add-one, length-append, ◌||◌, sum_by}
+use Rattle.std.proofs.Common.{◌≡◌, ℕ, zero, suc, ◌+◌, List, [], ◌∷◌, ◌++◌, length, Bool, true, false, Option, Some, None, refl, arith, map, below_more, add-one, length-append, ◌||◌, sum_by}
 use Rattle.std.proofs.lemmas.Grind.{common_steps}
 use Rattle.std.proofs.lemmas.List.{map-append}
 use Rattle.std.proofs.lemmas.List.Sums.{sum_by-append}
@@ -31,6 +31,16 @@ module _ (on : Before → Descriptor → Bool) (wrong : Before → Descriptor �
   unfolding LeadsTo front
   along_start = record { leads = λ k lt. absurd (omega arith); amounts = refl; found = refl }
 
+  first_right : (n : ℕ) → LeadsTo on wrong at n → wrong (amount (front at n)) (at n) ≡ None → wrong (amount []) (at 0) ≡ None
+  unfolding LeadsTo front
+  first_right zero leads right = right
+  first_right (suc n) leads right = (leads 0 (omega arith)).0
+
+  -- the first descriptor of a chain is right
+  pub chain_first : (chain : List Descriptor) → IsChain on wrong at chain → wrong (amount []) (at 0) ≡ None
+  unfolding IsChain
+  chain_first chain (n, leads, right, off, is) = first_right n leads right
+
   module _ (n : ℕ) (b : Before) (parts : List Part) (d : Descriptor) (a : Along n b parts) (is : d ≡ at n) where
     known : (r : Option RingFault) → wrong b d ≡ r → wrong (amount (front at n)) (at n) ≡ r
     known r e = let p = a.amounts in cc
@@ -55,6 +65,9 @@ module _ (on : Before → Descriptor → Bool) (wrong : Before → Descriptor �
     pub along_end : wrong b d ≡ None → on b d ≡ false → IsChain on wrong at (front at (suc n)) × (parts ++ part_of d ∷ [] ≡ map part_of (front at (suc n)))
     unfolding IsChain
     along_end right off = ((n, a.leads, known None right, known_on false off, refl), longer)
+
+    pub along_first : wrong b d ≡ None → wrong (amount []) (at 0) ≡ None
+    along_first right = first_right n a.leads (known None right)
 
     pub along_wrong : (f : RingFault) → wrong b d ≡ Some f → IsFault on wrong at f
     unfolding IsFault

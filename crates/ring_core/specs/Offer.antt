@@ -1,9 +1,9 @@
 -- What a virtqueue has for the device, in either form.
-use Rattle.std.specs.Prelude.{ℕ, ◌≡◌, ◌≢◌, ◌≤◌, ◌⊎◌, Bool, true, false, List, length, map, Option, Some, None}
+use Rattle.std.specs.Prelude.{ℕ, ◌≡◌, ◌≢◌, ◌⊎◌, Bool, true, false, List, [], length, map, Option, Some, None}
 use Rattle.ring_core.specs.State.{RingState}
-use Rattle.ring_core.specs.Walk.{part_of}
-use Rattle.ring_core.specs.Split.{SplitChain, SplitFails, pending, next_head, entry_wrong, split_used, split_wants_notice}
-use Rattle.ring_core.specs.Packed.{PackedChain, PackedFails, is_available, id_of, whole_wrong, packed_used, packed_wants_notice}
+use Rattle.ring_core.specs.Walk.{part_of, amount}
+use Rattle.ring_core.specs.Split.{SplitChain, SplitFails, in_table, split_wrong, pending, next_head, entry_wrong, split_used, split_wants_notice}
+use Rattle.ring_core.specs.Packed.{PackedChain, PackedFails, slot_at, packed_wrong, is_available, id_of, whole_wrong, packed_used, packed_wants_notice}
 use Rattle.ring_core.specs.declared.descriptor.Part.{Part}
 use Rattle.ring_core.specs.declared.descriptor.Descriptor.{Descriptor}
 use Rattle.ring_core.specs.declared.fault.RingFault.{RingFault}
@@ -52,14 +52,17 @@ OffersUnless None s m o = OffersInForm s.form s m o
 abbrev pub Offers : RingState → List ℕ → Offer → Type 0
 Offers s m o = OffersUnless s.broken s m o
 
--- there is a chain, or a fault that comes behind the test of a split queue's idx
-abbrev pub HasEntryInForm : Form → RingState → List ℕ → Type 0
-HasEntryInForm Split s m = (pending s m ≢ 0) × (pending s m ≤ s.layout.size)
-HasEntryInForm Packed s m = is_available s m ≡ true
+-- a chain begins: there is an entry with nothing wrong, and nothing is wrong with the first descriptor
+abbrev pub BeginsInForm : Form → RingState → List ℕ → Type 0
+BeginsInForm Split s m =
+    (pending s m ≢ 0) × (entry_wrong s m ≡ None)
+    × (split_wrong (length m) s.layout.size (amount []) (in_table m s.layout.desc (next_head s m)) ≡ None)
+BeginsInForm Packed s m =
+    (is_available s m ≡ true) × (packed_wrong (length m) s.layout.size (amount []) (slot_at s.layout m s.accepted_slots) ≡ None)
 
--- in its place want of memory may be answered
+-- in the place of what comes behind that, want of memory may be answered
 abbrev pub MayLackMemory : RingState → List ℕ → Type 0
-MayLackMemory s m = (s.broken ≡ None) × HasEntryInForm s.form s m
+MayLackMemory s m = (s.broken ≡ None) × BeginsInForm s.form s m
 
 abbrev pub used_in_form : Form → RingState → List ℕ → ℕ → ℕ → List ℕ
 used_in_form Split s m id len = split_used s m id len

@@ -9,7 +9,7 @@ use Rattle.ring_core.specs.declared.descriptor.Descriptor.{Descriptor}
 use Rattle.ring_core.specs.declared.before.Before.{Before}
 use Rattle.ring_core.specs.declared.fault.RingFault.{RingFault}
 use Rattle.ring_core.specs.declared.fault.RingFault.TheVariants.{NoMemory}
-use Rattle.ring_core.proofs.Along.{Along, along_start, along_more, along_end, along_wrong}
+use Rattle.ring_core.proofs.Along.{Along, along_start, along_more, along_end, along_first, along_wrong}
 use Rattle.split_ring.specs.Walking.{IsWrong}
 
 right_total : (memory size : ℕ) (b : Before) (d : Descriptor) → split_wrong memory size b d ≡ None → b.total + d.len ≤ 2 ^ 32
@@ -20,6 +20,9 @@ right_next memory size b d e on = grind (arith, common_steps, nat_tests)
 
 right_count : (memory size : ℕ) (b : Before) (d : Descriptor) → split_wrong memory size b d ≡ None → goes_on d ≡ true → b.count + 1 < size
 right_count memory size b d e on = grind (arith, common_steps, nat_tests)
+
+never_memory : (memory size : ℕ) (b : Before) (d : Descriptor) → split_wrong memory size b d ≡ Some NoMemory → ⊥
+never_memory memory size b d e = grind (arith, common_steps, nat_tests)
 
 -- Where a walk stands after n descriptors.
 pub record Walked (m : List ℕ) (table size head n : ℕ) (before : Before) (number : ℕ) (parts : List Part) : Type 0 where
@@ -58,6 +61,10 @@ module _ (m : List ℕ) (table size head : ℕ) where
         let e = along_end by_next (split_wrong (length m) size) (path m table head) n b parts d w.along at_path right off in
         (_, e.0, e.1)
 
+    pub walked_first : split_wrong (length m) size b d ≡ None → IsWrong m table size head NoMemory
+    unfolding number_on
+    walked_first right = along_first by_next (split_wrong (length m) size) (path m table head) n b parts d w.along at_path right
+
     pub walked_wrong : (f : RingFault) → split_wrong (length m) size b d ≡ Some f → IsWrong m table size head f
-    walked_wrong NoMemory bad = tt
+    walked_wrong NoMemory bad = absurd (never_memory (length m) size b d bad)
     walked_wrong f bad = along_wrong by_next (split_wrong (length m) size) (path m table head) n b parts d w.along at_path f bad

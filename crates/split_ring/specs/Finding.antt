@@ -2,7 +2,7 @@
 use Rattle.std.specs.Prelude.{ℕ, ◌≡◌, ◌≢◌, List, Option, Some, None, Result, Ok, Err}
 use Rattle.ring_core.specs.State.{RingState}
 use Rattle.ring_core.specs.Split.{pending, next_head, entry_wrong}
-use Rattle.ring_core.specs.Offer.{SplitOffers, Nothing, Found, Refused, HasEntryInForm}
+use Rattle.ring_core.specs.Offer.{SplitOffers, Nothing, Found, Refused, BeginsInForm}
 use Rattle.ring_core.specs.declared.layout.Form.TheVariants.{Split}
 use Rattle.split_ring.specs.declared.ring.Candidate.{Candidate}
 use Rattle.ring_core.specs.declared.fault.RingFault.{RingFault}
@@ -14,9 +14,9 @@ Names s m (Ok None) = pending s m ≡ 0
 Names s m (Ok (Some head)) = (pending s m ≢ 0) × (entry_wrong s m ≡ None) × (head ≡ next_head s m)
 Names s m (Err f) = (pending s m ≢ 0) × (entry_wrong s m ≡ Some f)
 
--- the offer of an unbroken queue, unless memory was refused
+-- the offer of an unbroken queue; memory is wanted only where a chain begins
 abbrev pub FaultFound : RingState → List ℕ → RingFault → Type 0
-FaultFound s m NoMemory = HasEntryInForm Split s m
+FaultFound s m NoMemory = BeginsInForm Split s m
 FaultFound s m f = SplitOffers s m (Refused f)
 
 abbrev pub Finds : RingState → List ℕ → Result (Option Candidate) RingFault → Type 0

@@ -1,6 +1,7 @@
 use super::*;
 use guest_mem::GuestMem;
 use ring_core::{Answered, Chain, Fetched, Layout, LayoutFault, Ring, RingFault, Ticket, scatter};
+use std::fmt::Write;
 use std::process::Abort;
 use std::test::Fail;
 
@@ -415,5 +416,46 @@ fn owns_what_is_outstanding(rt: HostRuntime) -> Result<(), Fail> {
     assert!(rt; ring.owns(&fetched.chain));
     assert!(rt; !other.owns(&fetched.chain));
     assert!(rt; !ring.fits(&larger));
+    Ok(())
+}
+
+#[test]
+fn faults_have_words_and_numbers(rt: HostRuntime) -> Result<(), Fail> {
+    let table = [
+        (RingFault::IndexJump, 1, "available index out of range"),
+        (RingFault::HeadOutOfRange, 2, "head out of range"),
+        (RingFault::NextOutOfRange, 3, "next descriptor out of range"),
+        (RingFault::ChainTooLong, 4, "chain too long"),
+        (RingFault::BufferOutside, 5, "buffer outside guest memory"),
+        (
+            RingFault::ReadableAfterWritable,
+            6,
+            "readable after writable descriptor",
+        ),
+        (
+            RingFault::AlreadyOutstanding,
+            7,
+            "chain already outstanding",
+        ),
+        (RingFault::BadIndirect, 8, "bad indirect descriptor"),
+        (RingFault::RingOverrun, 9, "ring overrun"),
+        (RingFault::NoMemory, 10, "no memory"),
+    ];
+    for (fault, number, words) in table {
+        let mut written = String::new(rt.alloc());
+        write!(written, "{fault}")?;
+        assert_eq!(rt; (fault as u8, written.as_str()), (number, words));
+    }
+    let table = [
+        (LayoutFault::BadSize, 1, "bad queue size"),
+        (LayoutFault::BadAlignment, 2, "bad alignment"),
+        (LayoutFault::Outside, 3, "queue outside guest memory"),
+        (LayoutFault::NoMemory, 4, "no memory"),
+    ];
+    for (fault, number, words) in table {
+        let mut written = String::new(rt.alloc());
+        write!(written, "{fault}")?;
+        assert_eq!(rt; (fault as u8, written.as_str()), (number, words));
+    }
     Ok(())
 }

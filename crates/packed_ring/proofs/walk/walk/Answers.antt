@@ -1,6 +1,6 @@
 use Rattle.std.proofs.Common.{◌≡◌, ◌++◌, ◌∷◌, [], rules}
 use Rattle.ring_core.specs.Walk.{part_of}
-use Rattle.packed_ring.proofs.BySlot.{walked_start, walked_more, walked_end, walked_wrong}
+use Rattle.packed_ring.proofs.BySlot.{walked_start, walked_more, walked_end, walked_first, walked_wrong}
 use Rattle.packed_ring.proofs.walk.walk.Goals as goal
 
 pub along-init : goal.along-init
@@ -10,6 +10,11 @@ pub returns-in-Err : goal.returns-in-Err
 returns-in-Err c =
     walked_wrong c.args.memory.now c.args.layout.now c.args.passed c.along.step c.along.before c.along.parts.items c.descriptor_at-d.result
     c.along.invariant c.descriptor_at-d.ensures c.in-Err.fault (rw c.size-bytes.ensures.size at c.in-Err.ensures)
+
+pub returns-then-is_err : goal.returns-then-is_err
+returns-then-is_err c =
+    walked_first c.args.memory.now c.args.layout.now c.args.passed c.along.step c.along.before c.along.parts.items c.descriptor_at-d.result
+    c.along.invariant c.descriptor_at-d.ensures (rw c.size-bytes.ensures.size at c.in_default.ensures)
 
 pub returns-then-not-goes_on : goal.returns-then-not-goes_on
 returns-then-not-goes_on c =
