@@ -1,5 +1,8 @@
 //! What can end a script.
 
+ghost use Rattle.std.specs.Prelude.{◌≡◌};
+ghost use Rattle.guest_script.specs.Faults.{ending_at};
+
 use block_store::NoMemory;
 use std::alloc::{AllocError, AllocFailed};
 use thiserror::Error;
@@ -70,7 +73,9 @@ pub enum Stop {
 
 impl Stop {
     /// The fault of a script that stopped at this line.
-    pub fn at(self, line: u64) -> ScriptFault {
+    pub fn at(self, line: u64) -> ScriptFault
+        ensures { result ≡ ending_at line self }
+    {
         match self {
             Stop::Fault(fault) => ScriptFault::Line { line, fault },
             Stop::NoMemory => ScriptFault::NoMemory,

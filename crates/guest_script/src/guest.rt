@@ -1,5 +1,10 @@
 //! What the guest writes into its memory, and what it reads there.
 
+ghost use Rattle.std.specs.Prelude.{◌≡◌, length, IsOk, OnOk, OnErr, IfErr, ◌↔◌};
+ghost use Rattle.std.specs.Int.{w16, w32, from_le_bytes};
+ghost use Rattle.guest_mem.specs.Memory.{bytes_at, with_bytes, LiesIn};
+ghost use Rattle.guest_script.specs.Guest.{IsDescriptor};
+
 use crate::fault::{LineFault, Stop};
 use crate::values::{Bytes, Item};
 use guest_mem::GuestMem;
@@ -19,7 +24,9 @@ pub struct Buffer {
 }
 
 /// A descriptor of either form: an address, a length, and two numbers in the form's own order.
-pub fn descriptor(buffer: Buffer, third: u16, last: u16) -> [u8; 16] {
+pub fn descriptor(buffer: Buffer, third: u16, last: u16) -> [u8; 16]
+    ensures { IsDescriptor result buffer third last }
+{
     let mut bytes = [0; 16];
     bytes[..8].copy_from_slice(&buffer.at.to_le_bytes());
     bytes[8..12].copy_from_slice(&buffer.len.to_le_bytes());
@@ -29,7 +36,10 @@ pub fn descriptor(buffer: Buffer, third: u16, last: u16) -> [u8; 16] {
 }
 
 /// Two bytes as a number; 0 where they lie outside memory.
-pub fn u16_at(memory: &GuestMem, at: u64) -> u16 {
+pub fn u16_at(memory: &GuestMem, at: u64) -> u16
+    ensures inside { LiesIn (length memory.now) at 2 → result ≡ from_le_bytes w16 (bytes_at memory.now at 2) }
+    ensures outside { ¬ LiesIn (length memory.now) at 2 → result ≡ 0 }
+{
     let mut bytes = [0; 2];
     match memory.read(at, &mut bytes) {
         Ok(()) => u16::from_le_bytes(bytes),
@@ -38,7 +48,10 @@ pub fn u16_at(memory: &GuestMem, at: u64) -> u16 {
 }
 
 /// Four bytes as a number; 0 where they lie outside memory.
-pub fn u32_at(memory: &GuestMem, at: u64) -> u32 {
+pub fn u32_at(memory: &GuestMem, at: u64) -> u32
+    ensures inside { LiesIn (length memory.now) at 4 → result ≡ from_le_bytes w32 (bytes_at memory.now at 4) }
+    ensures outside { ¬ LiesIn (length memory.now) at 4 → result ≡ 0 }
+{
     let mut bytes = [0; 4];
     match memory.read(at, &mut bytes) {
         Ok(()) => u32::from_le_bytes(bytes),
@@ -46,8 +59,14 @@ pub fn u32_at(memory: &GuestMem, at: u64) -> u32 {
     }
 }
 
-/// Writes bytes that are there.
-pub fn put(world: &mut World, at: u64, bytes: &[u8]) -> Result<(), LineFault> {
+/// Writes bytes that are there. `NoGuestMemory`, with nothing changed, exactly where one of them would
+/// lie outside memory.
+pub fn put(world: &mut World, at: u64, bytes: &[u8]) -> Result<(), LineFault>
+    ensures inside { IsOk result ↔ LiesIn (length world.old.memory) at (length bytes.now) }
+    ensures written { OnOk result (world.new ≡ record world.old { memory = with_bytes world.old.memory at bytes.now }) }
+    ensures fault { IfErr result (λ fault. fault ≡ LineFault.NoGuestMemory) }
+    ensures unchanged { OnErr result (world.new ≡ world.old) }
+{
     if world.poke(at, bytes) {
         Ok(())
     } else {

@@ -1,5 +1,7 @@
 //! The header of a script, and the device that it asks for.
 
+ghost use Rattle.std.specs.Prelude.{◌≡◌, length, [], ◌∷◌, IsOk, IfOk, IfErr, ◌↔◌};
+
 use crate::areas::layout_of;
 use crate::driver::Driver;
 use crate::fault::{LineFault, Stop};
@@ -68,7 +70,11 @@ fn read_queues(values: &[&str]) -> Result<Queues, LineFault> {
 }
 
 /// The one value of a line that has one.
-pub fn only<'a>(values: &[&'a str]) -> Result<&'a str, LineFault> {
+pub fn only<'a>(values: &[&'a str]) -> Result<&'a str, LineFault>
+    ensures one { IsOk result ↔ (length values.now ≡ 1) }
+    ensures value { IfOk result (λ value. values.now ≡ value ∷ []) }
+    ensures fault { IfErr result (λ fault. fault ≡ LineFault.BadValue) }
+{
     match values {
         [value] => Ok(*value),
         _ => Err(LineFault::BadValue),

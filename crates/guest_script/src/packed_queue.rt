@@ -1,5 +1,9 @@
 //! The driver's side of a packed virtqueue (VIRTIO 1.2, 2.8).
 
+ghost use Rattle.std.specs.Prelude.{◌≡◌, ◌<◌, ◌+◌, ℕ, Bool, IsTrue, ◌↔◌, not};
+ghost use Rattle.ring_core.specs.Packed.{used_flags};
+ghost use Rattle.guest_script.specs.Places.{HasPassed, avail_flag, used_flag};
+
 use crate::areas::layout_of;
 use crate::fault::{LineFault, Stop};
 use crate::guest::{descriptor, put, u16_at, u32_at};
@@ -40,7 +44,9 @@ impl Position {
     };
 
     /// The next place in a ring of that size.
-    fn next(self, size: NonZeroU16) -> Position {
+    fn next(self, size: NonZeroU16) -> Position
+        ensures { (slots : ℕ) → HasPassed size.value slots self → HasPassed size.value (slots + 1) result }
+    {
         if self.slot < size.get() - 1 {
             Position {
                 slot: self.slot + 1,
@@ -55,12 +61,18 @@ impl Position {
     }
 
     /// The two flags of a descriptor that is available here.
-    fn available(self) -> u16 {
+    fn available(self) -> u16
+        ensures avail { avail_flag result ≡ self.wrap }
+        ensures used { used_flag result ≡ not self.wrap }
+    {
         if self.wrap { AVAILABLE } else { USED }
     }
 
-    /// Whether flags are those of a descriptor that is used here.
-    fn is_used(self, flags: u16) -> bool {
+    /// Whether flags are those of a descriptor that is used here: the device wrote them under this
+    /// wrap counter.
+    fn is_used(self, flags: u16) -> bool
+        ensures { (wrap : Bool) (len : ℕ) → flags ≡ used_flags wrap len → (IsTrue result ↔ (wrap ≡ self.wrap)) }
+    {
         let both = AVAILABLE | USED;
         flags & both == if self.wrap { both } else { 0 }
     }
@@ -102,7 +114,9 @@ impl PackedQueue {
     }
 
     /// Whether fewer slots are free than a chain takes.
-    pub fn is_full(&self) -> bool {
+    pub fn is_full(&self) -> bool
+        ensures { IsTrue result ↔ (self.now.free_slots < 2) }
+    {
         self.free_slots < CHAIN_SLOTS
     }
 

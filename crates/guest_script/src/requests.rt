@@ -1,10 +1,15 @@
 //! A request on its way to the device.
 
+ghost use Rattle.std.specs.Prelude.{◌≡◌, ◌≤◌, ◌<◌, ◌+◌, ◌^◌, ℕ, IsOk, IfOk, OnOk, IfErr, OnErr, ◌↔◌};
+ghost use Rattle.guest_mem.specs.Memory.{LiesIn};
+ghost use Rattle.guest_script.specs.Requests.{IsHead, IsNextPlace};
+
 use crate::fault::LineFault;
 use crate::guest::Buffer;
 use crate::values::Bytes;
 use scsi_codec::{CDB_BYTES, REQUEST_BYTES};
 use std::alloc::{AllocError, Global};
+use std::marker::Model;
 
 /// A request as a line names it.
 #[derive(Debug, Drop)]
@@ -30,7 +35,9 @@ pub struct Send<'a> {
 impl Send<'_> {
     /// The bytes of the request before its data out (VIRTIO 1.2, 5.6.6.1): the unit's address, the
     /// id, the attribute, two bytes that the device ignores, and the command block.
-    pub fn head(&self, alloc: Global) -> Result<Vec<u8>, AllocError> {
+    pub fn head(&self, alloc: Global) -> Result<Vec<u8>, AllocError>
+        ensures { IfOk result (λ head. IsHead head.items self.now) }
+    {
         let mut head = Vec::with_capacity(alloc, REQUEST_BYTES)?;
         head.extend_from_slice(&self.lun)?;
         head.extend_from_slice(&self.id.to_le_bytes())?;
@@ -64,12 +71,28 @@ pub struct Space {
     next: u64,
 }
 
+impl Model for Space {
+    ghost Value = { ℕ };
+
+    ghost view = { λ space. space.next };
+
+    ghost inverse = { λ next. record { next = next } };
+}
+
 impl Space {
     /// Where the first buffer goes.
     pub const START: Space = Space { next: 1 << 20 };
 
-    /// Places a buffer, each at a multiple of 16, in a memory of that size.
-    pub fn place(&mut self, len: u64, memory: u64) -> Result<Buffer, LineFault> {
+    /// Places a buffer, each at a multiple of 16, in a memory of that size. `NoGuestMemory`, with
+    /// nothing changed, exactly where it doesn't fit there or into a descriptor's length.
+    pub fn place(&mut self, len: u64, memory: u64) -> Result<Buffer, LineFault>
+        requires { memory ≤ 2 ^ 32 }
+        ensures inside { IsOk result ↔ (LiesIn memory self.old len × (len < 2 ^ 32)) }
+        ensures placed { IfOk result (λ buffer. buffer ≡ record { at = self.old; len = len }) }
+        ensures next { OnOk result (IsNextPlace (self.old + len) self.new) }
+        ensures fault { IfErr result (λ fault. fault ≡ LineFault.NoGuestMemory) }
+        ensures unchanged { OnErr result (self.new ≡ self.old) }
+    {
         let at = self.next;
         if at > memory || len > memory - at {
             return Err(LineFault::NoGuestMemory);

@@ -1,5 +1,7 @@
 //! The driver's side of a split virtqueue (VIRTIO 1.2, 2.7).
 
+ghost use Rattle.std.specs.Prelude.{◌≡◌, [], IsTrue, ◌↔◌};
+
 use crate::areas::layout_of;
 use crate::fault::{LineFault, Stop};
 use crate::guest::{Buffer, descriptor, put, u16_at, u32_at};
@@ -50,7 +52,9 @@ impl SplitQueue {
     }
 
     /// Whether no pair is free.
-    pub fn is_full(&self) -> bool {
+    pub fn is_full(&self) -> bool
+        ensures { IsTrue result ↔ (self.now.free.keys ≡ []) }
+    {
         self.free.is_empty()
     }
 

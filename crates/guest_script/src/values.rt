@@ -1,11 +1,14 @@
 //! What stands in the places of a line: numbers, names, units and bytes.
 
-ghost use Rattle.std.specs.Prelude.{◌<◌, IfOk};
+ghost use Rattle.std.specs.Prelude.{◌≡◌, ◌≤◌, ◌<◌, ◌*◌, ◌-◌, ◌^◌, ◌++◌, min, length, [], IsOk, IfOk, OnOk, IfErr, ◌↔◌};
+ghost use Rattle.std.specs.List.{repeat};
+ghost use Rattle.guest_script.specs.Values.{length_of};
 
 use crate::fault::{LineFault, Stop};
 use hex::FromHexError;
 use scsi_codec::Address;
 use std::alloc::{AllocError, Global};
+use std::marker::Model;
 use std::str::FromStr;
 
 /// The largest LUN of a unit.
@@ -29,7 +32,11 @@ where
 }
 
 /// A name: 1 to 16 letters or digits.
-pub fn name(word: &str) -> Result<&str, LineFault> {
+pub fn name(word: &str) -> Result<&str, LineFault>
+    ensures lengths { OnOk result ((1 ≤ length word.now) × (length word.now ≤ 16)) }
+    ensures same { IfOk result (λ name. name.now ≡ word.now) }
+    ensures fault { IfErr result (λ fault. fault ≡ LineFault.BadValue) }
+{
     let fits = !word.is_empty() && word.len() <= LONGEST_NAME;
     if fits && word.bytes().all(|byte| byte.is_ascii_alphanumeric()) {
         Ok(word)
@@ -86,13 +93,17 @@ impl Item {
         }
     }
 
-    /// How many bytes they are in all.
-    pub fn length(&self) -> u64 {
+    /// How many bytes they are in all; `u64::MAX` where there are more than that.
+    pub fn length(&self) -> u64
+        ensures { result ≡ min (length self.now.bytes.items * self.now.repeat) (2 ^ 64 - 1) }
+    {
         (self.bytes.len() as u64).saturating_mul(u64::from(self.repeat))
     }
 
     /// Appends so many copies of the bytes.
-    pub fn append_copies(&self, copies: u32, into: &mut Vec<u8>) -> Result<(), AllocError> {
+    pub fn append_copies(&self, copies: u32, into: &mut Vec<u8>) -> Result<(), AllocError>
+        ensures { OnOk result (into.new.items ≡ into.old.items ++ repeat copies self.now.bytes.items) }
+    {
         for _ in 0..copies {
             into.extend_from_slice(self.bytes.as_slice())?;
         }
@@ -107,9 +118,23 @@ pub struct Bytes {
     length: u64,
 }
 
+impl Model for Bytes {
+    ghost use Rattle.std.specs.Prelude.{List, ◌≡◌};
+    ghost use Rattle.guest_script.specs.declared.values.Item.{Item};
+    ghost use Rattle.guest_script.specs.Values.{length_of};
+
+    ghost Value = { List Item };
+
+    ghost view = { λ bytes. bytes.items.items };
+
+    ghost invariant = { λ bytes. bytes.length ≡ length_of bytes.items.items };
+}
+
 impl Bytes {
     /// No bytes.
-    pub fn none(alloc: Global) -> Bytes {
+    pub fn none(alloc: Global) -> Bytes
+        ensures { result ≡ [] }
+    {
         Bytes {
             items: Vec::new(alloc),
             length: 0,
@@ -117,6 +142,7 @@ impl Bytes {
     }
 
     /// Reads items that are joined by commas.
+    #[tactic(auto, using(crate::proofs::Totals::total_of_more))]
     pub fn read(alloc: Global, text: &str) -> Result<Bytes, Stop> {
         let mut bytes = Bytes::none(alloc);
         for part in text.split(',') {
@@ -128,12 +154,16 @@ impl Bytes {
     }
 
     /// The items, in order.
-    pub fn items(&self) -> &[Item] {
+    pub fn items(&self) -> &[Item]
+        ensures { result.now ≡ self.now }
+    {
         self.items.as_slice()
     }
 
     /// How many bytes there are; `u64::MAX` where there are more than that.
-    pub fn length(&self) -> u64 {
+    pub fn length(&self) -> u64
+        ensures { result ≡ length_of self.now }
+    {
         self.length
     }
 }

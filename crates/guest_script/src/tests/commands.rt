@@ -186,7 +186,20 @@ fn attentions(rt: HostRuntime) -> Result<(), Fail> {
     compare_all(&rt, rt.alloc(), &ATTENTIONS)
 }
 
-static BLOCK_COMMANDS: [Script; 4] = [
+static BLOCK_COMMANDS: [Script; 5] = [
+    Script {
+        shows: "a command block of 32 bytes, a name of 16, items that stand once, and many blocks",
+        header: SPLIT,
+        lines: "send A1b2C3d4E5f6G7h8 2 0:0 1 simple 2a000000004600000100,00*22 out ab*1,cd*511
+settle
+show A1b2C3d4E5f6G7h8
+blocks 0:0 0 200
+",
+        prints: "A1b2C3d4E5f6G7h8 used=108 response=0 status=00 sense_len=0 residual=0 sense=- data=-
+blocks 0:0 0 200: 00*35840,ab,cd*511,00*66048
+",
+        fault: "",
+    },
     Script {
         shows: "READ(6) of 256 blocks",
         header: SPLIT,

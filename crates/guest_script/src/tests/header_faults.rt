@@ -92,7 +92,7 @@ static INCOMPLETE: [Whole; 20] = [
     },
 ];
 
-static BAD_VALUES: [Whole; 26] = [
+static BAD_VALUES: [Whole; 28] = [
     Whole {
         script: "memory\n",
         fault: "line 1: bad value",
@@ -191,6 +191,14 @@ static BAD_VALUES: [Whole; 26] = [
     },
     Whole {
         script: "ring split\nring packed\n",
+        fault: "line 2: out of place",
+    },
+    Whole {
+        script: "queues 4 8\nqueues 4 8\n",
+        fault: "line 2: out of place",
+    },
+    Whole {
+        script: "workers 2\nworkers 2\n",
         fault: "line 2: out of place",
     },
     Whole {

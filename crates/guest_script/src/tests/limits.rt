@@ -82,32 +82,39 @@ fn pokes(rt: HostRuntime) -> Result<(), Fail> {
     compare_all(&rt, rt.alloc(), &POKES)
 }
 
+/// Ends an item of 50,000 bytes that lies where a response has its data, and shows them.
+const TWICE_AND_SHOWN: &str = "*2
+send A 2 0:0 1 simple 00
+poke 40960 0000,0100,00000000,0d870100
+show A
+";
+
+const SHOWN_TWICE: &str =
+    "A used=100109 response=0 status=00 sense_len=0 residual=0 sense=- data=ab*100000,00
+";
+
 #[test]
 fn long_lines(rt: HostRuntime) -> Result<(), Fail> {
     let alloc = rt.alloc();
-    for (begin, fill, end, fault) in [
-        ("# ", "a", "\n", ""),
-        ("", " ", "\n", ""),
-        ("", "a", "\n", "line 7: unknown line"),
-        ("", "a ", "\n", "line 7: unknown line"),
-        ("show ", "a", "\n", "line 7: bad value"),
-        ("show ", "a ", "\n", "line 7: bad value"),
-        ("order ", "0", "2", ""),
-        ("order ", "1", "\n", "line 7: bad value"),
-        ("poke 2097152 ", "ab", "\n", ""),
-        ("poke 2097152 00", ",ab*4294967295", "\n", ""),
-        ("poke 0 00", ",", "\n", "line 7: bad value"),
+    for (begin, fill, end, prints, fault) in [
+        ("# ", "a", "\n", "", ""),
+        ("", " ", "\n", "", ""),
+        ("", "a", "\n", "", "line 7: unknown line"),
+        ("", "a ", "\n", "", "line 7: unknown line"),
+        ("show ", "a", "\n", "", "line 7: bad value"),
+        ("show ", "a ", "\n", "", "line 7: bad value"),
+        ("order ", "0", "2", "order 2:\n", ""),
+        ("order ", "1", "\n", "", "line 7: bad value"),
+        ("poke 2097152 ", "ab", "\n", "", ""),
+        ("poke 2097152 00", ",ab*4294967295", "\n", "", ""),
+        ("poke 0 00", ",", "\n", "", "line 7: bad value"),
+        ("poke 1048748 ", "ab", TWICE_AND_SHOWN, SHOWN_TWICE, ""),
     ] {
         let mut script = bytes_of(alloc, SPLIT, begin)?;
         for _ in 0..100_000 / fill.len().max(1) {
             script.extend_from_slice(fill.as_bytes())?;
         }
         script.extend_from_slice(end.as_bytes())?;
-        let prints = if begin == "order " && fault.is_empty() {
-            "order 2:\n"
-        } else {
-            ""
-        };
         compare(&rt, alloc, begin, script.as_slice(), prints, fault)?;
     }
     Ok(())
@@ -130,4 +137,30 @@ fn many_requests(rt: HostRuntime) -> Result<(), Fail> {
     }
     let prints = str::from_utf8(prints.as_slice()).map_err(|_| "no text")?;
     compare(&rt, alloc, "many requests", script.as_slice(), prints, "")
+}
+
+/// Ample memory for as many requests as an index of 16 bits counts, and more.
+const MUCH_MEMORY: &str = "memory 4096
+ring split
+queues 3 8
+workers 2
+handoff 8
+unit 0 0 1000 calm
+";
+
+#[test]
+fn more_requests_than_an_index_counts(rt: HostRuntime) -> Result<(), Fail> {
+    let alloc = rt.alloc();
+    let mut script = bytes_of(alloc, MUCH_MEMORY, "")?;
+    for number in 0..65_540_u32 {
+        let lines = format!(in alloc; "send N{number} 2 0:0 0 simple 00\nsettle\n")?;
+        script.extend_from_slice(lines.as_bytes())?;
+    }
+    script.extend_from_slice(b"show N65535\nshow N65539\nnotices 2\nstatus\n")?;
+    let prints = "N65535 used=108 response=0 status=00 sense_len=0 residual=0 sense=- data=-
+N65539 used=108 response=0 status=00 sense_len=0 residual=0 sense=- data=-
+notices 2: 65540
+status 0
+";
+    compare(&rt, alloc, "more requests", script.as_slice(), prints, "")
 }

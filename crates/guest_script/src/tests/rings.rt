@@ -3,6 +3,24 @@
 use super::{PACKED, SPLIT, Script, compare_all};
 use std::test::Fail;
 
+/// A header with the most queues.
+const SPLIT_QUEUES: &str = "memory 512
+ring split
+queues 18 8
+workers 2
+handoff 8
+unit 0 0 1000 calm
+";
+
+/// The same on packed queues.
+const PACKED_QUEUES: &str = "memory 512
+ring packed
+queues 18 8
+workers 2
+handoff 8
+unit 0 0 1000 calm
+";
+
 /// A header with packed queues of three slots.
 const THREE_SLOTS: &str = "memory 512
 ring packed
@@ -145,6 +163,48 @@ fn rounds(rt: HostRuntime) -> Result<(), Fail> {
     compare_all(&rt, rt.alloc(), &ROUNDS)
 }
 
+const ON_THE_LAST_QUEUES: &str = "send A 17 0:0 1 simple 000000000000
+send B 16 0:0 2 simple 000000000000
+send C 17 0:0 3 simple 000000000000
+settle
+order 17
+order 16
+order 2
+notices 17
+notices 16
+show C
+";
+
+const LAST_QUEUES_USED: &str = "order 17: A C
+order 16: B
+order 2:
+notices 17: 2
+notices 16: 1
+C used=108 response=0 status=00 sense_len=0 residual=0 sense=- data=-
+";
+
+static LAST_QUEUES: [Script; 2] = [
+    Script {
+        shows: "the last of the most queues, split",
+        header: SPLIT_QUEUES,
+        lines: ON_THE_LAST_QUEUES,
+        prints: LAST_QUEUES_USED,
+        fault: "",
+    },
+    Script {
+        shows: "the last of the most queues, packed",
+        header: PACKED_QUEUES,
+        lines: ON_THE_LAST_QUEUES,
+        prints: LAST_QUEUES_USED,
+        fault: "",
+    },
+];
+
+#[test]
+fn last_queues(rt: HostRuntime) -> Result<(), Fail> {
+    compare_all(&rt, rt.alloc(), &LAST_QUEUES)
+}
+
 const SHORT_REQUEST: &str = "send A 2 0:0 1 simple 000000000000
 poke 32776 32000000
 settle
@@ -215,6 +275,99 @@ order 2: A
 #[test]
 fn short_chains(rt: HostRuntime) -> Result<(), Fail> {
     compare_all(&rt, rt.alloc(), &SHORT_CHAINS)
+}
+
+/// What the driver finds where the script writes the used ring in place of the device.
+static WRITTEN_BY_HAND: [Script; 6] = [
+    Script {
+        shows: "an id of four bytes",
+        header: SPLIT,
+        lines: "send A 2 0:0 1 simple 000000000000
+poke 40960 0000,0100,00000100,6c000000
+show A
+order 2
+",
+        prints: "A open
+order 2:
+",
+        fault: "",
+    },
+    Script {
+        shows: "a used index that wraps",
+        header: SPLIT,
+        lines: "send A 2 0:0 1 simple 000000000000
+send B 2 0:0 2 simple 000000000000
+poke 40964 0900000000000000*8
+poke 40962 ffff
+order 2
+poke 41020 00000000,6c000000
+poke 40964 02000000,6d000000
+poke 40962 0100
+order 2
+show B
+",
+        prints: "order 2:
+order 2: A B
+B used=109 response=0 status=00 sense_len=0 residual=0 sense=- data=00
+",
+        fault: "",
+    },
+    Script {
+        shows: "the second request has the lowest id but one, packed",
+        header: PACKED,
+        lines: "send A 2 0:0 1 simple 000000000000
+send B 2 0:0 2 simple 000000000000
+poke 32776 6c000000,0100,8080
+show A
+show B
+order 2
+",
+        prints: "A open
+B used=108 response=0 status=00 sense_len=0 residual=0 sense=- data=-
+order 2: B
+",
+        fault: "",
+    },
+    Script {
+        shows: "fewer bytes used than a response has",
+        header: SPLIT,
+        lines: "send A 2 0:0 1 simple 000000000000
+poke 40960 0000,0100,00000000,32000000
+show A
+",
+        prints: "A used=50 response=0 status=00 sense_len=0 residual=0 sense=- data=-
+",
+        fault: "",
+    },
+    Script {
+        shows: "each field of a response",
+        header: SPLIT,
+        lines: "send A 2 0:0 1 simple 000000000000
+poke 40960 0000,0100,00000000,6d000000
+poke 1048640 12000000,04030201,0000,fe,0a,f0,00,0e,01020304,0a,00*4,1d,07,00*82,ee
+show A
+",
+        prints: "A used=109 response=10 status=fe sense_len=18 residual=16909060 sense=0e/1d/07@16909060 data=ee
+",
+        fault: "",
+    },
+    Script {
+        shows: "the last byte of memory",
+        header: SPLIT,
+        lines: "send A 2 0:0 1 simple 000000000000
+poke 40960 0000,0100,00000000,ffffffff
+poke 2097151 ff
+show A
+",
+        prints: "A used=4294967295 response=0 status=00 sense_len=0 residual=0 sense=- data=00*1048403,ff
+",
+        fault: "",
+    },
+];
+
+#[test]
+fn written_by_hand(rt: HostRuntime) -> Result<(), Fail> {
+    compare_all(&rt, rt.alloc(), &WRITTEN_BY_HAND)
 }
 
 static BROKEN: [Script; 3] = [

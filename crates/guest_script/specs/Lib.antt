@@ -1,0 +1,5 @@
+pub mod Faults
+pub mod Guest
+pub mod Requests
+pub mod Places
+pub mod Values
