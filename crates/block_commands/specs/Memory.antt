@@ -1,6 +1,7 @@
 -- Which commands may be refused memory: those with data to return or to write, unless a test that
--- comes before refuses them. An UNMAP writes no data.
-use Rattle.std.specs.Prelude.{ℕ, Bool, true, false, not, ◌&&◌, is_some}
+-- comes before refuses them. An UNMAP writes no data; no data is returned for an allocation length of
+-- 0, but of a list of LUNs, and no block is read for a length of 0.
+use Rattle.std.specs.Prelude.{ℕ, Bool, true, false, not, ◌&&◌, nat_lt, is_some}
 use Rattle.cdb.specs.declared.commands.Command.{Command}
 use Rattle.cdb.specs.declared.commands.Command.TheVariants.{TestUnitReady, RequestSense, Read, Write, Inquiry, ReadCapacity10, ReadCapacity16, SynchronizeCache, WriteSame, Unmap, CompareAndWrite, ReportLuns, Bad, Unknown}
 use Rattle.cdb.specs.declared.commands.InquiryData.TheVariants.{Standard}
@@ -11,12 +12,12 @@ use Rattle.block_commands.specs.Facts.{Facts}
 -- where no attention stops the command, in a unit of so many blocks
 abbrev pub wants : ℕ → Command → Bool
 wants blocks TestUnitReady = false
-wants blocks (RequestSense allocation) = true
-wants blocks (Read lba count) = is_in_range blocks lba count
+wants blocks (RequestSense allocation) = nat_lt 0 allocation
+wants blocks (Read lba count) = nat_lt 0 count && is_in_range blocks lba count
 wants blocks (Write lba count) = is_in_range blocks lba count
-wants blocks (Inquiry what allocation) = true
+wants blocks (Inquiry what allocation) = nat_lt 0 allocation
 wants blocks ReadCapacity10 = true
-wants blocks (ReadCapacity16 allocation) = true
+wants blocks (ReadCapacity16 allocation) = nat_lt 0 allocation
 wants blocks (SynchronizeCache lba count) = false
 wants blocks (WriteSame lba count) = is_in_range blocks lba count
 wants blocks (Unmap list_length) = false
@@ -30,6 +31,6 @@ may_want facts command = not (is_some (met command facts.pending)) && wants fact
 
 -- of a LUN that is absent
 abbrev pub absent_wants : Command → Bool
-absent_wants (RequestSense allocation) = true
-absent_wants (Inquiry Standard allocation) = true
+absent_wants (RequestSense allocation) = nat_lt 0 allocation
+absent_wants (Inquiry Standard allocation) = nat_lt 0 allocation
 absent_wants _ = false

@@ -1,13 +1,18 @@
 //! Data to the driver, cut to what it asked for.
 
-ghost use Rattle.std.specs.Prelude.{◌≡◌, take, IfOk};
+ghost use Rattle.std.specs.Prelude.{◌≡◌, nat_lt, take, IfOk, OnErr, IsTrue};
 
 use std::alloc::{AllocError, Global};
 
 /// The bytes, or as many of them from the front as the allocation length allows (SPC-4 §4.3.5.6).
+/// For none no memory is taken.
 pub(crate) fn cut(alloc: Global, bytes: &[u8], allocation: u32) -> Result<Vec<u8>, AllocError>
-    ensures { IfOk result (λ kept. kept.items ≡ take allocation bytes.now) }
+    ensures kept { IfOk result (λ kept. kept.items ≡ take allocation bytes.now) }
+    ensures want { OnErr result (IsTrue (nat_lt 0 allocation)) }
 {
+    if allocation == 0 {
+        return Ok(Vec::new(alloc));
+    }
     let len = bytes.len().min(allocation as usize);
     Vec::from_slice(alloc, &bytes[..len])
 }

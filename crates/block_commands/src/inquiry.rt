@@ -1,6 +1,6 @@
 //! The data of INQUIRY (SPC-4 §6.6, §7.8, SBC-3 §6.6).
 
-ghost use Rattle.std.specs.Prelude.{◌≡◌, ◌+◌, ◌*◌, ◌/◌, ◌%◌, ◌<◌, take, IfOk};
+ghost use Rattle.std.specs.Prelude.{◌≡◌, ◌+◌, ◌*◌, ◌/◌, ◌%◌, ◌<◌, nat_lt, take, IfOk, OnErr, IsTrue};
 ghost use Rattle.block_commands.specs.Inquiry.{standard_data, serial, serial_page, identification_page, limits_page, inquiry_data};
 
 use crate::data::cut;
@@ -36,7 +36,8 @@ pub(crate) fn inquiry(
     lun: u16,
     allocation: u32,
 ) -> Result<Vec<u8>, AllocError>
-    ensures { IfOk result (λ bytes. bytes.items ≡ take allocation (inquiry_data what target lun)) }
+    ensures data { IfOk result (λ bytes. bytes.items ≡ take allocation (inquiry_data what target lun)) }
+    ensures want { OnErr result (IsTrue (nat_lt 0 allocation)) }
 {
     match what {
         InquiryData::Standard => cut(alloc, &standard(BLOCK_DEVICE), allocation),

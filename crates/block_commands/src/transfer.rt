@@ -1,6 +1,6 @@
 //! READ, WRITE and WRITE SAME.
 
-ghost use Rattle.std.specs.Prelude.{◌≡◌, ℕ, ◌*◌, ◌-◌, ◌≤◌, [], length, vec_len, IfOk, OnOk, OnErr, Ok};
+ghost use Rattle.std.specs.Prelude.{◌≡◌, ◌&&◌, nat_lt, ℕ, ◌*◌, ◌-◌, ◌≤◌, [], length, vec_len, IfOk, OnOk, OnErr, Ok};
 ghost use Rattle.block_store.specs.Blocks.{run, overwritten, filled};
 ghost use Rattle.block_commands.specs.Capacity.{is_in_range};
 ghost use Rattle.block_commands.specs.Replies.{within, done};
@@ -21,7 +21,7 @@ pub(crate) fn read<S: Store>(
 ) -> Result<Vec<u8>, Failure>
     ensures answer { Gives (λ bytes. bytes.items)
         (within (S.size store.now) lba blocks (Ok (run (S.block_at store.now) lba blocks))) result }
-    ensures want { Wants (is_in_range (S.size store.now) lba blocks) result }
+    ensures want { Wants (nat_lt 0 blocks && is_in_range (S.size store.now) lba blocks) result }
     ensures len { IfOk result (λ bytes. vec_len bytes ≡ 512 * blocks) }
 {
     if !is_in_range(store.capacity(), lba, u32::from(blocks)) {

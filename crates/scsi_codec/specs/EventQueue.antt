@@ -5,6 +5,20 @@ use Rattle.scsi_codec.specs.Lun.{written_address}
 use Rattle.scsi_codec.specs.declared.lun.Address.{Address}
 use Rattle.scsi_codec.specs.declared.event_queue.Event.{Event}
 
+-- the numbers VIRTIO_SCSI_T_NO_EVENT, VIRTIO_SCSI_T_TRANSPORT_RESET and VIRTIO_SCSI_T_PARAM_CHANGE,
+-- and VIRTIO_SCSI_T_EVENTS_MISSED, the bit that may be set beside them
+abbrev pub no_event : ℕ
+no_event = 0
+
+abbrev pub transport_reset : ℕ
+transport_reset = 1
+
+abbrev pub param_change : ℕ
+param_change = 3
+
+abbrev pub events_missed : ℕ
+events_missed = 2 ^ 31
+
 -- lun[8]: the unit as it is written, or zeros where there is none
 abbrev pub lun_area : Option Address → List ℕ
 lun_area None = replicate 8 0

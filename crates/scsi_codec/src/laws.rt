@@ -3,9 +3,9 @@
 ghost use Rattle.std.specs.Prelude.{◌≡◌, ◌<◌, ◌^◌, ◌↔◌, ◌≢◌, ℕ, List, length, Option, Result, Some, IfSome};
 ghost use Rattle.scsi_codec.specs.Lun.{AreBytes, IsAddress, ReadsAddress, written_address, HasReadableForm};
 ghost use Rattle.scsi_codec.specs.Requests.{IsRequest, HoldsRequest, IsRefused, ReadsRequest};
-ghost use Rattle.scsi_codec.specs.Responses.{response_bytes};
+ghost use Rattle.scsi_codec.specs.Responses.{response_bytes, sense_area};
 ghost use Rattle.scsi_codec.specs.ControlQueue.{IsControl};
-ghost use Rattle.scsi_codec.specs.EventQueue.{IsEvent, event_bytes};
+ghost use Rattle.scsi_codec.specs.EventQueue.{IsEvent, event_bytes, no_event, transport_reset, param_change, events_missed};
 ghost use Rattle.scsi_codec.specs.declared.lun.Address.{Address};
 ghost use Rattle.scsi_codec.specs.declared.requests.Request.{Request};
 ghost use Rattle.scsi_codec.specs.declared.requests.CodecFault.{CodecFault};
@@ -13,8 +13,8 @@ ghost use Rattle.scsi_codec.specs.declared.responses.Response.{Response};
 ghost use Rattle.scsi_codec.specs.declared.control_queue.Control.{Control};
 ghost use Rattle.scsi_codec.specs.declared.event_queue.Event.{Event};
 
-use crate::event_queue::EVENT_BYTES;
-use crate::responses::{RESPONSE_BYTES, SENSE_BYTES};
+use crate::event_queue::{EVENT_BYTES, EVENTS_MISSED, NO_EVENT, PARAM_CHANGE, TRANSPORT_RESET};
+use crate::responses::{RESPONSE_BYTES, SENSE_AREA_BYTES, SENSE_BYTES};
 
 /// Bytes name at most one unit, of a LUN below 16,384.
 pub fn one_address()
@@ -58,10 +58,12 @@ pub fn one_reading()
         → ReadsRequest bytes len a → ReadsRequest bytes len b → a ≡ b }
 {}
 
-/// A response has 108 bytes, and is known by them.
+/// A response has 108 bytes, 96 of them for sense, and is known by them.
 pub fn one_response()
     ensures whole { (r : Response) → IfSome r.sense (λ sense. length sense ≡ SENSE_BYTES)
         → length (response_bytes r) ≡ RESPONSE_BYTES }
+    ensures area { (r : Response) → IfSome r.sense (λ sense. length sense ≡ SENSE_BYTES)
+        → length (sense_area r.sense) ≡ SENSE_AREA_BYTES }
     ensures one { (a b : Response) → a.residual < 2 ^ 32 → b.residual < 2 ^ 32
         → response_bytes a ≡ response_bytes b → a ≡ b }
 {}
@@ -76,4 +78,12 @@ pub fn one_control()
 pub fn one_event()
     ensures whole { (e : Event) → length (event_bytes e) ≡ EVENT_BYTES }
     ensures one { (a b : Event) → IsEvent a → IsEvent b → event_bytes a ≡ event_bytes b → a ≡ b }
+{}
+
+/// Each constant is the event of its name.
+pub fn event_numbers()
+    ensures none { NO_EVENT ≡ no_event }
+    ensures reset { TRANSPORT_RESET ≡ transport_reset }
+    ensures change { PARAM_CHANGE ≡ param_change }
+    ensures missed { EVENTS_MISSED ≡ events_missed }
 {}

@@ -18,8 +18,8 @@ pub use event_queue::{
     EVENT_BYTES, EVENTS_MISSED, Event, NO_EVENT, PARAM_CHANGE, TRANSPORT_RESET, write_event,
 };
 pub use laws::{
-    one_address, one_control, one_event, one_reading, one_request, one_response, readable_forms,
-    refused_holds_none, written_reads_back,
+    event_numbers, one_address, one_control, one_event, one_reading, one_request, one_response,
+    readable_forms, refused_holds_none, written_reads_back,
 };
 pub use lun::{Address, read_lun, write_lun};
 pub use requests::{CDB_BYTES, CodecFault, REQUEST_BYTES, Request, read_request};
