@@ -1,10 +1,10 @@
 -- One slot on, in a ring that is gone round and round.
-use Rattle.std.proofs.Common.{◌≡◌, ℕ, suc, ◌+◌, ◌-◌, ◌*◌, ◌/◌, ◌%◌, ◌<◌, ◌≤◌, ◌==◌, not, cond, nat_lt, nat_eq, Bool, true, false, IsTrue, ◌↔◌, refl, sym, ◌∙◌, ap, subst, rules, arith, add_assoc, add-one, bit_and}
+use Rattle.std.proofs.Common.{◌≡◌, ℕ, ◌+◌, ◌*◌, ◌/◌, ◌%◌, ◌<◌, ◌≤◌, ◌==◌, not, cond, nat_lt, nat_eq, Bool, true, false, IsTrue, ◌↔◌, sym, ◌∙◌, ap, subst, rules, arith, add_assoc, bit_and}
 use Rattle.std.proofs.lemmas.Grind.{common_steps}
 use Rattle.std.proofs.lemmas.Bool.Decides.{nat_tests}
 use Rattle.std.proofs.Math.Nat.{mod-lt}
 use Rattle.std.proofs.lemmas.Nat.{div-mul-add, mod-mul-add, div-add-mod'}
-use Rattle.ring_core.specs.Packed.{wrap_counter, used_flags}
+use Rattle.ring_core.specs.Packed.{used_flags}
 use Rattle.guest_script.specs.Places.{HasPassed}
 use Rattle.guest_script.specs.declared.packed_queue.Position.{Position}
 

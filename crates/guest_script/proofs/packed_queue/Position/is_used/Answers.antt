@@ -1,4 +1,4 @@
-use Rattle.std.proofs.Common.{rules, ◌≡◌, cond, refl, true, false}
+use Rattle.std.proofs.Common.{rules, ◌≡◌, cond}
 use Rattle.guest_script.proofs.Rounds.{seen_used}
 use Rattle.guest_script.proofs.packed_queue.Position.is_used.Goals as goal
 use Rattle.guest_script.proofs.packed_queue.Position.is_used.Goals.{then-self, else-self}
