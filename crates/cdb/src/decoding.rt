@@ -10,7 +10,8 @@ use crate::commands::{
     MOST_WRITE_SAME_BLOCKS, SelectReport,
 };
 use crate::fields::{
-    Blocks, blocks_10, blocks_12, blocks_16, has_bit, has_protect, lba_6, lba_64, length_6, low_bits,
+    Blocks, blocks_10, blocks_12, blocks_16, has_bit, has_protect, lba_6, lba_64, length_6,
+    low_bits,
 };
 use crate::opcodes;
 use byteorder::{BigEndian, ByteOrder};

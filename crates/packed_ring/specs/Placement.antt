@@ -26,7 +26,3 @@ placement_fault memory l =
 -- neither indirect descriptors nor event indices were agreed
 abbrev pub no_features : Features
 no_features = record { indirect_descriptors = false; event_index = false }
-
--- how many ids a chain may have: two bytes
-unfoldable pub all_ids : ℕ
-all_ids = 65536

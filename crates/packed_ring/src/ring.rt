@@ -55,7 +55,7 @@ impl PackedRing {
         layout: Layout,
         memory: &GuestMem,
     ) -> Result<PackedRing, LayoutFault>
-        ensures made { MatchResult result (λ ring. (placement_fault (length memory.now) layout ≡ None) × (ring ≡ opening Packed queue layout no_features (length memory.now) ALL_IDS)) (λ fault. placement_fault (length memory.now) layout ≡ Some fault) }
+        ensures made { MatchResult result (λ ring. (placement_fault (length memory.now) layout ≡ None) × (ring ≡ opening Packed queue layout no_features (length memory.now) 65536)) (λ fault. placement_fault (length memory.now) layout ≡ Some fault) }
     {
         let bytes = memory.size();
         check_layout(&layout, bytes)?;

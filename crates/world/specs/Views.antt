@@ -20,4 +20,6 @@ Gives None first count old (Ok true) new = ⊥
 Gives (Some u) first count old (Ok true) new = (first + count ≤ u.capacity) × (new ≡ old ++ run (blocks_of u.commits) first count)
 Gives None first count old (Ok false) new = new ≡ old
 Gives (Some u) first count old (Ok false) new = (u.capacity < first + count) × (new ≡ old)
-Gives unit first count old (Err e) new = new ≡ old
+Gives None first count old (Err e) new = ⊥
+-- only a list that has to grow wants memory
+Gives (Some u) first count old (Err e) new = (first + count ≤ u.capacity) × (0 < count) × (new ≡ old)

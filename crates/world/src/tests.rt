@@ -244,3 +244,16 @@ fn limits_of_a_configuration(rt: HostRuntime) -> Result<(), Fail> {
     );
     Ok(())
 }
+
+#[test]
+fn names_start_faults(rt: HostRuntime) -> Result<(), Fail> {
+    let texts = [
+        (StartFault::BadConfig, 1, "bad configuration"),
+        (StartFault::NoMemory, 2, "no memory"),
+    ];
+    for (fault, number, text) in texts {
+        assert_eq!(rt; fault as u8, number);
+        assert_eq!(rt; format!(in rt.alloc(); "{fault}")?.as_str(), text);
+    }
+    Ok(())
+}

@@ -187,6 +187,7 @@ impl Unit {
         requires { first + count ≤ self.now.capacity }
         ensures ok { OnOk result (into.new.items ≡ into.old.items ++ run (blocks_of self.now.commits) first count) }
         ensures err { OnErr result (into.new.items ≡ into.old.items) }
+        ensures want { OnErr result (0 < count) }
     {
         into.reserve(512 * count as usize)?;
         self.store.read_blocks(first, count, into);
