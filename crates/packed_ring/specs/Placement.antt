@@ -1,5 +1,5 @@
 -- Where a packed queue may lie (VIRTIO 1.2, 2.8: sizes and alignments of its areas).
-use Rattle.std.specs.Prelude.{ℕ, ◌≡◌, ◌+◌, ◌*◌, ◌%◌, ◌&&◌, ◌==◌, not, nat_le, nat_lt, cond, Bool, false, Option, Some, None}
+use Rattle.std.specs.Prelude.{ℕ, ◌+◌, ◌*◌, ◌%◌, ◌&&◌, ◌==◌, not, nat_le, nat_lt, cond, Bool, false, Option, Some, None}
 use Rattle.ring_core.specs.declared.layout.Layout.{Layout}
 use Rattle.ring_core.specs.declared.layout.Features.{Features}
 use Rattle.ring_core.specs.declared.layout.LayoutFault.{LayoutFault}
