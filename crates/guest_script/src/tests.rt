@@ -2,9 +2,11 @@ mod commands;
 mod failing;
 mod faults;
 mod header_faults;
+mod later_faults;
 mod limits;
 mod profile;
 mod rings;
+mod used_rings;
 
 use crate::{ScriptFault, play};
 use std::alloc::{AllocError, Global};

@@ -255,58 +255,38 @@ fn breaks_at_an_outstanding_id(rt: HostRuntime) -> Result<(), Fail> {
     Ok(())
 }
 
+/// Where a memory of four pages ends.
+const END: u64 = 16384;
+
+/// What is refused there: size, descriptor area, driver area, device area, and why.
+static REFUSED: [(u16, u64, u64, u64, LayoutFault); 8] = [
+    (0, END - 112, END - 4, END - 4, LayoutFault::BadSize),
+    (32769, END - 112, END - 4, END - 4, LayoutFault::BadSize),
+    (7, END + 8, END - 4, END - 4, LayoutFault::BadAlignment),
+    (7, END - 112, 2, END - 4, LayoutFault::BadAlignment),
+    (7, END - 112, END - 4, 2, LayoutFault::BadAlignment),
+    (7, END - 96, END - 4, END - 4, LayoutFault::Outside),
+    (7, END - 112, END, END - 4, LayoutFault::Outside),
+    (7, END - 112, END - 4, END, LayoutFault::Outside),
+];
+
 #[test]
 fn refuses_other_layouts(rt: HostRuntime) -> Result<(), Fail> {
     let memory = GuestMem::new(rt.alloc(), 4)?;
-    let last = 16384;
     let fine = Layout {
         size: 7,
-        desc: last - 112,
-        driver: last - 4,
-        device: last - 4,
+        desc: END - 112,
+        driver: END - 4,
+        device: END - 4,
     };
     assert!(rt; PackedRing::new(rt.alloc(), 2, fine, &memory).is_ok());
-    let table = [
-        (Layout { size: 0, ..fine }, LayoutFault::BadSize),
-        (
-            Layout {
-                size: 32769,
-                ..fine
-            },
-            LayoutFault::BadSize,
-        ),
-        (
-            Layout {
-                desc: last + 8,
-                ..fine
-            },
-            LayoutFault::BadAlignment,
-        ),
-        (Layout { driver: 2, ..fine }, LayoutFault::BadAlignment),
-        (Layout { device: 2, ..fine }, LayoutFault::BadAlignment),
-        (
-            Layout {
-                desc: last - 96,
-                ..fine
-            },
-            LayoutFault::Outside,
-        ),
-        (
-            Layout {
-                driver: last,
-                ..fine
-            },
-            LayoutFault::Outside,
-        ),
-        (
-            Layout {
-                device: last,
-                ..fine
-            },
-            LayoutFault::Outside,
-        ),
-    ];
-    for (layout, wanted) in table {
+    for (size, desc, driver, device, wanted) in REFUSED {
+        let layout = Layout {
+            size,
+            desc,
+            driver,
+            device,
+        };
         match PackedRing::new(rt.alloc(), 2, layout, &memory) {
             Ok(_) => assert!(rt; false, "{layout:?} was taken"),
             Err(fault) => assert_eq!(rt; fault, wanted, "at {layout:?}"),
