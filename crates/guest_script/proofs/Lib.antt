@@ -1,4 +1,5 @@
 pub mod Copies
+pub mod Digits
 pub mod Heads
 pub mod Numbers
 pub mod Rounds

@@ -2,6 +2,7 @@
 
 ghost use Rattle.std.specs.Prelude.{◌≡◌};
 ghost use Rattle.guest_script.specs.Faults.{ending_at};
+ghost use Rattle.guest_script.specs.declared.fault.Stop.{Stop};
 
 use block_store::NoMemory;
 use std::alloc::{AllocError, AllocFailed};
@@ -85,24 +86,32 @@ impl Stop {
 }
 
 impl From<LineFault> for Stop {
+    ghost from_gives = { λ fault stop. stop ≡ Stop.Fault fault };
+
     fn from(fault: LineFault) -> Stop {
         Stop::Fault(fault)
     }
 }
 
 impl From<NoMemory> for Stop {
+    ghost from_gives = { λ _ stop. stop ≡ Stop.NoMemory };
+
     fn from(_: NoMemory) -> Stop {
         Stop::NoMemory
     }
 }
 
 impl From<AllocError> for Stop {
+    ghost from_gives = { λ _ stop. stop ≡ Stop.NoMemory };
+
     fn from(_: AllocError) -> Stop {
         Stop::NoMemory
     }
 }
 
 impl<T: Drop> From<AllocFailed<T>> for Stop {
+    ghost from_gives = { λ _ stop. stop ≡ Stop.NoMemory };
+
     fn from(_: AllocFailed<T>) -> Stop {
         Stop::NoMemory
     }

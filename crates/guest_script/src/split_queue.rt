@@ -4,7 +4,7 @@ ghost use Rattle.std.specs.Prelude.{◌≡◌, [], IsTrue, ◌↔◌};
 
 use crate::areas::layout_of;
 use crate::fault::{LineFault, Stop};
-use crate::guest::{Buffer, descriptor, put, u16_at, u32_at};
+use crate::guest::{descriptor, put, u16_at, u32_at};
 use crate::requests::{Pair, Used};
 use guest_mem::GuestMem;
 use std::alloc::{AllocError, Global};

@@ -1,8 +1,9 @@
 //! What stands in the places of a line: numbers, names, units and bytes.
 
-ghost use Rattle.std.specs.Prelude.{◌≡◌, ◌≤◌, ◌<◌, ◌*◌, ◌-◌, ◌^◌, ◌++◌, min, length, [], IsOk, IfOk, OnOk, IfErr, ◌↔◌};
+ghost use Rattle.std.specs.Prelude.{◌≡◌, ◌<◌, ◌*◌, ◌-◌, ◌^◌, ◌++◌, min, length, [], true, false, ◌⊎◌, Ok, Err, IsOk, OnErr, IfOk, OnOk, IfErr, ◌↔◌};
 ghost use Rattle.std.specs.List.{repeat};
-ghost use Rattle.guest_script.specs.Values.{length_of};
+ghost use Rattle.std.specs.Str.{all_ascii_digits};
+ghost use Rattle.guest_script.specs.Values.{IsName, IsUnit, IsUnitPair, length_of};
 
 use crate::fault::{LineFault, Stop};
 use hex::FromHexError;
@@ -21,6 +22,9 @@ const LONGEST_NAME: usize = 16;
 pub fn number<N: FromStr>(word: &str) -> Result<N, LineFault>
 where
     N::Err: Drop,
+    ensures taken { IfOk result (λ number. (all_ascii_digits word.now ≡ true) × N.from_str_gives word.now (Ok number)) }
+    ensures refused { OnErr result ((all_ascii_digits word.now ≡ false) ⊎ ((error : N.Err) × N.from_str_gives word.now (Err error))) }
+    ensures fault { IfErr result (λ fault. fault ≡ LineFault.BadValue) }
 {
     if !word.bytes().all(|byte| byte.is_ascii_digit()) {
         return Err(LineFault::BadValue);
@@ -33,7 +37,7 @@ where
 
 /// A name: 1 to 16 letters or digits.
 pub fn name(word: &str) -> Result<&str, LineFault>
-    ensures lengths { OnOk result ((1 ≤ length word.now) × (length word.now ≤ 16)) }
+    ensures names { IsOk result ↔ IsName word.now }
     ensures same { IfOk result (λ name. name.now ≡ word.now) }
     ensures fault { IfErr result (λ fault. fault ≡ LineFault.BadValue) }
 {
@@ -47,7 +51,9 @@ pub fn name(word: &str) -> Result<&str, LineFault>
 
 /// A unit that was written as two words, its target and its LUN.
 pub fn unit(target: &str, lun: &str) -> Result<Address, LineFault>
-    ensures { IfOk result (λ address. address.lun < 16384) }
+    ensures taken { IfOk result (λ unit. IsUnit target.now lun.now unit) }
+    ensures refused { OnErr result ((unit : Address) → ¬ IsUnit target.now lun.now unit) }
+    ensures fault { IfErr result (λ fault. fault ≡ LineFault.BadValue) }
 {
     let target = number::<u8>(target)?;
     let lun = number::<u16>(lun)?;
@@ -59,7 +65,9 @@ pub fn unit(target: &str, lun: &str) -> Result<Address, LineFault>
 
 /// A unit that was written as `T:L`.
 pub fn unit_pair(word: &str) -> Result<Address, LineFault>
-    ensures { IfOk result (λ address. address.lun < 16384) }
+    ensures taken { IfOk result (λ unit. IsUnitPair word.now unit) }
+    ensures refused { OnErr result ((unit : Address) → ¬ IsUnitPair word.now unit) }
+    ensures fault { IfErr result (λ fault. fault ≡ LineFault.BadValue) }
 {
     match word.split_once(':') {
         Some((target, lun)) => unit(target, lun),
