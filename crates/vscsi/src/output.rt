@@ -1,5 +1,7 @@
 //! Standard output, which isn't written to again once it has failed.
 
+ghost use Rattle.std.specs.Prelude.{◌≡◌, false};
+
 use std::io;
 use std::io::{ErrorKind, Write};
 
@@ -11,8 +13,11 @@ pub struct Output<W> {
 }
 
 impl<W> Output<W> {
-    /// Over a writer.
-    pub fn new(writer: W) -> Output<W> {
+    /// Over a writer, which hasn't failed.
+    pub fn new(writer: W) -> Output<W>
+        ensures over { result.writer ≡ writer }
+        ensures open { result.failed ≡ false }
+    {
         Output {
             writer,
             failed: false,
@@ -21,6 +26,8 @@ impl<W> Output<W> {
 }
 
 impl<W: Write> Write for Output<W> {
+    ghost contents = { λ output. W.contents output.writer };
+
     fn write(&mut self, buf: &[u8]) -> io::Result<usize> {
         if self.failed {
             return Err(io::Error::from(ErrorKind::BrokenPipe));
