@@ -1,7 +1,7 @@
 //! The capacity of a unit: its data, and the ranges that lie below it.
 
 ghost use Rattle.std.specs.Prelude.{◌≡◌, ◌-◌};
-ghost use Rattle.block_commands.specs.Capacity.{capacity_10, capacity_16, last_lba, is_in_range};
+ghost use Rattle.block_commands.specs.Capacity.{capacity_10, capacity_16, is_in_range};
 
 use block_store::BLOCK_BYTES;
 

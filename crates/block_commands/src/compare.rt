@@ -1,6 +1,6 @@
 //! COMPARE AND WRITE (SBC-3 §5.2).
 
-ghost use Rattle.std.specs.Prelude.{◌≡◌, ℕ, ◌*◌, ◌≤◌, ◌<◌, [], length, OnOk, OnErr, IfSome};
+ghost use Rattle.std.specs.Prelude.{◌≡◌, ℕ, ◌*◌, ◌<◌, [], length, OnOk, OnErr, IfSome};
 ghost use Rattle.block_store.specs.Blocks.{run, overwritten};
 ghost use Rattle.block_commands.specs.Capacity.{is_in_range};
 ghost use Rattle.block_commands.specs.Comparing.{first_unequal, to_compare, to_write};

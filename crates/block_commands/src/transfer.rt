@@ -1,6 +1,6 @@
 //! READ, WRITE and WRITE SAME.
 
-ghost use Rattle.std.specs.Prelude.{◌≡◌, ◌&&◌, nat_lt, ℕ, ◌*◌, ◌-◌, ◌≤◌, [], length, vec_len, IfOk, OnOk, OnErr, Ok};
+ghost use Rattle.std.specs.Prelude.{◌≡◌, ◌&&◌, nat_lt, ℕ, ◌*◌, ◌-◌, [], length, vec_len, IfOk, OnOk, OnErr, Ok};
 ghost use Rattle.block_store.specs.Blocks.{run, overwritten, filled};
 ghost use Rattle.block_commands.specs.Capacity.{is_in_range};
 ghost use Rattle.block_commands.specs.Replies.{within, done};

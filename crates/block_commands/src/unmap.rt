@@ -1,6 +1,6 @@
 //! UNMAP (SBC-3 §5.28).
 
-ghost use Rattle.std.specs.Prelude.{◌≡◌, ℕ, ◌+◌, ◌*◌, ◌-◌, ◌≤◌, ◌<◌, [], length, drop, nat_lt, ◌||◌, IsTrue, OnOk, OnErr, if◌then◌else◌};
+ghost use Rattle.std.specs.Prelude.{◌≡◌, ℕ, ◌+◌, ◌*◌, ◌-◌, ◌≤◌, ◌<◌, length, drop, nat_lt, ◌||◌, IsTrue, OnOk, OnErr, if◌then◌else◌};
 ghost use Rattle.block_store.specs.Blocks.{zero_block};
 ghost use Rattle.block_commands.specs.Replies.{unmap_answer};
 ghost use Rattle.block_commands.specs.UnmapList.{descriptor, descriptors_in, descriptor_count, descriptors, blocks_named, are_in_range, is_named};

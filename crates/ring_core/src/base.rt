@@ -1,6 +1,6 @@
 //! What both forms of queue keep.
 
-ghost use Rattle.std.specs.Prelude.{◌≡◌, ◌+◌, ◌*◌, ◌<◌, ◌≤◌, ◌^◌, ◌↔◌, length, IfOk, OnErr, OnOk, Some, None, IsTrue, is_some};
+ghost use Rattle.std.specs.Prelude.{◌≡◌, ◌+◌, ◌<◌, ◌≤◌, ◌^◌, ◌↔◌, length, IfOk, OnErr, OnOk, Some, None, IsTrue, is_some};
 ghost use Rattle.ring_core.specs.State.{under, accepting, using, breaking, opening, next_ticket, Owns, IsLawful};
 ghost use Rattle.ring_core.specs.Parts.{PartsFit};
 

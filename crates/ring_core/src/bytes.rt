@@ -1,7 +1,7 @@
 //! Reading and writing the bytes of a chain's parts.
 
 ghost use Rattle.std.specs.Prelude.{◌≡◌, ◌+◌, ◌≤◌, ◌<◌, ◌^◌, ◌-◌, ◌++◌, length, take, min, true, IfOk, OnOk};
-ghost use Rattle.guest_mem.specs.Memory.{bytes_at, with_bytes};
+ghost use Rattle.guest_mem.specs.Memory.{with_bytes};
 ghost use Rattle.ring_core.specs.Parts.{PartsFit, inside, readable_of, readable_bytes, writable_total, scattered};
 
 use crate::chain::{Chain, total_readable};

@@ -29,7 +29,7 @@ impl Model for Chain {
     ghost invariant = { λ c. (c.readable_len ≡ readable_total c.parts.items) × (c.writable_len ≡ writable_total c.parts.items) × PartsFit c.memory c.parts.items };
 }
 
-ghost use Rattle.std.specs.Prelude.{◌≡◌, ◌+◌, ◌≤◌, ◌<◌, ◌^◌};
+ghost use Rattle.std.specs.Prelude.{◌≡◌, ◌≤◌, ◌<◌, ◌^◌};
 ghost use Rattle.ring_core.specs.Parts.{readable_total, writable_total, PartsFit};
 
 /// How many bytes of the parts can be read.

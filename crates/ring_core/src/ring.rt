@@ -1,6 +1,6 @@
 //! What every virtqueue promises, in whatever form it lies in memory.
 
-ghost use Rattle.std.specs.Prelude.{◌≡◌, ◌↔◌, ◌<◌, ◌^◌, length, IsTrue};
+ghost use Rattle.std.specs.Prelude.{◌≡◌, ◌↔◌, ◌<◌, length, IsTrue};
 ghost use Rattle.ring_core.specs.State.{RingState, Owns, IsLawful, using};
 ghost use Rattle.ring_core.specs.Offer.{with_used, wants_notice};
 ghost use Rattle.ring_core.specs.Fetch.{Fetches};

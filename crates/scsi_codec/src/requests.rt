@@ -1,6 +1,5 @@
 //! What the device reads of a request.
 
-ghost use Rattle.std.specs.Prelude.{◌≡◌};
 ghost use Rattle.scsi_codec.specs.Requests.{ReadsRequest};
 
 use crate::lun::{Address, read_lun_field};

@@ -1,13 +1,11 @@
 //! Answering a request that was fetched.
 
-ghost use Rattle.std.specs.Prelude.{◌≡◌, ◌+◌, ◌≤◌, ◌<◌, ◌^◌, ◌⊎◌, IsTrue, length, drop};
+ghost use Rattle.std.specs.Prelude.{◌≡◌, ◌+◌, ◌≤◌, ◌<◌, ◌^◌, ◌⊎◌, IsTrue, length};
 ghost use Rattle.sense.specs.Conditions.{invalid_message_error};
 ghost use Rattle.block_commands.specs.Absent.{absent_reply};
 ghost use Rattle.block_commands.specs.Memory.{absent_wants};
 ghost use Rattle.block_commands.specs.PlainReply.{refusal};
-ghost use Rattle.block_commands.specs.Replies.{data_of};
 ghost use Rattle.world.specs.Answers.{answer_of_reply};
-ghost use Rattle.world.specs.Unit.{reply_now, committing};
 ghost use Rattle.cdb.specs.Need.{need_of};
 ghost use Rattle.world.specs.Answering.{bytes_of, Answered, IsBusy, RunsOn};
 

@@ -129,7 +129,7 @@ fn clear_oldest(attentions: &mut Attentions, command: &Command)
 }
 
 impl Unit {
-    ghost use Rattle.std.specs.Prelude.{◌≡◌, ◌+◌, ◌≤◌, ◌<◌, ◌++◌, length, drop, IfSome, IfNone, IfOk, OnOk, OnErr, []};
+    ghost use Rattle.std.specs.Prelude.{◌≡◌, ◌+◌, ◌≤◌, ◌<◌, ◌++◌, length, drop, IfSome, IfNone, IfOk, OnOk, OnErr};
     ghost use Rattle.block_store.specs.Blocks.{run};
     ghost use Rattle.world.specs.Unit.{blocks_of};
     ghost use Rattle.cdb.specs.Need.{need_of};
