@@ -1,5 +1,5 @@
 -- Words of digits, and what parsing says of them.
-use Rattle.std.proofs.Common.{arith, ◌≡◌, ◌≤◌, ◌^◌, ℕ, List, [], ◌∷◌, ap, refl, Bool, ◌&&◌, false, ◌⊎◌, inl, inr, Ok, Err, OnErr, sym, ◌∙◌, true≢false}
+use Rattle.std.proofs.Common.{arith, ◌≡◌, ◌≤◌, ◌<◌, ◌^◌, ℕ, List, [], ◌∷◌, ap, refl, Bool, ◌&&◌, true, false, ◌⊎◌, inl, inr, Ok, Err, OnErr, sym, ◌∙◌, true≢false}
 use Rattle.std.specs.Char.{is_ascii_digit}
 use Rattle.std.specs.List.{after_first, before_first, list_all}
 use Rattle.std.specs.Str.{all_ascii_digits}
@@ -13,6 +13,16 @@ use Rattle.scsi_codec.specs.declared.lun.Address.{Address}
 pub all_digits : (word : List ℕ) → list_all is_ascii_digit word ≡ all_ascii_digits word
 all_digits [] = refl
 all_digits (first ∷ word) = ap (λ (rest : Bool). is_ascii_digit first && rest) (all_digits word)
+
+-- a word that is read as a number of so many bits is that number, below each bound that it keeps to
+pub is_number : (bits bound : ℕ) (word : List ℕ) (number : ℕ)
+    → (all_ascii_digits word ≡ true) × (ParsesUnsigned {E = ParseIntError} bits 10 word (Ok number)
+    × ExplainsUnsignedError {T = ℕ} 10 word (Ok number) × HasUnsignedDigitsIfOk {E = ParseIntError} word (Ok number))
+    → number < bound → IsNumber bound word number
+is_number bits bound word number taken below =
+    let result : Result ℕ ParseIntError = Ok number in
+    let parsed = parse_digits (numerals_by_value _ tells_all_ascii_digits) bits word result taken.1.0 taken.0 in
+    record { digits = taken.0; some = parsed.0.0; value = parsed.1; below = below }
 
 -- a word that isn't read as a number of so many bits is no number that has room in them
 pub not_number : (bits bound : ℕ) (word : List ℕ) → bound ≤ 2 ^ bits

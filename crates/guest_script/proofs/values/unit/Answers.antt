@@ -1,5 +1,5 @@
-use Rattle.std.proofs.Common.{arith}
-use Rattle.guest_script.proofs.Digits.{not_number, on_err}
+use Rattle.std.proofs.Common.{rules, arith}
+use Rattle.guest_script.proofs.Digits.{is_number, not_number, on_err}
 use Rattle.guest_script.proofs.values.unit.Goals as goal
 
 pub returns-in_err-target-clause-refused : goal.returns-in_err-target-clause-refused
@@ -9,3 +9,10 @@ returns-in_err-target-clause-refused c =
 pub returns-in_err-lun-clause-refused : goal.returns-in_err-lun-clause-refused
 returns-in_err-lun-clause-refused c =
     on_err c.from_residual-in_err-lun.result (λ unit is. not_number 16 16384 c.args.lun.now (omega arith) c.in_err-lun.ensures.refused unit.lun is.lun_number)
+
+pub returns-clause-taken : goal.returns-clause-taken
+returns-clause-taken c =
+    record {
+      target_number = is_number 8 256 c.args.target.now _ c.in_ok-target.ensures.taken (search rules);
+      lun_number = is_number 16 16384 c.args.lun.now _ c.in_ok-lun.ensures.taken (omega arith);
+    }
