@@ -1,7 +1,7 @@
 //! Readers and writers that fail.
 
-use guest_script::{ScriptFault, play};
-use std::alloc::{AllocError, Global};
+use guest_script::{LineFault, ScriptFault, play};
+use std::alloc::Global;
 use std::io;
 use std::io::{Read, Write};
 use std::test::Fail;
@@ -23,6 +23,18 @@ order 2:
 blocks 0:0 0 1: 00*512
 ";
 
+/// The fault of a script that can't be read.
+const CANNOT_READ: ScriptFault = ScriptFault::Line {
+    line: 0,
+    fault: LineFault::CannotRead,
+};
+
+/// The fault of the script's last line.
+const NO_SUCH_NAME: ScriptFault = ScriptFault::Line {
+    line: 10,
+    fault: LineFault::NoSuchName,
+};
+
 /// Gives its text seven bytes a call, and fails at one call.
 #[derive(Drop)]
 struct Reader<'a> {
@@ -37,11 +49,8 @@ impl<'a> Read for Reader<'a> {
         if self.calls == self.fails_at {
             return Err(io::Error::from(io::ErrorKind::BrokenPipe));
         }
-        let most = buf.len().min(7).min(self.text.len());
-        let (now, rest) = self.text.split_at(most);
-        buf[..most].copy_from_slice(now);
-        self.text = rest;
-        Ok(most)
+        let most = buf.len().min(7);
+        self.text.read(&mut buf[..most])
     }
 }
 
@@ -69,17 +78,9 @@ impl Write for Writer {
     }
 }
 
-/// The text of how a script ended.
-fn ending(alloc: Global, outcome: Result<(), ScriptFault>) -> Result<String, AllocError> {
-    match outcome {
-        Ok(()) => Ok(String::new(alloc)),
-        Err(fault) => format!(in alloc; "{fault}"),
-    }
-}
-
 /// Plays the script over a reader and a writer that fail at these calls, 0 for at none. Gives what was
 /// printed, how often each was called, and how it ended.
-fn played(alloc: Global, reads: u64, writes: u64) -> Result<(Vec<u8>, u64, u64, String), Fail> {
+fn played(alloc: Global, reads: u64, writes: u64) -> (Vec<u8>, u64, u64, Result<(), ScriptFault>) {
     let mut reader = Reader {
         text: SCRIPT.as_bytes(),
         calls: 0,
@@ -90,41 +91,45 @@ fn played(alloc: Global, reads: u64, writes: u64) -> Result<(Vec<u8>, u64, u64, 
         calls: 0,
         fails_at: writes,
     };
-    let outcome = play(alloc, &mut reader, &mut writer);
+    let end = play(alloc, &mut reader, &mut writer);
     let Writer { got, calls, .. } = writer;
-    Ok((got, reader.calls, calls, ending(alloc, outcome)?))
+    (got, reader.calls, calls, end)
+}
+
+/// Whether these bytes begin what the script prints, and aren't all of it.
+fn is_begun(printed: &[u8]) -> bool {
+    printed.len() < PRINTS.len() && PRINTS.as_bytes().starts_with(printed)
 }
 
 #[test]
-fn a_reader_that_fails(rt: HostRuntime) -> Result<(), Fail> {
-    let alloc = rt.alloc();
-    let (_, reads, _, _) = played(alloc, 0, 0)?;
+fn a_reader_that_fails(rt: HostRuntime) {
+    let (_, reads, _, _) = played(rt.alloc(), 0, 0);
     assert!(rt; reads > 10);
     for call in 1..=reads {
-        let (got, calls, _, end) = played(alloc, call, 0)?;
-        assert!(rt; got.is_empty(), "printed, reader at {call}");
-        assert_eq!(rt; calls, call, "calls, reader at {call}");
-        assert_eq!(rt; end.as_str(), "line 0: cannot read", "reader at {call}");
+        let (got, calls, _, end) = played(rt.alloc(), call, 0);
+        assert!(rt; got.is_empty() && calls == call, "reader at {call}");
+        assert!(rt; end == Err(CANNOT_READ), "reader at {call}");
     }
-    Ok(())
 }
 
 #[test]
-fn a_writer_that_fails(rt: HostRuntime) -> Result<(), Fail> {
-    let alloc = rt.alloc();
-    let (got, _, writes, end) = played(alloc, 0, 0)?;
-    assert_eq!(rt; got.as_slice(), PRINTS.as_bytes());
-    assert_eq!(rt; end.as_str(), "line 10: no such name");
+fn a_writer_that_fails(rt: HostRuntime) {
+    let (got, _, writes, end) = played(rt.alloc(), 0, 0);
+    assert!(rt; got.as_slice() == PRINTS.as_bytes() && end == Err(NO_SUCH_NAME));
     assert!(rt; writes > 10);
     for call in 1..=writes {
-        let (got, _, calls, end) = played(alloc, 0, call)?;
+        let (got, _, calls, end) = played(rt.alloc(), 0, call);
         assert!(rt;
-            PRINTS.as_bytes().starts_with(got.as_slice()),
-            "printed, writer at {call}"
+            is_begun(got.as_slice()) && calls == call,
+            "writer at {call}"
         );
-        assert!(rt; got.len() < PRINTS.len(), "printed, writer at {call}");
-        assert_eq!(rt; calls, call, "calls, writer at {call}");
-        assert_eq!(rt; end.as_str(), "cannot write", "writer at {call}");
+        assert!(rt; end == Err(ScriptFault::CannotWrite), "writer at {call}");
     }
+}
+
+#[test]
+fn a_writer_that_fails_is_named(rt: HostRuntime) -> Result<(), Fail> {
+    let text = format!(in rt.alloc(); "{}", ScriptFault::CannotWrite)?;
+    assert_eq!(rt; text.as_str(), "cannot write");
     Ok(())
 }
