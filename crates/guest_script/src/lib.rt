@@ -18,6 +18,3 @@ mod values;
 pub use fault::{LineFault, ScriptFault};
 pub use session::play;
 pub use world;
-
-#[cfg(test)]
-mod tests;

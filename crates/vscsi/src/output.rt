@@ -1,6 +1,10 @@
 //! Standard output, which isn't written to again once it has failed.
 
-ghost use Rattle.std.specs.Prelude.{◌≡◌, false};
+ghost use Rattle.std.specs.Prelude.{◌≡◌, ◌≢◌, ◌↔◌, true, false, IfOk, IfErr, IsErr};
+ghost use Rattle.std.specs.Io.{WritesAtMost};
+ghost use Rattle.std.specs.Io.KnownBytes.{Keeps, WriteAppends};
+ghost use Rattle.std.specs.IoError.{error_kind};
+ghost use Rattle.std.specs.declared.io.ErrorKind.TheVariants.{Interrupted};
 
 use std::io;
 use std::io::{ErrorKind, Write};
@@ -28,7 +32,15 @@ impl<W> Output<W> {
 impl<W: Write> Write for Output<W> {
     ghost contents = { λ output. W.contents output.writer };
 
-    fn write(&mut self, buf: &[u8]) -> io::Result<usize> {
+    fn write(&mut self, buf: &[u8]) -> io::Result<usize>
+        ensures bound { WritesAtMost result buf.now }
+        ensures bytes { WriteAppends (W.contents self.old.writer) (W.contents self.new.writer) result buf.now }
+        ensures left { self.old.failed ≡ true → self.new ≡ self.old }
+        ensures refused { self.old.failed ≡ true → IsErr result }
+        ensures taken { IfOk result (λ n. (self.new.failed ≡ true) ↔ (n ≡ 0)) }
+        ensures error { IfErr result (λ e. error_kind e ≢ Interrupted → self.new.failed ≡ true) }
+        ensures interrupted { IfErr result (λ e. error_kind e ≡ Interrupted → self.new.failed ≡ self.old.failed) }
+    {
         if self.failed {
             return Err(io::Error::from(ErrorKind::BrokenPipe));
         }
@@ -41,50 +53,17 @@ impl<W: Write> Write for Output<W> {
         outcome
     }
 
-    fn flush(&mut self) -> io::Result<()> {
+    fn flush(&mut self) -> io::Result<()>
+        ensures bytes { Keeps (W.contents self.old.writer) (W.contents self.new.writer) }
+        ensures left { self.old.failed ≡ true → self.new ≡ self.old }
+        ensures refused { self.old.failed ≡ true → IsErr result }
+        ensures error { (self.new.failed ≡ true) ↔ IsErr result }
+    {
         if self.failed {
             return Err(io::Error::from(ErrorKind::BrokenPipe));
         }
         let outcome = self.writer.flush();
         self.failed = outcome.is_err();
         outcome
-    }
-}
-
-#[cfg(test)]
-mod tests {
-    use super::*;
-    use std::test::Fail;
-
-    /// Takes all, but fails at its second call.
-    #[derive(Drop)]
-    struct Flaky {
-        calls: u8,
-    }
-
-    impl Write for Flaky {
-        fn write(&mut self, buf: &[u8]) -> io::Result<usize> {
-            self.calls = self.calls.saturating_add(1);
-            if self.calls == 2 {
-                return Err(io::Error::from(ErrorKind::StorageFull));
-            }
-            Ok(buf.len())
-        }
-
-        fn flush(&mut self) -> io::Result<()> {
-            self.calls = self.calls.saturating_add(1);
-            Ok(())
-        }
-    }
-
-    #[test]
-    fn is_left_alone_once_it_failed(rt: HostRuntime) -> Result<(), Fail> {
-        let mut output = Output::new(Flaky { calls: 0 });
-        output.write_all(b"one")?;
-        assert!(rt; output.write_all(b"two").is_err());
-        assert!(rt; output.write_all(b"three").is_err());
-        assert!(rt; output.flush().is_err());
-        assert_eq!(rt; output.writer.calls, 2);
-        Ok(())
     }
 }
