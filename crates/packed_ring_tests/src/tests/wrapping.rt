@@ -1,9 +1,8 @@
 //! Places run round at the end of the slots, and the wrap counters flip.
 
 use super::{AVAILABLE, AVAILABLE_AT_0, PLACE, bench};
-use crate::rings::bench::Bench;
-use crate::rings::moves::{Move, NEXT};
 use packed_ring::PackedRing;
+use ring_bench::{Bench, Move, NEXT};
 use ring_core::Layout;
 use std::alloc::Global;
 use std::process::Abort;
@@ -78,28 +77,30 @@ static USED: [Used; 3] = [
     },
 ];
 
-/// Compares what stands in memory after a pair.
-fn compare(rt: &impl Abort, bench: &mut Bench<PackedRing>, pair: u8) -> Result<(), Fail> {
+/// Whether memory has what it should after a pair.
+fn has_used(bench: &mut Bench<PackedRing>, pair: u8) -> bool {
     for used in &USED {
-        if used.pair == pair {
-            bench.play(rt, "used descriptors", used.moves)?;
+        if used.pair == pair && bench.first_wrong(used.moves).is_some() {
+            return false;
         }
     }
-    Ok(())
+    true
 }
 
-/// Serves a pair, and compares what stands in memory then.
-fn serve_pair(rt: &impl Abort, bench: &mut Bench<PackedRing>, pair: u8) -> Result<(), Fail> {
-    bench.play(rt, "pairs", serving_pair(pair).as_slice())?;
-    compare(rt, bench, pair)
+/// Serves pairs, one after the other. The first that isn't served as it should.
+fn first_unserved_pair(bench: &mut Bench<PackedRing>) -> Option<u8> {
+    for pair in 0..21 {
+        if bench.first_wrong(serving_pair(pair).as_slice()).is_some() || !has_used(bench, pair) {
+            return Some(pair);
+        }
+    }
+    None
 }
 
 #[test]
 fn wraps_in_pairs(rt: HostRuntime) -> Result<(), Fail> {
-    let mut bench = bench(&rt, rt.alloc(), 16, PLACE)?;
-    for pair in 0..21u8 {
-        serve_pair(&rt, &mut bench, pair)?;
-    }
+    let mut bench = bench(rt.alloc(), 16, PLACE)?;
+    assert_eq!(rt; first_unserved_pair(&mut bench), None);
     Ok(())
 }
 
@@ -123,15 +124,24 @@ fn serving_one(number: u64, slot: u16, turn: u16) -> [Move; 4] {
     ]
 }
 
-/// Serves 65,537 chains, one after the other, on a queue of so many slots.
-fn serve_many(rt: &impl Abort, alloc: Global, size: u16) -> Result<(), Fail> {
-    let mut bench = bench(rt, alloc, 16, Layout { size, ..PLACE })?;
+/// Serves 65,537 chains, one after the other, on a queue of so many slots. The first that isn't served
+/// as it should.
+fn first_unserved(bench: &mut Bench<PackedRing>, size: u16) -> Option<u64> {
     let mut place = (0, AVAILABLE);
-    for number in 0..65_537u64 {
+    for number in 0..65_537 {
         let moves = serving_one(number, place.0, place.1);
-        bench.play(rt, "many chains", moves.as_slice())?;
+        if bench.first_wrong(moves.as_slice()).is_some() {
+            return Some(number);
+        }
         place = next(place.0, place.1, size);
     }
+    None
+}
+
+/// Plays `first_unserved` on a queue of so many slots.
+fn serve_many(rt: &impl Abort, alloc: Global, size: u16) -> Result<(), Fail> {
+    let mut bench = bench(alloc, 16, Layout { size, ..PLACE })?;
+    assert_eq!(rt; first_unserved(&mut bench, size), None, "{size} slots");
     Ok(())
 }
 

@@ -1,14 +1,11 @@
-//! The split virtqueue, from VIRTIO 1.2, 2.7.
-
 mod faults;
 mod layouts;
 mod rows;
 mod wrapping;
 
-use super::bench::Bench;
-use super::moves::Row;
 use faults::FAULTS;
 use guest_mem::GuestMem;
+use ring_bench::{Bench, Row};
 use ring_core::{Layout, LayoutFault};
 use rows::ROWS;
 use split_ring::SplitRing;
@@ -34,13 +31,10 @@ fn queue(
 }
 
 /// A queue of this layout in fresh memory.
-fn bench(
-    rt: &impl Abort,
-    alloc: Global,
-    pages: u32,
-    layout: Layout,
-) -> Result<Bench<SplitRing>, Fail> {
-    assert!(rt; pages <= 65536);
+fn bench(alloc: Global, pages: u32, layout: Layout) -> Result<Bench<SplitRing>, Fail> {
+    if pages > 65536 {
+        return Err(Fail::from("too many pages"));
+    }
     let memory = GuestMem::new(alloc, pages)?;
     let ring = queue(alloc, 2, layout, &memory)?;
     Ok(Bench::of(alloc, ring, memory))
@@ -48,8 +42,10 @@ fn bench(
 
 /// Plays a row.
 fn play(rt: &impl Abort, alloc: Global, row: &Row) -> Result<(), Fail> {
-    let mut bench = bench(rt, alloc, row.pages, row.layout)?;
-    bench.play(rt, row.shows, row.moves)
+    let mut bench = bench(alloc, row.pages, row.layout)?;
+    let shows = row.shows;
+    assert_eq!(rt; bench.first_wrong(row.moves), None, "wrong move of {shows}");
+    Ok(())
 }
 
 #[test]

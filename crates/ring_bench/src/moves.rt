@@ -1,4 +1,4 @@
-//! The rows of the tests of virtqueues.
+//! What the rows of a test consist of.
 
 use ring_core::Layout;
 
