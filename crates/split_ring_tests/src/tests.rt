@@ -1,6 +1,7 @@
 mod faults;
 mod layouts;
 mod rows;
+mod texts;
 mod wrapping;
 
 use faults::FAULTS;

@@ -1,9 +1,9 @@
 //! Which configurations are refused.
 
-use super::config;
+use super::{NUMBERS, Numbers, start};
 use std::alloc::Global;
 use std::test::Fail;
-use world::{Config, RING_PACKED, StartFault, UnitSpec, VERSION_1, World};
+use world::{RING_PACKED, StartFault, UnitSpec, VERSION_1};
 
 /// A unit of 8 blocks.
 const UNIT: UnitSpec = UnitSpec {
@@ -24,16 +24,16 @@ const UNITS: [UnitSpec; 3] = [
 ];
 
 /// Whether a configuration is refused as bad; another refusal is a failure.
-fn is_bad(alloc: Global, config: &Config) -> Result<bool, Fail> {
-    match World::new(alloc, config) {
+fn is_bad(alloc: Global, numbers: Numbers, units: &[UnitSpec]) -> Result<bool, Fail> {
+    match start(alloc, numbers, units) {
         Ok(_) => Ok(false),
         Err(StartFault::BadConfig) => Ok(true),
-        Err(StartFault::NoMemory) => Err(Fail::from(StartFault::NoMemory)),
+        Err(StartFault::NoMemory) => Err(Fail::from("no memory")),
     }
 }
 
 /// Pages, features, workers, jobs between them, and whether a device with `UNITS` is refused.
-static NUMBERS: [(u32, u64, u16, u16, bool); 9] = [
+static ROWS: [(u32, u64, u16, u16, bool); 9] = [
     (16, VERSION_1, 1, 64, false),
     (16, VERSION_1, 9, 64, true),
     (16, VERSION_1, 8, 4097, true),
@@ -47,14 +47,14 @@ static NUMBERS: [(u32, u64, u16, u16, bool); 9] = [
 
 #[test]
 fn numbers_of_a_configuration(rt: HostRuntime) -> Result<(), Fail> {
-    for (pages, features, workers, handoff, wanted) in NUMBERS {
-        let config = Config {
+    for (pages, features, workers, handoff, wanted) in ROWS {
+        let numbers = Numbers {
             pages,
+            features,
             workers,
             handoff,
-            ..config(rt.alloc(), features, UNITS.as_slice())?
         };
-        let found = is_bad(rt.alloc(), &config)?;
+        let found = is_bad(rt.alloc(), numbers, UNITS.as_slice())?;
         assert_eq!(rt; found, wanted, "{pages} {features} {workers} {handoff}");
     }
     Ok(())
@@ -70,9 +70,9 @@ static REFUSED: [&[UnitSpec]; 4] = [
 
 #[test]
 fn units_of_a_configuration(rt: HostRuntime) -> Result<(), Fail> {
-    for units in REFUSED {
-        let config = config(rt.alloc(), VERSION_1, units)?;
-        assert!(rt; is_bad(rt.alloc(), &config)?, "{units:?}");
+    for number in 0..REFUSED.len() {
+        let is_refused = is_bad(rt.alloc(), NUMBERS, REFUSED[number])?;
+        assert!(rt; is_refused, "units {number} from 0");
     }
     Ok(())
 }

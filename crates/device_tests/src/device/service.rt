@@ -1,6 +1,6 @@
 //! Turns of the device: how many there are, and what they leave in the rings.
 
-use super::config;
+use super::{NUMBERS, Numbers, start};
 use std::alloc::Global;
 use std::process::Abort;
 use std::test::Fail;
@@ -162,7 +162,11 @@ fn play(rt: &impl Abort, alloc: Global, row: &Row) -> Result<(), Fail> {
         blocks: 8,
         calm: row.calm,
     };
-    let mut world = World::new(alloc, &config(alloc, row.features, &[unit])?)?;
+    let numbers = Numbers {
+        features: row.features,
+        ..NUMBERS
+    };
+    let mut world = start(alloc, numbers, &[unit])?;
     take_all(rt, &mut world, row)
 }
 

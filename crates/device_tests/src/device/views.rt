@@ -1,8 +1,8 @@
 //! What a device tells of its units.
 
-use super::config;
+use super::{NUMBERS, start};
 use std::test::Fail;
-use world::{UnitSpec, VERSION_1, World};
+use world::UnitSpec;
 
 /// The unit 3:0.
 const UNIT: UnitSpec = UnitSpec {
@@ -17,7 +17,7 @@ static BLOCKS: [(u8, u64, bool); 4] = [(3, 5, true), (3, 7, true), (3, 8, false)
 
 #[test]
 fn blocks_and_capacities(rt: HostRuntime) -> Result<(), Fail> {
-    let world = World::new(rt.alloc(), &config(rt.alloc(), VERSION_1, &[UNIT])?)?;
+    let world = start(rt.alloc(), NUMBERS, &[UNIT])?;
     let mut block = Vec::new(rt.alloc());
     for (target, lba, wanted) in BLOCKS {
         let is_read = world.read_blocks(target, 0, lba, 1, &mut block)?;
