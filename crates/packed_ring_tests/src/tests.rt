@@ -1,5 +1,6 @@
 mod layouts;
 mod rows;
+mod texts;
 mod wrapping;
 
 use guest_mem::GuestMem;

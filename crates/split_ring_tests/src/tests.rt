@@ -1,7 +1,6 @@
 mod faults;
 mod layouts;
 mod rows;
-mod texts;
 mod wrapping;
 
 use faults::FAULTS;
