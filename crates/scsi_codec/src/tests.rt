@@ -196,10 +196,11 @@ static CONTROLS: [(&[u8], Control, usize); 12] = [
 
 #[test]
 fn reads_controls(rt: HostRuntime) {
-    for (bytes, control, len) in CONTROLS {
+    for number in 0..CONTROLS.len() {
+        let (bytes, control, len) = CONTROLS[number];
         let found = read_control(bytes);
-        assert_eq!(rt; found, control, "of {bytes:?}");
-        assert_eq!(rt; found.answer_len(), len, "of {bytes:?}");
+        let answer = (found, found.answer_len());
+        assert_eq!(rt; answer, (control, len), "control {number} from 0");
     }
 }
 
