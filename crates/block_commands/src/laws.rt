@@ -1,6 +1,6 @@
 //! What follows from the definitions alone.
 
-ghost use Rattle.std.specs.Prelude.{◌≡◌, ◌≢◌, ◌⊎◌, ℕ, ◌+◌, ◌*◌, ◌<◌, ◌≤◌, [], List, length, slice_index, IsTrue, IsFalse, Some, None};
+ghost use Rattle.std.specs.Prelude.{◌≡◌, ◌≢◌, ◌∷◌, ◌⊎◌, ℕ, ◌+◌, ◌*◌, ◌<◌, ◌≤◌, [], List, length, slice_index, IsTrue, IsFalse, Some, None};
 ghost use Rattle.sense.specs.declared.Sense.{Sense};
 ghost use Rattle.sense.specs.Conditions.{miscompare};
 ghost use Rattle.cdb.specs.declared.commands.InquiryData.{InquiryData};
@@ -115,6 +115,23 @@ pub fn limits_are_told()
     ensures unmap_blocks { (facts : Facts) (list_length : ℕ) (bytes : List ℕ) (blocks : Blocks) →
         (reply_of facts (Command.Unmap list_length) bytes blocks).status ≡ good →
         blocks_named (descriptors bytes) ≤ number 20 23 limits_page }
+{}
+
+/// The data of READ CAPACITY where the last address is the largest of 32 bits but one, the largest, and
+/// larger than that.
+pub fn large_capacities_are_told()
+    ensures below { (facts : Facts) (bytes : List ℕ) (blocks : Blocks) →
+        (reply_of (record facts { pending = None; capacity = 0xffff_ffff }) Command.ReadCapacity10 bytes blocks).payload
+        ≡ 0xff ∷ 0xff ∷ 0xff ∷ 0xfe ∷ 0 ∷ 0 ∷ 2 ∷ 0 ∷ [] }
+    ensures largest { (facts : Facts) (bytes : List ℕ) (blocks : Blocks) →
+        (reply_of (record facts { pending = None; capacity = 0x1_0000_0000 }) Command.ReadCapacity10 bytes blocks).payload
+        ≡ 0xff ∷ 0xff ∷ 0xff ∷ 0xff ∷ 0 ∷ 0 ∷ 2 ∷ 0 ∷ [] }
+    ensures larger { (facts : Facts) (bytes : List ℕ) (blocks : Blocks) →
+        (reply_of (record facts { pending = None; capacity = 0x1_0000_0001 }) Command.ReadCapacity10 bytes blocks).payload
+        ≡ 0xff ∷ 0xff ∷ 0xff ∷ 0xff ∷ 0 ∷ 0 ∷ 2 ∷ 0 ∷ [] }
+    ensures sixteen { (facts : Facts) (bytes : List ℕ) (blocks : Blocks) →
+        (reply_of (record facts { pending = None; capacity = 0x1_0000_0001 }) (Command.ReadCapacity16 12) bytes blocks).payload
+        ≡ 0 ∷ 0 ∷ 0 ∷ 1 ∷ 0 ∷ 0 ∷ 0 ∷ 0 ∷ 0 ∷ 0 ∷ 2 ∷ 0 ∷ [] }
 {}
 
 /// INQUIRY and REPORT LUNS leave an attention, and are answered as if there were none.

@@ -22,6 +22,3 @@ pub use attention::takes_attention;
 pub use execution::exec;
 pub use facts::UnitFacts;
 pub use reply::{BUSY, CHECK_CONDITION, GOOD, Reply, TASK_SET_FULL};
-
-#[cfg(test)]
-mod tests;

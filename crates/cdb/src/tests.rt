@@ -1,5 +1,5 @@
 mod accepted;
-mod refused;
+mod opcodes;
 
 use super::*;
 use std::process::Abort;

@@ -9,6 +9,3 @@ mod walk;
 
 pub use placement::check_layout;
 pub use ring::PackedRing;
-
-#[cfg(test)]
-mod tests;

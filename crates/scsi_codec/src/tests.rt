@@ -70,22 +70,28 @@ fn reads_a_request(rt: HostRuntime) -> Result<(), Fail> {
     Ok(())
 }
 
+/// The same request with another form of address.
+const BAD_ADDRESS: [u8; 53] = [
+    0x01, 0x01, 0x80, 0x02, 0x00, 0x00, 0x00, 0x00, // lun
+    0xef, 0xcd, 0xab, 0x89, 0x67, 0x45, 0x23, 0x01, // id
+    0x01, 0x07, 0x09, // task_attr, prio, crn
+    0x2a, 0x00, 0x00, 0x00, 0x00, 0x05, 0x00, 0x00, 0x01, 0x00, // cdb
+    0, 0, 0, 0, 0, 0, 0, 0, 0, 0, 0, 0, 0, 0, 0, 0, 0, 0, 0, 0, 0, 0, 0xa5, 0x5a,
+];
+
 #[test]
 fn refuses_in_order(rt: HostRuntime) {
-    let mut bytes = WRITE_REQUEST;
-    assert_eq!(rt; read_request(&bytes, 107), Err(CodecFault::ShortResponse));
-    assert_eq!(rt;
-        read_request(&bytes[..50], 108),
-        Err(CodecFault::ShortRequest)
-    );
-    assert_eq!(rt; read_request(&[], 0), Err(CodecFault::ShortResponse));
-    bytes[2] = 0x80;
-    assert_eq!(rt; read_request(&bytes, 108), Err(CodecFault::BadAddress));
-    assert_eq!(rt;
-        read_request(&bytes[..50], 108),
-        Err(CodecFault::ShortRequest)
-    );
-    assert_eq!(rt; read_request(&bytes, 107), Err(CodecFault::ShortResponse));
+    let refused: [(&[u8], u64, CodecFault); 6] = [
+        (&WRITE_REQUEST, 107, CodecFault::ShortResponse),
+        (&WRITE_REQUEST[..50], 108, CodecFault::ShortRequest),
+        (&[], 0, CodecFault::ShortResponse),
+        (&BAD_ADDRESS, 108, CodecFault::BadAddress),
+        (&BAD_ADDRESS[..50], 108, CodecFault::ShortRequest),
+        (&BAD_ADDRESS, 107, CodecFault::ShortResponse),
+    ];
+    for (bytes, writable, fault) in refused {
+        assert_eq!(rt; read_request(bytes, writable), Err(fault));
+    }
 }
 
 #[test]
@@ -123,62 +129,79 @@ fn writes_a_bad_target(rt: HostRuntime) {
     assert_eq!(rt; write_response(&response), want);
 }
 
-// LOGICAL UNIT RESET of unit 0:9.
-const UNIT_RESET: [u8; 24] = [
-    0x00, 0x00, 0x00, 0x00, // type
-    0x05, 0x00, 0x00, 0x00, // subtype
-    0x01, 0x00, 0x00, 0x09, 0x00, 0x00, 0x00, 0x00, // lun
-    0x08, 0x07, 0x06, 0x05, 0x04, 0x03, 0x02, 0x01, // id
-];
+const ID: u64 = 0x0102_0304_0506_0708;
 
-#[test]
-fn reads_functions(rt: HostRuntime) {
-    let mut bytes = UNIT_RESET;
-    let function = read_control(&bytes);
-    let address = Some(Address { target: 0, lun: 9 });
-    let id = 0x0102_0304_0506_0708;
-    assert_eq!(rt;
-        function,
+/// Control requests, what is read of each, and the bytes of its answer. The first is LOGICAL UNIT
+/// RESET of unit 0:9.
+static CONTROLS: [(&[u8], Control, usize); 12] = [
+    (
+        b"\0\0\0\0\x05\0\0\0\x01\0\0\x09\0\0\0\0\x08\x07\x06\x05\x04\x03\x02\x01",
         Control::TaskManagement {
             subtype: 5,
-            address,
-            id
-        }
-    );
-    assert_eq!(rt; function.answer_len(), 1);
-    assert_eq!(rt; read_control(&bytes[..23]), Control::MalformedFunction);
-    assert_eq!(rt; read_control(&bytes[..3]), Control::MalformedFunction);
-    assert_eq!(rt; Control::MalformedFunction.answer_len(), 1);
-    bytes[8] = 0x00;
-    assert_eq!(rt;
-        read_control(&bytes),
+            address: Some(Address { target: 0, lun: 9 }),
+            id: ID,
+        },
+        1,
+    ),
+    (
+        b"\0\0\0\0\x05\0\0\0\x01\0\0\x09\0\0\0\0\x08\x07\x06\x05\x04\x03\x02",
+        Control::MalformedFunction,
+        1,
+    ),
+    (b"\0\0\0", Control::MalformedFunction, 1),
+    // An address that isn't readable.
+    (
+        b"\0\0\0\0\x05\0\0\0\0\0\0\x09\0\0\0\0\x08\x07\x06\x05\x04\x03\x02\x01",
         Control::TaskManagement {
             subtype: 5,
             address: None,
-            id
-        }
-    );
-    bytes[3] = 0x01;
-    assert_eq!(rt; read_control(&bytes), Control::MalformedFunction);
-}
+            id: ID,
+        },
+        1,
+    ),
+    // Types that aren't known.
+    (
+        b"\0\0\0\x01\x05\0\0\0\0\0\0\x09\0\0\0\0\x08\x07\x06\x05\x04\x03\x02\x01",
+        Control::MalformedFunction,
+        1,
+    ),
+    (
+        b"\x03\0\0\0\x05\0\0\0\x01\0\0\x09\0\0\0\0\x08\x07\x06\x05\x04\x03\x02\x01",
+        Control::MalformedFunction,
+        1,
+    ),
+    (
+        b"\x01\0\0\0\x05\0\0\0\x01\0\0\x09\0\0\0\0",
+        Control::AsynchronousNotification,
+        5,
+    ),
+    (
+        b"\x01\0\0\0\x05\0\0\0\x01\0\0\x09\0\0\0",
+        Control::MalformedNotification,
+        5,
+    ),
+    (b"\x01\0\0\0", Control::MalformedNotification, 5),
+    (
+        b"\x02\0\0\0\x05\0\0\0\x01\0\0\x09\0\0\0\0",
+        Control::AsynchronousNotification,
+        5,
+    ),
+    (
+        b"\x02\0\0\0\x05\0\0\0\x01\0\0\x09\0\0\0",
+        Control::MalformedNotification,
+        5,
+    ),
+    (b"\x02\0\0\0", Control::MalformedNotification, 5),
+];
 
 #[test]
-fn reads_notifications(rt: HostRuntime) {
-    for kind in [1, 2] {
-        let mut bytes = UNIT_RESET;
-        bytes[0] = kind;
-        assert_eq!(rt;
-            read_control(&bytes[..16]),
-            Control::AsynchronousNotification
-        );
-        assert_eq!(rt; read_control(&bytes[..15]), Control::MalformedNotification);
-        assert_eq!(rt; read_control(&bytes[..4]), Control::MalformedNotification);
+fn reads_controls(rt: HostRuntime) {
+    for number in 0..CONTROLS.len() {
+        let (bytes, control, len) = CONTROLS[number];
+        let found = read_control(bytes);
+        let answer = (found, found.answer_len());
+        assert_eq!(rt; answer, (control, len), "control {number} from 0");
     }
-    let mut bytes = UNIT_RESET;
-    bytes[0] = 3;
-    assert_eq!(rt; read_control(&bytes), Control::MalformedFunction);
-    assert_eq!(rt; Control::AsynchronousNotification.answer_len(), 5);
-    assert_eq!(rt; Control::MalformedNotification.answer_len(), 5);
 }
 
 #[test]

@@ -8,6 +8,3 @@ mod walk;
 
 pub use placement::check_layout;
 pub use ring::SplitRing;
-
-#[cfg(test)]
-mod tests;

@@ -19,6 +19,3 @@ pub use decision::{ChainLengths, Decision};
 pub use queue::{Fetch, Queue};
 pub use unit::{Commit, Unit};
 pub use world::World;
-
-#[cfg(test)]
-mod tests;

@@ -1,0 +1,67 @@
+//! The device, over its public calls: what a script can't show.
+
+mod configurations;
+mod service;
+mod views;
+
+use ring_core::Layout;
+use std::alloc::Global;
+use world::{Config, StartFault, UnitSpec, VERSION_1, World};
+
+/// Three queues of 4 descriptors, the request queue at 0.
+static QUEUES: [Layout; 3] = [
+    Layout {
+        size: 4,
+        desc: 8192,
+        driver: 9216,
+        device: 10240,
+    },
+    Layout {
+        size: 4,
+        desc: 12288,
+        driver: 13312,
+        device: 14336,
+    },
+    Layout {
+        size: 4,
+        desc: 0,
+        driver: 1024,
+        device: 2048,
+    },
+];
+
+/// The numbers of a configuration.
+#[derive(Clone, Copy)]
+struct Numbers {
+    pages: u32,
+    features: u64,
+    workers: u16,
+    handoff: u16,
+}
+
+/// Numbers that are taken, of split queues.
+const NUMBERS: Numbers = Numbers {
+    pages: 16,
+    features: VERSION_1,
+    workers: 1,
+    handoff: 64,
+};
+
+/// A device with `QUEUES`. It has no contract, so that what `new` promises is read once.
+fn start(alloc: Global, numbers: Numbers, units: &[UnitSpec]) -> Result<World, StartFault> {
+    let Ok(queues) = Vec::from_slice(alloc, QUEUES.as_slice()) else {
+        return Err(StartFault::NoMemory);
+    };
+    let Ok(units) = Vec::from_slice(alloc, units) else {
+        return Err(StartFault::NoMemory);
+    };
+    let config = Config {
+        pages: numbers.pages,
+        features: numbers.features,
+        queues,
+        workers: numbers.workers,
+        handoff: numbers.handoff,
+        units,
+    };
+    World::new(alloc, &config)
+}

@@ -1,0 +1,62 @@
+mod layouts;
+mod rows;
+mod texts;
+mod wrapping;
+
+use guest_mem::GuestMem;
+use packed_ring::PackedRing;
+use ring_bench::{Bench, Row};
+use ring_core::{Layout, LayoutFault};
+use rows::ROWS;
+use std::alloc::Global;
+use std::process::Abort;
+use std::test::Fail;
+
+/// The flags of a slot that the driver makes available while its wrap counter is 1.
+const AVAILABLE: u16 = 0x80;
+
+/// The same while its wrap counter is 0.
+const AVAILABLE_AT_0: u16 = 0x8000;
+
+const PLACE: Layout = Layout {
+    size: 7,
+    desc: 0,
+    driver: 4096,
+    device: 8192,
+};
+
+/// A queue of this number and layout. It has no contract, so that what `new` promises is read once.
+fn queue(
+    alloc: Global,
+    number: u16,
+    layout: Layout,
+    memory: &GuestMem,
+) -> Result<PackedRing, LayoutFault> {
+    PackedRing::new(alloc, number, layout, memory)
+}
+
+/// A queue of this layout in fresh memory.
+fn bench(alloc: Global, pages: u32, layout: Layout) -> Result<Bench<PackedRing>, Fail> {
+    if pages > 65536 {
+        return Err(Fail::from("too many pages"));
+    }
+    let memory = GuestMem::new(alloc, pages)?;
+    let ring = queue(alloc, 2, layout, &memory)?;
+    Ok(Bench::of(alloc, ring, memory))
+}
+
+/// Plays a row.
+fn play(rt: &impl Abort, alloc: Global, row: &Row) -> Result<(), Fail> {
+    let mut bench = bench(alloc, row.pages, row.layout)?;
+    let shows = row.shows;
+    assert_eq!(rt; bench.first_wrong(row.moves), None, "wrong move of {shows}");
+    Ok(())
+}
+
+#[test]
+fn plays_rows(rt: HostRuntime) -> Result<(), Fail> {
+    for row in &ROWS {
+        play(&rt, rt.alloc(), row)?;
+    }
+    Ok(())
+}
