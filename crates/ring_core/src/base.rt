@@ -62,7 +62,7 @@ impl RingBase {
             layout,
             features,
             memory,
-            log: QueueLog::new(alloc),
+            log: QueueLog::new(),
             outstanding,
             accepted_slots: 0,
             used_slots: 0,
@@ -90,7 +90,7 @@ impl RingBase {
             layout,
             features,
             memory,
-            log: QueueLog::new(alloc),
+            log: QueueLog::new(),
             outstanding: OutstandingTable::by_id(alloc, ids),
             accepted_slots: 0,
             used_slots: 0,
@@ -131,7 +131,7 @@ impl RingBase {
         ensures slots { result ≡ self.now.accepted_slots }
         ensures bounded { result < 2 ^ 100 }
     {
-        let _count = self.log.accepted().len();
+        let _count = self.log.accepted();
         self.accepted_slots
     }
 
@@ -182,7 +182,7 @@ impl RingBase {
         ensures owned { IfOk result (λ c. Owns self.new c) }
         ensures err { OnErr result (self.new ≡ self.old) }
     {
-        let number = self.log.accepted().len() as u64;
+        let number = self.log.accepted();
         let ticket = Ticket {
             queue: self.queue,
             number,
