@@ -172,7 +172,8 @@ impl RingBase {
                 })
     }
 
-    /// A chain that was found is accepted, with room for its use.
+    /// A chain that was found is accepted. Refused where the table of outstanding chains can't grow, or
+    /// the log can count no more.
     pub fn accept(&mut self, id: u16, slots: u16, parts: Vec<Part>) -> Result<Chain, AllocError>
         requires free { under self.old id ≡ None }
         requires in_range { id < length self.old.outstanding }
