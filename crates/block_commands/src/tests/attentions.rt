@@ -72,7 +72,7 @@ static ABSENT: [(&[u8], (u8, u8, u8), &[u8]); 10] = [
 #[test]
 fn absent_unit(rt: HostRuntime) -> Result<(), Fail> {
     for (cdb, (key, asc, ascq), data) in ABSENT {
-        let reply = exec_absent(rt.alloc(), &command(&rt, cdb))?;
+        let reply = exec_absent(&command(&rt, cdb));
         let (status, sense) = match key {
             0 => (GOOD, None),
             _ => (CHECK_CONDITION, plain(key, asc, ascq)),
