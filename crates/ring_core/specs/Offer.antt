@@ -60,7 +60,8 @@ BeginsInForm Split s m =
 BeginsInForm Packed s m =
     (is_available s m ≡ true) × (packed_wrong (length m) s.layout.size (amount []) (slot_at s.layout m s.accepted_slots) ≡ None)
 
--- in the place of what comes behind that, want of memory may be answered
+-- in the place of what comes behind that, want of memory may be answered; so is it in the place of a chain by
+-- a queue that has accepted 2^64 - 1
 abbrev pub MayLackMemory : RingState → List ℕ → Type 0
 MayLackMemory s m = (s.broken ≡ None) × BeginsInForm s.form s m
 

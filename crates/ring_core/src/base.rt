@@ -62,7 +62,7 @@ impl RingBase {
             layout,
             features,
             memory,
-            log: QueueLog::new(alloc),
+            log: QueueLog::new(),
             outstanding,
             accepted_slots: 0,
             used_slots: 0,
@@ -90,7 +90,7 @@ impl RingBase {
             layout,
             features,
             memory,
-            log: QueueLog::new(alloc),
+            log: QueueLog::new(),
             outstanding: OutstandingTable::by_id(alloc, ids),
             accepted_slots: 0,
             used_slots: 0,
@@ -131,7 +131,7 @@ impl RingBase {
         ensures slots { result ≡ self.now.accepted_slots }
         ensures bounded { result < 2 ^ 100 }
     {
-        let _count = self.log.accepted().len();
+        let _count = self.log.accepted();
         self.accepted_slots
     }
 
@@ -172,7 +172,8 @@ impl RingBase {
                 })
     }
 
-    /// A chain that was found is accepted, with room for its use.
+    /// A chain that was found is accepted. Refused where the table of outstanding chains can't grow, or
+    /// the log can count no more.
     pub fn accept(&mut self, id: u16, slots: u16, parts: Vec<Part>) -> Result<Chain, AllocError>
         requires free { under self.old id ≡ None }
         requires in_range { id < length self.old.outstanding }
@@ -182,7 +183,7 @@ impl RingBase {
         ensures owned { IfOk result (λ c. Owns self.new c) }
         ensures err { OnErr result (self.new ≡ self.old) }
     {
-        let number = self.log.accepted().len() as u64;
+        let number = self.log.accepted();
         let ticket = Ticket {
             queue: self.queue,
             number,

@@ -25,7 +25,7 @@ pub enum RingFault {
     BadIndirect = 8,
     /// The outstanding chains would take more slots than the ring has.
     RingOverrun = 9,
-    /// A growth was refused.
+    /// A growth was refused, or the log can count no more chains.
     NoMemory = 10,
 }
 

@@ -1,8 +1,9 @@
 //! The log of a queue: which chains it accepted, and which were used.
 
-ghost use Rattle.std.specs.Prelude.{◌≡◌, ◌∷◌, ◌++◌, [], ◌<◌, ◌≤◌, ◌^◌, length, OnOk, OnErr};
+ghost use Rattle.std.specs.Prelude.{◌≡◌, ◌∷◌, ◌++◌, [], ◌+◌, ◌<◌, ◌^◌, length, OnOk, OnErr};
 
-use std::alloc::{AllocError, Global};
+use record::Record;
+use std::alloc::AllocError;
 use std::marker::Model;
 
 /// Names an accepted chain.
@@ -14,59 +15,65 @@ pub struct Ticket {
     pub number: u64,
 }
 
-/// The tickets of the chains that a queue accepted, and of those that were used, in order. Each
-/// accepted ticket has room among the used ones, so that using a chain takes no memory.
+/// The tickets of the chains that a queue accepted, and of those that were used, in order. It keeps
+/// how many there are; which they are, only proofs see.
 #[derive(Debug, Drop)]
 pub struct QueueLog {
-    accepted: Vec<Ticket>,
-    used: Vec<Ticket>,
+    accepted_count: u64,
+    used_count: u64,
+    accepted: Record<Ticket>,
+    used: Record<Ticket>,
 }
 
 impl Model for QueueLog {
-    ghost use Rattle.std.specs.Prelude.{◌≤◌, length, vec_capacity};
+    ghost use Rattle.std.specs.Prelude.{◌≡◌, length};
     ghost use Rattle.ring_core.specs.State.{Log};
 
     ghost Value = { Log };
 
     ghost view = { λ q. record { accepted = q.accepted.items; used = q.used.items } };
 
-    ghost invariant = { λ q. length q.accepted.items ≤ vec_capacity q.used };
+    ghost invariant = { λ q. (q.accepted_count ≡ length q.accepted.items) × (q.used_count ≡ length q.used.items) };
 }
 
 impl QueueLog {
     /// Nothing accepted, nothing used.
-    pub(crate) fn new(alloc: Global) -> QueueLog
+    pub(crate) fn new() -> QueueLog
         ensures { result ≡ record { accepted = []; used = [] } }
     {
         QueueLog {
-            accepted: Vec::new(alloc),
-            used: Vec::new(alloc),
+            accepted_count: 0,
+            used_count: 0,
+            accepted: Record::new(),
+            used: Record::new(),
         }
     }
 
-    /// The accepted tickets, in order.
-    pub fn accepted(&self) -> &[Ticket]
-        ensures tickets { result.now ≡ self.now.accepted }
-        ensures bounded { length self.now.accepted < 2 ^ 64 }
+    /// How many tickets were accepted.
+    pub fn accepted(&self) -> u64
+        ensures { result ≡ length self.now.accepted }
     {
-        self.accepted.as_slice()
+        self.accepted_count
     }
 
-    /// The used tickets, in the order in which they were used.
-    pub fn used(&self) -> &[Ticket]
-        ensures { result.now ≡ self.now.used }
+    /// How many tickets were used.
+    pub fn used(&self) -> u64
+        ensures { result ≡ length self.now.used }
     {
-        self.used.as_slice()
+        self.used_count
     }
 
-    /// A ticket is accepted, with room for its use.
+    /// A ticket is accepted. It takes no memory, and is refused once 2^64 - 1 tickets were.
     pub(crate) fn accept(&mut self, ticket: Ticket) -> Result<(), AllocError>
         ensures ok { OnOk result (self.new ≡ record self.old { accepted = self.old.accepted ++ ticket ∷ [] }) }
         ensures err { OnErr result (self.new ≡ self.old) }
+        ensures full { OnErr result (length self.old.accepted + 1 ≡ 2 ^ 64) }
     {
-        let missing = self.accepted.len() + 1 - self.used.len().min(self.accepted.len() + 1);
-        self.used.reserve(missing)?;
-        self.accepted.push(ticket)?;
+        if self.accepted_count == u64::MAX {
+            return Err(AllocError);
+        }
+        self.accepted_count += 1;
+        self.accepted.push(&ticket);
         Ok(())
     }
 
@@ -76,6 +83,9 @@ impl QueueLog {
         ensures state { self.new ≡ record self.old { used = self.old.used ++ ticket ∷ [] } }
         ensures bounded { length self.old.used < 2 ^ 64 }
     {
-        self.used.push_reserved(ticket);
+        // The sum below fits, since no count is higher than this one.
+        let _most = self.accepted_count;
+        self.used_count += 1;
+        self.used.push(&ticket);
     }
 }

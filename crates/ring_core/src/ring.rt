@@ -19,7 +19,8 @@ pub trait Ring {
     /// Takes the next available chain, if there is one, and reads its first 1,048,627 readable
     /// bytes at once. Called with a memory that `fits`. A fault of the guest breaks the queue
     /// for good: later fetches answer the same fault, and chains accepted before can still be
-    /// completed. `NoMemory` leaves the queue as it was.
+    /// completed. `NoMemory`, where a growth is refused or the queue has accepted 2^64 - 1 chains,
+    /// leaves the queue as it was.
     fn fetch(&mut self, memory: &GuestMem) -> Result<Option<Fetched>, RingFault>
         requires { length memory.now ≡ (state self.old).memory }
         ensures { Fetches (state self.old) memory.now result (state self.new) };

@@ -82,7 +82,7 @@ impl SplitRing {
         ensures { Names self.now memory.now result }
     {
         let layout = self.base.layout();
-        let accepted = (self.base.log().accepted().len() % 65536) as u16;
+        let accepted = (self.base.log().accepted() % 65536) as u16;
         let pending = number_at(memory, layout.driver + 2).wrapping_sub(accepted);
         if pending == 0 {
             return Ok(None);
@@ -181,7 +181,7 @@ impl Ring for SplitRing {
     ) -> Ticket {
         let _size = memory.size();
         let layout = self.base.layout();
-        let own = (self.base.log().used().len() % 65536) as u16;
+        let own = (self.base.log().used() % 65536) as u16;
         let place = layout.device + 4 + 8 * (own % layout.size) as u64;
         put_element(memory, place, chain.id() as u32, len);
         put_number(memory, layout.device + 2, own.wrapping_add(1));

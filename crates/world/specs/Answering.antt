@@ -4,10 +4,10 @@ use Rattle.sense.specs.Conditions.{invalid_message_error}
 use Rattle.cdb.specs.declared.commands.Command.{Command}
 use Rattle.ring_core.specs.declared.log.Ticket.{Ticket}
 use Rattle.block_commands.specs.Absent.{absent_reply}
-use Rattle.block_commands.specs.Memory.{absent_wants}
+use Rattle.block_commands.specs.Memory.{absent_wants, may_want}
 use Rattle.block_commands.specs.PlainReply.{refusal}
 use Rattle.block_commands.specs.Replies.{data_of}
-use Rattle.world.specs.Unit.{PlainUnit, reply_now, committing}
+use Rattle.world.specs.Unit.{PlainUnit, facts_now, reply_now, committing}
 use Rattle.world.specs.Answers.{failed, answer_of_reply, busy_reply}
 use Rattle.world.specs.Decision.{Decides}
 use Rattle.world.specs.declared.answer.Answer.{Answer}
@@ -20,15 +20,16 @@ abbrev pub bytes_of : Answer → List ℕ
 bytes_of Nothing = []
 bytes_of (Bytes head payload) = head ++ payload.items
 
--- memory was refused: BUSY, with nothing changed
+-- memory was refused: BUSY
 abbrev pub IsBusy : ChainLengths → List ℕ → Type 0
 IsBusy n answer = answer ≡ answer_of_reply n.readable n.writable busy_reply
 
--- the unit runs the command whole, on the data of the request, and its reply is answered; or memory was refused
+-- the unit runs the command whole, on the data of the request, and its reply is answered; or the command
+-- itself wants memory and was refused it, and nothing changes
 abbrev pub RunsOn : PlainUnit → Ticket → Command → ChainLengths → List ℕ → List ℕ → PlainUnit → Type 0
 RunsOn old ticket c n bytes answer new =
     ((answer ≡ answer_of_reply n.readable n.writable (reply_now old c (data_of c (drop 51 bytes)))) × (new ≡ committing old ticket c (data_of c (drop 51 bytes))))
-    ⊎ (IsBusy n answer × (new ≡ old))
+    ⊎ (IsTrue (may_want (facts_now old) c) × IsBusy n answer × (new ≡ old))
 
 abbrev pub AnswersAs : Decision → List PlainUnit → Ticket → ChainLengths → List ℕ → List ℕ → List PlainUnit → Type 0
 AnswersAs Unused units ticket n bytes answer after = (answer ≡ []) × (after ≡ units)

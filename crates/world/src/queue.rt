@@ -146,7 +146,7 @@ impl Queue {
         ensures queue { self.new ≡ completing self.old chain memory.new }
     {
         let answered = self.ring.complete(memory, chain, len);
-        let _used = self.ring.log().used().len();
+        let _used = self.ring.log().used();
         if self.ring.wants_notice(memory) {
             self.notices += 1;
         }

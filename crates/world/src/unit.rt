@@ -1,10 +1,11 @@
 //! One logical unit: its store, what it has pending, and the commands that it ran.
 
-ghost use Rattle.std.specs.Prelude.{◌≡◌, ◌+◌, ◌≤◌, ℕ, Option, if◌then◌else◌, length, drop, IfSome, IfNone, IfOk};
+ghost use Rattle.std.specs.Prelude.{◌≡◌, ◌+◌, ◌≤◌, ℕ, Option, if◌then◌else◌, length, drop, IfSome, IfNone, IfOk, IsTrue};
 ghost use Rattle.cdb.specs.Need.{need_of};
 ghost use Rattle.block_store.specs.Blocks.{block_count, nth_block};
 ghost use Rattle.block_commands.specs.Effects.{block_after};
 ghost use Rattle.block_commands.specs.Facts.{facts_of};
+ghost use Rattle.block_commands.specs.Memory.{may_want};
 ghost use Rattle.block_commands.specs.PlainReply.{plain_of};
 ghost use Rattle.block_commands.specs.Replies.{reply_of, data_of};
 ghost use Rattle.unit_attention.specs.Pending.{without_first};
@@ -17,6 +18,7 @@ use crate::config::UnitSpec;
 use block_commands::{Reply, UnitFacts, exec, takes_attention};
 use block_store::{FlatStore, NoMemory, Store};
 use cdb::Command;
+use record::Record;
 use ring_core::Ticket;
 use scsi_codec::REQUEST_BYTES;
 use sense::Sense;
@@ -24,7 +26,7 @@ use std::alloc::{AllocError, Global};
 use std::marker::Model;
 use unit_attention::{Attentions, Code};
 
-/// A command that the unit ran.
+/// A command that the unit ran, as it is recorded. The request is let go once it is.
 #[derive(Debug, Drop)]
 pub struct Commit {
     ticket: Ticket,
@@ -34,7 +36,8 @@ pub struct Commit {
     status: u8,
 }
 
-/// A logical unit, seen as its constants and the commands that it ran.
+/// A logical unit, seen as its constants and the commands that it ran, which proofs alone see: of
+/// the past the store and the attentions are all that it keeps.
 #[derive(Drop)]
 pub struct Unit {
     // What is pending is set before each command.
@@ -42,7 +45,7 @@ pub struct Unit {
     calm: bool,
     attentions: Attentions,
     store: FlatStore,
-    commits: Vec<Commit>,
+    commits: Record<Commit>,
 }
 
 impl Model for Unit {
@@ -109,6 +112,7 @@ fn run_on(
     ensures reply { IfSome result (λ r. plain_of r ≡ reply_of (facts_of facts.now (block_count store.old)) command.now (data_of command.now (drop 51 request.now)) (nth_block store.old)) }
     ensures blocks { IfSome result (λ r. (b : ℕ) → nth_block store.new b ≡ block_after command.now (data_of command.now (drop 51 request.now)) r.status (nth_block store.old) b) }
     ensures none { IfNone result ((b : ℕ) → nth_block store.new b ≡ nth_block store.old b) }
+    ensures want { IfNone result (IsTrue (may_want (facts_of facts.now (block_count store.old)) command.now)) }
     ensures size { block_count store.new ≡ block_count store.old }
     ensures fits { IfSome result (λ r. length r.payload.items ≤ (need_of command.now).into) }
 {
@@ -129,13 +133,14 @@ fn clear_oldest(attentions: &mut Attentions, command: &Command)
 }
 
 impl Unit {
-    ghost use Rattle.std.specs.Prelude.{◌≡◌, ◌+◌, ◌≤◌, ◌<◌, ◌++◌, length, drop, IfSome, IfNone, IfOk, OnOk, OnErr};
+    ghost use Rattle.std.specs.Prelude.{◌≡◌, ◌+◌, ◌≤◌, ◌<◌, ◌++◌, length, drop, IfSome, IfNone, IfOk, IsTrue, OnOk, OnErr};
     ghost use Rattle.block_store.specs.Blocks.{run};
     ghost use Rattle.world.specs.Unit.{blocks_of};
     ghost use Rattle.cdb.specs.Need.{need_of};
+    ghost use Rattle.block_commands.specs.Memory.{may_want};
     ghost use Rattle.block_commands.specs.PlainReply.{plain_of};
     ghost use Rattle.block_commands.specs.Replies.{data_of};
-    ghost use Rattle.world.specs.Unit.{reply_now, committing};
+    ghost use Rattle.world.specs.Unit.{facts_now, reply_now, committing};
     ghost use Rattle.world.specs.Config.{opening_unit};
 
     /// A unit among those that are wanted, that ran nothing yet.
@@ -156,7 +161,7 @@ impl Unit {
             calm: spec.calm,
             attentions: attentions_at_start(spec.calm),
             store,
-            commits: Vec::new(alloc),
+            commits: Record::new(),
         })
     }
 
@@ -194,8 +199,8 @@ impl Unit {
         Ok(())
     }
 
-    /// Runs a command whole, on the data of its request, and keeps it; `None` with nothing changed
-    /// where memory was refused.
+    /// Runs a command whole, on the data of its request, and records it, which takes no memory;
+    /// `None` with nothing changed where the command itself may want memory and was refused it.
     pub fn commit(
         &mut self,
         alloc: Global,
@@ -207,11 +212,9 @@ impl Unit {
         ensures reply { IfSome result (λ r. plain_of r ≡ reply_now self.old command (data_of command (drop REQUEST_BYTES bytes.items))) }
         ensures some { IfSome result (λ _. self.new ≡ committing self.old ticket command (data_of command (drop REQUEST_BYTES bytes.items))) }
         ensures none { IfNone result (self.new ≡ self.old) }
+        ensures want { IfNone result (IsTrue (may_want (facts_now self.old) command)) }
         ensures fits { IfSome result (λ r. length r.payload.items ≤ (need_of command).into) }
     {
-        if self.commits.reserve(1).is_err() {
-            return None;
-        }
         tell_oldest(&mut self.facts, &self.attentions);
         let Some(reply) = run_on(
             alloc,
@@ -223,7 +226,7 @@ impl Unit {
             return None;
         };
         clear_oldest(&mut self.attentions, &command);
-        self.commits.push_reserved(Commit {
+        self.commits.push(&Commit {
             ticket,
             command,
             bytes,

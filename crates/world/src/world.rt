@@ -278,12 +278,13 @@ impl World {
 
     /// Serves chains until no request queue has one: after each, the lowest queue that has a chain.
     /// Answers how many chains were served and queues were broken. A queue that a fault of its guest
-    /// broke is served no more. `NoMemory` where a fetch was refused memory, which has something to
-    /// fetch then: what was served before stands, and nothing else changed.
+    /// broke is served no more. `NoMemory` where a fetch was refused memory, or its queue has accepted
+    /// 2^64 - 1 chains: there is something to fetch then, what was served before stands, and nothing
+    /// else changed.
     pub fn settle(&mut self) -> Result<u64, NoMemory>
         ensures { MatchResult result (λ count. Settles self.old count self.new) (λ _. EndsForMemory self.old self.new) }
     {
-        // Each step lengthens a log or breaks a queue, and no log holds so many tickets.
+        // Each step lengthens a log or breaks a queue, and no log counts more tickets.
         for count in 0..u64::MAX {
             match self.next_turn() {
                 Ok(true) => {}

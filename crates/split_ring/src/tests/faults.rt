@@ -38,7 +38,7 @@ fn breaks_at_an_outstanding_head(rt: HostRuntime) -> Result<(), Fail> {
     assert_eq!(rt; fault_of(&rt, &mut ring, &memory), 7);
     let answered = complete(&rt, &mut ring, &mut memory, first.chain, 0);
     assert_eq!(rt; answered.ticket().number, 0);
-    assert_eq!(rt; ring.log().used().len(), 1);
+    assert_eq!(rt; ring.log().used(), 1);
     assert_eq!(rt; fault_of(&rt, &mut ring, &memory), 7);
     Ok(())
 }

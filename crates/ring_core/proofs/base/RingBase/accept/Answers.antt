@@ -18,5 +18,5 @@ returns-in-Err-clause-err c = rw (as_before c, c.in-Err.ensures.err) c.self.view
 
 pub invariant_of-self-2 : goal.invariant_of-self-2
 invariant_of-self-2 c =
-    rw (c.in_default.ensures.ok, c.in_ok-put.ensures.ok, c.accepted.ensures.tickets)
+    rw (c.in_default.ensures.ok, c.in_ok-put.ensures.ok, c.accepted-number.ensures)
     (sound-accept (state_of c.self.inside) c.args.id c.args.slots c.self.invariant (rw (← c.self.view_is) at c.requires.in_range) (rw (← c.self.view_is) at c.requires.free) (omega arith))

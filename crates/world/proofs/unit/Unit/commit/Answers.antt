@@ -1,4 +1,4 @@
-use Rattle.std.proofs.Common.{◌≡◌, ℕ, List, ◌++◌, ◌∷◌, [], drop, refl, ap, ◌∙◌}
+use Rattle.std.proofs.Common.{◌≡◌, ℕ, ◌++◌, ◌∷◌, [], drop, refl, ap, ◌∙◌}
 use Rattle.block_store.specs.Blocks.{block_count, nth_block}
 use Rattle.block_commands.specs.Effects.{block_after}
 use Rattle.block_commands.specs.Facts.{facts_of}
@@ -7,42 +7,40 @@ use Rattle.block_commands.specs.Replies.{data_of}
 use Rattle.block_commands.specs.declared.facts.UnitFacts.{UnitFacts}
 use Rattle.world.specs.Unit.{PlainUnit, reply_now, committing, facts_now, oldest}
 use Rattle.world.specs.UnitFields.{unit_of}
-use Rattle.world.specs.declared.unit.Commit.{Commit}
 use Rattle.world.specs.declared.unit.Unit.TheInside.{Inside}
 use Rattle.world.proofs.Commits.{reply_is, told, still_sound, has_committed}
 use Rattle.world.proofs.unit.Unit.commit.Goals as goal
 
-facts_are : (c : goal.After-push_reserved) → facts_of c.tell_oldest.new.facts (block_count c.self.inside.store) ≡ facts_now (unit_of c.self.inside)
+facts_are : (c : goal.After-drop) → facts_of c.tell_oldest.new.facts (block_count c.self.inside.store) ≡ facts_now (unit_of c.self.inside)
 facts_are c =
     let f : UnitFacts = record c.self.inside.facts { pending = oldest c.self.inside.attentions } in
     ap (λ (x : UnitFacts). facts_of x (block_count c.self.inside.store)) c.tell_oldest.ensures ∙ told c.self.inside c.self.invariant f refl refl refl refl
 
 -- the fields in the end
-after : (c : goal.After-push_reserved) → Inside
+after : (c : goal.After-drop) → Inside
 after c =
     record {
       facts = c.tell_oldest.new.facts;
       calm = c.self.inside.calm;
       attentions = c.clear_oldest.new.attentions;
       store = c.run_on.new.store;
-      commits = c.push_reserved.new.self;
+      commits = c.push.new.self;
     }
 
 -- what was answered, over the fields
-answered : (c : goal.After-push_reserved) → plain_of c.in-Some.reply ≡ reply_now (unit_of c.self.inside) c.args.command (data_of c.args.command (drop 51 c.args.bytes.items))
+answered : (c : goal.After-drop) → plain_of c.in-Some.reply ≡ reply_now (unit_of c.self.inside) c.args.command (data_of c.args.command (drop 51 c.args.bytes.items))
 answered c =
     rw c.as_slice.ensures.value at c.in-Some.ensures.reply
     ∙ reply_is c.self.inside c.self.invariant c.tell_oldest.new.facts (facts_are c) c.args.command (data_of c.args.command (drop 51 c.args.bytes.items))
 
-stored : (c : goal.After-push_reserved) (b : ℕ)
+stored : (c : goal.After-drop) (b : ℕ)
     → nth_block c.run_on.new.store b ≡ block_after c.args.command (data_of c.args.command (drop 51 c.args.bytes.items)) c.in-Some.reply.status (nth_block c.self.inside.store) b
 stored c b = rw c.as_slice.ensures.value at (c.in-Some.ensures.blocks b)
 
-kept : (c : goal.After-push_reserved)
-    → c.push_reserved.new.self.items ≡ c.self.inside.commits.items ++ record { ticket = c.args.ticket; command = c.args.command; bytes = c.args.bytes; status = c.in-Some.reply.status } ∷ []
+kept : (c : goal.After-drop)
+    → c.push.new.self.items ≡ c.self.inside.commits.items ++ record { ticket = c.args.ticket; command = c.args.command; bytes = c.args.bytes; status = c.in-Some.reply.status } ∷ []
 kept c =
-    let one : Commit = record { ticket = c.args.ticket; command = c.args.command; bytes = c.args.bytes; status = c.in-Some.reply.status } in
-    c.push_reserved.ensures.items ∙ ap (λ (xs : List Commit). xs ++ one ∷ []) c.reserve.ensures.items
+    c.push.ensures
 
 pub invariant_of-self-2 : goal.invariant_of-self-2
 invariant_of-self-2 c =
