@@ -53,15 +53,15 @@ pub fn exec_absent(command: &Command) -> AbsentReply
     }
 }
 
-/// GOOD with these data, cut to the allocation length (SPC-4 §4.3.5.6).
-fn returned(data: &[u8], allocation: u32) -> AbsentReply
-    requires { length data.now ≤ ABSENT_BYTES }
-    ensures reply { plain_of_absent result ≡ returned (take allocation data.now) }
+/// GOOD with these data to the driver, cut to the allocation length (SPC-4 §4.3.5.6).
+fn returned(whole: &[u8], allocation: u32) -> AbsentReply
+    requires { length whole.now ≤ ABSENT_BYTES }
+    ensures reply { plain_of_absent result ≡ returned (take allocation whole.now) }
     ensures room { array_vec_len result.payload ≤ allocation }
 {
-    let len = data.len().min(allocation as usize);
+    let len = whole.len().min(allocation as usize);
     let mut payload = ArrayVec::new();
-    let Ok(()) = payload.try_extend_from_slice(&data[..len]) else {
+    let Ok(()) = payload.try_extend_from_slice(&whole[..len]) else {
         unreachable!()
     };
     AbsentReply {

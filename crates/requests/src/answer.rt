@@ -107,6 +107,7 @@ impl DirectAnswer {
         requires sum { lengths.now.readable + lengths.now.writable ≤ 2 ^ 32 }
         requires room { RESPONSE_BYTES + (need_of command.now).into ≤ lengths.now.writable }
         ensures bytes { result ≡ answer_of_reply lengths.now (absent_reply command.now) }
+        ensures few { length result ≤ MOST_DIRECT_BYTES }
         ensures fits { length result ≤ lengths.now.writable }
     {
         let reply = exec_absent(command);
@@ -115,15 +116,15 @@ impl DirectAnswer {
     }
 
     /// A response, and the data behind it.
-    fn with_data(head: &[u8; RESPONSE_BYTES], data: &[u8]) -> DirectAnswer
-        requires { length data.now ≤ ABSENT_BYTES }
-        ensures { result ≡ head.now ++ data.now }
+    fn with_data(head: &[u8; RESPONSE_BYTES], payload: &[u8]) -> DirectAnswer
+        requires { length payload.now ≤ ABSENT_BYTES }
+        ensures { result ≡ head.now ++ payload.now }
     {
         let mut bytes = ArrayVec::new();
         let Ok(()) = bytes.try_extend_from_slice(head) else {
             unreachable!()
         };
-        let Ok(()) = bytes.try_extend_from_slice(data) else {
+        let Ok(()) = bytes.try_extend_from_slice(payload) else {
             unreachable!()
         };
         DirectAnswer { bytes }

@@ -1,7 +1,7 @@
 //! Which logical units there are.
 
 ghost use Rattle.std.specs.Prelude.{◌≡◌, ◌<◌, ◌≤◌, true, map, length, IfSome, IfOk};
-ghost use Rattle.requests.specs.Inventory.{address_of, is_rising, has_target, place_of, luns_of};
+ghost use Rattle.requests.specs.Inventory.{address_of, stands_before, is_rising, has_target, place_of, luns_of};
 
 use arrayvec::ArrayVec;
 use scsi_codec::Address;
@@ -102,4 +102,27 @@ impl Inventory {
             .map(|address| address.lun)
             .collect(alloc)
     }
+}
+
+/// Whether one unit's address stands before another's.
+fn is_before(unit: &UnitSpec, other: &UnitSpec) -> bool
+    ensures { result ≡ stands_before (address_of unit.now) (address_of other.now) }
+{
+    unit.target < other.target || (unit.target == other.target && unit.lun < other.lun)
+}
+
+/// Whether the addresses of units rise, which those of an inventory do.
+pub fn are_rising(units: &[UnitSpec]) -> bool
+    ensures { result ≡ is_rising (map address_of units.now) }
+{
+    let mut rest = units;
+    while let [first, others @ ..] = rest {
+        if let [second, ..] = others {
+            if !is_before(first, second) {
+                return false;
+            }
+        }
+        rest = others;
+    }
+    true
 }

@@ -11,5 +11,5 @@ mod unit_request;
 pub use answer::{ChainLengths, DirectAnswer, MOST_DIRECT_BYTES, response_ok};
 pub use attribute::TaskAttribute;
 pub use decision::{Decision, decide};
-pub use inventory::{Inventory, MOST_UNITS, UnitSpec};
+pub use inventory::{Inventory, MOST_UNITS, UnitSpec, are_rising};
 pub use unit_request::UnitRequest;

@@ -21,10 +21,10 @@ set_same xs i x lt is =
     ])
 
 pub turned : (old : PlainWorld) (n : ℕ) (q q' : PlainQueue) (m' : List ℕ) (units' : List PlainUnit) (r : Result Bool NoMemory)
-    → n < length old.queues → q ≡ get_or old.queues n q → Turns q old.memory old.units r q' m' units'
-    → TurnsAt old n r (record { memory = m'; queues = set old.queues n q'; units = units' })
+    → n < length old.queues → q ≡ get_or old.queues n q → Turns old.inventory q old.memory old.units r q' m' units'
+    → TurnsAt old n r (record { memory = m'; inventory = old.inventory; queues = set old.queues n q'; units = units' })
 turned old n q q' m' units' (Ok true) lt is turn =
-    record { queue = q; after = q'; there = slice_get_read old.queues (length old.queues) n q refl lt is; changed = turn; others = refl }
+    record { queue = q; after = q'; there = slice_get_read old.queues (length old.queues) n q refl lt is; changed = turn; others = refl; inventory = refl }
 turned old n q q' m' units' (Ok false) lt is (idle, (same_queue, same_memory, same_units)) =
     let back : set old.queues n q' ≡ old.queues = ap (λ (x : PlainQueue). set old.queues n x) same_queue ∙ set_same old.queues n q lt is in (
       rw (back, same_memory, same_units) refl,

@@ -1,5 +1,6 @@
 -- The device as a plain value, and its runs: one queue after another is served.
 use Rattle.std.specs.Prelude.{ℕ, ◌≡◌, ◌⊎◌, ◌≤◌, ◌<◌, ◌+◌, ◌^◌, List, [], ◌∷◌, length, slice_get, slice_set, Some, Bool, true, false, Result, Ok, Err}
+use Rattle.scsi_codec.specs.declared.lun.Address.{Address}
 use Rattle.block_store.specs.declared.NoMemory.{NoMemory}
 use Rattle.ring_core.specs.Offer.{MayLackMemory}
 use Rattle.world.specs.Queue.{PlainQueue, IsIdle}
@@ -8,6 +9,8 @@ use Rattle.world.specs.Serving.{Serves, OnlyBreaks}
 
 pub record PlainWorld : Type 0 where
   pub memory : List ℕ
+  -- the addresses of the units, in their order
+  pub inventory : List Address
   pub queues : List PlainQueue
   pub units : List PlainUnit
 
@@ -17,9 +20,10 @@ pub record StepAt (old : PlainWorld) (number : ℕ) (new : PlainWorld) : Type 0 
   pub after : PlainQueue
   pub there : slice_get old.queues number ≡ Some queue
   pub changed :
-      Serves queue old.memory old.units after new.memory new.units
+      Serves old.inventory queue old.memory old.units after new.memory new.units
       ⊎ OnlyBreaks queue old.memory old.units after new.memory new.units
   pub others : new.queues ≡ slice_set old.queues number after
+  pub inventory : new.inventory ≡ old.inventory
 
 -- at the queue of this number nothing is to be done
 abbrev pub IdleAt : PlainWorld → ℕ → Type 0

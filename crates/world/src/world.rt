@@ -1,16 +1,18 @@
 //! The device.
 
-ghost use Rattle.std.specs.Prelude.{◌≡◌, ◌<◌, ◌≤◌, length, IfOk, true, is_some};
+ghost use Rattle.std.specs.Prelude.{◌≡◌, ◌<◌, ◌≤◌, length, map, IfOk, true, is_some};
+ghost use Rattle.requests.specs.Inventory.{address_of};
 ghost use Rattle.std.specs.List.{list_any};
 ghost use Rattle.world.specs.Config.{AreOpening, AreFresh, Opens, is_config};
 ghost use Rattle.world.specs.World.{TurnsAt, AreFitting};
 
-use crate::config::{Config, StartFault, UnitSpec, form};
+use crate::config::{Config, StartFault, form};
 use crate::queue::Queue;
 use crate::serving::take_turn;
 use crate::unit::Unit;
 use block_store::NoMemory;
 use guest_mem::GuestMem;
+use requests::{Inventory, UnitSpec};
 use ring_core::{Form, Layout, QueueLog};
 use std::alloc::Global;
 use std::marker::Model;
@@ -23,16 +25,19 @@ const FIRST_REQUEST_QUEUE: usize = 2;
 fn turn_of(
     alloc: Global,
     memory: &mut GuestMem,
+    inventory: &Inventory,
     queues: &mut [Queue],
     units: &mut [Unit],
     number: usize,
 ) -> Result<bool, NoMemory>
     requires inside { number < length queues.old }
     requires fits { AreFitting queues.old memory.old }
-    ensures turn { TurnsAt (record { memory = memory.old; queues = queues.old; units = units.old }) number result (record { memory = memory.new; queues = queues.new; units = units.new }) }
+    requires there { length inventory.now ≡ length units.old }
+    ensures turn { TurnsAt (record { memory = memory.old; inventory = inventory.now; queues = queues.old; units = units.old }) number result (record { memory = memory.new; inventory = inventory.now; queues = queues.new; units = units.new }) }
     ensures fits { AreFitting queues.new memory.new }
+    ensures units { length units.new ≡ length units.old }
 {
-    take_turn(alloc, &mut queues[number], memory, units)
+    take_turn(alloc, &mut queues[number], memory, inventory, units)
 }
 
 /// Whether a fault of the guest broke a queue.
@@ -47,18 +52,20 @@ fn is_any_broken(queues: &[Queue]) -> bool
 pub struct World {
     alloc: Global,
     memory: GuestMem,
+    inventory: Inventory,
     queues: Vec<Queue>,
     units: Vec<Unit>,
 }
 
 impl Model for World {
+    ghost use Rattle.std.specs.Prelude.{◌≡◌, length};
     ghost use Rattle.world.specs.World.{PlainWorld, AreFitting};
 
     ghost Value = { PlainWorld };
 
-    ghost view = { λ w. record { memory = w.memory; queues = w.queues.items; units = w.units.items } };
+    ghost view = { λ w. record { memory = w.memory; inventory = w.inventory; queues = w.queues.items; units = w.units.items } };
 
-    ghost invariant = { λ w. AreFitting w.queues.items w.memory };
+    ghost invariant = { λ w. AreFitting w.queues.items w.memory × (length w.inventory ≡ length w.units.items) };
 }
 
 /// The queues of these layouts, of which nothing was fetched yet.
@@ -82,13 +89,17 @@ fn open_queues(
 }
 
 /// The units that are wanted, that ran nothing yet.
-fn open_units(alloc: Global, wanted: &[UnitSpec]) -> Result<Vec<Unit>, NoMemory>
-    requires { length wanted.now ≤ 64 }
+fn open_units(
+    alloc: Global,
+    wanted: &[UnitSpec],
+    inventory: &Inventory,
+) -> Result<Vec<Unit>, NoMemory>
+    requires { inventory.now ≡ map address_of wanted.now }
     ensures { IfOk result (λ units. AreFresh wanted.now units.items) }
 {
     let mut units = Vec::new(alloc);
     for number in 0..wanted.len() {
-        let unit = Unit::new(alloc, &wanted[number], wanted)?;
+        let unit = Unit::new(alloc, &wanted[number], inventory)?;
         if units.push(unit).is_err() {
             return Err(NoMemory);
         }
@@ -108,10 +119,12 @@ fn open_world(alloc: Global, config: &Config) -> Result<World, NoMemory>
         return Err(NoMemory);
     };
     let queues = open_queues(alloc, form, config.queues.as_slice(), &memory)?;
-    let units = open_units(alloc, config.units.as_slice())?;
+    let inventory = Inventory::new(config.units.as_slice());
+    let units = open_units(alloc, config.units.as_slice(), &inventory)?;
     Ok(World {
         alloc,
         memory,
+        inventory,
         queues,
         units,
     })
@@ -125,6 +138,7 @@ impl World {
     ghost use Rattle.world.specs.Config.{is_config, Opens, RefusedAs};
     ghost use Rattle.std.specs.Prelude.{◌≡◌, ◌<◌, length, MatchResult};
     ghost use Rattle.world.specs.World.{TurnsAt, NextTurns, Settles, EndsForMemory};
+    ghost use Rattle.world.specs.Unit.{capacity_of};
     ghost use Rattle.world.specs.Views.{unit_at, status_of, Gives};
 
     /// The device of a configuration. Whoever sets it up calls it once. `BadConfig` exactly where
@@ -215,7 +229,7 @@ impl World {
 
     /// The capacity in blocks of the unit of an address; `None` where there is none.
     pub fn capacity(&self, target: u8, lun: u16) -> Option<u64>
-        ensures { result ≡ option_map (λ u. u.capacity) (unit_at self.now target lun) }
+        ensures { result ≡ option_map (λ u. capacity_of u.opening u.commits) (unit_at self.now target lun) }
     {
         match self.unit(target, lun) {
             Some(unit) => Some(unit.capacity()),
@@ -256,6 +270,7 @@ impl World {
         turn_of(
             self.alloc,
             &mut self.memory,
+            &self.inventory,
             self.queues.as_mut_slice(),
             self.units.as_mut_slice(),
             number,

@@ -14,7 +14,7 @@ is_taken c = ap (λ (x : PlainQueue). get_or c.args.queues.now c.args.number x) 
 pub returns-clause-turn : goal.returns-clause-turn
 unfolding taken
 returns-clause-turn c =
-    turned (record { memory = c.args.memory.now; queues = c.args.queues.now; units = c.args.units.now }) c.args.number (taken c) c.take_turn.new.queue
+    turned (record { memory = c.args.memory.now; inventory = c.args.inventory.now; queues = c.args.queues.now; units = c.args.units.now }) c.args.number (taken c) c.take_turn.new.queue
     c.take_turn.new.memory c.take_turn.new.units c.take_turn.result c.requires.inside (is_taken c) c.take_turn.ensures.turn
 
 pub returns-clause-fits : goal.returns-clause-fits
