@@ -2,7 +2,7 @@
 use Rattle.std.proofs.Common.{◌≡◌, ℕ, None, Some, refl, List, [], ◌∷◌, ◌++◌, ◌+◌, ◌<◌, length, zero, suc, arith, ap, sym, ◌∙◌, ◌≤◌, ◌⊎◌, inl, inr, subst, Bool, true, false, cond, filter, ◌==◌}
 use Rattle.std.specs.Prelude.{slice_get}
 use Rattle.std.proofs.lemmas.Option.{slice_get_within, same_Some}
-use Rattle.ring_core.specs.State.{opening}
+use Rattle.ring_core.specs.State.{opening, tickets, IsLawful}
 use Rattle.ring_core.specs.declared.layout.Form.{Form}
 use Rattle.ring_core.specs.declared.layout.Form.TheVariants.{Split, Packed}
 use Rattle.ring_core.specs.declared.layout.Layout.{Layout}
@@ -10,18 +10,13 @@ use Rattle.scsi_codec.specs.declared.lun.Address.{Address}
 use Rattle.requests.specs.declared.inventory.UnitSpec.{UnitSpec}
 use Rattle.world.specs.Unit.{PlainUnit}
 use Rattle.world.specs.Queue.{PlainQueue}
-use Rattle.world.specs.World.{AreFitting}
+use Rattle.world.specs.World.{AreKept, IsKept}
 use Rattle.world.specs.Config.{AreOpening, opening_queue, opening_unit}
 
 pub opens_whole : (form : Form) (memory number : ℕ) (l : Layout) → (opening_queue form memory number l).ring.broken ≡ None
 unfolding opening
 opens_whole Split memory number l = refl
 opens_whole Packed memory number l = refl
-
-pub opens_fitting : (form : Form) (memory number : ℕ) (l : Layout) → (opening_queue form memory number l).ring.memory ≡ memory
-unfolding opening
-opens_fitting Split memory number l = refl
-opens_fitting Packed memory number l = refl
 
 pub at_end : {X : Type 0} (xs : List X) (y : X) → slice_get (xs ++ y ∷ []) (length xs) ≡ Some y
 at_end [] y = refl
@@ -54,7 +49,20 @@ layout_at [] k lt = absurd (omega (arith, lt))
 layout_at (l ∷ ls) zero lt = (l, refl)
 layout_at (l ∷ ls) (suc k) lt = layout_at ls k (omega (arith, lt))
 
-pub opened_fitting : (form : Form) (m : List ℕ) (layouts : List Layout) (queues : List PlainQueue) → AreOpening form (length m) layouts queues → AreFitting queues m
-opened_fitting form m layouts queues opened k q there =
-    let (l, at) = layout_at layouts k (omega (arith, slice_get_within queues k q there, opened.count)) in
-    sym (ap (λ (y : PlainQueue). y.ring.memory) (same_Some q (opening_queue form (length m) k l) (sym there ∙ opened.each k l at)) ∙ opens_fitting form (length m) k l)
+nothing_lawful : (number : ℕ) → IsLawful number (record { accepted = []; used = [] })
+unfolding tickets
+nothing_lawful number =
+    record { numbered = refl; used_accepted = λ k t there. absurd (cc); used_once = λ j k t there again. absurd (cc) }
+
+kept_at_first : (form : Form) (m : List ℕ) (number : ℕ) (l : Layout) → IsKept number (opening_queue form (length m) number l) (length m)
+unfolding opening
+kept_at_first Split m number l = record { fits = refl; numbered = refl; lawful = nothing_lawful number; all_used = refl }
+kept_at_first Packed m number l = record { fits = refl; numbered = refl; lawful = nothing_lawful number; all_used = refl }
+
+pub opened_kept : (form : Form) (m : List ℕ) (layouts : List Layout) (queues : List PlainQueue) → AreOpening form (length m) layouts queues → AreKept queues (length m)
+opened_kept form m layouts queues opened =
+    record {
+      each = λ k q there.
+          let (l, at) = layout_at layouts k (omega (arith, slice_get_within queues k q there, opened.count)) in
+          subst (λ (x : PlainQueue). IsKept k x (length m)) (sym (same_Some q (opening_queue form (length m) k l) (sym there ∙ opened.each k l at))) (kept_at_first form m k l);
+    }

@@ -3,6 +3,7 @@ use Rattle.std.specs.Prelude.{ℕ, ◌≡◌, ◌⊎◌, ◌≤◌, ◌<◌, ◌
 use Rattle.scsi_codec.specs.declared.lun.Address.{Address}
 use Rattle.block_store.specs.declared.NoMemory.{NoMemory}
 use Rattle.ring_core.specs.Offer.{MayLackMemory}
+use Rattle.ring_core.specs.State.{IsLawful}
 use Rattle.world.specs.Queue.{PlainQueue, IsIdle}
 use Rattle.world.specs.Unit.{PlainUnit}
 use Rattle.world.specs.Serving.{Serves, OnlyBreaks}
@@ -74,6 +75,14 @@ Settles old count new = (passed : List PlainWorld) × Runs old passed new × (le
 abbrev pub EndsForMemory : PlainWorld → PlainWorld → Type 0
 EndsForMemory old new = (passed : List PlainWorld) × Runs old passed new × (WantsMemory new ⊎ (length passed + 1 ≡ 2 ^ 64))
 
--- each ring was made with a memory of this size
-abbrev pub AreFitting : List PlainQueue → List ℕ → Type 0
-AreFitting queues m = (k : ℕ) (q : PlainQueue) → slice_get queues k ≡ Some q → length m ≡ q.ring.memory
+-- the queue of this number, between two turns: its ring was made with a memory of this size, its log is lawful, and no chain
+-- is outstanding
+pub record IsKept (number : ℕ) (q : PlainQueue) (size : ℕ) : Type 0 where
+  pub fits : size ≡ q.ring.memory
+  pub numbered : q.ring.queue ≡ number
+  pub lawful : IsLawful number q.ring.log
+  pub all_used : length q.ring.log.used ≡ length q.ring.log.accepted
+
+-- each queue is
+pub record AreKept (queues : List PlainQueue) (size : ℕ) : Type 0 where
+  pub each : (k : ℕ) (q : PlainQueue) → slice_get queues k ≡ Some q → IsKept k q size

@@ -2,7 +2,7 @@
 
 ghost use Rattle.std.specs.Prelude.{◌≡◌, ◌≤◌, ◌<◌, ◌^◌, length, take};
 ghost use Rattle.ring_core.specs.Parts.{readable_bytes, first_bytes, writable_total, scattered};
-ghost use Rattle.ring_core.specs.State.{Owns};
+ghost use Rattle.ring_core.specs.State.{IsLawful, Owns};
 ghost use Rattle.world.specs.Answering.{bytes_of};
 ghost use Rattle.world.specs.Serving.{Finishes, Turns};
 
@@ -66,7 +66,7 @@ fn finish_chain(
 
 /// A turn at one queue: takes its next chain, if there is one, and serves it whole. Whether
 /// something changed: a chain was served, or a fault of the guest broke the queue.
-pub fn take_turn(
+pub(crate) fn take_turn(
     alloc: Global,
     queue: &mut Queue,
     memory: &mut GuestMem,
@@ -79,6 +79,7 @@ pub fn take_turn(
     ensures size { length memory.new ≡ length memory.old }
     ensures ring { queue.new.ring.memory ≡ queue.old.ring.memory }
     ensures units { length units.new ≡ length units.old }
+    ensures number { queue.new.ring.queue ≡ queue.old.ring.queue }
 {
     match queue.fetch(memory) {
         Err(NoMemory) => Err(NoMemory),

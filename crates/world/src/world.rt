@@ -4,7 +4,7 @@ ghost use Rattle.std.specs.Prelude.{◌≡◌, ◌<◌, ◌≤◌, length, map, 
 ghost use Rattle.requests.specs.Inventory.{address_of};
 ghost use Rattle.std.specs.List.{list_any};
 ghost use Rattle.world.specs.Config.{AreOpening, AreFresh, Opens, is_config};
-ghost use Rattle.world.specs.World.{TurnsAt, AreFitting};
+ghost use Rattle.world.specs.World.{TurnsAt, AreKept};
 
 use crate::config::{Config, StartFault, form};
 use crate::queue::Queue;
@@ -31,13 +31,15 @@ fn turn_of(
     number: usize,
 ) -> Result<bool, NoMemory>
     requires inside { number < length queues.old }
-    requires fits { AreFitting queues.old memory.old }
+    requires kept { AreKept queues.old (length memory.old) }
     requires there { length inventory.now ≡ length units.old }
     ensures turn { TurnsAt (record { memory = memory.old; inventory = inventory.now; queues = queues.old; units = units.old }) number result (record { memory = memory.new; inventory = inventory.now; queues = queues.new; units = units.new }) }
-    ensures fits { AreFitting queues.new memory.new }
+    ensures kept { AreKept queues.new (length memory.new) }
     ensures units { length units.new ≡ length units.old }
 {
-    take_turn(alloc, &mut queues[number], memory, inventory, units)
+    let turned = take_turn(alloc, &mut queues[number], memory, inventory, units);
+    let _log = queues[number].log();
+    turned
 }
 
 /// Whether a fault of the guest broke a queue.
@@ -59,13 +61,13 @@ pub struct World {
 
 impl Model for World {
     ghost use Rattle.std.specs.Prelude.{◌≡◌, length};
-    ghost use Rattle.world.specs.World.{PlainWorld, AreFitting};
+    ghost use Rattle.world.specs.World.{PlainWorld, AreKept};
 
     ghost Value = { PlainWorld };
 
     ghost view = { λ w. record { memory = w.memory; inventory = w.inventory; queues = w.queues.items; units = w.units.items } };
 
-    ghost invariant = { λ w. AreFitting w.queues.items w.memory × (length w.inventory ≡ length w.units.items) };
+    ghost invariant = { λ w. AreKept w.queues.items (length w.memory) × (length w.inventory ≡ length w.units.items) };
 }
 
 /// The queues of these layouts, of which nothing was fetched yet.
@@ -131,13 +133,14 @@ fn open_world(alloc: Global, config: &Config) -> Result<World, NoMemory>
 }
 
 impl World {
-    ghost use Rattle.std.specs.Prelude.{true, ◌↔◌, IsTrue, slice_get};
+    ghost use Rattle.std.specs.Prelude.{true, ◌↔◌, IsTrue, IfSome, slice_get};
     ghost use Rattle.std.specs.Bool.{OnTrue, OnFalse};
     ghost use Rattle.std.specs.Option.{option_copied, option_map};
     ghost use Rattle.guest_mem.specs.Memory.{with_bytes, LiesIn};
     ghost use Rattle.world.specs.Config.{is_config, Opens, RefusedAs};
     ghost use Rattle.std.specs.Prelude.{◌≡◌, ◌<◌, length, MatchResult};
-    ghost use Rattle.world.specs.World.{TurnsAt, NextTurns, Settles, EndsForMemory};
+    ghost use Rattle.ring_core.specs.State.{IsLawful};
+    ghost use Rattle.world.specs.World.{AreKept, TurnsAt, NextTurns, Settles, EndsForMemory};
     ghost use Rattle.world.specs.Unit.{capacity_of};
     ghost use Rattle.world.specs.Views.{unit_at, status_of, Gives};
 
@@ -153,6 +156,13 @@ impl World {
             Ok(world) => Ok(world),
             Err(NoMemory) => Err(StartFault::NoMemory),
         }
+    }
+
+    /// What holds between calls: each queue's log is lawful, and every chain that it accepted was used.
+    pub fn rests(&self)
+        ensures { AreKept self.now.queues (length self.now.memory) }
+    {
+        let _ = &self.alloc;
     }
 
     /// The guest's write: puts bytes at an address. False, with nothing changed, where one of them
@@ -186,11 +196,15 @@ impl World {
         self.queues.get(number as usize)
     }
 
-    /// The log of a queue: which chains it accepted, and which were used.
+    /// The log of a queue: how many chains it accepted, and how many were used, which are all of them.
+    /// `None` where there is no such queue.
     pub fn log(&self, number: u16) -> Option<&QueueLog>
-        ensures { option_copied result ≡ option_map (λ q. q.ring.log) (slice_get self.now.queues number) }
+        ensures log { option_copied result ≡ option_map (λ q. q.ring.log) (slice_get self.now.queues number) }
+        ensures lawful { IfSome result (λ log. IsLawful number log.now) }
+        ensures all_used { IfSome result (λ log. length log.now.used ≡ length log.now.accepted) }
     {
-        match self.queues.get(number as usize) {
+        self.rests();
+        match self.queue(number) {
             Some(queue) => Some(queue.log()),
             None => None,
         }
@@ -297,16 +311,24 @@ impl World {
     /// 2^64 - 1 chains: there is something to fetch then, what was served before stands, and nothing
     /// else changed.
     pub fn settle(&mut self) -> Result<u64, NoMemory>
-        ensures { MatchResult result (λ count. Settles self.old count self.new) (λ _. EndsForMemory self.old self.new) }
+        ensures run { MatchResult result (λ count. Settles self.old count self.new) (λ _. EndsForMemory self.old self.new) }
+        ensures kept { AreKept self.new.queues (length self.new.memory) }
     {
         // Each step lengthens a log or breaks a queue, and no log counts more tickets.
         for count in 0..u64::MAX {
             match self.next_turn() {
                 Ok(true) => {}
-                Ok(false) => return Ok(count),
-                Err(NoMemory) => return Err(NoMemory),
+                Ok(false) => {
+                    self.rests();
+                    return Ok(count);
+                }
+                Err(NoMemory) => {
+                    self.rests();
+                    return Err(NoMemory);
+                }
             }
         }
+        self.rests();
         Err(NoMemory)
     }
 }

@@ -1,7 +1,7 @@
 use Rattle.std.proofs.Common.{◌≡◌, map, length, sym, ap, ◌∙◌}
 use Rattle.std.proofs.lemmas.List.{length-map}
 use Rattle.requests.specs.Inventory.{address_of}
-use Rattle.world.proofs.Opening.{opened_fitting}
+use Rattle.world.proofs.Opening.{opened_kept}
 use Rattle.world.proofs.world.open_world.Goals as goal
 
 -- there are as many units as addresses
@@ -14,4 +14,4 @@ as_many c =
 -- src/world.rt:103:5
 pub invariant_of-result : goal.invariant_of-result
 invariant_of-result c =
-    (opened_fitting c.in-Some.form c.in-Ok.memory c.as_slice.result.now c.in_ok-queues.queues.items c.in_ok-queues.ensures, as_many c)
+    (opened_kept c.in-Some.form c.in-Ok.memory c.as_slice.result.now c.in_ok-queues.queues.items c.in_ok-queues.ensures, as_many c)
