@@ -2,8 +2,8 @@
 
 ghost use Rattle.std.specs.Prelude.{◌≡◌, ◌<◌, ◌≤◌, length, map, IfOk, true, is_some};
 ghost use Rattle.requests.specs.Inventory.{address_of};
-ghost use Rattle.std.specs.List.{list_any};
-ghost use Rattle.world.specs.Config.{AreOpening, AreFresh, Opens, is_config};
+ghost use Rattle.std.specs.List.{list_all, list_any};
+ghost use Rattle.world.specs.Config.{AreOpening, AreFresh, Opens, is_config, is_queue};
 ghost use Rattle.world.specs.World.{TurnsAt, AreKept};
 
 use crate::config::{Config, StartFault, form};
@@ -77,7 +77,8 @@ fn open_queues(
     layouts: &[Layout],
     memory: &GuestMem,
 ) -> Result<Vec<Queue>, NoMemory>
-    requires { length layouts.now ≤ 18 }
+    requires few { length layouts.now ≤ 18 }
+    requires placed { list_all (is_queue form (length memory.now)) layouts.now ≡ true }
     ensures { IfOk result (λ queues. AreOpening form (length memory.now) layouts.now queues.items) }
 {
     let mut queues = Vec::new(alloc);
