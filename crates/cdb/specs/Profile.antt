@@ -51,8 +51,8 @@ abbrev pub page_of : ℕ → Option InquiryData
 page_of code = option_map (λ page. page.1) (find (λ page. page.0 == code) pages)
 
 -- what EVPD and a page code ask for: a page where EVPD is 1 (a code that has none is a cause)
-abbrev pub inquiry_data : Bool → ℕ → InquiryData
-inquiry_data evpd code = if evpd then unwrap_or (page_of code) Standard else Standard
+abbrev pub data_asked : Bool → ℕ → InquiryData
+data_asked evpd code = if evpd then unwrap_or (page_of code) Standard else Standard
 
 -- SELECT REPORT 00h, 01h and 02h, SPC-4 §6.33 (another is a cause)
 abbrev pub select_report : ℕ → SelectReport
@@ -75,7 +75,7 @@ profile =
     -- INQUIRY, SPC-4 §6.6: a page code without EVPD; a page that the device lacks
     ∷ row 0x12 5
     (λ cdb. (not (bit 1 0 cdb) && is_set (byte 2 cdb)) ∷ is_none (page_of (byte 2 cdb)) ∷ [])
-    (λ cdb. Inquiry (inquiry_data (bit 1 0 cdb) (byte 2 cdb)) (number 3 4 cdb))
+    (λ cdb. Inquiry (data_asked (bit 1 0 cdb) (byte 2 cdb)) (number 3 4 cdb))
     -- READ CAPACITY (10), SBC-3 §5.15
     ∷ row 0x25 9 never (λ cdb. ReadCapacity10)
     -- READ (10), SBC-3 §5.11

@@ -9,9 +9,7 @@ use crate::attribute::attribute_of;
 use crate::inventory::Inventory;
 use crate::unit_request::UnitRequest;
 use cdb::{decode, need};
-use scsi_codec::{
-    CodecFault, REQUEST_BYTES, RESPONSE_BYTES, Request, ResponseCode, read_request,
-};
+use scsi_codec::{CodecFault, REQUEST_BYTES, RESPONSE_BYTES, Request, ResponseCode, read_request};
 use sense::Sense;
 
 /// What is decided of a request when it is fetched. It is never decided again.
@@ -51,7 +49,8 @@ fn decide_by_command(
     requires whole { REQUEST_BYTES ≤ length bytes.items }
     requires sum { lengths.now.readable + lengths.now.writable ≤ 2 ^ 32 }
     requires room { RESPONSE_BYTES ≤ lengths.now.writable }
-    ensures decision { result ≡ decide_command inventory.now lengths.now bytes.items request.now (command request.now.cdb) }
+    ensures decision { result
+        ≡ decide_command inventory.now lengths.now bytes.items request.now (command request.now.cdb) }
     ensures suits { Suits (length inventory.now) lengths.now result }
 {
     let command = decode(&request.cdb);
@@ -67,7 +66,10 @@ fn decide_by_command(
     match inventory.find(&request.address) {
         None => Decision::Direct(DirectAnswer::absent(lengths, &command)),
         Some(place) => {
-            Decision::Enter(place, UnitRequest::new(request.id, attribute, command, bytes))
+            Decision::Enter(
+                place,
+                UnitRequest::new(request.id, attribute, command, bytes),
+            )
         }
     }
 }

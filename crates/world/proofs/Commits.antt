@@ -21,7 +21,7 @@ use Rattle.block_commands.specs.Replies.{reply_of, answer_of, Answer, within, co
 use Rattle.block_commands.specs.Comparing.{first_unequal, to_compare}
 use Rattle.requests.specs.UnitRequest.{PlainRequest}
 use Rattle.world.specs.Unit.{PlainCommit, Opening, blocks_of, pending_of, oldest, facts_now, reply_now, committing}
-use Rattle.world.specs.UnitFields.{plain_commit, commits_of, opening_of, unit_of, IsUnit}
+use Rattle.world.specs.UnitFields.{plain_commit, commits_of, opening_of, unit_of, IsTold}
 use Rattle.world.specs.declared.unit.Commit.{Commit}
 use Rattle.world.specs.declared.unit.Unit.TheInside.{Inside}
 
@@ -68,7 +68,7 @@ module _ (capacity : ℕ) (f g : Blocks) (same : (b : ℕ) → b < capacity → 
   reply_same facts is command bytes = ap (λ (a : Answer). reported (met command facts.pending) (replied command a)) (answer_same facts is command bytes)
 
 -- Of a unit whose store and attentions are what its commands say:
-module _ (u : Inside) (sound : IsUnit u) where
+module _ (u : Inside) (sound : IsTold u) where
   pub told : (f : UnitFacts) → f.target ≡ u.facts.target → f.lun ≡ u.facts.lun → f.luns.items ≡ u.facts.luns.items → f.pending ≡ oldest u.attentions
       → facts_of f (block_count u.store) ≡ facts_now (unit_of u)
   told f a b d e = let p = sound.pends in cc
@@ -85,7 +85,7 @@ one_more commits c = rw reverse-append refl
 after_same : (command : Command) (taken : List ℕ) (status : ℕ) (f g : Blocks) (b : ℕ) → f b ≡ g b → block_after command taken status f b ≡ block_after command taken status g b
 after_same command taken status f g b e = ap (λ (x : List ℕ). if status == good then unwrap_or (given command taken b) x else x) e
 
-module _ (u n : Inside) (sound : IsUnit u) (ticket : Ticket) (request : PlainRequest) (r : Reply)
+module _ (u n : Inside) (sound : IsTold u) (ticket : Ticket) (request : PlainRequest) (r : Reply)
     (reply : plain_of r ≡ reply_now (unit_of u) request.command request.data_out)
     (target : n.facts.target ≡ u.facts.target) (lun : n.facts.lun ≡ u.facts.lun) (luns : n.facts.luns.items ≡ u.facts.luns.items) (calm : n.calm ≡ u.calm)
     (attentions : n.attentions ≡ cond (takes request.command) (without_first u.attentions) u.attentions)
@@ -98,7 +98,7 @@ module _ (u n : Inside) (sound : IsUnit u) (ticket : Ticket) (request : PlainReq
   same_opening : opening_of n ≡ opening_of u
   same_opening = rw (size, calm) refl
 
-  pub still_sound : IsUnit n
+  pub still_sound : IsTold n
   unfolding blocks_of pending_of
   still_sound =
       record {

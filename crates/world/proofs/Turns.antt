@@ -22,10 +22,13 @@ one_part m p false within = grind (arith, nat_tests, length-take p.len (drop p.a
 whole : (m : List ℕ) (parts : List Part) → AllPass (inside (length m)) parts → length (readable_bytes m parts) ≡ readable_total parts
 whole m [] all = refl
 whole m (p ∷ ps) all =
-    omega (arith, length-append (readable_of m p) (readable_bytes m ps),
-    one_part m p p.writable (All-head (λ (q : Part). inside (length m) q ≡ true) p ps all),
-    whole m ps (All-tail (λ (q : Part). inside (length m) q ≡ true) p ps all),
-    sum_by-append (λ (x : Part). cond x.writable 0 x.len) (p ∷ []) ps)
+    omega (
+      arith,
+      length-append (readable_of m p) (readable_bytes m ps),
+      one_part m p p.writable (All-head (λ (q : Part). inside (length m) q ≡ true) p ps all),
+      whole m ps (All-tail (λ (q : Part). inside (length m) q ≡ true) p ps all),
+      sum_by-append (λ (x : Part). cond x.writable 0 x.len) (p ∷ []) ps,
+    )
 
 -- a fetch reads all readable bytes, or as many as it reads at most
 pub fetched : (m : List ℕ) (parts : List Part) (bytes : List ℕ) → PartsFit (length m) parts → bytes ≡ take first_bytes (readable_bytes m parts)

@@ -25,7 +25,8 @@ IsBusy n answer = answer ≡ answer_of_reply n busy_reply
 -- itself wants memory and was refused it, and nothing changes
 abbrev pub RunsOn : PlainUnit → Ticket → PlainRequest → ChainLengths → List ℕ → PlainUnit → Type 0
 RunsOn old ticket r n answer new =
-    ((answer ≡ answer_of_reply n (reply_now old r.command r.data_out)) × (new ≡ committing old ticket r.command r.data_out))
+    ((answer ≡ answer_of_reply n (reply_now old r.command r.data_out)) × (new
+    ≡ committing old ticket r.command r.data_out))
     ⊎ (IsTrue (may_want (facts_now old) r.command) × IsBusy n answer × (new ≡ old))
 
 -- as it was decided: the direct answer, or what the unit at its place gives
@@ -36,5 +37,6 @@ AnswersAs (decision.Enter place r) units ticket n answer after =
     × RunsOn old ticket r n answer new × (after ≡ slice_set units place new)
 
 -- the request in these bytes, under this ticket, is answered so, and leaves these units
-abbrev pub Answered : List Address → List PlainUnit → Ticket → ChainLengths → List ℕ → List ℕ → List PlainUnit → Type 0
-Answered inventory units ticket n bytes answer after = AnswersAs (decided inventory bytes n) units ticket n answer after
+abbrev pub IsAnswered : List Address → List PlainUnit → Ticket → ChainLengths → List ℕ → List ℕ → List PlainUnit
+    → Type 0
+IsAnswered inventory units ticket n bytes answer after = AnswersAs (decided inventory bytes n) units ticket n answer after

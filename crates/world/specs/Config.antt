@@ -40,7 +40,8 @@ has_lun_0 units target = list_any (λ u. (u.target == target) && (u.lun == 0)) u
 -- 1 to 64 units in rising order, each target with LUN 0
 abbrev pub are_units : List UnitSpec → Bool
 are_units units =
-    nat_le 1 (length units) && nat_le (length units) 64 && list_all is_unit units && is_rising (map address_of units) && list_all (λ u. has_lun_0 units u.target) units
+    nat_le 1 (length units) && nat_le (length units) 64 && list_all is_unit units
+    && is_rising (map address_of units) && list_all (λ u. has_lun_0 units u.target) units
 
 -- a control queue, an event queue and 1 to 16 request queues
 abbrev pub are_queues : Option Form → ℕ → List Layout → Bool
@@ -76,12 +77,14 @@ opening_unit inventory u =
 -- the queues of these layouts, of which nothing was fetched yet
 pub record AreOpening (form : Form) (memory : ℕ) (layouts : List Layout) (queues : List PlainQueue) : Type 0 where
   pub count : length queues ≡ length layouts
-  pub each : (k : ℕ) (l : Layout) → slice_get layouts k ≡ Some l → slice_get queues k ≡ Some (opening_queue form memory k l)
+  pub each : (k : ℕ) (l : Layout) → slice_get layouts k ≡ Some l → slice_get queues k
+      ≡ Some (opening_queue form memory k l)
 
 -- the units that ran nothing yet
 pub record AreFresh (wanted : List UnitSpec) (units : List PlainUnit) : Type 0 where
   pub count : length units ≡ length wanted
-  pub each : (k : ℕ) (u : UnitSpec) → slice_get wanted k ≡ Some u → slice_get units k ≡ Some (opening_unit (map address_of wanted) u)
+  pub each : (k : ℕ) (u : UnitSpec) → slice_get wanted k ≡ Some u → slice_get units k
+      ≡ Some (opening_unit (map address_of wanted) u)
 
 -- memory is zeros, of each queue nothing was fetched, and each unit ran nothing
 pub record Opens (c : Config) (w : PlainWorld) : Type 0 where
@@ -93,6 +96,6 @@ pub record Opens (c : Config) (w : PlainWorld) : Type 0 where
   pub units : AreFresh c.units.items w.units
 
 -- a configuration is refused as such exactly where the device doesn't take it
-abbrev pub RefusedAs : Config → StartFault → Type 0
-RefusedAs c BadConfig = is_config c ≡ false
-RefusedAs c NoMemory = is_config c ≡ true
+abbrev pub StartRefusedAs : Config → StartFault → Type 0
+StartRefusedAs c BadConfig = is_config c ≡ false
+StartRefusedAs c NoMemory = is_config c ≡ true

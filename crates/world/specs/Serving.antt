@@ -7,7 +7,7 @@ use Rattle.ring_core.specs.Fetch.{Takes}
 use Rattle.block_store.specs.declared.NoMemory.{NoMemory}
 use Rattle.world.specs.Queue.{PlainQueue, IsIdle, Breaks, completing}
 use Rattle.world.specs.Unit.{PlainUnit}
-use Rattle.world.specs.Answering.{Answered}
+use Rattle.world.specs.Answering.{IsAnswered}
 use Rattle.scsi_codec.specs.declared.lun.Address.{Address}
 use Rattle.requests.specs.declared.answer.ChainLengths.{ChainLengths}
 
@@ -17,7 +17,7 @@ lengths_of c = record { readable = readable_total c.parts; writable = writable_t
 -- the request of an outstanding chain is answered, the answer written over its writable parts in order, and the chain used with so many bytes
 pub record Finishes (inventory : List Address) (queue : PlainQueue) (m : List ℕ) (units : List PlainUnit) (chain : PlainChain) (bytes : List ℕ) (queue' : PlainQueue) (m' : List ℕ) (units' : List PlainUnit) : Type 0 where
   pub answer : List ℕ
-  pub answered : Answered inventory units chain.ticket (lengths_of chain) bytes answer units'
+  pub answered : IsAnswered inventory units chain.ticket (lengths_of chain) bytes answer units'
   pub memory_after : m' ≡ with_used queue.ring (scattered m chain.parts 0 answer) chain.id (length answer)
   pub queue_after : queue' ≡ completing queue chain m'
 
@@ -37,7 +37,11 @@ abbrev pub AreAsBefore : PlainQueue → List ℕ → List PlainUnit → PlainQue
 AreAsBefore queue m units queue' m' units' = (queue' ≡ queue) × (m' ≡ m) × (units' ≡ units)
 
 -- what a turn at one queue answers: that something changed, that nothing was to be done, or want of memory
-abbrev pub Turns : List Address → PlainQueue → List ℕ → List PlainUnit → Result Bool NoMemory → PlainQueue → List ℕ → List PlainUnit → Type 0
-Turns inventory queue m units (Ok true) queue' m' units' = Serves inventory queue m units queue' m' units' ⊎ OnlyBreaks queue m units queue' m' units'
-Turns inventory queue m units (Ok false) queue' m' units' = IsIdle queue.ring m × AreAsBefore queue m units queue' m' units'
-Turns inventory queue m units (Err e) queue' m' units' = MayLackMemory queue.ring m × AreAsBefore queue m units queue' m' units'
+abbrev pub Turns : List Address → PlainQueue → List ℕ → List PlainUnit → Result Bool NoMemory → PlainQueue
+    → List ℕ → List PlainUnit → Type 0
+Turns inventory queue m units (Ok true) queue' m' units' = Serves inventory queue m units queue' m' units'
+    ⊎ OnlyBreaks queue m units queue' m' units'
+Turns inventory queue m units (Ok false) queue' m' units' = IsIdle queue.ring m
+    × AreAsBefore queue m units queue' m' units'
+Turns inventory queue m units (Err e) queue' m' units' = MayLackMemory queue.ring m
+    × AreAsBefore queue m units queue' m' units'

@@ -26,6 +26,7 @@ unit_of u =
     }
 
 -- the store and the attentions are what the commands say
-pub record IsUnit (u : Inside) : Type 0 where
-  pub stored : (b : ℕ) → b < block_count u.store → nth_block u.store b ≡ blocks_of (opening_of u) (commits_of u.commits.items) b
+pub record IsTold (u : Inside) : Type 0 where
+  pub stored : (b : ℕ) → b < block_count u.store → nth_block u.store b
+      ≡ blocks_of (opening_of u) (commits_of u.commits.items) b
   pub pends : u.attentions ≡ pending_of (opening_of u) (commits_of u.commits.items)

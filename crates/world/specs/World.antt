@@ -73,7 +73,8 @@ Settles old count new = (passed : List PlainWorld) × Runs old passed new × (le
 
 -- a run to where a fetch may be refused memory, or of the most steps that can be counted
 abbrev pub EndsForMemory : PlainWorld → PlainWorld → Type 0
-EndsForMemory old new = (passed : List PlainWorld) × Runs old passed new × (WantsMemory new ⊎ (length passed + 1 ≡ 2 ^ 64))
+EndsForMemory old new = (passed : List PlainWorld) × Runs old passed new × (WantsMemory new ⊎ (length passed + 1
+    ≡ 2 ^ 64))
 
 -- the queue of this number, between two turns: its ring was made with a memory of this size, its log is lawful, and no chain
 -- is outstanding

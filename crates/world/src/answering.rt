@@ -2,7 +2,7 @@
 
 ghost use Rattle.std.specs.Prelude.{◌≡◌, ◌+◌, ◌≤◌, ◌<◌, ◌^◌, length, min};
 ghost use Rattle.cdb.specs.Need.{need_of};
-ghost use Rattle.world.specs.Answering.{bytes_of, Answered, RunsOn};
+ghost use Rattle.world.specs.Answering.{bytes_of, IsAnswered, RunsOn};
 
 use crate::answer::{Answer, busy, of_reply};
 use crate::unit::Unit;
@@ -44,7 +44,7 @@ pub fn answer_request(
     requires there { length inventory.now ≡ length units.old }
     requires sum { lengths.now.readable + lengths.now.writable ≤ 2 ^ 32 }
     requires fetched { length bytes.items ≡ min 1048627 lengths.now.readable }
-    ensures answered { Answered inventory.now units.old ticket lengths.now bytes.items (bytes_of result) units.new }
+    ensures answered { IsAnswered inventory.now units.old ticket lengths.now bytes.items (bytes_of result) units.new }
     ensures fits { length (bytes_of result) ≤ lengths.now.writable }
     ensures small { length (bytes_of result) < 2 ^ 32 }
 {

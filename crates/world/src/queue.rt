@@ -22,7 +22,8 @@ fn split_of(
     memory: &GuestMem,
 ) -> Result<AnyRing, NoMemory>
     requires { placement_of Form.Split (length memory.now) layout ≡ None }
-    ensures { IfOk result (λ ring. ring_state ring ≡ (opening_queue Form.Split (length memory.now) number layout).ring) }
+    ensures { IfOk result (λ ring. ring_state ring
+        ≡ (opening_queue Form.Split (length memory.now) number layout).ring) }
 {
     match SplitRing::new(alloc, number, layout, memory) {
         Ok(ring) => Ok(AnyRing::Split(ring)),
@@ -39,7 +40,8 @@ fn packed_of(
     memory: &GuestMem,
 ) -> Result<AnyRing, NoMemory>
     requires { placement_of Form.Packed (length memory.now) layout ≡ None }
-    ensures { IfOk result (λ ring. ring_state ring ≡ (opening_queue Form.Packed (length memory.now) number layout).ring) }
+    ensures { IfOk result (λ ring. ring_state ring
+        ≡ (opening_queue Form.Packed (length memory.now) number layout).ring) }
 {
     match PackedRing::new(alloc, number, layout, memory) {
         Ok(ring) => Ok(AnyRing::Packed(ring)),
@@ -93,7 +95,8 @@ impl Model for Queue {
 
     ghost view = { λ q. record { ring = ring_state q.ring; notices = q.notices } };
 
-    ghost invariant = { λ q. (q.broken ≡ is_some (ring_state q.ring).broken) × (q.notices ≤ length (ring_state q.ring).log.used) };
+    ghost invariant = { λ q. (q.broken ≡ is_some (ring_state q.ring).broken)
+        × (q.notices ≤ length (ring_state q.ring).log.used) };
 }
 
 impl Queue {

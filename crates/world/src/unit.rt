@@ -49,11 +49,11 @@ impl Model for Unit {
 
     ghost Value = { PlainUnit };
 
-    ghost use Rattle.world.specs.UnitFields.{unit_of, IsUnit};
+    ghost use Rattle.world.specs.UnitFields.{unit_of, IsTold};
 
     ghost view = { unit_of };
 
-    ghost invariant = { IsUnit };
+    ghost invariant = { IsTold };
 }
 
 /// What is pending before any command.
@@ -91,8 +91,10 @@ fn run_on(
     request: &UnitRequest,
     facts: &UnitFacts,
 ) -> Option<Reply>
-    ensures reply { IfSome result (λ r. plain_of r ≡ reply_of (facts_of facts.now (block_count store.old)) request.now.command request.now.data_out (nth_block store.old)) }
-    ensures blocks { IfSome result (λ r. (b : ℕ) → nth_block store.new b ≡ block_after request.now.command request.now.data_out r.status (nth_block store.old) b) }
+    ensures reply { IfSome result (λ r. plain_of r
+        ≡ reply_of (facts_of facts.now (block_count store.old)) request.now.command request.now.data_out (nth_block store.old)) }
+    ensures blocks { IfSome result (λ r. (b : ℕ) → nth_block store.new b
+        ≡ block_after request.now.command request.now.data_out r.status (nth_block store.old) b) }
     ensures none { IfNone result ((b : ℕ) → nth_block store.new b ≡ nth_block store.old b) }
     ensures want { IfNone result (IsTrue (may_want (facts_of facts.now (block_count store.old)) request.now.command)) }
     ensures size { block_count store.new ≡ block_count store.old }
@@ -174,7 +176,8 @@ impl Unit {
     /// with the list as it was where that can't grow.
     pub fn read_blocks(&self, first: u64, count: u32, into: &mut Vec<u8>) -> Result<(), NoMemory>
         requires { first + count ≤ capacity_of self.now.opening self.now.commits }
-        ensures ok { OnOk result (into.new.items ≡ into.old.items ++ run (blocks_of self.now.opening self.now.commits) first count) }
+        ensures ok { OnOk result (into.new.items
+            ≡ into.old.items ++ run (blocks_of self.now.opening self.now.commits) first count) }
         ensures err { OnErr result (into.new.items ≡ into.old.items) }
         ensures want { OnErr result (0 < count) }
     {

@@ -138,17 +138,18 @@ impl World {
     ghost use Rattle.std.specs.Bool.{OnTrue, OnFalse};
     ghost use Rattle.std.specs.Option.{option_copied, option_map};
     ghost use Rattle.guest_mem.specs.Memory.{with_bytes, LiesIn};
-    ghost use Rattle.world.specs.Config.{is_config, Opens, RefusedAs};
+    ghost use Rattle.world.specs.Config.{is_config, Opens, StartRefusedAs};
     ghost use Rattle.std.specs.Prelude.{◌≡◌, ◌<◌, length, MatchResult};
     ghost use Rattle.ring_core.specs.State.{IsLawful};
     ghost use Rattle.world.specs.World.{AreKept, TurnsAt, NextTurns, Settles, EndsForMemory};
     ghost use Rattle.world.specs.Unit.{capacity_of};
-    ghost use Rattle.world.specs.Views.{unit_at, status_of, Gives};
+    ghost use Rattle.world.specs.Views.{unit_at, device_status, GivesBlocks};
 
     /// The device of a configuration. Whoever sets it up calls it once. `BadConfig` exactly where
     /// the configuration isn't valid; else `NoMemory` where a growth was refused.
     pub fn new(alloc: Global, config: &Config) -> Result<World, StartFault>
-        ensures { MatchResult result (λ w. (is_config config.now ≡ true) × Opens config.now w) (λ fault. RefusedAs config.now fault) }
+        ensures { MatchResult result (λ w. (is_config config.now ≡ true) × Opens config.now w)
+            (λ fault. StartRefusedAs config.now fault) }
     {
         if !config.is_valid() {
             return Err(StartFault::BadConfig);
@@ -170,7 +171,8 @@ impl World {
     /// would lie outside memory.
     pub fn poke(&mut self, addr: u64, bytes: &[u8]) -> bool
         ensures inside { IsTrue result ↔ LiesIn (length self.old.memory) addr (length bytes.now) }
-        ensures written { OnTrue result (self.new ≡ record self.old { memory = with_bytes self.old.memory addr bytes.now }) }
+        ensures written { OnTrue result (self.new
+            ≡ record self.old { memory = with_bytes self.old.memory addr bytes.now }) }
         ensures unchanged { OnFalse result (self.new ≡ self.old) }
     {
         self.memory.write(addr, bytes).is_ok()
@@ -224,7 +226,7 @@ impl World {
     /// The device's status: 64, DEVICE_NEEDS_RESET (VIRTIO 1.2, 2.1), where a queue is broken,
     /// else 0.
     pub fn status(&self) -> u8
-        ensures { result ≡ status_of self.now }
+        ensures { result ≡ device_status self.now }
     {
         if is_any_broken(self.queues.as_slice()) {
             64
@@ -262,7 +264,7 @@ impl World {
         count: u32,
         into: &mut Vec<u8>,
     ) -> Result<bool, NoMemory>
-        ensures { Gives (unit_at self.now target lun) first count into.old.items result into.new.items }
+        ensures { GivesBlocks (unit_at self.now target lun) first count into.old.items result into.new.items }
     {
         match self.unit(target, lun) {
             Some(unit) => {
@@ -312,7 +314,8 @@ impl World {
     /// 2^64 - 1 chains: there is something to fetch then, what was served before stands, and nothing
     /// else changed.
     pub fn settle(&mut self) -> Result<u64, NoMemory>
-        ensures run { MatchResult result (λ count. Settles self.old count self.new) (λ _. EndsForMemory self.old self.new) }
+        ensures run { MatchResult result (λ count. Settles self.old count self.new)
+            (λ _. EndsForMemory self.old self.new) }
         ensures kept { AreKept self.new.queues (length self.new.memory) }
     {
         // Each step lengthens a log or breaks a queue, and no log counts more tickets.
