@@ -1,5 +1,5 @@
 -- What a LUN that a target lacks is answered, SPC-4 §6.6.1, SAM-5 §5.11.
-use Rattle.std.specs.Prelude.{ℕ, ◌==◌, List, [], ◌∷◌, take, Ok, Err, if◌then◌else◌}
+use Rattle.std.specs.Prelude.{ℕ, ◌==◌, List, [], ◌∷◌, take, length, None, Ok, Err, if◌then◌else◌}
 use Rattle.std.specs.List.{list_any}
 use Rattle.sense.specs.declared.Sense.{Sense}
 use Rattle.sense.specs.Conditions.{invalid_field_in_cdb, logical_unit_not_supported}
@@ -11,10 +11,12 @@ use Rattle.cdb.specs.declared.commands.InquiryData.TheVariants.{Standard}
 use Rattle.block_commands.specs.Inquiry.{standard_data, no_device}
 use Rattle.block_commands.specs.PlainReply.{PlainReply, replied}
 use Rattle.block_commands.specs.Replies.{Answer}
+use Rattle.block_commands.specs.Statuses.{good}
+use Rattle.block_commands.specs.declared.absent.AbsentReply.{AbsentReply}
 
--- the opcodes of REQUEST SENSE and INQUIRY, the commands that such a LUN runs
-abbrev pub run_by_none : List ℕ
-run_by_none = 0x03 ∷ 0x12 ∷ []
+-- the opcodes of REQUEST SENSE and INQUIRY, the commands that such a LUN answers with data
+abbrev pub answered_when_absent : List ℕ
+answered_when_absent = 0x03 ∷ 0x12 ∷ []
 
 -- the standard data with a byte 0 that says that there is no device; no page
 abbrev pub absent_inquiry : InquiryData → ℕ → Answer
@@ -24,7 +26,7 @@ absent_inquiry _ allocation = Err invalid_field_in_cdb
 -- a refused CDB
 abbrev pub absent_bad : ℕ → Sense
 absent_bad opcode =
-    if list_any (λ known. known == opcode) run_by_none then invalid_field_in_cdb else logical_unit_not_supported
+    if list_any (λ known. known == opcode) answered_when_absent then invalid_field_in_cdb else logical_unit_not_supported
 
 abbrev pub absent_answer : Command → Answer
 absent_answer (RequestSense allocation) = Ok (take allocation (fixed logical_unit_not_supported))
@@ -34,3 +36,10 @@ absent_answer _ = Err logical_unit_not_supported
 
 abbrev pub absent_reply : Command → PlainReply
 absent_reply command = replied command (absent_answer command)
+
+-- GOOD with this data, all of which is moved
+abbrev pub returned : List ℕ → PlainReply
+returned bytes = record { status = good; sense = None; payload = bytes; moved = length bytes }
+
+abbrev pub plain_of_absent : AbsentReply → PlainReply
+plain_of_absent r = record { status = r.status; sense = r.sense; payload = r.payload.items; moved = r.moved }

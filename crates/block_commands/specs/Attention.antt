@@ -7,14 +7,14 @@ use Rattle.cdb.specs.declared.commands.Command.{Command}
 use Rattle.cdb.specs.declared.commands.Command.TheVariants.{RequestSense, Inquiry, ReportLuns, Bad}
 
 -- the opcodes of REQUEST SENSE, INQUIRY and REPORT LUNS
-abbrev pub unattended : List ℕ
-unattended = 0x03 ∷ 0x12 ∷ 0xa0 ∷ []
+abbrev pub attention_exempt : List ℕ
+attention_exempt = 0x03 ∷ 0x12 ∷ 0xa0 ∷ []
 
 -- whether a pending attention is taken by the command
 abbrev pub takes : Command → Bool
 takes (Inquiry what allocation) = false
 takes (ReportLuns select allocation) = false
-takes (Bad opcode) = not (list_any (λ known. known == opcode) unattended)
+takes (Bad opcode) = not (list_any (λ known. known == opcode) attention_exempt)
 takes _ = true
 
 -- whether it is reported in place of the command's own answer

@@ -4,7 +4,6 @@
 use Rattle.std.specs.Prelude.{ℕ, Bool, true, false, not, ◌&&◌, nat_lt, is_some}
 use Rattle.cdb.specs.declared.commands.Command.{Command}
 use Rattle.cdb.specs.declared.commands.Command.TheVariants.{TestUnitReady, RequestSense, Read, Write, Inquiry, ReadCapacity10, ReadCapacity16, SynchronizeCache, WriteSame, Unmap, CompareAndWrite, ReportLuns, Bad, Unknown}
-use Rattle.cdb.specs.declared.commands.InquiryData.TheVariants.{Standard}
 use Rattle.block_commands.specs.Attention.{met}
 use Rattle.block_commands.specs.Capacity.{is_in_range}
 use Rattle.block_commands.specs.Facts.{Facts}
@@ -28,9 +27,3 @@ wants blocks Unknown = false
 
 abbrev pub may_want : Facts → Command → Bool
 may_want facts command = not (is_some (met command facts.pending)) && wants facts.capacity command
-
--- of a LUN that is absent
-abbrev pub absent_wants : Command → Bool
-absent_wants (RequestSense allocation) = nat_lt 0 allocation
-absent_wants (Inquiry Standard allocation) = nat_lt 0 allocation
-absent_wants _ = false

@@ -17,7 +17,7 @@ mod reply;
 mod transfer;
 mod unmap;
 
-pub use absent::exec_absent;
+pub use absent::{ABSENT_BYTES, AbsentReply, exec_absent};
 pub use attention::takes_attention;
 pub use execution::exec;
 pub use facts::UnitFacts;

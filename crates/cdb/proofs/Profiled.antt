@@ -6,7 +6,6 @@ use Rattle.cdb.specs.Profile.{Row, profile}
 use Rattle.cdb.specs.Opcodes.{is_profiled, control_of}
 use Rattle.cdb.specs.Decoding.{any, row_of, naca, command_by, command}
 use Rattle.cdb.proofs.Finding.{Found, found, none}
-use Rattle.cdb.specs.declared.commands.TheConstants.{MOST_TRANSFER_BLOCKS}
 use Rattle.cdb.specs.declared.commands.Command.{Command}
 use Rattle.cdb.specs.declared.commands.Command.TheVariants.{Read, Bad, Unknown}
 
@@ -63,7 +62,7 @@ refused cdb h is_naca =
 -- what the row of READ (10) makes of its fields
 read_10 : (naca : Bool) (protect lba length : ℕ) → Command
 read_10 naca protect lba length =
-    if naca || (is_set protect || (is_over MOST_TRANSFER_BLOCKS length || false)) then Bad 0x28
+    if naca || (is_set protect || (is_over 2048 length || false)) then Bad 0x28
     else Read lba length
 
 by_read_10 : (cdb : List ℕ) → byte 0 cdb ≡ 0x28 →

@@ -2,7 +2,6 @@
 -- commands of 6 bytes that SBC-3 leaves out, SBC-2.
 use Rattle.std.specs.Prelude.{ℕ, ◌+◌, ◌*◌, ◌^◌, ◌==◌, Bool, ◌&&◌, not, List, [], ◌∷◌, if◌then◌else◌, Option, find, unwrap_or, option_map, is_none}
 use Rattle.cdb.specs.Fields.{byte, bits, bit, number, is_set, is_over}
-use Rattle.cdb.specs.declared.commands.TheConstants.{MOST_TRANSFER_BLOCKS, MOST_WRITE_SAME_BLOCKS, MOST_COMPARE_BLOCKS}
 use Rattle.cdb.specs.declared.commands.Command.{Command}
 use Rattle.cdb.specs.declared.commands.Command.TheVariants.{TestUnitReady, RequestSense, Read, Write, Inquiry, ReadCapacity10, ReadCapacity16, SynchronizeCache, WriteSame, Unmap, CompareAndWrite, ReportLuns}
 use Rattle.cdb.specs.declared.commands.InquiryData.{InquiryData}
@@ -52,8 +51,8 @@ abbrev pub page_of : ℕ → Option InquiryData
 page_of code = option_map (λ page. page.1) (find (λ page. page.0 == code) pages)
 
 -- what EVPD and a page code ask for: a page where EVPD is 1 (a code that has none is a cause)
-abbrev pub inquiry_data : Bool → ℕ → InquiryData
-inquiry_data evpd code = if evpd then unwrap_or (page_of code) Standard else Standard
+abbrev pub data_asked : Bool → ℕ → InquiryData
+data_asked evpd code = if evpd then unwrap_or (page_of code) Standard else Standard
 
 -- SELECT REPORT 00h, 01h and 02h, SPC-4 §6.33 (another is a cause)
 abbrev pub select_report : ℕ → SelectReport
@@ -76,23 +75,23 @@ profile =
     -- INQUIRY, SPC-4 §6.6: a page code without EVPD; a page that the device lacks
     ∷ row 0x12 5
     (λ cdb. (not (bit 1 0 cdb) && is_set (byte 2 cdb)) ∷ is_none (page_of (byte 2 cdb)) ∷ [])
-    (λ cdb. Inquiry (inquiry_data (bit 1 0 cdb) (byte 2 cdb)) (number 3 4 cdb))
+    (λ cdb. Inquiry (data_asked (bit 1 0 cdb) (byte 2 cdb)) (number 3 4 cdb))
     -- READ CAPACITY (10), SBC-3 §5.15
     ∷ row 0x25 9 never (λ cdb. ReadCapacity10)
     -- READ (10), SBC-3 §5.11
     ∷ row 0x28 9
-    (λ cdb. protect cdb ∷ is_over MOST_TRANSFER_BLOCKS (number 7 8 cdb) ∷ [])
+    (λ cdb. protect cdb ∷ is_over 2048 (number 7 8 cdb) ∷ [])
     (λ cdb. Read (number 2 5 cdb) (number 7 8 cdb))
     -- WRITE (10), SBC-3 §5.33
     ∷ row 0x2a 9
-    (λ cdb. protect cdb ∷ is_over MOST_TRANSFER_BLOCKS (number 7 8 cdb) ∷ [])
+    (λ cdb. protect cdb ∷ is_over 2048 (number 7 8 cdb) ∷ [])
     (λ cdb. Write (number 2 5 cdb) (number 7 8 cdb))
     -- SYNCHRONIZE CACHE (10), SBC-3 §5.26
     ∷ row 0x35 9 never (λ cdb. SynchronizeCache (number 2 5 cdb) (number 7 8 cdb))
     -- WRITE SAME (10), SBC-3 §5.43: WRPROTECT, ANCHOR, the obsolete bits, a count of 0
     ∷ row 0x41 9
     (λ cdb. protect cdb ∷ bit 1 4 cdb ∷ is_set (bits 1 2 1 cdb)
-    ∷ (number 7 8 cdb == 0) ∷ is_over MOST_WRITE_SAME_BLOCKS (number 7 8 cdb) ∷ [])
+    ∷ (number 7 8 cdb == 0) ∷ is_over 65536 (number 7 8 cdb) ∷ [])
     (λ cdb. WriteSame (number 2 5 cdb) (number 7 8 cdb))
     -- UNMAP, SBC-3 §5.28: ANCHOR
     ∷ row 0x42 9
@@ -100,22 +99,22 @@ profile =
     (λ cdb. Unmap (number 7 8 cdb))
     -- READ (16), SBC-3 §5.13
     ∷ row 0x88 15
-    (λ cdb. protect cdb ∷ is_over MOST_TRANSFER_BLOCKS (number 10 13 cdb) ∷ [])
+    (λ cdb. protect cdb ∷ is_over 2048 (number 10 13 cdb) ∷ [])
     (λ cdb. Read (number 2 9 cdb) (number 10 13 cdb))
     -- COMPARE AND WRITE, SBC-3 §5.2
     ∷ row 0x89 15
-    (λ cdb. protect cdb ∷ is_over MOST_COMPARE_BLOCKS (byte 13 cdb) ∷ [])
+    (λ cdb. protect cdb ∷ is_over 8 (byte 13 cdb) ∷ [])
     (λ cdb. CompareAndWrite (number 2 9 cdb) (byte 13 cdb))
     -- WRITE (16), SBC-3 §5.35
     ∷ row 0x8a 15
-    (λ cdb. protect cdb ∷ is_over MOST_TRANSFER_BLOCKS (number 10 13 cdb) ∷ [])
+    (λ cdb. protect cdb ∷ is_over 2048 (number 10 13 cdb) ∷ [])
     (λ cdb. Write (number 2 9 cdb) (number 10 13 cdb))
     -- SYNCHRONIZE CACHE (16), SBC-3 §5.27
     ∷ row 0x91 15 never (λ cdb. SynchronizeCache (number 2 9 cdb) (number 10 13 cdb))
     -- WRITE SAME (16), SBC-3 §5.44: the same, and NDOB
     ∷ row 0x93 15
     (λ cdb. protect cdb ∷ bit 1 4 cdb ∷ is_set (bits 1 2 1 cdb) ∷ bit 1 0 cdb
-    ∷ (number 10 13 cdb == 0) ∷ is_over MOST_WRITE_SAME_BLOCKS (number 10 13 cdb) ∷ [])
+    ∷ (number 10 13 cdb == 0) ∷ is_over 65536 (number 10 13 cdb) ∷ [])
     (λ cdb. WriteSame (number 2 9 cdb) (number 10 13 cdb))
     -- READ CAPACITY (16), SBC-3 §5.16: a service action of this opcode other than 10h
     ∷ row 0x9e 15
@@ -127,10 +126,10 @@ profile =
     (λ cdb. ReportLuns (select_report (byte 2 cdb)) (number 6 9 cdb))
     -- READ (12), SBC-3 §5.12
     ∷ row 0xa8 11
-    (λ cdb. protect cdb ∷ is_over MOST_TRANSFER_BLOCKS (number 6 9 cdb) ∷ [])
+    (λ cdb. protect cdb ∷ is_over 2048 (number 6 9 cdb) ∷ [])
     (λ cdb. Read (number 2 5 cdb) (number 6 9 cdb))
     -- WRITE (12), SBC-3 §5.34
     ∷ row 0xaa 11
-    (λ cdb. protect cdb ∷ is_over MOST_TRANSFER_BLOCKS (number 6 9 cdb) ∷ [])
+    (λ cdb. protect cdb ∷ is_over 2048 (number 6 9 cdb) ∷ [])
     (λ cdb. Write (number 2 5 cdb) (number 6 9 cdb))
     ∷ []

@@ -1,9 +1,10 @@
 //! From the bytes of a CDB to its command.
 
-ghost use Rattle.std.specs.Prelude.{◌≡◌, ◌<◌, ◌≤◌, ◌==◌, [], ◌∷◌, if◌then◌else◌, unwrap_or};
+ghost use Rattle.std.specs.Prelude.{◌≡◌, ◌<◌, ◌≤◌, ◌==◌, [], ◌∷◌, if◌then◌else◌, unwrap_or, IfSome};
 ghost use Rattle.cdb.specs.Fields.{bit, bits, byte, is_over, is_set};
 ghost use Rattle.cdb.specs.Profile.{page_of, protect};
 ghost use Rattle.cdb.specs.Decoding.{command, fields_of, unless};
+ghost use Rattle.cdb.specs.Need.{need_of};
 
 use crate::commands::{
     CDB_BYTES, Command, InquiryData, MOST_COMPARE_BLOCKS, MOST_TRANSFER_BLOCKS,
@@ -27,10 +28,12 @@ const NACA: u8 = 2;
 
 /// The command that a CDB asks for, with its fields read and held against the device's limits.
 /// Whatever stands in the CDB there is one: a command of the profile whose fields are refused, or
-/// that asks for NACA, is `Bad`, and an opcode that the profile lacks is `Unknown`.
+/// that asks for NACA, is `Bad`, and an opcode that the profile lacks is `Unknown`. None needs more than
+/// 1,048,576 bytes from the driver.
 #[tactic(auto, using(crate::proofs::Rows::by_none))]
 pub fn decode(cdb: &[u8; CDB_BYTES]) -> Command
-    ensures { result ≡ command cdb.now }
+    ensures meaning { result ≡ command cdb.now }
+    ensures data_out { (need_of result).out ≤ 1048576 }
 {
     match cdb[0] {
         0x00..=0x1f => decode_6(cdb),
@@ -45,7 +48,8 @@ pub fn decode(cdb: &[u8; CDB_BYTES]) -> Command
 #[tactic(auto, using(crate::proofs::Rows::by_none))]
 fn decode_6(cdb: &[u8; CDB_BYTES]) -> Command
     requires { byte 0 cdb.now < 0x20 }
-    ensures { result ≡ command cdb.now }
+    ensures meaning { result ≡ command cdb.now }
+    ensures data_out { (need_of result).out ≤ 1048576 }
 {
     let fields = match cdb[0] {
         opcodes::TEST_UNIT_READY => Some(Command::TestUnitReady),
@@ -69,7 +73,8 @@ fn decode_6(cdb: &[u8; CDB_BYTES]) -> Command
 fn decode_10(cdb: &[u8; CDB_BYTES]) -> Command
     requires from { 0x20 ≤ byte 0 cdb.now }
     requires to { byte 0 cdb.now < 0x60 }
-    ensures { result ≡ command cdb.now }
+    ensures meaning { result ≡ command cdb.now }
+    ensures data_out { (need_of result).out ≤ 1048576 }
 {
     let fields = match cdb[0] {
         opcodes::READ_CAPACITY_10 => Some(Command::ReadCapacity10),
@@ -88,7 +93,8 @@ fn decode_10(cdb: &[u8; CDB_BYTES]) -> Command
 fn decode_12(cdb: &[u8; CDB_BYTES]) -> Command
     requires from { 0xa0 ≤ byte 0 cdb.now }
     requires to { byte 0 cdb.now < 0xc0 }
-    ensures { result ≡ command cdb.now }
+    ensures meaning { result ≡ command cdb.now }
+    ensures data_out { (need_of result).out ≤ 1048576 }
 {
     let fields = match cdb[0] {
         opcodes::REPORT_LUNS => report_luns(cdb),
@@ -104,7 +110,8 @@ fn decode_12(cdb: &[u8; CDB_BYTES]) -> Command
 fn decode_16(cdb: &[u8; CDB_BYTES]) -> Command
     requires from { 0x80 ≤ byte 0 cdb.now }
     requires to { byte 0 cdb.now < 0xa0 }
-    ensures { result ≡ command cdb.now }
+    ensures meaning { result ≡ command cdb.now }
+    ensures data_out { (need_of result).out ≤ 1048576 }
 {
     let fields = match cdb[0] {
         opcodes::READ_16 => read(cdb, blocks_16(cdb)),
@@ -120,10 +127,12 @@ fn decode_16(cdb: &[u8; CDB_BYTES]) -> Command
 
 /// What the fields say, if they aren't refused and the control byte at this place has no NACA.
 fn under_control(cdb: &[u8; CDB_BYTES], control: usize, fields: Option<Command>) -> Command
-    requires { control < 16 }
-    ensures { result
+    requires place { control < 16 }
+    requires data_out { IfSome fields (λ c. (need_of c).out ≤ 1048576) }
+    ensures meaning { result
         ≡ (if bit control 2 cdb.now then Command.Bad (byte 0 cdb.now)
         else unwrap_or fields (Command.Bad (byte 0 cdb.now))) }
+    ensures data_out { (need_of result).out ≤ 1048576 }
 {
     match fields {
         Some(command) if !has_bit(cdb[control], NACA) => command,
@@ -133,7 +142,8 @@ fn under_control(cdb: &[u8; CDB_BYTES], control: usize, fields: Option<Command>)
 
 /// REQUEST SENSE, or nothing where its fields are refused. So with each command below.
 fn request_sense(cdb: &[u8; CDB_BYTES]) -> Option<Command>
-    ensures { result ≡ fields_of 0x03 cdb.now }
+    ensures meaning { result ≡ fields_of 0x03 cdb.now }
+    ensures data_out { IfSome result (λ c. (need_of c).out ≤ 1048576) }
 {
     let descriptor_format = has_bit(cdb[1], 0);
     if descriptor_format {
@@ -146,7 +156,8 @@ fn request_sense(cdb: &[u8; CDB_BYTES]) -> Option<Command>
 
 /// INQUIRY.
 fn inquiry(cdb: &[u8; CDB_BYTES]) -> Option<Command>
-    ensures { result ≡ fields_of 0x12 cdb.now }
+    ensures meaning { result ≡ fields_of 0x12 cdb.now }
+    ensures data_out { IfSome result (λ c. (need_of c).out ≤ 1048576) }
 {
     let vital_product_data = has_bit(cdb[1], 0);
     let what = if vital_product_data {
@@ -178,7 +189,8 @@ fn page(code: u8) -> Option<InquiryData>
 
 /// REPORT LUNS.
 fn report_luns(cdb: &[u8; CDB_BYTES]) -> Option<Command>
-    ensures { result ≡ fields_of 0xa0 cdb.now }
+    ensures meaning { result ≡ fields_of 0xa0 cdb.now }
+    ensures data_out { IfSome result (λ c. (need_of c).out ≤ 1048576) }
 {
     let select = match cdb[2] {
         0x00 => SelectReport::LogicalUnits,
@@ -194,7 +206,8 @@ fn report_luns(cdb: &[u8; CDB_BYTES]) -> Option<Command>
 
 /// READ CAPACITY (16), one of the service actions of its opcode.
 fn read_capacity_16(cdb: &[u8; CDB_BYTES]) -> Option<Command>
-    ensures { result ≡ fields_of 0x9e cdb.now }
+    ensures meaning { result ≡ fields_of 0x9e cdb.now }
+    ensures data_out { IfSome result (λ c. (need_of c).out ≤ 1048576) }
 {
     let service_action = low_bits(cdb[1], 5);
     if service_action != READ_CAPACITY_16 {
@@ -207,9 +220,10 @@ fn read_capacity_16(cdb: &[u8; CDB_BYTES]) -> Option<Command>
 
 /// READ (10), (12) or (16), of these blocks.
 fn read(cdb: &[u8; CDB_BYTES], blocks: Blocks) -> Option<Command>
-    ensures { result
-        ≡ unless (protect cdb.now ∷ is_over MOST_TRANSFER_BLOCKS blocks.count ∷ [])
+    ensures meaning { result
+        ≡ unless (protect cdb.now ∷ is_over 2048 blocks.count ∷ [])
         (Command.Read blocks.lba blocks.count) }
+    ensures data_out { IfSome result (λ c. (need_of c).out ≤ 1048576) }
 {
     Some(Command::Read {
         lba: blocks.lba,
@@ -219,9 +233,10 @@ fn read(cdb: &[u8; CDB_BYTES], blocks: Blocks) -> Option<Command>
 
 /// WRITE (10), (12) or (16), of these blocks.
 fn write(cdb: &[u8; CDB_BYTES], blocks: Blocks) -> Option<Command>
-    ensures { result
-        ≡ unless (protect cdb.now ∷ is_over MOST_TRANSFER_BLOCKS blocks.count ∷ [])
+    ensures meaning { result
+        ≡ unless (protect cdb.now ∷ is_over 2048 blocks.count ∷ [])
         (Command.Write blocks.lba blocks.count) }
+    ensures data_out { IfSome result (λ c. (need_of c).out ≤ 1048576) }
 {
     Some(Command::Write {
         lba: blocks.lba,
@@ -232,7 +247,8 @@ fn write(cdb: &[u8; CDB_BYTES], blocks: Blocks) -> Option<Command>
 /// How many blocks a READ or a WRITE moves, unless it asks for protection information or for too
 /// many.
 fn transfer_length(cdb: &[u8; CDB_BYTES], count: u32) -> Option<u16>
-    ensures { result ≡ unless (protect cdb.now ∷ is_over MOST_TRANSFER_BLOCKS count ∷ []) count }
+    ensures length { result ≡ unless (protect cdb.now ∷ is_over 2048 count ∷ []) count }
+    ensures bounded { IfSome result (λ blocks. blocks ≤ 2048) }
 {
     if has_protect(cdb) || count > u32::from(MOST_TRANSFER_BLOCKS) {
         return None;
@@ -242,7 +258,8 @@ fn transfer_length(cdb: &[u8; CDB_BYTES], count: u32) -> Option<u16>
 
 /// SYNCHRONIZE CACHE, of which no field is refused.
 fn synchronize_cache(blocks: Blocks) -> Command
-    ensures { result ≡ Command.SynchronizeCache blocks.lba blocks.count }
+    ensures meaning { result ≡ Command.SynchronizeCache blocks.lba blocks.count }
+    ensures data_out { (need_of result).out ≤ 1048576 }
 {
     Command::SynchronizeCache {
         lba: blocks.lba,
@@ -252,10 +269,11 @@ fn synchronize_cache(blocks: Blocks) -> Command
 
 /// WRITE SAME, but for what is (16) alone.
 fn write_same(cdb: &[u8; CDB_BYTES], blocks: Blocks) -> Option<Command>
-    ensures { result
+    ensures meaning { result
         ≡ unless (protect cdb.now ∷ bit 1 4 cdb.now ∷ is_set (bits 1 2 1 cdb.now)
-        ∷ (blocks.count == 0) ∷ is_over MOST_WRITE_SAME_BLOCKS blocks.count ∷ [])
+        ∷ (blocks.count == 0) ∷ is_over 65536 blocks.count ∷ [])
         (Command.WriteSame blocks.lba blocks.count) }
+    ensures data_out { IfSome result (λ c. (need_of c).out ≤ 1048576) }
 {
     let anchor = has_bit(cdb[1], 4);
     let obsolete = has_bit(cdb[1], 2) || has_bit(cdb[1], 1);
@@ -273,7 +291,8 @@ fn write_same(cdb: &[u8; CDB_BYTES], blocks: Blocks) -> Option<Command>
 
 /// WRITE SAME (16).
 fn write_same_16(cdb: &[u8; CDB_BYTES]) -> Option<Command>
-    ensures { result ≡ fields_of 0x93 cdb.now }
+    ensures meaning { result ≡ fields_of 0x93 cdb.now }
+    ensures data_out { IfSome result (λ c. (need_of c).out ≤ 1048576) }
 {
     let no_data_out = has_bit(cdb[1], 0);
     if no_data_out {
@@ -284,7 +303,8 @@ fn write_same_16(cdb: &[u8; CDB_BYTES]) -> Option<Command>
 
 /// UNMAP.
 fn unmap(cdb: &[u8; CDB_BYTES]) -> Option<Command>
-    ensures { result ≡ fields_of 0x42 cdb.now }
+    ensures meaning { result ≡ fields_of 0x42 cdb.now }
+    ensures data_out { IfSome result (λ c. (need_of c).out ≤ 1048576) }
 {
     let anchor = has_bit(cdb[1], 0);
     if anchor {
@@ -297,7 +317,8 @@ fn unmap(cdb: &[u8; CDB_BYTES]) -> Option<Command>
 
 /// COMPARE AND WRITE.
 fn compare_and_write(cdb: &[u8; CDB_BYTES]) -> Option<Command>
-    ensures { result ≡ fields_of 0x89 cdb.now }
+    ensures meaning { result ≡ fields_of 0x89 cdb.now }
+    ensures data_out { IfSome result (λ c. (need_of c).out ≤ 1048576) }
 {
     let blocks = cdb[13];
     if has_protect(cdb) || blocks > MOST_COMPARE_BLOCKS {

@@ -1,6 +1,6 @@
 //! The fields of a CDB.
 
-ghost use Rattle.std.specs.Prelude.{◌≡◌, ◌<◌, ◌/◌, ◌%◌, ◌^◌, ◌==◌};
+ghost use Rattle.std.specs.Prelude.{◌≡◌, ◌<◌, ◌≤◌, ◌/◌, ◌%◌, ◌^◌, ◌==◌};
 ghost use Rattle.cdb.specs.Fields.{number};
 ghost use Rattle.cdb.specs.Profile.{length_6, lba_6, protect};
 
@@ -40,7 +40,8 @@ pub fn lba_64(cdb: &[u8; CDB_BYTES]) -> u64
 
 /// The transfer length in a CDB of 6 bytes, in blocks: 0 means 256.
 pub fn length_6(cdb: &[u8; CDB_BYTES]) -> u16
-    ensures { result ≡ length_6 cdb.now }
+    ensures length { result ≡ length_6 cdb.now }
+    ensures bounded { result ≤ 256 }
 {
     match cdb[4] {
         0 => 256,

@@ -5,7 +5,7 @@ ghost use Rattle.cdb.specs.Decoding.{command};
 ghost use Rattle.cdb.specs.Fields.{bit, bits, byte, number};
 ghost use Rattle.cdb.specs.Opcodes.{control_of, is_profiled};
 
-use crate::Command;
+use crate::{Command, MOST_COMPARE_BLOCKS, MOST_TRANSFER_BLOCKS, MOST_WRITE_SAME_BLOCKS};
 
 /// A CDB is `Unknown` exactly where its opcode isn't the profile's, whatever else stands in it.
 pub fn opcodes()
@@ -31,4 +31,11 @@ pub fn read_10()
         → number 7 8 a ≡ number 7 8 b
         → bit 9 2 a ≡ bit 9 2 b
         → command a ≡ command b }
+{}
+
+/// The limits that the profile has: of READ and WRITE, of WRITE SAME, and of COMPARE AND WRITE.
+pub fn limits()
+    ensures transfer { MOST_TRANSFER_BLOCKS ≡ 2048 }
+    ensures write_same { MOST_WRITE_SAME_BLOCKS ≡ 65536 }
+    ensures compare { MOST_COMPARE_BLOCKS ≡ 8 }
 {}

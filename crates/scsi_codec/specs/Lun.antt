@@ -1,6 +1,6 @@
 -- The eight bytes that name a logical unit (VIRTIO 1.2 §5.6.6.1): 01, the target, the LUN as a
 -- single level LUN structure (SAM-5 §4.7), four zeros.
-use Rattle.std.specs.Prelude.{ℕ, ◌≡◌, ◌<◌, ◌≤◌, ◌+◌, ◌/◌, ◌%◌, ◌⊎◌, nat_lt, if◌then◌else◌, List, [], ◌∷◌, length, slice_index, Option, Some, None}
+use Rattle.std.specs.Prelude.{ℕ, ◌≡◌, ◌<◌, ◌≤◌, ◌+◌, ◌-◌, ◌*◌, ◌/◌, ◌%◌, ◌==◌, ◌&&◌, ◌⊎◌, nat_lt, nat_le, Bool, if◌then◌else◌, List, [], ◌∷◌, length, slice_index, Option, Some, None}
 use Rattle.scsi_codec.specs.declared.lun.Address.{Address}
 
 -- `00 nn`, by the peripheral device addressing method
@@ -20,6 +20,22 @@ IsAddress bytes a =
 abbrev pub ReadsAddress : List ℕ → Option Address → Type 0
 ReadsAddress bytes (Some a) = IsAddress bytes a
 ReadsAddress bytes None = (a : Address) → ¬ IsAddress bytes a
+
+-- 01, and the four zeros
+abbrev pub is_single_level : List ℕ → Bool
+is_single_level bytes =
+    (slice_index bytes 0 == 0x01)
+    && (slice_index bytes 4 == 0) && (slice_index bytes 5 == 0) && (slice_index bytes 6 == 0) && (slice_index bytes 7 == 0)
+
+-- the unit that eight bytes name, by the method that byte 2 gives, if any
+abbrev pub address_in : List ℕ → Option Address
+address_in bytes =
+    if is_single_level bytes then
+    (if slice_index bytes 2 == 0x00 then Some (record { target = slice_index bytes 1; lun = slice_index bytes 3 })
+    else (if nat_le 0x40 (slice_index bytes 2) && nat_le (slice_index bytes 2) 0x7f
+    then Some (record { target = slice_index bytes 1; lun = (slice_index bytes 2 - 0x40) * 256 + slice_index bytes 3 })
+    else None))
+    else None
 
 -- the form in which an address is written
 abbrev pub written_address : Address → List ℕ

@@ -1,7 +1,8 @@
 -- A request of a request queue (VIRTIO 1.2 §5.6.6.1).
-use Rattle.std.specs.Prelude.{ℕ, ◌≡◌, ◌<◌, ◌≤◌, List, length, drop, slice_index, slice_range, Result, Ok, Err, None}
+use Rattle.std.specs.Prelude.{ℕ, ◌≡◌, ◌<◌, ◌≤◌, nat_lt, if◌then◌else◌, List, length, drop, slice_index, slice_range, Option, Result, Ok, Err, Some, None}
 use Rattle.byteorder.specs.Endian.{little_number}
-use Rattle.scsi_codec.specs.Lun.{IsAddress, ReadsAddress}
+use Rattle.scsi_codec.specs.Lun.{IsAddress, ReadsAddress, address_in}
+use Rattle.scsi_codec.specs.declared.lun.Address.{Address}
 use Rattle.scsi_codec.specs.declared.requests.Request.{Request}
 use Rattle.scsi_codec.specs.declared.requests.CodecFault.{CodecFault}
 use Rattle.scsi_codec.specs.declared.requests.CodecFault.TheVariants.{ShortRequest, ShortResponse, BadAddress}
@@ -32,3 +33,20 @@ IsRefused bytes writable_len BadAddress =
 abbrev pub ReadsRequest : List ℕ → ℕ → Result Request CodecFault → Type 0
 ReadsRequest bytes writable_len (Ok r) = HoldsRequest bytes writable_len r
 ReadsRequest bytes writable_len (Err fault) = IsRefused bytes writable_len fault
+
+-- the request in 51 bytes or more, whose first eight name this unit, if any
+abbrev pub reading_at : Option Address → List ℕ → Result Request CodecFault
+reading_at None bytes = Err BadAddress
+reading_at (Some a) bytes =
+    Ok (record {
+      address = a;
+      id = little_number 8 (drop 8 bytes);
+      attribute = slice_index bytes 16;
+      cdb = slice_range bytes 19 51;
+    })
+
+-- the one thing that a chain reads as
+abbrev pub reading : List ℕ → ℕ → Result Request CodecFault
+reading bytes writable_len =
+    if nat_lt writable_len 108 then Err ShortResponse
+    else (if nat_lt (length bytes) 51 then Err ShortRequest else reading_at (address_in (slice_range bytes 0 8)) bytes)

@@ -2,7 +2,7 @@
 
 ghost use Rattle.std.specs.Prelude.{◌≡◌, ◌<◌, ◌^◌, ◌↔◌, ◌≢◌, ℕ, List, length, Option, Result, Some, IfSome};
 ghost use Rattle.scsi_codec.specs.Lun.{AreBytes, IsAddress, ReadsAddress, written_address, HasReadableForm};
-ghost use Rattle.scsi_codec.specs.Requests.{IsRequest, HoldsRequest, IsRefused, ReadsRequest};
+ghost use Rattle.scsi_codec.specs.Requests.{IsRequest, HoldsRequest, IsRefused, ReadsRequest, reading};
 ghost use Rattle.scsi_codec.specs.Responses.{response_bytes, sense_area};
 ghost use Rattle.scsi_codec.specs.ControlQueue.{IsControl};
 ghost use Rattle.scsi_codec.specs.EventQueue.{IsEvent, event_bytes, no_event, transport_reset, param_change, events_missed};
@@ -14,6 +14,7 @@ ghost use Rattle.scsi_codec.specs.declared.control_queue.Control.{Control};
 ghost use Rattle.scsi_codec.specs.declared.event_queue.Event.{Event};
 
 use crate::event_queue::{EVENT_BYTES, EVENTS_MISSED, NO_EVENT, PARAM_CHANGE, TRANSPORT_RESET};
+use crate::requests::read_request;
 use crate::responses::{RESPONSE_BYTES, SENSE_AREA_BYTES, SENSE_BYTES};
 
 /// Bytes name at most one unit, of a LUN below 16,384.
@@ -57,6 +58,13 @@ pub fn one_reading()
     ensures one { (bytes : List ℕ) (len : ℕ) (a b : Result Request CodecFault)
         → ReadsRequest bytes len a → ReadsRequest bytes len b → a ≡ b }
 {}
+
+/// What a chain reads as is what its bytes say, place by place.
+pub fn reading_is(bytes: &[u8], writable_len: u64)
+    ensures { ReadsRequest bytes.now writable_len (reading bytes.now writable_len) }
+{
+    let _ = read_request(bytes, writable_len);
+}
 
 /// A response has 108 bytes, 96 of them for sense, and is known by them.
 pub fn one_response()

@@ -1,10 +1,10 @@
 //! The eight bytes that name a logical unit.
 
 ghost use Rattle.std.specs.Prelude.{◌≡◌, ◌<◌, length};
-ghost use Rattle.scsi_codec.specs.Lun.{ReadsAddress, written_address};
+ghost use Rattle.scsi_codec.specs.Lun.{ReadsAddress, address_in, written_address};
 
 /// Which logical unit of the host (VIRTIO 1.2 §5.6.6.1).
-#[derive(Clone, Copy, Debug, PartialEq, Eq)]
+#[derive(Clone, Copy, Debug, Default, PartialEq, Eq)]
 pub struct Address {
     /// The target, 0 to 255.
     pub target: u8,
@@ -15,7 +15,8 @@ pub struct Address {
 /// The unit that the bytes name, by either addressing method of a single level LUN (SAM-5 §4.7),
 /// or `None` where they name none.
 pub fn read_lun(bytes: &[u8; 8]) -> Option<Address>
-    ensures { ReadsAddress bytes.now result }
+    ensures reads { ReadsAddress bytes.now result }
+    ensures value { result ≡ address_in bytes.now }
 {
     match *bytes {
         [0x01, target, 0x00, low, 0, 0, 0, 0] => Some(Address {
@@ -33,7 +34,8 @@ pub fn read_lun(bytes: &[u8; 8]) -> Option<Address>
 /// The unit that eight bytes of a longer layout name.
 pub(crate) fn read_lun_field(bytes: &[u8]) -> Option<Address>
     requires { length bytes.now ≡ 8 }
-    ensures { ReadsAddress bytes.now result }
+    ensures reads { ReadsAddress bytes.now result }
+    ensures value { result ≡ address_in bytes.now }
 {
     read_lun(bytes.try_into().ok()?)
 }

@@ -1,6 +1,7 @@
 //! What the device reads of a request.
 
-ghost use Rattle.scsi_codec.specs.Requests.{ReadsRequest};
+ghost use Rattle.std.specs.Prelude.{◌≡◌};
+ghost use Rattle.scsi_codec.specs.Requests.{ReadsRequest, reading};
 
 use crate::lun::{Address, read_lun_field};
 use crate::responses::RESPONSE_BYTES;
@@ -58,7 +59,8 @@ impl std::error::Error for CodecFault {}
 /// [`CodecFault::ShortRequest`] below 51 readable bytes, [`CodecFault::BadAddress`] where
 /// [`read_lun`](crate::read_lun) reads no address from the first eight.
 pub fn read_request(bytes: &[u8], writable_len: u64) -> Result<Request, CodecFault>
-    ensures { ReadsRequest bytes.now writable_len result }
+    ensures reads { ReadsRequest bytes.now writable_len result }
+    ensures value { result ≡ reading bytes.now writable_len }
 {
     if writable_len < RESPONSE_BYTES as u64 {
         return Err(CodecFault::ShortResponse);

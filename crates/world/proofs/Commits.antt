@@ -1,5 +1,5 @@
 -- A unit with one more command.
-use Rattle.std.proofs.Common.{◌≡◌, ℕ, zero, suc, ◌+◌, ◌<◌, ◌≤◌, List, [], ◌∷◌, ◌++◌, Bool, true, false, cond, refl, sym, ap, ◌∙◌, arith, Vec, Ok, drop, ◌==◌, if◌then◌else◌, unwrap_or}
+use Rattle.std.proofs.Common.{◌≡◌, ℕ, zero, suc, ◌+◌, ◌<◌, ◌≤◌, List, [], ◌∷◌, ◌++◌, Bool, true, false, cond, refl, sym, ap, ◌∙◌, subst, arith, Vec, Ok, drop, ◌==◌, if◌then◌else◌, unwrap_or}
 use Rattle.std.specs.declared.alloc.Global.{Global}
 use Rattle.std.proofs.lemmas.Bool.Decides.{nat_tests}
 use Rattle.std.proofs.lemmas.List.{reverse-append}
@@ -19,8 +19,9 @@ use Rattle.block_commands.specs.declared.facts.UnitFacts.{UnitFacts}
 use Rattle.block_commands.specs.PlainReply.{PlainReply, replied, plain_of}
 use Rattle.block_commands.specs.Replies.{reply_of, answer_of, Answer, within, compared, reported, data_of}
 use Rattle.block_commands.specs.Comparing.{first_unequal, to_compare}
-use Rattle.world.specs.Unit.{PlainCommit, blocks_of, pending_of, oldest, facts_now, reply_now, committing}
-use Rattle.world.specs.UnitFields.{plain_commit, commits_of, unit_of, IsUnit}
+use Rattle.requests.specs.UnitRequest.{PlainRequest}
+use Rattle.world.specs.Unit.{PlainCommit, Opening, blocks_of, pending_of, oldest, facts_now, reply_now, committing}
+use Rattle.world.specs.UnitFields.{plain_commit, commits_of, opening_of, unit_of, IsTold}
 use Rattle.world.specs.declared.unit.Commit.{Commit}
 use Rattle.world.specs.declared.unit.Unit.TheInside.{Inside}
 
@@ -67,7 +68,7 @@ module _ (capacity : ℕ) (f g : Blocks) (same : (b : ℕ) → b < capacity → 
   reply_same facts is command bytes = ap (λ (a : Answer). reported (met command facts.pending) (replied command a)) (answer_same facts is command bytes)
 
 -- Of a unit whose store and attentions are what its commands say:
-module _ (u : Inside) (sound : IsUnit u) where
+module _ (u : Inside) (sound : IsTold u) where
   pub told : (f : UnitFacts) → f.target ≡ u.facts.target → f.lun ≡ u.facts.lun → f.luns.items ≡ u.facts.luns.items → f.pending ≡ oldest u.attentions
       → facts_of f (block_count u.store) ≡ facts_now (unit_of u)
   told f a b d e = let p = sound.pends in cc
@@ -75,8 +76,8 @@ module _ (u : Inside) (sound : IsUnit u) where
   pub reply_is : (f : UnitFacts) → facts_of f (block_count u.store) ≡ facts_now (unit_of u) → (command : Command) (taken : List ℕ)
       → reply_of (facts_of f (block_count u.store)) command taken (nth_block u.store) ≡ reply_now (unit_of u) command taken
   reply_is f e command taken =
-      reply_same (block_count u.store) (nth_block u.store) (blocks_of (commits_of u.commits.items)) sound.stored (facts_of f (block_count u.store)) refl command taken
-      ∙ ap (λ (x : Facts). reply_of x command taken (blocks_of (commits_of u.commits.items))) e
+      reply_same (block_count u.store) (nth_block u.store) (blocks_of (opening_of u) (commits_of u.commits.items)) sound.stored (facts_of f (block_count u.store)) refl command taken
+      ∙ ap (λ (x : Facts). reply_of x command taken (blocks_of (opening_of u) (commits_of u.commits.items))) e
 
 one_more : (commits : List Commit) (c : Commit) → commits_of (commits ++ c ∷ []) ≡ plain_commit c ∷ commits_of commits
 one_more commits c = rw reverse-append refl
@@ -84,32 +85,36 @@ one_more commits c = rw reverse-append refl
 after_same : (command : Command) (taken : List ℕ) (status : ℕ) (f g : Blocks) (b : ℕ) → f b ≡ g b → block_after command taken status f b ≡ block_after command taken status g b
 after_same command taken status f g b e = ap (λ (x : List ℕ). if status == good then unwrap_or (given command taken b) x else x) e
 
-module _ (u n : Inside) (sound : IsUnit u) (ticket : Ticket) (command : Command) (bytes : Vec ℕ Global) (r : Reply)
-    (reply : plain_of r ≡ reply_now (unit_of u) command (data_of command (drop 51 bytes.items)))
+module _ (u n : Inside) (sound : IsTold u) (ticket : Ticket) (request : PlainRequest) (r : Reply)
+    (reply : plain_of r ≡ reply_now (unit_of u) request.command request.data_out)
     (target : n.facts.target ≡ u.facts.target) (lun : n.facts.lun ≡ u.facts.lun) (luns : n.facts.luns.items ≡ u.facts.luns.items) (calm : n.calm ≡ u.calm)
-    (attentions : n.attentions ≡ cond (takes command) (without_first u.attentions) u.attentions)
+    (attentions : n.attentions ≡ cond (takes request.command) (without_first u.attentions) u.attentions)
     (size : block_count n.store ≡ block_count u.store)
-    (blocks : (b : ℕ) → nth_block n.store b ≡ block_after command (data_of command (drop 51 bytes.items)) r.status (nth_block u.store) b)
-    (items : n.commits.items ≡ u.commits.items ++ record { ticket = ticket; command = command; bytes = bytes; status = r.status } ∷ []) where
-  now_more : commits_of n.commits.items ≡ record { ticket = ticket; command = command; taken = data_of command (drop 51 bytes.items); status = r.status } ∷ commits_of u.commits.items
-  now_more = ap commits_of items ∙ one_more u.commits.items (record { ticket = ticket; command = command; bytes = bytes; status = r.status })
+    (blocks : (b : ℕ) → nth_block n.store b ≡ block_after request.command request.data_out r.status (nth_block u.store) b)
+    (items : n.commits.items ≡ u.commits.items ++ record { ticket = ticket; request = request; status = r.status } ∷ []) where
+  now_more : commits_of n.commits.items ≡ record { ticket = ticket; command = request.command; taken = request.data_out; status = r.status } ∷ commits_of u.commits.items
+  now_more = ap commits_of items ∙ one_more u.commits.items (record { ticket = ticket; request = request; status = r.status })
 
-  pub still_sound : IsUnit n
+  same_opening : opening_of n ≡ opening_of u
+  same_opening = rw (size, calm) refl
+
+  pub still_sound : IsTold n
   unfolding blocks_of pending_of
   still_sound =
       record {
         stored = λ b below.
             rw now_more
-            (blocks b ∙ after_same command (data_of command (drop 51 bytes.items)) r.status (nth_block u.store) (blocks_of (commits_of u.commits.items)) b (sound.stored b (rw size at below)));
+            (subst (λ (o : Opening). nth_block n.store b ≡ block_after request.command request.data_out r.status (blocks_of o (commits_of u.commits.items)) b) (sym same_opening)
+            (blocks b ∙ after_same request.command request.data_out r.status (nth_block u.store) (blocks_of (opening_of u) (commits_of u.commits.items)) b (sound.stored b (rw size at below))));
         pends =
             attentions
-            ∙ ap (λ (codes : List Code). cond (takes command) (without_first codes) codes) sound.pends
-            ∙ sym (ap (λ (commits : List PlainCommit). pending_of n.calm commits) now_more
-            ∙ ap (λ (k : Bool). cond (takes command) (without_first (pending_of k (commits_of u.commits.items))) (pending_of k (commits_of u.commits.items))) calm);
+            ∙ ap (λ (codes : List Code). cond (takes request.command) (without_first codes) codes) sound.pends
+            ∙ sym (ap (λ (commits : List PlainCommit). pending_of (opening_of n) commits) now_more
+            ∙ ap (λ (o : Opening). cond (takes request.command) (without_first (pending_of o (commits_of u.commits.items))) (pending_of o (commits_of u.commits.items))) same_opening);
       }
 
-  pub has_committed : unit_of n ≡ committing (unit_of u) ticket command (data_of command (drop 51 bytes.items))
+  pub has_committed : unit_of n ≡ committing (unit_of u) ticket request.command request.data_out
   has_committed =
-      let status : r.status ≡ (reply_now (unit_of u) command (data_of command (drop 51 bytes.items))).status = ap (λ (p : PlainReply). p.status) reply in
+      let status : r.status ≡ (reply_now (unit_of u) request.command request.data_out).status = ap (λ (p : PlainReply). p.status) reply in
       let more = now_more in
       rw (target, lun, luns, calm, size, more, status) refl

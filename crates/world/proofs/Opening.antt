@@ -2,26 +2,21 @@
 use Rattle.std.proofs.Common.{◌≡◌, ℕ, None, Some, refl, List, [], ◌∷◌, ◌++◌, ◌+◌, ◌<◌, length, zero, suc, arith, ap, sym, ◌∙◌, ◌≤◌, ◌⊎◌, inl, inr, subst, Bool, true, false, cond, filter, ◌==◌}
 use Rattle.std.specs.Prelude.{slice_get}
 use Rattle.std.proofs.lemmas.Option.{slice_get_within, same_Some}
-use Rattle.std.proofs.lemmas.List.{length-map}
-use Rattle.ring_core.specs.State.{opening}
+use Rattle.ring_core.specs.State.{opening, tickets, IsLawful}
 use Rattle.ring_core.specs.declared.layout.Form.{Form}
 use Rattle.ring_core.specs.declared.layout.Form.TheVariants.{Split, Packed}
 use Rattle.ring_core.specs.declared.layout.Layout.{Layout}
-use Rattle.world.specs.declared.config.UnitSpec.{UnitSpec}
+use Rattle.scsi_codec.specs.declared.lun.Address.{Address}
+use Rattle.requests.specs.declared.inventory.UnitSpec.{UnitSpec}
 use Rattle.world.specs.Unit.{PlainUnit}
 use Rattle.world.specs.Queue.{PlainQueue}
-use Rattle.world.specs.World.{AreFitting}
-use Rattle.world.specs.Config.{AreOpening, opening_queue, opening_unit, luns_of}
+use Rattle.world.specs.World.{AreKept, IsKept}
+use Rattle.world.specs.Config.{AreOpening, opening_queue, opening_unit}
 
 pub opens_whole : (form : Form) (memory number : ℕ) (l : Layout) → (opening_queue form memory number l).ring.broken ≡ None
 unfolding opening
 opens_whole Split memory number l = refl
 opens_whole Packed memory number l = refl
-
-pub opens_fitting : (form : Form) (memory number : ℕ) (l : Layout) → (opening_queue form memory number l).ring.memory ≡ memory
-unfolding opening
-opens_fitting Split memory number l = refl
-opens_fitting Packed memory number l = refl
 
 pub at_end : {X : Type 0} (xs : List X) (y : X) → slice_get (xs ++ y ∷ []) (length xs) ≡ Some y
 at_end [] y = refl
@@ -36,36 +31,38 @@ at_or_below : (k n : ℕ) → k < n + 1 → (k < n) ⊎ (k ≡ n)
 at_or_below k n lt = grind arith
 
 -- One more unit of those that are wanted:
-module _ (wanted : List UnitSpec) (units : List PlainUnit) (opened : PlainUnit) (n : ℕ) (count : length units ≡ n)
-    (each : (k : ℕ) (u : UnitSpec) → k < n → slice_get wanted k ≡ Some u → slice_get units k ≡ Some (opening_unit wanted u))
-    (is : (u : UnitSpec) → slice_get wanted n ≡ Some u → opened ≡ opening_unit wanted u) where
-  pub one_opened : (k : ℕ) (u : UnitSpec) → k < n + 1 → slice_get wanted k ≡ Some u → slice_get (units ++ opened ∷ []) k ≡ Some (opening_unit wanted u)
+module _ (inventory : List Address) (wanted : List UnitSpec) (units : List PlainUnit) (opened : PlainUnit) (n : ℕ) (count : length units ≡ n)
+    (each : (k : ℕ) (u : UnitSpec) → k < n → slice_get wanted k ≡ Some u → slice_get units k ≡ Some (opening_unit inventory u))
+    (is : (u : UnitSpec) → slice_get wanted n ≡ Some u → opened ≡ opening_unit inventory u) where
+  pub one_opened : (k : ℕ) (u : UnitSpec) → k < n + 1 → slice_get wanted k ≡ Some u → slice_get (units ++ opened ∷ []) k ≡ Some (opening_unit inventory u)
   one_opened k u lt there =
       elim (at_or_below k n lt) [
-        | inl below ↦ before_end units opened k (opening_unit wanted u) (each k u below there)
+        | inl below ↦ before_end units opened k (opening_unit inventory u) (each k u below there)
         | inr here ↦
             ap (λ (j : ℕ). slice_get (units ++ opened ∷ []) j) (here ∙ sym count)
             ∙ at_end units opened
             ∙ ap (λ (x : PlainUnit). Some x) (is u (subst (λ (j : ℕ). slice_get wanted j ≡ Some u) here there))
       ]
 
-kept_or_not : {X : Type 0} (x : X) (xs ys : List X) (b : Bool) → length ys ≤ length xs → length (cond b (x ∷ ys) ys) ≤ length (x ∷ xs)
-kept_or_not x xs ys true le = omega (arith, le)
-kept_or_not x xs ys false le = omega (arith, le)
-
-filter_shrinks : {X : Type 0} (p : X → Bool) (xs : List X) → length (filter p xs) ≤ length xs
-filter_shrinks p [] = omega arith
-filter_shrinks p (x ∷ xs) = kept_or_not x xs (filter p xs) (p x) (filter_shrinks p xs)
-
-pub few_luns : (units : List UnitSpec) (target : ℕ) → length (luns_of units target) ≤ length units
-few_luns units target = rw length-map (filter_shrinks (λ (u : UnitSpec). u.target == target) units)
-
 layout_at : (layouts : List Layout) (k : ℕ) → k < length layouts → (l : Layout) × (slice_get layouts k ≡ Some l)
 layout_at [] k lt = absurd (omega (arith, lt))
 layout_at (l ∷ ls) zero lt = (l, refl)
 layout_at (l ∷ ls) (suc k) lt = layout_at ls k (omega (arith, lt))
 
-pub opened_fitting : (form : Form) (m : List ℕ) (layouts : List Layout) (queues : List PlainQueue) → AreOpening form (length m) layouts queues → AreFitting queues m
-opened_fitting form m layouts queues opened k q there =
-    let (l, at) = layout_at layouts k (omega (arith, slice_get_within queues k q there, opened.count)) in
-    sym (ap (λ (y : PlainQueue). y.ring.memory) (same_Some q (opening_queue form (length m) k l) (sym there ∙ opened.each k l at)) ∙ opens_fitting form (length m) k l)
+nothing_lawful : (number : ℕ) → IsLawful number (record { accepted = []; used = [] })
+unfolding tickets
+nothing_lawful number =
+    record { numbered = refl; used_accepted = λ k t there. absurd (cc); used_once = λ j k t there again. absurd (cc) }
+
+kept_at_first : (form : Form) (m : List ℕ) (number : ℕ) (l : Layout) → IsKept number (opening_queue form (length m) number l) (length m)
+unfolding opening
+kept_at_first Split m number l = record { fits = refl; numbered = refl; lawful = nothing_lawful number; all_used = refl }
+kept_at_first Packed m number l = record { fits = refl; numbered = refl; lawful = nothing_lawful number; all_used = refl }
+
+pub opened_kept : (form : Form) (m : List ℕ) (layouts : List Layout) (queues : List PlainQueue) → AreOpening form (length m) layouts queues → AreKept queues (length m)
+opened_kept form m layouts queues opened =
+    record {
+      each = λ k q there.
+          let (l, at) = layout_at layouts k (omega (arith, slice_get_within queues k q there, opened.count)) in
+          subst (λ (x : PlainQueue). IsKept k x (length m)) (sym (same_Some q (opening_queue form (length m) k l) (sym there ∙ opened.each k l at))) (kept_at_first form m k l);
+    }

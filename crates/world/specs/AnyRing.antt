@@ -3,6 +3,6 @@ use Rattle.ring_core.specs.State.{RingState}
 use Rattle.world.specs.declared.any_ring.AnyRing.{AnyRing}
 use Rattle.world.specs.declared.any_ring.AnyRing.TheVariants.{Split, Packed}
 
-abbrev pub state_of : AnyRing → RingState
-state_of (Split ring) = ring
-state_of (Packed ring) = ring
+abbrev pub ring_state : AnyRing → RingState
+ring_state (Split ring) = ring
+ring_state (Packed ring) = ring

@@ -1,5 +1,5 @@
 -- Which configurations the device takes, and the device that it opens as.
-use Rattle.std.specs.Prelude.{ℕ, ◌*◌, ◌≡◌, ◌==◌, ◌&&◌, ◌||◌, nat_le, nat_lt, Bool, true, false, cond, List, [], ◌∷◌, length, replicate, filter, map, slice_get, Option, Some, None, is_none}
+use Rattle.std.specs.Prelude.{ℕ, ◌+◌, ◌*◌, ◌^◌, ◌≡◌, ◌==◌, ◌&&◌, nat_le, Bool, true, false, cond, List, [], length, replicate, map, slice_get, Option, Some, None, is_none}
 use Rattle.std.specs.List.{list_all, list_any}
 use Rattle.ring_core.specs.State.{opening}
 use Rattle.ring_core.specs.declared.layout.Form.{Form}
@@ -11,14 +11,16 @@ use Rattle.packed_ring.specs.Placement as packed
 use Rattle.world.specs.Queue.{PlainQueue}
 use Rattle.world.specs.Unit.{PlainUnit}
 use Rattle.world.specs.World.{PlainWorld}
-use Rattle.world.specs.declared.config.UnitSpec.{UnitSpec}
+use Rattle.scsi_codec.specs.declared.lun.Address.{Address}
+use Rattle.requests.specs.Inventory.{address_of, is_rising, luns_of}
+use Rattle.requests.specs.declared.inventory.UnitSpec.{UnitSpec}
 use Rattle.world.specs.declared.config.Config.{Config}
 use Rattle.world.specs.declared.config.StartFault.{StartFault}
 use Rattle.world.specs.declared.config.StartFault.TheVariants.{BadConfig, NoMemory}
 
 -- VIRTIO_F_VERSION_1 alone, or with VIRTIO_F_RING_PACKED: bits 32 and 34 (VIRTIO 1.2, 6)
 abbrev pub form_of : ℕ → Option Form
-form_of features = cond (features == 4294967296) (Some Split) (cond (features == 21474836480) (Some Packed) None)
+form_of features = cond (features == 2 ^ 32) (Some Split) (cond (features == 2 ^ 32 + 2 ^ 34) (Some Packed) None)
 
 abbrev pub placement_of : Form → ℕ → Layout → Option LayoutFault
 placement_of Split memory l = split.placement_fault memory l
@@ -32,23 +34,14 @@ is_queue form memory l = nat_le 2 l.size && nat_le l.size 1024 && is_none (place
 abbrev pub is_unit : UnitSpec → Bool
 is_unit u = nat_le u.lun 16383 && nat_le 1 u.blocks && nat_le u.blocks 131072
 
--- one address stands before another
-abbrev pub stands_before : UnitSpec → UnitSpec → Bool
-stands_before u v = nat_lt u.target v.target || ((u.target == v.target) && nat_lt u.lun v.lun)
-
--- the addresses rise
-abbrev pub is_rising : List UnitSpec → Bool
-is_rising [] = true
-is_rising (u ∷ []) = true
-is_rising (u ∷ v ∷ us) = stands_before u v && is_rising (v ∷ us)
-
 abbrev pub has_lun_0 : List UnitSpec → ℕ → Bool
 has_lun_0 units target = list_any (λ u. (u.target == target) && (u.lun == 0)) units
 
 -- 1 to 64 units in rising order, each target with LUN 0
 abbrev pub are_units : List UnitSpec → Bool
 are_units units =
-    nat_le 1 (length units) && nat_le (length units) 64 && list_all is_unit units && is_rising units && list_all (λ u. has_lun_0 units u.target) units
+    nat_le 1 (length units) && nat_le (length units) 64 && list_all is_unit units
+    && is_rising (map address_of units) && list_all (λ u. has_lun_0 units u.target) units
 
 -- a control queue, an event queue and 1 to 16 request queues
 abbrev pub are_queues : Option Form → ℕ → List Layout → Bool
@@ -70,34 +63,39 @@ abbrev pub opening_queue : Form → ℕ → ℕ → Layout → PlainQueue
 opening_queue Split memory number l = record { ring = opening Split number l split.no_features memory l.size; notices = 0 }
 opening_queue Packed memory number l = record { ring = opening Packed number l packed.no_features memory 65536; notices = 0 }
 
--- the LUNs of a target
-abbrev pub luns_of : List UnitSpec → ℕ → List ℕ
-luns_of units target = map (λ u. u.lun) (filter (λ u. u.target == target) units)
-
 -- a unit that ran nothing yet
-abbrev pub opening_unit : List UnitSpec → UnitSpec → PlainUnit
-opening_unit units u =
-    record { target = u.target; lun = u.lun; luns = luns_of units u.target; capacity = u.blocks; calm = u.calm; commits = [] }
+abbrev pub opening_unit : List Address → UnitSpec → PlainUnit
+opening_unit inventory u =
+    record {
+      target = u.target;
+      lun = u.lun;
+      luns = luns_of inventory u.target;
+      opening = record { blocks = u.blocks; calm = u.calm };
+      commits = [];
+    }
 
 -- the queues of these layouts, of which nothing was fetched yet
 pub record AreOpening (form : Form) (memory : ℕ) (layouts : List Layout) (queues : List PlainQueue) : Type 0 where
   pub count : length queues ≡ length layouts
-  pub each : (k : ℕ) (l : Layout) → slice_get layouts k ≡ Some l → slice_get queues k ≡ Some (opening_queue form memory k l)
+  pub each : (k : ℕ) (l : Layout) → slice_get layouts k ≡ Some l → slice_get queues k
+      ≡ Some (opening_queue form memory k l)
 
 -- the units that ran nothing yet
 pub record AreFresh (wanted : List UnitSpec) (units : List PlainUnit) : Type 0 where
   pub count : length units ≡ length wanted
-  pub each : (k : ℕ) (u : UnitSpec) → slice_get wanted k ≡ Some u → slice_get units k ≡ Some (opening_unit wanted u)
+  pub each : (k : ℕ) (u : UnitSpec) → slice_get wanted k ≡ Some u → slice_get units k
+      ≡ Some (opening_unit (map address_of wanted) u)
 
 -- memory is zeros, of each queue nothing was fetched, and each unit ran nothing
 pub record Opens (c : Config) (w : PlainWorld) : Type 0 where
   pub form : Form
   pub agreed : form_of c.features ≡ Some form
   pub memory : w.memory ≡ replicate (size_of c) 0
+  pub inventory : w.inventory ≡ map address_of c.units.items
   pub queues : AreOpening form (size_of c) c.queues.items w.queues
   pub units : AreFresh c.units.items w.units
 
 -- a configuration is refused as such exactly where the device doesn't take it
-abbrev pub RefusedAs : Config → StartFault → Type 0
-RefusedAs c BadConfig = is_config c ≡ false
-RefusedAs c NoMemory = is_config c ≡ true
+abbrev pub StartRefusedAs : Config → StartFault → Type 0
+StartRefusedAs c BadConfig = is_config c ≡ false
+StartRefusedAs c NoMemory = is_config c ≡ true

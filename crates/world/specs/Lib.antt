@@ -3,8 +3,6 @@ pub mod Queue
 pub mod Fetching
 pub mod Unit
 pub mod UnitFields
-pub mod Answers
-pub mod Decision
 pub mod Answering
 pub mod Serving
 pub mod World
@@ -18,3 +16,7 @@ pub use Rattle.ring_core.specs.Fetch
 pub use Rattle.block_store.specs.Blocks
 pub use Rattle.block_commands.specs.Replies
 pub use Rattle.block_commands.specs.Effects
+pub use Rattle.requests.specs.Answers
+pub use Rattle.requests.specs.Decision
+pub use Rattle.requests.specs.Inventory
+pub use Rattle.requests.specs.UnitRequest

@@ -7,27 +7,27 @@ use Rattle.ring_core.specs.Fetch.{Takes}
 use Rattle.block_store.specs.declared.NoMemory.{NoMemory}
 use Rattle.world.specs.Queue.{PlainQueue, IsIdle, Breaks, completing}
 use Rattle.world.specs.Unit.{PlainUnit}
-use Rattle.world.specs.Answering.{Answered}
-use Rattle.world.specs.declared.decision.ChainLengths.{ChainLengths}
+use Rattle.world.specs.Answering.{IsAnswered}
+use Rattle.scsi_codec.specs.declared.lun.Address.{Address}
+use Rattle.requests.specs.declared.answer.ChainLengths.{ChainLengths}
 
-abbrev pub lengths_of : PlainChain → List ℕ → ChainLengths
-lengths_of c bytes =
-    record { fetched = length bytes; readable = readable_total c.parts; writable = writable_total c.parts }
+abbrev pub lengths_of : PlainChain → ChainLengths
+lengths_of c = record { readable = readable_total c.parts; writable = writable_total c.parts }
 
 -- the request of an outstanding chain is answered, the answer written over its writable parts in order, and the chain used with so many bytes
-pub record Finishes (queue : PlainQueue) (m : List ℕ) (units : List PlainUnit) (chain : PlainChain) (bytes : List ℕ) (queue' : PlainQueue) (m' : List ℕ) (units' : List PlainUnit) : Type 0 where
+pub record Finishes (inventory : List Address) (queue : PlainQueue) (m : List ℕ) (units : List PlainUnit) (chain : PlainChain) (bytes : List ℕ) (queue' : PlainQueue) (m' : List ℕ) (units' : List PlainUnit) : Type 0 where
   pub answer : List ℕ
-  pub answered : Answered units chain.ticket (lengths_of chain bytes) bytes answer units'
+  pub answered : IsAnswered inventory units chain.ticket (lengths_of chain) bytes answer units'
   pub memory_after : m' ≡ with_used queue.ring (scattered m chain.parts 0 answer) chain.id (length answer)
   pub queue_after : queue' ≡ completing queue chain m'
 
 -- the next chain is taken with its first bytes, and finished
-pub record Serves (queue : PlainQueue) (m : List ℕ) (units : List PlainUnit) (queue' : PlainQueue) (m' : List ℕ) (units' : List PlainUnit) : Type 0 where
+pub record Serves (inventory : List Address) (queue : PlainQueue) (m : List ℕ) (units : List PlainUnit) (queue' : PlainQueue) (m' : List ℕ) (units' : List PlainUnit) : Type 0 where
   pub chain : PlainChain
   pub bytes : List ℕ
   pub accepted : RingState
   pub taken : Takes queue.ring m chain bytes accepted
-  pub finished : Finishes (record queue { ring = accepted }) m units chain bytes queue' m' units'
+  pub finished : Finishes inventory (record queue { ring = accepted }) m units chain bytes queue' m' units'
 
 -- a fault of the guest breaks the queue, and nothing else changes
 abbrev pub OnlyBreaks : PlainQueue → List ℕ → List PlainUnit → PlainQueue → List ℕ → List PlainUnit → Type 0
@@ -37,7 +37,11 @@ abbrev pub AreAsBefore : PlainQueue → List ℕ → List PlainUnit → PlainQue
 AreAsBefore queue m units queue' m' units' = (queue' ≡ queue) × (m' ≡ m) × (units' ≡ units)
 
 -- what a turn at one queue answers: that something changed, that nothing was to be done, or want of memory
-abbrev pub Turns : PlainQueue → List ℕ → List PlainUnit → Result Bool NoMemory → PlainQueue → List ℕ → List PlainUnit → Type 0
-Turns queue m units (Ok true) queue' m' units' = Serves queue m units queue' m' units' ⊎ OnlyBreaks queue m units queue' m' units'
-Turns queue m units (Ok false) queue' m' units' = IsIdle queue.ring m × AreAsBefore queue m units queue' m' units'
-Turns queue m units (Err e) queue' m' units' = MayLackMemory queue.ring m × AreAsBefore queue m units queue' m' units'
+abbrev pub Turns : List Address → PlainQueue → List ℕ → List PlainUnit → Result Bool NoMemory → PlainQueue
+    → List ℕ → List PlainUnit → Type 0
+Turns inventory queue m units (Ok true) queue' m' units' = Serves inventory queue m units queue' m' units'
+    ⊎ OnlyBreaks queue m units queue' m' units'
+Turns inventory queue m units (Ok false) queue' m' units' = IsIdle queue.ring m
+    × AreAsBefore queue m units queue' m' units'
+Turns inventory queue m units (Err e) queue' m' units' = MayLackMemory queue.ring m
+    × AreAsBefore queue m units queue' m' units'

@@ -22,20 +22,28 @@ pub record PlainCommit : Type 0 where
   pub taken : List ℕ
   pub status : ℕ
 
--- the address, the LUNs of the target by rising number, the capacity in blocks, and whether nothing is pending at the start
+-- what a unit opened with: its capacity in blocks, and whether nothing was pending
+pub record Opening : Type 0 where
+  pub blocks : ℕ
+  pub calm : Bool
+
+-- the address, the LUNs of the target by rising number, what it opened with, and the commands that it ran
 pub record PlainUnit : Type 0 where
   pub target : ℕ
   pub lun : ℕ
   pub luns : List ℕ
-  pub capacity : ℕ
-  pub calm : Bool
+  pub opening : Opening
   -- newest first
   pub commits : List PlainCommit
 
 -- what each block contains: what the latest command that ended with GOOD and covers it gave it, else zeros (SBC-3 §4.5)
-unfoldable pub blocks_of : List PlainCommit → Blocks
-blocks_of [] b = zero_block
-blocks_of (c ∷ past) b = block_after c.command c.taken c.status (blocks_of past) b
+unfoldable pub blocks_of : Opening → List PlainCommit → Blocks
+blocks_of o [] b = zero_block
+blocks_of o (c ∷ past) b = block_after c.command c.taken c.status (blocks_of o past) b
+
+-- the capacity in blocks, which no command changes
+abbrev pub capacity_of : Opening → List PlainCommit → ℕ
+capacity_of o commits = o.blocks
 
 -- what is pending before any command: power on, or nothing where the unit is calm
 abbrev pub pending_at_start : Bool → List Code
@@ -43,9 +51,9 @@ pending_at_start true = []
 pending_at_start false = code 0x29 0x00 ∷ []
 
 -- the codes that are pending, oldest first: each command that takes one took the oldest (SAM-5 §5.14)
-unfoldable pub pending_of : Bool → List PlainCommit → List Code
-pending_of calm [] = pending_at_start calm
-pending_of calm (c ∷ past) = if takes c.command then without_first (pending_of calm past) else pending_of calm past
+unfoldable pub pending_of : Opening → List PlainCommit → List Code
+pending_of o [] = pending_at_start o.calm
+pending_of o (c ∷ past) = if takes c.command then without_first (pending_of o past) else pending_of o past
 
 -- a code as it is reported
 abbrev pub as_sense : Code → Sense
@@ -62,13 +70,13 @@ facts_now u =
       target = u.target;
       lun = u.lun;
       luns = u.luns;
-      capacity = u.capacity;
-      pending = oldest (pending_of u.calm u.commits);
+      capacity = capacity_of u.opening u.commits;
+      pending = oldest (pending_of u.opening u.commits);
     }
 
 -- the reply to the next command, with the data that it takes
 abbrev pub reply_now : PlainUnit → Command → List ℕ → PlainReply
-reply_now u command taken = reply_of (facts_now u) command taken (blocks_of u.commits)
+reply_now u command taken = reply_of (facts_now u) command taken (blocks_of u.opening u.commits)
 
 -- the unit once it ran the command
 abbrev pub committing : PlainUnit → Ticket → Command → List ℕ → PlainUnit

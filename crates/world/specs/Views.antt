@@ -3,7 +3,7 @@ use Rattle.std.specs.Prelude.{ℕ, ◌≡◌, ◌≤◌, ◌+◌, ◌==◌, ◌&
 use Rattle.std.specs.List.{list_any}
 use Rattle.block_store.specs.Blocks.{run}
 use Rattle.block_store.specs.declared.NoMemory.{NoMemory}
-use Rattle.world.specs.Unit.{PlainUnit, blocks_of}
+use Rattle.world.specs.Unit.{PlainUnit, blocks_of, capacity_of}
 use Rattle.world.specs.World.{PlainWorld}
 
 -- the unit of an address
@@ -11,15 +11,17 @@ abbrev pub unit_at : PlainWorld → ℕ → ℕ → Option PlainUnit
 unit_at w target lun = find (λ u. (u.target == target) && (u.lun == lun)) w.units
 
 -- DEVICE_NEEDS_RESET (VIRTIO 1.2, 2.1) where a queue is broken
-abbrev pub status_of : PlainWorld → ℕ
-status_of w = cond (list_any (λ q. is_some q.ring.broken) w.queues) 64 0
+abbrev pub device_status : PlainWorld → ℕ
+device_status w = cond (list_any (λ q. is_some q.ring.broken) w.queues) 64 0
 
 -- blocks of a unit, if it is there and they lie below its capacity
-abbrev pub Gives : Option PlainUnit → ℕ → ℕ → List ℕ → Result Bool NoMemory → List ℕ → Type 0
-Gives None first count old (Ok true) new = ⊥
-Gives (Some u) first count old (Ok true) new = (first + count ≤ u.capacity) × (new ≡ old ++ run (blocks_of u.commits) first count)
-Gives None first count old (Ok false) new = new ≡ old
-Gives (Some u) first count old (Ok false) new = (u.capacity < first + count) × (new ≡ old)
-Gives None first count old (Err e) new = ⊥
+abbrev pub GivesBlocks : Option PlainUnit → ℕ → ℕ → List ℕ → Result Bool NoMemory → List ℕ → Type 0
+GivesBlocks None first count old (Ok true) new = ⊥
+GivesBlocks (Some u) first count old (Ok true) new = (first + count ≤ capacity_of u.opening u.commits) × (new
+    ≡ old ++ run (blocks_of u.opening u.commits) first count)
+GivesBlocks None first count old (Ok false) new = new ≡ old
+GivesBlocks (Some u) first count old (Ok false) new = (capacity_of u.opening u.commits < first + count) × (new ≡ old)
+GivesBlocks None first count old (Err e) new = ⊥
 -- only a list that has to grow wants memory
-Gives (Some u) first count old (Err e) new = (first + count ≤ u.capacity) × (0 < count) × (new ≡ old)
+GivesBlocks (Some u) first count old (Err e) new = (first + count ≤ capacity_of u.opening u.commits)
+    × (0 < count) × (new ≡ old)

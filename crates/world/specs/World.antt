@@ -1,13 +1,17 @@
 -- The device as a plain value, and its runs: one queue after another is served.
 use Rattle.std.specs.Prelude.{ℕ, ◌≡◌, ◌⊎◌, ◌≤◌, ◌<◌, ◌+◌, ◌^◌, List, [], ◌∷◌, length, slice_get, slice_set, Some, Bool, true, false, Result, Ok, Err}
+use Rattle.scsi_codec.specs.declared.lun.Address.{Address}
 use Rattle.block_store.specs.declared.NoMemory.{NoMemory}
 use Rattle.ring_core.specs.Offer.{MayLackMemory}
+use Rattle.ring_core.specs.State.{IsLawful}
 use Rattle.world.specs.Queue.{PlainQueue, IsIdle}
 use Rattle.world.specs.Unit.{PlainUnit}
 use Rattle.world.specs.Serving.{Serves, OnlyBreaks}
 
 pub record PlainWorld : Type 0 where
   pub memory : List ℕ
+  -- the addresses of the units, in their order
+  pub inventory : List Address
   pub queues : List PlainQueue
   pub units : List PlainUnit
 
@@ -17,9 +21,10 @@ pub record StepAt (old : PlainWorld) (number : ℕ) (new : PlainWorld) : Type 0 
   pub after : PlainQueue
   pub there : slice_get old.queues number ≡ Some queue
   pub changed :
-      Serves queue old.memory old.units after new.memory new.units
+      Serves old.inventory queue old.memory old.units after new.memory new.units
       ⊎ OnlyBreaks queue old.memory old.units after new.memory new.units
   pub others : new.queues ≡ slice_set old.queues number after
+  pub inventory : new.inventory ≡ old.inventory
 
 -- at the queue of this number nothing is to be done
 abbrev pub IdleAt : PlainWorld → ℕ → Type 0
@@ -68,8 +73,17 @@ Settles old count new = (passed : List PlainWorld) × Runs old passed new × (le
 
 -- a run to where a fetch may be refused memory, or of the most steps that can be counted
 abbrev pub EndsForMemory : PlainWorld → PlainWorld → Type 0
-EndsForMemory old new = (passed : List PlainWorld) × Runs old passed new × (WantsMemory new ⊎ (length passed + 1 ≡ 2 ^ 64))
+EndsForMemory old new = (passed : List PlainWorld) × Runs old passed new × (WantsMemory new ⊎ (length passed + 1
+    ≡ 2 ^ 64))
 
--- each ring was made with a memory of this size
-abbrev pub AreFitting : List PlainQueue → List ℕ → Type 0
-AreFitting queues m = (k : ℕ) (q : PlainQueue) → slice_get queues k ≡ Some q → length m ≡ q.ring.memory
+-- the queue of this number, between two turns: its ring was made with a memory of this size, its log is lawful, and no chain
+-- is outstanding
+pub record IsKept (number : ℕ) (q : PlainQueue) (size : ℕ) : Type 0 where
+  pub fits : size ≡ q.ring.memory
+  pub numbered : q.ring.queue ≡ number
+  pub lawful : IsLawful number q.ring.log
+  pub all_used : length q.ring.log.used ≡ length q.ring.log.accepted
+
+-- each queue is
+pub record AreKept (queues : List PlainQueue) (size : ℕ) : Type 0 where
+  pub each : (k : ℕ) (q : PlainQueue) → slice_get queues k ≡ Some q → IsKept k q size

@@ -2,60 +2,31 @@
 
 ghost use Rattle.std.specs.Prelude.{◌≡◌, ◌+◌, ◌≤◌, ◌^◌, length};
 ghost use Rattle.block_commands.specs.PlainReply.{plain_of};
-ghost use Rattle.world.specs.Answers.{failed, answer_of_reply, busy_reply};
+ghost use Rattle.requests.specs.Answers.{answer_of_reply, busy_reply};
 ghost use Rattle.world.specs.Answering.{bytes_of};
 
-use crate::decision::ChainLengths;
-use block_commands::Reply;
-use scsi_codec::{REQUEST_BYTES, RESPONSE_BYTES, Response, ResponseCode, write_response};
+use block_commands::{BUSY, Reply};
+use requests::{ChainLengths, DirectAnswer, response_ok};
+use scsi_codec::RESPONSE_BYTES;
 use std::alloc::Global;
-
-/// BUSY (SAM-5 5.3.1).
-const BUSY: u8 = 0x08;
 
 /// The bytes that answer a request.
 #[derive(Debug, Drop)]
 pub enum Answer {
-    /// None: the chain is used with length 0.
-    Nothing,
+    /// An answer that needed no unit.
+    Direct(DirectAnswer),
     /// A response, and the data behind it.
     Bytes([u8; RESPONSE_BYTES], Vec<u8>),
-}
-
-/// A response other than OK.
-pub fn failure(alloc: Global, code: ResponseCode) -> Answer
-    ensures bytes { bytes_of result ≡ failed code }
-    ensures len { length (bytes_of result) ≡ RESPONSE_BYTES }
-{
-    let head = write_response(&Response {
-        code,
-        status: 0,
-        residual: 0,
-        sense: None,
-    });
-    Answer::Bytes(head, Vec::new(alloc))
 }
 
 /// Response OK with a reply.
 pub fn of_reply(lengths: &ChainLengths, reply: Reply) -> Answer
     requires sum { lengths.now.readable + lengths.now.writable ≤ 2 ^ 32 }
     requires room { RESPONSE_BYTES ≤ lengths.now.writable }
-    ensures bytes { bytes_of result ≡ answer_of_reply lengths.now.readable lengths.now.writable (plain_of reply) }
+    ensures bytes { bytes_of result ≡ answer_of_reply lengths.now (plain_of reply) }
     ensures len { length (bytes_of result) ≡ RESPONSE_BYTES + length reply.payload.items }
 {
-    let out = lengths.readable.saturating_sub(REQUEST_BYTES as u64);
-    let into = lengths.writable - RESPONSE_BYTES as u64;
-    let residual = (out + into).saturating_sub(reply.moved as u64);
-    let sense = match &reply.sense {
-        Some(sense) => Some(sense.to_fixed()),
-        None => None,
-    };
-    let head = write_response(&Response {
-        code: ResponseCode::Ok,
-        status: reply.status,
-        residual: residual as u32,
-        sense,
-    });
+    let head = response_ok(lengths, reply.status, reply.sense, reply.moved);
     Answer::Bytes(head, reply.payload)
 }
 
@@ -63,7 +34,7 @@ pub fn of_reply(lengths: &ChainLengths, reply: Reply) -> Answer
 pub fn busy(alloc: Global, lengths: &ChainLengths) -> Answer
     requires sum { lengths.now.readable + lengths.now.writable ≤ 2 ^ 32 }
     requires room { RESPONSE_BYTES ≤ lengths.now.writable }
-    ensures bytes { bytes_of result ≡ answer_of_reply lengths.now.readable lengths.now.writable busy_reply }
+    ensures bytes { bytes_of result ≡ answer_of_reply lengths.now busy_reply }
     ensures len { length (bytes_of result) ≡ RESPONSE_BYTES }
 {
     let reply = Reply {

@@ -15,9 +15,9 @@ pub enum AnyRing {
 }
 
 impl Ring for AnyRing {
-    ghost use Rattle.world.specs.AnyRing.{state_of};
+    ghost use Rattle.world.specs.AnyRing.{ring_state};
 
-    ghost state = { state_of };
+    ghost state = { ring_state };
 
     fn fetch(&mut self, memory: &GuestMem) -> Result<Option<Fetched>, RingFault> {
         match self {

@@ -2,8 +2,9 @@
 
 ghost use Rattle.std.specs.Prelude.{◌≡◌, ◌*◌, Option, is_none};
 ghost use Rattle.std.specs.List.{list_all};
-ghost use Rattle.world.specs.Config.{form_of, placement_of, is_queue, is_unit, stands_before, is_rising, has_lun_0, are_units, are_queues, is_config};
+ghost use Rattle.world.specs.Config.{form_of, placement_of, is_queue, is_unit, has_lun_0, are_units, are_queues, is_config};
 
+use requests::{UnitSpec, are_rising};
 use ring_core::{Form, Layout};
 use std::error::Error;
 use std::fmt;
@@ -13,19 +14,6 @@ pub const VERSION_1: u64 = 1 << 32;
 
 /// VIRTIO_F_RING_PACKED: packed virtqueues in place of split ones.
 pub const RING_PACKED: u64 = 1 << 34;
-
-/// A logical unit that is wanted.
-#[derive(Clone, Copy, Debug, PartialEq, Eq)]
-pub struct UnitSpec {
-    /// Its target, 0 to 255.
-    pub target: u8,
-    /// Its LUN, 0 to 16,383.
-    pub lun: u16,
-    /// Its capacity in blocks of 512 bytes, 1 to 131,072.
-    pub blocks: u64,
-    /// Whether nothing is pending at the start; else POWER ON OCCURRED is.
-    pub calm: bool,
-}
 
 /// A device that is wanted.
 #[derive(Debug, Drop)]
@@ -123,29 +111,6 @@ fn check_unit(unit: &UnitSpec) -> bool
     unit.lun <= 16383 && unit.blocks >= 1 && unit.blocks <= 131_072
 }
 
-/// Whether one address stands before another.
-fn is_before(unit: &UnitSpec, other: &UnitSpec) -> bool
-    ensures { result ≡ stands_before unit.now other.now }
-{
-    unit.target < other.target || (unit.target == other.target && unit.lun < other.lun)
-}
-
-/// Whether the addresses rise.
-fn check_rising(units: &[UnitSpec]) -> bool
-    ensures { result ≡ is_rising units.now }
-{
-    let mut rest = units;
-    while let [first, others @ ..] = rest {
-        if let [second, ..] = others {
-            if !is_before(first, second) {
-                return false;
-            }
-        }
-        rest = others;
-    }
-    true
-}
-
 /// Whether a target has LUN 0.
 fn check_lun_0(units: &[UnitSpec], target: u8) -> bool
     ensures { result ≡ has_lun_0 units.now target }
@@ -174,7 +139,7 @@ fn check_units(units: &[UnitSpec]) -> bool
     ensures { result ≡ are_units units.now }
 {
     let some = units.len() >= 1 && units.len() <= 64;
-    some && check_each_unit(units) && check_rising(units) && check_each_target(units)
+    some && check_each_unit(units) && are_rising(units) && check_each_target(units)
 }
 
 impl Config {

@@ -6,7 +6,6 @@ mod answer;
 mod answering;
 mod any_ring;
 mod config;
-mod decision;
 mod queue;
 mod serving;
 mod unit;
@@ -14,8 +13,8 @@ mod world;
 
 pub use answer::Answer;
 pub use any_ring::AnyRing;
-pub use config::{Config, RING_PACKED, StartFault, UnitSpec, VERSION_1};
-pub use decision::{ChainLengths, Decision};
+pub use config::{Config, RING_PACKED, StartFault, VERSION_1};
 pub use queue::{Fetch, Queue};
+pub use requests::UnitSpec;
 pub use unit::{Commit, Unit};
 pub use world::World;

@@ -1,15 +1,15 @@
 //! A virtqueue of the device: its ring, whether it is broken, and the notices that its driver
 //! wanted.
 
-ghost use Rattle.std.specs.Prelude.{◌≡◌, length, IfOk};
-ghost use Rattle.world.specs.AnyRing.{state_of};
-ghost use Rattle.world.specs.Config.{opening_queue};
+ghost use Rattle.std.specs.Prelude.{◌≡◌, length, IfOk, None};
+ghost use Rattle.world.specs.AnyRing.{ring_state};
+ghost use Rattle.world.specs.Config.{opening_queue, placement_of};
 
 use crate::any_ring::AnyRing;
 use block_store::NoMemory;
 use guest_mem::GuestMem;
 use packed_ring::PackedRing;
-use ring_core::{Answered, Chain, Fetched, Form, Layout, QueueLog, Ring, RingFault};
+use ring_core::{Answered, Chain, Fetched, Form, Layout, LayoutFault, QueueLog, Ring, RingFault};
 use split_ring::SplitRing;
 use std::alloc::Global;
 use std::marker::Model;
@@ -21,11 +21,14 @@ fn split_of(
     layout: Layout,
     memory: &GuestMem,
 ) -> Result<AnyRing, NoMemory>
-    ensures { IfOk result (λ ring. state_of ring ≡ (opening_queue Form.Split (length memory.now) number layout).ring) }
+    requires { placement_of Form.Split (length memory.now) layout ≡ None }
+    ensures { IfOk result (λ ring. ring_state ring
+        ≡ (opening_queue Form.Split (length memory.now) number layout).ring) }
 {
     match SplitRing::new(alloc, number, layout, memory) {
         Ok(ring) => Ok(AnyRing::Split(ring)),
-        Err(_) => Err(NoMemory),
+        Err(LayoutFault::NoMemory) => Err(NoMemory),
+        Err(_) => unreachable!(),
     }
 }
 
@@ -36,11 +39,14 @@ fn packed_of(
     layout: Layout,
     memory: &GuestMem,
 ) -> Result<AnyRing, NoMemory>
-    ensures { IfOk result (λ ring. state_of ring ≡ (opening_queue Form.Packed (length memory.now) number layout).ring) }
+    requires { placement_of Form.Packed (length memory.now) layout ≡ None }
+    ensures { IfOk result (λ ring. ring_state ring
+        ≡ (opening_queue Form.Packed (length memory.now) number layout).ring) }
 {
     match PackedRing::new(alloc, number, layout, memory) {
         Ok(ring) => Ok(AnyRing::Packed(ring)),
-        Err(_) => Err(NoMemory),
+        Err(LayoutFault::NoMemory) => Err(NoMemory),
+        Err(_) => unreachable!(),
     }
 }
 
@@ -52,7 +58,8 @@ fn ring_of(
     layout: Layout,
     memory: &GuestMem,
 ) -> Result<AnyRing, NoMemory>
-    ensures { IfOk result (λ ring. state_of ring ≡ (opening_queue form (length memory.now) number layout).ring) }
+    requires { placement_of form (length memory.now) layout ≡ None }
+    ensures { IfOk result (λ ring. ring_state ring ≡ (opening_queue form (length memory.now) number layout).ring) }
 {
     match form {
         Form::Split => split_of(alloc, number, layout, memory),
@@ -81,32 +88,36 @@ pub struct Queue {
 
 impl Model for Queue {
     ghost use Rattle.std.specs.Prelude.{◌≡◌, ◌≤◌, length, is_some};
-    ghost use Rattle.world.specs.AnyRing.{state_of};
+    ghost use Rattle.world.specs.AnyRing.{ring_state};
     ghost use Rattle.world.specs.Queue.{PlainQueue};
 
     ghost Value = { PlainQueue };
 
-    ghost view = { λ q. record { ring = state_of q.ring; notices = q.notices } };
+    ghost view = { λ q. record { ring = ring_state q.ring; notices = q.notices } };
 
-    ghost invariant = { λ q. (q.broken ≡ is_some (state_of q.ring).broken) × (q.notices ≤ length (state_of q.ring).log.used) };
+    ghost invariant = { λ q. (q.broken ≡ is_some (ring_state q.ring).broken)
+        × (q.notices ≤ length (ring_state q.ring).log.used) };
 }
 
 impl Queue {
     ghost use Rattle.std.specs.Prelude.{◌≡◌, length, is_some, IfOk};
-    ghost use Rattle.world.specs.Config.{opening_queue};
+    ghost use Rattle.std.specs.Prelude.{None};
+    ghost use Rattle.world.specs.Config.{opening_queue, placement_of};
     ghost use Rattle.ring_core.specs.State.{Owns, IsLawful};
     ghost use Rattle.ring_core.specs.Offer.{with_used};
     ghost use Rattle.world.specs.Queue.{completing};
     ghost use Rattle.world.specs.Fetching.{Looks};
 
     /// A queue with this number at a place that its ring takes, of which nothing was fetched yet.
-    pub fn new(
+    /// `NoMemory` where its ring was refused memory.
+    pub(crate) fn new(
         alloc: Global,
         form: Form,
         number: u16,
         layout: Layout,
         memory: &GuestMem,
     ) -> Result<Queue, NoMemory>
+        requires { placement_of form (length memory.now) layout ≡ None }
         ensures { IfOk result (λ queue. queue ≡ opening_queue form (length memory.now) number layout) }
     {
         let ring = ring_of(alloc, form, number, layout, memory)?;
@@ -118,7 +129,7 @@ impl Queue {
     }
 
     /// Looks for the next chain.
-    pub fn fetch(&mut self, memory: &GuestMem) -> Result<Fetch, NoMemory>
+    pub(crate) fn fetch(&mut self, memory: &GuestMem) -> Result<Fetch, NoMemory>
         requires { length memory.now ≡ self.old.ring.memory }
         ensures { Looks self.old memory.now result self.new }
     {
@@ -137,7 +148,7 @@ impl Queue {
     }
 
     /// Completes a chain, and counts the notice where the driver wants one.
-    pub fn complete(&mut self, memory: &mut GuestMem, chain: Chain, len: u32) -> Answered
+    pub(crate) fn complete(&mut self, memory: &mut GuestMem, chain: Chain, len: u32) -> Answered
         requires fits { length memory.old ≡ self.old.ring.memory }
         requires owned { Owns self.old.ring chain }
         ensures ticket { result ≡ chain.ticket }

@@ -1,18 +1,18 @@
 //! The service of one chain, from its fetch to its used entry.
 
-ghost use Rattle.std.specs.Prelude.{◌≡◌, ◌≤◌, ◌<◌, ◌^◌, length};
-ghost use Rattle.ring_core.specs.Parts.{readable_total, writable_total, scattered};
-ghost use Rattle.ring_core.specs.State.{Owns};
+ghost use Rattle.std.specs.Prelude.{◌≡◌, ◌≤◌, ◌<◌, ◌^◌, length, take};
+ghost use Rattle.ring_core.specs.Parts.{readable_bytes, first_bytes, writable_total, scattered};
+ghost use Rattle.ring_core.specs.State.{IsLawful, Owns};
 ghost use Rattle.world.specs.Answering.{bytes_of};
 ghost use Rattle.world.specs.Serving.{Finishes, Turns};
 
 use crate::answer::Answer;
 use crate::answering::answer_request;
-use crate::decision::ChainLengths;
 use crate::queue::{Fetch, Queue};
 use crate::unit::Unit;
 use block_store::NoMemory;
 use guest_mem::GuestMem;
+use requests::{ChainLengths, Inventory};
 use ring_core::{Chain, Fetched, scatter};
 use std::alloc::Global;
 
@@ -27,7 +27,7 @@ fn write_answer(memory: &mut GuestMem, chain: &Chain, answer: &Answer) -> u32
 {
     let _parts = chain.parts();
     match answer {
-        Answer::Nothing => 0,
+        Answer::Direct(direct) => scatter(memory, chain, 0, direct.as_slice()),
         Answer::Bytes(head, payload) => {
             let first = scatter(memory, chain, 0, head);
             first + scatter(memory, chain, first, payload.as_slice())
@@ -40,47 +40,53 @@ fn finish_chain(
     alloc: Global,
     queue: &mut Queue,
     memory: &mut GuestMem,
+    inventory: &Inventory,
     units: &mut [Unit],
     fetched: Fetched,
 )
     requires fits { length memory.old ≡ queue.old.ring.memory }
     requires owned { Owns queue.old.ring fetched.chain }
-    requires read { length fetched.bytes.items ≤ readable_total fetched.chain.parts }
-    ensures finished { Finishes queue.old memory.old units.old fetched.chain fetched.bytes.items queue.new memory.new units.new }
+    requires read { fetched.bytes.items ≡ take first_bytes (readable_bytes memory.old fetched.chain.parts) }
+    requires there { length inventory.now ≡ length units.old }
+    ensures finished { Finishes inventory.now queue.old memory.old units.old fetched.chain fetched.bytes.items queue.new memory.new units.new }
     ensures size { length memory.new ≡ length memory.old }
     ensures ring { queue.new.ring.memory ≡ queue.old.ring.memory }
+    ensures units { length units.new ≡ length units.old }
 {
     let Fetched { chain, bytes } = fetched;
     let _parts = chain.parts();
     let lengths = ChainLengths {
-        fetched: bytes.len(),
         readable: chain.readable_len(),
         writable: chain.writable_len(),
     };
-    let answer = answer_request(alloc, units, chain.ticket(), &lengths, bytes);
+    let answer = answer_request(alloc, inventory, units, chain.ticket(), &lengths, bytes);
     let len = write_answer(memory, &chain, &answer);
     let _answered = queue.complete(memory, chain, len);
 }
 
 /// A turn at one queue: takes its next chain, if there is one, and serves it whole. Whether
 /// something changed: a chain was served, or a fault of the guest broke the queue.
-pub fn take_turn(
+pub(crate) fn take_turn(
     alloc: Global,
     queue: &mut Queue,
     memory: &mut GuestMem,
+    inventory: &Inventory,
     units: &mut [Unit],
 ) -> Result<bool, NoMemory>
-    requires { length memory.old ≡ queue.old.ring.memory }
-    ensures turn { Turns queue.old memory.old units.old result queue.new memory.new units.new }
+    requires fits { length memory.old ≡ queue.old.ring.memory }
+    requires there { length inventory.now ≡ length units.old }
+    ensures turn { Turns inventory.now queue.old memory.old units.old result queue.new memory.new units.new }
     ensures size { length memory.new ≡ length memory.old }
     ensures ring { queue.new.ring.memory ≡ queue.old.ring.memory }
+    ensures units { length units.new ≡ length units.old }
+    ensures number { queue.new.ring.queue ≡ queue.old.ring.queue }
 {
     match queue.fetch(memory) {
         Err(NoMemory) => Err(NoMemory),
         Ok(Fetch::Idle) => Ok(false),
         Ok(Fetch::Broke) => Ok(true),
         Ok(Fetch::Got(fetched)) => {
-            finish_chain(alloc, queue, memory, units, fetched);
+            finish_chain(alloc, queue, memory, inventory, units, fetched);
             Ok(true)
         }
     }

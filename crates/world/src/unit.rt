@@ -1,28 +1,26 @@
 //! One logical unit: its store, what it has pending, and the commands that it ran.
 
-ghost use Rattle.std.specs.Prelude.{◌≡◌, ◌+◌, ◌≤◌, ℕ, Option, if◌then◌else◌, length, drop, IfSome, IfNone, IfOk, IsTrue};
+ghost use Rattle.std.specs.Prelude.{◌≡◌, ◌≤◌, ℕ, Option, if◌then◌else◌, length, IfSome, IfNone, IsTrue};
 ghost use Rattle.cdb.specs.Need.{need_of};
 ghost use Rattle.block_store.specs.Blocks.{block_count, nth_block};
 ghost use Rattle.block_commands.specs.Effects.{block_after};
 ghost use Rattle.block_commands.specs.Facts.{facts_of};
 ghost use Rattle.block_commands.specs.Memory.{may_want};
 ghost use Rattle.block_commands.specs.PlainReply.{plain_of};
-ghost use Rattle.block_commands.specs.Replies.{reply_of, data_of};
+ghost use Rattle.block_commands.specs.Replies.{reply_of};
 ghost use Rattle.unit_attention.specs.Pending.{without_first};
 ghost use Rattle.block_commands.specs.Attention.{takes};
 ghost use Rattle.sense.specs.declared.Sense.{Sense};
 ghost use Rattle.world.specs.Unit.{as_sense, oldest, pending_at_start};
-ghost use Rattle.world.specs.Config.{luns_of};
 
-use crate::config::UnitSpec;
 use block_commands::{Reply, UnitFacts, exec, takes_attention};
 use block_store::{FlatStore, NoMemory, Store};
 use cdb::Command;
 use record::Record;
+use requests::{Inventory, UnitRequest, UnitSpec};
 use ring_core::Ticket;
-use scsi_codec::REQUEST_BYTES;
 use sense::Sense;
-use std::alloc::{AllocError, Global};
+use std::alloc::Global;
 use std::marker::Model;
 use unit_attention::{Attentions, Code};
 
@@ -30,9 +28,7 @@ use unit_attention::{Attentions, Code};
 #[derive(Debug, Drop)]
 pub struct Commit {
     ticket: Ticket,
-    command: Command,
-    // The request as it was fetched: its data stand from byte 51 on.
-    bytes: Vec<u8>,
+    request: UnitRequest,
     status: u8,
 }
 
@@ -53,23 +49,11 @@ impl Model for Unit {
 
     ghost Value = { PlainUnit };
 
-    ghost use Rattle.world.specs.UnitFields.{unit_of, IsUnit};
+    ghost use Rattle.world.specs.UnitFields.{unit_of, IsTold};
 
     ghost view = { unit_of };
 
-    ghost invariant = { IsUnit };
-}
-
-/// The LUNs of a target, rising where the units do.
-fn luns_of_target(alloc: Global, units: &[UnitSpec], target: u8) -> Result<Vec<u16>, AllocError>
-    ensures luns { IfOk result (λ luns. luns.items ≡ luns_of units.now target) }
-    ensures few { IfOk result (λ luns. length luns.items ≤ length units.now) }
-{
-    units
-        .iter()
-        .filter(|unit| unit.target == target)
-        .map(|unit| unit.lun)
-        .collect(alloc)
+    ghost invariant = { IsTold };
 }
 
 /// What is pending before any command.
@@ -100,24 +84,23 @@ fn tell_oldest(facts: &mut UnitFacts, attentions: &Attentions)
     };
 }
 
-/// Runs a command on a store, on the data of its request; `None` where memory was refused.
+/// Runs the command of a request on a store, on its data; `None` where memory was refused.
 fn run_on(
     alloc: Global,
     store: &mut FlatStore,
-    command: &Command,
-    request: &[u8],
+    request: &UnitRequest,
     facts: &UnitFacts,
 ) -> Option<Reply>
-    requires { 51 + (need_of command.now).out ≤ length request.now }
-    ensures reply { IfSome result (λ r. plain_of r ≡ reply_of (facts_of facts.now (block_count store.old)) command.now (data_of command.now (drop 51 request.now)) (nth_block store.old)) }
-    ensures blocks { IfSome result (λ r. (b : ℕ) → nth_block store.new b ≡ block_after command.now (data_of command.now (drop 51 request.now)) r.status (nth_block store.old) b) }
+    ensures reply { IfSome result (λ r. plain_of r
+        ≡ reply_of (facts_of facts.now (block_count store.old)) request.now.command request.now.data_out (nth_block store.old)) }
+    ensures blocks { IfSome result (λ r. (b : ℕ) → nth_block store.new b
+        ≡ block_after request.now.command request.now.data_out r.status (nth_block store.old) b) }
     ensures none { IfNone result ((b : ℕ) → nth_block store.new b ≡ nth_block store.old b) }
-    ensures want { IfNone result (IsTrue (may_want (facts_of facts.now (block_count store.old)) command.now)) }
+    ensures want { IfNone result (IsTrue (may_want (facts_of facts.now (block_count store.old)) request.now.command)) }
     ensures size { block_count store.new ≡ block_count store.old }
-    ensures fits { IfSome result (λ r. length r.payload.items ≤ (need_of command.now).into) }
+    ensures fits { IfSome result (λ r. length r.payload.items ≤ (need_of request.now.command).into) }
 {
-    let (_, taken) = request.split_at(REQUEST_BYTES);
-    match exec(alloc, store, command, taken, facts) {
+    match exec(alloc, store, &request.command(), request.data(), facts) {
         Ok(reply) => Some(reply),
         Err(NoMemory) => None,
     }
@@ -133,23 +116,26 @@ fn clear_oldest(attentions: &mut Attentions, command: &Command)
 }
 
 impl Unit {
-    ghost use Rattle.std.specs.Prelude.{◌≡◌, ◌+◌, ◌≤◌, ◌<◌, ◌++◌, length, drop, IfSome, IfNone, IfOk, IsTrue, OnOk, OnErr};
+    ghost use Rattle.std.specs.Prelude.{◌≡◌, ◌+◌, ◌≤◌, ◌<◌, ◌++◌, length, IfSome, IfNone, IfOk, IsTrue, OnOk, OnErr};
     ghost use Rattle.block_store.specs.Blocks.{run};
-    ghost use Rattle.world.specs.Unit.{blocks_of};
+    ghost use Rattle.world.specs.Unit.{blocks_of, capacity_of};
     ghost use Rattle.cdb.specs.Need.{need_of};
     ghost use Rattle.block_commands.specs.Memory.{may_want};
     ghost use Rattle.block_commands.specs.PlainReply.{plain_of};
-    ghost use Rattle.block_commands.specs.Replies.{data_of};
     ghost use Rattle.world.specs.Unit.{facts_now, reply_now, committing};
     ghost use Rattle.world.specs.Config.{opening_unit};
 
-    /// A unit among those that are wanted, that ran nothing yet.
+    /// A unit among those of an inventory, that ran nothing yet. `NoMemory` where its blocks or its
+    /// target's LUNs were refused memory.
     #[tactic(auto, unfolding(crate::specs::Unit::blocks_of, crate::specs::Unit::pending_of))]
-    pub fn new(alloc: Global, spec: &UnitSpec, units: &[UnitSpec]) -> Result<Unit, NoMemory>
-        requires { length units.now ≤ 64 }
-        ensures { IfOk result (λ unit. unit ≡ opening_unit units.now spec.now) }
+    pub(crate) fn new(
+        alloc: Global,
+        spec: &UnitSpec,
+        inventory: &Inventory,
+    ) -> Result<Unit, NoMemory>
+        ensures { IfOk result (λ unit. unit ≡ opening_unit inventory.now spec.now) }
     {
-        let luns = luns_of_target(alloc, units, spec.target)?;
+        let luns = inventory.luns_of(alloc, spec.target)?;
         let store = FlatStore::new(alloc, spec.blocks)?;
         Ok(Unit {
             facts: UnitFacts {
@@ -181,7 +167,7 @@ impl Unit {
 
     /// Its capacity in blocks of 512 bytes.
     pub fn capacity(&self) -> u64
-        ensures { result ≡ self.now.capacity }
+        ensures { result ≡ capacity_of self.now.opening self.now.commits }
     {
         self.store.capacity()
     }
@@ -189,8 +175,9 @@ impl Unit {
     /// Appends the bytes of `count` blocks from `first` on, as its commands left them; `NoMemory`
     /// with the list as it was where that can't grow.
     pub fn read_blocks(&self, first: u64, count: u32, into: &mut Vec<u8>) -> Result<(), NoMemory>
-        requires { first + count ≤ self.now.capacity }
-        ensures ok { OnOk result (into.new.items ≡ into.old.items ++ run (blocks_of self.now.commits) first count) }
+        requires { first + count ≤ capacity_of self.now.opening self.now.commits }
+        ensures ok { OnOk result (into.new.items
+            ≡ into.old.items ++ run (blocks_of self.now.opening self.now.commits) first count) }
         ensures err { OnErr result (into.new.items ≡ into.old.items) }
         ensures want { OnErr result (0 < count) }
     {
@@ -199,37 +186,28 @@ impl Unit {
         Ok(())
     }
 
-    /// Runs a command whole, on the data of its request, and records it, which takes no memory;
-    /// `None` with nothing changed where the command itself may want memory and was refused it.
-    pub fn commit(
+    /// Runs the command of a request whole, on its data, and records it, which takes no memory; `None`
+    /// with nothing changed where the command itself may want memory and was refused it.
+    pub(crate) fn commit(
         &mut self,
         alloc: Global,
         ticket: Ticket,
-        command: Command,
-        bytes: Vec<u8>,
+        request: UnitRequest,
     ) -> Option<Reply>
-        requires { REQUEST_BYTES + (need_of command).out ≤ length bytes.items }
-        ensures reply { IfSome result (λ r. plain_of r ≡ reply_now self.old command (data_of command (drop REQUEST_BYTES bytes.items))) }
-        ensures some { IfSome result (λ _. self.new ≡ committing self.old ticket command (data_of command (drop REQUEST_BYTES bytes.items))) }
+        ensures reply { IfSome result (λ r. plain_of r ≡ reply_now self.old request.command request.data_out) }
+        ensures some { IfSome result (λ _. self.new ≡ committing self.old ticket request.command request.data_out) }
         ensures none { IfNone result (self.new ≡ self.old) }
-        ensures want { IfNone result (IsTrue (may_want (facts_now self.old) command)) }
-        ensures fits { IfSome result (λ r. length r.payload.items ≤ (need_of command).into) }
+        ensures want { IfNone result (IsTrue (may_want (facts_now self.old) request.command)) }
+        ensures fits { IfSome result (λ r. length r.payload.items ≤ (need_of request.command).into) }
     {
         tell_oldest(&mut self.facts, &self.attentions);
-        let Some(reply) = run_on(
-            alloc,
-            &mut self.store,
-            &command,
-            bytes.as_slice(),
-            &self.facts,
-        ) else {
+        let Some(reply) = run_on(alloc, &mut self.store, &request, &self.facts) else {
             return None;
         };
-        clear_oldest(&mut self.attentions, &command);
+        clear_oldest(&mut self.attentions, &request.command());
         self.commits.push(&Commit {
             ticket,
-            command,
-            bytes,
+            request,
             status: reply.status,
         });
         Some(reply)

@@ -1,16 +1,18 @@
 //! The device.
 
-ghost use Rattle.std.specs.Prelude.{◌≡◌, ◌<◌, ◌≤◌, length, IfOk, true, is_some};
-ghost use Rattle.std.specs.List.{list_any};
-ghost use Rattle.world.specs.Config.{AreOpening, AreFresh, Opens, is_config};
-ghost use Rattle.world.specs.World.{TurnsAt, AreFitting};
+ghost use Rattle.std.specs.Prelude.{◌≡◌, ◌<◌, ◌≤◌, length, map, IfOk, true, is_some};
+ghost use Rattle.requests.specs.Inventory.{address_of};
+ghost use Rattle.std.specs.List.{list_all, list_any};
+ghost use Rattle.world.specs.Config.{AreOpening, AreFresh, Opens, is_config, is_queue};
+ghost use Rattle.world.specs.World.{TurnsAt, AreKept};
 
-use crate::config::{Config, StartFault, UnitSpec, form};
+use crate::config::{Config, StartFault, form};
 use crate::queue::Queue;
 use crate::serving::take_turn;
 use crate::unit::Unit;
 use block_store::NoMemory;
 use guest_mem::GuestMem;
+use requests::{Inventory, UnitSpec};
 use ring_core::{Form, Layout, QueueLog};
 use std::alloc::Global;
 use std::marker::Model;
@@ -23,16 +25,21 @@ const FIRST_REQUEST_QUEUE: usize = 2;
 fn turn_of(
     alloc: Global,
     memory: &mut GuestMem,
+    inventory: &Inventory,
     queues: &mut [Queue],
     units: &mut [Unit],
     number: usize,
 ) -> Result<bool, NoMemory>
     requires inside { number < length queues.old }
-    requires fits { AreFitting queues.old memory.old }
-    ensures turn { TurnsAt (record { memory = memory.old; queues = queues.old; units = units.old }) number result (record { memory = memory.new; queues = queues.new; units = units.new }) }
-    ensures fits { AreFitting queues.new memory.new }
+    requires kept { AreKept queues.old (length memory.old) }
+    requires there { length inventory.now ≡ length units.old }
+    ensures turn { TurnsAt (record { memory = memory.old; inventory = inventory.now; queues = queues.old; units = units.old }) number result (record { memory = memory.new; inventory = inventory.now; queues = queues.new; units = units.new }) }
+    ensures kept { AreKept queues.new (length memory.new) }
+    ensures units { length units.new ≡ length units.old }
 {
-    take_turn(alloc, &mut queues[number], memory, units)
+    let turned = take_turn(alloc, &mut queues[number], memory, inventory, units);
+    let _log = queues[number].log();
+    turned
 }
 
 /// Whether a fault of the guest broke a queue.
@@ -47,18 +54,20 @@ fn is_any_broken(queues: &[Queue]) -> bool
 pub struct World {
     alloc: Global,
     memory: GuestMem,
+    inventory: Inventory,
     queues: Vec<Queue>,
     units: Vec<Unit>,
 }
 
 impl Model for World {
-    ghost use Rattle.world.specs.World.{PlainWorld, AreFitting};
+    ghost use Rattle.std.specs.Prelude.{◌≡◌, length};
+    ghost use Rattle.world.specs.World.{PlainWorld, AreKept};
 
     ghost Value = { PlainWorld };
 
-    ghost view = { λ w. record { memory = w.memory; queues = w.queues.items; units = w.units.items } };
+    ghost view = { λ w. record { memory = w.memory; inventory = w.inventory; queues = w.queues.items; units = w.units.items } };
 
-    ghost invariant = { λ w. AreFitting w.queues.items w.memory };
+    ghost invariant = { λ w. AreKept w.queues.items (length w.memory) × (length w.inventory ≡ length w.units.items) };
 }
 
 /// The queues of these layouts, of which nothing was fetched yet.
@@ -68,7 +77,8 @@ fn open_queues(
     layouts: &[Layout],
     memory: &GuestMem,
 ) -> Result<Vec<Queue>, NoMemory>
-    requires { length layouts.now ≤ 18 }
+    requires few { length layouts.now ≤ 18 }
+    requires placed { list_all (is_queue form (length memory.now)) layouts.now ≡ true }
     ensures { IfOk result (λ queues. AreOpening form (length memory.now) layouts.now queues.items) }
 {
     let mut queues = Vec::new(alloc);
@@ -82,13 +92,17 @@ fn open_queues(
 }
 
 /// The units that are wanted, that ran nothing yet.
-fn open_units(alloc: Global, wanted: &[UnitSpec]) -> Result<Vec<Unit>, NoMemory>
-    requires { length wanted.now ≤ 64 }
+fn open_units(
+    alloc: Global,
+    wanted: &[UnitSpec],
+    inventory: &Inventory,
+) -> Result<Vec<Unit>, NoMemory>
+    requires { inventory.now ≡ map address_of wanted.now }
     ensures { IfOk result (λ units. AreFresh wanted.now units.items) }
 {
     let mut units = Vec::new(alloc);
     for number in 0..wanted.len() {
-        let unit = Unit::new(alloc, &wanted[number], wanted)?;
+        let unit = Unit::new(alloc, &wanted[number], inventory)?;
         if units.push(unit).is_err() {
             return Err(NoMemory);
         }
@@ -108,29 +122,34 @@ fn open_world(alloc: Global, config: &Config) -> Result<World, NoMemory>
         return Err(NoMemory);
     };
     let queues = open_queues(alloc, form, config.queues.as_slice(), &memory)?;
-    let units = open_units(alloc, config.units.as_slice())?;
+    let inventory = Inventory::new(config.units.as_slice());
+    let units = open_units(alloc, config.units.as_slice(), &inventory)?;
     Ok(World {
         alloc,
         memory,
+        inventory,
         queues,
         units,
     })
 }
 
 impl World {
-    ghost use Rattle.std.specs.Prelude.{true, ◌↔◌, IsTrue, slice_get};
+    ghost use Rattle.std.specs.Prelude.{true, ◌↔◌, IsTrue, IfSome, slice_get};
     ghost use Rattle.std.specs.Bool.{OnTrue, OnFalse};
     ghost use Rattle.std.specs.Option.{option_copied, option_map};
     ghost use Rattle.guest_mem.specs.Memory.{with_bytes, LiesIn};
-    ghost use Rattle.world.specs.Config.{is_config, Opens, RefusedAs};
+    ghost use Rattle.world.specs.Config.{is_config, Opens, StartRefusedAs};
     ghost use Rattle.std.specs.Prelude.{◌≡◌, ◌<◌, length, MatchResult};
-    ghost use Rattle.world.specs.World.{TurnsAt, NextTurns, Settles, EndsForMemory};
-    ghost use Rattle.world.specs.Views.{unit_at, status_of, Gives};
+    ghost use Rattle.ring_core.specs.State.{IsLawful};
+    ghost use Rattle.world.specs.World.{AreKept, TurnsAt, NextTurns, Settles, EndsForMemory};
+    ghost use Rattle.world.specs.Unit.{capacity_of};
+    ghost use Rattle.world.specs.Views.{unit_at, device_status, GivesBlocks};
 
     /// The device of a configuration. Whoever sets it up calls it once. `BadConfig` exactly where
     /// the configuration isn't valid; else `NoMemory` where a growth was refused.
     pub fn new(alloc: Global, config: &Config) -> Result<World, StartFault>
-        ensures { MatchResult result (λ w. (is_config config.now ≡ true) × Opens config.now w) (λ fault. RefusedAs config.now fault) }
+        ensures { MatchResult result (λ w. (is_config config.now ≡ true) × Opens config.now w)
+            (λ fault. StartRefusedAs config.now fault) }
     {
         if !config.is_valid() {
             return Err(StartFault::BadConfig);
@@ -141,11 +160,19 @@ impl World {
         }
     }
 
+    /// What holds between calls: each queue's log is lawful, and every chain that it accepted was used.
+    pub fn rests(&self)
+        ensures { AreKept self.now.queues (length self.now.memory) }
+    {
+        let _ = &self.alloc;
+    }
+
     /// The guest's write: puts bytes at an address. False, with nothing changed, where one of them
     /// would lie outside memory.
     pub fn poke(&mut self, addr: u64, bytes: &[u8]) -> bool
         ensures inside { IsTrue result ↔ LiesIn (length self.old.memory) addr (length bytes.now) }
-        ensures written { OnTrue result (self.new ≡ record self.old { memory = with_bytes self.old.memory addr bytes.now }) }
+        ensures written { OnTrue result (self.new
+            ≡ record self.old { memory = with_bytes self.old.memory addr bytes.now }) }
         ensures unchanged { OnFalse result (self.new ≡ self.old) }
     {
         self.memory.write(addr, bytes).is_ok()
@@ -172,11 +199,15 @@ impl World {
         self.queues.get(number as usize)
     }
 
-    /// The log of a queue: which chains it accepted, and which were used.
+    /// The log of a queue: how many chains it accepted, and how many were used, which are all of them.
+    /// `None` where there is no such queue.
     pub fn log(&self, number: u16) -> Option<&QueueLog>
-        ensures { option_copied result ≡ option_map (λ q. q.ring.log) (slice_get self.now.queues number) }
+        ensures log { option_copied result ≡ option_map (λ q. q.ring.log) (slice_get self.now.queues number) }
+        ensures lawful { IfSome result (λ log. IsLawful number log.now) }
+        ensures all_used { IfSome result (λ log. length log.now.used ≡ length log.now.accepted) }
     {
-        match self.queues.get(number as usize) {
+        self.rests();
+        match self.queue(number) {
             Some(queue) => Some(queue.log()),
             None => None,
         }
@@ -195,7 +226,7 @@ impl World {
     /// The device's status: 64, DEVICE_NEEDS_RESET (VIRTIO 1.2, 2.1), where a queue is broken,
     /// else 0.
     pub fn status(&self) -> u8
-        ensures { result ≡ status_of self.now }
+        ensures { result ≡ device_status self.now }
     {
         if is_any_broken(self.queues.as_slice()) {
             64
@@ -215,7 +246,7 @@ impl World {
 
     /// The capacity in blocks of the unit of an address; `None` where there is none.
     pub fn capacity(&self, target: u8, lun: u16) -> Option<u64>
-        ensures { result ≡ option_map (λ u. u.capacity) (unit_at self.now target lun) }
+        ensures { result ≡ option_map (λ u. capacity_of u.opening u.commits) (unit_at self.now target lun) }
     {
         match self.unit(target, lun) {
             Some(unit) => Some(unit.capacity()),
@@ -233,7 +264,7 @@ impl World {
         count: u32,
         into: &mut Vec<u8>,
     ) -> Result<bool, NoMemory>
-        ensures { Gives (unit_at self.now target lun) first count into.old.items result into.new.items }
+        ensures { GivesBlocks (unit_at self.now target lun) first count into.old.items result into.new.items }
     {
         match self.unit(target, lun) {
             Some(unit) => {
@@ -256,6 +287,7 @@ impl World {
         turn_of(
             self.alloc,
             &mut self.memory,
+            &self.inventory,
             self.queues.as_mut_slice(),
             self.units.as_mut_slice(),
             number,
@@ -282,16 +314,25 @@ impl World {
     /// 2^64 - 1 chains: there is something to fetch then, what was served before stands, and nothing
     /// else changed.
     pub fn settle(&mut self) -> Result<u64, NoMemory>
-        ensures { MatchResult result (λ count. Settles self.old count self.new) (λ _. EndsForMemory self.old self.new) }
+        ensures run { MatchResult result (λ count. Settles self.old count self.new)
+            (λ _. EndsForMemory self.old self.new) }
+        ensures kept { AreKept self.new.queues (length self.new.memory) }
     {
         // Each step lengthens a log or breaks a queue, and no log counts more tickets.
         for count in 0..u64::MAX {
             match self.next_turn() {
                 Ok(true) => {}
-                Ok(false) => return Ok(count),
-                Err(NoMemory) => return Err(NoMemory),
+                Ok(false) => {
+                    self.rests();
+                    return Ok(count);
+                }
+                Err(NoMemory) => {
+                    self.rests();
+                    return Err(NoMemory);
+                }
             }
         }
+        self.rests();
         Err(NoMemory)
     }
 }

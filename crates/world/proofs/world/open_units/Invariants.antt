@@ -1,6 +1,6 @@
 use Rattle.std.proofs.Common.{◌≡◌, ◌<◌, ℕ, length, Some}
 use Rattle.std.specs.Prelude.{slice_get}
-use Rattle.world.specs.declared.config.UnitSpec.{UnitSpec}
+use Rattle.requests.specs.declared.inventory.UnitSpec.{UnitSpec}
 use Rattle.world.specs.Config.{opening_unit}
 use Rattle.world.proofs.world.open_units.Given as goal
 
@@ -8,5 +8,5 @@ abbrev pub invariant-loop-number : goal.invariant-loop-number
 invariant-loop-number l =
     record {
       count : length l.units.items ≡ l.number;
-      each : (k : ℕ) (u : UnitSpec) → k < l.number → slice_get l.wanted k ≡ Some u → slice_get l.units.items k ≡ Some (opening_unit l.wanted u);
+      each : (k : ℕ) (u : UnitSpec) → k < l.number → slice_get l.wanted k ≡ Some u → slice_get l.units.items k ≡ Some (opening_unit l.inventory u);
     }

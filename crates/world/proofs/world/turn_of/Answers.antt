@@ -1,24 +1,41 @@
-use Rattle.std.proofs.Common.{◌≡◌, get_or, ap}
+use Rattle.std.proofs.Common.{◌≡◌, get_or, set, length, refl, ap, ◌∙◌, subst}
+use Rattle.std.proofs.lemmas.List.{get_or-set_same}
+use Rattle.std.proofs.lemmas.Option.{slice_get_read}
+use Rattle.ring_core.specs.State.{IsLawful}
 use Rattle.world.specs.Queue.{PlainQueue}
-use Rattle.world.proofs.Stepping.{turned, still_fitting}
+use Rattle.world.proofs.Stepping.{turned, turn_keeps}
 use Rattle.world.proofs.world.turn_of.Goals as goal
 
+pub take_turn-turned-requires-clause-fits : goal.take_turn-turned-requires-clause-fits
+take_turn-turned-requires-clause-fits c =
+    let q : PlainQueue = get_or c.args.queues.now c.args.number c.index-queues-number.result in
+    let is : q ≡ get_or c.args.queues.now c.args.number q = ap (λ (x : PlainQueue). get_or c.args.queues.now c.args.number x) c.index-queues-number.is in
+    (c.requires.kept.each c.args.number q (slice_get_read c.args.queues.now (length c.args.queues.now) c.args.number q refl c.requires.inside is)).fits
+
 -- the queue that takes its turn
-taken : goal.After-units-1 → PlainQueue
+taken : goal.After-log-log → PlainQueue
 taken c = get_or c.args.queues.now c.args.number c.index-queues-number.result
 
-is_taken : (c : goal.After-units-1) → taken c ≡ get_or c.args.queues.now c.args.number (taken c)
+is_taken : (c : goal.After-log-log) → taken c ≡ get_or c.args.queues.now c.args.number (taken c)
 unfolding taken
 is_taken c = ap (λ (x : PlainQueue). get_or c.args.queues.now c.args.number x) c.index-queues-number.is
 
 pub returns-clause-turn : goal.returns-clause-turn
 unfolding taken
 returns-clause-turn c =
-    turned (record { memory = c.args.memory.now; queues = c.args.queues.now; units = c.args.units.now }) c.args.number (taken c) c.take_turn.new.queue
-    c.take_turn.new.memory c.take_turn.new.units c.take_turn.result c.requires.inside (is_taken c) c.take_turn.ensures.turn
+    turned (record { memory = c.args.memory.now; inventory = c.args.inventory.now; queues = c.args.queues.now; units = c.args.units.now }) c.args.number (taken c) c.take_turn-turned.new.queue
+    c.take_turn-turned.new.memory c.take_turn-turned.new.units c.take_turn-turned.result c.requires.inside (is_taken c) c.take_turn-turned.ensures.turn
 
-pub returns-clause-fits : goal.returns-clause-fits
+-- its log is that of the queue that stands there now
+its_log : (c : goal.After-log-log) → IsLawful c.take_turn-turned.new.queue.ring.queue c.take_turn-turned.new.queue.ring.log
+its_log c =
+    subst (λ (q : PlainQueue). IsLawful q.ring.queue q.ring.log)
+    (get_or-set_same c.args.queues.now c.args.number c.take_turn-turned.new.queue c.index-queues-number-2.result c.requires.inside)
+    c.log-log.ensures.lawful
+
+pub returns-clause-kept : goal.returns-clause-kept
 unfolding taken
-returns-clause-fits c =
-    still_fitting c.args.queues.now c.args.memory.now c.take_turn.new.memory c.args.number (taken c) c.take_turn.new.queue
-    c.requires.fits c.take_turn.ensures.size c.requires.inside (is_taken c) c.take_turn.ensures.ring
+returns-clause-kept c =
+    turn_keeps c.args.inventory.now c.args.queues.now c.args.memory.now c.take_turn-turned.new.memory c.args.units.now c.take_turn-turned.new.units c.args.number (taken c)
+    c.take_turn-turned.new.queue c.take_turn-turned.result c.requires.kept c.take_turn-turned.ensures.turn c.take_turn-turned.ensures.size c.requires.inside (is_taken c)
+    c.take_turn-turned.ensures.ring c.take_turn-turned.ensures.number (its_log c)

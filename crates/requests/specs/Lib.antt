@@ -1,0 +1,4 @@
+pub mod Inventory
+pub mod Answers
+pub mod UnitRequest
+pub mod Decision

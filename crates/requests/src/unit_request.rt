@@ -1,0 +1,83 @@
+//! A request that goes to a unit.
+
+ghost use Rattle.std.specs.Prelude.{◌≡◌, ◌+◌, ◌≤◌, drop, length};
+ghost use Rattle.cdb.specs.Need.{need_of};
+ghost use Rattle.block_commands.specs.Replies.{data_of};
+
+use crate::attribute::TaskAttribute;
+use cdb::{Command, need};
+use scsi_codec::REQUEST_BYTES;
+use std::marker::Model;
+
+/// A request that goes to a unit, decoded once, when it was fetched. Nobody can change it.
+#[derive(Debug, Drop)]
+pub struct UnitRequest {
+    id: u64,
+    attribute: TaskAttribute,
+    command: Command,
+    // The first bytes of the chain: the command's data stand from byte 51 on.
+    bytes: Vec<u8>,
+}
+
+impl Model for UnitRequest {
+    ghost use Rattle.std.specs.Prelude.{◌+◌, ◌≤◌, drop, length};
+    ghost use Rattle.cdb.specs.Need.{need_of};
+    ghost use Rattle.block_commands.specs.Replies.{data_of};
+    ghost use Rattle.requests.specs.UnitRequest.{PlainRequest};
+
+    ghost Value = { PlainRequest };
+
+    ghost view = { λ r. record { id = r.id; attribute = r.attribute; command = r.command; data_out = data_of r.command (drop 51 r.bytes.items) } };
+
+    ghost invariant = { λ r. 51 + (need_of r.command).out ≤ length r.bytes.items };
+}
+
+impl UnitRequest {
+    /// The request in the first bytes of a chain, decoded.
+    pub(crate) fn new(
+        id: u64,
+        attribute: TaskAttribute,
+        command: Command,
+        bytes: Vec<u8>,
+    ) -> UnitRequest
+        requires { REQUEST_BYTES + (need_of command).out ≤ length bytes.items }
+        ensures { result ≡ record { id = id; attribute = attribute; command = command; data_out = data_of command (drop 51 bytes.items) } }
+    {
+        UnitRequest {
+            id,
+            attribute,
+            command,
+            bytes,
+        }
+    }
+
+    /// The driver's identifier of the command.
+    pub fn id(&self) -> u64
+        ensures { result ≡ self.now.id }
+    {
+        self.id
+    }
+
+    /// When it may run beside other commands.
+    pub fn attribute(&self) -> TaskAttribute
+        ensures { result ≡ self.now.attribute }
+    {
+        self.attribute
+    }
+
+    /// The command.
+    pub fn command(&self) -> Command
+        ensures { result ≡ self.now.command }
+    {
+        self.command
+    }
+
+    /// The data that the command takes from the driver: exactly as many bytes as it needs.
+    pub fn data(&self) -> &[u8]
+        ensures data { result.now ≡ self.now.data_out }
+        ensures len { length result.now ≡ (need_of self.now.command).out }
+    {
+        let (_, data) = self.bytes.as_slice().split_at(REQUEST_BYTES);
+        &data[..need(&self.command).out as usize]
+    }
+}
