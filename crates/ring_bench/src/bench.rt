@@ -63,7 +63,7 @@ impl<R: Ring> Bench<R> {
             Move::Read(bytes) => self.read.as_slice() == bytes,
             Move::Scatter(at, bytes) => self.scatters(at, bytes),
             Move::Complete(len, number) => self.completes(len, number),
-            Move::Used(count) => self.ring.log().used().len() == count,
+            Move::Used(count) => self.ring.log().used() == count as u64,
             Move::Has(addr, bytes) => self.has(addr, bytes),
             Move::Notice(wanted) => self.wants_notice(wanted),
         }
