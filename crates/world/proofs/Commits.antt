@@ -19,7 +19,7 @@ use Rattle.block_commands.specs.declared.facts.UnitFacts.{UnitFacts}
 use Rattle.block_commands.specs.PlainReply.{PlainReply, replied, plain_of}
 use Rattle.block_commands.specs.Replies.{reply_of, answer_of, Answer, within, compared, reported, data_of}
 use Rattle.block_commands.specs.Comparing.{first_unequal, to_compare}
-use Rattle.requests.specs.UnitRequest.{PlainRequest}
+use Rattle.decisions.specs.UnitRequest.{PlainRequest}
 use Rattle.world.specs.Unit.{PlainCommit, Opening, blocks_of, pending_of, oldest, facts_now, reply_now, committing}
 use Rattle.world.specs.UnitFields.{plain_commit, commits_of, opening_of, unit_of, IsTold}
 use Rattle.world.specs.declared.unit.Commit.{Commit}

@@ -7,7 +7,7 @@ use Rattle.ring_core.specs.declared.layout.Form.{Form}
 use Rattle.ring_core.specs.declared.layout.Form.TheVariants.{Split, Packed}
 use Rattle.ring_core.specs.declared.layout.Layout.{Layout}
 use Rattle.scsi_codec.specs.declared.lun.Address.{Address}
-use Rattle.requests.specs.declared.inventory.UnitSpec.{UnitSpec}
+use Rattle.decisions.specs.declared.inventory.UnitSpec.{UnitSpec}
 use Rattle.world.specs.Unit.{PlainUnit}
 use Rattle.world.specs.Queue.{PlainQueue}
 use Rattle.world.specs.World.{AreKept, IsKept}

@@ -3,12 +3,12 @@ use Rattle.std.specs.Prelude.{ℕ, ◌≡◌, ◌⊎◌, IsTrue, List, ◌++◌,
 use Rattle.ring_core.specs.declared.log.Ticket.{Ticket}
 use Rattle.scsi_codec.specs.declared.lun.Address.{Address}
 use Rattle.block_commands.specs.Memory.{may_want}
-use Rattle.requests.specs.Answers.{answer_of_reply, busy_reply}
-use Rattle.requests.specs.Decision.{decided}
-use Rattle.requests.specs.UnitRequest.{PlainRequest}
-use Rattle.requests.specs.declared.answer.ChainLengths.{ChainLengths}
-use Rattle.requests.specs.declared.decision.Decision.{Decision}
-use Rattle.requests.specs.declared.decision.Decision.TheVariants as decision
+use Rattle.decisions.specs.Answers.{answer_of_reply, busy_reply}
+use Rattle.decisions.specs.Decision.{decided}
+use Rattle.decisions.specs.UnitRequest.{PlainRequest}
+use Rattle.decisions.specs.declared.answer.ChainLengths.{ChainLengths}
+use Rattle.decisions.specs.declared.decision.Decision.{Decision}
+use Rattle.decisions.specs.declared.decision.Decision.TheVariants as decision
 use Rattle.world.specs.Unit.{PlainUnit, facts_now, reply_now, committing}
 use Rattle.world.specs.declared.answer.Answer.{Answer}
 use Rattle.world.specs.declared.answer.Answer.TheVariants.{Direct, Bytes}

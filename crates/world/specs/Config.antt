@@ -12,8 +12,8 @@ use Rattle.world.specs.Queue.{PlainQueue}
 use Rattle.world.specs.Unit.{PlainUnit}
 use Rattle.world.specs.World.{PlainWorld}
 use Rattle.scsi_codec.specs.declared.lun.Address.{Address}
-use Rattle.requests.specs.Inventory.{address_of, is_rising, luns_of}
-use Rattle.requests.specs.declared.inventory.UnitSpec.{UnitSpec}
+use Rattle.decisions.specs.Inventory.{address_of, is_rising, luns_of}
+use Rattle.decisions.specs.declared.inventory.UnitSpec.{UnitSpec}
 use Rattle.world.specs.declared.config.Config.{Config}
 use Rattle.world.specs.declared.config.StartFault.{StartFault}
 use Rattle.world.specs.declared.config.StartFault.TheVariants.{BadConfig, NoMemory}

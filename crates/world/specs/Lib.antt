@@ -16,7 +16,7 @@ pub use Rattle.ring_core.specs.Fetch
 pub use Rattle.block_store.specs.Blocks
 pub use Rattle.block_commands.specs.Replies
 pub use Rattle.block_commands.specs.Effects
-pub use Rattle.requests.specs.Answers
-pub use Rattle.requests.specs.Decision
-pub use Rattle.requests.specs.Inventory
-pub use Rattle.requests.specs.UnitRequest
+pub use Rattle.decisions.specs.Answers
+pub use Rattle.decisions.specs.Decision
+pub use Rattle.decisions.specs.Inventory
+pub use Rattle.decisions.specs.UnitRequest

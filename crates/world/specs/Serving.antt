@@ -9,7 +9,7 @@ use Rattle.world.specs.Queue.{PlainQueue, IsIdle, Breaks, completing}
 use Rattle.world.specs.Unit.{PlainUnit}
 use Rattle.world.specs.Answering.{IsAnswered}
 use Rattle.scsi_codec.specs.declared.lun.Address.{Address}
-use Rattle.requests.specs.declared.answer.ChainLengths.{ChainLengths}
+use Rattle.decisions.specs.declared.answer.ChainLengths.{ChainLengths}
 
 abbrev pub lengths_of : PlainChain → ChainLengths
 lengths_of c = record { readable = readable_total c.parts; writable = writable_total c.parts }

@@ -2,11 +2,11 @@
 
 ghost use Rattle.std.specs.Prelude.{◌≡◌, ◌+◌, ◌≤◌, ◌^◌, length};
 ghost use Rattle.block_commands.specs.PlainReply.{plain_of};
-ghost use Rattle.requests.specs.Answers.{answer_of_reply, busy_reply};
+ghost use Rattle.decisions.specs.Answers.{answer_of_reply, busy_reply};
 ghost use Rattle.world.specs.Answering.{bytes_of};
 
 use block_commands::{BUSY, Reply};
-use requests::{ChainLengths, DirectAnswer, response_ok};
+use decisions::{ChainLengths, DirectAnswer, response_ok};
 use scsi_codec::RESPONSE_BYTES;
 use std::alloc::Global;
 

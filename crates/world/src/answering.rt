@@ -6,7 +6,7 @@ ghost use Rattle.world.specs.Answering.{bytes_of, IsAnswered, RunsOn};
 
 use crate::answer::{Answer, busy, of_reply};
 use crate::unit::Unit;
-use requests::{ChainLengths, Decision, Inventory, UnitRequest, decide};
+use decisions::{ChainLengths, Decision, Inventory, UnitRequest, decide};
 use ring_core::Ticket;
 use scsi_codec::{REQUEST_BYTES, RESPONSE_BYTES};
 use std::alloc::Global;

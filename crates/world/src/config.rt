@@ -4,7 +4,7 @@ ghost use Rattle.std.specs.Prelude.{◌≡◌, ◌*◌, Option, is_none};
 ghost use Rattle.std.specs.List.{list_all};
 ghost use Rattle.world.specs.Config.{form_of, placement_of, is_queue, is_unit, has_lun_0, are_units, are_queues, is_config};
 
-use requests::{UnitSpec, are_rising};
+use decisions::{UnitSpec, are_rising};
 use ring_core::{Form, Layout};
 use std::error::Error;
 use std::fmt;

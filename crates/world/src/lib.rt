@@ -14,7 +14,7 @@ mod world;
 pub use answer::Answer;
 pub use any_ring::AnyRing;
 pub use config::{Config, RING_PACKED, StartFault, VERSION_1};
+pub use decisions::UnitSpec;
 pub use queue::{Fetch, Queue};
-pub use requests::UnitSpec;
 pub use unit::{Commit, Unit};
 pub use world::World;

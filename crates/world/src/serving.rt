@@ -11,8 +11,8 @@ use crate::answering::answer_request;
 use crate::queue::{Fetch, Queue};
 use crate::unit::Unit;
 use block_store::NoMemory;
+use decisions::{ChainLengths, Inventory};
 use guest_mem::GuestMem;
-use requests::{ChainLengths, Inventory};
 use ring_core::{Chain, Fetched, scatter};
 use std::alloc::Global;
 

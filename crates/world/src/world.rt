@@ -1,7 +1,7 @@
 //! The device.
 
 ghost use Rattle.std.specs.Prelude.{◌≡◌, ◌<◌, ◌≤◌, length, map, IfOk, true, is_some};
-ghost use Rattle.requests.specs.Inventory.{address_of};
+ghost use Rattle.decisions.specs.Inventory.{address_of};
 ghost use Rattle.std.specs.List.{list_all, list_any};
 ghost use Rattle.world.specs.Config.{AreOpening, AreFresh, Opens, is_config, is_queue};
 ghost use Rattle.world.specs.World.{TurnsAt, AreKept};
@@ -11,8 +11,8 @@ use crate::queue::Queue;
 use crate::serving::take_turn;
 use crate::unit::Unit;
 use block_store::NoMemory;
+use decisions::{Inventory, UnitSpec};
 use guest_mem::GuestMem;
-use requests::{Inventory, UnitSpec};
 use ring_core::{Form, Layout, QueueLog};
 use std::alloc::Global;
 use std::marker::Model;

@@ -2,7 +2,7 @@ use Rattle.std.proofs.Common.{◌≡◌, List, ◌∷◌, ◌++◌, [], length, 
 use Rattle.std.specs.Prelude.{slice_get}
 use Rattle.std.proofs.lemmas.Option.{slice_get_within, get_or_from_slice_get}
 use Rattle.scsi_codec.specs.declared.lun.Address.{Address}
-use Rattle.requests.specs.declared.inventory.UnitSpec.{UnitSpec}
+use Rattle.decisions.specs.declared.inventory.UnitSpec.{UnitSpec}
 use Rattle.world.specs.Config.{opening_unit}
 use Rattle.world.proofs.Opening.{one_opened}
 use Rattle.world.proofs.world.open_units.Goals as goal

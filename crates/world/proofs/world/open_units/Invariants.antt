@@ -1,6 +1,6 @@
 use Rattle.std.proofs.Common.{◌≡◌, ◌<◌, ℕ, length, Some}
 use Rattle.std.specs.Prelude.{slice_get}
-use Rattle.requests.specs.declared.inventory.UnitSpec.{UnitSpec}
+use Rattle.decisions.specs.declared.inventory.UnitSpec.{UnitSpec}
 use Rattle.world.specs.Config.{opening_unit}
 use Rattle.world.proofs.world.open_units.Given as goal
 

@@ -1,6 +1,6 @@
 use Rattle.std.proofs.Common.{◌≡◌, map, length, sym, ap, ◌∙◌}
 use Rattle.std.proofs.lemmas.List.{length-map}
-use Rattle.requests.specs.Inventory.{address_of}
+use Rattle.decisions.specs.Inventory.{address_of}
 use Rattle.world.proofs.Opening.{opened_kept}
 use Rattle.world.proofs.world.open_world.Goals as goal
 

@@ -2,7 +2,7 @@
 use Rattle.std.specs.Prelude.{ℕ, ◌==◌, ◌&&◌, ◌||◌, nat_lt, Bool, true, List, [], ◌∷◌, map, filter, Option, position}
 use Rattle.std.specs.List.{list_any}
 use Rattle.scsi_codec.specs.declared.lun.Address.{Address}
-use Rattle.requests.specs.declared.inventory.UnitSpec.{UnitSpec}
+use Rattle.decisions.specs.declared.inventory.UnitSpec.{UnitSpec}
 
 abbrev pub address_of : UnitSpec → Address
 address_of u = record { target = u.target; lun = u.lun }

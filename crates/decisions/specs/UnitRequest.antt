@@ -1,7 +1,7 @@
 -- A request that goes to a unit, decoded.
 use Rattle.std.specs.Prelude.{ℕ, List}
 use Rattle.cdb.specs.declared.commands.Command.{Command}
-use Rattle.requests.specs.declared.attribute.TaskAttribute.{TaskAttribute}
+use Rattle.decisions.specs.declared.attribute.TaskAttribute.{TaskAttribute}
 
 -- the driver's identifier of the command, its task attribute, the command, and the data that it takes
 pub record PlainRequest : Type 0 where

@@ -8,7 +8,7 @@ use Rattle.scsi_codec.specs.declared.responses.ResponseCode.{ResponseCode}
 use Rattle.scsi_codec.specs.declared.responses.ResponseCode.TheVariants as code
 use Rattle.block_commands.specs.PlainReply.{PlainReply}
 use Rattle.block_commands.specs.Statuses.{busy}
-use Rattle.requests.specs.declared.answer.ChainLengths.{ChainLengths}
+use Rattle.decisions.specs.declared.answer.ChainLengths.{ChainLengths}
 
 -- a response other than OK: no status, no residual, no sense, no data
 abbrev pub failed : ResponseCode → List ℕ

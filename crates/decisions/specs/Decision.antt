@@ -14,13 +14,13 @@ use Rattle.scsi_codec.specs.declared.responses.ResponseCode.TheVariants as code
 use Rattle.block_commands.specs.Absent.{absent_reply}
 use Rattle.block_commands.specs.PlainReply.{PlainReply, refusal}
 use Rattle.block_commands.specs.Replies.{data_of}
-use Rattle.requests.specs.Answers.{failed, answer_of_reply}
-use Rattle.requests.specs.Inventory.{has_target, place_of}
-use Rattle.requests.specs.declared.answer.ChainLengths.{ChainLengths}
-use Rattle.requests.specs.declared.attribute.TaskAttribute.{TaskAttribute}
-use Rattle.requests.specs.declared.attribute.TaskAttribute.TheVariants.{Simple, Ordered, HeadOfQueue}
-use Rattle.requests.specs.declared.decision.Decision.{Decision}
-use Rattle.requests.specs.declared.decision.Decision.TheVariants.{Direct, Enter}
+use Rattle.decisions.specs.Answers.{failed, answer_of_reply}
+use Rattle.decisions.specs.Inventory.{has_target, place_of}
+use Rattle.decisions.specs.declared.answer.ChainLengths.{ChainLengths}
+use Rattle.decisions.specs.declared.attribute.TaskAttribute.{TaskAttribute}
+use Rattle.decisions.specs.declared.attribute.TaskAttribute.TheVariants.{Simple, Ordered, HeadOfQueue}
+use Rattle.decisions.specs.declared.decision.Decision.{Decision}
+use Rattle.decisions.specs.declared.decision.Decision.TheVariants.{Direct, Enter}
 
 -- task attributes by their numbers (VIRTIO 1.2 §5.6.6.1); ACA, 3, isn't known
 abbrev pub attribute_of : ℕ → Option TaskAttribute

@@ -23,7 +23,7 @@ impl Model for UnitRequest {
     ghost use Rattle.std.specs.Prelude.{◌+◌, ◌≤◌, drop, length};
     ghost use Rattle.cdb.specs.Need.{need_of};
     ghost use Rattle.block_commands.specs.Replies.{data_of};
-    ghost use Rattle.requests.specs.UnitRequest.{PlainRequest};
+    ghost use Rattle.decisions.specs.UnitRequest.{PlainRequest};
 
     ghost Value = { PlainRequest };
 

@@ -1,9 +1,9 @@
 //! Task attributes.
 
 ghost use Rattle.std.specs.Prelude.{◌≡◌};
-ghost use Rattle.requests.specs.Decision.{attribute_of};
+ghost use Rattle.decisions.specs.Decision.{attribute_of};
 
-/// The task attributes that this device knows (SAM-5 §8.9): when a command may run beside others.
+/// The task attributes that this device knows (SAM-5 §8.6): when a command may run beside others.
 #[derive(Clone, Copy, Debug, PartialEq, Eq)]
 pub enum TaskAttribute {
     /// In any order with other SIMPLE tasks.

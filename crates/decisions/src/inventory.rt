@@ -1,7 +1,7 @@
 //! Which logical units there are.
 
 ghost use Rattle.std.specs.Prelude.{◌≡◌, ◌<◌, ◌≤◌, true, map, length, IfSome, IfOk};
-ghost use Rattle.requests.specs.Inventory.{address_of, stands_before, is_rising, has_target, place_of, luns_of};
+ghost use Rattle.decisions.specs.Inventory.{address_of, stands_before, is_rising, has_target, place_of, luns_of};
 
 use arrayvec::ArrayVec;
 use scsi_codec::Address;
@@ -46,7 +46,7 @@ pub struct Inventory {
 impl Model for Inventory {
     ghost use Rattle.std.specs.Prelude.{◌≡◌, List, true};
     ghost use Rattle.scsi_codec.specs.declared.lun.Address.{Address};
-    ghost use Rattle.requests.specs.Inventory.{is_rising};
+    ghost use Rattle.decisions.specs.Inventory.{is_rising};
 
     ghost Value = { List Address };
 

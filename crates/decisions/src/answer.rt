@@ -4,7 +4,7 @@ ghost use Rattle.std.specs.Prelude.{◌≡◌, ◌+◌, ◌≤◌, ◌<◌, ◌^
 ghost use Rattle.cdb.specs.Need.{need_of};
 ghost use Rattle.block_commands.specs.Absent.{absent_reply};
 ghost use Rattle.block_commands.specs.PlainReply.{refusal};
-ghost use Rattle.requests.specs.Answers.{failed, ok_bytes, answer_of_reply};
+ghost use Rattle.decisions.specs.Answers.{failed, ok_bytes, answer_of_reply};
 
 use arrayvec::ArrayVec;
 use block_commands::{ABSENT_BYTES, CHECK_CONDITION, exec_absent};
