@@ -2,7 +2,7 @@
 use Rattle.std.specs.Prelude.{ℕ, ◌≡◌, ◌≢◌, ◌⊎◌, Bool, true, false, List, [], length, map, Option, Some, None}
 use Rattle.ring_core.specs.State.{RingState}
 use Rattle.ring_core.specs.Walk.{part_of, amount}
-use Rattle.ring_core.specs.Split.{SplitChain, SplitFails, in_table, split_wrong, pending, next_head, entry_wrong, split_used, split_wants_notice}
+use Rattle.ring_core.specs.Split.{SplitChain, SplitFails, in_table, split_wrong, ahead, next_head, entry_wrong, split_used, split_wants_notice}
 use Rattle.ring_core.specs.Packed.{PackedChain, PackedFails, slot_at, packed_wrong, is_available, id_of, whole_wrong, packed_used, packed_wants_notice}
 use Rattle.ring_core.specs.declared.descriptor.Part.{Part}
 use Rattle.ring_core.specs.declared.descriptor.Descriptor.{Descriptor}
@@ -18,12 +18,12 @@ pub data Offer : Type 0 where
 
 -- a split queue offers this
 abbrev pub SplitOffers : RingState → List ℕ → Offer → Type 0
-SplitOffers s m Nothing = pending s m ≡ 0
+SplitOffers s m Nothing = ahead s m ≡ 0
 SplitOffers s m (Found id slots parts) =
-    (pending s m ≢ 0) × (entry_wrong s m ≡ None) × (id ≡ next_head s m) × (slots ≡ 1)
+    (ahead s m ≢ 0) × (entry_wrong s m ≡ None) × (id ≡ next_head s m) × (slots ≡ 1)
     × SplitChain m s.layout.desc s.layout.size (next_head s m) parts
 SplitOffers s m (Refused f) =
-    (pending s m ≢ 0)
+    (ahead s m ≢ 0)
     × ((entry_wrong s m ≡ Some f)
     ⊎ ((entry_wrong s m ≡ None) × SplitFails m s.layout.desc s.layout.size (next_head s m) f))
 
@@ -55,7 +55,7 @@ Offers s m o = OffersUnless s.broken s m o
 -- a chain begins: there is an entry with nothing wrong, and nothing is wrong with the first descriptor
 abbrev pub BeginsInForm : Form → RingState → List ℕ → Type 0
 BeginsInForm Split s m =
-    (pending s m ≢ 0) × (entry_wrong s m ≡ None)
+    (ahead s m ≢ 0) × (entry_wrong s m ≡ None)
     × (split_wrong (length m) s.layout.size (amount []) (in_table m s.layout.desc (next_head s m)) ≡ None)
 BeginsInForm Packed s m =
     (is_available s m ≡ true) × (packed_wrong (length m) s.layout.size (amount []) (slot_at s.layout m s.accepted_slots) ≡ None)

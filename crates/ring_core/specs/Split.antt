@@ -56,8 +56,8 @@ SplitFails m table size head f = IsFault by_next (split_wrong (length m) size) (
 -- The available ring (2.7.6): le16 flags, le16 idx, le16 ring[size]
 
 -- how many of its entries weren't accepted yet: idx ahead of the accepted chains, modulo 65,536
-abbrev pub pending : RingState → List ℕ → ℕ
-pending s m = (little_number 2 (bytes_at m (s.layout.driver + 2) 2) + 65536 - length s.log.accepted % 65536) % 65536
+abbrev pub ahead : RingState → List ℕ → ℕ
+ahead s m = (little_number 2 (bytes_at m (s.layout.driver + 2) 2) + 65536 - length s.log.accepted % 65536) % 65536
 
 -- the head that the next entry names
 abbrev pub next_head : RingState → List ℕ → ℕ
@@ -67,7 +67,7 @@ next_head s m = little_number 2 (bytes_at m (s.layout.driver + 4 + 2 * (length s
 abbrev pub entry_wrong : RingState → List ℕ → Option RingFault
 entry_wrong s m =
     first_of (
-    (nat_lt s.layout.size (pending s m), IndexJump)
+    (nat_lt s.layout.size (ahead s m), IndexJump)
     ∷ (nat_le s.layout.size (next_head s m), HeadOutOfRange)
     ∷ (is_some (under s (next_head s m)), AlreadyOutstanding)
     ∷ [])

@@ -2,6 +2,7 @@
 
 ghost use Rattle.std.specs.Prelude.{◌≡◌, ◌<◌, ◌≤◌, ℕ, List, length};
 ghost use Rattle.ring_core.specs.State.{RingState};
+ghost use Rattle.ring_core.specs.Sound.{OpensSound, AcceptsSound, UsesSound, BreaksSound};
 ghost use Rattle.ring_core.specs.Offer.{Offer, Offers, Found};
 ghost use Rattle.ring_core.specs.RightChain.{IsRightChain};
 ghost use Rattle.ring_core.specs.declared.descriptor.Part.{Part};
@@ -30,6 +31,17 @@ pub fn some_offer()
 /// descriptors, all of them in memory, and no readable one behind a writable one (VIRTIO 1.2,
 /// 2.6.4.2, 2.7.5 and 2.8). In a split queue its head is one of the descriptor table.
 pub fn chains_are_right()
-    ensures parts { (s : RingState) (m : List ℕ) (id slots : ℕ) (parts : List Part) → Offers s m (Found id slots parts) → 1 ≤ s.layout.size → IsRightChain (length m) s.layout.size parts }
+    ensures parts { (s : RingState) (m : List ℕ) (id slots : ℕ) (parts : List Part)
+        → Offers s m (Found id slots parts) → 1 ≤ s.layout.size
+        → IsRightChain (length m) s.layout.size parts }
     ensures head { (s : RingState) (m : List ℕ) (id slots : ℕ) (parts : List Part) → Offers s m (Found id slots parts) → s.form ≡ Split → id < s.layout.size }
+{}
+
+/// A queue is sound when it is made, and whatever it does keeps it so: accepting a chain under a
+/// head or id that is free, using a chain that it owns, and breaking for a fault of the guest.
+pub fn queues_stay_sound()
+    ensures opening { OpensSound }
+    ensures accepting { AcceptsSound }
+    ensures using { UsesSound }
+    ensures breaking { BreaksSound }
 {}

@@ -1,7 +1,8 @@
 //! What every virtqueue promises, in whatever form it lies in memory.
 
 ghost use Rattle.std.specs.Prelude.{◌≡◌, ◌↔◌, ◌<◌, length, IsTrue};
-ghost use Rattle.ring_core.specs.State.{RingState, Owns, IsLawful, using};
+ghost use Rattle.ring_core.specs.State.{RingState, Owns, using};
+ghost use Rattle.ring_core.specs.Sound.{IsSound};
 ghost use Rattle.ring_core.specs.Offer.{with_used, wants_notice};
 ghost use Rattle.ring_core.specs.Fetch.{Fetches};
 
@@ -53,10 +54,11 @@ pub trait Ring {
         requires { length memory.now ≡ (state self.now).memory }
         ensures { result ≡ wants_notice (state self.now) memory.now };
 
-    /// Which chains were accepted, and which were used.
+    /// Which chains were accepted, and which were used. What the queue counts and what it holds
+    /// outstanding agree with it.
     fn log(&self) -> &QueueLog
         ensures log { result.now ≡ (state self.now).log }
-        ensures lawful { IsLawful (state self.now).queue (state self.now).log };
+        ensures sound { IsSound (state self.now) };
 
     /// Whether the memory has the size that the queue was made with.
     fn fits(&self, memory: &GuestMem) -> bool
