@@ -15,7 +15,9 @@ pub use cases::{
     a_loop_is_too_long, as_many_as_the_size_are_no_jump, descriptors_are_read_as_written,
     one_descriptor_is_a_chain, the_index_counts_round, three_linked_descriptors_are_a_chain,
 };
-pub use scattering::{scatter_in_two, scattering_keeps_the_size, scattering_nothing};
+pub use scattering::{
+    scatter_in_two, scattering_keeps_the_size, scattering_nothing, writes_in_order,
+};
 
 /// With one memory a queue offers no two things: nothing, a chain or a fault.
 pub fn one_offer()
