@@ -11,7 +11,7 @@ use Rattle.ring_core.specs.declared.before.Before.{Before}
 use Rattle.ring_core.specs.declared.fault.RingFault.{RingFault}
 use Rattle.ring_core.specs.declared.fault.RingFault.TheVariants.{NoMemory}
 use Rattle.ring_core.proofs.Along.{Along, along_start, along_more, along_end, along_first, along_wrong}
-use Rattle.packed_ring.specs.Running.{IsWrong}
+use Rattle.packed_ring.specs.Inner.{PackedFailsOrLacks}
 
 right_total : (memory size : ℕ) (b : Before) (d : Descriptor) → packed_wrong memory size b d ≡ None → b.total + d.len ≤ 2 ^ 32
 right_total memory size b d e = grind (arith, common_steps, nat_tests)
@@ -64,11 +64,11 @@ module _ (m : List ℕ) (l : Layout) (t : ℕ) where
         let e = along_end by_next (packed_wrong (length m) l.size) (slots_from l m t) n b parts d w.along is right off in
         (front at (suc n), e.0, e.1, rw (id_of_last, is) refl, omega (arith, length-front at (suc n)))
 
-    pub walked_first : packed_wrong (length m) l.size b d ≡ None → IsWrong m l t NoMemory
+    pub walked_first : packed_wrong (length m) l.size b d ≡ None → PackedFailsOrLacks m l t NoMemory
     walked_first right =
         let e : t + 0 ≡ t = omega arith in
         rw e at (along_first by_next (packed_wrong (length m) l.size) (slots_from l m t) n b parts d w.along is right)
 
-    pub walked_wrong : (f : RingFault) → packed_wrong (length m) l.size b d ≡ Some f → IsWrong m l t f
+    pub walked_wrong : (f : RingFault) → packed_wrong (length m) l.size b d ≡ Some f → PackedFailsOrLacks m l t f
     walked_wrong NoMemory bad = absurd (never_memory (length m) l.size b d bad)
     walked_wrong f bad = along_wrong by_next (packed_wrong (length m) l.size) (slots_from l m t) n b parts d w.along is f bad

@@ -7,4 +7,4 @@ pub use Rattle.ring_core.specs.Offer
 pub use Rattle.ring_core.specs.Fetch
 pub mod Placement
 pub mod IsPacked
-pub mod Running
+pub mod Inner

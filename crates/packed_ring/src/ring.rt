@@ -39,10 +39,8 @@ impl Model for PackedRing {
 }
 
 impl PackedRing {
-    ghost use Rattle.std.specs.Prelude.{◌≡◌, length, MatchResult, None, Some};
-    ghost use Rattle.ring_core.specs.State.{opening};
-    ghost use Rattle.ring_core.specs.declared.layout.Form.TheVariants.{Packed};
-    ghost use Rattle.packed_ring.specs.Placement.{placement_fault, no_features};
+    ghost use Rattle.std.specs.Prelude.{length, MatchResult};
+    ghost use Rattle.packed_ring.specs.Placement.{OpensPacked, IsMisplaced};
 
     /// A queue with this number at this place, of which nothing was fetched yet. Whoever sets the
     /// device up calls it once for each queue, with the memory that all later calls get. Refused
@@ -55,7 +53,7 @@ impl PackedRing {
         layout: Layout,
         memory: &GuestMem,
     ) -> Result<PackedRing, LayoutFault>
-        ensures made { MatchResult result (λ ring. (placement_fault (length memory.now) layout ≡ None) × (ring ≡ opening Packed queue layout no_features (length memory.now) 65536)) (λ fault. placement_fault (length memory.now) layout ≡ Some fault) }
+        ensures made { MatchResult result (OpensPacked (length memory.now) queue layout) (IsMisplaced (length memory.now) layout) }
     {
         let bytes = memory.size();
         check_layout(&layout, bytes)?;
@@ -70,14 +68,14 @@ impl PackedRing {
 
 impl PackedRing {
     ghost use Rattle.std.specs.Prelude.{◌≡◌, length, None};
-    ghost use Rattle.packed_ring.specs.Running.{Finds};
+    ghost use Rattle.packed_ring.specs.Inner.{PackedFinds};
     ghost use Rattle.ring_core.specs.Offer.{PackedOffers, Found};
     ghost use Rattle.ring_core.specs.Fetch.{Fetches};
 
     /// The next chain.
     fn next(&self, memory: &GuestMem) -> Result<Option<Run>, RingFault>
         requires { length memory.now ≡ self.now.memory }
-        ensures { Finds self.now memory.now result }
+        ensures { PackedFinds self.now memory.now result }
     {
         let layout = self.base.layout();
         let accepted = self.base.accepted_slots();

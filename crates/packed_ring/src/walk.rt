@@ -2,7 +2,7 @@
 
 ghost use Rattle.std.specs.Prelude.{◌≡◌, ◌+◌, ◌*◌, ◌<◌, ◌≤◌, ◌^◌, length, MatchResult, None, Some};
 ghost use Rattle.ring_core.specs.Packed.{packed_wrong};
-ghost use Rattle.packed_ring.specs.Running.{IsRun, IsWrong};
+ghost use Rattle.packed_ring.specs.Inner.{IsRun, PackedFailsOrLacks};
 
 use crate::slots::descriptor_at;
 use guest_mem::GuestMem;
@@ -46,7 +46,7 @@ pub(crate) fn walk(
     requires inside { layout.now.desc + 16 * layout.now.size ≤ length memory.now }
     requires small { length memory.now ≤ 2 ^ 28 }
     requires passed { passed < 2 ^ 100 }
-    ensures { MatchResult result (λ run. IsRun memory.now layout.now passed run) (λ fault. IsWrong memory.now layout.now passed fault) }
+    ensures { MatchResult result (λ run. IsRun memory.now layout.now passed run) (λ fault. PackedFailsOrLacks memory.now layout.now passed fault) }
 {
     let bytes = memory.size();
     let mut parts = Vec::new(alloc);

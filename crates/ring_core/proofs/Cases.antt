@@ -7,7 +7,7 @@ use Rattle.byteorder.specs.Numbers.{little_number-reads_back}
 use Rattle.guest_mem.specs.Memory.{bytes_at}
 use Rattle.ring_core.specs.State.{RingState}
 use Rattle.ring_core.specs.Walk.{goes_on, is_indirect, part_of, front, by_next}
-use Rattle.ring_core.specs.Split.{split_descriptor, in_table, number_on, path, split_wrong, SplitChain, SplitFails, pending, entry_wrong}
+use Rattle.ring_core.specs.Split.{split_descriptor, in_table, number_on, path, split_wrong, SplitChain, SplitFails, ahead, entry_wrong}
 use Rattle.ring_core.specs.Packed.{packed_descriptor}
 use Rattle.ring_core.specs.declared.descriptor.Part.{Part}
 use Rattle.ring_core.specs.declared.descriptor.Descriptor.{Descriptor}
@@ -17,19 +17,19 @@ use Rattle.ring_core.specs.declared.fault.RingFault.TheVariants.{IndexJump, Chai
 use Rattle.ring_core.proofs.Along.{Along, along_start, along_more, along_end, along_wrong}
 
 -- The available index:
-pub pending_some : (s : RingState) (m : List ℕ) (k : ℕ) → k < 65536 → little_number 2 (bytes_at m (s.layout.driver + 2) 2) ≡ (length s.log.accepted + k) % 65536 → pending s m ≡ k
-pending_some s m k small e = counted _ (length s.log.accepted) k small e
+pub ahead_some : (s : RingState) (m : List ℕ) (k : ℕ) → k < 65536 → little_number 2 (bytes_at m (s.layout.driver + 2) 2) ≡ (length s.log.accepted + k) % 65536 → ahead s m ≡ k
+ahead_some s m k small e = counted _ (length s.log.accepted) k small e
   where
     counted : (idx n k : ℕ) → k < 65536 → idx ≡ (n + k) % 65536 → (idx + 65536 - n % 65536) % 65536 ≡ k
     counted idx n k small e = omega arith
 
-pub pending_none : (s : RingState) (m : List ℕ) → little_number 2 (bytes_at m (s.layout.driver + 2) 2) ≡ length s.log.accepted % 65536 → pending s m ≡ 0
-pending_none s m e = let same : length s.log.accepted + 0 ≡ length s.log.accepted = omega arith in pending_some s m 0 (omega arith) (rw same e)
+pub ahead_none : (s : RingState) (m : List ℕ) → little_number 2 (bytes_at m (s.layout.driver + 2) 2) ≡ length s.log.accepted % 65536 → ahead s m ≡ 0
+ahead_none s m e = let same : length s.log.accepted + 0 ≡ length s.log.accepted = omega arith in ahead_some s m 0 (omega arith) (rw same e)
 
-pub jump_above : (s : RingState) (m : List ℕ) → s.layout.size < pending s m → entry_wrong s m ≡ Some IndexJump
+pub jump_above : (s : RingState) (m : List ℕ) → s.layout.size < ahead s m → entry_wrong s m ≡ Some IndexJump
 jump_above s m lt = grind (arith, common_steps, nat_tests)
 
-pub no_jump_at : (s : RingState) (m : List ℕ) → pending s m ≤ s.layout.size → entry_wrong s m ≡ Some IndexJump → ⊥
+pub no_jump_at : (s : RingState) (m : List ℕ) → ahead s m ≤ s.layout.size → entry_wrong s m ≡ Some IndexJump → ⊥
 no_jump_at s m le e = grind (arith, common_steps, nat_tests)
 
 -- nothing is wrong with a descriptor

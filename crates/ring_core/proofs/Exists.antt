@@ -4,7 +4,7 @@ use Rattle.std.proofs.lemmas.Grind.{common_steps}
 use Rattle.std.proofs.lemmas.Bool.Decides.{nat_tests}
 use Rattle.ring_core.specs.State.{RingState}
 use Rattle.ring_core.specs.Walk.{goes_on, part_of, amount, front, by_next, LeadsTo, IsChain, IsFault}
-use Rattle.ring_core.specs.Split.{path, pending, next_head, entry_wrong, split_wrong}
+use Rattle.ring_core.specs.Split.{path, ahead, next_head, entry_wrong, split_wrong}
 use Rattle.ring_core.specs.Packed.{slots_from, packed_wrong, whole_wrong, is_available, id_of}
 use Rattle.ring_core.specs.Offer.{Offer, Nothing, Found, Refused, Offers, SplitOffers, PackedOffers, OffersInForm, OffersUnless}
 use Rattle.ring_core.specs.declared.layout.Form.{Form}
@@ -91,7 +91,7 @@ packed_some s m =
 
 split_some : (s : RingState) (m : List ℕ) → (o : Offer) × SplitOffers s m o
 split_some s m =
-    elim (zero_or_not (pending s m)) [
+    elim (zero_or_not (ahead s m)) [
       | inl none ↦ (Nothing, none)
       | inr some ↦ elim (some_or_none (entry_wrong s m)) [
         | inr bad ↦ (Refused bad.0, (some, inl bad.1))

@@ -1,17 +1,19 @@
 -- The steps of a queue keep what is true of every queue.
-use Rattle.std.proofs.Common.{◌≡◌, ◌≢◌, ℕ, zero, suc, ◌+◌, ◌<◌, ◌≤◌, List, [], ◌∷◌, ◌++◌, length, get_or, set, cond, Option, Some, None, refl, sym, ap, ◌∙◌, subst, arith, sum_by, is_some, replicate, length-append, ◌⊎◌, inl, inr}
+use Rattle.std.proofs.Common.{◌≡◌, ◌≢◌, ℕ, zero, suc, ◌+◌, ◌<◌, List, [], ◌∷◌, ◌++◌, length, get_or, set, cond, Option, Some, None, refl, sym, ap, ◌∙◌, subst, arith, sum_by, is_some, replicate, length-append, ◌⊎◌, inl, inr}
 use Rattle.std.proofs.lemmas.Grind.{common_steps}
-use Rattle.std.proofs.lemmas.Option.{gets}
+use Rattle.std.proofs.lemmas.Option.{gets, same_Some}
 use Rattle.std.proofs.lemmas.List.{get_or-set_same, get_or-set_other, length-set, ext_get_or}
 use Rattle.std.proofs.lemmas.List.Sums.{sum_by-set}
 use Rattle.std.specs.Prelude.{slice_get}
-use Rattle.ring_core.specs.State.{RingState, Log, PlainChain, Owns, IsLawful, under, next_ticket, accepting, using, tickets, opening}
+use Rattle.ring_core.specs.State.{RingState, Log, PlainChain, Owns, IsLawful, under, next_ticket, accepting, using, breaking, tickets, opening}
 use Rattle.ring_core.specs.Sound.{IsSound, outstanding_count, slots_of}
 use Rattle.ring_core.specs.declared.log.Ticket.{Ticket}
 use Rattle.ring_core.specs.declared.outstanding.OutstandingChain.{OutstandingChain}
 use Rattle.ring_core.specs.declared.layout.Form.{Form}
 use Rattle.ring_core.specs.declared.layout.Layout.{Layout}
 use Rattle.ring_core.specs.declared.layout.Features.{Features}
+use Rattle.ring_core.specs.declared.fault.RingFault.{RingFault}
+use Rattle.ring_core.specs.declared.fault.RingFault.TheVariants.{NoMemory}
 
 -- an element of a list with one more at its end
 pub at_push : {X : Type 0} (xs : List X) (y : X) (k : ℕ) (x : X) → slice_get (xs ++ y ∷ []) k ≡ Some x → (slice_get xs k ≡ Some x) ⊎ ((k ≡ length xs) × (x ≡ y))
@@ -53,7 +55,7 @@ lawful-use queue log n l lt fresh =
           ];
     }
 
-pub sound-accept : (s : RingState) (id slots : ℕ) → IsSound s → id < length s.outstanding → under s id ≡ None → slots ≤ 65536 → IsSound (accepting s id slots)
+pub sound-accept : (s : RingState) (id slots : ℕ) → IsSound s → id < length s.outstanding → under s id ≡ None → slots < 65536 → IsSound (accepting s id slots)
 sound-accept s id slots sound lt free small =
     let n : ℕ = length s.log.accepted in
     let new : OutstandingChain = record { number = n; slots = slots } in
@@ -81,6 +83,11 @@ sound-accept s id slots sound lt free small =
               | inr b ↦ sound.under_one i j h k a.1 b.1 same
             ]
           ];
+      few_slots = λ i h e.
+          elim (at_set s.outstanding id (Some new) i h lt e) [
+            | inl a ↦ let p : slots ≡ h.slots = cc in omega (arith, p, small)
+            | inr a ↦ sound.few_slots i h a.1
+          ];
       counted =
           let e : outstanding_count (accepting s id slots) + cond (is_some (under s id)) 1 0 ≡ outstanding_count s + 1 = sum_by-set (λ (h : Option OutstandingChain). cond (is_some h) 1 0) s.outstanding id (Some new) None lt in
           let f : outstanding_count (accepting s id slots) + 0 ≡ outstanding_count s + 1 = rw free at e in
@@ -94,8 +101,14 @@ sound-accept s id slots sound lt free small =
       broken_by_guest = sound.broken_by_guest;
     }
 
-pub sound-use : (s : RingState) (c : PlainChain) → IsSound s → Owns s c → c.slots ≤ 65536 → c.id < length s.outstanding → IsSound (using s c)
-sound-use s c sound owns small lt =
+-- what is outstanding stands in the list
+pub is_within : (s : RingState) (id : ℕ) (h : OutstandingChain) → under s id ≡ Some h → id < length s.outstanding
+is_within s id h e = grind (arith, common_steps)
+
+pub sound-use : (s : RingState) (c : PlainChain) → IsSound s → Owns s c → IsSound (using s c)
+sound-use s c sound owns =
+    let lt : c.id < length s.outstanding = is_within s c.id _ owns.outstanding in
+    let small : c.slots < 65536 = sound.few_slots c.id _ owns.outstanding in
     let mine : OutstandingChain = record { number = c.ticket.number; slots = c.slots } in
     let ticket : c.ticket ≡ record { queue = s.queue; number = c.ticket.number } = ap (λ (q : ℕ). record { queue = q; number = c.ticket.number }) owns.queue in
     let grown : length (s.log.used ++ c.ticket ∷ []) ≡ length s.log.used + 1 = omega (arith, length-append s.log.used (c.ticket ∷ [])) in
@@ -124,6 +137,11 @@ sound-use s c sound owns small lt =
               | inr b ↦ sound.under_one i j h k a.1 b.1 same
             ]
           ];
+      few_slots = λ i h e.
+          elim (at_set s.outstanding c.id None i h lt e) [
+            | inl a ↦ absurd (cc)
+            | inr a ↦ sound.few_slots i h a.1
+          ];
       counted =
           let e : outstanding_count (using s c) + cond (is_some (under s c.id)) 1 0 ≡ outstanding_count s + 0 = sum_by-set (λ (h : Option OutstandingChain). cond (is_some h) 1 0) s.outstanding c.id None None lt in
           let f : outstanding_count (using s c) + 1 ≡ outstanding_count s + 0 = rw owns.outstanding at e in
@@ -136,10 +154,6 @@ sound-use s c sound owns small lt =
       used_bounded = omega (arith, grown, small, sound.used_bounded);
       broken_by_guest = sound.broken_by_guest;
     }
-
--- what is outstanding stands in the list
-pub is_within : (s : RingState) (id : ℕ) (h : OutstandingChain) → under s id ≡ Some h → id < length s.outstanding
-is_within s id h e = grind (arith, common_steps)
 
 -- a chain that is outstanding leaves room in the log
 pub room_for_use : (s : RingState) (c : PlainChain) → IsSound s → Owns s c → length s.log.used < length s.log.accepted
@@ -169,11 +183,27 @@ sound-opening form queue layout features memory ids =
       was_accepted = λ i h e. let p = none_there ids i in cc;
       not_used = λ i h k e u. cc;
       under_one = λ i j h k e f same. absurd (let p = none_there ids i in cc);
+      few_slots = λ i h e. absurd (let p = none_there ids i in cc);
       counted = omega (arith, none_counted ids);
       slots_counted = omega (arith, no_slots ids);
       accepted_bounded = omega arith;
       used_bounded = omega arith;
       broken_by_guest = λ e. cc;
+    }
+
+pub sound-break : (s : RingState) (f : RingFault) → IsSound s → (f ≡ NoMemory → ⊥) → IsSound (breaking s f)
+sound-break s f sound guest =
+    record {
+      lawful = sound.lawful;
+      was_accepted = sound.was_accepted;
+      not_used = sound.not_used;
+      under_one = sound.under_one;
+      few_slots = sound.few_slots;
+      counted = sound.counted;
+      slots_counted = sound.slots_counted;
+      accepted_bounded = sound.accepted_bounded;
+      used_bounded = sound.used_bounded;
+      broken_by_guest = λ e. guest (same_Some f NoMemory e);
     }
 
 same_or_other : (j i : ℕ) → (j ≡ i) ⊎ (j ≢ i)

@@ -2,6 +2,7 @@ pub use Rattle.guest_mem.specs.Memory
 pub mod State
 pub mod Sound
 pub mod Parts
+pub mod Writes
 pub mod Walk
 pub mod Split
 pub mod Packed

@@ -1,9 +1,10 @@
 -- What a virtqueue has for the device, in either form.
 use Rattle.std.specs.Prelude.{ℕ, ◌≡◌, ◌≢◌, ◌⊎◌, Bool, true, false, List, [], length, map, Option, Some, None}
 use Rattle.ring_core.specs.State.{RingState}
+use Rattle.ring_core.specs.Writes.{Write}
 use Rattle.ring_core.specs.Walk.{part_of, amount}
-use Rattle.ring_core.specs.Split.{SplitChain, SplitFails, in_table, split_wrong, pending, next_head, entry_wrong, split_used, split_wants_notice}
-use Rattle.ring_core.specs.Packed.{PackedChain, PackedFails, slot_at, packed_wrong, is_available, id_of, whole_wrong, packed_used, packed_wants_notice}
+use Rattle.ring_core.specs.Split.{SplitChain, SplitFails, in_table, split_wrong, ahead, next_head, entry_wrong, split_used_writes, split_wants_notice}
+use Rattle.ring_core.specs.Packed.{PackedChain, PackedFails, slot_at, packed_wrong, is_available, id_of, whole_wrong, packed_used_writes, packed_wants_notice}
 use Rattle.ring_core.specs.declared.descriptor.Part.{Part}
 use Rattle.ring_core.specs.declared.descriptor.Descriptor.{Descriptor}
 use Rattle.ring_core.specs.declared.fault.RingFault.{RingFault}
@@ -18,12 +19,12 @@ pub data Offer : Type 0 where
 
 -- a split queue offers this
 abbrev pub SplitOffers : RingState → List ℕ → Offer → Type 0
-SplitOffers s m Nothing = pending s m ≡ 0
+SplitOffers s m Nothing = ahead s m ≡ 0
 SplitOffers s m (Found id slots parts) =
-    (pending s m ≢ 0) × (entry_wrong s m ≡ None) × (id ≡ next_head s m) × (slots ≡ 1)
+    (ahead s m ≢ 0) × (entry_wrong s m ≡ None) × (id ≡ next_head s m) × (slots ≡ 1)
     × SplitChain m s.layout.desc s.layout.size (next_head s m) parts
 SplitOffers s m (Refused f) =
-    (pending s m ≢ 0)
+    (ahead s m ≢ 0)
     × ((entry_wrong s m ≡ Some f)
     ⊎ ((entry_wrong s m ≡ None) × SplitFails m s.layout.desc s.layout.size (next_head s m) f))
 
@@ -55,7 +56,7 @@ Offers s m o = OffersUnless s.broken s m o
 -- a chain begins: there is an entry with nothing wrong, and nothing is wrong with the first descriptor
 abbrev pub BeginsInForm : Form → RingState → List ℕ → Type 0
 BeginsInForm Split s m =
-    (pending s m ≢ 0) × (entry_wrong s m ≡ None)
+    (ahead s m ≢ 0) × (entry_wrong s m ≡ None)
     × (split_wrong (length m) s.layout.size (amount []) (in_table m s.layout.desc (next_head s m)) ≡ None)
 BeginsInForm Packed s m =
     (is_available s m ≡ true) × (packed_wrong (length m) s.layout.size (amount []) (slot_at s.layout m s.accepted_slots) ≡ None)
@@ -65,18 +66,18 @@ BeginsInForm Packed s m =
 abbrev pub MayLackMemory : RingState → List ℕ → Type 0
 MayLackMemory s m = (s.broken ≡ None) × BeginsInForm s.form s m
 
-abbrev pub used_in_form : Form → RingState → List ℕ → ℕ → ℕ → List ℕ
-used_in_form Split s m id len = split_used s m id len
-used_in_form Packed s m id len = packed_used s m id len
+abbrev pub used_writes_in_form : Form → RingState → ℕ → ℕ → List Write
+used_writes_in_form Split s id len = split_used_writes s id len
+used_writes_in_form Packed s id len = packed_used_writes s id len
 
--- memory once a chain with this id was completed with so many bytes
-abbrev pub with_used : RingState → List ℕ → ℕ → ℕ → List ℕ
-with_used s m id len = used_in_form s.form s m id len
+-- what the completion of a chain with this head or id writes, where so many bytes were written into the chain
+abbrev pub used_writes : RingState → ℕ → ℕ → List Write
+used_writes s id len = used_writes_in_form s.form s id len
 
 abbrev pub notice_in_form : Form → RingState → List ℕ → Bool
 notice_in_form Split s m = split_wants_notice m s.layout.driver
 notice_in_form Packed s m = packed_wants_notice m s.layout.driver
 
--- the driver asks for a notice
+-- the driver asks for a notice: a used buffer notification (VIRTIO 1.2, 2.3)
 abbrev pub wants_notice : RingState → List ℕ → Bool
 wants_notice s m = notice_in_form s.form s m

@@ -1,9 +1,10 @@
 -- A packed virtqueue (VIRTIO 1.2, 2.8): which chain lies at its next place, and what a completion writes.
 use Rattle.std.specs.Prelude.{ℕ, ◌+◌, ◌*◌, ◌-◌, ◌%◌, ◌/◌, ◌==◌, ◌&&◌, not, nat_lt, nat_le, Bool, cond, List, [], ◌∷◌, ◌++◌, length, drop, Option, is_some, bit_and}
 use Rattle.byteorder.specs.Endian.{little_number, little_bytes}
-use Rattle.guest_mem.specs.Memory.{bytes_at, with_bytes}
+use Rattle.guest_mem.specs.Memory.{bytes_at}
 use Rattle.ring_core.specs.State.{RingState, under}
 use Rattle.ring_core.specs.Walk.{goes_on, is_indirect, first_of, buffer_tests, by_next, IsChain, IsFault}
+use Rattle.ring_core.specs.Writes.{Write}
 use Rattle.ring_core.specs.declared.layout.Layout.{Layout}
 use Rattle.ring_core.specs.declared.descriptor.Descriptor.{Descriptor}
 use Rattle.ring_core.specs.declared.before.Before.{Before}
@@ -72,16 +73,21 @@ whole_wrong s chain =
     ∷ (nat_lt s.layout.size (s.accepted_slots - s.used_slots + length chain), RingOverrun)
     ∷ [])
 
--- the flags of a used descriptor: AVAIL and USED are the device's wrap counter, WRITE says that something was written
+-- the flags of a used descriptor: AVAIL and USED are the device's wrap counter (2.8.1), WRITE says that something was
+-- written (2.8.3)
 abbrev pub used_flags : Bool → ℕ → ℕ
 used_flags wrap len = cond wrap 32896 0 + cond (nat_lt 0 len) 2 0
 
--- memory once a chain was completed: len, id and flags of one used descriptor in the slot at the device's place; its addr stays
-abbrev pub packed_used : RingState → List ℕ → ℕ → ℕ → List ℕ
-packed_used s m id len =
-    with_bytes m
-    (s.layout.desc + 16 * (s.used_slots % s.layout.size) + 8)
-    (little_bytes 4 len ++ little_bytes 2 id ++ little_bytes 2 (used_flags (wrap_counter s.layout.size s.used_slots) len))
+-- what a completion writes (2.8.3, 2.8.4): len, id and flags of one used descriptor in the slot at the device's place; its
+-- addr stays
+abbrev pub packed_used_writes : RingState → ℕ → ℕ → List Write
+packed_used_writes s id len =
+    let flags = used_flags (wrap_counter s.layout.size s.used_slots) len in
+    record {
+      addr = s.layout.desc + 16 * (s.used_slots % s.layout.size) + 8;
+      bytes = little_bytes 4 len ++ little_bytes 2 id ++ little_bytes 2 flags;
+    }
+    ∷ []
 
 -- The driver event suppression area (2.8.14): le16 offset and wrap, le16 flags; RING_EVENT_FLAGS_DISABLE is 1
 

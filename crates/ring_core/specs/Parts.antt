@@ -1,7 +1,7 @@
--- The parts of a chain, and the bytes that stand in them (VIRTIO 1.2, 2.6.4.2: readable parts first, then writable ones).
-use Rattle.std.specs.Prelude.{ℕ, ◌+◌, ◌-◌, ◌≤◌, ◌^◌, ◌||◌, nat_lt, nat_le, eqb, Bool, cond, List, [], ◌∷◌, take, drop, sum_by}
+-- The parts of a chain, and the bytes that stand in them (VIRTIO 1.2, 2.7.4 and 2.8.5).
+use Rattle.std.specs.Prelude.{ℕ, ◌+◌, ◌≤◌, ◌^◌, ◌||◌, nat_le, eqb, Bool, cond, List, [], sum_by}
 use Rattle.std.specs.List.{flat_map, AllPass}
-use Rattle.guest_mem.specs.Memory.{bytes_at, with_bytes}
+use Rattle.guest_mem.specs.Memory.{bytes_at}
 use Rattle.ring_core.specs.declared.descriptor.Part.{Part}
 
 abbrev pub readable_total : List Part → ℕ
@@ -30,12 +30,3 @@ readable_bytes m parts = flat_map (readable_of m) parts
 -- how many of them a fetch reads: a request's 51 and 2,048 blocks of 512
 abbrev pub first_bytes : ℕ
 first_bytes = 1048627
-
--- bs over the writable parts in order, from their byte `at` on. Where parts overlap the later write wins.
-abbrev pub scattered : List ℕ → List Part → ℕ → List ℕ → List ℕ
-scattered m [] at bs = m
-scattered m (p ∷ ps) at bs =
-    cond p.writable
-    (let here = take (p.len - at) bs in
-    scattered (cond (nat_lt at p.len) (with_bytes m (p.addr + at) here) m) ps (at - p.len) (drop (p.len - at) bs))
-    (scattered m ps at bs)

@@ -1,9 +1,10 @@
 -- A split virtqueue (VIRTIO 1.2, 2.7): which chain lies at its next place, and what a completion writes.
 use Rattle.std.specs.Prelude.{ℕ, zero, suc, ◌≡◌, ◌+◌, ◌*◌, ◌-◌, ◌%◌, ◌==◌, ◌&&◌, not, nat_lt, nat_le, Bool, map, List, [], ◌∷◌, ◌++◌, length, drop, Option, is_some, bit_and}
 use Rattle.byteorder.specs.Endian.{little_number, little_bytes}
-use Rattle.guest_mem.specs.Memory.{bytes_at, with_bytes}
+use Rattle.guest_mem.specs.Memory.{bytes_at}
 use Rattle.ring_core.specs.State.{RingState, under}
 use Rattle.ring_core.specs.Walk.{goes_on, is_indirect, part_of, first_of, buffer_tests, by_next, IsChain, IsFault}
+use Rattle.ring_core.specs.Writes.{Write}
 use Rattle.ring_core.specs.declared.descriptor.Part.{Part}
 use Rattle.ring_core.specs.declared.descriptor.Descriptor.{Descriptor}
 use Rattle.ring_core.specs.declared.before.Before.{Before}
@@ -56,8 +57,8 @@ SplitFails m table size head f = IsFault by_next (split_wrong (length m) size) (
 -- The available ring (2.7.6): le16 flags, le16 idx, le16 ring[size]
 
 -- how many of its entries weren't accepted yet: idx ahead of the accepted chains, modulo 65,536
-abbrev pub pending : RingState → List ℕ → ℕ
-pending s m = (little_number 2 (bytes_at m (s.layout.driver + 2) 2) + 65536 - length s.log.accepted % 65536) % 65536
+abbrev pub ahead : RingState → List ℕ → ℕ
+ahead s m = (little_number 2 (bytes_at m (s.layout.driver + 2) 2) + 65536 - length s.log.accepted % 65536) % 65536
 
 -- the head that the next entry names
 abbrev pub next_head : RingState → List ℕ → ℕ
@@ -67,7 +68,7 @@ next_head s m = little_number 2 (bytes_at m (s.layout.driver + 4 + 2 * (length s
 abbrev pub entry_wrong : RingState → List ℕ → Option RingFault
 entry_wrong s m =
     first_of (
-    (nat_lt s.layout.size (pending s m), IndexJump)
+    (nat_lt s.layout.size (ahead s m), IndexJump)
     ∷ (nat_le s.layout.size (next_head s m), HeadOutOfRange)
     ∷ (is_some (under s (next_head s m)), AlreadyOutstanding)
     ∷ [])
@@ -78,11 +79,10 @@ split_wants_notice m driver = not (bit_and (little_number 2 (bytes_at m driver 2
 
 -- The used ring (2.7.8): le16 flags, le16 idx, elements of le32 id and le32 len
 
--- memory once a chain was completed: the element in the slot of the own index, and then the next index
-abbrev pub split_used : RingState → List ℕ → ℕ → ℕ → List ℕ
-split_used s m head len =
+-- what a completion writes: the element in the slot of the own index, and then the next index
+abbrev pub split_used_writes : RingState → ℕ → ℕ → List Write
+split_used_writes s head len =
     let own : ℕ = length s.log.used % 65536 in
-    with_bytes
-    (with_bytes m (s.layout.device + 4 + 8 * (own % s.layout.size)) (little_bytes 4 head ++ little_bytes 4 len))
-    (s.layout.device + 2)
-    (little_bytes 2 ((own + 1) % 65536))
+    record { addr = s.layout.device + 4 + 8 * (own % s.layout.size); bytes = little_bytes 4 head ++ little_bytes 4 len }
+    ∷ record { addr = s.layout.device + 2; bytes = little_bytes 2 ((own + 1) % 65536) }
+    ∷ []

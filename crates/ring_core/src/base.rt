@@ -1,7 +1,8 @@
 //! What both forms of queue keep.
 
 ghost use Rattle.std.specs.Prelude.{◌≡◌, ◌+◌, ◌<◌, ◌≤◌, ◌^◌, ◌↔◌, length, IfOk, OnErr, OnOk, Some, None, IsTrue, is_some};
-ghost use Rattle.ring_core.specs.State.{under, accepting, using, breaking, opening, next_ticket, Owns, IsLawful};
+ghost use Rattle.ring_core.specs.State.{under, accepting, using, breaking, opening, next_ticket, Owns};
+ghost use Rattle.ring_core.specs.Sound.{IsSound};
 ghost use Rattle.ring_core.specs.Parts.{PartsFit};
 
 use crate::chain::Chain;
@@ -107,7 +108,7 @@ impl RingBase {
     /// Its log.
     pub fn log(&self) -> &QueueLog
         ensures log { result.now ≡ self.now.log }
-        ensures lawful { IsLawful self.now.queue self.now.log }
+        ensures sound { IsSound self.now }
     {
         &self.log
     }

@@ -2,7 +2,8 @@
 
 ghost use Rattle.std.specs.Prelude.{◌≡◌, ◌+◌, ◌≤◌, ◌<◌, ◌^◌, ◌-◌, ◌++◌, length, take, min, true, IfOk, OnOk};
 ghost use Rattle.guest_mem.specs.Memory.{with_bytes};
-ghost use Rattle.ring_core.specs.Parts.{PartsFit, inside, readable_of, readable_bytes, writable_total, scattered};
+ghost use Rattle.ring_core.specs.Parts.{PartsFit, inside, readable_of, readable_bytes, writable_total};
+ghost use Rattle.ring_core.specs.Writes.{all_written, scatter_writes};
 
 use crate::chain::{Chain, total_readable};
 use crate::descriptor::Part;
@@ -23,7 +24,9 @@ fn append_part(
     requires inside { inside (length memory.now) part.now ≡ true }
     requires most { most < 2 ^ 32 }
     requires room { length bytes.old.items ≤ most }
-    ensures { OnOk result (bytes.new.items ≡ bytes.old.items ++ take (most - length bytes.old.items) (readable_of memory.now part.now)) }
+    ensures { OnOk result (
+        bytes.new.items
+        ≡ bytes.old.items ++ take (most - length bytes.old.items) (readable_of memory.now part.now)) }
 {
     if part.writable || part.len == 0 {
         return Ok(());
@@ -77,7 +80,7 @@ pub fn scatter(memory: &mut GuestMem, chain: &Chain, at: u32, bytes: &[u8]) -> u
     requires room { at + length bytes.now ≤ writable_total chain.now.parts }
     requires small { at + length bytes.now < 2 ^ 32 }
     ensures written { result ≡ length bytes.now }
-    ensures memory { memory.new ≡ scattered memory.old chain.now.parts at bytes.now }
+    ensures memory { memory.new ≡ all_written memory.old (scatter_writes chain.now.parts at bytes.now) }
     ensures size { length memory.new ≡ length memory.old }
 {
     let mut skip = at as u64;

@@ -2,6 +2,7 @@
 
 ghost use Rattle.std.specs.Prelude.{◌≡◌, ◌<◌, ◌≤◌, ℕ, List, length};
 ghost use Rattle.ring_core.specs.State.{RingState};
+ghost use Rattle.ring_core.specs.Sound.{OpensSound, AcceptsSound, UsesSound, BreaksSound};
 ghost use Rattle.ring_core.specs.Offer.{Offer, Offers, Found};
 ghost use Rattle.ring_core.specs.RightChain.{IsRightChain};
 ghost use Rattle.ring_core.specs.declared.descriptor.Part.{Part};
@@ -14,7 +15,9 @@ pub use cases::{
     a_loop_is_too_long, as_many_as_the_size_are_no_jump, descriptors_are_read_as_written,
     one_descriptor_is_a_chain, the_index_counts_round, three_linked_descriptors_are_a_chain,
 };
-pub use scattering::{scatter_in_two, scattering_keeps_the_size, scattering_nothing};
+pub use scattering::{
+    scatter_in_two, scattering_keeps_the_size, scattering_nothing, writes_in_order,
+};
 
 /// With one memory a queue offers no two things: nothing, a chain or a fault.
 pub fn one_offer()
@@ -30,6 +33,17 @@ pub fn some_offer()
 /// descriptors, all of them in memory, and no readable one behind a writable one (VIRTIO 1.2,
 /// 2.6.4.2, 2.7.5 and 2.8). In a split queue its head is one of the descriptor table.
 pub fn chains_are_right()
-    ensures parts { (s : RingState) (m : List ℕ) (id slots : ℕ) (parts : List Part) → Offers s m (Found id slots parts) → 1 ≤ s.layout.size → IsRightChain (length m) s.layout.size parts }
+    ensures parts { (s : RingState) (m : List ℕ) (id slots : ℕ) (parts : List Part)
+        → Offers s m (Found id slots parts) → 1 ≤ s.layout.size
+        → IsRightChain (length m) s.layout.size parts }
     ensures head { (s : RingState) (m : List ℕ) (id slots : ℕ) (parts : List Part) → Offers s m (Found id slots parts) → s.form ≡ Split → id < s.layout.size }
+{}
+
+/// A queue is sound when it is made, and whatever it does keeps it so: accepting a chain under a
+/// head or id that is free, using a chain that it owns, and breaking for a fault of the guest.
+pub fn queues_stay_sound()
+    ensures opening { OpensSound }
+    ensures accepting { AcceptsSound }
+    ensures using { UsesSound }
+    ensures breaking { BreaksSound }
 {}

@@ -1,8 +1,10 @@
 //! What every virtqueue promises, in whatever form it lies in memory.
 
 ghost use Rattle.std.specs.Prelude.{◌≡◌, ◌↔◌, ◌<◌, length, IsTrue};
-ghost use Rattle.ring_core.specs.State.{RingState, Owns, IsLawful, using};
-ghost use Rattle.ring_core.specs.Offer.{with_used, wants_notice};
+ghost use Rattle.ring_core.specs.State.{RingState, Owns, using};
+ghost use Rattle.ring_core.specs.Sound.{IsSound};
+ghost use Rattle.ring_core.specs.Writes.{all_written};
+ghost use Rattle.ring_core.specs.Offer.{used_writes, wants_notice};
 ghost use Rattle.ring_core.specs.Fetch.{Fetches};
 
 use crate::answered::{Answered, Completion};
@@ -31,7 +33,7 @@ pub trait Ring {
         requires owned { Owns (state self.old) chain }
         ensures ticket { result ≡ chain.ticket }
         ensures state { state self.new ≡ using (state self.old) chain }
-        ensures memory { memory.new ≡ with_used (state self.old) memory.old chain.id len }
+        ensures memory { memory.new ≡ all_written memory.old (used_writes (state self.old) chain.id len) }
         ensures size { length memory.new ≡ length memory.old };
 
     /// Gives a chain back to the driver, into which `len` bytes were written: writes its used
@@ -42,7 +44,7 @@ pub trait Ring {
         requires owned { Owns (state self.old) chain }
         ensures ticket { result ≡ chain.ticket }
         ensures state { state self.new ≡ using (state self.old) chain }
-        ensures memory { memory.new ≡ with_used (state self.old) memory.old chain.id len }
+        ensures memory { memory.new ≡ all_written memory.old (used_writes (state self.old) chain.id len) }
         ensures size { length memory.new ≡ length memory.old }
     {
         Answered::of(self.finish(memory, chain, len, Completion::begin()))
@@ -53,10 +55,11 @@ pub trait Ring {
         requires { length memory.now ≡ (state self.now).memory }
         ensures { result ≡ wants_notice (state self.now) memory.now };
 
-    /// Which chains were accepted, and which were used.
+    /// Which chains were accepted, and which were used. What the queue counts and what it holds
+    /// outstanding agree with it.
     fn log(&self) -> &QueueLog
         ensures log { result.now ≡ (state self.now).log }
-        ensures lawful { IsLawful (state self.now).queue (state self.now).log };
+        ensures sound { IsSound (state self.now) };
 
     /// Whether the memory has the size that the queue was made with.
     fn fits(&self, memory: &GuestMem) -> bool

@@ -10,7 +10,7 @@ use Rattle.ring_core.specs.declared.before.Before.{Before}
 use Rattle.ring_core.specs.declared.fault.RingFault.{RingFault}
 use Rattle.ring_core.specs.declared.fault.RingFault.TheVariants.{NoMemory}
 use Rattle.ring_core.proofs.Along.{Along, along_start, along_more, along_end, along_first, along_wrong}
-use Rattle.split_ring.specs.Walking.{IsWrong}
+use Rattle.split_ring.specs.Inner.{SplitFailsOrLacks}
 
 right_total : (memory size : ℕ) (b : Before) (d : Descriptor) → split_wrong memory size b d ≡ None → b.total + d.len ≤ 2 ^ 32
 right_total memory size b d e = grind (arith, common_steps, nat_tests)
@@ -61,10 +61,10 @@ module _ (m : List ℕ) (table size head : ℕ) where
         let e = along_end by_next (split_wrong (length m) size) (path m table head) n b parts d w.along at_path right off in
         (_, e.0, e.1)
 
-    pub walked_first : split_wrong (length m) size b d ≡ None → IsWrong m table size head NoMemory
+    pub walked_first : split_wrong (length m) size b d ≡ None → SplitFailsOrLacks m table size head NoMemory
     unfolding number_on
     walked_first right = along_first by_next (split_wrong (length m) size) (path m table head) n b parts d w.along at_path right
 
-    pub walked_wrong : (f : RingFault) → split_wrong (length m) size b d ≡ Some f → IsWrong m table size head f
+    pub walked_wrong : (f : RingFault) → split_wrong (length m) size b d ≡ Some f → SplitFailsOrLacks m table size head f
     walked_wrong NoMemory bad = absurd (never_memory (length m) size b d bad)
     walked_wrong f bad = along_wrong by_next (split_wrong (length m) size) (path m table head) n b parts d w.along at_path f bad

@@ -7,5 +7,4 @@ pub use Rattle.ring_core.specs.Offer
 pub use Rattle.ring_core.specs.Fetch
 pub mod Placement
 pub mod IsSplit
-pub mod Walking
-pub mod Finding
+pub mod Inner

@@ -1,7 +1,9 @@
 -- Where a split queue may lie (VIRTIO 1.2, 2.7: sizes and alignments of its areas).
 use Rattle.std.specs.Prelude.{ℕ, ◌≡◌, ◌+◌, ◌*◌, ◌%◌, ◌&&◌, ◌==◌, not, nat_le, nat_lt, cond, Bool, false, Option, Some, None}
 use Rattle.std.specs.Int.{is_power_of_two}
+use Rattle.ring_core.specs.State.{RingState, opening}
 use Rattle.ring_core.specs.declared.layout.Layout.{Layout}
+use Rattle.ring_core.specs.declared.layout.Form.TheVariants.{Split}
 use Rattle.ring_core.specs.declared.layout.Features.{Features}
 use Rattle.ring_core.specs.declared.layout.LayoutFault.{LayoutFault}
 use Rattle.ring_core.specs.declared.layout.LayoutFault.TheVariants.{BadSize, BadAlignment, Outside, NoMemory}
@@ -12,10 +14,13 @@ size_is_right size = nat_lt 0 size && nat_le size 32768 && is_power_of_two size
 abbrev pub is_aligned : Layout → Bool
 is_aligned l = (l.desc % 16 == 0) && (l.driver % 2 == 0) && (l.device % 4 == 0)
 
--- 16 bytes a descriptor; flags, idx, an entry of 2 bytes a descriptor and used_event; flags, idx, an element of 8 bytes a descriptor and avail_event
+-- 16 bytes a descriptor; flags, idx, an entry of 2 bytes a descriptor and used_event; flags, idx, an element of 8 bytes a
+-- descriptor and avail_event
 abbrev pub lies_in_memory : ℕ → Layout → Bool
 lies_in_memory memory l =
-    nat_le (l.desc + 16 * l.size) memory && nat_le (l.driver + (6 + 2 * l.size)) memory && nat_le (l.device + (6 + 8 * l.size)) memory
+    nat_le (l.desc + 16 * l.size) memory
+    && nat_le (l.driver + (6 + 2 * l.size)) memory
+    && nat_le (l.device + (6 + 8 * l.size)) memory
 
 -- the first thing wrong with a layout, in a memory of this size
 abbrev pub placement_fault : ℕ → Layout → Option LayoutFault
@@ -25,10 +30,14 @@ placement_fault memory l =
     (cond (not (lies_in_memory memory l)) (Some Outside) None))
 
 -- a refusal names it, or want of memory where nothing is wrong
-abbrev pub RefusedAs : ℕ → Layout → LayoutFault → Type 0
-RefusedAs memory l NoMemory = placement_fault memory l ≡ None
-RefusedAs memory l f = placement_fault memory l ≡ Some f
+abbrev pub LayoutRefusedAs : ℕ → Layout → LayoutFault → Type 0
+LayoutRefusedAs memory l NoMemory = placement_fault memory l ≡ None
+LayoutRefusedAs memory l f = placement_fault memory l ≡ Some f
 
 -- neither indirect descriptors nor event indices were agreed
 abbrev pub no_features : Features
 no_features = record { indirect_descriptors = false; event_index = false }
+
+-- a fresh queue with this number at a place where nothing is wrong
+abbrev pub OpensSplit : ℕ → ℕ → Layout → RingState → Type 0
+OpensSplit memory queue l s = (placement_fault memory l ≡ None) × (s ≡ opening Split queue l no_features memory l.size)

@@ -40,10 +40,8 @@ impl Model for SplitRing {
 }
 
 impl SplitRing {
-    ghost use Rattle.std.specs.Prelude.{◌≡◌, length, MatchResult, None};
-    ghost use Rattle.ring_core.specs.State.{opening};
-    ghost use Rattle.ring_core.specs.declared.layout.Form.TheVariants.{Split};
-    ghost use Rattle.split_ring.specs.Placement.{placement_fault, RefusedAs, no_features};
+    ghost use Rattle.std.specs.Prelude.{length, MatchResult};
+    ghost use Rattle.split_ring.specs.Placement.{OpensSplit, LayoutRefusedAs};
 
     /// A queue with this number at this place, of which nothing was fetched yet. Whoever sets the
     /// device up calls it once for each queue, with the memory that all later calls get. Refused
@@ -58,7 +56,7 @@ impl SplitRing {
         layout: Layout,
         memory: &GuestMem,
     ) -> Result<SplitRing, LayoutFault>
-        ensures made { MatchResult result (λ ring. (placement_fault (length memory.now) layout ≡ None) × (ring ≡ opening Split queue layout no_features (length memory.now) layout.size)) (λ fault. RefusedAs (length memory.now) layout fault) }
+        ensures made { MatchResult result (OpensSplit (length memory.now) queue layout) (LayoutRefusedAs (length memory.now) layout) }
     {
         check_layout(&layout, memory.size())?;
         let features = Features {
@@ -74,20 +72,20 @@ impl SplitRing {
 
 impl SplitRing {
     ghost use Rattle.std.specs.Prelude.{◌≡◌, length};
-    ghost use Rattle.split_ring.specs.Finding.{Names, Finds};
+    ghost use Rattle.split_ring.specs.Inner.{NamesHead, SplitFinds};
 
     /// The head that the next entry of the available ring names.
     fn entry(&self, memory: &GuestMem) -> Result<Option<u16>, RingFault>
         requires { length memory.now ≡ self.now.memory }
-        ensures { Names self.now memory.now result }
+        ensures { NamesHead self.now memory.now result }
     {
         let layout = self.base.layout();
         let accepted = (self.base.log().accepted() % 65536) as u16;
-        let pending = number_at(memory, layout.driver + 2).wrapping_sub(accepted);
-        if pending == 0 {
+        let ahead = number_at(memory, layout.driver + 2).wrapping_sub(accepted);
+        if ahead == 0 {
             return Ok(None);
         }
-        if pending > layout.size {
+        if ahead > layout.size {
             return Err(RingFault::IndexJump);
         }
         let place = layout.driver + 4 + 2 * (accepted % layout.size) as u64;
@@ -104,7 +102,7 @@ impl SplitRing {
     /// The next chain.
     fn next(&self, memory: &GuestMem) -> Result<Option<Candidate>, RingFault>
         requires { length memory.now ≡ self.now.memory }
-        ensures { Finds self.now memory.now result }
+        ensures { SplitFinds self.now memory.now result }
     {
         match self.entry(memory) {
             Ok(None) => Ok(None),

@@ -2,7 +2,7 @@
 
 ghost use Rattle.std.specs.Prelude.{◌≡◌, ◌+◌, ◌*◌, ◌<◌, ◌≤◌, ◌^◌, length, MatchResult, None, Some};
 ghost use Rattle.ring_core.specs.Split.{split_wrong, SplitChain};
-ghost use Rattle.split_ring.specs.Walking.{IsWrong};
+ghost use Rattle.split_ring.specs.Inner.{SplitFailsOrLacks};
 
 use crate::areas::descriptor_at;
 use guest_mem::GuestMem;
@@ -42,7 +42,7 @@ pub(crate) fn walk(
     requires inside { table + 16 * size ≤ length memory.now }
     requires small { length memory.now ≤ 2 ^ 28 }
     requires head { head < size }
-    ensures { MatchResult result (λ parts. SplitChain memory.now table size head parts.items) (λ fault. IsWrong memory.now table size head fault) }
+    ensures { MatchResult result (λ parts. SplitChain memory.now table size head parts.items) (λ fault. SplitFailsOrLacks memory.now table size head fault) }
 {
     let bytes = memory.size();
     let mut parts = Vec::new(alloc);

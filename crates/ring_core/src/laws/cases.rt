@@ -4,7 +4,7 @@ ghost use Rattle.std.specs.Prelude.{◌≡◌, ◌+◌, ◌%◌, ◌^◌, ◌<�
 ghost use Rattle.byteorder.specs.Endian.{little_number, little_bytes};
 ghost use Rattle.guest_mem.specs.Memory.{bytes_at};
 ghost use Rattle.ring_core.specs.State.{RingState};
-ghost use Rattle.ring_core.specs.Split.{split_descriptor, pending, entry_wrong};
+ghost use Rattle.ring_core.specs.Split.{split_descriptor, ahead, entry_wrong};
 ghost use Rattle.ring_core.specs.Packed.{packed_descriptor};
 ghost use Rattle.ring_core.specs.Cases.{OneAlone, ThreeLinked, NamesItself};
 ghost use Rattle.ring_core.specs.declared.fault.RingFault.TheVariants.{IndexJump};
@@ -32,15 +32,15 @@ pub fn a_loop_is_too_long()
 {}
 
 /// The available index counts modulo 65,536, however many chains were accepted: where it equals
-/// their number nothing is pending, one further one entry is, and k further k are.
+/// their number no entry is ahead of them, one further one entry is, and k further k are.
 pub fn the_index_counts_round()
-    ensures none { (s : RingState) (m : List ℕ) → little_number 2 (bytes_at m (s.layout.driver + 2) 2) ≡ length s.log.accepted % 65536 → pending s m ≡ 0 }
-    ensures one { (s : RingState) (m : List ℕ) → little_number 2 (bytes_at m (s.layout.driver + 2) 2) ≡ (length s.log.accepted + 1) % 65536 → pending s m ≡ 1 }
-    ensures each { (s : RingState) (m : List ℕ) (k : ℕ) → k < 65536 → little_number 2 (bytes_at m (s.layout.driver + 2) 2) ≡ (length s.log.accepted + k) % 65536 → pending s m ≡ k }
+    ensures none { (s : RingState) (m : List ℕ) → little_number 2 (bytes_at m (s.layout.driver + 2) 2) ≡ length s.log.accepted % 65536 → ahead s m ≡ 0 }
+    ensures one { (s : RingState) (m : List ℕ) → little_number 2 (bytes_at m (s.layout.driver + 2) 2) ≡ (length s.log.accepted + 1) % 65536 → ahead s m ≡ 1 }
+    ensures each { (s : RingState) (m : List ℕ) (k : ℕ) → k < 65536 → little_number 2 (bytes_at m (s.layout.driver + 2) 2) ≡ (length s.log.accepted + k) % 65536 → ahead s m ≡ k }
 {}
 
-/// As many pending entries as the queue has descriptors are no jump of the index, and one more is.
+/// As many entries ahead as the queue has descriptors are no jump of the index, and one more is.
 pub fn as_many_as_the_size_are_no_jump()
-    ensures size { (s : RingState) (m : List ℕ) → pending s m ≡ s.layout.size → entry_wrong s m ≡ Some IndexJump → ⊥ }
-    ensures one_more { (s : RingState) (m : List ℕ) → pending s m ≡ s.layout.size + 1 → entry_wrong s m ≡ Some IndexJump }
+    ensures size { (s : RingState) (m : List ℕ) → ahead s m ≡ s.layout.size → entry_wrong s m ≡ Some IndexJump → ⊥ }
+    ensures one_more { (s : RingState) (m : List ℕ) → ahead s m ≡ s.layout.size + 1 → entry_wrong s m ≡ Some IndexJump }
 {}

@@ -1,21 +1,30 @@
 //! Bytes over the writable parts of a chain.
 
 ghost use Rattle.std.specs.Prelude.{◌≡◌, ◌+◌, ◌++◌, [], ℕ, List, length};
-ghost use Rattle.ring_core.specs.Parts.{PartsFit, scattered};
+ghost use Rattle.ring_core.specs.Parts.{PartsFit};
+ghost use Rattle.ring_core.specs.Writes.{Write, all_written, scatter_writes};
 ghost use Rattle.ring_core.specs.declared.descriptor.Part.{Part};
 
-/// Bytes that are written over a chain's writable parts in two goes are those written in one, also
-/// where its parts overlap.
-pub fn scatter_in_two()
-    ensures { (m : List ℕ) (parts : List Part) (at : ℕ) (a b : List ℕ) → PartsFit (length m) parts → scattered (scattered m parts at a) parts (at + length a) b ≡ scattered m parts at (a ++ b) }
+/// Of two lists of writes one behind the other, the second is made where the first left memory.
+pub fn writes_in_order()
+    ensures { (m : List ℕ) (first then : List Write) → all_written m (first ++ then) ≡ all_written (all_written m first) then }
 {}
 
-/// No bytes over a chain's writable parts change nothing.
+/// Bytes that are written over a chain's writable parts in two goes leave memory as those written
+/// in one, also where its parts overlap.
+pub fn scatter_in_two()
+    ensures { (m : List ℕ) (parts : List Part) (at : ℕ) (a b : List ℕ) → PartsFit (length m) parts
+        → all_written (all_written m (scatter_writes parts at a)) (scatter_writes parts (at + length a) b)
+        ≡ all_written m (scatter_writes parts at (a ++ b)) }
+{}
+
+/// No bytes over a chain's writable parts are no write.
 pub fn scattering_nothing()
-    ensures { (m : List ℕ) (parts : List Part) (at : ℕ) → scattered m parts at [] ≡ m }
+    ensures { (parts : List Part) (at : ℕ) → scatter_writes parts at [] ≡ [] }
 {}
 
 /// Bytes over parts that fit in memory leave its size.
 pub fn scattering_keeps_the_size()
-    ensures { (m : List ℕ) (parts : List Part) (at : ℕ) (bs : List ℕ) → PartsFit (length m) parts → length (scattered m parts at bs) ≡ length m }
+    ensures { (m : List ℕ) (parts : List Part) (at : ℕ) (bs : List ℕ) → PartsFit (length m) parts
+        → length (all_written m (scatter_writes parts at bs)) ≡ length m }
 {}

@@ -1,7 +1,7 @@
 use Rattle.std.proofs.Common.{arith}
 use Rattle.ring_core.specs.Base.{state_of}
 use Rattle.ring_core.specs.State.{Owns}
-use Rattle.ring_core.proofs.Sound.{sound-use, is_within}
+use Rattle.ring_core.proofs.Sound.{sound-use}
 use Rattle.ring_core.proofs.base.RingBase.release.Goals as goal
 
 pub overflow_add-self : goal.overflow_add-self
@@ -11,4 +11,4 @@ pub invariant_of-self : goal.invariant_of-self
 invariant_of-self c =
     let owns : Owns (state_of c.self.inside) c.args.chain = rw c.self.view_is c.requires in
     rw (c.record_use.ensures.state, c.remove.ensures, c.ticket-ticket.ensures, c.id.ensures, c.slots.ensures, c.slots-self-inside.ensures)
-    (sound-use (state_of c.self.inside) c.args.chain c.self.invariant owns (omega arith) (is_within (state_of c.self.inside) c.args.chain.id _ owns.outstanding))
+    (sound-use (state_of c.self.inside) c.args.chain c.self.invariant owns)

@@ -1,5 +1,5 @@
-use Rattle.ring_core.proofs.Scattering.{scatter_nothing}
+use Rattle.ring_core.proofs.Scattering.{no_writes}
 use Rattle.ring_core.proofs.laws.scattering.scattering_nothing.Goals as goal
 
 pub returns : goal.returns
-returns c = scatter_nothing
+returns c = no_writes

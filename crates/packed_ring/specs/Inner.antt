@@ -1,4 +1,4 @@
--- What a look at the next slots answers.
+-- What the ring's own functions answer to one another. No promise stands on these: public clauses cite what ring_core defines.
 use Rattle.std.specs.Prelude.{ℕ, ◌≡◌, List, [], length, map, Option, Some, None, Result, Ok, Err}
 use Rattle.ring_core.specs.State.{RingState}
 use Rattle.ring_core.specs.Walk.{part_of, amount}
@@ -17,17 +17,17 @@ IsRun m l t run =
     (chain : List Descriptor) × PackedChain m l t chain
     × (run.parts.items ≡ map part_of chain) × (run.id ≡ id_of chain) × (run.slots ≡ length chain)
 
--- this is wrong with the slots from there on; memory is wanted once the first descriptor was found right
-abbrev pub IsWrong : List ℕ → Layout → ℕ → RingFault → Type 0
-IsWrong m l t NoMemory = packed_wrong (length m) l.size (amount []) (slot_at l m t) ≡ None
-IsWrong m l t f = PackedFails m l t f
+-- a walk finds this wrong with the slots from there on; memory is wanted once the first descriptor was found right
+abbrev pub PackedFailsOrLacks : List ℕ → Layout → ℕ → RingFault → Type 0
+PackedFailsOrLacks m l t NoMemory = packed_wrong (length m) l.size (amount []) (slot_at l m t) ≡ None
+PackedFailsOrLacks m l t f = PackedFails m l t f
 
 -- the offer of an unbroken queue; memory is wanted only where a chain begins
-abbrev pub FaultFound : RingState → List ℕ → RingFault → Type 0
-FaultFound s m NoMemory = BeginsInForm Packed s m
-FaultFound s m f = PackedOffers s m (Refused f)
+abbrev pub PackedFaultFound : RingState → List ℕ → RingFault → Type 0
+PackedFaultFound s m NoMemory = BeginsInForm Packed s m
+PackedFaultFound s m f = PackedOffers s m (Refused f)
 
-abbrev pub Finds : RingState → List ℕ → Result (Option Run) RingFault → Type 0
-Finds s m (Ok None) = PackedOffers s m Nothing
-Finds s m (Ok (Some run)) = PackedOffers s m (Found run.id run.slots run.parts.items)
-Finds s m (Err f) = FaultFound s m f
+abbrev pub PackedFinds : RingState → List ℕ → Result (Option Run) RingFault → Type 0
+PackedFinds s m (Ok None) = PackedOffers s m Nothing
+PackedFinds s m (Ok (Some run)) = PackedOffers s m (Found run.id run.slots run.parts.items)
+PackedFinds s m (Err f) = PackedFaultFound s m f

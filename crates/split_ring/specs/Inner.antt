@@ -1,0 +1,31 @@
+-- What the ring's own functions answer to one another. No promise stands on these: public clauses cite what ring_core defines.
+use Rattle.std.specs.Prelude.{ℕ, ◌≡◌, ◌≢◌, List, [], length, Option, Some, None, Result, Ok, Err}
+use Rattle.ring_core.specs.State.{RingState}
+use Rattle.ring_core.specs.Walk.{amount}
+use Rattle.ring_core.specs.Split.{ahead, next_head, entry_wrong, in_table, split_wrong, SplitFails}
+use Rattle.ring_core.specs.Offer.{SplitOffers, Nothing, Found, Refused, BeginsInForm}
+use Rattle.split_ring.specs.declared.ring.Candidate.{Candidate}
+use Rattle.ring_core.specs.declared.layout.Form.TheVariants.{Split}
+use Rattle.ring_core.specs.declared.fault.RingFault.{RingFault}
+use Rattle.ring_core.specs.declared.fault.RingFault.TheVariants.{NoMemory}
+
+-- a walk finds this wrong with the chain at the head; memory is wanted once its first descriptor was found right
+abbrev pub SplitFailsOrLacks : List ℕ → ℕ → ℕ → ℕ → RingFault → Type 0
+SplitFailsOrLacks m table size head NoMemory = split_wrong (length m) size (amount []) (in_table m table head) ≡ None
+SplitFailsOrLacks m table size head f = SplitFails m table size head f
+
+-- the head that the next entry names, or what is wrong with it
+abbrev pub NamesHead : RingState → List ℕ → Result (Option ℕ) RingFault → Type 0
+NamesHead s m (Ok None) = ahead s m ≡ 0
+NamesHead s m (Ok (Some head)) = (ahead s m ≢ 0) × (entry_wrong s m ≡ None) × (head ≡ next_head s m)
+NamesHead s m (Err f) = (ahead s m ≢ 0) × (entry_wrong s m ≡ Some f)
+
+-- the offer of an unbroken queue; memory is wanted only where a chain begins
+abbrev pub SplitFaultFound : RingState → List ℕ → RingFault → Type 0
+SplitFaultFound s m NoMemory = BeginsInForm Split s m
+SplitFaultFound s m f = SplitOffers s m (Refused f)
+
+abbrev pub SplitFinds : RingState → List ℕ → Result (Option Candidate) RingFault → Type 0
+SplitFinds s m (Ok None) = SplitOffers s m Nothing
+SplitFinds s m (Ok (Some c)) = SplitOffers s m (Found c.head 1 c.parts.items)
+SplitFinds s m (Err f) = SplitFaultFound s m f
