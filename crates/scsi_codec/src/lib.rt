@@ -22,7 +22,7 @@ pub use laws::{
     readable_forms, refused_holds_none, written_reads_back,
 };
 pub use lun::{Address, read_lun, write_lun};
-pub use decisions::{CDB_BYTES, CodecFault, REQUEST_BYTES, Request, read_request};
+pub use requests::{CDB_BYTES, CodecFault, REQUEST_BYTES, Request, read_request};
 pub use responses::{
     RESPONSE_BYTES, Response, ResponseCode, SENSE_AREA_BYTES, SENSE_BYTES, write_response,
 };

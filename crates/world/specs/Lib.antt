@@ -11,6 +11,8 @@ pub mod Views
 pub use Rattle.guest_mem.specs.Memory
 pub use Rattle.ring_core.specs.State
 pub use Rattle.ring_core.specs.Parts
+pub use Rattle.ring_core.specs.Writes
+pub use Rattle.ring_core.specs.Sound
 pub use Rattle.ring_core.specs.Offer
 pub use Rattle.ring_core.specs.Fetch
 pub use Rattle.block_store.specs.Blocks

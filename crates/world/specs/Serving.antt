@@ -1,8 +1,9 @@
 -- What the service of one chain does: from the queue, the memory and the units before to those after.
-use Rattle.std.specs.Prelude.{ℕ, ◌≡◌, ◌⊎◌, List, length, Bool, true, false, Result, Ok, Err}
+use Rattle.std.specs.Prelude.{ℕ, ◌≡◌, ◌⊎◌, List, ◌++◌, length, Bool, true, false, Result, Ok, Err}
 use Rattle.ring_core.specs.State.{RingState, PlainChain}
-use Rattle.ring_core.specs.Parts.{readable_total, writable_total, scattered}
-use Rattle.ring_core.specs.Offer.{with_used, MayLackMemory}
+use Rattle.ring_core.specs.Parts.{readable_total, writable_total}
+use Rattle.ring_core.specs.Writes.{Write, all_written, scatter_writes}
+use Rattle.ring_core.specs.Offer.{used_writes, MayLackMemory}
 use Rattle.ring_core.specs.Fetch.{Takes}
 use Rattle.block_store.specs.declared.NoMemory.{NoMemory}
 use Rattle.world.specs.Queue.{PlainQueue, IsIdle, Breaks, completing}
@@ -14,11 +15,15 @@ use Rattle.decisions.specs.declared.answer.ChainLengths.{ChainLengths}
 abbrev pub lengths_of : PlainChain → ChainLengths
 lengths_of c = record { readable = readable_total c.parts; writable = writable_total c.parts }
 
+-- what answers a chain: the answer over its writable parts, and then its used entry
+abbrev pub answer_writes : RingState → PlainChain → List ℕ → List Write
+answer_writes s c answer = scatter_writes c.parts 0 answer ++ used_writes s c.id (length answer)
+
 -- the request of an outstanding chain is answered, the answer written over its writable parts in order, and the chain used with so many bytes
 pub record Finishes (inventory : List Address) (queue : PlainQueue) (m : List ℕ) (units : List PlainUnit) (chain : PlainChain) (bytes : List ℕ) (queue' : PlainQueue) (m' : List ℕ) (units' : List PlainUnit) : Type 0 where
   pub answer : List ℕ
   pub answered : IsAnswered inventory units chain.ticket (lengths_of chain) bytes answer units'
-  pub memory_after : m' ≡ with_used queue.ring (scattered m chain.parts 0 answer) chain.id (length answer)
+  pub memory_after : m' ≡ all_written m (answer_writes queue.ring chain answer)
   pub queue_after : queue' ≡ completing queue chain m'
 
 -- the next chain is taken with its first bytes, and finished

@@ -103,8 +103,10 @@ impl Queue {
     ghost use Rattle.std.specs.Prelude.{◌≡◌, length, is_some, IfOk};
     ghost use Rattle.std.specs.Prelude.{None};
     ghost use Rattle.world.specs.Config.{opening_queue, placement_of};
-    ghost use Rattle.ring_core.specs.State.{Owns, IsLawful};
-    ghost use Rattle.ring_core.specs.Offer.{with_used};
+    ghost use Rattle.ring_core.specs.State.{Owns};
+    ghost use Rattle.ring_core.specs.Sound.{IsSound};
+    ghost use Rattle.ring_core.specs.Writes.{all_written};
+    ghost use Rattle.ring_core.specs.Offer.{used_writes};
     ghost use Rattle.world.specs.Queue.{completing};
     ghost use Rattle.world.specs.Fetching.{Looks};
 
@@ -152,7 +154,7 @@ impl Queue {
         requires fits { length memory.old ≡ self.old.ring.memory }
         requires owned { Owns self.old.ring chain }
         ensures ticket { result ≡ chain.ticket }
-        ensures memory { memory.new ≡ with_used self.old.ring memory.old chain.id len }
+        ensures memory { memory.new ≡ all_written memory.old (used_writes self.old.ring chain.id len) }
         ensures size { length memory.new ≡ length memory.old }
         ensures queue { self.new ≡ completing self.old chain memory.new }
     {
@@ -181,7 +183,7 @@ impl Queue {
     /// Its log.
     pub fn log(&self) -> &QueueLog
         ensures log { result.now ≡ self.now.ring.log }
-        ensures lawful { IsLawful self.now.ring.queue self.now.ring.log }
+        ensures sound { IsSound self.now.ring }
     {
         self.ring.log()
     }

@@ -1,7 +1,8 @@
 //! The service of one chain, from its fetch to its used entry.
 
 ghost use Rattle.std.specs.Prelude.{◌≡◌, ◌≤◌, ◌<◌, ◌^◌, length, take};
-ghost use Rattle.ring_core.specs.Parts.{readable_bytes, first_bytes, writable_total, scattered};
+ghost use Rattle.ring_core.specs.Parts.{readable_bytes, first_bytes, writable_total};
+ghost use Rattle.ring_core.specs.Writes.{all_written, scatter_writes};
 ghost use Rattle.ring_core.specs.State.{IsLawful, Owns};
 ghost use Rattle.world.specs.Answering.{bytes_of};
 ghost use Rattle.world.specs.Serving.{Finishes, Turns};
@@ -22,7 +23,7 @@ fn write_answer(memory: &mut GuestMem, chain: &Chain, answer: &Answer) -> u32
     requires room { length (bytes_of answer.now) ≤ writable_total chain.now.parts }
     requires small { length (bytes_of answer.now) < 2 ^ 32 }
     ensures written { result ≡ length (bytes_of answer.now) }
-    ensures memory { memory.new ≡ scattered memory.old chain.now.parts 0 (bytes_of answer.now) }
+    ensures memory { memory.new ≡ all_written memory.old (scatter_writes chain.now.parts 0 (bytes_of answer.now)) }
     ensures size { length memory.new ≡ length memory.old }
 {
     let _parts = chain.parts();

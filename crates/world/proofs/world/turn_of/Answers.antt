@@ -31,7 +31,7 @@ its_log : (c : goal.After-log-log) → IsLawful c.take_turn-turned.new.queue.rin
 its_log c =
     subst (λ (q : PlainQueue). IsLawful q.ring.queue q.ring.log)
     (get_or-set_same c.args.queues.now c.args.number c.take_turn-turned.new.queue c.index-queues-number-2.result c.requires.inside)
-    c.log-log.ensures.lawful
+    c.log-log.ensures.sound.lawful
 
 pub returns-clause-kept : goal.returns-clause-kept
 unfolding taken
