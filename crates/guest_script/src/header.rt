@@ -1,105 +1,11 @@
 //! The header of a script, and the device that it asks for.
 
-ghost use Rattle.std.specs.Prelude.{◌≡◌, length, [], ◌∷◌, IsOk, IfOk, IfErr, ◌↔◌};
-
-use crate::areas::layout_of;
-use crate::driver::Driver;
-use crate::fault::{LineFault, Stop};
-use crate::lines::{LineText, text_of};
-use crate::values::{number, unit};
+use guest_driver::{Driver, layout_of};
 use ring_core::{Form, Layout};
+use script_lines::{Disk, HeaderLine, LineFault, LineText, Queues, Stop, text_of};
 use std::alloc::{AllocError, Global};
 use std::num::NonZeroU16;
 use world::{Config, RING_PACKED, StartFault, UnitSpec, VERSION_1, World};
-
-/// The largest size of a queue that a script may name.
-const LARGEST_SIZE: u16 = 256;
-
-/// How many queues there are, and of which size.
-#[derive(Clone, Copy, Debug, PartialEq, Eq)]
-pub struct Queues {
-    count: u16,
-    size: u16,
-}
-
-/// A header line.
-#[derive(Clone, Copy, Debug, PartialEq, Eq)]
-pub enum HeaderLine {
-    /// The pages of guest memory.
-    Memory(u32),
-    /// The form of the queues.
-    Ring(Form),
-    /// Their number and size.
-    Queues(Queues),
-    /// How many workers there are.
-    Workers(u16),
-    /// How many jobs the hand-off holds.
-    Handoff(u16),
-    /// A unit.
-    Unit(UnitSpec),
-}
-
-/// Reads the values of a unit.
-fn unit_spec(values: &[&str]) -> Result<UnitSpec, LineFault> {
-    let (target, lun, blocks, calm) = match values {
-        [target, lun, blocks] => (*target, *lun, *blocks, false),
-        [target, lun, blocks, word] if *word == "calm" => (*target, *lun, *blocks, true),
-        _ => return Err(LineFault::BadValue),
-    };
-    let address = unit(target, lun)?;
-    let blocks = number::<u64>(blocks)?;
-    Ok(UnitSpec {
-        target: address.target,
-        lun: address.lun,
-        blocks,
-        calm,
-    })
-}
-
-/// Reads the values of the queues.
-fn read_queues(values: &[&str]) -> Result<Queues, LineFault> {
-    let [count, size] = values else {
-        return Err(LineFault::BadValue);
-    };
-    let count = number::<u16>(count)?;
-    let size = number::<u16>(size)?;
-    if size > LARGEST_SIZE {
-        return Err(LineFault::BadValue);
-    }
-    Ok(Queues { count, size })
-}
-
-/// The one value of a line that has one.
-pub fn only<'a>(values: &[&'a str]) -> Result<&'a str, LineFault>
-    ensures one { IsOk result ↔ (length values.now ≡ 1) }
-    ensures value { IfOk result (λ value. values.now ≡ value ∷ []) }
-    ensures fault { IfErr result (λ fault. fault ≡ LineFault.BadValue) }
-{
-    match values {
-        [value] => Ok(*value),
-        _ => Err(LineFault::BadValue),
-    }
-}
-
-impl HeaderLine {
-    /// Reads a line by its first word and the others; `None` where the first is no word of a header.
-    pub fn read(keyword: &str, values: &[&str]) -> Result<Option<HeaderLine>, LineFault> {
-        let line = match keyword {
-            "memory" => HeaderLine::Memory(number::<u32>(only(values)?)?),
-            "ring" => match only(values)? {
-                "split" => HeaderLine::Ring(Form::Split),
-                "packed" => HeaderLine::Ring(Form::Packed),
-                _ => return Err(LineFault::BadValue),
-            },
-            "queues" => HeaderLine::Queues(read_queues(values)?),
-            "workers" => HeaderLine::Workers(number::<u16>(only(values)?)?),
-            "handoff" => HeaderLine::Handoff(number::<u16>(only(values)?)?),
-            "unit" => HeaderLine::Unit(unit_spec(values)?),
-            _ => return Ok(None),
-        };
-        Ok(Some(line))
-    }
-}
 
 /// Sets what may be set once.
 fn set_once<T: Drop>(place: &mut Option<T>, value: T) -> Result<(), LineFault> {
@@ -162,7 +68,7 @@ impl Header {
             HeaderLine::Queues(queues) => set_once(&mut self.queues, queues)?,
             HeaderLine::Workers(workers) => set_once(&mut self.workers, workers)?,
             HeaderLine::Handoff(handoff) => set_once(&mut self.handoff, handoff)?,
-            HeaderLine::Unit(unit) => self.units.push(unit)?,
+            HeaderLine::Unit(disk) => self.units.push(unit_of(disk))?,
         }
         Ok(())
     }
@@ -192,6 +98,16 @@ impl Header {
             Err(StartFault::BadConfig) => Err(Stop::Fault(LineFault::BadConfig)),
             Err(StartFault::NoMemory) => Err(Stop::NoMemory),
         }
+    }
+}
+
+/// A disk, as the device is told of it.
+fn unit_of(disk: Disk) -> UnitSpec {
+    UnitSpec {
+        target: disk.unit.target,
+        lun: disk.unit.lun,
+        blocks: disk.blocks,
+        calm: disk.calm,
     }
 }
 

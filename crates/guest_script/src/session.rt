@@ -1,14 +1,11 @@
 //! Plays a script.
 
-use crate::command::Command;
-use crate::driver::Driver;
-use crate::fault::{LineFault, ScriptFault, Stop};
-use crate::guest::put_bytes;
 use crate::header::Header;
-use crate::lines::{LineText, lines_of, text_of};
-use crate::requests::Send;
 use crate::show;
-use crate::values::Bytes;
+use guest_driver::{Driver, put_bytes};
+use script_lines::{
+    Bytes, Command, LineFault, LineText, ScriptFault, Send, Stop, lines_of, text_of,
+};
 use std::alloc::Global;
 use std::io::{ErrorKind, Read, Write};
 use world::World;

@@ -2,10 +2,10 @@
 
 ghost use Rattle.std.specs.Prelude.{◌≤◌};
 
-use crate::driver::{Driver, Sent};
-use crate::fault::{LineFault, Stop};
 use block_store::BLOCK_BYTES;
+use guest_driver::{Driver, Sent};
 use guest_mem::GuestMem;
+use script_lines::{LineFault, Stop};
 use scsi_codec::{Address, RESPONSE_BYTES};
 use std::alloc::Global;
 use std::io;

@@ -1,0 +1,20 @@
+-- A request on its way to the device, and where its buffers go.
+use Rattle.std.specs.Prelude.{ℕ, ◌≡◌, ◌≤◌, ◌<◌, ◌+◌, ◌%◌, List, [], length}
+use Rattle.scsi_codec.specs.Lun.{IsAddress}
+use Rattle.scsi_codec.specs.Requests.{IsRequest}
+use Rattle.scsi_codec.specs.declared.lun.Address.{Address}
+use Rattle.script_lines.specs.declared.send.Send.{Send}
+
+-- The bytes of a request before its data out (VIRTIO 1.2, 5.6.6.1): whatever unit its lun names, a
+-- device reads them as the request to that unit.
+pub record IsHead (bytes : List ℕ) (send : Send) : Type 0 where
+  pub whole : length bytes ≡ 51
+  pub read :
+      (unit : Address) → IsAddress send.lun unit
+      → IsRequest bytes (record { address = unit; id = send.id; attribute = send.attribute; cdb = send.cdb }) []
+
+-- the lowest multiple of 16 at or above an address
+pub record IsNextPlace (end next : ℕ) : Type 0 where
+  pub aligned : next % 16 ≡ 0
+  pub behind : end ≤ next
+  pub nearest : next < end + 16

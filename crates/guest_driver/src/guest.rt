@@ -1,0 +1,108 @@
+//! What the guest writes into its memory, and what it reads there.
+
+ghost use Rattle.std.specs.Prelude.{◌≡◌, length, IsOk, OnOk, OnErr, IfErr, ◌↔◌};
+ghost use Rattle.std.specs.Int.{w16, w32, from_le_bytes};
+ghost use Rattle.guest_mem.specs.Memory.{bytes_at, with_bytes, LiesIn};
+ghost use Rattle.guest_driver.specs.Guest.{IsDescriptor};
+
+use guest_mem::GuestMem;
+use script_lines::{Bytes, Item, LineFault, Stop};
+use std::alloc::{AllocError, Global};
+use world::World;
+
+/// The most bytes that are written at once, but for a longer item.
+const BLOCK_BYTES: usize = 4096;
+
+/// Where a buffer lies in guest memory.
+#[derive(Clone, Copy, Debug, PartialEq, Eq)]
+pub struct Buffer {
+    /// The address of its first byte.
+    pub at: u64,
+    /// How many bytes it has.
+    pub len: u32,
+}
+
+/// A descriptor of either form: an address, a length, and two numbers in the form's own order.
+pub fn descriptor(buffer: Buffer, third: u16, last: u16) -> [u8; 16]
+    ensures { IsDescriptor result buffer third last }
+{
+    let mut bytes = [0; 16];
+    bytes[..8].copy_from_slice(&buffer.at.to_le_bytes());
+    bytes[8..12].copy_from_slice(&buffer.len.to_le_bytes());
+    bytes[12..14].copy_from_slice(&third.to_le_bytes());
+    bytes[14..].copy_from_slice(&last.to_le_bytes());
+    bytes
+}
+
+/// Two bytes as a number; 0 where they lie outside memory.
+pub fn u16_at(memory: &GuestMem, at: u64) -> u16
+    ensures inside { LiesIn (length memory.now) at 2 → result ≡ from_le_bytes w16 (bytes_at memory.now at 2) }
+    ensures outside { ¬ LiesIn (length memory.now) at 2 → result ≡ 0 }
+{
+    let mut bytes = [0; 2];
+    match memory.read(at, &mut bytes) {
+        Ok(()) => u16::from_le_bytes(bytes),
+        Err(_) => 0,
+    }
+}
+
+/// Four bytes as a number; 0 where they lie outside memory.
+pub fn u32_at(memory: &GuestMem, at: u64) -> u32
+    ensures inside { LiesIn (length memory.now) at 4 → result ≡ from_le_bytes w32 (bytes_at memory.now at 4) }
+    ensures outside { ¬ LiesIn (length memory.now) at 4 → result ≡ 0 }
+{
+    let mut bytes = [0; 4];
+    match memory.read(at, &mut bytes) {
+        Ok(()) => u32::from_le_bytes(bytes),
+        Err(_) => 0,
+    }
+}
+
+/// Writes bytes that are there. `NoGuestMemory`, with nothing changed, exactly where one of them would
+/// lie outside memory.
+pub fn put(world: &mut World, at: u64, bytes: &[u8]) -> Result<(), LineFault>
+    ensures inside { IsOk result ↔ LiesIn (length world.old.memory) at (length bytes.now) }
+    ensures written { OnOk result (world.new ≡ record world.old { memory = with_bytes world.old.memory at bytes.now }) }
+    ensures fault { IfErr result (λ fault. fault ≡ LineFault.NoGuestMemory) }
+    ensures unchanged { OnErr result (world.new ≡ world.old) }
+{
+    if world.poke(at, bytes) {
+        Ok(())
+    } else {
+        Err(LineFault::NoGuestMemory)
+    }
+}
+
+/// So many copies of an item's bytes, in a row.
+fn copies_of(alloc: Global, item: &Item, copies: u32) -> Result<Vec<u8>, AllocError> {
+    let mut bytes = Vec::new(alloc);
+    item.append_copies(copies, &mut bytes)?;
+    Ok(bytes)
+}
+
+/// Writes an item, a block of whole copies after the other.
+fn put_item(alloc: Global, world: &mut World, start: u64, item: &Item) -> Result<(), Stop> {
+    let fit = BLOCK_BYTES / item.bytes.len().max(1);
+    let copies = item.repeat.min(fit.max(1) as u32).max(1);
+    let block = copies_of(alloc, item, copies)?;
+    let mut at = start;
+    for _ in 0..item.repeat / copies {
+        put(world, at, block.as_slice())?;
+        at = at.saturating_add(block.len() as u64);
+    }
+    let rest = copies_of(alloc, item, item.repeat % copies)?;
+    put(world, at, rest.as_slice())?;
+    Ok(())
+}
+
+/// Writes the bytes of a line from an address on, where the caller has found them to fit. No more than
+/// a block of them is built at a time. `NoGuestMemory` where they don't fit, `NoMemory` where memory
+/// runs out; what was written before stands.
+pub fn put_bytes(alloc: Global, world: &mut World, start: u64, bytes: &Bytes) -> Result<(), Stop> {
+    let mut at = start;
+    for item in bytes.items() {
+        put_item(alloc, world, at, item)?;
+        at = at.saturating_add(item.length());
+    }
+    Ok(())
+}

@@ -1,0 +1,182 @@
+//! The driver's side of a packed virtqueue (VIRTIO 1.2, 2.8).
+
+ghost use Rattle.std.specs.Prelude.{◌≡◌, ◌<◌, ◌+◌, ℕ, Bool, IsTrue, ◌↔◌, not};
+ghost use Rattle.ring_core.specs.Packed.{used_flags};
+ghost use Rattle.guest_driver.specs.Places.{HasPassed, avail_flag, used_flag};
+
+use crate::areas::layout_of;
+use crate::guest::{descriptor, put, u16_at, u32_at};
+use crate::requests::{Pair, Used};
+use guest_mem::GuestMem;
+use script_lines::{LineFault, Stop};
+use std::alloc::{AllocError, Global};
+use std::collections::BTreeSet;
+use std::num::NonZeroU16;
+use world::World;
+
+/// VIRTQ_DESC_F_NEXT: the chain goes on in the next slot.
+const NEXT: u16 = 1;
+
+/// VIRTQ_DESC_F_WRITE: the device writes the buffer.
+const WRITE: u16 = 2;
+
+/// VIRTQ_DESC_F_AVAIL.
+const AVAILABLE: u16 = 1 << 7;
+
+/// VIRTQ_DESC_F_USED.
+const USED: u16 = 1 << 15;
+
+/// How many slots a chain takes.
+const CHAIN_SLOTS: u16 = 2;
+
+/// A place in the ring, with the wrap counter there.
+#[derive(Clone, Copy, Debug, PartialEq, Eq)]
+struct Position {
+    slot: u16,
+    wrap: bool,
+}
+
+impl Position {
+    /// Where a ring begins.
+    const START: Position = Position {
+        slot: 0,
+        wrap: true,
+    };
+
+    /// The next place in a ring of that size.
+    fn next(self, size: NonZeroU16) -> Position
+        ensures { (slots : ℕ) → HasPassed size.value slots self → HasPassed size.value (slots + 1) result }
+    {
+        if self.slot < size.get() - 1 {
+            Position {
+                slot: self.slot + 1,
+                wrap: self.wrap,
+            }
+        } else {
+            Position {
+                slot: 0,
+                wrap: !self.wrap,
+            }
+        }
+    }
+
+    /// The two flags of a descriptor that is available here.
+    fn available(self) -> u16
+        ensures avail { avail_flag result ≡ self.wrap }
+        ensures used { used_flag result ≡ not self.wrap }
+    {
+        if self.wrap { AVAILABLE } else { USED }
+    }
+
+    /// Whether flags are those of a descriptor that is used here: the device wrote them under this
+    /// wrap counter.
+    fn is_used(self, flags: u16) -> bool
+        ensures { (wrap : Bool) (len : ℕ) → flags ≡ used_flags wrap len → (IsTrue result ↔ (wrap ≡ self.wrap)) }
+    {
+        let both = AVAILABLE | USED;
+        flags & both == if self.wrap { both } else { 0 }
+    }
+}
+
+/// A packed queue, as its driver keeps it. A chain takes two slots.
+#[derive(Drop)]
+pub struct PackedQueue {
+    queue: u16,
+    size: NonZeroU16,
+    /// The ids of no open chain.
+    free_ids: BTreeSet<u16>,
+    /// How many slots no open chain takes.
+    free_slots: u16,
+    /// The key of the open request under each id.
+    open: Vec<Option<usize>>,
+    /// Where the next chain goes.
+    next: Position,
+    /// Where the next used descriptor comes.
+    seen: Position,
+}
+
+impl PackedQueue {
+    /// A queue with no chain.
+    pub fn new(alloc: Global, queue: u16, size: NonZeroU16) -> Result<PackedQueue, AllocError> {
+        let mut free_ids = BTreeSet::new(alloc);
+        for id in 0..size.get() {
+            free_ids.insert(id)?;
+        }
+        Ok(PackedQueue {
+            queue,
+            size,
+            free_ids,
+            free_slots: size.get(),
+            open: vec![in alloc; None; size.get() as usize]?,
+            next: Position::START,
+            seen: Position::START,
+        })
+    }
+
+    /// Whether fewer slots are free than a chain takes.
+    pub fn is_full(&self) -> bool
+        ensures { IsTrue result ↔ (self.now.free_slots < 2) }
+    {
+        self.free_slots < CHAIN_SLOTS
+    }
+
+    /// Makes a chain of two buffers available, under a request's key. The flags of the first
+    /// descriptor are written last.
+    pub fn offer(&mut self, world: &mut World, pair: Pair, key: usize) -> Result<(), Stop> {
+        let Some(free_slots) = self.free_slots.checked_sub(CHAIN_SLOTS) else {
+            return Err(Stop::Fault(LineFault::QueueFull));
+        };
+        let Some(id) = self.free_ids.pop_first() else {
+            return Err(Stop::Fault(LineFault::QueueFull));
+        };
+        let Some(place) = self.open.get_mut(id as usize) else {
+            return Err(Stop::Fault(LineFault::QueueFull));
+        };
+        *place = Some(key);
+        let layout = layout_of(self.queue, self.size.get());
+        let first = self.next;
+        let second = first.next(self.size);
+        let flags = WRITE | second.available();
+        let at = layout.desc + 16 * u64::from(second.slot);
+        put(world, at, &descriptor(pair.writable, id, flags))?;
+        let flags = NEXT | first.available();
+        let at = layout.desc + 16 * u64::from(first.slot);
+        put(world, at, &descriptor(pair.readable, id, 0)[..14])?;
+        put(world, at + 14, &flags.to_le_bytes())?;
+        self.next = second.next(self.size);
+        self.free_slots = free_slots;
+        Ok(())
+    }
+
+    /// Reads the ring from its own position on while descriptors are used, and adds what they say.
+    /// It stops at an id that isn't open.
+    pub fn look(&mut self, memory: &GuestMem, used: &mut Vec<Used>) -> Result<(), AllocError> {
+        let layout = layout_of(self.queue, self.size.get());
+        for _ in 0..self.size.get() {
+            let at = layout.desc + 16 * u64::from(self.seen.slot);
+            if !self.seen.is_used(u16_at(memory, at + 14)) {
+                return Ok(());
+            }
+            let Some(key) = self.close(u16_at(memory, at + 12))? else {
+                return Ok(());
+            };
+            let len = u32_at(memory, at + 8);
+            used.push(Used { key, len })?;
+            self.seen = self.seen.next(self.size).next(self.size);
+        }
+        Ok(())
+    }
+
+    /// Frees the id and the slots of an open chain, and gives its request's key.
+    fn close(&mut self, id: u16) -> Result<Option<usize>, AllocError> {
+        let Some(place) = self.open.get_mut(id as usize) else {
+            return Ok(None);
+        };
+        let key = place.take();
+        if key.is_some() {
+            self.free_ids.insert(id)?;
+            self.free_slots = self.free_slots.saturating_add(CHAIN_SLOTS);
+        }
+        Ok(key)
+    }
+}

@@ -1,0 +1,82 @@
+//! A request on its way to the device.
+
+ghost use Rattle.std.specs.Prelude.{◌≡◌, ◌≤◌, ◌<◌, ◌+◌, ◌^◌, ℕ, IsOk, IfOk, OnOk, IfErr, OnErr, ◌↔◌};
+ghost use Rattle.guest_mem.specs.Memory.{LiesIn};
+ghost use Rattle.guest_driver.specs.Requests.{IsHead, IsNextPlace};
+
+use crate::guest::Buffer;
+use script_lines::{LineFault, Send};
+use scsi_codec::REQUEST_BYTES;
+use std::alloc::{AllocError, Global};
+use std::marker::Model;
+
+/// The bytes of a request before its data out (VIRTIO 1.2, 5.6.6.1): the unit's address, the id, the
+/// attribute, two bytes that the device ignores, and the command block.
+pub fn request_head(alloc: Global, send: &Send<'_>) -> Result<Vec<u8>, AllocError>
+    ensures { IfOk result (λ head. IsHead head.items send.now) }
+{
+    let mut head = Vec::with_capacity(alloc, REQUEST_BYTES)?;
+    head.extend_from_slice(&send.lun)?;
+    head.extend_from_slice(&send.id.to_le_bytes())?;
+    head.extend_from_slice(&[send.attribute, 0, 0])?;
+    head.extend_from_slice(&send.cdb)?;
+    Ok(head)
+}
+
+/// The buffers of a request.
+#[derive(Clone, Copy, Debug, PartialEq, Eq)]
+pub struct Pair {
+    /// What the device reads.
+    pub readable: Buffer,
+    /// What the device writes.
+    pub writable: Buffer,
+}
+
+/// What a queue says of a chain that was used.
+#[derive(Clone, Copy, Debug, PartialEq, Eq)]
+pub struct Used {
+    /// The key of its request.
+    pub key: usize,
+    /// How many bytes the device says that it wrote.
+    pub len: u32,
+}
+
+/// Where the next buffer goes. None is used again.
+#[derive(Clone, Copy, Debug, PartialEq, Eq)]
+pub struct Space {
+    next: u64,
+}
+
+impl Model for Space {
+    ghost Value = { ℕ };
+
+    ghost view = { λ space. space.next };
+
+    ghost inverse = { λ next. record { next = next } };
+}
+
+impl Space {
+    /// Where the first buffer goes.
+    pub const START: Space = Space { next: 1 << 20 };
+
+    /// Places a buffer, each at a multiple of 16, in a memory of that size. `NoGuestMemory`, with
+    /// nothing changed, exactly where it doesn't fit there or into a descriptor's length.
+    pub fn place(&mut self, len: u64, memory: u64) -> Result<Buffer, LineFault>
+        requires { memory ≤ 2 ^ 32 }
+        ensures inside { IsOk result ↔ (LiesIn memory self.old len × (len < 2 ^ 32)) }
+        ensures placed { IfOk result (λ buffer. buffer ≡ record { at = self.old; len = len }) }
+        ensures next { OnOk result (IsNextPlace (self.old + len) self.new) }
+        ensures fault { IfErr result (λ fault. fault ≡ LineFault.NoGuestMemory) }
+        ensures unchanged { OnErr result (self.new ≡ self.old) }
+    {
+        let at = self.next;
+        if at > memory || len > memory - at {
+            return Err(LineFault::NoGuestMemory);
+        }
+        let Ok(size) = u32::try_from(len) else {
+            return Err(LineFault::NoGuestMemory);
+        };
+        self.next = (at + len).div_ceil(16).saturating_mul(16);
+        Ok(Buffer { at, len: size })
+    }
+}

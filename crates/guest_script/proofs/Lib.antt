@@ -1,6 +1,0 @@
-pub mod Copies
-pub mod Digits
-pub mod Heads
-pub mod Numbers
-pub mod Rounds
-pub mod Totals

@@ -1,5 +1,0 @@
-pub mod Faults
-pub mod Guest
-pub mod Requests
-pub mod Places
-pub mod Values

@@ -1,0 +1,118 @@
+//! What can end a script.
+
+ghost use Rattle.std.specs.Prelude.{◌≡◌};
+ghost use Rattle.script_lines.specs.Faults.{ending_at};
+ghost use Rattle.script_lines.specs.declared.fault.Stop.{Stop};
+
+use block_store::NoMemory;
+use std::alloc::{AllocError, AllocFailed};
+use thiserror::Error;
+
+/// What is wrong with a line. Where several hold of one line, the first in this order is named,
+/// but `BadConfig` stands before all.
+#[derive(Clone, Copy, Debug, PartialEq, Eq, Error)]
+pub enum LineFault {
+    /// The line begins with no word of the language, or has a byte above 7f.
+    #[error("unknown line")]
+    UnknownLine,
+    /// A word that its place doesn't take, or too few or too many words.
+    #[error("bad value")]
+    BadValue,
+    /// A header line behind the header, or for the second time.
+    #[error("out of place")]
+    OutOfPlace,
+    /// A request of that name was sent before.
+    #[error("name taken")]
+    NameTaken,
+    /// No request of that name was sent.
+    #[error("no such name")]
+    NoSuchName,
+    /// The queue has no room for another chain.
+    #[error("queue full")]
+    QueueFull,
+    /// The buffers don't fit into guest memory.
+    #[error("no guest memory")]
+    NoGuestMemory,
+    /// The header lacks a line, or asks for what the device refuses.
+    #[error("bad config")]
+    BadConfig,
+    /// The script can't be read.
+    #[error("cannot read")]
+    CannotRead,
+}
+
+/// Why a script came to no good end.
+#[derive(Clone, Copy, Debug, PartialEq, Eq, Error)]
+pub enum ScriptFault {
+    /// A line is at fault. Lines count from 1; the line is 0 where the script can't be read, or is
+    /// empty.
+    #[error("line {line}: {fault}")]
+    Line {
+        /// The line's number.
+        line: u64,
+        /// What is wrong with it.
+        fault: LineFault,
+    },
+    /// Memory ran out.
+    #[error("no memory")]
+    NoMemory,
+    /// The writer refused a printed line.
+    #[error("cannot write")]
+    CannotWrite,
+}
+
+/// Why a line ends the script, before it is known which line it is.
+#[derive(Clone, Copy, Debug, PartialEq, Eq)]
+pub enum Stop {
+    /// The line is at fault.
+    Fault(LineFault),
+    /// Memory ran out.
+    NoMemory,
+    /// The writer refused a printed line.
+    CannotWrite,
+}
+
+impl Stop {
+    /// The fault of a script that stopped at this line.
+    pub fn at(self, line: u64) -> ScriptFault
+        ensures { result ≡ ending_at line self }
+    {
+        match self {
+            Stop::Fault(fault) => ScriptFault::Line { line, fault },
+            Stop::NoMemory => ScriptFault::NoMemory,
+            Stop::CannotWrite => ScriptFault::CannotWrite,
+        }
+    }
+}
+
+impl From<LineFault> for Stop {
+    ghost from_gives = { λ fault stop. stop ≡ Stop.Fault fault };
+
+    fn from(fault: LineFault) -> Stop {
+        Stop::Fault(fault)
+    }
+}
+
+impl From<NoMemory> for Stop {
+    ghost from_gives = { λ _ stop. stop ≡ Stop.NoMemory };
+
+    fn from(_: NoMemory) -> Stop {
+        Stop::NoMemory
+    }
+}
+
+impl From<AllocError> for Stop {
+    ghost from_gives = { λ _ stop. stop ≡ Stop.NoMemory };
+
+    fn from(_: AllocError) -> Stop {
+        Stop::NoMemory
+    }
+}
+
+impl<T: Drop> From<AllocFailed<T>> for Stop {
+    ghost from_gives = { λ _ stop. stop ≡ Stop.NoMemory };
+
+    fn from(_: AllocFailed<T>) -> Stop {
+        Stop::NoMemory
+    }
+}

@@ -1,0 +1,107 @@
+//! The lines of a script's header.
+
+ghost use Rattle.std.specs.Prelude.{◌≡◌, length, [], ◌∷◌, IsOk, IfOk, IfErr, ◌↔◌};
+
+use crate::fault::LineFault;
+use crate::values::{number, unit};
+use ring_core::Form;
+use scsi_codec::Address;
+
+/// The largest size of a queue that a script may name.
+const LARGEST_SIZE: u16 = 256;
+
+/// The queues that a header asks for.
+#[derive(Clone, Copy, Debug, PartialEq, Eq)]
+pub struct Queues {
+    /// How many there are.
+    pub count: u16,
+    /// How many descriptors each has, at most 256 as a line is read.
+    pub size: u16,
+}
+
+/// A disk that a header asks for.
+#[derive(Clone, Copy, Debug, PartialEq, Eq)]
+pub struct Disk {
+    /// Where it is found.
+    pub unit: Address,
+    /// Its capacity in blocks of 512 bytes.
+    pub blocks: u64,
+    /// Whether nothing is pending at the start; else POWER ON OCCURRED is.
+    pub calm: bool,
+}
+
+/// A header line. Which of its numbers the device takes isn't known here.
+#[derive(Clone, Copy, Debug, PartialEq, Eq)]
+pub enum HeaderLine {
+    /// The pages of guest memory, of 4,096 bytes.
+    Memory(u32),
+    /// The form of the queues.
+    Ring(Form),
+    /// Their number and size.
+    Queues(Queues),
+    /// How many workers there are.
+    Workers(u16),
+    /// How many jobs the hand-off holds.
+    Handoff(u16),
+    /// A disk.
+    Unit(Disk),
+}
+
+/// Reads the values of a unit.
+fn read_disk(values: &[&str]) -> Result<Disk, LineFault> {
+    let (target, lun, blocks, calm) = match values {
+        [target, lun, blocks] => (*target, *lun, *blocks, false),
+        [target, lun, blocks, word] if *word == "calm" => (*target, *lun, *blocks, true),
+        _ => return Err(LineFault::BadValue),
+    };
+    let unit = unit(target, lun)?;
+    let blocks = number::<u64>(blocks)?;
+    Ok(Disk { unit, blocks, calm })
+}
+
+/// Reads the values of the queues.
+fn read_queues(values: &[&str]) -> Result<Queues, LineFault> {
+    let [count, size] = values else {
+        return Err(LineFault::BadValue);
+    };
+    let count = number::<u16>(count)?;
+    let size = number::<u16>(size)?;
+    if size > LARGEST_SIZE {
+        return Err(LineFault::BadValue);
+    }
+    Ok(Queues { count, size })
+}
+
+/// The one value of a line that has one.
+pub fn only<'a>(values: &[&'a str]) -> Result<&'a str, LineFault>
+    ensures one { IsOk result ↔ (length values.now ≡ 1) }
+    ensures value { IfOk result (λ value. values.now ≡ value ∷ []) }
+    ensures fault { IfErr result (λ fault. fault ≡ LineFault.BadValue) }
+{
+    match values {
+        [value] => Ok(*value),
+        _ => Err(LineFault::BadValue),
+    }
+}
+
+impl HeaderLine {
+    /// Reads a line by its first word and the others; `None` where the first is no word of a header.
+    /// `BadValue` where the others aren't what it takes. Whether the line stands in its place isn't
+    /// known here.
+    pub fn read(keyword: &str, values: &[&str]) -> Result<Option<HeaderLine>, LineFault> {
+        let line = match keyword {
+            "memory" => HeaderLine::Memory(number::<u32>(only(values)?)?),
+            "ring" => match only(values)? {
+                "split" => HeaderLine::Ring(Form::Split),
+                "packed" => HeaderLine::Ring(Form::Packed),
+                _ => return Err(LineFault::BadValue),
+            },
+            "queues" => HeaderLine::Queues(read_queues(values)?),
+            "workers" => HeaderLine::Workers(number::<u16>(only(values)?)?),
+            "handoff" => HeaderLine::Handoff(number::<u16>(only(values)?)?),
+            "unit" => HeaderLine::Unit(read_disk(values)?),
+            _ => return Ok(None),
+        };
+        Ok(Some(line))
+    }
+}

@@ -1,0 +1,17 @@
+//! The language of scripts as text: a script's lines, a line's words, and what the words say. Nothing
+//! here runs a script.
+#![tactic(auto)]
+
+mod command;
+mod fault;
+mod header;
+mod lines;
+mod send;
+mod values;
+
+pub use command::Command;
+pub use fault::{LineFault, ScriptFault, Stop};
+pub use header::{Disk, HeaderLine, Queues};
+pub use lines::{LineText, lines_of, text_of};
+pub use send::Send;
+pub use values::{Bytes, Item};
