@@ -7,8 +7,8 @@ use Rattle.scsi_codec.specs.declared.lun.Address.{Address}
 use Rattle.ring_core.specs.State.{RingState, PlainChain, IsLawful, next_ticket, accepting}
 use Rattle.world.specs.Queue.{PlainQueue, IsIdle, completing}
 use Rattle.world.specs.Unit.{PlainUnit}
-use Rattle.world.specs.Serving.{Turns}
-use Rattle.world.specs.World.{PlainWorld, IdleAt, TurnsAt, IdleBelow, Steps, Runs, AreKept, IsKept}
+use Rattle.world.specs.Turning.{Turns, TurnsAt}
+use Rattle.world.specs.World.{PlainWorld, IdleAt, IdleBelow, Steps, Runs, AreKept, IsKept}
 
 same_or_other : (j i : ℕ) → (j ≡ i) ⊎ (j ≢ i)
 same_or_other j i = grind arith

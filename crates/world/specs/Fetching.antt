@@ -1,4 +1,4 @@
--- What a look at a queue answers.
+-- What a look at a queue answers. Only private functions and models cite it: no promise stands on it.
 use Rattle.std.specs.Prelude.{List, ℕ, ◌≡◌, Result, Ok, Err}
 use Rattle.ring_core.specs.Offer.{MayLackMemory}
 use Rattle.ring_core.specs.Fetch.{Takes}

@@ -6,6 +6,7 @@ pub mod UnitFields
 pub mod Answering
 pub mod Serving
 pub mod World
+pub mod Turning
 pub mod Config
 pub mod Views
 pub use Rattle.guest_mem.specs.Memory

@@ -1,12 +1,11 @@
 -- What the service of one chain does: from the queue, the memory and the units before to those after.
-use Rattle.std.specs.Prelude.{ℕ, ◌≡◌, ◌⊎◌, List, ◌++◌, length, Bool, true, false, Result, Ok, Err}
+use Rattle.std.specs.Prelude.{ℕ, ◌≡◌, List, ◌++◌, length}
 use Rattle.ring_core.specs.State.{RingState, PlainChain}
 use Rattle.ring_core.specs.Parts.{readable_total, writable_total}
 use Rattle.ring_core.specs.Writes.{Write, all_written, scatter_writes}
-use Rattle.ring_core.specs.Offer.{used_writes, MayLackMemory}
+use Rattle.ring_core.specs.Offer.{used_writes}
 use Rattle.ring_core.specs.Fetch.{Takes}
-use Rattle.block_store.specs.declared.NoMemory.{NoMemory}
-use Rattle.world.specs.Queue.{PlainQueue, IsIdle, Breaks, completing}
+use Rattle.world.specs.Queue.{PlainQueue, Breaks, completing}
 use Rattle.world.specs.Unit.{PlainUnit}
 use Rattle.world.specs.Answering.{IsAnswered}
 use Rattle.scsi_codec.specs.declared.lun.Address.{Address}
@@ -37,16 +36,3 @@ pub record Serves (inventory : List Address) (queue : PlainQueue) (m : List ℕ)
 -- a fault of the guest breaks the queue, and nothing else changes
 abbrev pub OnlyBreaks : PlainQueue → List ℕ → List PlainUnit → PlainQueue → List ℕ → List PlainUnit → Type 0
 OnlyBreaks queue m units queue' m' units' = Breaks queue m queue' × (m' ≡ m) × (units' ≡ units)
-
-abbrev pub AreAsBefore : PlainQueue → List ℕ → List PlainUnit → PlainQueue → List ℕ → List PlainUnit → Type 0
-AreAsBefore queue m units queue' m' units' = (queue' ≡ queue) × (m' ≡ m) × (units' ≡ units)
-
--- what a turn at one queue answers: that something changed, that nothing was to be done, or want of memory
-abbrev pub Turns : List Address → PlainQueue → List ℕ → List PlainUnit → Result Bool NoMemory → PlainQueue
-    → List ℕ → List PlainUnit → Type 0
-Turns inventory queue m units (Ok true) queue' m' units' = Serves inventory queue m units queue' m' units'
-    ⊎ OnlyBreaks queue m units queue' m' units'
-Turns inventory queue m units (Ok false) queue' m' units' = IsIdle queue.ring m
-    × AreAsBefore queue m units queue' m' units'
-Turns inventory queue m units (Err e) queue' m' units' = MayLackMemory queue.ring m
-    × AreAsBefore queue m units queue' m' units'

@@ -1,4 +1,4 @@
--- A unit's fields as its plain value.
+-- A unit's fields as its plain value. Only private functions and models cite it: no promise stands on it.
 use Rattle.std.specs.Prelude.{ℕ, ◌≡◌, ◌<◌, List, map, reverse}
 use Rattle.block_store.specs.Blocks.{block_count, nth_block}
 use Rattle.world.specs.Unit.{PlainCommit, PlainUnit, Opening, blocks_of, pending_of}

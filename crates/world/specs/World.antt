@@ -34,12 +34,6 @@ IdleAt w number = (q : PlainQueue) → slice_get w.queues number ≡ Some q → 
 abbrev pub WantsAt : PlainWorld → ℕ → Type 0
 WantsAt w number = (q : PlainQueue) × (slice_get w.queues number ≡ Some q) × MayLackMemory q.ring w.memory
 
--- a turn at the queue of this number: that something changed, that nothing was to be done, or want of memory
-abbrev pub TurnsAt : PlainWorld → ℕ → Result Bool NoMemory → PlainWorld → Type 0
-TurnsAt old number (Ok true) new = StepAt old number new
-TurnsAt old number (Ok false) new = (new ≡ old) × IdleAt old number
-TurnsAt old number (Err e) new = (new ≡ old) × WantsAt old number
-
 -- at no request queue below this number is anything to be done
 abbrev pub IdleBelow : PlainWorld → ℕ → Type 0
 IdleBelow w number = (k : ℕ) → 2 ≤ k → k < number → IdleAt w k
@@ -60,12 +54,6 @@ Runs old (next ∷ later) new = Steps old next × Runs next later new
 -- the lowest request queue at which something is to be done has what a fetch may be refused memory for
 abbrev pub WantsMemory : PlainWorld → Type 0
 WantsMemory w = (number : ℕ) × (2 ≤ number) × IdleBelow w number × WantsAt w number
-
--- the next step, if there is one
-abbrev pub NextTurns : PlainWorld → Result Bool NoMemory → PlainWorld → Type 0
-NextTurns old (Ok true) new = Steps old new
-NextTurns old (Ok false) new = (new ≡ old) × IsSettled old
-NextTurns old (Err e) new = (new ≡ old) × WantsMemory old
 
 -- a run of so many steps to where nothing is left to do
 abbrev pub Settles : PlainWorld → ℕ → PlainWorld → Type 0

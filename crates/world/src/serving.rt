@@ -5,7 +5,8 @@ ghost use Rattle.ring_core.specs.Parts.{readable_bytes, first_bytes, writable_to
 ghost use Rattle.ring_core.specs.Writes.{all_written, scatter_writes};
 ghost use Rattle.ring_core.specs.State.{IsLawful, Owns};
 ghost use Rattle.world.specs.Answering.{bytes_of};
-ghost use Rattle.world.specs.Serving.{Finishes, Turns};
+ghost use Rattle.world.specs.Serving.{Finishes};
+ghost use Rattle.world.specs.Turning.{Turns};
 
 use crate::answer::Answer;
 use crate::answering::answer_request;

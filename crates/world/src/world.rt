@@ -4,7 +4,8 @@ ghost use Rattle.std.specs.Prelude.{◌≡◌, ◌<◌, ◌≤◌, length, map, 
 ghost use Rattle.decisions.specs.Inventory.{address_of};
 ghost use Rattle.std.specs.List.{list_all, list_any};
 ghost use Rattle.world.specs.Config.{AreOpening, AreFresh, Opens, is_config, is_queue};
-ghost use Rattle.world.specs.World.{TurnsAt, AreKept};
+ghost use Rattle.world.specs.Turning.{TurnsAt};
+ghost use Rattle.world.specs.World.{AreKept};
 
 use crate::config::{Config, StartFault, form};
 use crate::queue::Queue;
@@ -33,7 +34,9 @@ fn turn_of(
     requires inside { number < length queues.old }
     requires kept { AreKept queues.old (length memory.old) }
     requires there { length inventory.now ≡ length units.old }
-    ensures turn { TurnsAt (record { memory = memory.old; inventory = inventory.now; queues = queues.old; units = units.old }) number result (record { memory = memory.new; inventory = inventory.now; queues = queues.new; units = units.new }) }
+    ensures turn { TurnsAt
+        (record { memory = memory.old; inventory = inventory.now; queues = queues.old; units = units.old }) number result
+        (record { memory = memory.new; inventory = inventory.now; queues = queues.new; units = units.new }) }
     ensures kept { AreKept queues.new (length memory.new) }
     ensures units { length units.new ≡ length units.old }
 {
@@ -141,7 +144,8 @@ impl World {
     ghost use Rattle.world.specs.Config.{is_config, Opens, StartRefusedAs};
     ghost use Rattle.std.specs.Prelude.{◌≡◌, ◌<◌, length, MatchResult};
     ghost use Rattle.ring_core.specs.State.{IsLawful};
-    ghost use Rattle.world.specs.World.{AreKept, TurnsAt, NextTurns, Settles, EndsForMemory};
+    ghost use Rattle.world.specs.Turning.{TurnsAt, NextTurns};
+    ghost use Rattle.world.specs.World.{AreKept, Settles, EndsForMemory};
     ghost use Rattle.world.specs.Unit.{capacity_of};
     ghost use Rattle.world.specs.Views.{unit_at, device_status, GivesBlocks};
 
