@@ -8,4 +8,3 @@ mod show;
 
 pub use script_lines::{LineFault, ScriptFault};
 pub use session::play;
-pub use world;
