@@ -11,6 +11,8 @@ use Rattle.ring_core.specs.declared.before.Before.{Before}
 use Rattle.ring_core.specs.declared.fault.RingFault.{RingFault}
 use Rattle.ring_core.specs.declared.fault.RingFault.TheVariants.{NoMemory}
 use Rattle.ring_core.proofs.Along.{Along, along_start, along_more, along_end, along_first, along_wrong}
+use Rattle.ring_core.proofs.Exists.{length-front}
+use Rattle.ring_core.proofs.ChainProperties.{id_of_last}
 use Rattle.packed_ring.specs.Inner.{PackedFailsOrLacks}
 
 right_total : (memory size : ℕ) (b : Before) (d : Descriptor) → packed_wrong memory size b d ≡ None → b.total + d.len ≤ 2 ^ 32
@@ -21,16 +23,6 @@ right_next memory size b d e on = grind (arith, common_steps, nat_tests)
 
 never_memory : (memory size : ℕ) (b : Before) (d : Descriptor) → packed_wrong memory size b d ≡ Some NoMemory → ⊥
 never_memory memory size b d e = grind (arith, common_steps, nat_tests)
-
-id_of_last : (ds : List Descriptor) (d : Descriptor) → id_of (ds ++ d ∷ []) ≡ d.next_or_id
-id_of_last [] d = refl
-id_of_last (a ∷ []) d = refl
-id_of_last (a ∷ b ∷ ds) d = id_of_last (b ∷ ds) d
-
-length-front : (at : ℕ → Descriptor) (n : ℕ) → length (front at n) ≡ n
-unfolding front
-length-front at zero = refl
-length-front at (suc n) = omega (arith, length-append (front at n) (at n ∷ []), length-front at n)
 
 -- Where a walk stands after n slots.
 pub record Walked (m : List ℕ) (l : Layout) (t n : ℕ) (before : Before) (parts : List Part) : Type 0 where
@@ -56,13 +48,12 @@ module _ (m : List ℕ) (l : Layout) (t : ℕ) where
         }
 
     pub walked_end : packed_wrong (length m) l.size b d ≡ None → goes_on d ≡ false
-        → (chain : List Descriptor) × PackedChain m l t chain
-        × (parts ++ part_of d ∷ [] ≡ map part_of chain) × (d.next_or_id ≡ id_of chain) × (n + 1 ≡ length chain)
+        → PackedChain m l t d.next_or_id (n + 1) (parts ++ part_of d ∷ [])
     unfolding front
     walked_end right off =
         let at : ℕ → Descriptor = slots_from l m t in
         let e = along_end by_next (packed_wrong (length m) l.size) (slots_from l m t) n b parts d w.along is right off in
-        (front at (suc n), e.0, e.1, rw (id_of_last, is) refl, omega (arith, length-front at (suc n)))
+        (front at (suc n), e.0, rw (id_of_last, is) refl, omega (arith, length-front at (suc n)), e.1)
 
     pub walked_first : packed_wrong (length m) l.size b d ≡ None → PackedFailsOrLacks m l t NoMemory
     walked_first right =

@@ -17,11 +17,11 @@ tested : (memory size : ℕ) (b : Before) (d : Descriptor) → packed_wrong memo
 tested memory size b d e = grind (arith, common_steps)
 
 pub offer_fits : (s : RingState) (m : List ℕ) (id slots : ℕ) (parts : List Part) → PackedOffers s m (Found id slots parts) → PartsFit (length m) parts
-offer_fits s m id slots parts (some, (chain, is_chain, right, is, count, parts_are)) =
+offer_fits s m id slots parts (some, (chain, is_chain, is, count, parts_are), right) =
     rw parts_are (chain_fits (length m) by_next (packed_wrong (length m) s.layout.size) (slots_from s.layout m s.accepted_slots) (tested (length m) s.layout.size) chain is_chain)
 
 offer_begins : (s : RingState) (m : List ℕ) (id slots : ℕ) (parts : List Part) → PackedOffers s m (Found id slots parts) → BeginsInForm Packed s m
-offer_begins s m id slots parts (some, (chain, is_chain, right, is, count, parts_are)) =
+offer_begins s m id slots parts (some, (chain, is_chain, is, count, parts_are), right) =
     let e : s.accepted_slots + 0 ≡ s.accepted_slots = omega arith in
     (some, rw e at (chain_first by_next (packed_wrong (length m) s.layout.size) (slots_from s.layout m s.accepted_slots) chain is_chain))
 

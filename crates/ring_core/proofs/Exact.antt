@@ -4,7 +4,7 @@ use Rattle.std.proofs.lemmas.Option.{none-some, same_Some}
 use Rattle.ring_core.specs.State.{RingState}
 use Rattle.ring_core.specs.Walk.{part_of, amount, front, by_next, LeadsTo, IsChain, IsFault}
 use Rattle.ring_core.specs.Split.{path, next_head, split_wrong, SplitChain, SplitFails}
-use Rattle.ring_core.specs.Packed.{slots_from, packed_wrong, whole_wrong}
+use Rattle.ring_core.specs.Packed.{slots_from, packed_wrong, id_of, whole_wrong, PackedChain, PackedFails}
 use Rattle.ring_core.specs.Offer.{Offer, Nothing, Found, Refused, Offers, SplitOffers, PackedOffers, OffersInForm, OffersUnless}
 use Rattle.ring_core.specs.declared.layout.Form.{Form}
 use Rattle.ring_core.specs.declared.layout.Form.TheVariants.{Split, Packed}
@@ -85,34 +85,45 @@ split_once s m (Refused f) (Refused g) (some, inr p) (some2, inl q) = absurd (no
 split_once s m (Refused f) (Refused g) (some, inr p) (some2, inr q) =
     ap (λ (x : RingFault). Refused x) (fails_once m s.layout.desc s.layout.size (next_head s m) f g p.1 q.1)
 
+module _ (s : RingState) (m : List ℕ) where
+  same_chain : (i j k l : ℕ) (parts rest : List Part) → PackedChain m s.layout s.accepted_slots i j parts → PackedChain m s.layout s.accepted_slots k l rest
+      → (i ≡ k) × (j ≡ l) × (parts ≡ rest)
+  same_chain i j k l parts rest (c, is_c, id_c, slots_c, parts_c) (d, is_d, id_d, slots_d, parts_d) =
+      let e : c ≡ d = chain_once by_next (packed_wrong (length m) s.layout.size) (slots_from s.layout m s.accepted_slots) c d is_c is_d in
+      (id_c ∙ ap id_of e ∙ sym id_d, slots_c ∙ ap length e ∙ sym slots_d, parts_c ∙ ap (map part_of) e ∙ sym parts_d)
+
+  same_whole : (i j k l : ℕ) (parts rest : List Part) → PackedChain m s.layout s.accepted_slots i j parts → PackedChain m s.layout s.accepted_slots k l rest
+      → whole_wrong s i j ≡ whole_wrong s k l
+  same_whole i j k l parts rest c d =
+      let e = same_chain i j k l parts rest c d in
+      ap (λ (x : ℕ). whole_wrong s x j) e.0 ∙ ap (whole_wrong s k) e.1
+
+  fine_or_wrong : (i j : ℕ) (parts : List Part) (f : RingFault) → PackedChain m s.layout s.accepted_slots i j parts → PackedFails m s.layout s.accepted_slots f → ⊥
+  fine_or_wrong i j parts f (c, is_c, id_c, slots_c, parts_c) bad =
+      never_both by_next (packed_wrong (length m) s.layout.size) (slots_from s.layout m s.accepted_slots) c f is_c bad
+
 packed_once : (s : RingState) (m : List ℕ) (a b : Offer) → PackedOffers s m a → PackedOffers s m b → a ≡ b
 packed_once s m Nothing Nothing p q = refl
 packed_once s m Nothing (Found id slots parts) p q = let e = q.0 in absurd (cc)
 packed_once s m Nothing (Refused f) p q = let e = q.0 in absurd (cc)
 packed_once s m (Found id slots parts) Nothing p q = let e = p.0 in absurd (cc)
 packed_once s m (Refused f) Nothing p q = let e = p.0 in absurd (cc)
-packed_once s m (Found i j parts) (Found k l rest) (some, (c, is_c, right, is, count, are)) (some2, (d, is_d, right2, is2, count2, are2)) =
-    let e : c ≡ d = chain_once by_next (packed_wrong (length m) s.layout.size) (slots_from s.layout m s.accepted_slots) c d is_c is_d in
+packed_once s m (Found i j parts) (Found k l rest) (some, c, right) (some2, d, right2) =
+    let e = same_chain s m i j k l parts rest c d in
+    let e0 = e.0 in let e1 = e.1 in let e2 = e.2 in
     cc
-packed_once s m (Found i j parts) (Refused f) (some, (c, is_c, right, is, count, are)) (some2, inl bad) =
-    absurd (never_both by_next (packed_wrong (length m) s.layout.size) (slots_from s.layout m s.accepted_slots) c f is_c bad)
-packed_once s m (Found i j parts) (Refused f) (some, (c, is_c, right, is, count, are)) (some2, inr (d, is_d, bad)) =
-    let e : c ≡ d = chain_once by_next (packed_wrong (length m) s.layout.size) (slots_from s.layout m s.accepted_slots) c d is_c is_d in
-    absurd (none-some f (sym right ∙ ap (whole_wrong s) e ∙ bad))
-packed_once s m (Refused f) (Found i j parts) (some2, inl bad) (some, (c, is_c, right, is, count, are)) =
-    absurd (never_both by_next (packed_wrong (length m) s.layout.size) (slots_from s.layout m s.accepted_slots) c f is_c bad)
-packed_once s m (Refused f) (Found i j parts) (some2, inr (d, is_d, bad)) (some, (c, is_c, right, is, count, are)) =
-    let e : c ≡ d = chain_once by_next (packed_wrong (length m) s.layout.size) (slots_from s.layout m s.accepted_slots) c d is_c is_d in
-    absurd (none-some f (sym right ∙ ap (whole_wrong s) e ∙ bad))
+packed_once s m (Found i j parts) (Refused f) (some, c, right) (some2, inl bad) = absurd (fine_or_wrong s m i j parts f c bad)
+packed_once s m (Found i j parts) (Refused f) (some, c, right) (some2, inr (k, l, rest, d, bad)) =
+    absurd (none-some f (sym right ∙ same_whole s m i j k l parts rest c d ∙ bad))
+packed_once s m (Refused f) (Found i j parts) (some2, inl bad) (some, c, right) = absurd (fine_or_wrong s m i j parts f c bad)
+packed_once s m (Refused f) (Found i j parts) (some2, inr (k, l, rest, d, bad)) (some, c, right) =
+    absurd (none-some f (sym right ∙ same_whole s m i j k l parts rest c d ∙ bad))
 packed_once s m (Refused f) (Refused g) (some, inl p) (some2, inl q) =
     ap (λ (x : RingFault). Refused x) (fault_once by_next (packed_wrong (length m) s.layout.size) (slots_from s.layout m s.accepted_slots) f g p q)
-packed_once s m (Refused f) (Refused g) (some, inl p) (some2, inr (d, is_d, bad)) =
-    absurd (never_both by_next (packed_wrong (length m) s.layout.size) (slots_from s.layout m s.accepted_slots) d f is_d p)
-packed_once s m (Refused f) (Refused g) (some, inr (d, is_d, bad)) (some2, inl q) =
-    absurd (never_both by_next (packed_wrong (length m) s.layout.size) (slots_from s.layout m s.accepted_slots) d g is_d q)
-packed_once s m (Refused f) (Refused g) (some, inr (c, is_c, p)) (some2, inr (d, is_d, q)) =
-    let e : c ≡ d = chain_once by_next (packed_wrong (length m) s.layout.size) (slots_from s.layout m s.accepted_slots) c d is_c is_d in
-    ap (λ (x : RingFault). Refused x) (same_Some f g (sym p ∙ ap (whole_wrong s) e ∙ q))
+packed_once s m (Refused f) (Refused g) (some, inl p) (some2, inr (k, l, rest, d, bad)) = absurd (fine_or_wrong s m k l rest f d p)
+packed_once s m (Refused f) (Refused g) (some, inr (k, l, rest, d, bad)) (some2, inl q) = absurd (fine_or_wrong s m k l rest g d q)
+packed_once s m (Refused f) (Refused g) (some, inr (i, j, parts, c, p)) (some2, inr (k, l, rest, d, q)) =
+    ap (λ (x : RingFault). Refused x) (same_Some f g (sym p ∙ same_whole s m i j k l parts rest c d ∙ q))
 
 in_form_once : (form : Form) (s : RingState) (m : List ℕ) (a b : Offer) → OffersInForm form s m a → OffersInForm form s m b → a ≡ b
 in_form_once Split s m a b p q = split_once s m a b p q

@@ -82,9 +82,9 @@ packed_some s m =
       | inr none ↦ (Nothing, none)
       | inl some ↦ elim (packed_ended s m) [
         | inr bad ↦ (Refused bad.0, (some, inl bad.1))
-        | inl chain ↦ elim (some_or_none (whole_wrong s chain.0)) [
-          | inr bad ↦ (Refused bad.0, (some, inr (chain.0, chain.1, bad.1)))
-          | inl fine ↦ (Found (id_of chain.0) (length chain.0) (map part_of chain.0), (some, (chain.0, chain.1, fine, refl, refl, refl)))
+        | inl chain ↦ elim (some_or_none (whole_wrong s (id_of chain.0) (length chain.0))) [
+          | inr bad ↦ (Refused bad.0, (some, inr (id_of chain.0, length chain.0, map part_of chain.0, (chain.0, chain.1, refl, refl, refl), bad.1)))
+          | inl fine ↦ (Found (id_of chain.0) (length chain.0) (map part_of chain.0), (some, (chain.0, chain.1, refl, refl, refl), fine))
         ]
       ]
     ]

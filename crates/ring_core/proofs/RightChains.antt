@@ -22,17 +22,17 @@ use Rattle.ring_core.proofs.Exists.{length-front, split_ends, packed_ends}
 use Rattle.ring_core.proofs.Fitting.{chain_fits}
 use Rattle.ring_core.proofs.Sound.{at_push}
 
-less_or_same : (k n : ℕ) → k < suc n → (k < n) ⊎ (k ≡ n)
+pub less_or_same : (k n : ℕ) → k < suc n → (k < n) ⊎ (k ≡ n)
 less_or_same k n lt = grind arith
 
 -- what follows from a descriptor's tests
 stays_writable : (memory : ℕ) (b : Before) (d : Descriptor) → first_of (buffer_tests memory b d) ≡ None → b.writable ≡ true → is_writable d ≡ true
 stays_writable memory b d e w = grind (arith, common_steps)
 
-split_tested : (memory size : ℕ) (b : Before) (d : Descriptor) → split_wrong memory size b d ≡ None → first_of (buffer_tests memory b d) ≡ None
+pub split_tested : (memory size : ℕ) (b : Before) (d : Descriptor) → split_wrong memory size b d ≡ None → first_of (buffer_tests memory b d) ≡ None
 split_tested memory size b d e = grind (arith, common_steps)
 
-packed_tested : (memory size : ℕ) (b : Before) (d : Descriptor) → packed_wrong memory size b d ≡ None → first_of (buffer_tests memory b d) ≡ None
+pub packed_tested : (memory size : ℕ) (b : Before) (d : Descriptor) → packed_wrong memory size b d ≡ None → first_of (buffer_tests memory b d) ≡ None
 packed_tested memory size b d e = grind (arith, common_steps)
 
 right_head : (s : RingState) (m : List ℕ) → entry_wrong s m ≡ None → next_head s m < s.layout.size
@@ -88,7 +88,7 @@ module _ (memory size : ℕ) (on : Before → Descriptor → Bool) (wrong : Befo
       elim (less_or_same k n le) [ inl below ↦ (leads k below).0 | inr same ↦ ap (λ (i : ℕ). wrong (amount (front at i)) (at i)) same ∙ right ] in
       stays_writable memory (amount (front at k)) (at k) (tested (amount (front at k)) (at k) right_there) (writable_before at j k lt w)
 
-  chain_right : (chain : List Descriptor) → 1 ≤ size → IsChain on wrong at chain → IsRightChain memory size (map part_of chain)
+  pub chain_right : (chain : List Descriptor) → 1 ≤ size → IsChain on wrong at chain → IsRightChain memory size (map part_of chain)
   unfolding IsChain
   chain_right chain some (n, leads, right, off, is) =
       let long : length (map part_of chain) ≡ suc n = length-map chain part_of ∙ ap length is ∙ length-front at (suc n) in
@@ -105,7 +105,7 @@ module _ (memory size : ℕ) (on : Before → Descriptor → Bool) (wrong : Befo
 in_form_right : (form : Form) (s : RingState) (m : List ℕ) (id slots : ℕ) (parts : List Part) → OffersInForm form s m (Found id slots parts) → 1 ≤ s.layout.size → IsRightChain (length m) s.layout.size parts
 in_form_right Split s m id slots parts (there, fine, is, one, (chain, is_chain, are)) some =
     rw are (chain_right (length m) s.layout.size by_next (split_wrong (length m) s.layout.size) (path m s.layout.desc (next_head s m)) (split_tested (length m) s.layout.size) (split_ends (length m) s.layout.size) chain some is_chain)
-in_form_right Packed s m id slots parts (there, (chain, is_chain, fine, is, count, are)) some =
+in_form_right Packed s m id slots parts (there, (chain, is_chain, is, count, are), fine) some =
     rw are (chain_right (length m) s.layout.size by_next (packed_wrong (length m) s.layout.size) (slots_from s.layout m s.accepted_slots) (packed_tested (length m) s.layout.size) (packed_ends (length m) s.layout.size) chain some is_chain)
 
 unless_right : (broken : Option RingFault) (s : RingState) (m : List ℕ) (id slots : ℕ) (parts : List Part) → OffersUnless broken s m (Found id slots parts) → 1 ≤ s.layout.size → IsRightChain (length m) s.layout.size parts

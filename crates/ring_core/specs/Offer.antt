@@ -1,12 +1,11 @@
 -- What a virtqueue has for the device, in either form.
-use Rattle.std.specs.Prelude.{ℕ, ◌≡◌, ◌≢◌, ◌⊎◌, Bool, true, false, List, [], length, map, Option, Some, None}
+use Rattle.std.specs.Prelude.{ℕ, ◌≡◌, ◌≢◌, ◌⊎◌, Bool, true, false, List, [], length, Option, Some, None}
 use Rattle.ring_core.specs.State.{RingState}
 use Rattle.ring_core.specs.Writes.{Write}
-use Rattle.ring_core.specs.Walk.{part_of, amount}
+use Rattle.ring_core.specs.Walk.{amount}
 use Rattle.ring_core.specs.Split.{SplitChain, SplitFails, in_table, split_wrong, ahead, next_head, entry_wrong, split_used_writes, split_wants_notice}
-use Rattle.ring_core.specs.Packed.{PackedChain, PackedFails, slot_at, packed_wrong, is_available, id_of, whole_wrong, packed_used_writes, packed_wants_notice}
+use Rattle.ring_core.specs.Packed.{PackedChain, PackedFails, slot_at, packed_wrong, is_available, whole_wrong, packed_used_writes, packed_wants_notice}
 use Rattle.ring_core.specs.declared.descriptor.Part.{Part}
-use Rattle.ring_core.specs.declared.descriptor.Descriptor.{Descriptor}
 use Rattle.ring_core.specs.declared.fault.RingFault.{RingFault}
 use Rattle.ring_core.specs.declared.layout.Form.{Form}
 use Rattle.ring_core.specs.declared.layout.Form.TheVariants.{Split, Packed}
@@ -32,13 +31,12 @@ SplitOffers s m (Refused f) =
 abbrev pub PackedOffers : RingState → List ℕ → Offer → Type 0
 PackedOffers s m Nothing = is_available s m ≡ false
 PackedOffers s m (Found id slots parts) =
-    (is_available s m ≡ true)
-    × ((chain : List Descriptor) × PackedChain m s.layout s.accepted_slots chain
-    × (whole_wrong s chain ≡ None) × (id ≡ id_of chain) × (slots ≡ length chain) × (parts ≡ map part_of chain))
+    (is_available s m ≡ true) × PackedChain m s.layout s.accepted_slots id slots parts × (whole_wrong s id slots ≡ None)
 PackedOffers s m (Refused f) =
     (is_available s m ≡ true)
     × (PackedFails m s.layout s.accepted_slots f
-    ⊎ ((chain : List Descriptor) × PackedChain m s.layout s.accepted_slots chain × (whole_wrong s chain ≡ Some f)))
+    ⊎ ((id : ℕ) × (slots : ℕ) × (parts : List Part) × PackedChain m s.layout s.accepted_slots id slots parts
+    × (whole_wrong s id slots ≡ Some f)))
 
 abbrev pub OffersInForm : Form → RingState → List ℕ → Offer → Type 0
 OffersInForm Split s m o = SplitOffers s m o

@@ -1,11 +1,12 @@
 -- A packed virtqueue (VIRTIO 1.2, 2.8): which chain lies at its next place, and what a completion writes.
-use Rattle.std.specs.Prelude.{ℕ, ◌+◌, ◌*◌, ◌-◌, ◌%◌, ◌/◌, ◌==◌, ◌&&◌, not, nat_lt, nat_le, Bool, cond, List, [], ◌∷◌, ◌++◌, length, drop, Option, is_some, bit_and}
+use Rattle.std.specs.Prelude.{ℕ, ◌+◌, ◌*◌, ◌-◌, ◌%◌, ◌/◌, ◌==◌, ◌&&◌, not, nat_lt, nat_le, Bool, ◌≡◌, cond, List, [], ◌∷◌, ◌++◌, length, map, drop, Option, is_some, bit_and}
 use Rattle.byteorder.specs.Endian.{little_number, little_bytes}
 use Rattle.guest_mem.specs.Memory.{bytes_at}
 use Rattle.ring_core.specs.State.{RingState, under}
-use Rattle.ring_core.specs.Walk.{goes_on, is_indirect, first_of, buffer_tests, by_next, IsChain, IsFault}
+use Rattle.ring_core.specs.Walk.{goes_on, is_indirect, part_of, first_of, buffer_tests, by_next, IsChain, IsFault}
 use Rattle.ring_core.specs.Writes.{Write}
 use Rattle.ring_core.specs.declared.layout.Layout.{Layout}
+use Rattle.ring_core.specs.declared.descriptor.Part.{Part}
 use Rattle.ring_core.specs.declared.descriptor.Descriptor.{Descriptor}
 use Rattle.ring_core.specs.declared.before.Before.{Before}
 use Rattle.ring_core.specs.declared.fault.RingFault.{RingFault}
@@ -51,26 +52,29 @@ abbrev pub packed_wrong : ℕ → ℕ → Before → Descriptor → Option RingF
 packed_wrong memory size before d =
     first_of ((is_indirect d, BadIndirect) ∷ buffer_tests memory before d ++ (goes_on d && nat_le size (before.count + 1), ChainTooLong) ∷ [])
 
--- these descriptors are the chain in the slots from t on: consecutive ones to the first without NEXT
-abbrev pub PackedChain : List ℕ → Layout → ℕ → List Descriptor → Type 0
-PackedChain m l t chain = IsChain by_next (packed_wrong (length m) l.size) (slots_from l m t) chain
-
--- the first thing wrong along those slots
-abbrev pub PackedFails : List ℕ → Layout → ℕ → RingFault → Type 0
-PackedFails m l t f = IsFault by_next (packed_wrong (length m) l.size) (slots_from l m t) f
-
 -- a chain's id is its last descriptor's
 abbrev pub id_of : List Descriptor → ℕ
 id_of [] = 0
 id_of (d ∷ []) = d.next_or_id
 id_of (d ∷ e ∷ ds) = id_of (e ∷ ds)
 
--- what is wrong with a whole chain
-abbrev pub whole_wrong : RingState → List Descriptor → Option RingFault
-whole_wrong s chain =
+-- the chain in the slots from t on has this id, so many slots and these parts: consecutive slots to the first without NEXT, each
+-- of them right (2.8.6)
+abbrev pub PackedChain : List ℕ → Layout → ℕ → ℕ → ℕ → List Part → Type 0
+PackedChain m l t id slots parts =
+    (chain : List Descriptor) × IsChain by_next (packed_wrong (length m) l.size) (slots_from l m t) chain
+    × (id ≡ id_of chain) × (slots ≡ length chain) × (parts ≡ map part_of chain)
+
+-- the first thing wrong along those slots
+abbrev pub PackedFails : List ℕ → Layout → ℕ → RingFault → Type 0
+PackedFails m l t f = IsFault by_next (packed_wrong (length m) l.size) (slots_from l m t) f
+
+-- what is wrong with a whole chain of this id and so many slots
+abbrev pub whole_wrong : RingState → ℕ → ℕ → Option RingFault
+whole_wrong s id slots =
     first_of (
-    (is_some (under s (id_of chain)), AlreadyOutstanding)
-    ∷ (nat_lt s.layout.size (s.accepted_slots - s.used_slots + length chain), RingOverrun)
+    (is_some (under s id), AlreadyOutstanding)
+    ∷ (nat_lt s.layout.size (s.accepted_slots - s.used_slots + slots), RingOverrun)
     ∷ [])
 
 -- the flags of a used descriptor: AVAIL and USED are the device's wrap counter (2.8.1), WRITE says that something was

@@ -9,12 +9,14 @@ ghost use Rattle.ring_core.specs.declared.descriptor.Part.{Part};
 ghost use Rattle.ring_core.specs.declared.layout.Form.TheVariants.{Split};
 
 mod cases;
+mod properties;
 mod scattering;
 
 pub use cases::{
     a_loop_is_too_long, as_many_as_the_size_are_no_jump, descriptors_are_read_as_written,
     one_descriptor_is_a_chain, the_index_counts_round, three_linked_descriptors_are_a_chain,
 };
+pub use properties::{packed_chains_by_properties, split_chains_by_properties};
 pub use scattering::{
     scatter_in_two, scattering_keeps_the_size, scattering_nothing, writes_in_order,
 };
