@@ -7,13 +7,14 @@ use Rattle.std.proofs.lemmas.List.{map-append, length-map, ext_get_or}
 use Rattle.std.proofs.lemmas.List.Folds.{list_any-append}
 use Rattle.std.specs.List.{list_any}
 use Rattle.std.specs.Prelude.{slice_get}
-use Rattle.ring_core.specs.Walk.{goes_on, is_writable, is_indirect, part_of, amount, front, first_of, buffer_tests, by_next, LeadsTo, IsChain}
+use Rattle.ring_core.specs.Walk.{nothing_before, goes_on, is_writable, is_indirect, part_of, amount, front, first_of, buffer_tests, by_next, LeadsTo, IsChain}
 use Rattle.ring_core.specs.Parts.{inside}
 use Rattle.ring_core.specs.RightChain.{IsRightChain}
 use Rattle.ring_core.specs.Split.{in_table, number_on, path, split_wrong, SplitChain}
 use Rattle.ring_core.specs.Packed.{slots_from, packed_wrong, id_of, PackedChain}
 use Rattle.ring_core.specs.Table.{tabulated}
 use Rattle.ring_core.specs.ChainProperties.{IsPath, SplitChainProperties, PackedChainProperties}
+use Rattle.ring_core.specs.declared.layout.Features.{Features}
 use Rattle.ring_core.specs.declared.descriptor.Part.{Part}
 use Rattle.ring_core.specs.declared.descriptor.Descriptor.{Descriptor}
 use Rattle.ring_core.specs.declared.before.Before.{Before}
@@ -107,41 +108,41 @@ module _ (memory size : ℕ) (at : ℕ → Descriptor) where
       ]
 
   module _ (n : ℕ) (right : IsRightChain memory size (map part_of (front at n))) where
-    buffers : (k : ℕ) → k < n → first_of (buffer_tests memory (amount (front at k)) (at k)) ≡ None
+    buffers : (k : ℕ) → k < n → first_of (buffer_tests memory (amount nothing_before (front at k)) (at k)) ≡ None
     unfolding front
     buffers k lt =
         let long : length (map part_of (front at n)) ≡ n = length-map (front at n) part_of ∙ length-front at n in
         let here : get_or (map part_of (front at n)) k (part_of (at k)) ≡ part_of (at k) = same_Some _ _ (sym (there (map part_of (front at n)) k (part_of (at k)) (omega (arith, long))) ∙ part_there n k lt) in
         let i : inside memory (part_of (at k)) ≡ true = sym (ap (inside memory) here) ∙ right.fit.inside k (part_of (at k)) (omega (arith, long)) in
-        let t : (amount (front at k)).total + (at k).len ≤ 2 ^ 32 =
+        let t : (amount nothing_before (front at k)).total + (at k).len ≤ 2 ^ 32 =
         omega (arith, right.fit.total, fit_sum at n, sum_below (suc k) n (omega arith), len_more (front at k) (at k)) in
-        buffer_right memory (amount (front at k)) (at k) i
+        buffer_right memory (amount nothing_before (front at k)) (at k) i
         (λ w.
         let j = some_writable k w in
         right.in_order j.0 k (part_of (at j.0)) (part_of (at k)) j.1 (part_there n j.0 (omega (arith, j.1))) (part_there n k lt) j.2)
         t
 
 -- what follows where nothing is wrong
-split_direct : (memory size : ℕ) (b : Before) (d : Descriptor) → split_wrong memory size b d ≡ None → is_indirect d ≡ false
-split_direct memory size b d e = grind (arith, common_steps)
+split_direct : (features : Features) (memory size : ℕ) (b : Before) (d : Descriptor) → split_wrong features memory size b d ≡ None → is_indirect d ≡ false
+split_direct features memory size b d e = grind (arith, common_steps)
 
-packed_direct : (memory size : ℕ) (b : Before) (d : Descriptor) → packed_wrong memory size b d ≡ None → is_indirect d ≡ false
-packed_direct memory size b d e = grind (arith, common_steps)
+packed_direct : (features : Features) (memory size : ℕ) (b : Before) (d : Descriptor) → packed_wrong features memory size b d ≡ None → is_indirect d ≡ false
+packed_direct features memory size b d e = grind (arith, common_steps)
 
-split_next : (memory size : ℕ) (b : Before) (d : Descriptor) → split_wrong memory size b d ≡ None → goes_on d ≡ true → d.next_or_id < size
-split_next memory size b d e on = grind (arith, common_steps, nat_tests)
+split_next : (features : Features) (memory size : ℕ) (b : Before) (d : Descriptor) → split_wrong features memory size b d ≡ None → goes_on d ≡ true → d.next_or_id < size
+split_next features memory size b d e on = grind (arith, common_steps, nat_tests)
 
 -- and where nothing is
-split_right : (memory size : ℕ) (b : Before) (d : Descriptor) → is_indirect d ≡ false → first_of (buffer_tests memory b d) ≡ None
-    → (goes_on d ≡ true → (d.next_or_id < size) × (b.count + 1 < size)) → split_wrong memory size b d ≡ None
-split_right memory size b d direct buffer more = grind (arith, common_steps, nat_tests)
+split_right : (features : Features) (memory size : ℕ) (b : Before) (d : Descriptor) → is_indirect d ≡ false → first_of (buffer_tests memory b d) ≡ None
+    → (goes_on d ≡ true → (d.next_or_id < size) × (b.count + 1 < size)) → split_wrong features memory size b d ≡ None
+split_right features memory size b d direct buffer more = grind (arith, common_steps, nat_tests)
 
-packed_right : (memory size : ℕ) (b : Before) (d : Descriptor) → is_indirect d ≡ false → first_of (buffer_tests memory b d) ≡ None
-    → (goes_on d ≡ true → b.count + 1 < size) → packed_wrong memory size b d ≡ None
-packed_right memory size b d direct buffer more = grind (arith, common_steps, nat_tests)
+packed_right : (features : Features) (memory size : ℕ) (b : Before) (d : Descriptor) → is_indirect d ≡ false → first_of (buffer_tests memory b d) ≡ None
+    → (goes_on d ≡ true → b.count + 1 < size) → packed_wrong features memory size b d ≡ None
+packed_right features memory size b d direct buffer more = grind (arith, common_steps, nat_tests)
 
 -- A split chain:
-module _ (m : List ℕ) (table size head : ℕ) where
+module _ (features : Features) (m : List ℕ) (table size head : ℕ) where
   numbers_parts : (n : ℕ) → map (λ (i : ℕ). part_of (in_table m table i)) (tabulated (number_on m table head) n) ≡ map part_of (front (path m table head) n)
   unfolding tabulated front
   numbers_parts zero = refl
@@ -150,8 +151,8 @@ module _ (m : List ℕ) (table size head : ℕ) where
       ∙ ap (λ (ps : List Part). ps ++ part_of (path m table head n) ∷ []) (numbers_parts n)
       ∙ sym (map-append part_of (front (path m table head) n) (path m table head n ∷ []))
 
-  numbers_path : (n : ℕ) → head < size → LeadsTo by_next (split_wrong (length m) size) (path m table head) n
-      → split_wrong (length m) size (amount (front (path m table head) n)) (path m table head n) ≡ None → goes_on (path m table head n) ≡ false
+  numbers_path : (n : ℕ) → head < size → LeadsTo nothing_before by_next (split_wrong features (length m) size) (path m table head) n
+      → split_wrong features (length m) size (amount nothing_before (front (path m table head) n)) (path m table head n) ≡ None → goes_on (path m table head n) ≡ false
       → IsPath m table size head (tabulated (number_on m table head) (suc n))
   unfolding LeadsTo number_on
   numbers_path n lt leads right off =
@@ -166,27 +167,27 @@ module _ (m : List ℕ) (table size head : ℕ) where
             let same : k ≡ n = omega (arith, end, length-tabulated (number_on m table head) (suc n)) in
             rw (is_k.1, same) off;
         below = λ k i at_k. let is_k = tabulated_is (number_on m table head) (suc n) k i at_k in rw is_k.1 (in_range k is_k.0);
-        direct = λ k i at_k. let is_k = tabulated_is (number_on m table head) (suc n) k i at_k in rw is_k.1 (split_direct (length m) size _ _ (right_at k is_k.0));
+        direct = λ k i at_k. let is_k = tabulated_is (number_on m table head) (suc n) k i at_k in rw is_k.1 (split_direct features (length m) size _ _ (right_at k is_k.0));
       }
     where
       in_range : (k : ℕ) → k < suc n → number_on m table head k < size
       in_range zero le = lt
-      in_range (suc k) le = split_next (length m) size _ _ (leads k (omega arith)).0 (leads k (omega arith)).1
+      in_range (suc k) le = split_next features (length m) size _ _ (leads k (omega arith)).0 (leads k (omega arith)).1
 
-      right_at : (k : ℕ) → k < suc n → split_wrong (length m) size (amount (front (path m table head) k)) (path m table head k) ≡ None
+      right_at : (k : ℕ) → k < suc n → split_wrong features (length m) size (amount nothing_before (front (path m table head) k)) (path m table head k) ≡ None
       right_at k le =
           elim (less_or_same k n le) [
             | inl below ↦ (leads k below).0
-            | inr same ↦ ap (λ (i : ℕ). split_wrong (length m) size (amount (front (path m table head) i)) (path m table head i)) same ∙ right
+            | inr same ↦ ap (λ (i : ℕ). split_wrong features (length m) size (amount nothing_before (front (path m table head) i)) (path m table head i)) same ∙ right
           ]
 
-  pub split_has : (parts : List Part) → head < size → SplitChain m table size head parts → SplitChainProperties m table size head parts
+  pub split_has : (parts : List Part) → head < size → SplitChain features m table size head parts → SplitChainProperties m table size head parts
   unfolding IsChain
   split_has parts lt (chain, (n, leads, right, off, is), are) = (
     tabulated (number_on m table head) (suc n),
     numbers_path n lt leads right off,
     are ∙ ap (map part_of) is ∙ sym (numbers_parts (suc n)),
-    rw are (chain_right (length m) size by_next (split_wrong (length m) size) (path m table head) (split_tested (length m) size) (split_ends (length m) size) chain (omega (arith, lt)) (n, leads, right, off, is)),
+    rw are (chain_right (length m) size nothing_before by_next (split_wrong features (length m) size) (path m table head) (split_tested features (length m) size) (split_ends features (length m) size) chain (omega (arith, lt)) (n, leads, right, off, is)),
   )
 
   module _ (numbers : List ℕ) (p : IsPath m table size head numbers) where
@@ -205,10 +206,10 @@ module _ (m : List ℕ) (table size head : ℕ) where
         same_Some _ _ (sym (there numbers k 0 lt) ∙ number_there k lt) ∙ sym (get_or-tabulated (number_on m table head) (length numbers) k 0 lt))
 
     chain_of : (n : ℕ) (parts : List Part) → length numbers ≡ suc n → parts ≡ map part_of (front (path m table head) (suc n)) → IsRightChain (length m) size parts
-        → SplitChain m table size head parts
+        → SplitChain features m table size head parts
     unfolding IsChain LeadsTo number_on
     chain_of n parts long are right =
-        let fine : (k : ℕ) → k < suc n → first_of (buffer_tests (length m) (amount (front (path m table head) k)) (path m table head k)) ≡ None =
+        let fine : (k : ℕ) → k < suc n → first_of (buffer_tests (length m) (amount nothing_before (front (path m table head) k)) (path m table head k)) ≡ None =
         buffers (length m) size (path m table head) (suc n) (rw are at right) in
         let few : suc n ≤ size = omega (arith, right.most, ap length are, length-map (front (path m table head) (suc n)) part_of, length-front (path m table head) (suc n)) in
         let number : (k : ℕ) → k < suc n → slice_get numbers k ≡ Some (number_on m table head k) = λ k lt. number_there k (omega (arith, long, lt)) in
@@ -218,17 +219,17 @@ module _ (m : List ℕ) (table size head : ℕ) where
         (p.onward k (number_on m table head k) (number_on m table head (suc k)) (number k (omega (arith, lt))) more).0 in
         let stops : goes_on (path m table head n) ≡ false = p.last n (number_on m table head n) (number n (omega arith)) (omega (arith, long)) in
         let next : (k : ℕ) → k < n → (path m table head k).next_or_id < size = λ k lt. p.below (suc k) (number_on m table head (suc k)) (number (suc k) (omega (arith, lt))) in
-        let count : (k : ℕ) → (amount (front (path m table head) k)).count ≡ k = length-front (path m table head) in
-        let leads : LeadsTo by_next (split_wrong (length m) size) (path m table head) n =
+        let count : (k : ℕ) → (amount nothing_before (front (path m table head) k)).count ≡ k = length-front (path m table head) in
+        let leads : LeadsTo nothing_before by_next (split_wrong features (length m) size) (path m table head) n =
         λ k lt. (
-          split_right (length m) size (amount (front (path m table head) k)) (path m table head k) (p.direct k (number_on m table head k) (number k (omega (arith, lt)))) (fine k (omega (arith, lt))) (λ on. (next k lt, omega (arith, count k, few, lt))),
+          split_right features (length m) size (amount nothing_before (front (path m table head) k)) (path m table head k) (p.direct k (number_on m table head k) (number k (omega (arith, lt)))) (fine k (omega (arith, lt))) (λ on. (next k lt, omega (arith, count k, few, lt))),
           onward k lt,
         ) in
-        let last : split_wrong (length m) size (amount (front (path m table head) n)) (path m table head n) ≡ None =
-        split_right (length m) size (amount (front (path m table head) n)) (path m table head n) (p.direct n (number_on m table head n) (number n (omega arith))) (fine n (omega arith)) (λ on. absurd (not_both (goes_on (path m table head n)) on stops)) in
+        let last : split_wrong features (length m) size (amount nothing_before (front (path m table head) n)) (path m table head n) ≡ None =
+        split_right features (length m) size (amount nothing_before (front (path m table head) n)) (path m table head n) (p.direct n (number_on m table head n) (number n (omega arith))) (fine n (omega arith)) (λ on. absurd (not_both (goes_on (path m table head n)) on stops)) in
         (front (path m table head) (suc n), (n, leads, last, stops, refl), are)
 
-  pub split_is : (parts : List Part) → SplitChainProperties m table size head parts → SplitChain m table size head parts
+  pub split_is : (parts : List Part) → SplitChainProperties m table size head parts → SplitChain features m table size head parts
   split_is parts (numbers, p, are, right) =
       let n : ℕ = length numbers - 1 in
       let long : length numbers ≡ suc n = omega (arith, within numbers 0 head p.first) in
@@ -236,7 +237,7 @@ module _ (m : List ℕ) (table size head : ℕ) where
       chain_of numbers p n parts long (are ∙ ap (map (λ (i : ℕ). part_of (in_table m table i))) eq ∙ numbers_parts (suc n)) right
 
 -- A packed chain:
-module _ (m : List ℕ) (l : Layout) (t : ℕ) where
+module _ (features : Features) (m : List ℕ) (l : Layout) (t : ℕ) where
   slots_parts : (n : ℕ) → tabulated (λ (k : ℕ). part_of (slots_from l m t k)) n ≡ map part_of (front (slots_from l m t) n)
   unfolding tabulated front
   slots_parts zero = refl
@@ -249,27 +250,27 @@ module _ (m : List ℕ) (l : Layout) (t : ℕ) where
       let same : n ≡ k = omega (arith, e) in
       id_of_last (front (slots_from l m t) n) (slots_from l m t n) ∙ ap (λ (i : ℕ). (slots_from l m t i).next_or_id) same
 
-  pub packed_has : (id slots : ℕ) (parts : List Part) → 1 ≤ l.size → PackedChain m l t id slots parts → PackedChainProperties m l t id slots parts
+  pub packed_has : (id slots : ℕ) (parts : List Part) → 1 ≤ l.size → PackedChain features m l t id slots parts → PackedChainProperties m l t id slots parts
   unfolding IsChain LeadsTo
   packed_has id slots parts some (chain, (n, leads, right, off, is), id_is, slots_are, are) =
       let count : slots ≡ suc n = slots_are ∙ ap length is ∙ length-front (slots_from l m t) (suc n) in
-      let right_at : (k : ℕ) → k < suc n → packed_wrong (length m) l.size (amount (front (slots_from l m t) k)) (slots_from l m t k) ≡ None =
+      let right_at : (k : ℕ) → k < suc n → packed_wrong features (length m) l.size (amount nothing_before (front (slots_from l m t) k)) (slots_from l m t k) ≡ None =
       λ k lt.
       elim (less_or_same k n lt) [
         | inl below ↦ (leads k below).0
-        | inr same ↦ ap (λ (i : ℕ). packed_wrong (length m) l.size (amount (front (slots_from l m t) i)) (slots_from l m t i)) same ∙ right
+        | inr same ↦ ap (λ (i : ℕ). packed_wrong features (length m) l.size (amount nothing_before (front (slots_from l m t) i)) (slots_from l m t i)) same ∙ right
       ] in (
         record {
           onward = λ k lt. (leads k (omega (arith, count, lt))).1;
           last = λ k e. let same : k ≡ n = omega (arith, count, e) in rw same off;
-          direct = λ k lt. packed_direct (length m) l.size (amount (front (slots_from l m t) k)) (slots_from l m t k) (right_at k (omega (arith, count, lt)));
+          direct = λ k lt. packed_direct features (length m) l.size (amount nothing_before (front (slots_from l m t) k)) (slots_from l m t k) (right_at k (omega (arith, count, lt)));
         },
         λ k e. id_is ∙ ap id_of is ∙ last_id n k (e ∙ count),
         are ∙ ap (map part_of) is ∙ sym (slots_parts (suc n)) ∙ ap (tabulated (λ (k : ℕ). part_of (slots_from l m t k))) (sym count),
-        rw are (chain_right (length m) l.size by_next (packed_wrong (length m) l.size) (slots_from l m t) (packed_tested (length m) l.size) (packed_ends (length m) l.size) chain some (n, leads, right, off, is)),
+        rw are (chain_right (length m) l.size nothing_before by_next (packed_wrong features (length m) l.size) (slots_from l m t) (packed_tested features (length m) l.size) (packed_ends features (length m) l.size) chain some (n, leads, right, off, is)),
       )
 
-  pub packed_is : (id slots : ℕ) (parts : List Part) → PackedChainProperties m l t id slots parts → PackedChain m l t id slots parts
+  pub packed_is : (id slots : ℕ) (parts : List Part) → PackedChainProperties m l t id slots parts → PackedChain features m l t id slots parts
   unfolding IsChain LeadsTo
   packed_is id slots parts (run, id_is, are, right) =
       let n : ℕ = slots - 1 in
@@ -277,17 +278,17 @@ module _ (m : List ℕ) (l : Layout) (t : ℕ) where
       let few : slots ≤ l.size = omega (arith, right.most, ap length are, length-tabulated (λ (k : ℕ). part_of (slots_from l m t k)) slots) in
       let count : slots ≡ suc n = omega (arith, some) in
       let parts_are : parts ≡ map part_of (front (slots_from l m t) (suc n)) = are ∙ slots_parts slots ∙ ap (λ (k : ℕ). map part_of (front (slots_from l m t) k)) count in
-      let fine : (k : ℕ) → k < suc n → first_of (buffer_tests (length m) (amount (front (slots_from l m t) k)) (slots_from l m t k)) ≡ None =
+      let fine : (k : ℕ) → k < suc n → first_of (buffer_tests (length m) (amount nothing_before (front (slots_from l m t) k)) (slots_from l m t k)) ≡ None =
       buffers (length m) l.size (slots_from l m t) (suc n) (rw parts_are at right) in
-      let of_front : (k : ℕ) → (amount (front (slots_from l m t) k)).count ≡ k = length-front (slots_from l m t) in
-      let leads : LeadsTo by_next (packed_wrong (length m) l.size) (slots_from l m t) n =
+      let of_front : (k : ℕ) → (amount nothing_before (front (slots_from l m t) k)).count ≡ k = length-front (slots_from l m t) in
+      let leads : LeadsTo nothing_before by_next (packed_wrong features (length m) l.size) (slots_from l m t) n =
       λ k lt. (
-        packed_right (length m) l.size (amount (front (slots_from l m t) k)) (slots_from l m t k) (run.direct k (omega (arith, lt, count))) (fine k (omega (arith, lt))) (λ on. omega (arith, of_front k, few, lt, count)),
+        packed_right features (length m) l.size (amount nothing_before (front (slots_from l m t) k)) (slots_from l m t k) (run.direct k (omega (arith, lt, count))) (fine k (omega (arith, lt))) (λ on. omega (arith, of_front k, few, lt, count)),
         run.onward k (omega (arith, lt, count)),
       ) in
       let stops : goes_on (slots_from l m t n) ≡ false = run.last n (omega (arith, count)) in
-      let last : packed_wrong (length m) l.size (amount (front (slots_from l m t) n)) (slots_from l m t n) ≡ None =
-      packed_right (length m) l.size (amount (front (slots_from l m t) n)) (slots_from l m t n) (run.direct n (omega (arith, count))) (fine n (omega arith)) (λ on. absurd (not_both (goes_on (slots_from l m t n)) on stops)) in (
+      let last : packed_wrong features (length m) l.size (amount nothing_before (front (slots_from l m t) n)) (slots_from l m t n) ≡ None =
+      packed_right features (length m) l.size (amount nothing_before (front (slots_from l m t) n)) (slots_from l m t n) (run.direct n (omega (arith, count))) (fine n (omega arith)) (λ on. absurd (not_both (goes_on (slots_from l m t n)) on stops)) in (
         front (slots_from l m t) (suc n),
         (n, leads, last, stops, refl),
         id_is n (omega (arith, count)) ∙ sym (last_id n n (omega arith)),

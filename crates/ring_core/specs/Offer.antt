@@ -1,8 +1,8 @@
 -- What a virtqueue has for the device, in either form.
-use Rattle.std.specs.Prelude.{ℕ, ◌≡◌, ◌≢◌, ◌⊎◌, Bool, true, false, List, [], length, Option, Some, None}
+use Rattle.std.specs.Prelude.{ℕ, ◌≡◌, ◌≢◌, ◌⊎◌, Bool, true, false, List, length, Option, Some, None}
 use Rattle.ring_core.specs.State.{RingState}
 use Rattle.ring_core.specs.Writes.{Write}
-use Rattle.ring_core.specs.Walk.{amount}
+use Rattle.ring_core.specs.Walk.{nothing_before}
 use Rattle.ring_core.specs.Split.{SplitChain, SplitFails, in_table, split_wrong, ahead, next_head, entry_wrong, split_used_writes, split_wants_notice}
 use Rattle.ring_core.specs.Packed.{PackedChain, PackedFails, slot_at, packed_wrong, is_available, whole_wrong, packed_used_writes, packed_wants_notice}
 use Rattle.ring_core.specs.declared.descriptor.Part.{Part}
@@ -21,21 +21,21 @@ abbrev pub SplitOffers : RingState → List ℕ → Offer → Type 0
 SplitOffers s m Nothing = ahead s m ≡ 0
 SplitOffers s m (Found id slots parts) =
     (ahead s m ≢ 0) × (entry_wrong s m ≡ None) × (id ≡ next_head s m) × (slots ≡ 1)
-    × SplitChain m s.layout.desc s.layout.size (next_head s m) parts
+    × SplitChain s.features m s.layout.desc s.layout.size (next_head s m) parts
 SplitOffers s m (Refused f) =
     (ahead s m ≢ 0)
     × ((entry_wrong s m ≡ Some f)
-    ⊎ ((entry_wrong s m ≡ None) × SplitFails m s.layout.desc s.layout.size (next_head s m) f))
+    ⊎ ((entry_wrong s m ≡ None) × SplitFails s.features m s.layout.desc s.layout.size (next_head s m) f))
 
 -- a packed queue offers this
 abbrev pub PackedOffers : RingState → List ℕ → Offer → Type 0
 PackedOffers s m Nothing = is_available s m ≡ false
 PackedOffers s m (Found id slots parts) =
-    (is_available s m ≡ true) × PackedChain m s.layout s.accepted_slots id slots parts × (whole_wrong s id slots ≡ None)
+    (is_available s m ≡ true) × PackedChain s.features m s.layout s.accepted_slots id slots parts × (whole_wrong s id slots ≡ None)
 PackedOffers s m (Refused f) =
     (is_available s m ≡ true)
-    × (PackedFails m s.layout s.accepted_slots f
-    ⊎ ((id : ℕ) × (slots : ℕ) × (parts : List Part) × PackedChain m s.layout s.accepted_slots id slots parts
+    × (PackedFails s.features m s.layout s.accepted_slots f
+    ⊎ ((id : ℕ) × (slots : ℕ) × (parts : List Part) × PackedChain s.features m s.layout s.accepted_slots id slots parts
     × (whole_wrong s id slots ≡ Some f)))
 
 abbrev pub OffersInForm : Form → RingState → List ℕ → Offer → Type 0
@@ -55,9 +55,10 @@ Offers s m o = OffersUnless s.broken s m o
 abbrev pub BeginsInForm : Form → RingState → List ℕ → Type 0
 BeginsInForm Split s m =
     (ahead s m ≢ 0) × (entry_wrong s m ≡ None)
-    × (split_wrong (length m) s.layout.size (amount []) (in_table m s.layout.desc (next_head s m)) ≡ None)
+    × (split_wrong s.features (length m) s.layout.size nothing_before (in_table m s.layout.desc (next_head s m)) ≡ None)
 BeginsInForm Packed s m =
-    (is_available s m ≡ true) × (packed_wrong (length m) s.layout.size (amount []) (slot_at s.layout m s.accepted_slots) ≡ None)
+    (is_available s m ≡ true)
+    × (packed_wrong s.features (length m) s.layout.size nothing_before (slot_at s.layout m s.accepted_slots) ≡ None)
 
 -- in the place of what comes behind that, want of memory may be answered; so is it in the place of a chain by
 -- a queue that has accepted 2^64 - 1

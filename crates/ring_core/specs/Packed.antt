@@ -3,9 +3,10 @@ use Rattle.std.specs.Prelude.{ℕ, ◌+◌, ◌*◌, ◌-◌, ◌%◌, ◌/◌, 
 use Rattle.byteorder.specs.Endian.{little_number, little_bytes}
 use Rattle.guest_mem.specs.Memory.{bytes_at}
 use Rattle.ring_core.specs.State.{RingState, under}
-use Rattle.ring_core.specs.Walk.{goes_on, is_indirect, part_of, first_of, buffer_tests, by_next, IsChain, IsFault}
+use Rattle.ring_core.specs.Walk.{goes_on, is_indirect, part_of, first_of, buffer_tests, nothing_before, by_next, IsChain, IsFault}
 use Rattle.ring_core.specs.Writes.{Write}
 use Rattle.ring_core.specs.declared.layout.Layout.{Layout}
+use Rattle.ring_core.specs.declared.layout.Features.{Features}
 use Rattle.ring_core.specs.declared.descriptor.Part.{Part}
 use Rattle.ring_core.specs.declared.descriptor.Descriptor.{Descriptor}
 use Rattle.ring_core.specs.declared.before.Before.{Before}
@@ -47,10 +48,19 @@ is_available s m =
     let d = slot_at s.layout m s.accepted_slots in
     cond (wrap_counter s.layout.size s.accepted_slots) (avail_bit d && not (used_bit d)) (not (avail_bit d) && used_bit d)
 
--- what is wrong with a descriptor of the chain, in a memory and a ring of these sizes
-abbrev pub packed_wrong : ℕ → ℕ → Before → Descriptor → Option RingFault
-packed_wrong memory size before d =
-    first_of ((is_indirect d, BadIndirect) ∷ buffer_tests memory before d ++ (goes_on d && nat_le size (before.count + 1), ChainTooLong) ∷ [])
+-- what is wrong with a descriptor of the run in the ring, in a memory and a ring of these sizes. INDIRECT is a fault whatever
+-- features were agreed, since no queue can agree them yet.
+abbrev pub packed_wrong : Features → ℕ → ℕ → Before → Descriptor → Option RingFault
+packed_wrong features memory size before d =
+    first_of (
+    (is_indirect d, BadIndirect)
+    ∷ buffer_tests memory before d
+    ++ (goes_on d && nat_le size (before.count + 1), ChainTooLong)
+    ∷ [])
+
+-- the run in the slots from t on: consecutive ones to the first without NEXT, each of them right (2.8.6)
+abbrev pub IsPackedRun : Features → List ℕ → Layout → ℕ → List Descriptor → Type 0
+IsPackedRun features m l t run = IsChain nothing_before by_next (packed_wrong features (length m) l.size) (slots_from l m t) run
 
 -- a chain's id is its last descriptor's
 abbrev pub id_of : List Descriptor → ℕ
@@ -58,16 +68,18 @@ id_of [] = 0
 id_of (d ∷ []) = d.next_or_id
 id_of (d ∷ e ∷ ds) = id_of (e ∷ ds)
 
--- the chain in the slots from t on has this id, so many slots and these parts: consecutive slots to the first without NEXT, each
--- of them right (2.8.6)
-abbrev pub PackedChain : List ℕ → Layout → ℕ → ℕ → ℕ → List Part → Type 0
-PackedChain m l t id slots parts =
-    (chain : List Descriptor) × IsChain by_next (packed_wrong (length m) l.size) (slots_from l m t) chain
+-- the chain in the slots from t on has the id and the slots of its run in the ring, and its parts. (A last descriptor that names
+-- a table, where that was agreed, will have a second run in its place, of all the table's entries, behind what stood before it:
+-- id and slots stay those of the run in the ring.)
+abbrev pub PackedChain : Features → List ℕ → Layout → ℕ → ℕ → ℕ → List Part → Type 0
+PackedChain features m l t id slots parts =
+    (chain : List Descriptor) × IsPackedRun features m l t chain
     × (id ≡ id_of chain) × (slots ≡ length chain) × (parts ≡ map part_of chain)
 
 -- the first thing wrong along those slots
-abbrev pub PackedFails : List ℕ → Layout → ℕ → RingFault → Type 0
-PackedFails m l t f = IsFault by_next (packed_wrong (length m) l.size) (slots_from l m t) f
+abbrev pub PackedFails : Features → List ℕ → Layout → ℕ → RingFault → Type 0
+PackedFails features m l t f =
+    IsFault nothing_before by_next (packed_wrong features (length m) l.size) (slots_from l m t) f
 
 -- what is wrong with a whole chain of this id and so many slots
 abbrev pub whole_wrong : RingState → ℕ → ℕ → Option RingFault
