@@ -1,4 +1,5 @@
--- What the ring's own functions answer to one another. No promise stands on these: public clauses cite what ring_core defines.
+-- What the ring's own functions answer to one another. No promise stands on these: public clauses cite what ring_core
+-- defines.
 use Rattle.std.specs.Prelude.{ℕ, ◌≡◌, List, length, Option, Some, None, Result, Ok, Err}
 use Rattle.ring_core.specs.State.{RingState}
 use Rattle.ring_core.specs.Walk.{nothing_before}
@@ -17,7 +18,8 @@ IsRun features m l t run = PackedChain features m l t run.id run.slots run.parts
 
 -- a walk finds this wrong with the slots from there on; memory is wanted once the first descriptor was found right
 abbrev pub PackedFailsOrLacks : Features → List ℕ → Layout → ℕ → RingFault → Type 0
-PackedFailsOrLacks features m l t NoMemory = packed_wrong features (length m) l.size (nothing_before) (slot_at l m t) ≡ None
+PackedFailsOrLacks features m l t NoMemory =
+    packed_wrong features (length m) l.size nothing_before (slot_at l m t) ≡ None
 PackedFailsOrLacks features m l t f = PackedFails features m l t f
 
 -- the offer of an unbroken queue; memory is wanted only where a chain begins

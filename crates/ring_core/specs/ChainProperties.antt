@@ -1,4 +1,5 @@
--- The chains of either form as properties of the descriptors in memory: no order of tests, and nothing that is counted on the way.
+-- The chains of either form as properties of the descriptors in memory: no order of tests, and nothing that is counted on
+-- the way.
 use Rattle.std.specs.Prelude.{ℕ, ◌≡◌, ◌+◌, ◌<◌, true, false, List, length, map, Some, slice_get}
 use Rattle.ring_core.specs.Walk.{goes_on, is_indirect, part_of}
 use Rattle.ring_core.specs.Split.{in_table}
@@ -18,8 +19,8 @@ pub record IsPath (m : List ℕ) (table size head : ℕ) (numbers : List ℕ) : 
   pub below : (k i : ℕ) → slice_get numbers k ≡ Some i → i < size
   pub direct : (k i : ℕ) → slice_get numbers k ≡ Some i → is_indirect (in_table m table i) ≡ false
 
--- a split chain: at most as many descriptors as the queue has, readable parts first, each part inside memory or empty, at most
--- 2^32 bytes in all
+-- a split chain: at most as many descriptors as the queue has, readable parts first, each part inside memory or empty, at
+-- most 2^32 bytes in all
 abbrev pub SplitChainProperties : List ℕ → ℕ → ℕ → ℕ → List Part → Type 0
 SplitChainProperties m table size head parts =
     (numbers : List ℕ) × IsPath m table size head numbers

@@ -31,7 +31,8 @@ SplitOffers s m (Refused f) =
 abbrev pub PackedOffers : RingState → List ℕ → Offer → Type 0
 PackedOffers s m Nothing = is_available s m ≡ false
 PackedOffers s m (Found id slots parts) =
-    (is_available s m ≡ true) × PackedChain s.features m s.layout s.accepted_slots id slots parts × (whole_wrong s id slots ≡ None)
+    (is_available s m ≡ true) × PackedChain s.features m s.layout s.accepted_slots id slots parts
+    × (whole_wrong s id slots ≡ None)
 PackedOffers s m (Refused f) =
     (is_available s m ≡ true)
     × (PackedFails s.features m s.layout s.accepted_slots f

@@ -46,10 +46,12 @@ used_bit d = bit_and d.flags 32768 == 32768
 abbrev pub is_available : RingState → List ℕ → Bool
 is_available s m =
     let d = slot_at s.layout m s.accepted_slots in
-    cond (wrap_counter s.layout.size s.accepted_slots) (avail_bit d && not (used_bit d)) (not (avail_bit d) && used_bit d)
+    cond (wrap_counter s.layout.size s.accepted_slots)
+    (avail_bit d && not (used_bit d))
+    (not (avail_bit d) && used_bit d)
 
--- what is wrong with a descriptor of the run in the ring, in a memory and a ring of these sizes. INDIRECT is a fault whatever
--- features were agreed, since no queue can agree them yet.
+-- what is wrong with a descriptor of the run in the ring, in a memory and a ring of these sizes. INDIRECT is a fault
+-- whatever features were agreed, since no queue can agree them yet.
 abbrev pub packed_wrong : Features → ℕ → ℕ → Before → Descriptor → Option RingFault
 packed_wrong features memory size before d =
     first_of (
@@ -60,17 +62,18 @@ packed_wrong features memory size before d =
 
 -- the run in the slots from t on: consecutive ones to the first without NEXT, each of them right (2.8.6)
 abbrev pub IsPackedRun : Features → List ℕ → Layout → ℕ → List Descriptor → Type 0
-IsPackedRun features m l t run = IsChain nothing_before by_next (packed_wrong features (length m) l.size) (slots_from l m t) run
+IsPackedRun features m l t run =
+    IsChain nothing_before by_next (packed_wrong features (length m) l.size) (slots_from l m t) run
 
--- a chain's id is its last descriptor's
+-- a chain's id is its last descriptor's (2.8.6)
 abbrev pub id_of : List Descriptor → ℕ
 id_of [] = 0
 id_of (d ∷ []) = d.next_or_id
 id_of (d ∷ e ∷ ds) = id_of (e ∷ ds)
 
--- the chain in the slots from t on has the id and the slots of its run in the ring, and its parts. (A last descriptor that names
--- a table, where that was agreed, will have a second run in its place, of all the table's entries, behind what stood before it:
--- id and slots stay those of the run in the ring.)
+-- the chain in the slots from t on has the id and the slots of its run in the ring, and its parts. (A last descriptor that
+-- names a table, where that was agreed, will have a second run in its place, of all the table's entries, behind what stood
+-- before it: id and slots stay those of the run in the ring.)
 abbrev pub PackedChain : Features → List ℕ → Layout → ℕ → ℕ → ℕ → List Part → Type 0
 PackedChain features m l t id slots parts =
     (chain : List Descriptor) × IsPackedRun features m l t chain
@@ -94,8 +97,8 @@ whole_wrong s id slots =
 abbrev pub used_flags : Bool → ℕ → ℕ
 used_flags wrap len = cond wrap 32896 0 + cond (nat_lt 0 len) 2 0
 
--- what a completion writes (2.8.3, 2.8.4): len, id and flags of one used descriptor in the slot at the device's place; its
--- addr stays
+-- what a completion writes (2.8.3, 2.8.4): len, id and flags of one used descriptor in the slot at the device's place;
+-- its addr stays
 abbrev pub packed_used_writes : RingState → ℕ → ℕ → List Write
 packed_used_writes s id len =
     let flags = used_flags (wrap_counter s.layout.size s.used_slots) len in
@@ -105,7 +108,7 @@ packed_used_writes s id len =
     }
     ∷ []
 
--- The driver event suppression area (2.8.14): le16 offset and wrap, le16 flags; RING_EVENT_FLAGS_DISABLE is 1
+-- The driver event suppression area (2.8.10, 2.8.14): le16 offset and wrap, le16 flags; RING_EVENT_FLAGS_DISABLE is 1
 
 abbrev pub packed_wants_notice : List ℕ → ℕ → Bool
 packed_wants_notice m driver = not (little_number 2 (bytes_at m (driver + 2) 2) % 4 == 1)

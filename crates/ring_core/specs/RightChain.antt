@@ -1,4 +1,4 @@
--- A chain as a device may count on (VIRTIO 1.2, 2.6.4.2, 2.7.5 and 2.8).
+-- A chain as a device may count on (VIRTIO 1.2, 2.7.4, 2.7.5 and 2.8.5).
 use Rattle.std.specs.Prelude.{ℕ, ◌≡◌, ◌<◌, ◌≤◌, true, List, length, Some, slice_get}
 use Rattle.ring_core.specs.Parts.{PartsFit}
 use Rattle.ring_core.specs.declared.descriptor.Part.{Part}
@@ -10,4 +10,5 @@ pub record IsRightChain (memory size : ℕ) (parts : List Part) : Type 0 where
   pub some : 1 ≤ length parts
   pub most : length parts ≤ size
   -- no readable part stands behind a writable one
-  pub in_order : (j k : ℕ) (p q : Part) → j < k → slice_get parts j ≡ Some p → slice_get parts k ≡ Some q → p.writable ≡ true → q.writable ≡ true
+  pub in_order : (j k : ℕ) (p q : Part) → j < k → slice_get parts j ≡ Some p → slice_get parts k ≡ Some q
+      → p.writable ≡ true → q.writable ≡ true

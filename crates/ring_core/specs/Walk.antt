@@ -1,4 +1,5 @@
--- What both forms of queue share: a sequence of descriptors in memory, and the chain at its beginning (VIRTIO 1.2, 2.7.5 and 2.8.6).
+-- What both forms of queue share: a sequence of descriptors in memory, and the run at its beginning (VIRTIO 1.2, 2.7.5
+-- and 2.8.6).
 use Rattle.std.specs.Prelude.{ℕ, zero, suc, ◌≡◌, ◌+◌, ◌^◌, ◌<◌, ◌==◌, ◌&&◌, ◌||◌, not, nat_lt, Bool, true, false, cond, List, [], ◌∷◌, ◌++◌, length, sum_by, Option, Some, None, bit_and}
 use Rattle.std.specs.List.{list_any}
 use Rattle.ring_core.specs.declared.descriptor.Part.{Part}
@@ -7,15 +8,15 @@ use Rattle.ring_core.specs.declared.before.Before.{Before}
 use Rattle.ring_core.specs.declared.fault.RingFault.{RingFault}
 use Rattle.ring_core.specs.declared.fault.RingFault.TheVariants.{BufferOutside, ReadableAfterWritable, ChainTooLong}
 
--- VIRTQ_DESC_F_NEXT: another descriptor follows
+-- VIRTQ_DESC_F_NEXT (2.7.5, 2.8.6): another descriptor follows
 abbrev pub goes_on : Descriptor → Bool
 goes_on d = bit_and d.flags 1 == 1
 
--- VIRTQ_DESC_F_WRITE: its buffer is the device's to write
+-- VIRTQ_DESC_F_WRITE (2.7.5, 2.8.3): its buffer is the device's to write
 abbrev pub is_writable : Descriptor → Bool
 is_writable d = bit_and d.flags 2 == 2
 
--- VIRTQ_DESC_F_INDIRECT: its buffer is a table of descriptors
+-- VIRTQ_DESC_F_INDIRECT (2.7.5, 2.8.7): its buffer is a table of descriptors
 abbrev pub is_indirect : Descriptor → Bool
 is_indirect d = bit_and d.flags 4 == 4
 
@@ -53,9 +54,10 @@ unfoldable pub front : (ℕ → Descriptor) → ℕ → List Descriptor
 front at zero = []
 front at (suc n) = front at n ++ at n ∷ []
 
--- A run along a sequence of descriptors, behind what `first` says stands before it. `on` says whether the run goes on past one,
--- `wrong` what is wrong with one, each behind all that stands before it:
-module _ (first : Before) (on : Before → Descriptor → Bool) (wrong : Before → Descriptor → Option RingFault) (at : ℕ → Descriptor) where
+-- A run along a sequence of descriptors, behind what `first` says stands before it. `on` says whether the run goes on past
+-- one, `wrong` what is wrong with one, each behind all that stands before it:
+module _ (first : Before) (on : Before → Descriptor → Bool) (wrong : Before → Descriptor → Option RingFault)
+    (at : ℕ → Descriptor) where
   -- the first n are right, and the run goes on past each of them
   unfoldable pub LeadsTo : ℕ → Type 0
   LeadsTo n =

@@ -33,12 +33,14 @@ pub fn some_offer()
 
 /// What a queue offers as a chain has at least one part and at most as many as the queue has
 /// descriptors, all of them in memory, and no readable one behind a writable one (VIRTIO 1.2,
-/// 2.6.4.2, 2.7.5 and 2.8). In a split queue its head is one of the descriptor table.
+/// 2.7.4, 2.7.5 and 2.8.5). In a split queue its head is one of the descriptor table.
 pub fn chains_are_right()
     ensures parts { (s : RingState) (m : List ℕ) (id slots : ℕ) (parts : List Part)
         → Offers s m (Found id slots parts) → 1 ≤ s.layout.size
         → IsRightChain (length m) s.layout.size parts }
-    ensures head { (s : RingState) (m : List ℕ) (id slots : ℕ) (parts : List Part) → Offers s m (Found id slots parts) → s.form ≡ Split → id < s.layout.size }
+    ensures head { (s : RingState) (m : List ℕ) (id slots : ℕ) (parts : List Part)
+        → Offers s m (Found id slots parts) → s.form ≡ Split
+        → id < s.layout.size }
 {}
 
 /// A queue is sound when it is made, and whatever it does keeps it so: accepting a chain under a

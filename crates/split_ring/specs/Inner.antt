@@ -1,4 +1,5 @@
--- What the ring's own functions answer to one another. No promise stands on these: public clauses cite what ring_core defines.
+-- What the ring's own functions answer to one another. No promise stands on these: public clauses cite what ring_core
+-- defines.
 use Rattle.std.specs.Prelude.{ℕ, ◌≡◌, ◌≢◌, List, length, Option, Some, None, Result, Ok, Err}
 use Rattle.ring_core.specs.State.{RingState}
 use Rattle.ring_core.specs.Walk.{nothing_before}
@@ -12,7 +13,8 @@ use Rattle.ring_core.specs.declared.fault.RingFault.TheVariants.{NoMemory}
 
 -- a walk finds this wrong with the chain at the head; memory is wanted once its first descriptor was found right
 abbrev pub SplitFailsOrLacks : Features → List ℕ → ℕ → ℕ → ℕ → RingFault → Type 0
-SplitFailsOrLacks features m table size head NoMemory = split_wrong features (length m) size (nothing_before) (in_table m table head) ≡ None
+SplitFailsOrLacks features m table size head NoMemory =
+    split_wrong features (length m) size nothing_before (in_table m table head) ≡ None
 SplitFailsOrLacks features m table size head f = SplitFails features m table size head f
 
 -- the head that the next entry names, or what is wrong with it
