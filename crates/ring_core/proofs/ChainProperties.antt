@@ -22,7 +22,7 @@ use Rattle.ring_core.specs.declared.layout.Layout.{Layout}
 use Rattle.ring_core.proofs.Exists.{length-front, split_ends, packed_ends}
 use Rattle.ring_core.proofs.Fitting.{fit_sum, len_more}
 use Rattle.ring_core.proofs.Tabulated.{length-tabulated, get_or-tabulated}
-use Rattle.ring_core.proofs.RightChains.{less_or_same, split_tested, packed_tested, chain_right}
+use Rattle.ring_core.proofs.RightChains.{less_or_same, split_tested, packed_tested, chain_right, chain_few}
 
 -- What stands at a place of a list:
 there : {X : Type 0} (xs : List X) (k : ℕ) (d : X) → k < length xs → slice_get xs k ≡ Some (get_or xs k d)
@@ -66,7 +66,7 @@ buffer_right : (memory : ℕ) (b : Before) (d : Descriptor) → inside memory (p
 buffer_right memory b d i w t = grind (arith, common_steps, nat_tests)
 
 -- Along any sequence of descriptors, the first so many of which have right parts:
-module _ (memory size : ℕ) (at : ℕ → Descriptor) where
+module _ (memory : ℕ) (at : ℕ → Descriptor) where
   part_there : (n k : ℕ) → k < n → slice_get (map part_of (front at n)) k ≡ Some (part_of (at k))
   unfolding front
   part_there zero k lt = absurd (omega arith)
@@ -107,7 +107,7 @@ module _ (memory size : ℕ) (at : ℕ → Descriptor) where
         | inr here ↦ (k, omega arith, here)
       ]
 
-  module _ (n : ℕ) (right : IsRightChain memory size (map part_of (front at n))) where
+  module _ (n : ℕ) (right : IsRightChain memory (map part_of (front at n))) where
     buffers : (k : ℕ) → k < n → first_of (buffer_tests memory (amount nothing_before (front at k)) (at k)) ≡ None
     unfolding front
     buffers k lt =
@@ -151,13 +151,14 @@ module _ (features : Features) (m : List ℕ) (table size head : ℕ) where
       ∙ ap (λ (ps : List Part). ps ++ part_of (path m table head n) ∷ []) (numbers_parts n)
       ∙ sym (map-append part_of (front (path m table head) n) (path m table head n ∷ []))
 
-  numbers_path : (n : ℕ) → head < size → LeadsTo nothing_before by_next (split_wrong features (length m) size) (path m table head) n
+  numbers_path : (n : ℕ) → head < size → suc n ≤ size → LeadsTo nothing_before by_next (split_wrong features (length m) size) (path m table head) n
       → split_wrong features (length m) size (amount nothing_before (front (path m table head) n)) (path m table head n) ≡ None → goes_on (path m table head n) ≡ false
       → IsPath m table size head (tabulated (number_on m table head) (suc n))
   unfolding LeadsTo number_on
-  numbers_path n lt leads right off =
+  numbers_path n lt few leads right off =
       record {
         first = tabulated_there (number_on m table head) (suc n) 0 (omega arith);
+        most = omega (arith, few, length-tabulated (number_on m table head) (suc n));
         onward = λ k i j at_k at_more.
             let is_k = tabulated_is (number_on m table head) (suc n) k i at_k in
             let is_more = tabulated_is (number_on m table head) (suc n) (suc k) j (rw add-one at at_more) in
@@ -183,12 +184,14 @@ module _ (features : Features) (m : List ℕ) (table size head : ℕ) where
 
   pub split_has : (parts : List Part) → head < size → SplitChain features m table size head parts → SplitChainProperties m table size head parts
   unfolding IsChain
-  split_has parts lt (chain, (n, leads, right, off, is), are) = (
-    tabulated (number_on m table head) (suc n),
-    numbers_path n lt leads right off,
-    are ∙ ap (map part_of) is ∙ sym (numbers_parts (suc n)),
-    rw are (chain_right (length m) size nothing_before by_next (split_wrong features (length m) size) (path m table head) (split_tested features (length m) size) (split_ends features (length m) size) chain (omega (arith, lt)) (n, leads, right, off, is)),
-  )
+  split_has parts lt (chain, (n, leads, right, off, is), are) =
+      let few : length chain ≤ size =
+      chain_few (length m) size nothing_before by_next (split_wrong features (length m) size) (path m table head) (split_tested features (length m) size) (split_ends features (length m) size) chain (omega (arith, lt)) (n, leads, right, off, is) in (
+        tabulated (number_on m table head) (suc n),
+        numbers_path n lt (omega (arith, few, ap length is, length-front (path m table head) (suc n))) leads right off,
+        are ∙ ap (map part_of) is ∙ sym (numbers_parts (suc n)),
+        rw are (chain_right (length m) size nothing_before by_next (split_wrong features (length m) size) (path m table head) (split_tested features (length m) size) (split_ends features (length m) size) chain (n, leads, right, off, is)),
+      )
 
   module _ (numbers : List ℕ) (p : IsPath m table size head numbers) where
     number_there : (k : ℕ) → k < length numbers → slice_get numbers k ≡ Some (number_on m table head k)
@@ -205,13 +208,13 @@ module _ (features : Features) (m : List ℕ) (table size head : ℕ) where
         (λ k lt.
         same_Some _ _ (sym (there numbers k 0 lt) ∙ number_there k lt) ∙ sym (get_or-tabulated (number_on m table head) (length numbers) k 0 lt))
 
-    chain_of : (n : ℕ) (parts : List Part) → length numbers ≡ suc n → parts ≡ map part_of (front (path m table head) (suc n)) → IsRightChain (length m) size parts
+    chain_of : (n : ℕ) (parts : List Part) → length numbers ≡ suc n → parts ≡ map part_of (front (path m table head) (suc n)) → IsRightChain (length m) parts
         → SplitChain features m table size head parts
     unfolding IsChain LeadsTo number_on
     chain_of n parts long are right =
         let fine : (k : ℕ) → k < suc n → first_of (buffer_tests (length m) (amount nothing_before (front (path m table head) k)) (path m table head k)) ≡ None =
-        buffers (length m) size (path m table head) (suc n) (rw are at right) in
-        let few : suc n ≤ size = omega (arith, right.most, ap length are, length-map (front (path m table head) (suc n)) part_of, length-front (path m table head) (suc n)) in
+        buffers (length m) (path m table head) (suc n) (rw are at right) in
+        let few : suc n ≤ size = omega (arith, p.most, long) in
         let number : (k : ℕ) → k < suc n → slice_get numbers k ≡ Some (number_on m table head k) = λ k lt. number_there k (omega (arith, long, lt)) in
         let onward : (k : ℕ) → k < n → goes_on (path m table head k) ≡ true =
         λ k lt.
@@ -261,13 +264,19 @@ module _ (features : Features) (m : List ℕ) (l : Layout) (t : ℕ) where
         | inr same ↦ ap (λ (i : ℕ). packed_wrong features (length m) l.size (amount nothing_before (front (slots_from l m t) i)) (slots_from l m t i)) same ∙ right
       ] in (
         record {
+          most =
+              omega (
+                arith,
+                slots_are,
+                chain_few (length m) l.size nothing_before by_next (packed_wrong features (length m) l.size) (slots_from l m t) (packed_tested features (length m) l.size) (packed_ends features (length m) l.size) chain some (n, leads, right, off, is),
+              );
           onward = λ k lt. (leads k (omega (arith, count, lt))).1;
           last = λ k e. let same : k ≡ n = omega (arith, count, e) in rw same off;
           direct = λ k lt. packed_direct features (length m) l.size (amount nothing_before (front (slots_from l m t) k)) (slots_from l m t k) (right_at k (omega (arith, count, lt)));
         },
         λ k e. id_is ∙ ap id_of is ∙ last_id n k (e ∙ count),
         are ∙ ap (map part_of) is ∙ sym (slots_parts (suc n)) ∙ ap (tabulated (λ (k : ℕ). part_of (slots_from l m t k))) (sym count),
-        rw are (chain_right (length m) l.size nothing_before by_next (packed_wrong features (length m) l.size) (slots_from l m t) (packed_tested features (length m) l.size) (packed_ends features (length m) l.size) chain some (n, leads, right, off, is)),
+        rw are (chain_right (length m) l.size nothing_before by_next (packed_wrong features (length m) l.size) (slots_from l m t) (packed_tested features (length m) l.size) (packed_ends features (length m) l.size) chain (n, leads, right, off, is)),
       )
 
   pub packed_is : (id slots : ℕ) (parts : List Part) → PackedChainProperties m l t id slots parts → PackedChain features m l t id slots parts
@@ -275,11 +284,11 @@ module _ (features : Features) (m : List ℕ) (l : Layout) (t : ℕ) where
   packed_is id slots parts (run, id_is, are, right) =
       let n : ℕ = slots - 1 in
       let some : 1 ≤ slots = omega (arith, right.some, ap length are, length-tabulated (λ (k : ℕ). part_of (slots_from l m t k)) slots) in
-      let few : slots ≤ l.size = omega (arith, right.most, ap length are, length-tabulated (λ (k : ℕ). part_of (slots_from l m t k)) slots) in
+      let few : slots ≤ l.size = run.most in
       let count : slots ≡ suc n = omega (arith, some) in
       let parts_are : parts ≡ map part_of (front (slots_from l m t) (suc n)) = are ∙ slots_parts slots ∙ ap (λ (k : ℕ). map part_of (front (slots_from l m t) k)) count in
       let fine : (k : ℕ) → k < suc n → first_of (buffer_tests (length m) (amount nothing_before (front (slots_from l m t) k)) (slots_from l m t k)) ≡ None =
-      buffers (length m) l.size (slots_from l m t) (suc n) (rw parts_are at right) in
+      buffers (length m) (slots_from l m t) (suc n) (rw parts_are at right) in
       let of_front : (k : ℕ) → (amount nothing_before (front (slots_from l m t) k)).count ≡ k = length-front (slots_from l m t) in
       let leads : LeadsTo nothing_before by_next (packed_wrong features (length m) l.size) (slots_from l m t) n =
       λ k lt. (

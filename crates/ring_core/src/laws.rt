@@ -1,6 +1,6 @@
 //! What follows from the definitions alone.
 
-ghost use Rattle.std.specs.Prelude.{◌≡◌, ◌<◌, ◌≤◌, ℕ, List, length};
+ghost use Rattle.std.specs.Prelude.{◌≡◌, ◌<◌, ◌≤◌, false, ℕ, List, length};
 ghost use Rattle.ring_core.specs.State.{RingState};
 ghost use Rattle.ring_core.specs.Sound.{OpensSound, AcceptsSound, UsesSound, BreaksSound};
 ghost use Rattle.ring_core.specs.Offer.{Offer, Offers, Found};
@@ -31,13 +31,20 @@ pub fn some_offer()
     ensures { (s : RingState) (m : List ℕ) → (o : Offer) × Offers s m o }
 {}
 
-/// What a queue offers as a chain has at least one part and at most as many as the queue has
-/// descriptors, all of them in memory, and no readable one behind a writable one (VIRTIO 1.2,
-/// 2.7.4, 2.7.5 and 2.8.5). In a split queue its head is one of the descriptor table.
+/// What a queue offers as a chain has at least one part, all of them in memory, and no readable one
+/// behind a writable one (VIRTIO 1.2, 2.7.4, 2.7.5 and 2.8.5). It takes at most as many slots as the
+/// queue has, and has at most as many parts where no tables of descriptors were agreed. In a split
+/// queue its head is one of the descriptor table.
 pub fn chains_are_right()
     ensures parts { (s : RingState) (m : List ℕ) (id slots : ℕ) (parts : List Part)
+        → Offers s m (Found id slots parts)
+        → IsRightChain (length m) parts }
+    ensures slots { (s : RingState) (m : List ℕ) (id slots : ℕ) (parts : List Part)
         → Offers s m (Found id slots parts) → 1 ≤ s.layout.size
-        → IsRightChain (length m) s.layout.size parts }
+        → slots ≤ s.layout.size }
+    ensures few { (s : RingState) (m : List ℕ) (id slots : ℕ) (parts : List Part)
+        → Offers s m (Found id slots parts) → 1 ≤ s.layout.size → s.features.indirect_descriptors ≡ false
+        → length parts ≤ s.layout.size }
     ensures head { (s : RingState) (m : List ℕ) (id slots : ℕ) (parts : List Part)
         → Offers s m (Found id slots parts) → s.form ≡ Split
         → id < s.layout.size }
