@@ -3,9 +3,9 @@ use Rattle.std.proofs.Common.{◌≡◌, ℕ, ◌+◌, ◌*◌, ◌<◌, ◌≤�
 use Rattle.std.proofs.lemmas.Grind.{common_steps}
 use Rattle.std.proofs.lemmas.Bool.Decides.{nat_tests}
 use Rattle.std.proofs.lemmas.List.{length-replicate}
-use Rattle.ring_core.specs.State.{opening}
+use Rattle.ring_core.specs.State.{no_features, opening}
 use Rattle.packed_ring.specs.IsPacked.{IsPacked}
-use Rattle.packed_ring.specs.Placement.{placement_fault, no_features}
+use Rattle.packed_ring.specs.Placement.{placement_fault}
 use Rattle.ring_core.specs.declared.layout.Layout.{Layout}
 use Rattle.ring_core.specs.declared.layout.Form.TheVariants.{Packed}
 
@@ -28,4 +28,4 @@ unfolding opening
 fresh queue l m ids all fine small =
     let size = right_size m l fine in
     let places = right_places m l fine in
-    record { form = refl; some = size.0; most = size.1; ids = rw (length-replicate, all) refl; slots = places.0; driver = places.1; small = small }
+    record { form = refl; features = refl; some = size.0; most = size.1; ids = rw (length-replicate, all) refl; slots = places.0; driver = places.1; small = small }

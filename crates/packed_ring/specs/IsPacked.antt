@@ -1,10 +1,11 @@
 -- What is true of every packed queue: it lies in its memory.
 use Rattle.std.specs.Prelude.{◌≡◌, ◌+◌, ◌*◌, ◌<◌, ◌≤◌, ◌^◌, length}
-use Rattle.ring_core.specs.State.{RingState}
+use Rattle.ring_core.specs.State.{RingState, no_features}
 use Rattle.ring_core.specs.declared.layout.Form.TheVariants.{Packed}
 
 pub record IsPacked (s : RingState) : Type 0 where
   pub form : s.form ≡ Packed
+  pub features : s.features ≡ no_features
   pub some : 0 < s.layout.size
   pub most : s.layout.size ≤ 32768
   pub ids : length s.outstanding ≡ 65536

@@ -1,9 +1,8 @@
 -- Where a packed queue may lie (VIRTIO 1.2, 2.8: sizes and alignments of its areas).
-use Rattle.std.specs.Prelude.{ℕ, ◌≡◌, ◌+◌, ◌*◌, ◌%◌, ◌&&◌, ◌==◌, not, nat_le, nat_lt, cond, Bool, false, Option, Some, None}
-use Rattle.ring_core.specs.State.{RingState, opening}
+use Rattle.std.specs.Prelude.{ℕ, ◌≡◌, ◌+◌, ◌*◌, ◌%◌, ◌&&◌, ◌==◌, not, nat_le, nat_lt, cond, Bool, Option, Some, None}
+use Rattle.ring_core.specs.State.{RingState, no_features, opening}
 use Rattle.ring_core.specs.declared.layout.Layout.{Layout}
 use Rattle.ring_core.specs.declared.layout.Form.TheVariants.{Packed}
-use Rattle.ring_core.specs.declared.layout.Features.{Features}
 use Rattle.ring_core.specs.declared.layout.LayoutFault.{LayoutFault}
 use Rattle.ring_core.specs.declared.layout.LayoutFault.TheVariants.{BadSize, BadAlignment, Outside}
 
@@ -28,10 +27,6 @@ placement_fault memory l =
 -- this is the first thing wrong with it
 abbrev pub IsMisplaced : ℕ → Layout → LayoutFault → Type 0
 IsMisplaced memory l f = placement_fault memory l ≡ Some f
-
--- neither indirect descriptors nor event indices were agreed
-abbrev pub no_features : Features
-no_features = record { indirect_descriptors = false; event_index = false }
 
 -- a fresh queue with this number at a place where nothing is wrong, whose ids are any of two bytes
 abbrev pub OpensPacked : ℕ → ℕ → Layout → RingState → Type 0

@@ -18,7 +18,9 @@ fn lies_in(memory: u64, addr: u64, len: u64) -> bool
 /// The first thing wrong with a layout, in a memory of so many bytes: what `new` refuses it for,
 /// for whoever wants to know before there is a memory. It is never `NoMemory`.
 pub fn check_layout(layout: &Layout, memory: u64) -> Result<(), LayoutFault>
-    ensures { MatchResult result (λ _. placement_fault memory layout.now ≡ None) (λ fault. placement_fault memory layout.now ≡ Some fault) }
+    ensures { MatchResult result
+        (λ _. placement_fault memory layout.now ≡ None)
+        (λ fault. placement_fault memory layout.now ≡ Some fault) }
 {
     if layout.size == 0 || layout.size > MOST_SIZE {
         Err(LayoutFault::BadSize)

@@ -14,7 +14,7 @@ use std::alloc::Global;
 use std::marker::Model;
 
 /// RING_EVENT_FLAGS_DISABLE in the two low bits of the driver's flags: the driver asks for no
-/// notice (VIRTIO 1.2, 2.8.14).
+/// notice (VIRTIO 1.2, 2.8.10 and 2.8.14).
 const DISABLE: u16 = 1;
 
 /// How many ids a chain may have: any of two bytes.
@@ -53,7 +53,9 @@ impl PackedRing {
         layout: Layout,
         memory: &GuestMem,
     ) -> Result<PackedRing, LayoutFault>
-        ensures made { MatchResult result (OpensPacked (length memory.now) queue layout) (IsMisplaced (length memory.now) layout) }
+        ensures made { MatchResult result
+            (OpensPacked (length memory.now) queue layout)
+            (IsMisplaced (length memory.now) layout) }
     {
         let bytes = memory.size();
         check_layout(&layout, bytes)?;

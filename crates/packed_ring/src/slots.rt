@@ -9,13 +9,13 @@ use byteorder::{ByteOrder, LittleEndian};
 use guest_mem::GuestMem;
 use ring_core::{Descriptor, Layout};
 
-/// VIRTQ_DESC_F_WRITE in a used descriptor: something was written (VIRTIO 1.2, 2.8.8).
+/// VIRTQ_DESC_F_WRITE in a used descriptor: something was written (VIRTIO 1.2, 2.8.3).
 const WRITE: u16 = 2;
 
-/// VIRTQ_DESC_F_AVAIL.
+/// VIRTQ_DESC_F_AVAIL (VIRTIO 1.2, 2.8.1).
 const AVAIL: u16 = 128;
 
-/// VIRTQ_DESC_F_USED.
+/// VIRTQ_DESC_F_USED (VIRTIO 1.2, 2.8.1).
 const USED: u16 = 32768;
 
 /// The two bytes at an address, as a number.
@@ -84,7 +84,8 @@ pub(crate) fn flags_of_used(wrap: bool, len: u32) -> u16
 /// Puts len, id and flags of a used descriptor at an address.
 pub(crate) fn put_used(memory: &mut GuestMem, addr: u64, len: u32, id: u16, flags: u16)
     requires { addr + 8 ≤ length memory.old }
-    ensures memory { memory.new ≡ with_bytes memory.old addr (little_bytes 4 len ++ little_bytes 2 id ++ little_bytes 2 flags) }
+    ensures memory { memory.new
+        ≡ with_bytes memory.old addr (little_bytes 4 len ++ little_bytes 2 id ++ little_bytes 2 flags) }
     ensures size { length memory.new ≡ length memory.old }
 {
     let mut bytes = [0; 8];

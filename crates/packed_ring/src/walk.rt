@@ -1,6 +1,7 @@
 //! Walking along the slots of a chain.
 
 ghost use Rattle.std.specs.Prelude.{◌≡◌, ◌+◌, ◌*◌, ◌<◌, ◌≤◌, ◌^◌, length, MatchResult, None, Some};
+ghost use Rattle.ring_core.specs.State.{no_features};
 ghost use Rattle.ring_core.specs.Packed.{packed_wrong};
 ghost use Rattle.packed_ring.specs.Inner.{IsRun, PackedFailsOrLacks};
 
@@ -22,7 +23,9 @@ fn check(before: &Before, d: &Descriptor, memory: u64, size: u16) -> Result<(), 
     requires bounded { before.now.total ≤ 2 ^ 32 }
     requires small { memory ≤ 2 ^ 28 }
     requires count { before.now.count < size }
-    ensures { MatchResult result (λ _. packed_wrong memory size before.now d.now ≡ None) (λ fault. packed_wrong memory size before.now d.now ≡ Some fault) }
+    ensures { MatchResult result
+        (λ _. packed_wrong no_features memory size before.now d.now ≡ None)
+        (λ fault. packed_wrong no_features memory size before.now d.now ≡ Some fault) }
 {
     if d.is_indirect() {
         return Err(RingFault::BadIndirect);
@@ -46,7 +49,9 @@ pub(crate) fn walk(
     requires inside { layout.now.desc + 16 * layout.now.size ≤ length memory.now }
     requires small { length memory.now ≤ 2 ^ 28 }
     requires passed { passed < 2 ^ 100 }
-    ensures { MatchResult result (λ run. IsRun memory.now layout.now passed run) (λ fault. PackedFailsOrLacks memory.now layout.now passed fault) }
+    ensures { MatchResult result
+        (λ run. IsRun no_features memory.now layout.now passed run)
+        (λ fault. PackedFailsOrLacks no_features memory.now layout.now passed fault) }
 {
     let bytes = memory.size();
     let mut parts = Vec::new(alloc);

@@ -6,9 +6,10 @@ use Rattle.byteorder.specs.Endian.{little_number, little_bytes}
 use Rattle.byteorder.specs.Numbers.{little_number-reads_back}
 use Rattle.guest_mem.specs.Memory.{bytes_at}
 use Rattle.ring_core.specs.State.{RingState}
-use Rattle.ring_core.specs.Walk.{goes_on, is_indirect, part_of, front, by_next}
+use Rattle.ring_core.specs.Walk.{nothing_before, goes_on, is_indirect, part_of, front, by_next}
 use Rattle.ring_core.specs.Split.{split_descriptor, in_table, number_on, path, split_wrong, SplitChain, SplitFails, ahead, entry_wrong}
 use Rattle.ring_core.specs.Packed.{packed_descriptor}
+use Rattle.ring_core.specs.declared.layout.Features.{Features}
 use Rattle.ring_core.specs.declared.descriptor.Part.{Part}
 use Rattle.ring_core.specs.declared.descriptor.Descriptor.{Descriptor}
 use Rattle.ring_core.specs.declared.before.Before.{Before}
@@ -33,23 +34,23 @@ pub no_jump_at : (s : RingState) (m : List ℕ) → ahead s m ≤ s.layout.size 
 no_jump_at s m le e = grind (arith, common_steps, nat_tests)
 
 -- nothing is wrong with a descriptor
-right : (memory size : ℕ) (b : Before) (d : Descriptor) → is_indirect d ≡ false → d.addr + d.len ≤ memory → b.writable ≡ false → b.total + d.len ≤ 2 ^ 32
-    → (goes_on d ≡ true → (d.next_or_id < size) × (b.count + 1 < size)) → split_wrong memory size b d ≡ None
-right memory size b d direct inside first small more = grind (arith, common_steps, nat_tests)
+right : (features : Features) (memory size : ℕ) (b : Before) (d : Descriptor) → is_indirect d ≡ false → d.addr + d.len ≤ memory → b.writable ≡ false → b.total + d.len ≤ 2 ^ 32
+    → (goes_on d ≡ true → (d.next_or_id < size) × (b.count + 1 < size)) → split_wrong features memory size b d ≡ None
+right features memory size b d direct inside first small more = grind (arith, common_steps, nat_tests)
 
-module _ (m : List ℕ) (table size : ℕ) where
+module _ (features : Features) (m : List ℕ) (table size : ℕ) where
   abbrev Wrong : Before → Descriptor → Option RingFault
-  Wrong = split_wrong (length m) size
+  Wrong = split_wrong features (length m) size
 
   pub one_alone : (head addr len next : ℕ) → in_table m table head ≡ record { addr = addr; len = len; flags = 0; next_or_id = next } → addr + len ≤ length m → len ≤ 2 ^ 32
-      → SplitChain m table size head (record { addr = addr; len = len; writable = false } ∷ [])
+      → SplitChain features m table size head (record { addr = addr; len = len; writable = false } ∷ [])
   unfolding number_on
   one_alone head addr len next is inside small =
       let d : Descriptor = record { addr = addr; len = len; flags = 0; next_or_id = next } in
       let b : Before = record { count = 0; total = 0; writable = false } in
       let at : ℕ → Descriptor = path m table head in
-      let fine : Wrong b d ≡ None = right (length m) size b d refl inside refl (omega arith) (λ on. absurd (cc)) in
-      let e = along_end by_next Wrong at 0 b [] d (along_start by_next Wrong at) (sym is) fine refl in
+      let fine : Wrong b d ≡ None = right features (length m) size b d refl inside refl (omega arith) (λ on. absurd (cc)) in
+      let e = along_end nothing_before by_next Wrong at 0 b [] d (along_start nothing_before by_next Wrong at) (sym is) fine refl in
       (front at 1, e.0, e.1)
 
   pub three_linked : (a b c i j k next : ℕ) → 5 < size
@@ -57,7 +58,7 @@ module _ (m : List ℕ) (table size : ℕ) where
       → in_table m table 5 ≡ record { addr = b; len = j; flags = 1; next_or_id = 1 }
       → in_table m table 1 ≡ record { addr = c; len = k; flags = 2; next_or_id = next }
       → a + i ≤ length m → b + j ≤ length m → c + k ≤ length m → i + j + k ≤ 2 ^ 32
-      → SplitChain m table size 3 (record { addr = a; len = i; writable = false } ∷ record { addr = b; len = j; writable = false } ∷ record { addr = c; len = k; writable = true } ∷ [])
+      → SplitChain features m table size 3 (record { addr = a; len = i; writable = false } ∷ record { addr = b; len = j; writable = false } ∷ record { addr = c; len = k; writable = true } ∷ [])
   unfolding number_on
   three_linked a b c i j k next big is3 is5 is1 in3 in5 in1 small =
       let at : ℕ → Descriptor = path m table 3 in
@@ -71,14 +72,14 @@ module _ (m : List ℕ) (table size : ℕ) where
       let b0 : Before = record { count = 0; total = 0; writable = false } in
       let b1 : Before = record { count = 1; total = 0 + i; writable = false } in
       let b2 : Before = record { count = 2; total = 0 + i + j; writable = false } in
-      let s1 : Along by_next Wrong at 1 b1 (part_of d0 ∷ []) =
-      along_more by_next Wrong at 0 b0 [] d0 (along_start by_next Wrong at) (sym is3)
-      (right (length m) size b0 d0 refl in3 refl (omega arith) (λ on. (big, omega arith))) refl in
-      let s2 : Along by_next Wrong at 2 b2 (part_of d0 ∷ part_of d1 ∷ []) =
-      along_more by_next Wrong at 1 b1 (part_of d0 ∷ []) d1 s1 (sym e1)
-      (right (length m) size b1 d1 refl in5 refl (omega arith) (λ on. (omega arith, omega arith))) refl in
-      let e = along_end by_next Wrong at 2 b2 (part_of d0 ∷ part_of d1 ∷ []) d2 s2 (sym e2)
-      (right (length m) size b2 d2 refl in1 refl (omega arith) (λ on. absurd (cc))) refl in
+      let s1 : Along nothing_before by_next Wrong at 1 b1 (part_of d0 ∷ []) =
+      along_more nothing_before by_next Wrong at 0 b0 [] d0 (along_start nothing_before by_next Wrong at) (sym is3)
+      (right features (length m) size b0 d0 refl in3 refl (omega arith) (λ on. (big, omega arith))) refl in
+      let s2 : Along nothing_before by_next Wrong at 2 b2 (part_of d0 ∷ part_of d1 ∷ []) =
+      along_more nothing_before by_next Wrong at 1 b1 (part_of d0 ∷ []) d1 s1 (sym e1)
+      (right features (length m) size b1 d1 refl in5 refl (omega arith) (λ on. (omega arith, omega arith))) refl in
+      let e = along_end nothing_before by_next Wrong at 2 b2 (part_of d0 ∷ part_of d1 ∷ []) d2 s2 (sym e2)
+      (right features (length m) size b2 d2 refl in1 refl (omega arith) (λ on. absurd (cc))) refl in
       (front at 3, e.0, e.1)
 
   module _ (head addr : ℕ) (within : head < size) (is : in_table m table head ≡ record { addr = addr; len = 0; flags = 1; next_or_id = head }) where
@@ -102,18 +103,18 @@ module _ (m : List ℕ) (table size : ℕ) where
     at_last : (n : ℕ) → size ≤ n + 1 → Wrong (behind n) Itself ≡ Some ChainTooLong
     at_last n le = grind (arith, common_steps, nat_tests)
 
-    round : (n : ℕ) → n < size → (parts : List Part) × Along by_next Wrong (path m table head) n (behind n) parts
-    round zero lt = ([], along_start by_next Wrong (path m table head))
+    round : (n : ℕ) → n < size → (parts : List Part) × Along nothing_before by_next Wrong (path m table head) n (behind n) parts
+    round zero lt = ([], along_start nothing_before by_next Wrong (path m table head))
     round (suc n) lt =
         let before = round n (omega arith) in
-        let next = along_more by_next Wrong (path m table head) n (behind n) before.0 Itself before.1 (is_itself n) (once_more n (omega arith)) refl in
+        let next = along_more nothing_before by_next Wrong (path m table head) n (behind n) before.0 Itself before.1 (is_itself n) (once_more n (omega arith)) refl in
         (before.0 ++ part_of Itself ∷ [], rw add-one at next)
 
-    pub names_itself : SplitFails m table size head ChainTooLong
+    pub names_itself : SplitFails features m table size head ChainTooLong
     names_itself =
         let n : ℕ = size - 1 in
         let before = round n (omega arith) in
-        along_wrong by_next Wrong (path m table head) n (behind n) before.0 Itself before.1 (is_itself n) ChainTooLong (at_last n (omega arith))
+        along_wrong nothing_before by_next Wrong (path m table head) n (behind n) before.0 Itself before.1 (is_itself n) ChainTooLong (at_last n (omega arith))
 
 -- A descriptor in the bytes that a driver writes:
 module _ (addr len flags last : ℕ) (a : addr < 2 ^ 64) (n : len < 2 ^ 32) (f : flags < 2 ^ 16) (l : last < 2 ^ 16) where

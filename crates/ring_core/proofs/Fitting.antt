@@ -26,19 +26,28 @@ readable_more ps p = omega (arith, sum_by-append (λ (x : Part). cond x.writable
 writable_more : (ps : List Part) (p : Part) → writable_total (ps ++ p ∷ []) ≡ writable_total ps + cond p.writable p.len 0
 writable_more ps p = omega (arith, sum_by-append (λ (x : Part). cond x.writable x.len 0) ps (p ∷ []))
 
-len_more : (ds : List Descriptor) (d : Descriptor) → sum_by (λ (x : Descriptor). x.len) (ds ++ d ∷ []) ≡ sum_by (λ (x : Descriptor). x.len) ds + d.len
+pub len_more : (ds : List Descriptor) (d : Descriptor) → sum_by (λ (x : Descriptor). x.len) (ds ++ d ∷ []) ≡ sum_by (λ (x : Descriptor). x.len) ds + d.len
 len_more ds d = omega (arith, sum_by-append (λ (x : Descriptor). x.len) ds (d ∷ []))
 
 both : (b : Bool) (n : ℕ) → cond b 0 n + cond b n 0 ≡ n
 both true n = omega arith
 both false n = omega arith
 
+-- In any sequence of descriptors:
+module _ (at : ℕ → Descriptor) where
+  -- the parts have the bytes of the descriptors
+  pub fit_sum : (n : ℕ) → readable_total (map part_of (front at n)) + writable_total (map part_of (front at n)) ≡ sum_by (λ (x : Descriptor). x.len) (front at n)
+  unfolding front
+  fit_sum zero = omega arith
+  fit_sum (suc n) =
+      rw (map-append, readable_more, writable_more, len_more) (omega (arith, fit_sum n, both (part_of (at n)).writable (at n).len))
+
 -- Along any sequence of descriptors whose buffers are tested:
-module _ (memory : ℕ) (on : Before → Descriptor → Bool) (wrong : Before → Descriptor → Option RingFault) (at : ℕ → Descriptor)
+module _ (memory : ℕ) (first : Before) (on : Before → Descriptor → Bool) (wrong : Before → Descriptor → Option RingFault) (at : ℕ → Descriptor)
     (tested : (b : Before) (d : Descriptor) → wrong b d ≡ None → first_of (buffer_tests memory b d) ≡ None) where
   -- all of the first n are right
   AllRight : ℕ → Type 0
-  AllRight n = (k : ℕ) → k < n → wrong (amount (front at k)) (at k) ≡ None
+  AllRight n = (k : ℕ) → k < n → wrong (amount first (front at k)) (at k) ≡ None
 
   fit_inside : (n : ℕ) → AllRight n → AllPass (inside memory) (map part_of (front at n))
   unfolding AllRight front
@@ -46,21 +55,16 @@ module _ (memory : ℕ) (on : Before → Descriptor → Bool) (wrong : Before �
   fit_inside (suc n) r =
       rw map-append
       (All-push (λ (p : Part). inside memory p ≡ true) (map part_of (front at n)) (part_of (at n)) (fit_inside n (λ k lt. r k (omega arith)))
-      (right_inside memory (amount (front at n)) (at n) (tested _ _ (r n (omega arith)))))
+      (right_inside memory (amount first (front at n)) (at n) (tested _ _ (r n (omega arith)))))
 
-  fit_sum : (n : ℕ) → readable_total (map part_of (front at n)) + writable_total (map part_of (front at n)) ≡ sum_by (λ (x : Descriptor). x.len) (front at n)
-  unfolding front
-  fit_sum zero = omega arith
-  fit_sum (suc n) =
-      rw (map-append, readable_more, writable_more, len_more) (omega (arith, fit_sum n, both (part_of (at n)).writable (at n).len))
-
-  pub chain_fits : (chain : List Descriptor) → IsChain on wrong at chain → PartsFit memory (map part_of chain)
+  pub chain_fits : (chain : List Descriptor) → IsChain first on wrong at chain → PartsFit memory (map part_of chain)
   unfolding AllRight front IsChain LeadsTo
   chain_fits chain (n, leads, right, off, is) =
-      let P : ℕ → Type 0 = λ k. wrong (amount (front at k)) (at k) ≡ None in
+      let P : ℕ → Type 0 = λ k. wrong (amount first (front at k)) (at k) ≡ None in
       let r : AllRight (suc n) = λ k lt. below_more P n (λ j l. (leads j l).0) right k (omega arith) in
       rw is
       (record {
         inside = fit_inside (suc n) r;
-        total = rw fit_sum (rw len_more (right_total memory (amount (front at n)) (at n) (tested _ _ right)));
+        total =
+            omega (arith, fit_sum at (suc n), len_more (front at n) (at n), right_total memory (amount first (front at n)) (at n) (tested _ _ right));
       })

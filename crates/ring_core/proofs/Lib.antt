@@ -7,4 +7,5 @@ pub mod Exists
 pub mod Tabulated
 pub mod Scattering
 pub mod RightChains
+pub mod ChainProperties
 pub mod Cases

@@ -11,4 +11,5 @@ pub mod Fetch
 pub mod RightChain
 pub mod Cases
 pub mod Table
+pub mod ChainProperties
 pub mod Base

@@ -1,12 +1,11 @@
 -- What a virtqueue has for the device, in either form.
-use Rattle.std.specs.Prelude.{ℕ, ◌≡◌, ◌≢◌, ◌⊎◌, Bool, true, false, List, [], length, map, Option, Some, None}
+use Rattle.std.specs.Prelude.{ℕ, ◌≡◌, ◌≢◌, ◌⊎◌, Bool, true, false, List, length, Option, Some, None}
 use Rattle.ring_core.specs.State.{RingState}
 use Rattle.ring_core.specs.Writes.{Write}
-use Rattle.ring_core.specs.Walk.{part_of, amount}
+use Rattle.ring_core.specs.Walk.{nothing_before}
 use Rattle.ring_core.specs.Split.{SplitChain, SplitFails, in_table, split_wrong, ahead, next_head, entry_wrong, split_used_writes, split_wants_notice}
-use Rattle.ring_core.specs.Packed.{PackedChain, PackedFails, slot_at, packed_wrong, is_available, id_of, whole_wrong, packed_used_writes, packed_wants_notice}
+use Rattle.ring_core.specs.Packed.{PackedChain, PackedFails, slot_at, packed_wrong, is_available, whole_wrong, packed_used_writes, packed_wants_notice}
 use Rattle.ring_core.specs.declared.descriptor.Part.{Part}
-use Rattle.ring_core.specs.declared.descriptor.Descriptor.{Descriptor}
 use Rattle.ring_core.specs.declared.fault.RingFault.{RingFault}
 use Rattle.ring_core.specs.declared.layout.Form.{Form}
 use Rattle.ring_core.specs.declared.layout.Form.TheVariants.{Split, Packed}
@@ -22,23 +21,23 @@ abbrev pub SplitOffers : RingState → List ℕ → Offer → Type 0
 SplitOffers s m Nothing = ahead s m ≡ 0
 SplitOffers s m (Found id slots parts) =
     (ahead s m ≢ 0) × (entry_wrong s m ≡ None) × (id ≡ next_head s m) × (slots ≡ 1)
-    × SplitChain m s.layout.desc s.layout.size (next_head s m) parts
+    × SplitChain s.features m s.layout.desc s.layout.size (next_head s m) parts
 SplitOffers s m (Refused f) =
     (ahead s m ≢ 0)
     × ((entry_wrong s m ≡ Some f)
-    ⊎ ((entry_wrong s m ≡ None) × SplitFails m s.layout.desc s.layout.size (next_head s m) f))
+    ⊎ ((entry_wrong s m ≡ None) × SplitFails s.features m s.layout.desc s.layout.size (next_head s m) f))
 
 -- a packed queue offers this
 abbrev pub PackedOffers : RingState → List ℕ → Offer → Type 0
 PackedOffers s m Nothing = is_available s m ≡ false
 PackedOffers s m (Found id slots parts) =
-    (is_available s m ≡ true)
-    × ((chain : List Descriptor) × PackedChain m s.layout s.accepted_slots chain
-    × (whole_wrong s chain ≡ None) × (id ≡ id_of chain) × (slots ≡ length chain) × (parts ≡ map part_of chain))
+    (is_available s m ≡ true) × PackedChain s.features m s.layout s.accepted_slots id slots parts
+    × (whole_wrong s id slots ≡ None)
 PackedOffers s m (Refused f) =
     (is_available s m ≡ true)
-    × (PackedFails m s.layout s.accepted_slots f
-    ⊎ ((chain : List Descriptor) × PackedChain m s.layout s.accepted_slots chain × (whole_wrong s chain ≡ Some f)))
+    × (PackedFails s.features m s.layout s.accepted_slots f
+    ⊎ ((id : ℕ) × (slots : ℕ) × (parts : List Part) × PackedChain s.features m s.layout s.accepted_slots id slots parts
+    × (whole_wrong s id slots ≡ Some f)))
 
 abbrev pub OffersInForm : Form → RingState → List ℕ → Offer → Type 0
 OffersInForm Split s m o = SplitOffers s m o
@@ -57,9 +56,10 @@ Offers s m o = OffersUnless s.broken s m o
 abbrev pub BeginsInForm : Form → RingState → List ℕ → Type 0
 BeginsInForm Split s m =
     (ahead s m ≢ 0) × (entry_wrong s m ≡ None)
-    × (split_wrong (length m) s.layout.size (amount []) (in_table m s.layout.desc (next_head s m)) ≡ None)
+    × (split_wrong s.features (length m) s.layout.size nothing_before (in_table m s.layout.desc (next_head s m)) ≡ None)
 BeginsInForm Packed s m =
-    (is_available s m ≡ true) × (packed_wrong (length m) s.layout.size (amount []) (slot_at s.layout m s.accepted_slots) ≡ None)
+    (is_available s m ≡ true)
+    × (packed_wrong s.features (length m) s.layout.size nothing_before (slot_at s.layout m s.accepted_slots) ≡ None)
 
 -- in the place of what comes behind that, want of memory may be answered; so is it in the place of a chain by
 -- a queue that has accepted 2^64 - 1

@@ -1,11 +1,13 @@
 -- A packed virtqueue (VIRTIO 1.2, 2.8): which chain lies at its next place, and what a completion writes.
-use Rattle.std.specs.Prelude.{ℕ, ◌+◌, ◌*◌, ◌-◌, ◌%◌, ◌/◌, ◌==◌, ◌&&◌, not, nat_lt, nat_le, Bool, cond, List, [], ◌∷◌, ◌++◌, length, drop, Option, is_some, bit_and}
+use Rattle.std.specs.Prelude.{ℕ, ◌+◌, ◌*◌, ◌-◌, ◌%◌, ◌/◌, ◌==◌, ◌&&◌, not, nat_lt, nat_le, Bool, ◌≡◌, cond, List, [], ◌∷◌, ◌++◌, length, map, drop, Option, is_some, bit_and}
 use Rattle.byteorder.specs.Endian.{little_number, little_bytes}
 use Rattle.guest_mem.specs.Memory.{bytes_at}
 use Rattle.ring_core.specs.State.{RingState, under}
-use Rattle.ring_core.specs.Walk.{goes_on, is_indirect, first_of, buffer_tests, by_next, IsChain, IsFault}
+use Rattle.ring_core.specs.Walk.{goes_on, is_indirect, part_of, first_of, buffer_tests, nothing_before, by_next, IsChain, IsFault}
 use Rattle.ring_core.specs.Writes.{Write}
 use Rattle.ring_core.specs.declared.layout.Layout.{Layout}
+use Rattle.ring_core.specs.declared.layout.Features.{Features}
+use Rattle.ring_core.specs.declared.descriptor.Part.{Part}
 use Rattle.ring_core.specs.declared.descriptor.Descriptor.{Descriptor}
 use Rattle.ring_core.specs.declared.before.Before.{Before}
 use Rattle.ring_core.specs.declared.fault.RingFault.{RingFault}
@@ -44,33 +46,50 @@ used_bit d = bit_and d.flags 32768 == 32768
 abbrev pub is_available : RingState → List ℕ → Bool
 is_available s m =
     let d = slot_at s.layout m s.accepted_slots in
-    cond (wrap_counter s.layout.size s.accepted_slots) (avail_bit d && not (used_bit d)) (not (avail_bit d) && used_bit d)
+    cond (wrap_counter s.layout.size s.accepted_slots)
+    (avail_bit d && not (used_bit d))
+    (not (avail_bit d) && used_bit d)
 
--- what is wrong with a descriptor of the chain, in a memory and a ring of these sizes
-abbrev pub packed_wrong : ℕ → ℕ → Before → Descriptor → Option RingFault
-packed_wrong memory size before d =
-    first_of ((is_indirect d, BadIndirect) ∷ buffer_tests memory before d ++ (goes_on d && nat_le size (before.count + 1), ChainTooLong) ∷ [])
+-- what is wrong with a descriptor of the run in the ring, in a memory and a ring of these sizes. INDIRECT is a fault
+-- whatever features were agreed, since no queue can agree them yet.
+abbrev pub packed_wrong : Features → ℕ → ℕ → Before → Descriptor → Option RingFault
+packed_wrong features memory size before d =
+    first_of (
+    (is_indirect d, BadIndirect)
+    ∷ buffer_tests memory before d
+    ++ (goes_on d && nat_le size (before.count + 1), ChainTooLong)
+    ∷ [])
 
--- these descriptors are the chain in the slots from t on: consecutive ones to the first without NEXT
-abbrev pub PackedChain : List ℕ → Layout → ℕ → List Descriptor → Type 0
-PackedChain m l t chain = IsChain by_next (packed_wrong (length m) l.size) (slots_from l m t) chain
+-- the run in the slots from t on: consecutive ones to the first without NEXT, each of them right (2.8.6)
+abbrev pub IsPackedRun : Features → List ℕ → Layout → ℕ → List Descriptor → Type 0
+IsPackedRun features m l t run =
+    IsChain nothing_before by_next (packed_wrong features (length m) l.size) (slots_from l m t) run
 
--- the first thing wrong along those slots
-abbrev pub PackedFails : List ℕ → Layout → ℕ → RingFault → Type 0
-PackedFails m l t f = IsFault by_next (packed_wrong (length m) l.size) (slots_from l m t) f
-
--- a chain's id is its last descriptor's
+-- a chain's id is its last descriptor's (2.8.6)
 abbrev pub id_of : List Descriptor → ℕ
 id_of [] = 0
 id_of (d ∷ []) = d.next_or_id
 id_of (d ∷ e ∷ ds) = id_of (e ∷ ds)
 
--- what is wrong with a whole chain
-abbrev pub whole_wrong : RingState → List Descriptor → Option RingFault
-whole_wrong s chain =
+-- the chain in the slots from t on has the id and the slots of its run in the ring, and its parts. (A last descriptor that
+-- names a table, where that was agreed, will have a second run in its place, of all the table's entries, behind what stood
+-- before it: id and slots stay those of the run in the ring.)
+abbrev pub PackedChain : Features → List ℕ → Layout → ℕ → ℕ → ℕ → List Part → Type 0
+PackedChain features m l t id slots parts =
+    (chain : List Descriptor) × IsPackedRun features m l t chain
+    × (id ≡ id_of chain) × (slots ≡ length chain) × (parts ≡ map part_of chain)
+
+-- the first thing wrong along those slots
+abbrev pub PackedFails : Features → List ℕ → Layout → ℕ → RingFault → Type 0
+PackedFails features m l t f =
+    IsFault nothing_before by_next (packed_wrong features (length m) l.size) (slots_from l m t) f
+
+-- what is wrong with a whole chain of this id and so many slots
+abbrev pub whole_wrong : RingState → ℕ → ℕ → Option RingFault
+whole_wrong s id slots =
     first_of (
-    (is_some (under s (id_of chain)), AlreadyOutstanding)
-    ∷ (nat_lt s.layout.size (s.accepted_slots - s.used_slots + length chain), RingOverrun)
+    (is_some (under s id), AlreadyOutstanding)
+    ∷ (nat_lt s.layout.size (s.accepted_slots - s.used_slots + slots), RingOverrun)
     ∷ [])
 
 -- the flags of a used descriptor: AVAIL and USED are the device's wrap counter (2.8.1), WRITE says that something was
@@ -78,8 +97,8 @@ whole_wrong s chain =
 abbrev pub used_flags : Bool → ℕ → ℕ
 used_flags wrap len = cond wrap 32896 0 + cond (nat_lt 0 len) 2 0
 
--- what a completion writes (2.8.3, 2.8.4): len, id and flags of one used descriptor in the slot at the device's place; its
--- addr stays
+-- what a completion writes (2.8.3, 2.8.4): len, id and flags of one used descriptor in the slot at the device's place;
+-- its addr stays
 abbrev pub packed_used_writes : RingState → ℕ → ℕ → List Write
 packed_used_writes s id len =
     let flags = used_flags (wrap_counter s.layout.size s.used_slots) len in
@@ -89,7 +108,7 @@ packed_used_writes s id len =
     }
     ∷ []
 
--- The driver event suppression area (2.8.14): le16 offset and wrap, le16 flags; RING_EVENT_FLAGS_DISABLE is 1
+-- The driver event suppression area (2.8.10, 2.8.14): le16 offset and wrap, le16 flags; RING_EVENT_FLAGS_DISABLE is 1
 
 abbrev pub packed_wants_notice : List ℕ → ℕ → Bool
 packed_wants_notice m driver = not (little_number 2 (bytes_at m (driver + 2) 2) % 4 == 1)

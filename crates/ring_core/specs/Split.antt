@@ -3,8 +3,9 @@ use Rattle.std.specs.Prelude.{ℕ, zero, suc, ◌≡◌, ◌+◌, ◌*◌, ◌-�
 use Rattle.byteorder.specs.Endian.{little_number, little_bytes}
 use Rattle.guest_mem.specs.Memory.{bytes_at}
 use Rattle.ring_core.specs.State.{RingState, under}
-use Rattle.ring_core.specs.Walk.{goes_on, is_indirect, part_of, first_of, buffer_tests, by_next, IsChain, IsFault}
+use Rattle.ring_core.specs.Walk.{goes_on, is_indirect, part_of, first_of, buffer_tests, nothing_before, by_next, IsChain, IsFault}
 use Rattle.ring_core.specs.Writes.{Write}
+use Rattle.ring_core.specs.declared.layout.Features.{Features}
 use Rattle.ring_core.specs.declared.descriptor.Part.{Part}
 use Rattle.ring_core.specs.declared.descriptor.Descriptor.{Descriptor}
 use Rattle.ring_core.specs.declared.before.Before.{Before}
@@ -35,9 +36,10 @@ number_on m table head (suc k) = (in_table m table (number_on m table head k)).n
 abbrev pub path : List ℕ → ℕ → ℕ → ℕ → Descriptor
 path m table head k = in_table m table (number_on m table head k)
 
--- what is wrong with a descriptor on the path, in a memory and a table of these sizes
-abbrev pub split_wrong : ℕ → ℕ → Before → Descriptor → Option RingFault
-split_wrong memory size before d =
+-- what is wrong with a descriptor of a run, in a memory of this size, where the run has at most so many and their numbers
+-- are below that. INDIRECT is a fault whatever features were agreed, since no queue can agree them yet.
+abbrev pub split_wrong : Features → ℕ → ℕ → Before → Descriptor → Option RingFault
+split_wrong features memory size before d =
     first_of (
     (is_indirect d, BadIndirect)
     ∷ buffer_tests memory before d
@@ -45,14 +47,27 @@ split_wrong memory size before d =
     ∷ (goes_on d && nat_le size (before.count + 1), ChainTooLong)
     ∷ [])
 
--- the chain at a head has these parts: the descriptors on its path to the first without NEXT, each of them right
-abbrev pub SplitChain : List ℕ → ℕ → ℕ → ℕ → List Part → Type 0
-SplitChain m table size head parts =
-    (chain : List Descriptor) × IsChain by_next (split_wrong (length m) size) (path m table head) chain × (parts ≡ map part_of chain)
+-- a run from a head of a table of so many descriptors, behind what stood before it: those on its path to the first without
+-- NEXT, each of them right
+abbrev pub IsSplitRun : Features → Before → List ℕ → ℕ → ℕ → ℕ → List Descriptor → Type 0
+IsSplitRun features first m table size head run =
+    IsChain first by_next (split_wrong features (length m) size) (path m table head) run
+
+-- the first thing wrong along it
+abbrev pub SplitRunFails : Features → Before → List ℕ → ℕ → ℕ → ℕ → RingFault → Type 0
+SplitRunFails features first m table size head f =
+    IsFault first by_next (split_wrong features (length m) size) (path m table head) f
+
+-- the chain at a head has these parts: those of its run in the queue's table. (A last descriptor that names a table, where
+-- that was agreed, will have a second run in its place, of the table's entries from the first on, behind what stood before
+-- it.)
+abbrev pub SplitChain : Features → List ℕ → ℕ → ℕ → ℕ → List Part → Type 0
+SplitChain features m table size head parts =
+    (chain : List Descriptor) × IsSplitRun features nothing_before m table size head chain × (parts ≡ map part_of chain)
 
 -- the first thing wrong along its path
-abbrev pub SplitFails : List ℕ → ℕ → ℕ → ℕ → RingFault → Type 0
-SplitFails m table size head f = IsFault by_next (split_wrong (length m) size) (path m table head) f
+abbrev pub SplitFails : Features → List ℕ → ℕ → ℕ → ℕ → RingFault → Type 0
+SplitFails features m table size head f = SplitRunFails features nothing_before m table size head f
 
 -- The available ring (2.7.6): le16 flags, le16 idx, le16 ring[size]
 

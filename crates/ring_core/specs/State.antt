@@ -1,5 +1,5 @@
 -- A virtqueue as a plain value: where it lies, its log, and which of its chains are outstanding.
-use Rattle.std.specs.Prelude.{ℕ, ◌+◌, ◌≡◌, ◌<◌, List, [], ◌∷◌, ◌++◌, length, Option, Some, None, get_or, slice_set, slice_get, zero, suc, replicate}
+use Rattle.std.specs.Prelude.{ℕ, ◌+◌, ◌≡◌, ◌<◌, List, [], ◌∷◌, ◌++◌, length, Option, Some, None, false, get_or, slice_set, slice_get, zero, suc, replicate}
 use Rattle.ring_core.specs.declared.log.Ticket.{Ticket}
 use Rattle.ring_core.specs.declared.layout.Layout.{Layout}
 use Rattle.ring_core.specs.declared.layout.Form.{Form}
@@ -29,6 +29,10 @@ pub record RingState : Type 0 where
   pub latest_slots : ℕ
   -- the fault that broke it
   pub broken : Option RingFault
+
+-- neither indirect descriptors nor event indices were agreed
+abbrev pub no_features : Features
+no_features = record { indirect_descriptors = false; event_index = false }
 
 -- a chain as a plain value: its ticket, its head or id, its slots, its parts, and the size of its memory
 pub record PlainChain : Type 0 where

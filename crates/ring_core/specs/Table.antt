@@ -1,4 +1,4 @@
--- The table of outstanding chains as a list: under each head or id the chain that has it.
+-- How the table of outstanding chains, as it is kept, is a list: under each head or id the chain that has it.
 use Rattle.std.specs.Prelude.{ℕ, zero, suc, List, [], ◌∷◌, ◌++◌, Option}
 use Rattle.std.specs.Ordering.{nat_cmp}
 use Rattle.std.specs.BTreeMap.{get}

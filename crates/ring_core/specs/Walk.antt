@@ -1,5 +1,6 @@
--- What both forms of queue share: a sequence of descriptors in memory, and the chain at its beginning (VIRTIO 1.2, 2.7.5 and 2.8.6).
-use Rattle.std.specs.Prelude.{ℕ, zero, suc, ◌≡◌, ◌+◌, ◌^◌, ◌<◌, ◌==◌, ◌&&◌, not, nat_lt, Bool, true, false, cond, List, [], ◌∷◌, ◌++◌, length, sum_by, Option, Some, None, bit_and}
+-- What both forms of queue share: a sequence of descriptors in memory, and the run at its beginning (VIRTIO 1.2, 2.7.5
+-- and 2.8.6).
+use Rattle.std.specs.Prelude.{ℕ, zero, suc, ◌≡◌, ◌+◌, ◌^◌, ◌<◌, ◌==◌, ◌&&◌, ◌||◌, not, nat_lt, Bool, true, false, cond, List, [], ◌∷◌, ◌++◌, length, sum_by, Option, Some, None, bit_and}
 use Rattle.std.specs.List.{list_any}
 use Rattle.ring_core.specs.declared.descriptor.Part.{Part}
 use Rattle.ring_core.specs.declared.descriptor.Descriptor.{Descriptor}
@@ -7,15 +8,15 @@ use Rattle.ring_core.specs.declared.before.Before.{Before}
 use Rattle.ring_core.specs.declared.fault.RingFault.{RingFault}
 use Rattle.ring_core.specs.declared.fault.RingFault.TheVariants.{BufferOutside, ReadableAfterWritable, ChainTooLong}
 
--- VIRTQ_DESC_F_NEXT: another descriptor follows
+-- VIRTQ_DESC_F_NEXT (2.7.5, 2.8.6): another descriptor follows
 abbrev pub goes_on : Descriptor → Bool
 goes_on d = bit_and d.flags 1 == 1
 
--- VIRTQ_DESC_F_WRITE: its buffer is the device's to write
+-- VIRTQ_DESC_F_WRITE (2.7.5, 2.8.3): its buffer is the device's to write
 abbrev pub is_writable : Descriptor → Bool
 is_writable d = bit_and d.flags 2 == 2
 
--- VIRTQ_DESC_F_INDIRECT: its buffer is a table of descriptors
+-- VIRTQ_DESC_F_INDIRECT (2.7.5, 2.8.7): its buffer is a table of descriptors
 abbrev pub is_indirect : Descriptor → Bool
 is_indirect d = bit_and d.flags 4 == 4
 
@@ -27,9 +28,18 @@ abbrev pub first_of : List (Bool × RingFault) → Option RingFault
 first_of [] = None
 first_of (test ∷ tests) = cond test.0 (Some test.1) (first_of tests)
 
--- what some descriptors amount to
-abbrev pub amount : List Descriptor → Before
-amount ds = record { count = length ds; total = sum_by (λ d. d.len) ds; writable = list_any is_writable ds }
+-- nothing stands before the first run of a chain
+abbrev pub nothing_before : Before
+nothing_before = record { count = 0; total = 0; writable = false }
+
+-- what some descriptors of a run amount to, behind what stood before the run: they alone count, total and writable go on
+abbrev pub amount : Before → List Descriptor → Before
+amount first ds =
+    record {
+      count = length ds;
+      total = first.total + sum_by (λ d. d.len) ds;
+      writable = first.writable || list_any is_writable ds;
+    }
 
 -- what can be wrong with a descriptor's buffer, behind what stands before it
 abbrev pub buffer_tests : ℕ → Before → Descriptor → List (Bool × RingFault)
@@ -44,20 +54,26 @@ unfoldable pub front : (ℕ → Descriptor) → ℕ → List Descriptor
 front at zero = []
 front at (suc n) = front at n ++ at n ∷ []
 
--- Along a sequence of descriptors, where `on` says whether a chain goes on past one, and `wrong` what is wrong with one, each behind what stands before it:
-module _ (on : Before → Descriptor → Bool) (wrong : Before → Descriptor → Option RingFault) (at : ℕ → Descriptor) where
-  -- the first n are right, and the chain goes on past each of them
+-- A run along a sequence of descriptors, behind what `first` says stands before it. `on` says whether the run goes on past
+-- one, `wrong` what is wrong with one, each behind all that stands before it:
+module _ (first : Before) (on : Before → Descriptor → Bool) (wrong : Before → Descriptor → Option RingFault)
+    (at : ℕ → Descriptor) where
+  -- the first n are right, and the run goes on past each of them
   unfoldable pub LeadsTo : ℕ → Type 0
-  LeadsTo n = (k : ℕ) → k < n → (wrong (amount (front at k)) (at k) ≡ None) × (on (amount (front at k)) (at k) ≡ true)
+  LeadsTo n =
+      (k : ℕ) → k < n
+      → (wrong (amount first (front at k)) (at k) ≡ None) × (on (amount first (front at k)) (at k) ≡ true)
 
-  -- a chain: all to the first past which it doesn't go on, and each of them is right
+  -- a run: all to the first past which it doesn't go on, and each of them is right
   unfoldable pub IsChain : List Descriptor → Type 0
   IsChain chain =
-      (n : ℕ) × LeadsTo n × (wrong (amount (front at n)) (at n) ≡ None) × (on (amount (front at n)) (at n) ≡ false) × (chain ≡ front at (suc n))
+      (n : ℕ) × LeadsTo n
+      × (wrong (amount first (front at n)) (at n) ≡ None) × (on (amount first (front at n)) (at n) ≡ false)
+      × (chain ≡ front at (suc n))
 
   -- the first thing wrong
   unfoldable pub IsFault : RingFault → Type 0
-  IsFault f = (n : ℕ) × LeadsTo n × (wrong (amount (front at n)) (at n) ≡ Some f)
+  IsFault f = (n : ℕ) × LeadsTo n × (wrong (amount first (front at n)) (at n) ≡ Some f)
 
 -- a chain goes on past a descriptor with NEXT, whatever stands before it
 abbrev pub by_next : Before → Descriptor → Bool

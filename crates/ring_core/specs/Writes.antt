@@ -13,12 +13,14 @@ abbrev pub all_written : List ℕ → List Write → List ℕ
 all_written m [] = m
 all_written m (w ∷ ws) = all_written (with_bytes m w.addr w.bytes) ws
 
--- bs over the writable parts in order, from their byte `at` on: one write for each part that gets some of them. Where parts
--- overlap the later write wins.
+-- bs over the writable parts in order, from their byte `at` on: one write for each part that gets some of them. Where
+-- parts overlap the later write wins.
 abbrev pub scatter_writes : List Part → ℕ → List ℕ → List Write
 scatter_writes [] at bs = []
 scatter_writes (p ∷ ps) at bs =
     cond p.writable
     (let further = scatter_writes ps (at - p.len) (drop (p.len - at) bs) in
-    cond (nat_lt at p.len && nat_lt 0 (length bs)) (record { addr = p.addr + at; bytes = take (p.len - at) bs } ∷ further) further)
+    cond (nat_lt at p.len && nat_lt 0 (length bs))
+    (record { addr = p.addr + at; bytes = take (p.len - at) bs } ∷ further)
+    further)
     (scatter_writes ps at bs)

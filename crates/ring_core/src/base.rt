@@ -179,7 +179,13 @@ impl RingBase {
         requires free { under self.old id ≡ None }
         requires in_range { id < length self.old.outstanding }
         requires fit { PartsFit self.old.memory parts.items }
-        ensures chain { IfOk result (λ c. c ≡ record { ticket = next_ticket self.old; id = id; slots = slots; parts = parts.items; memory = self.old.memory }) }
+        ensures chain { IfOk result (λ c. c ≡ record {
+          ticket = next_ticket self.old;
+          id = id;
+          slots = slots;
+          parts = parts.items;
+          memory = self.old.memory;
+        }) }
         ensures ok { OnOk result (self.new ≡ accepting self.old id slots) }
         ensures owned { IfOk result (λ c. Owns self.new c) }
         ensures err { OnErr result (self.new ≡ self.old) }

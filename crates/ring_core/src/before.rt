@@ -6,10 +6,11 @@ ghost use Rattle.ring_core.specs.Walk.{is_writable, first_of, buffer_tests};
 use crate::descriptor::Descriptor;
 use crate::fault::RingFault;
 
-/// What the descriptors before one amount to. For rings.
+/// What the descriptors before one amount to: those of its run, and in `total` and `writable` also
+/// those of a run before it. For rings.
 #[derive(Clone, Copy, Debug, PartialEq, Eq)]
 pub struct Before {
-    /// How many they are.
+    /// How many of them its run has.
     pub count: u64,
     /// The bytes of their buffers.
     pub total: u64,
@@ -33,7 +34,11 @@ impl Before {
     pub fn with(&self, d: &Descriptor) -> Before
         requires count { self.now.count < 2 ^ 32 }
         requires total { self.now.total + d.now.len ≤ 2 ^ 32 }
-        ensures { result ≡ record { count = self.now.count + 1; total = self.now.total + d.now.len; writable = self.now.writable || is_writable d.now } }
+        ensures { result ≡ record {
+          count = self.now.count + 1;
+          total = self.now.total + d.now.len;
+          writable = self.now.writable || is_writable d.now;
+        } }
     {
         Before {
             count: self.count + 1,
@@ -46,7 +51,9 @@ impl Before {
     pub fn check_buffer(&self, d: &Descriptor, memory: u64) -> Result<(), RingFault>
         requires bounded { self.now.total ≤ 2 ^ 32 }
         requires small { memory ≤ 2 ^ 28 }
-        ensures { MatchResult result (λ _. first_of (buffer_tests memory self.now d.now) ≡ None) (λ fault. first_of (buffer_tests memory self.now d.now) ≡ Some fault) }
+        ensures { MatchResult result
+            (λ _. first_of (buffer_tests memory self.now d.now) ≡ None)
+            (λ fault. first_of (buffer_tests memory self.now d.now) ≡ Some fault) }
     {
         let len = d.len as u64;
         if len != 0 && (d.addr > memory || len > memory - d.addr) {

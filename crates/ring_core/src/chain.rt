@@ -26,7 +26,10 @@ impl Model for Chain {
 
     ghost view = { λ c. record { ticket = c.ticket; id = c.id; slots = c.slots; parts = c.parts.items; memory = c.memory } };
 
-    ghost invariant = { λ c. (c.readable_len ≡ readable_total c.parts.items) × (c.writable_len ≡ writable_total c.parts.items) × PartsFit c.memory c.parts.items };
+    ghost invariant = { λ c.
+        (c.readable_len ≡ readable_total c.parts.items)
+        × (c.writable_len ≡ writable_total c.parts.items)
+        × PartsFit c.memory c.parts.items };
 }
 
 ghost use Rattle.std.specs.Prelude.{◌≡◌, ◌≤◌, ◌<◌, ◌^◌};

@@ -1,6 +1,6 @@
 //! What follows from the definitions alone.
 
-ghost use Rattle.std.specs.Prelude.{◌≡◌, ◌<◌, ◌≤◌, ℕ, List, length};
+ghost use Rattle.std.specs.Prelude.{◌≡◌, ◌<◌, ◌≤◌, false, ℕ, List, length};
 ghost use Rattle.ring_core.specs.State.{RingState};
 ghost use Rattle.ring_core.specs.Sound.{OpensSound, AcceptsSound, UsesSound, BreaksSound};
 ghost use Rattle.ring_core.specs.Offer.{Offer, Offers, Found};
@@ -9,12 +9,14 @@ ghost use Rattle.ring_core.specs.declared.descriptor.Part.{Part};
 ghost use Rattle.ring_core.specs.declared.layout.Form.TheVariants.{Split};
 
 mod cases;
+mod properties;
 mod scattering;
 
 pub use cases::{
     a_loop_is_too_long, as_many_as_the_size_are_no_jump, descriptors_are_read_as_written,
     one_descriptor_is_a_chain, the_index_counts_round, three_linked_descriptors_are_a_chain,
 };
+pub use properties::{packed_chains_by_properties, split_chains_by_properties};
 pub use scattering::{
     scatter_in_two, scattering_keeps_the_size, scattering_nothing, writes_in_order,
 };
@@ -29,14 +31,23 @@ pub fn some_offer()
     ensures { (s : RingState) (m : List ℕ) → (o : Offer) × Offers s m o }
 {}
 
-/// What a queue offers as a chain has at least one part and at most as many as the queue has
-/// descriptors, all of them in memory, and no readable one behind a writable one (VIRTIO 1.2,
-/// 2.6.4.2, 2.7.5 and 2.8). In a split queue its head is one of the descriptor table.
+/// What a queue offers as a chain has at least one part, all of them in memory, and no readable one
+/// behind a writable one (VIRTIO 1.2, 2.7.4, 2.7.5 and 2.8.5). It takes at most as many slots as the
+/// queue has, and has at most as many parts where no tables of descriptors were agreed. In a split
+/// queue its head is one of the descriptor table.
 pub fn chains_are_right()
     ensures parts { (s : RingState) (m : List ℕ) (id slots : ℕ) (parts : List Part)
+        → Offers s m (Found id slots parts)
+        → IsRightChain (length m) parts }
+    ensures slots { (s : RingState) (m : List ℕ) (id slots : ℕ) (parts : List Part)
         → Offers s m (Found id slots parts) → 1 ≤ s.layout.size
-        → IsRightChain (length m) s.layout.size parts }
-    ensures head { (s : RingState) (m : List ℕ) (id slots : ℕ) (parts : List Part) → Offers s m (Found id slots parts) → s.form ≡ Split → id < s.layout.size }
+        → slots ≤ s.layout.size }
+    ensures few { (s : RingState) (m : List ℕ) (id slots : ℕ) (parts : List Part)
+        → Offers s m (Found id slots parts) → 1 ≤ s.layout.size → s.features.indirect_descriptors ≡ false
+        → length parts ≤ s.layout.size }
+    ensures head { (s : RingState) (m : List ℕ) (id slots : ℕ) (parts : List Part)
+        → Offers s m (Found id slots parts) → s.form ≡ Split
+        → id < s.layout.size }
 {}
 
 /// A queue is sound when it is made, and whatever it does keeps it so: accepting a chain under a

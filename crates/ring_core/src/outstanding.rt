@@ -49,8 +49,10 @@ fn put_chain(
     id: u16,
     chain: OutstandingChain,
 ) -> Result<(), AllocError>
-    ensures ok { OnOk result ((ids : ℕ) → id < ids → tabulated (get nat_cmp chains.new) ids ≡ slice_set (tabulated (get nat_cmp chains.old) ids) id (Some chain)) }
-    ensures err { OnErr result ((ids : ℕ) → tabulated (get nat_cmp chains.new) ids ≡ tabulated (get nat_cmp chains.old) ids) }
+    ensures ok { OnOk result ((ids : ℕ) → id < ids
+        → tabulated (get nat_cmp chains.new) ids ≡ slice_set (tabulated (get nat_cmp chains.old) ids) id (Some chain)) }
+    ensures err { OnErr result ((ids : ℕ)
+        → tabulated (get nat_cmp chains.new) ids ≡ tabulated (get nat_cmp chains.old) ids) }
 {
     match chains.insert(id, chain) {
         Ok(_) => Ok(()),
@@ -60,7 +62,8 @@ fn put_chain(
 
 /// Takes the chain from under an id.
 fn remove_chain(chains: &mut BTreeMap<u16, OutstandingChain>, id: u16)
-    ensures { (ids : ℕ) → id < ids → tabulated (get nat_cmp chains.new) ids ≡ slice_set (tabulated (get nat_cmp chains.old) ids) id None }
+    ensures { (ids : ℕ) → id < ids
+        → tabulated (get nat_cmp chains.new) ids ≡ slice_set (tabulated (get nat_cmp chains.old) ids) id None }
 {
     let _ = chains.remove(&id);
 }

@@ -1,18 +1,21 @@
--- What the ring's own functions answer to one another. No promise stands on these: public clauses cite what ring_core defines.
-use Rattle.std.specs.Prelude.{ℕ, ◌≡◌, ◌≢◌, List, [], length, Option, Some, None, Result, Ok, Err}
+-- What the ring's own functions answer to one another. No promise stands on these: public clauses cite what ring_core
+-- defines.
+use Rattle.std.specs.Prelude.{ℕ, ◌≡◌, ◌≢◌, List, length, Option, Some, None, Result, Ok, Err}
 use Rattle.ring_core.specs.State.{RingState}
-use Rattle.ring_core.specs.Walk.{amount}
+use Rattle.ring_core.specs.Walk.{nothing_before}
 use Rattle.ring_core.specs.Split.{ahead, next_head, entry_wrong, in_table, split_wrong, SplitFails}
 use Rattle.ring_core.specs.Offer.{SplitOffers, Nothing, Found, Refused, BeginsInForm}
 use Rattle.split_ring.specs.declared.ring.Candidate.{Candidate}
+use Rattle.ring_core.specs.declared.layout.Features.{Features}
 use Rattle.ring_core.specs.declared.layout.Form.TheVariants.{Split}
 use Rattle.ring_core.specs.declared.fault.RingFault.{RingFault}
 use Rattle.ring_core.specs.declared.fault.RingFault.TheVariants.{NoMemory}
 
 -- a walk finds this wrong with the chain at the head; memory is wanted once its first descriptor was found right
-abbrev pub SplitFailsOrLacks : List ℕ → ℕ → ℕ → ℕ → RingFault → Type 0
-SplitFailsOrLacks m table size head NoMemory = split_wrong (length m) size (amount []) (in_table m table head) ≡ None
-SplitFailsOrLacks m table size head f = SplitFails m table size head f
+abbrev pub SplitFailsOrLacks : Features → List ℕ → ℕ → ℕ → ℕ → RingFault → Type 0
+SplitFailsOrLacks features m table size head NoMemory =
+    split_wrong features (length m) size nothing_before (in_table m table head) ≡ None
+SplitFailsOrLacks features m table size head f = SplitFails features m table size head f
 
 -- the head that the next entry names, or what is wrong with it
 abbrev pub NamesHead : RingState → List ℕ → Result (Option ℕ) RingFault → Type 0

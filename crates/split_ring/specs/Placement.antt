@@ -1,10 +1,9 @@
 -- Where a split queue may lie (VIRTIO 1.2, 2.7: sizes and alignments of its areas).
-use Rattle.std.specs.Prelude.{ℕ, ◌≡◌, ◌+◌, ◌*◌, ◌%◌, ◌&&◌, ◌==◌, not, nat_le, nat_lt, cond, Bool, false, Option, Some, None}
+use Rattle.std.specs.Prelude.{ℕ, ◌≡◌, ◌+◌, ◌*◌, ◌%◌, ◌&&◌, ◌==◌, not, nat_le, nat_lt, cond, Bool, Option, Some, None}
 use Rattle.std.specs.Int.{is_power_of_two}
-use Rattle.ring_core.specs.State.{RingState, opening}
+use Rattle.ring_core.specs.State.{RingState, no_features, opening}
 use Rattle.ring_core.specs.declared.layout.Layout.{Layout}
 use Rattle.ring_core.specs.declared.layout.Form.TheVariants.{Split}
-use Rattle.ring_core.specs.declared.layout.Features.{Features}
 use Rattle.ring_core.specs.declared.layout.LayoutFault.{LayoutFault}
 use Rattle.ring_core.specs.declared.layout.LayoutFault.TheVariants.{BadSize, BadAlignment, Outside, NoMemory}
 
@@ -33,10 +32,6 @@ placement_fault memory l =
 abbrev pub LayoutRefusedAs : ℕ → Layout → LayoutFault → Type 0
 LayoutRefusedAs memory l NoMemory = placement_fault memory l ≡ None
 LayoutRefusedAs memory l f = placement_fault memory l ≡ Some f
-
--- neither indirect descriptors nor event indices were agreed
-abbrev pub no_features : Features
-no_features = record { indirect_descriptors = false; event_index = false }
 
 -- a fresh queue with this number at a place where nothing is wrong
 abbrev pub OpensSplit : ℕ → ℕ → Layout → RingState → Type 0

@@ -56,7 +56,9 @@ impl SplitRing {
         layout: Layout,
         memory: &GuestMem,
     ) -> Result<SplitRing, LayoutFault>
-        ensures made { MatchResult result (OpensSplit (length memory.now) queue layout) (LayoutRefusedAs (length memory.now) layout) }
+        ensures made { MatchResult result
+            (OpensSplit (length memory.now) queue layout)
+            (LayoutRefusedAs (length memory.now) layout) }
     {
         check_layout(&layout, memory.size())?;
         let features = Features {

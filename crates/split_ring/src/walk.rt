@@ -1,6 +1,7 @@
 //! Walking along a chain of descriptors.
 
 ghost use Rattle.std.specs.Prelude.{◌≡◌, ◌+◌, ◌*◌, ◌<◌, ◌≤◌, ◌^◌, length, MatchResult, None, Some};
+ghost use Rattle.ring_core.specs.State.{no_features};
 ghost use Rattle.ring_core.specs.Split.{split_wrong, SplitChain};
 ghost use Rattle.split_ring.specs.Inner.{SplitFailsOrLacks};
 
@@ -14,7 +15,9 @@ fn check(before: &Before, d: &Descriptor, memory: u64, size: u16) -> Result<(), 
     requires bounded { before.now.total ≤ 2 ^ 32 }
     requires small { memory ≤ 2 ^ 28 }
     requires count { before.now.count < size }
-    ensures { MatchResult result (λ _. split_wrong memory size before.now d.now ≡ None) (λ fault. split_wrong memory size before.now d.now ≡ Some fault) }
+    ensures { MatchResult result
+        (λ _. split_wrong no_features memory size before.now d.now ≡ None)
+        (λ fault. split_wrong no_features memory size before.now d.now ≡ Some fault) }
 {
     if d.is_indirect() {
         return Err(RingFault::BadIndirect);
@@ -42,7 +45,9 @@ pub(crate) fn walk(
     requires inside { table + 16 * size ≤ length memory.now }
     requires small { length memory.now ≤ 2 ^ 28 }
     requires head { head < size }
-    ensures { MatchResult result (λ parts. SplitChain memory.now table size head parts.items) (λ fault. SplitFailsOrLacks memory.now table size head fault) }
+    ensures { MatchResult result
+        (λ parts. SplitChain no_features memory.now table size head parts.items)
+        (λ fault. SplitFailsOrLacks no_features memory.now table size head fault) }
 {
     let bytes = memory.size();
     let mut parts = Vec::new(alloc);

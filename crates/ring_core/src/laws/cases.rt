@@ -12,8 +12,12 @@ ghost use Rattle.ring_core.specs.declared.fault.RingFault.TheVariants.{IndexJump
 /// A descriptor is what a driver writes: le64 addr, le32 len, le16 flags and le16 next in a split
 /// queue (VIRTIO 1.2, 2.7.5), le64 addr, le32 len, le16 id and le16 flags in a packed one (2.8.13).
 pub fn descriptors_are_read_as_written()
-    ensures split { (addr len flags next : ℕ) → addr < 2 ^ 64 → len < 2 ^ 32 → flags < 2 ^ 16 → next < 2 ^ 16 → split_descriptor (little_bytes 8 addr ++ little_bytes 4 len ++ little_bytes 2 flags ++ little_bytes 2 next) ≡ record { addr = addr; len = len; flags = flags; next_or_id = next } }
-    ensures packed { (addr len flags id : ℕ) → addr < 2 ^ 64 → len < 2 ^ 32 → flags < 2 ^ 16 → id < 2 ^ 16 → packed_descriptor (little_bytes 8 addr ++ little_bytes 4 len ++ little_bytes 2 id ++ little_bytes 2 flags) ≡ record { addr = addr; len = len; flags = flags; next_or_id = id } }
+    ensures split { (addr len flags next : ℕ) → addr < 2 ^ 64 → len < 2 ^ 32 → flags < 2 ^ 16 → next < 2 ^ 16
+        → split_descriptor (little_bytes 8 addr ++ little_bytes 4 len ++ little_bytes 2 flags ++ little_bytes 2 next)
+        ≡ record { addr = addr; len = len; flags = flags; next_or_id = next } }
+    ensures packed { (addr len flags id : ℕ) → addr < 2 ^ 64 → len < 2 ^ 32 → flags < 2 ^ 16 → id < 2 ^ 16
+        → packed_descriptor (little_bytes 8 addr ++ little_bytes 4 len ++ little_bytes 2 id ++ little_bytes 2 flags)
+        ≡ record { addr = addr; len = len; flags = flags; next_or_id = id } }
 {}
 
 /// A descriptor without flags, with its buffer in memory, is a chain of one part.
@@ -34,9 +38,15 @@ pub fn a_loop_is_too_long()
 /// The available index counts modulo 65,536, however many chains were accepted: where it equals
 /// their number no entry is ahead of them, one further one entry is, and k further k are.
 pub fn the_index_counts_round()
-    ensures none { (s : RingState) (m : List ℕ) → little_number 2 (bytes_at m (s.layout.driver + 2) 2) ≡ length s.log.accepted % 65536 → ahead s m ≡ 0 }
-    ensures one { (s : RingState) (m : List ℕ) → little_number 2 (bytes_at m (s.layout.driver + 2) 2) ≡ (length s.log.accepted + 1) % 65536 → ahead s m ≡ 1 }
-    ensures each { (s : RingState) (m : List ℕ) (k : ℕ) → k < 65536 → little_number 2 (bytes_at m (s.layout.driver + 2) 2) ≡ (length s.log.accepted + k) % 65536 → ahead s m ≡ k }
+    ensures none { (s : RingState) (m : List ℕ)
+        → little_number 2 (bytes_at m (s.layout.driver + 2) 2) ≡ length s.log.accepted % 65536
+        → ahead s m ≡ 0 }
+    ensures one { (s : RingState) (m : List ℕ)
+        → little_number 2 (bytes_at m (s.layout.driver + 2) 2) ≡ (length s.log.accepted + 1) % 65536
+        → ahead s m ≡ 1 }
+    ensures each { (s : RingState) (m : List ℕ) (k : ℕ) → k < 65536
+        → little_number 2 (bytes_at m (s.layout.driver + 2) 2) ≡ (length s.log.accepted + k) % 65536
+        → ahead s m ≡ k }
 {}
 
 /// As many entries ahead as the queue has descriptors are no jump of the index, and one more is.

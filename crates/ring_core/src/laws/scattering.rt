@@ -7,7 +7,8 @@ ghost use Rattle.ring_core.specs.declared.descriptor.Part.{Part};
 
 /// Of two lists of writes one behind the other, the second is made where the first left memory.
 pub fn writes_in_order()
-    ensures { (m : List ℕ) (first then : List Write) → all_written m (first ++ then) ≡ all_written (all_written m first) then }
+    ensures { (m : List ℕ) (first then : List Write)
+        → all_written m (first ++ then) ≡ all_written (all_written m first) then }
 {}
 
 /// Bytes that are written over a chain's writable parts in two goes leave memory as those written
