@@ -1,7 +1,7 @@
 -- Which configurations the device takes, and the device that it opens as.
 use Rattle.std.specs.Prelude.{ℕ, ◌+◌, ◌*◌, ◌^◌, ◌≡◌, ◌==◌, ◌&&◌, nat_le, Bool, true, false, cond, List, [], length, replicate, map, slice_get, Option, Some, None, is_none}
 use Rattle.std.specs.List.{list_all, list_any}
-use Rattle.ring_core.specs.State.{opening}
+use Rattle.ring_core.specs.State.{opening, no_features}
 use Rattle.ring_core.specs.declared.layout.Form.{Form}
 use Rattle.ring_core.specs.declared.layout.Form.TheVariants.{Split, Packed}
 use Rattle.ring_core.specs.declared.layout.Layout.{Layout}
@@ -60,8 +60,8 @@ is_config c =
 
 -- the queue of this number, of which nothing was fetched yet
 abbrev pub opening_queue : Form → ℕ → ℕ → Layout → PlainQueue
-opening_queue Split memory number l = record { ring = opening Split number l split.no_features memory l.size; notices = 0 }
-opening_queue Packed memory number l = record { ring = opening Packed number l packed.no_features memory 65536; notices = 0 }
+opening_queue Split memory number l = record { ring = opening Split number l no_features memory l.size; notices = 0 }
+opening_queue Packed memory number l = record { ring = opening Packed number l no_features memory 65536; notices = 0 }
 
 -- a unit that ran nothing yet
 abbrev pub opening_unit : List Address → UnitSpec → PlainUnit
