@@ -27,7 +27,12 @@ impl Model for UnitRequest {
 
     ghost Value = { PlainRequest };
 
-    ghost view = { λ r. record { id = r.id; attribute = r.attribute; command = r.command; data_out = data_of r.command (drop 51 r.bytes.items) } };
+    ghost view = { λ r. record {
+      id = r.id;
+      attribute = r.attribute;
+      command = r.command;
+      data_out = data_of r.command (drop 51 r.bytes.items);
+    } };
 
     ghost invariant = { λ r. 51 + (need_of r.command).out ≤ length r.bytes.items };
 }
@@ -41,7 +46,12 @@ impl UnitRequest {
         bytes: Vec<u8>,
     ) -> UnitRequest
         requires { REQUEST_BYTES + (need_of command).out ≤ length bytes.items }
-        ensures { result ≡ record { id = id; attribute = attribute; command = command; data_out = data_of command (drop 51 bytes.items) } }
+        ensures { result ≡ record {
+          id = id;
+          attribute = attribute;
+          command = command;
+          data_out = data_of command (drop 51 bytes.items);
+        } }
     {
         UnitRequest {
             id,

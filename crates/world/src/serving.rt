@@ -50,7 +50,8 @@ fn finish_chain(
     requires owned { Owns queue.old.ring fetched.chain }
     requires read { fetched.bytes.items ≡ take first_bytes (readable_bytes memory.old fetched.chain.parts) }
     requires there { length inventory.now ≡ length units.old }
-    ensures finished { Finishes inventory.now queue.old memory.old units.old fetched.chain fetched.bytes.items queue.new memory.new units.new }
+    ensures finished { Finishes inventory.now queue.old memory.old units.old
+        fetched.chain fetched.bytes.items queue.new memory.new units.new }
     ensures size { length memory.new ≡ length memory.old }
     ensures ring { queue.new.ring.memory ≡ queue.old.ring.memory }
     ensures units { length units.new ≡ length units.old }
