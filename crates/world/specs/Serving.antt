@@ -18,15 +18,18 @@ lengths_of c = record { readable = readable_total c.parts; writable = writable_t
 abbrev pub answer_writes : RingState → PlainChain → List ℕ → List Write
 answer_writes s c answer = scatter_writes c.parts 0 answer ++ used_writes s c.id (length answer)
 
--- the request of an outstanding chain is answered, the answer written over its writable parts in order, and the chain used with so many bytes
-pub record Finishes (inventory : List Address) (queue : PlainQueue) (m : List ℕ) (units : List PlainUnit) (chain : PlainChain) (bytes : List ℕ) (queue' : PlainQueue) (m' : List ℕ) (units' : List PlainUnit) : Type 0 where
+-- the request of an outstanding chain is answered, the answer written over its writable parts in order, and the chain used
+-- with so many bytes
+pub record Finishes (inventory : List Address) (queue : PlainQueue) (m : List ℕ) (units : List PlainUnit)
+    (chain : PlainChain) (bytes : List ℕ) (queue' : PlainQueue) (m' : List ℕ) (units' : List PlainUnit) : Type 0 where
   pub answer : List ℕ
   pub answered : IsAnswered inventory units chain.ticket (lengths_of chain) bytes answer units'
   pub memory_after : m' ≡ all_written m (answer_writes queue.ring chain answer)
   pub queue_after : queue' ≡ completing queue chain m'
 
 -- the next chain is taken with its first bytes, and finished
-pub record Serves (inventory : List Address) (queue : PlainQueue) (m : List ℕ) (units : List PlainUnit) (queue' : PlainQueue) (m' : List ℕ) (units' : List PlainUnit) : Type 0 where
+pub record Serves (inventory : List Address) (queue : PlainQueue) (m : List ℕ) (units : List PlainUnit)
+    (queue' : PlainQueue) (m' : List ℕ) (units' : List PlainUnit) : Type 0 where
   pub chain : PlainChain
   pub bytes : List ℕ
   pub accepted : RingState
