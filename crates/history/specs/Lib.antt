@@ -6,3 +6,4 @@ pub mod Clearing
 pub mod Contents
 pub mod Lawful
 pub mod Receipts
+pub mod Cases

@@ -1,0 +1,4 @@
+pub mod Tickets
+pub mod Fresh
+pub mod Marking
+pub mod WorkedCases
