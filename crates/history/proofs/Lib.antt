@@ -1,4 +1,9 @@
 pub mod Tickets
 pub mod Fresh
 pub mod Marking
+pub mod Distinct
+pub mod Blocking
+pub mod Few
+pub mod Progress
+pub mod Clearing
 pub mod WorkedCases

@@ -73,3 +73,31 @@ done_on (Step.Leave u) t past h = h
 pub done_lasts : (t : Ticket) (later past : List Step) → done t past ≡ true → done t (later ++ past) ≡ true
 done_lasts t [] past h = h
 done_lasts t (s ∷ later) past h = done_on s t (later ++ past) (done_lasts t later past h)
+
+some_stays : (m : Option Reason) (b : Bool) (now : Reason) → is_some m ≡ true → is_some (first_mark m b now) ≡ true
+some_stays (Some r) b now h = refl
+some_stays None b now h = absurd (cc)
+
+marked_on : (s : Step) (t : Ticket) (past : List Step) → marked t past ≡ true → marked t (s ∷ past) ≡ true
+marked_on (Step.Enter e) t past h = h
+marked_on (Step.Full u) t past h = h
+marked_on (Step.Commit u x) t past h = h
+marked_on (Step.Busy u) t past h = h
+marked_on (Step.Abort rule) t past h = some_stays (mark_of t past) (strikes rule t past) reason.Aborted h
+marked_on (Step.Reset c) t past h = some_stays (mark_of t past) (strikes rules.All t past) reason.Reset h
+marked_on (Step.Leave u) t past h = h
+
+-- what is marked stays marked, whatever follows
+pub marked_lasts : (t : Ticket) (later past : List Step) → marked t past ≡ true → marked t (later ++ past) ≡ true
+marked_lasts t [] past h = h
+marked_lasts t (s ∷ later) past h = marked_on s t (later ++ past) (marked_lasts t later past h)
+
+pub marked_never_runs : (o : Opening) (t : Ticket) (later past : List Step) → IsLawful o (later ++ past) → marked t past ≡ true → done t (later ++ past) ≡ false
+marked_never_runs o t later past l m = marked_undone o t (later ++ past) l (marked_lasts t later past m)
+
+pub done_never_marked : (o : Opening) (t : Ticket) (later past : List Step) → IsLawful o (later ++ past) → done t past ≡ true → marked t (later ++ past) ≡ false
+done_never_marked o t later past l d =
+    elim (marked t (later ++ past)) as (λ b. (marked t (later ++ past) ≡ b) → b ≡ false) [
+      | true ↦ λ k. absurd (clash (sym (done_lasts t later past d) ∙ marked_undone o t (later ++ past) l k))
+      | false ↦ λ k. refl
+    ] refl

@@ -1,6 +1,6 @@
 -- Small histories, which show what the definitions say.
 use Rattle.std.specs.Prelude.{ℕ, ◌+◌, true, List, [], ◌∷◌}
-use Rattle.cdb.specs.declared.commands.Command.TheVariants.{TestUnitReady}
+use Rattle.cdb.specs.declared.commands.Command.TheVariants.{TestUnitReady, Write}
 use Rattle.decisions.specs.declared.attribute.TaskAttribute.{TaskAttribute}
 use Rattle.decisions.specs.declared.attribute.TaskAttribute.TheVariants.{Simple, Ordered, HeadOfQueue}
 use Rattle.block_commands.specs.PlainReply.{PlainReply, success}
@@ -49,3 +49,19 @@ simple_first = runs 1 ∷ runs 0 ∷ three_enter HeadOfQueue
 
 abbrev pub head_first : List Step
 head_first = runs 0 ∷ runs 1 ∷ three_enter HeadOfQueue
+
+-- A is a WRITE of block 3 with these data, SIMPLE, with identifier 7
+abbrev pub write_of_3 : ℕ → List ℕ → Entry
+write_of_3 n bytes = record { ticket = nth n; id = 7; attribute = Simple; command = Write 3 1; data_out = bytes }
+
+-- A is parked behind P, which is ORDERED and has another identifier
+abbrev pub parked_write : List ℕ → List Step
+parked_write bytes = Step.Enter (write_of_3 1 bytes) ∷ Step.Enter (test_unit_ready 0 Ordered) ∷ []
+
+-- A entered alone
+abbrev pub taken_write : List ℕ → List Step
+taken_write bytes = Step.Enter (write_of_3 1 bytes) ∷ []
+
+-- and it ran
+abbrev pub committed_write : List ℕ → List Step
+committed_write bytes = Step.Commit (nth 1) (success (Write 3 1) []) ∷ taken_write bytes

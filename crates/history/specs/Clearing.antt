@@ -1,6 +1,6 @@
 -- Which tasks an Abort or a Reset waits for. The place of a step is the number of steps that stand before it.
 use Rattle.std.specs.Prelude.{ℕ, ◌≡◌, Bool, true, not, ◌==◌, List, [], ◌∷◌, length, filter, if◌then◌else◌}
-use Rattle.std.specs.List.{list_all, All}
+use Rattle.std.specs.List.{list_all, AllByRecursion}
 use Rattle.history.specs.Tasks.{Entry, meets}
 use Rattle.history.specs.Steps.{Step, alive, is_alive, has_left}
 
@@ -21,4 +21,4 @@ is_clear place h = list_all (λ (e : Entry). not (is_alive e.ticket h)) (met_at 
 
 -- own: each of them has left
 abbrev pub AreGone : ℕ → List Step → Type 0
-AreGone place h = All (λ (e : Entry). has_left e.ticket h ≡ true) (met_at place h)
+AreGone place h = AllByRecursion (λ (e : Entry). has_left e.ticket h ≡ true) (met_at place h)

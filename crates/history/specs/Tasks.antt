@@ -1,5 +1,5 @@
 -- The tasks of a unit's task set, the oldest first, and which of them block another.
-use Rattle.std.specs.Prelude.{ℕ, Bool, true, false, ◌==◌, ◌&&◌, ◌||◌, List, [], ◌∷◌, Option, Some, None, if◌then◌else◌}
+use Rattle.std.specs.Prelude.{ℕ, Bool, true, false, ◌==◌, ◌&&◌, ◌||◌, List, [], ◌∷◌, Option, Some, None, if◌then◌else◌, ◌≡◌, ⊤}
 use Rattle.std.specs.List.{list_any}
 use Rattle.cdb.specs.declared.commands.Command.{Command}
 use Rattle.decisions.specs.declared.attribute.TaskAttribute.{TaskAttribute}
@@ -35,6 +35,11 @@ older t (e ∷ tasks) = if same_ticket e.ticket t then [] else e ∷ older t tas
 abbrev pub without : Ticket → List Entry → List Entry
 without t [] = []
 without t (e ∷ tasks) = if same_ticket e.ticket t then tasks else e ∷ without t tasks
+
+-- own: no ticket stands there twice
+abbrev pub AreDistinct : List Entry → Type 0
+AreDistinct [] = ⊤
+AreDistinct (e ∷ tasks) = (task_of e.ticket tasks ≡ None) × AreDistinct tasks
 
 abbrev pub is_head_of_queue : TaskAttribute → Bool
 is_head_of_queue HeadOfQueue = true

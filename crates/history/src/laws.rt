@@ -1,5 +1,17 @@
 //! What follows from the definitions alone.
 
 mod cases;
+mod contents;
+mod marks;
+mod tasks;
 
-pub use cases::{either_may_be_first, ordered_stands_between};
+pub use cases::{
+    abort_of_a_committed_task, abort_of_a_parked_task, abort_of_a_taken_task, either_may_be_first,
+    ordered_stands_between,
+};
+pub use contents::{attention_is_taken_by_its_taker, commits_alone_change_blocks, resets_raise};
+pub use marks::{first_mark_stays, marked_commands_never_run, places_are_clear_when_all_have_left};
+pub use tasks::{
+    alive_tasks_are_distinct, enabled_stays_enabled, full_alone_where_64_are_alive,
+    leaves_once_ended, some_task_is_free, unblocked_is_enabled_at_once,
+};
