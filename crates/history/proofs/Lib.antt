@@ -7,3 +7,8 @@ pub mod Few
 pub mod Progress
 pub mod Clearing
 pub mod WorkedCases
+pub mod Worth
+pub mod Parked
+pub mod Entering
+pub mod Leaving
+pub mod Fewer

@@ -6,4 +6,5 @@ pub mod Clearing
 pub mod Contents
 pub mod Lawful
 pub mod Receipts
+pub mod Worths
 pub mod Cases
