@@ -12,3 +12,4 @@ pub mod Parked
 pub mod Entering
 pub mod Leaving
 pub mod Fewer
+pub mod Receipts

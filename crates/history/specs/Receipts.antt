@@ -13,6 +13,14 @@ pub record Receipt : Type 0 where
   pub ticket : Ticket
   pub reply : Option PlainReply
 
+-- own: the address of the unit
+abbrev pub unit_of : Opening → Address
+unit_of o = record { target = o.target; lun = o.lun }
+
+-- own: the receipt of a Commit that stands behind this past
+abbrev pub receipt_of : Opening → List Step → Ticket → Option PlainReply → Receipt
+receipt_of o past t kept = record { unit = unit_of o; place = length past; ticket = t; reply = kept }
+
 -- own: the step at a place, before which so many stand
 abbrev pub step_at : ℕ → List Step → Option Step
 step_at n [] = None
@@ -25,5 +33,5 @@ Agrees (Some kept) r = kept ≡ r
 
 -- own: the Commit of the receipt stands at its place in this unit's history
 pub record IsConfirmed (o : Opening) (h : List Step) (c : Receipt) : Type 0 where
-  pub of_unit : c.unit ≡ record { target = o.target; lun = o.lun }
+  pub of_unit : c.unit ≡ unit_of o
   pub stands : (r : PlainReply) × (step_at c.place h ≡ Some (Step.Commit c.ticket r)) × Agrees c.reply r

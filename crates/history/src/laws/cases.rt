@@ -8,7 +8,7 @@ ghost use Rattle.history.specs.declared.rule.Rule.TheVariants.{Id};
 ghost use Rattle.history.specs.declared.reason.Reason.TheVariants.{Aborted};
 ghost use Rattle.history.specs.Steps.{Step};
 ghost use Rattle.history.specs.Marks.{mark_of};
-ghost use Rattle.history.specs.Enabling.{enabled, newly_marked};
+ghost use Rattle.history.specs.Enabling.{enabled, newly_enabled, newly_marked};
 ghost use Rattle.history.specs.Clearing.{is_clear};
 ghost use Rattle.history.specs.Contents.{blocks_of};
 ghost use Rattle.history.specs.Lawful.{May, IsLawful};
@@ -18,6 +18,7 @@ ghost use Rattle.history.specs.Cases.{calm_unit, nth, test_unit_ready, three_ent
 /// it left (SAM-5 §8.6).
 pub fn ordered_stands_between()
     ensures lawful { IsLawful calm_unit ordered_between }
+    ensures handed_out_in_turn { newly_enabled (nth 0) (runs 0 ∷ three_enter Ordered) ≡ test_unit_ready 1 Ordered ∷ [] }
     ensures not_before_the_older_left { (r : PlainReply) →
         May calm_unit (Step.Commit (nth 1) r) (runs 0 ∷ three_enter Ordered) → ⊥ }
     ensures not_after_the_younger { (r : PlainReply) →
@@ -30,6 +31,7 @@ pub fn either_may_be_first()
     ensures simple_first { IsLawful calm_unit (after_both simple_first) }
     ensures head_first { IsLawful calm_unit (after_both head_first) }
     ensures younger_waits { enabled (test_unit_ready 2 Simple) (leaves 0 ∷ simple_first) ≡ false }
+    ensures none_handed_out { newly_enabled (nth 0) simple_first ≡ [] }
     ensures younger_goes_on { enabled (test_unit_ready 2 Simple) (leaves 1 ∷ leaves 0 ∷ simple_first) ≡ true }
 {}
 
