@@ -1,5 +1,5 @@
 -- At most 64 tasks of a unit are alive.
-use Rattle.std.proofs.Common.{◌≡◌, ◌≤◌, true, false, cond, List, [], ◌∷◌, length, refl, arith, suc}
+use Rattle.std.proofs.Common.{◌≤◌, true, false, cond, List, [], ◌∷◌, length, arith, suc}
 use Rattle.std.proofs.lemmas.List.{length_push}
 use Rattle.ring_core.specs.declared.log.Ticket.{Ticket}
 use Rattle.history.specs.Tasks.{Entry, same_ticket, without}

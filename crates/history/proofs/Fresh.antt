@@ -5,7 +5,6 @@ use Rattle.std.proofs.lemmas.Bool.{eqb-true}
 use Rattle.ring_core.specs.declared.log.Ticket.{Ticket}
 use Rattle.history.specs.declared.rule.Rule.{Rule}
 use Rattle.history.specs.declared.rule.Rule.TheVariants as rules
-use Rattle.history.specs.declared.reason.Reason.{Reason}
 use Rattle.history.specs.declared.reason.Reason.TheVariants as reason
 use Rattle.history.specs.Tasks.{Entry, same_ticket, task_of, without, is_blocked}
 use Rattle.history.specs.Steps.{Step, alive, has_entered, floor, done}

@@ -1,11 +1,10 @@
 -- A marked task is not done, and stays marked; what is done stays done.
 use Rattle.std.proofs.Common.{◌≡◌, Bool, true, false, not, ◌&&◌, ◌||◌, is_some, List, [], ◌∷◌, ◌++◌, Option, Some, None, refl, sym, ◌∙◌, ap}
 use Rattle.ring_core.specs.declared.log.Ticket.{Ticket}
-use Rattle.history.specs.declared.rule.Rule.{Rule}
 use Rattle.history.specs.declared.rule.Rule.TheVariants as rules
 use Rattle.history.specs.declared.reason.Reason.{Reason}
 use Rattle.history.specs.declared.reason.Reason.TheVariants as reason
-use Rattle.history.specs.Tasks.{Entry, same_ticket, task_of}
+use Rattle.history.specs.Tasks.{same_ticket, task_of}
 use Rattle.history.specs.Steps.{Step, alive, done}
 use Rattle.history.specs.Marks.{meets_one, strikes, first_mark, mark_of, marked}
 use Rattle.history.specs.Contents.{Opening}

@@ -1,14 +1,9 @@
 -- The small histories are lawful.
-use Rattle.std.proofs.Common.{◌≡◌, ◌∷◌, true, false, Some, refl, arith}
+use Rattle.std.proofs.Common.{refl, arith}
 use Rattle.decisions.specs.declared.attribute.TaskAttribute.{TaskAttribute}
 use Rattle.decisions.specs.declared.attribute.TaskAttribute.TheVariants.{Simple, Ordered, HeadOfQueue}
-use Rattle.ring_core.specs.declared.log.Ticket.{Ticket}
-use Rattle.history.specs.Tasks.{Entry, task_of}
-use Rattle.history.specs.Steps.{Step, alive, done}
-use Rattle.history.specs.Marks.{marked}
-use Rattle.history.specs.Enabling.{enabled}
-use Rattle.history.specs.Lawful.{IsReady, IsLawful}
-use Rattle.history.specs.Cases.{calm_unit, nth, test_unit_ready, three_enter, runs, leaves, ordered_between, after_both, simple_first, head_first}
+use Rattle.history.specs.Lawful.{IsLawful}
+use Rattle.history.specs.Cases.{calm_unit, test_unit_ready, three_enter, ordered_between, after_both, simple_first, head_first}
 
 enters : (b : TaskAttribute) → IsLawful calm_unit (three_enter b)
 enters b = (((tt, (omega arith, omega arith)), (omega arith, omega arith)), (omega arith, omega arith))

@@ -1,6 +1,5 @@
 -- Which step may come next, and which histories are lawful.
 use Rattle.std.specs.Prelude.{◌≡◌, ◌<◌, ◌≤◌, true, false, ◌||◌, List, [], ◌∷◌, length, Some, ⊤}
-use Rattle.block_commands.specs.PlainReply.{PlainReply}
 use Rattle.ring_core.specs.declared.log.Ticket.{Ticket}
 use Rattle.history.specs.Tasks.{Entry, task_of}
 use Rattle.history.specs.Steps.{Step, alive, floor, done}
