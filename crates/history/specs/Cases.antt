@@ -1,6 +1,6 @@
 -- Small histories, which show what the definitions say.
 use Rattle.std.specs.Prelude.{ℕ, ◌+◌, true, List, [], ◌∷◌}
-use Rattle.cdb.specs.declared.commands.Command.TheVariants.{TestUnitReady, Write}
+use Rattle.cdb.specs.declared.commands.Command.TheVariants.{TestUnitReady, Read, Write}
 use Rattle.decisions.specs.declared.attribute.TaskAttribute.{TaskAttribute}
 use Rattle.decisions.specs.declared.attribute.TaskAttribute.TheVariants.{Simple, Ordered, HeadOfQueue}
 use Rattle.block_commands.specs.PlainReply.{PlainReply, success}
@@ -53,6 +53,10 @@ head_first = runs 0 ∷ runs 1 ∷ three_enter HeadOfQueue
 -- A is a WRITE of block 3 with these data, SIMPLE, with identifier 7
 abbrev pub write_of_3 : ℕ → List ℕ → Entry
 write_of_3 n bytes = record { ticket = nth n; id = 7; attribute = Simple; command = Write 3 1; data_out = bytes }
+
+-- a READ of block 3
+abbrev pub read_of_3 : ℕ → Entry
+read_of_3 n = record { ticket = nth n; id = n + 1; attribute = Simple; command = Read 3 1; data_out = [] }
 
 -- A is parked behind P, which is ORDERED and has another identifier
 abbrev pub parked_write : List ℕ → List Step

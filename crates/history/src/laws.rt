@@ -9,7 +9,7 @@ mod tasks;
 
 pub use cases::{
     abort_of_a_committed_task, abort_of_a_parked_task, abort_of_a_taken_task, either_may_be_first,
-    ordered_stands_between,
+    ordered_stands_between, what_was_written_is_read,
 };
 pub use contents::{attention_is_taken_by_its_taker, commits_alone_change_blocks, resets_raise};
 pub use handing::{
@@ -21,6 +21,7 @@ pub use receipts::{
     receipts_are_confirmed, receipts_of_another_reply_are_not, receipts_of_no_commit_are_not,
 };
 pub use tasks::{
-    alive_tasks_are_distinct, enabled_stays_enabled, full_alone_where_64_are_alive,
-    leaves_once_ended, some_task_is_free, unblocked_is_enabled_at_once,
+    alive_tasks_are_distinct, each_happens_once, enabled_stays_enabled,
+    full_alone_where_64_are_alive, leaves_once_ended, some_task_is_free,
+    unblocked_is_enabled_at_once,
 };

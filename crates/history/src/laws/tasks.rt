@@ -3,8 +3,9 @@
 ghost use Rattle.std.specs.Prelude.{◌≡◌, ◌<◌, ◌≤◌, ◌∷◌, ◌++◌, List, length, true, false, not};
 ghost use Rattle.std.specs.List.{list_any};
 ghost use Rattle.ring_core.specs.declared.log.Ticket.{Ticket};
+ghost use Rattle.block_commands.specs.PlainReply.{PlainReply};
 ghost use Rattle.history.specs.Tasks.{Entry, AreDistinct, any_task, is_blocked};
-ghost use Rattle.history.specs.Steps.{Step, alive, has_entered, done};
+ghost use Rattle.history.specs.Steps.{Step, alive, is_alive, floor, has_entered, done, has_left};
 ghost use Rattle.history.specs.Marks.{marked};
 ghost use Rattle.history.specs.Enabling.{enabled};
 ghost use Rattle.history.specs.Contents.{Opening};
@@ -16,9 +17,17 @@ pub fn alive_tasks_are_distinct()
     ensures few { (o : Opening) (h : List Step) → IsLawful o h → length (alive h) ≤ 64 }
 {}
 
+/// A ticket enters once, its command runs once, and what has left isn't alive.
+pub fn each_happens_once()
+    ensures enters { (o : Opening) (e : Entry) (past : List Step) → IsLawful o (Step.Enter e ∷ past) → has_entered e.ticket past ≡ false }
+    ensures runs { (o : Opening) (t : Ticket) (r : PlainReply) (past : List Step) → IsLawful o (Step.Commit t r ∷ past) → done t past ≡ false }
+    ensures leaves { (o : Opening) (t : Ticket) (h : List Step) → IsLawful o h → has_left t h ≡ true → is_alive t h ≡ false }
+{}
+
 /// Where 64 tasks are alive none enters, and where fewer are none is refused with TASK SET FULL.
 pub fn full_alone_where_64_are_alive()
     ensures full { (o : Opening) (e : Entry) (past : List Step) → length (alive past) ≡ 64 → May o (Step.Enter e) past → ⊥ }
+    ensures refused { (o : Opening) (t : Ticket) (past : List Step) → length (alive past) ≡ 64 → floor t.queue past ≤ t.number → May o (Step.Full t) past }
     ensures not_full { (o : Opening) (t : Ticket) (past : List Step) → length (alive past) < 64 → May o (Step.Full t) past → ⊥ }
 {}
 
