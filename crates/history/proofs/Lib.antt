@@ -13,3 +13,4 @@ pub mod Entering
 pub mod Leaving
 pub mod Fewer
 pub mod Receipts
+pub mod HandedOut
