@@ -1,0 +1,16 @@
+pub mod Tickets
+pub mod Fresh
+pub mod Marking
+pub mod Distinct
+pub mod Blocking
+pub mod Few
+pub mod Progress
+pub mod Clearing
+pub mod WorkedCases
+pub mod Worth
+pub mod Parked
+pub mod Entering
+pub mod Leaving
+pub mod Fewer
+pub mod Receipts
+pub mod HandedOut

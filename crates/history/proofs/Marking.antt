@@ -1,0 +1,102 @@
+-- A marked task is not done, and stays marked; what is done stays done.
+use Rattle.std.proofs.Common.{◌≡◌, Bool, true, false, not, ◌&&◌, ◌||◌, is_some, List, [], ◌∷◌, ◌++◌, Option, Some, None, refl, sym, ◌∙◌, ap}
+use Rattle.ring_core.specs.declared.log.Ticket.{Ticket}
+use Rattle.history.specs.declared.rule.Rule.TheVariants as rules
+use Rattle.history.specs.declared.reason.Reason.{Reason}
+use Rattle.history.specs.declared.reason.Reason.TheVariants as reason
+use Rattle.history.specs.Tasks.{same_ticket, task_of}
+use Rattle.history.specs.Steps.{Step, alive, done}
+use Rattle.history.specs.Marks.{meets_one, strikes, first_mark, mark_of, marked}
+use Rattle.history.specs.Contents.{Opening}
+use Rattle.history.specs.Lawful.{IsLawful}
+use Rattle.history.proofs.Tickets.{same-true, clash, or_right}
+
+struck_off : (a b : Bool) → (a && not b) ≡ true → b ≡ false
+struck_off true true h = absurd (cc)
+struck_off true false h = refl
+struck_off false b h = absurd (cc)
+
+-- a mark is the earlier one or the step's
+by_mark : (m : Option Reason) (b : Bool) (now : Reason) (d : Bool) → is_some (first_mark m b now) ≡ true → (is_some m ≡ true → d ≡ false) → (b ≡ true → d ≡ false) → d ≡ false
+by_mark (Some r) b now d h p q = p refl
+by_mark None true now d h p q = q refl
+by_mark None false now d h p q = absurd (cc)
+
+-- what is marked is no ticket of a Commit or a Busy
+not_its : (u t : Ticket) (past : List Step) → marked t past ≡ true → marked u past ≡ false → same_ticket u t ≡ false
+not_its u t past m n =
+    elim (same_ticket u t) as (λ b. (same_ticket u t ≡ b) → b ≡ false) [
+      | true ↦ λ k. absurd (clash (sym m ∙ ap (λ z. marked z past) (sym (same-true u t k)) ∙ n))
+      | false ↦ λ k. refl
+    ] refl
+
+pub marked_undone : (o : Opening) (t : Ticket) (h : List Step) → IsLawful o h → marked t h ≡ true → done t h ≡ false
+marked_undone o t [] l m = refl
+marked_undone o t (Step.Enter e ∷ past) l m = marked_undone o t past l.0 m
+marked_undone o t (Step.Full u ∷ past) l m = marked_undone o t past l.0 m
+marked_undone o t (Step.Commit u r ∷ past) l m = ap (λ b. b || done t past) (not_its u t past m l.1.1.is_unmarked) ∙ marked_undone o t past l.0 m
+marked_undone o t (Step.Busy u ∷ past) l m = ap (λ b. b || done t past) (not_its u t past m l.1.1.is_unmarked) ∙ marked_undone o t past l.0 m
+marked_undone o t (Step.Abort rule ∷ past) l m =
+    by_mark (mark_of t past) (strikes rule t past) reason.Aborted (done t past) m (λ k. marked_undone o t past l.0 k) (λ k. struck_off (meets_one rule (task_of t (alive past))) (done t past) k)
+marked_undone o t (Step.Reset c ∷ past) l m =
+    by_mark (mark_of t past) (strikes rules.All t past) reason.Reset (done t past) m (λ k. marked_undone o t past l.0 k) (λ k. struck_off (meets_one rules.All (task_of t (alive past))) (done t past) k)
+marked_undone o t (Step.Leave u ∷ past) l m = marked_undone o t past l.0 m
+
+stays_first : (m : Option Reason) (b : Bool) (now r : Reason) → m ≡ Some r → first_mark m b now ≡ Some r
+stays_first m b now r h = ap (λ x. first_mark x b now) h
+
+pub mark_on : (s : Step) (t : Ticket) (r : Reason) (past : List Step) → mark_of t past ≡ Some r → mark_of t (s ∷ past) ≡ Some r
+mark_on (Step.Enter e) t r past h = h
+mark_on (Step.Full u) t r past h = h
+mark_on (Step.Commit u x) t r past h = h
+mark_on (Step.Busy u) t r past h = h
+mark_on (Step.Abort rule) t r past h = stays_first (mark_of t past) (strikes rule t past) reason.Aborted r h
+mark_on (Step.Reset c) t r past h = stays_first (mark_of t past) (strikes rules.All t past) reason.Reset r h
+mark_on (Step.Leave u) t r past h = h
+
+-- the first mark stays, whatever follows
+pub mark_lasts : (t : Ticket) (r : Reason) (later past : List Step) → mark_of t past ≡ Some r → mark_of t (later ++ past) ≡ Some r
+mark_lasts t r [] past h = h
+mark_lasts t r (s ∷ later) past h = mark_on s t r (later ++ past) (mark_lasts t r later past h)
+
+pub done_on : (s : Step) (t : Ticket) (past : List Step) → done t past ≡ true → done t (s ∷ past) ≡ true
+done_on (Step.Enter e) t past h = h
+done_on (Step.Full u) t past h = h
+done_on (Step.Commit u x) t past h = or_right (same_ticket u t) (done t past) h
+done_on (Step.Busy u) t past h = or_right (same_ticket u t) (done t past) h
+done_on (Step.Abort rule) t past h = h
+done_on (Step.Reset c) t past h = h
+done_on (Step.Leave u) t past h = h
+
+-- what is done stays done, whatever follows
+pub done_lasts : (t : Ticket) (later past : List Step) → done t past ≡ true → done t (later ++ past) ≡ true
+done_lasts t [] past h = h
+done_lasts t (s ∷ later) past h = done_on s t (later ++ past) (done_lasts t later past h)
+
+some_stays : (m : Option Reason) (b : Bool) (now : Reason) → is_some m ≡ true → is_some (first_mark m b now) ≡ true
+some_stays (Some r) b now h = refl
+some_stays None b now h = absurd (cc)
+
+marked_on : (s : Step) (t : Ticket) (past : List Step) → marked t past ≡ true → marked t (s ∷ past) ≡ true
+marked_on (Step.Enter e) t past h = h
+marked_on (Step.Full u) t past h = h
+marked_on (Step.Commit u x) t past h = h
+marked_on (Step.Busy u) t past h = h
+marked_on (Step.Abort rule) t past h = some_stays (mark_of t past) (strikes rule t past) reason.Aborted h
+marked_on (Step.Reset c) t past h = some_stays (mark_of t past) (strikes rules.All t past) reason.Reset h
+marked_on (Step.Leave u) t past h = h
+
+-- what is marked stays marked, whatever follows
+pub marked_lasts : (t : Ticket) (later past : List Step) → marked t past ≡ true → marked t (later ++ past) ≡ true
+marked_lasts t [] past h = h
+marked_lasts t (s ∷ later) past h = marked_on s t (later ++ past) (marked_lasts t later past h)
+
+pub marked_never_runs : (o : Opening) (t : Ticket) (later past : List Step) → IsLawful o (later ++ past) → marked t past ≡ true → done t (later ++ past) ≡ false
+marked_never_runs o t later past l m = marked_undone o t (later ++ past) l (marked_lasts t later past m)
+
+pub done_never_marked : (o : Opening) (t : Ticket) (later past : List Step) → IsLawful o (later ++ past) → done t past ≡ true → marked t (later ++ past) ≡ false
+done_never_marked o t later past l d =
+    elim (marked t (later ++ past)) as (λ b. (marked t (later ++ past) ≡ b) → b ≡ false) [
+      | true ↦ λ k. absurd (clash (sym (done_lasts t later past d) ∙ marked_undone o t (later ++ past) l k))
+      | false ↦ λ k. refl
+    ] refl

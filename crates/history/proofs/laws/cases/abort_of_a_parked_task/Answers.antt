@@ -1,0 +1,5 @@
+use Rattle.history.proofs.WorkedCases.{parked_is_lawful}
+use Rattle.history.proofs.laws.cases.abort_of_a_parked_task.Goals as goal
+
+pub returns-clause-lawful : goal.returns-clause-lawful
+returns-clause-lawful c = parked_is_lawful

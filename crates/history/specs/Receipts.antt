@@ -1,0 +1,37 @@
+-- What was handed out for a commit, and when the history confirms it.
+use Rattle.std.specs.Prelude.{ℕ, ◌≡◌, List, [], ◌∷◌, length, Option, Some, None, ◌==◌, if◌then◌else◌, ⊤}
+use Rattle.scsi_codec.specs.declared.lun.Address.{Address}
+use Rattle.block_commands.specs.PlainReply.{PlainReply}
+use Rattle.ring_core.specs.declared.log.Ticket.{Ticket}
+use Rattle.history.specs.Steps.{Step}
+use Rattle.history.specs.Contents.{Opening}
+
+-- own: the unit, the place of the Commit, its ticket, and its reply where it was kept
+pub record Receipt : Type 0 where
+  pub unit : Address
+  pub place : ℕ
+  pub ticket : Ticket
+  pub reply : Option PlainReply
+
+-- own: the address of the unit
+abbrev pub unit_of : Opening → Address
+unit_of o = record { target = o.target; lun = o.lun }
+
+-- own: the receipt of a Commit that stands behind this past
+abbrev pub receipt_of : Opening → List Step → Ticket → Option PlainReply → Receipt
+receipt_of o past t kept = record { unit = unit_of o; place = length past; ticket = t; reply = kept }
+
+-- own: the step at a place, before which so many stand
+abbrev pub step_at : ℕ → List Step → Option Step
+step_at n [] = None
+step_at n (step ∷ past) = if length past == n then Some step else step_at n past
+
+-- a reply is compared where it was kept
+abbrev pub Agrees : Option PlainReply → PlainReply → Type 0
+Agrees None r = ⊤
+Agrees (Some kept) r = kept ≡ r
+
+-- own: the Commit of the receipt stands at its place in this unit's history
+pub record IsConfirmed (o : Opening) (h : List Step) (c : Receipt) : Type 0 where
+  pub of_unit : c.unit ≡ unit_of o
+  pub stands : (r : PlainReply) × (step_at c.place h ≡ Some (Step.Commit c.ticket r)) × Agrees c.reply r
