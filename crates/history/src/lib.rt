@@ -4,7 +4,7 @@
 //! A history is a list of steps, newest first: what stands behind a step is its past.
 #![tactic(auto)]
 
-mod laws;
+pub mod laws;
 mod reason;
 mod rule;
 
