@@ -15,6 +15,3 @@ pub use commands::{
 };
 pub use decoding::decode;
 pub use transfers::{Transfer, need};
-
-#[cfg(test)]
-mod tests;

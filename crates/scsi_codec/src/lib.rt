@@ -8,8 +8,6 @@ mod laws;
 mod lun;
 mod requests;
 mod responses;
-#[cfg(test)]
-mod tests;
 
 pub use control_queue::{
     Control, FunctionResponse, read_control, write_control, write_notification,
@@ -19,7 +17,7 @@ pub use event_queue::{
 };
 pub use laws::{
     event_numbers, one_address, one_control, one_event, one_reading, one_request, one_response,
-    readable_forms, refused_holds_none, written_reads_back,
+    readable_forms, reading_is, refused_holds_none, written_reads_back,
 };
 pub use lun::{Address, read_lun, write_lun};
 pub use requests::{CDB_BYTES, CodecFault, REQUEST_BYTES, Request, read_request};

@@ -1,6 +1,6 @@
 //! Opcodes of the profile, and those outside it.
 
-use crate::{CDB_BYTES, Command, decode};
+use cdb::{CDB_BYTES, Command, decode};
 
 /// Each opcode of the profile and the place of its control byte.
 static PROFILE: [(u8, usize); 20] = [

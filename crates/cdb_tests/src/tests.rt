@@ -1,7 +1,7 @@
 mod accepted;
 mod opcodes;
 
-use super::*;
+use cdb::*;
 use std::process::Abort;
 
 /// What a CDB asks for and needs. Bytes that mean nothing stand behind the CDB.

@@ -1,7 +1,7 @@
 //! Command blocks of the profile, with what each asks for and needs.
 
 use super::check;
-use crate::{Command, InquiryData, SelectReport};
+use cdb::{Command, InquiryData, SelectReport};
 
 /// READ (6), (10), (12), (16): the first block and how many.
 static READS: [(&[u8], u64, u16); 10] = [

@@ -1,6 +1,6 @@
 //! Bytes worked out by hand from the layouts.
 
-use super::*;
+use scsi_codec::*;
 use std::test::Fail;
 
 #[test]
