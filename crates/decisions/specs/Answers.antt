@@ -7,7 +7,7 @@ use Rattle.scsi_codec.specs.Responses.{response_bytes}
 use Rattle.scsi_codec.specs.declared.responses.ResponseCode.{ResponseCode}
 use Rattle.scsi_codec.specs.declared.responses.ResponseCode.TheVariants as code
 use Rattle.block_commands.specs.PlainReply.{PlainReply}
-use Rattle.block_commands.specs.Statuses.{busy}
+use Rattle.block_commands.specs.Statuses.{busy, task_set_full}
 use Rattle.decisions.specs.declared.answer.ChainLengths.{ChainLengths}
 
 -- a response other than OK: no status, no residual, no sense, no data
@@ -27,6 +27,13 @@ ok_bytes n status sense moved =
 abbrev pub answer_of_reply : ChainLengths → PlainReply → List ℕ
 answer_of_reply n r = ok_bytes n r.status r.sense r.moved ++ r.payload
 
--- BUSY (SAM-5 §5.3.1)
+-- a status with no sense data, which moves nothing
+abbrev pub status_reply : ℕ → PlainReply
+status_reply status = record { status = status; sense = None; payload = []; moved = 0 }
+
+-- BUSY, TASK SET FULL (SAM-5 §5.3.1)
 abbrev pub busy_reply : PlainReply
-busy_reply = record { status = busy; sense = None; payload = []; moved = 0 }
+busy_reply = status_reply busy
+
+abbrev pub full_reply : PlainReply
+full_reply = status_reply task_set_full

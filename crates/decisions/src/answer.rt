@@ -4,7 +4,7 @@ ghost use Rattle.std.specs.Prelude.{◌≡◌, ◌+◌, ◌≤◌, ◌<◌, ◌^
 ghost use Rattle.cdb.specs.Need.{need_of};
 ghost use Rattle.block_commands.specs.Absent.{absent_reply};
 ghost use Rattle.block_commands.specs.PlainReply.{refusal};
-ghost use Rattle.decisions.specs.Answers.{failed, ok_bytes, answer_of_reply};
+ghost use Rattle.decisions.specs.Answers.{failed, ok_bytes, answer_of_reply, status_reply};
 
 use arrayvec::ArrayVec;
 use block_commands::{ABSENT_BYTES, CHECK_CONDITION, exec_absent};
@@ -99,6 +99,17 @@ impl DirectAnswer {
         ensures len { length result ≡ RESPONSE_BYTES }
     {
         let head = response_ok(lengths, CHECK_CONDITION, Some(sense), 0);
+        DirectAnswer::with_data(&head, &[])
+    }
+
+    /// A status with no sense data, which moves nothing, as BUSY and TASK SET FULL.
+    pub fn of_status(lengths: &ChainLengths, status: u8) -> DirectAnswer
+        requires sum { lengths.now.readable + lengths.now.writable ≤ 2 ^ 32 }
+        requires room { RESPONSE_BYTES ≤ lengths.now.writable }
+        ensures bytes { result ≡ answer_of_reply lengths.now (status_reply status) }
+        ensures len { length result ≡ RESPONSE_BYTES }
+    {
+        let head = response_ok(lengths, status, None, 0);
         DirectAnswer::with_data(&head, &[])
     }
 

@@ -69,6 +69,14 @@ impl Inventory {
         Inventory { addresses }
     }
 
+    /// The addresses, each at its unit's place.
+    pub fn as_slice(&self) -> &[Address]
+        ensures addresses { result.now ≡ self.now }
+        ensures few { length result.now ≤ MOST_UNITS }
+    {
+        self.addresses.as_slice()
+    }
+
     /// Whether a unit of this target is there.
     pub fn has_target(&self, target: u8) -> bool
         ensures { result ≡ has_target self.now target }

@@ -55,10 +55,12 @@ impl Ring {
     }
 }
 
-/// A queue, with the names of its requests that were used, in order.
+/// A queue, with the names of its requests in the order in which they were made available, and of those that were
+/// used, in order.
 #[derive(Drop)]
 struct Queue {
     ring: Ring,
+    offered: Vec<String>,
     used: Vec<String>,
 }
 
@@ -96,8 +98,11 @@ impl Driver {
         let mut queues = Vec::new(alloc);
         for queue in 0..count {
             let ring = Ring::new(alloc, form, queue, size)?;
-            let used = Vec::new(alloc);
-            queues.push(Queue { ring, used })?;
+            queues.push(Queue {
+                ring,
+                offered: Vec::new(alloc),
+                used: Vec::new(alloc),
+            })?;
         }
         Ok(Driver {
             alloc,
@@ -136,6 +141,9 @@ impl Driver {
         put_bytes(self.alloc, world, data, &send.out)?;
         let key = self.open.insert(String::from_str(self.alloc, send.name)?)?;
         queue.ring.offer(world, Pair { readable, writable }, key)?;
+        queue
+            .offered
+            .push(String::from_str(self.alloc, send.name)?)?;
         let name = String::from_str(self.alloc, send.name)?;
         let sent = Sent {
             response: writable.at,
@@ -166,6 +174,14 @@ impl Driver {
     /// What is known of a request, as the last look found it; `None` where none of that name was sent.
     pub fn sent(&self, name: &str) -> Option<Sent> {
         self.sent.get(name).copied()
+    }
+
+    /// The name of the request whose chain was the one of this number, from 0, that the queue made available; `None`
+    /// where there was none.
+    pub fn offered(&self, queue: u16, number: u64) -> Option<&str> {
+        let queue = self.queues.get(queue as usize)?;
+        let name = queue.offered.get(usize::try_from(number).ok()?)?;
+        Some(name.as_str())
     }
 
     /// The names of a queue's requests that were used, in order; `None` where there is no such

@@ -121,6 +121,7 @@ impl Session {
             Command::Blocks(unit, first, count) => {
                 show::blocks(self.alloc, out, &self.world, unit, first, count)
             }
+            Command::History(unit) => show::history(out, &self.world, &self.driver, unit),
             Command::Status => show::status(out, &self.world),
             Command::Notices(queue) => show::notices(out, &self.world, queue),
         }

@@ -5,12 +5,13 @@ ghost use Rattle.std.specs.Prelude.{◌≤◌};
 use block_store::BLOCK_BYTES;
 use guest_driver::{Driver, Sent};
 use guest_mem::GuestMem;
+use ring_core::Ticket;
 use script_lines::{LineFault, Stop};
 use scsi_codec::{Address, RESPONSE_BYTES};
 use std::alloc::Global;
 use std::io;
 use std::io::Write;
-use world::World;
+use world::{StepKind, World};
 
 /// How many blocks are read at once.
 const BLOCKS_AT_ONCE: u64 = 64;
@@ -233,6 +234,56 @@ pub fn blocks<W: Write>(
         left -= now;
     }
     runs.end(out)
+}
+
+/// Prints a word, and the name of the request of a ticket: the queue's number and the ticket's where the driver sent
+/// none.
+fn print_named<W: Write>(
+    out: &mut W,
+    driver: &Driver,
+    word: &str,
+    ticket: Ticket,
+) -> Result<(), Stop> {
+    let Ticket { queue, number } = ticket;
+    match driver.offered(queue, number) {
+        Some(name) => written(write!(out, "{word} {name}")),
+        None => written(write!(out, "{word} {queue}/{number}")),
+    }
+}
+
+/// Prints a step of a unit.
+fn print_step<W: Write>(out: &mut W, driver: &Driver, step: StepKind) -> Result<(), Stop> {
+    match step {
+        StepKind::Enter(ticket) => print_named(out, driver, "enter", ticket),
+        StepKind::Full(ticket) => print_named(out, driver, "full", ticket),
+        StepKind::Commit(ticket) => print_named(out, driver, "commit", ticket),
+        StepKind::Busy(ticket) => print_named(out, driver, "busy", ticket),
+        StepKind::Abort(_) => written(write!(out, "abort")),
+        StepKind::Reset => written(write!(out, "reset")),
+        StepKind::Leave(ticket) => print_named(out, driver, "leave", ticket),
+    }
+}
+
+/// Prints the steps of a unit, in order.
+pub fn history<W: Write>(
+    out: &mut W,
+    world: &World,
+    driver: &Driver,
+    unit: Address,
+) -> Result<(), Stop> {
+    let Address { target, lun } = unit;
+    let Some(unit) = world.unit(target, lun) else {
+        return Err(Stop::Fault(LineFault::BadValue));
+    };
+    written(write!(out, "history {target}:{lun}:"))?;
+    for place in 0..unit.steps() {
+        if let Some(step) = unit.step(place) {
+            let before = if place == 0 { " " } else { ", " };
+            written(write!(out, "{before}"))?;
+            print_step(out, driver, step)?;
+        }
+    }
+    written(writeln!(out))
 }
 
 /// Prints the status of the device.

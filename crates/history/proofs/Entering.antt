@@ -20,15 +20,18 @@ stays false false b c h = refl
 stays false true false c h = refl
 stays false true true c h = ap not (h refl)
 
+-- another task that enters leaves a task enabled, or not
+pub enabled_other : (e f : Entry) (s : Step) (past : List Step) → same_ticket e.ticket f.ticket ≡ false → is_some (task_of f.ticket (alive (s ∷ past))) ≡ true
+    → enabled f (Step.Enter e ∷ s ∷ past) ≡ enabled f (s ∷ past)
+enabled_other e f s past ne found =
+    let h = s ∷ past in
+    ap (λ b. enabled f h || ((b || has_entered f.ticket h) && not (is_blocked f (alive h ++ e ∷ [])))) ne
+    ∙ stays (enabled f past) (has_entered f.ticket h) (is_blocked f (alive h)) (is_blocked f (alive h ++ e ∷ [])) (blocked_more f (alive h) (e ∷ []) found)
+
 -- another task that enters leaves a parked task parked
 parked_other : (e f : Entry) (s : Step) (past : List Step) → same_ticket e.ticket f.ticket ≡ false → is_some (task_of f.ticket (alive (s ∷ past))) ≡ true
     → is_parked (Step.Enter e ∷ s ∷ past) f ≡ is_parked (s ∷ past) f
-parked_other e f s past ne found =
-    let h = s ∷ past in
-    let same : enabled f (Step.Enter e ∷ h) ≡ enabled f h =
-    ap (λ b. enabled f h || ((b || has_entered f.ticket h) && not (is_blocked f (alive h ++ e ∷ [])))) ne
-    ∙ stays (enabled f past) (has_entered f.ticket h) (is_blocked f (alive h)) (is_blocked f (alive h ++ e ∷ [])) (blocked_more f (alive h) (e ∷ []) found) in
-    ap (λ b. not b && not (marked f.ticket h)) same
+parked_other e f s past ne found = ap (λ b. not b && not (marked f.ticket (s ∷ past))) (enabled_other e f s past ne found)
 
 same_enter : (e : Entry) (s : Step) (past : List Step) (es : List Entry) → Each (λ f. is_some (task_of f.ticket (alive (s ∷ past))) ≡ true) es → Others e.ticket es
     → AllByRecursion (λ f. is_parked (Step.Enter e ∷ s ∷ past) f ≡ is_parked (s ∷ past) f) es

@@ -11,7 +11,7 @@ use Rattle.history.proofs.Fewer.{all_entered}
 abbrev HasEntered : List Step → Entry → Type 0
 HasEntered h e = has_entered e.ticket h ≡ true
 
-each_without : (P : Entry → Type 0) (t : Ticket) (es : List Entry) → Each P es → Each P (without t es)
+pub each_without : (P : Entry → Type 0) (t : Ticket) (es : List Entry) → Each P es → Each P (without t es)
 each_without P t [] h = tt
 each_without P t (e ∷ es) h = elim (same_ticket e.ticket t) as (λ b. Each P (cond b es (e ∷ without t es))) [ true ↦ h.1 | false ↦ (h.0, each_without P t es h.1) ]
 

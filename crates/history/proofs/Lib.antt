@@ -14,3 +14,9 @@ pub mod Leaving
 pub mod Fewer
 pub mod Receipts
 pub mod HandedOut
+pub mod Filtered
+pub mod Releasing
+pub mod Waiting
+pub mod Kept
+pub mod Keeping
+pub mod Owing

@@ -21,7 +21,7 @@ or_again false true = refl
 or_again false false = refl
 
 -- a step that leaves the alive tasks as they are enables none
-enabled_same : (e : Entry) (s r : Step) (past : List Step) → has_entered e.ticket (s ∷ r ∷ past) ≡ has_entered e.ticket (r ∷ past) → alive (s ∷ r ∷ past) ≡ alive (r ∷ past) → enabled e (s ∷ r ∷ past) ≡ enabled e (r ∷ past)
+pub enabled_same : (e : Entry) (s r : Step) (past : List Step) → has_entered e.ticket (s ∷ r ∷ past) ≡ has_entered e.ticket (r ∷ past) → alive (s ∷ r ∷ past) ≡ alive (r ∷ past) → enabled e (s ∷ r ∷ past) ≡ enabled e (r ∷ past)
 enabled_same e s r past h same =
     ap (λ b. enabled e (r ∷ past) || (b && not (is_blocked e (alive (s ∷ r ∷ past))))) h
     ∙ ap (λ w. enabled e (r ∷ past) || (has_entered e.ticket (r ∷ past) && not (is_blocked e w))) same

@@ -1,6 +1,8 @@
 -- Which tasks an Abort or a Reset waits for. The place of a step is the number of steps that stand before it.
-use Rattle.std.specs.Prelude.{ℕ, ◌≡◌, Bool, true, not, ◌==◌, List, [], ◌∷◌, length, filter, if◌then◌else◌}
+use Rattle.std.specs.Prelude.{ℕ, ◌≡◌, Bool, true, not, ◌==◌, List, [], ◌∷◌, length, filter, Option, Some, None, if◌then◌else◌}
 use Rattle.std.specs.List.{list_all, AllByRecursion}
+use Rattle.history.specs.declared.rule.Rule.{Rule}
+use Rattle.history.specs.declared.rule.Rule.TheVariants.{All}
 use Rattle.history.specs.Tasks.{Entry, meets}
 use Rattle.history.specs.Steps.{Step, alive, is_alive, has_left}
 
@@ -22,3 +24,14 @@ is_clear place h = list_all (λ (e : Entry). not (is_alive e.ticket h)) (met_at 
 -- own: each of them has left
 abbrev pub AreGone : ℕ → List Step → Type 0
 AreGone place h = AllByRecursion (λ (e : Entry). has_left e.ticket h ≡ true) (met_at place h)
+
+-- own: which tasks a step meets, if it meets any: an Abort those of its rule, a Reset all
+abbrev pub rule_of : Step → Option Rule
+rule_of (Step.Abort rule) = Some rule
+rule_of (Step.Reset c) = Some All
+rule_of step = None
+
+-- own: which tasks the step at a place met
+abbrev pub rule_at : ℕ → List Step → Option Rule
+rule_at place [] = None
+rule_at place (step ∷ past) = if length past == place then rule_of step else rule_at place past

@@ -2,9 +2,12 @@ pub mod Tasks
 pub mod Steps
 pub mod Marks
 pub mod Enabling
+pub mod Seen
+pub mod Released
 pub mod Clearing
 pub mod Contents
 pub mod Lawful
 pub mod Receipts
+pub mod Endings
 pub mod Worths
 pub mod Cases

@@ -1,12 +1,12 @@
 -- What was handed out for a commit, and when the history confirms it.
-use Rattle.std.specs.Prelude.{ℕ, ◌≡◌, List, [], ◌∷◌, length, Option, Some, None, ◌==◌, if◌then◌else◌, ⊤}
+use Rattle.std.specs.Prelude.{ℕ, ◌≡◌, Bool, true, false, List, [], ◌∷◌, length, Option, Some, None, ◌==◌, if◌then◌else◌, ⊤}
 use Rattle.scsi_codec.specs.declared.lun.Address.{Address}
 use Rattle.block_commands.specs.PlainReply.{PlainReply}
 use Rattle.ring_core.specs.declared.log.Ticket.{Ticket}
 use Rattle.history.specs.Steps.{Step}
 use Rattle.history.specs.Contents.{Opening}
 
--- own: the unit, the place of the Commit, its ticket, and its reply where it was kept
+-- own: the unit, the place of the Commit, its ticket, and its reply where that was kept
 pub record Receipt : Type 0 where
   pub unit : Address
   pub place : ℕ
@@ -26,12 +26,13 @@ abbrev pub step_at : ℕ → List Step → Option Step
 step_at n [] = None
 step_at n (step ∷ past) = if length past == n then Some step else step_at n past
 
--- a reply is compared where it was kept
-abbrev pub Agrees : Option PlainReply → PlainReply → Type 0
-Agrees None r = ⊤
-Agrees (Some kept) r = kept ≡ r
+-- a reply is compared where both have one: the receipt, and the unit, where it keeps replies
+abbrev pub Agrees : Bool → Option PlainReply → PlainReply → Type 0
+Agrees keeps None r = ⊤
+Agrees false (Some kept) r = ⊤
+Agrees true (Some kept) r = kept ≡ r
 
--- own: the Commit of the receipt stands at its place in this unit's history
-pub record IsConfirmed (o : Opening) (h : List Step) (c : Receipt) : Type 0 where
+-- own: the Commit of the receipt stands at its place in the history of this unit, which keeps replies or doesn't
+pub record IsConfirmed (o : Opening) (keeps : Bool) (h : List Step) (c : Receipt) : Type 0 where
   pub of_unit : c.unit ≡ unit_of o
-  pub stands : (r : PlainReply) × (step_at c.place h ≡ Some (Step.Commit c.ticket r)) × Agrees c.reply r
+  pub stands : (r : PlainReply) × (step_at c.place h ≡ Some (Step.Commit c.ticket r)) × Agrees keeps c.reply r

@@ -2,6 +2,7 @@
 use Rattle.std.specs.Prelude.{ℕ, Bool, true, false, ◌==◌, ◌&&◌, ◌||◌, List, [], ◌∷◌, Option, Some, None, if◌then◌else◌, ◌≡◌, ⊤}
 use Rattle.std.specs.List.{list_any}
 use Rattle.cdb.specs.declared.commands.Command.{Command}
+use Rattle.decisions.specs.UnitRequest.{PlainRequest}
 use Rattle.decisions.specs.declared.attribute.TaskAttribute.{TaskAttribute}
 use Rattle.decisions.specs.declared.attribute.TaskAttribute.TheVariants.{Simple, Ordered, HeadOfQueue}
 use Rattle.ring_core.specs.declared.log.Ticket.{Ticket}
@@ -16,6 +17,11 @@ pub record Entry : Type 0 where
   pub attribute : TaskAttribute
   pub command : Command
   pub data_out : List ℕ
+
+-- own: the task of a request that was fetched under a ticket
+abbrev pub entry_of : Ticket → PlainRequest → Entry
+entry_of t r =
+    record { ticket = t; id = r.id; attribute = r.attribute; command = r.command; data_out = r.data_out }
 
 -- own: whether two tickets are one; a task is named by its ticket
 abbrev pub same_ticket : Ticket → Ticket → Bool

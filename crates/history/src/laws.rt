@@ -3,8 +3,11 @@
 mod cases;
 mod contents;
 mod handing;
+mod keeping;
 mod marks;
+mod owing;
 mod receipts;
+mod releasing;
 mod tasks;
 
 pub use cases::{
@@ -16,9 +19,20 @@ pub use handing::{
     a_leave_hands_out_what_was_parked, an_enter_parks_what_is_blocked, fewer_are_parked_than_alive,
     marks_hand_out_what_was_parked, other_steps_hand_out_nothing,
 };
-pub use marks::{first_mark_stays, marked_commands_never_run, places_are_clear_when_all_have_left};
+pub use keeping::{
+    a_commit_or_busy_finishes, a_leave_frees, an_abort_or_reset_strikes, an_enter_appends,
+    what_is_kept_is_alive,
+};
+pub use marks::{
+    first_mark_stays, marked_commands_never_run, places_are_clear_when_all_have_left,
+    places_are_clear_where_no_earlier_task_is_met,
+};
+pub use owing::{at_most_128_are_owed, each_step_is_owed};
 pub use receipts::{
     receipts_are_confirmed, receipts_of_another_reply_are_not, receipts_of_no_commit_are_not,
+};
+pub use releasing::{
+    a_leave_hands_out_what_it_frees, marks_hand_out_what_they_strike, what_is_handed_out_was_parked,
 };
 pub use tasks::{
     alive_tasks_are_distinct, each_happens_once, enabled_stays_enabled,

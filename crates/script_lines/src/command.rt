@@ -23,6 +23,8 @@ pub enum Command<'a> {
     /// What stands in the blocks of a unit, from one on, so many of them. Whether the unit and the
     /// blocks are there isn't known here.
     Blocks(Address, u64, u64),
+    /// The steps of a unit. Whether the unit is there isn't known here.
+    History(Address),
     /// The status of the device.
     Status,
     /// How many notices a queue gave.
@@ -41,6 +43,7 @@ impl<'a> Command<'a> {
             "show" => Command::Show(name(only(values)?)?),
             "order" => Command::Order(number(only(values)?)?),
             "blocks" => blocks(values)?,
+            "history" => Command::History(unit_pair(only(values)?)?),
             "status" => alone(values, Command::Status)?,
             "notices" => Command::Notices(number(only(values)?)?),
             _ => return Err(no_command(keyword, values)),

@@ -1,4 +1,5 @@
-pub mod Commits
 pub mod Turns
 pub mod Stepping
 pub mod Opening
+pub mod Resting
+pub mod Passing

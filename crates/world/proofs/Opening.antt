@@ -1,5 +1,5 @@
--- A queue of which nothing was fetched yet.
-use Rattle.std.proofs.Common.{◌≡◌, ℕ, None, Some, refl, List, [], ◌∷◌, ◌++◌, ◌+◌, ◌<◌, length, zero, suc, arith, ap, sym, ◌∙◌, ◌≤◌, ◌⊎◌, inl, inr, subst, Bool, true, false, cond, filter, ◌==◌}
+-- The queues and units of a device that opens.
+use Rattle.std.proofs.Common.{◌≡◌, ℕ, None, Some, refl, List, [], ◌∷◌, ◌++◌, ◌+◌, ◌<◌, length, zero, suc, arith, ap, sym, ◌∙◌, ◌⊎◌, inl, inr, subst, map}
 use Rattle.std.specs.Prelude.{slice_get}
 use Rattle.std.proofs.lemmas.Option.{slice_get_within, same_Some}
 use Rattle.ring_core.specs.State.{opening, tickets, IsLawful}
@@ -7,11 +7,12 @@ use Rattle.ring_core.specs.declared.layout.Form.{Form}
 use Rattle.ring_core.specs.declared.layout.Form.TheVariants.{Split, Packed}
 use Rattle.ring_core.specs.declared.layout.Layout.{Layout}
 use Rattle.scsi_codec.specs.declared.lun.Address.{Address}
+use Rattle.decisions.specs.Inventory.{address_of}
 use Rattle.decisions.specs.declared.inventory.UnitSpec.{UnitSpec}
-use Rattle.world.specs.Unit.{PlainUnit}
+use Rattle.unit_history.specs.Unit.{PlainUnit}
 use Rattle.world.specs.Queue.{PlainQueue}
-use Rattle.world.specs.World.{AreKept, IsKept}
-use Rattle.world.specs.Config.{AreOpening, opening_queue, opening_unit}
+use Rattle.world.specs.World.{AreKept, IsKept, IsAtRest, AreAtRest}
+use Rattle.world.specs.Config.{AreOpening, AreFresh, opening_queue, opening_unit}
 
 pub opens_whole : (form : Form) (memory number : ℕ) (l : Layout) → (opening_queue form memory number l).ring.broken ≡ None
 unfolding opening
@@ -44,10 +45,10 @@ module _ (inventory : List Address) (wanted : List UnitSpec) (units : List Plain
             ∙ ap (λ (x : PlainUnit). Some x) (is u (subst (λ (j : ℕ). slice_get wanted j ≡ Some u) here there))
       ]
 
-layout_at : (layouts : List Layout) (k : ℕ) → k < length layouts → (l : Layout) × (slice_get layouts k ≡ Some l)
-layout_at [] k lt = absurd (omega (arith, lt))
-layout_at (l ∷ ls) zero lt = (l, refl)
-layout_at (l ∷ ls) (suc k) lt = layout_at ls k (omega (arith, lt))
+stands_at : {X : Type 0} (xs : List X) (k : ℕ) → k < length xs → (x : X) × (slice_get xs k ≡ Some x)
+stands_at [] k lt = absurd (omega (arith, lt))
+stands_at (x ∷ xs) zero lt = (x, refl)
+stands_at (x ∷ xs) (suc k) lt = stands_at xs k (omega (arith, lt))
 
 nothing_lawful : (number : ℕ) → IsLawful number (record { accepted = []; used = [] })
 unfolding tickets
@@ -63,6 +64,20 @@ pub opened_kept : (form : Form) (m : List ℕ) (layouts : List Layout) (queues :
 opened_kept form m layouts queues opened =
     record {
       each = λ k q there.
-          let (l, at) = layout_at layouts k (omega (arith, slice_get_within queues k q there, opened.count)) in
+          let (l, at) = stands_at layouts k (omega (arith, slice_get_within queues k q there, opened.count)) in
           subst (λ (x : PlainQueue). IsKept k x (length m)) (sym (same_Some q (opening_queue form (length m) k l) (sym there ∙ opened.each k l at))) (kept_at_first form m k l);
+    }
+
+fresh_rests : (inventory : List Address) (spec : UnitSpec) (queues : List PlainQueue) → IsAtRest (opening_unit inventory spec) queues
+fresh_rests inventory spec queues =
+    record { unit = record { lawful = tt; holds = refl }; none_alive = refl; keeps_none = refl; behind = λ k q there. omega arith }
+
+-- units of which no step was taken are at rest
+pub all_fresh : (wanted : List UnitSpec) (units : List PlainUnit) (queues : List PlainQueue) → AreFresh wanted units → AreAtRest units queues
+all_fresh wanted units queues fresh =
+    record {
+      each = λ k u there.
+          let (spec, at) = stands_at wanted k (omega (arith, slice_get_within units k u there, fresh.count)) in
+          let inventory = map address_of wanted in
+          subst (λ (x : PlainUnit). IsAtRest x queues) (sym (same_Some u (opening_unit inventory spec) (sym there ∙ fresh.each k spec at))) (fresh_rests inventory spec queues);
     }

@@ -1,17 +1,31 @@
 -- Turns, steps and runs of the device.
-use Rattle.std.proofs.Common.{◌≡◌, ◌≢◌, ℕ, ◌+◌, ◌<◌, ◌≤◌, List, [], ◌∷◌, ◌++◌, length, get_or, set, Bool, true, false, refl, sym, ap, ◌∙◌, subst, arith, length-append, ◌⊎◌, inl, inr, Result, Ok, Err}
+use Rattle.std.proofs.Common.{Some, ◌≡◌, ◌≢◌, ℕ, ◌+◌, ◌<◌, ◌≤◌, List, [], ◌∷◌, ◌++◌, length, get_or, set, Bool, true, false, refl, sym, ap, ◌∙◌, subst, arith, length-append, ◌⊎◌, inl, inr, Result, Ok, Err}
+use Rattle.std.specs.Prelude.{slice_get}
 use Rattle.std.proofs.lemmas.List.{ext_get_or, length-set, get_or-set_same, get_or-set_other}
 use Rattle.std.proofs.lemmas.Option.{slice_get_read, slice_get_within, get_or_from_slice_get, same_Some}
 use Rattle.block_store.specs.declared.NoMemory.{NoMemory}
 use Rattle.scsi_codec.specs.declared.lun.Address.{Address}
 use Rattle.ring_core.specs.State.{RingState, PlainChain, IsLawful, next_ticket, accepting}
 use Rattle.world.specs.Queue.{PlainQueue, IsIdle, completing}
-use Rattle.world.specs.Unit.{PlainUnit}
+use Rattle.unit_history.specs.Unit.{PlainUnit}
 use Rattle.world.specs.Turning.{Turns, TurnsAt}
 use Rattle.world.specs.World.{PlainWorld, IdleAt, IdleBelow, Steps, Runs, AreKept, IsKept}
 
 same_or_other : (j i : ℕ) → (j ≡ i) ⊎ (j ≢ i)
 same_or_other j i = grind arith
+
+-- what stands in a list with one place set
+pub set_looked : {X : Type 0} (xs : List X) (n : ℕ) (y : X) (k : ℕ) (x : X) → n < length xs → slice_get (set xs n y) k ≡ Some x
+    → ((k ≡ n) × (x ≡ y)) ⊎ ((k ≢ n) × (slice_get xs k ≡ Some x))
+set_looked xs n y k x lt there =
+    elim (same_or_other k n) [
+      | inl here ↦
+          inl (here, sym (get_or_from_slice_get (set xs n y) k x y there) ∙ ap (λ (j : ℕ). get_or (set xs n y) j y) here ∙ get_or-set_same xs n y y lt)
+      | inr other ↦
+          let e : x ≡ get_or xs k x = sym (get_or_from_slice_get (set xs n y) k x x there) ∙ get_or-set_other xs n k y x other in
+          let within : k < length xs = omega (arith, slice_get_within (set xs n y) k x there, length-set xs n y) in
+          inr (other, slice_get_read xs (length xs) k x refl within e)
+    ]
 
 -- putting back what stands at a place
 set_same : {X : Type 0} (xs : List X) (i : ℕ) (x : X) → i < length xs → x ≡ get_or xs i x → set xs i x ≡ xs
@@ -72,15 +86,12 @@ pub still_kept : (queues : List PlainQueue) (m m' : List ℕ) (n : ℕ) (q q' : 
 still_kept queues m m' n q q' kept size lt is on =
     record {
       each = λ k x there.
-          elim (same_or_other k n) [
-            | inl here ↦
-                let e : x ≡ q' = sym (get_or_from_slice_get (set queues n q') k x q' there) ∙ ap (λ (j : ℕ). get_or (set queues n q') j q') here ∙ get_or-set_same queues n q' q' lt in
+          elim (set_looked queues n q' k x lt there) [
+            | inl (here, e) ↦
                 subst (λ (j : ℕ). IsKept j x (length m')) (sym here)
                 (subst (λ (y : PlainQueue). IsKept n y (length m')) (sym e) (on (kept.each n q (slice_get_read queues (length queues) n q refl lt is))))
-            | inr other ↦
-                let e : x ≡ get_or queues k x = sym (get_or_from_slice_get (set queues n q') k x x there) ∙ get_or-set_other queues n k q' x other in
-                let within : k < length queues = omega (arith, slice_get_within (set queues n q') k x there, length-set queues n q') in
-                let before : IsKept k x (length m) = kept.each k x (slice_get_read queues (length queues) k x refl within e) in
+            | inr (other, was) ↦
+                let before : IsKept k x (length m) = kept.each k x was in
                 record { fits = size ∙ before.fits; numbered = before.numbered; lawful = before.lawful; all_used = before.all_used }
           ];
     }

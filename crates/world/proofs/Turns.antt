@@ -12,7 +12,7 @@ use Rattle.ring_core.specs.Parts.{PartsFit, inside, readable_total, readable_of,
 use Rattle.ring_core.specs.Fetch.{Takes}
 use Rattle.ring_core.specs.declared.descriptor.Part.{Part}
 use Rattle.world.specs.Queue.{PlainQueue}
-use Rattle.world.specs.Unit.{PlainUnit}
+use Rattle.unit_history.specs.Unit.{PlainUnit}
 use Rattle.world.specs.Serving.{Serves, Finishes}
 
 one_part : (m : List ℕ) (p : Part) (writable : Bool) → inside (length m) p ≡ true → length (cond writable [] (bytes_at m p.addr p.len)) ≡ cond writable 0 p.len

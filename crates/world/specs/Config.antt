@@ -9,7 +9,9 @@ use Rattle.ring_core.specs.declared.layout.LayoutFault.{LayoutFault}
 use Rattle.split_ring.specs.Placement as split
 use Rattle.packed_ring.specs.Placement as packed
 use Rattle.world.specs.Queue.{PlainQueue}
-use Rattle.world.specs.Unit.{PlainUnit}
+use Rattle.history.specs.Contents.{Opening}
+use Rattle.unit_history.specs.Unit.{PlainUnit}
+use Rattle.unit_history.specs.Unit as unit
 use Rattle.world.specs.World.{PlainWorld}
 use Rattle.scsi_codec.specs.declared.lun.Address.{Address}
 use Rattle.decisions.specs.Inventory.{address_of, is_rising, luns_of}
@@ -63,16 +65,20 @@ abbrev pub opening_queue : Form → ℕ → ℕ → Layout → PlainQueue
 opening_queue Split memory number l = record { ring = opening Split number l no_features memory l.size; notices = 0 }
 opening_queue Packed memory number l = record { ring = opening Packed number l no_features memory 65536; notices = 0 }
 
--- a unit that ran nothing yet
-abbrev pub opening_unit : List Address → UnitSpec → PlainUnit
-opening_unit inventory u =
+-- what a unit opens with
+abbrev pub opening_of : List Address → UnitSpec → Opening
+opening_of inventory u =
     record {
       target = u.target;
       lun = u.lun;
       luns = luns_of inventory u.target;
-      opening = record { blocks = u.blocks; calm = u.calm };
-      commits = [];
+      blocks = u.blocks;
+      calm = u.calm;
     }
+
+-- a unit of which no step was taken. It keeps no replies, since no receipt outlives a chain's service
+abbrev pub opening_unit : List Address → UnitSpec → PlainUnit
+opening_unit inventory u = unit.opening_unit (opening_of inventory u) false
 
 -- the queues of these layouts, of which nothing was fetched yet
 pub record AreOpening (form : Form) (memory : ℕ) (layouts : List Layout) (queues : List PlainQueue) : Type 0 where
@@ -80,13 +86,13 @@ pub record AreOpening (form : Form) (memory : ℕ) (layouts : List Layout) (queu
   pub each : (k : ℕ) (l : Layout) → slice_get layouts k ≡ Some l → slice_get queues k
       ≡ Some (opening_queue form memory k l)
 
--- the units that ran nothing yet
+-- the units, of which no step was taken
 pub record AreFresh (wanted : List UnitSpec) (units : List PlainUnit) : Type 0 where
   pub count : length units ≡ length wanted
   pub each : (k : ℕ) (u : UnitSpec) → slice_get wanted k ≡ Some u → slice_get units k
       ≡ Some (opening_unit (map address_of wanted) u)
 
--- memory is zeros, of each queue nothing was fetched, and each unit ran nothing
+-- memory is zeros, of each queue nothing was fetched, and of each unit no step was taken
 pub record Opens (c : Config) (w : PlainWorld) : Type 0 where
   pub form : Form
   pub agreed : form_of c.features ≡ Some form

@@ -1,10 +1,9 @@
 pub mod AnyRing
 pub mod Queue
 pub mod Fetching
-pub mod Unit
-pub mod UnitFields
 pub mod Answering
 pub mod Serving
+pub mod Passing
 pub mod World
 pub mod Turning
 pub mod Config

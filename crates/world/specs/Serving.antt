@@ -6,7 +6,7 @@ use Rattle.ring_core.specs.Writes.{Write, all_written, scatter_writes}
 use Rattle.ring_core.specs.Offer.{used_writes}
 use Rattle.ring_core.specs.Fetch.{Takes}
 use Rattle.world.specs.Queue.{PlainQueue, Breaks, completing}
-use Rattle.world.specs.Unit.{PlainUnit}
+use Rattle.unit_history.specs.Unit.{PlainUnit}
 use Rattle.world.specs.Answering.{IsAnswered}
 use Rattle.scsi_codec.specs.declared.lun.Address.{Address}
 use Rattle.decisions.specs.declared.answer.ChainLengths.{ChainLengths}
@@ -17,6 +17,11 @@ lengths_of c = record { readable = readable_total c.parts; writable = writable_t
 -- what answers a chain: the answer over its writable parts, and then its used entry
 abbrev pub answer_writes : RingState → PlainChain → List ℕ → List Write
 answer_writes s c answer = scatter_writes c.parts 0 answer ++ used_writes s c.id (length answer)
+
+-- the bytes answer an outstanding chain, which is used with so many
+abbrev pub Uses : PlainQueue → List ℕ → PlainChain → List ℕ → PlainQueue → List ℕ → Type 0
+Uses queue m chain answer queue' m' =
+    (m' ≡ all_written m (answer_writes queue.ring chain answer)) × (queue' ≡ completing queue chain m')
 
 -- the request of an outstanding chain is answered, the answer written over its writable parts in order, and the chain used
 -- with so many bytes

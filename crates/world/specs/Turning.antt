@@ -4,7 +4,7 @@ use Rattle.scsi_codec.specs.declared.lun.Address.{Address}
 use Rattle.ring_core.specs.Offer.{MayLackMemory}
 use Rattle.block_store.specs.declared.NoMemory.{NoMemory}
 use Rattle.world.specs.Queue.{PlainQueue, IsIdle}
-use Rattle.world.specs.Unit.{PlainUnit}
+use Rattle.unit_history.specs.Unit.{PlainUnit}
 use Rattle.world.specs.Serving.{Serves, OnlyBreaks}
 use Rattle.world.specs.World.{PlainWorld, StepAt, IdleAt, WantsAt, Steps, IsSettled, WantsMemory}
 

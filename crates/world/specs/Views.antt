@@ -3,12 +3,13 @@ use Rattle.std.specs.Prelude.{ℕ, ◌≡◌, ◌≤◌, ◌+◌, ◌==◌, ◌&
 use Rattle.std.specs.List.{list_any}
 use Rattle.block_store.specs.Blocks.{run}
 use Rattle.block_store.specs.declared.NoMemory.{NoMemory}
-use Rattle.world.specs.Unit.{PlainUnit, blocks_of, capacity_of}
+use Rattle.history.specs.Contents.{blocks_of, capacity_of}
+use Rattle.unit_history.specs.Unit.{PlainUnit}
 use Rattle.world.specs.World.{PlainWorld}
 
 -- the unit of an address
 abbrev pub unit_at : PlainWorld → ℕ → ℕ → Option PlainUnit
-unit_at w target lun = find (λ u. (u.target == target) && (u.lun == lun)) w.units
+unit_at w target lun = find (λ u. (u.opening.target == target) && (u.opening.lun == lun)) w.units
 
 -- DEVICE_NEEDS_RESET (VIRTIO 1.2, 2.1) where a queue is broken
 abbrev pub device_status : PlainWorld → ℕ
@@ -17,11 +18,11 @@ device_status w = cond (list_any (λ q. is_some q.ring.broken) w.queues) 64 0
 -- blocks of a unit, if it is there and they lie below its capacity
 abbrev pub GivesBlocks : Option PlainUnit → ℕ → ℕ → List ℕ → Result Bool NoMemory → List ℕ → Type 0
 GivesBlocks None first count old (Ok true) new = ⊥
-GivesBlocks (Some u) first count old (Ok true) new = (first + count ≤ capacity_of u.opening u.commits) × (new
-    ≡ old ++ run (blocks_of u.opening u.commits) first count)
+GivesBlocks (Some u) first count old (Ok true) new = (first + count ≤ capacity_of u.opening u.steps) × (new
+    ≡ old ++ run (blocks_of u.steps) first count)
 GivesBlocks None first count old (Ok false) new = new ≡ old
-GivesBlocks (Some u) first count old (Ok false) new = (capacity_of u.opening u.commits < first + count) × (new ≡ old)
+GivesBlocks (Some u) first count old (Ok false) new = (capacity_of u.opening u.steps < first + count) × (new ≡ old)
 GivesBlocks None first count old (Err e) new = ⊥
 -- only a list that has to grow wants memory
-GivesBlocks (Some u) first count old (Err e) new = (first + count ≤ capacity_of u.opening u.commits)
+GivesBlocks (Some u) first count old (Err e) new = (first + count ≤ capacity_of u.opening u.steps)
     × (0 < count) × (new ≡ old)

@@ -5,7 +5,8 @@ use Rattle.block_store.specs.declared.NoMemory.{NoMemory}
 use Rattle.ring_core.specs.Offer.{MayLackMemory}
 use Rattle.ring_core.specs.State.{IsLawful}
 use Rattle.world.specs.Queue.{PlainQueue, IsIdle}
-use Rattle.world.specs.Unit.{PlainUnit}
+use Rattle.history.specs.Steps.{alive, floor}
+use Rattle.unit_history.specs.Unit.{PlainUnit, IsUnit}
 use Rattle.world.specs.Serving.{Serves, OnlyBreaks}
 
 pub record PlainWorld : Type 0 where
@@ -75,3 +76,15 @@ pub record IsKept (number : ℕ) (q : PlainQueue) (size : ℕ) : Type 0 where
 -- each queue is
 pub record AreKept (queues : List PlainQueue) (size : ℕ) : Type 0 where
   pub each : (k : ℕ) (q : PlainQueue) → slice_get queues k ≡ Some q → IsKept k q size
+
+-- the unit between two turns: its history is lawful, no task is alive, and each queue's next ticket is above those
+-- that came to it
+pub record IsAtRest (u : PlainUnit) (queues : List PlainQueue) : Type 0 where
+  pub unit : IsUnit u
+  pub none_alive : alive u.steps ≡ []
+  pub keeps_none : u.keeps_replies ≡ false
+  pub behind : (k : ℕ) (q : PlainQueue) → slice_get queues k ≡ Some q → floor k u.steps ≤ length q.ring.log.accepted
+
+-- each unit is
+pub record AreAtRest (units : List PlainUnit) (queues : List PlainQueue) : Type 0 where
+  pub each : (k : ℕ) (u : PlainUnit) → slice_get units k ≡ Some u → IsAtRest u queues

@@ -3,12 +3,10 @@
 #![tactic(auto)]
 
 mod answer;
-mod answering;
 mod any_ring;
 mod config;
 mod queue;
 mod serving;
-mod unit;
 mod world;
 
 pub use answer::Answer;
@@ -16,5 +14,5 @@ pub use any_ring::AnyRing;
 pub use config::{Config, RING_PACKED, StartFault, VERSION_1};
 pub use decisions::UnitSpec;
 pub use queue::{Fetch, Queue};
-pub use unit::{Commit, Unit};
+pub use unit_history::{StepKind, UnitState};
 pub use world::World;

@@ -3,44 +3,52 @@
 ghost use Rattle.std.specs.Prelude.{◌≡◌, ◌<◌, ◌≤◌, length, map, IfOk, true, is_some};
 ghost use Rattle.decisions.specs.Inventory.{address_of};
 ghost use Rattle.std.specs.List.{list_all, list_any};
-ghost use Rattle.world.specs.Config.{AreOpening, AreFresh, Opens, is_config, is_queue};
+ghost use Rattle.world.specs.Config.{AreOpening, AreFresh, Opens, is_config, is_queue, opening_unit};
 ghost use Rattle.world.specs.Turning.{TurnsAt};
-ghost use Rattle.world.specs.World.{AreKept};
+ghost use Rattle.world.specs.World.{AreKept, AreAtRest};
+ghost use Rattle.world.specs.Passing.{IsFree};
 
 use crate::config::{Config, StartFault, form};
 use crate::queue::Queue;
 use crate::serving::take_turn;
-use crate::unit::Unit;
 use block_store::NoMemory;
 use decisions::{Inventory, UnitSpec};
 use guest_mem::GuestMem;
 use ring_core::{Form, Layout, QueueLog};
 use std::alloc::Global;
 use std::marker::Model;
+use unit_history::{JobList, UnitState};
 
 /// The number of the first request queue: queue 0 is the control queue, queue 1 the event queue
 /// (VIRTIO 1.2, 5.6.2).
 const FIRST_REQUEST_QUEUE: usize = 2;
 
+/// How many jobs a unit hands out at most in one call: one for each task of its task set.
+const TASKS: usize = 64;
+
 /// A turn at the queue of this number.
 fn turn_of(
-    alloc: Global,
     memory: &mut GuestMem,
     inventory: &Inventory,
     queues: &mut [Queue],
-    units: &mut [Unit],
+    units: &mut [UnitState],
+    out: &mut JobList,
     number: usize,
 ) -> Result<bool, NoMemory>
     requires inside { number < length queues.old }
     requires kept { AreKept queues.old (length memory.old) }
     requires there { length inventory.now ≡ length units.old }
+    requires rest { AreAtRest units.old queues.old }
+    requires out { IsFree out.old }
     ensures turn { TurnsAt
         (record { memory = memory.old; inventory = inventory.now; queues = queues.old; units = units.old }) number result
         (record { memory = memory.new; inventory = inventory.now; queues = queues.new; units = units.new }) }
     ensures kept { AreKept queues.new (length memory.new) }
     ensures units { length units.new ≡ length units.old }
+    ensures rest { AreAtRest units.new queues.new }
+    ensures out { out.new ≡ out.old }
 {
-    let turned = take_turn(alloc, &mut queues[number], memory, inventory, units);
+    let turned = take_turn(&mut queues[number], memory, inventory, units, out);
     let _log = queues[number].log();
     turned
 }
@@ -59,18 +67,25 @@ pub struct World {
     memory: GuestMem,
     inventory: Inventory,
     queues: Vec<Queue>,
-    units: Vec<Unit>,
+    units: Vec<UnitState>,
+    // What units hand out. Nothing stays there: a chain is served whole before the next.
+    out: JobList,
 }
 
 impl Model for World {
     ghost use Rattle.std.specs.Prelude.{◌≡◌, length};
-    ghost use Rattle.world.specs.World.{PlainWorld, AreKept};
+    ghost use Rattle.world.specs.World.{PlainWorld, AreKept, AreAtRest};
+    ghost use Rattle.world.specs.Passing.{IsFree};
 
     ghost Value = { PlainWorld };
 
     ghost view = { λ w. record { memory = w.memory; inventory = w.inventory; queues = w.queues.items; units = w.units.items } };
 
-    ghost invariant = { λ w. AreKept w.queues.items (length w.memory) × (length w.inventory ≡ length w.units.items) };
+    ghost invariant = { λ w.
+        AreKept w.queues.items (length w.memory)
+        × (length w.inventory ≡ length w.units.items)
+        × AreAtRest w.units.items w.queues.items
+        × IsFree w.out };
 }
 
 /// The queues of these layouts, of which nothing was fetched yet.
@@ -94,18 +109,28 @@ fn open_queues(
     Ok(queues)
 }
 
-/// The units that are wanted, that ran nothing yet.
+/// A unit among those of an inventory, of which no step was taken. `NoMemory` where its blocks or its target's
+/// LUNs were refused memory.
+fn open_unit(alloc: Global, spec: &UnitSpec, inventory: &Inventory) -> Result<UnitState, NoMemory>
+    ensures { IfOk result (λ unit. unit ≡ opening_unit inventory.now spec.now) }
+{
+    let luns = inventory.luns_of(alloc, spec.target)?;
+    // No receipt outlives the service of its chain, so no reply is kept to be compared.
+    UnitState::new(alloc, spec, luns.as_slice(), false)
+}
+
+/// The units that are wanted, of which no step was taken.
 fn open_units(
     alloc: Global,
     wanted: &[UnitSpec],
     inventory: &Inventory,
-) -> Result<Vec<Unit>, NoMemory>
+) -> Result<Vec<UnitState>, NoMemory>
     requires { inventory.now ≡ map address_of wanted.now }
     ensures { IfOk result (λ units. AreFresh wanted.now units.items) }
 {
     let mut units = Vec::new(alloc);
     for number in 0..wanted.len() {
-        let unit = Unit::new(alloc, &wanted[number], inventory)?;
+        let unit = open_unit(alloc, &wanted[number], inventory)?;
         if units.push(unit).is_err() {
             return Err(NoMemory);
         }
@@ -127,12 +152,14 @@ fn open_world(alloc: Global, config: &Config) -> Result<World, NoMemory>
     let queues = open_queues(alloc, form, config.queues.as_slice(), &memory)?;
     let inventory = Inventory::new(config.units.as_slice());
     let units = open_units(alloc, config.units.as_slice(), &inventory)?;
+    let out = JobList::with_limit(alloc, TASKS)?;
     Ok(World {
         alloc,
         memory,
         inventory,
         queues,
         units,
+        out,
     })
 }
 
@@ -145,8 +172,8 @@ impl World {
     ghost use Rattle.std.specs.Prelude.{◌≡◌, ◌<◌, length, MatchResult};
     ghost use Rattle.ring_core.specs.State.{IsLawful};
     ghost use Rattle.world.specs.Turning.{TurnsAt, NextTurns};
-    ghost use Rattle.world.specs.World.{AreKept, Settles, EndsForMemory};
-    ghost use Rattle.world.specs.Unit.{capacity_of};
+    ghost use Rattle.world.specs.World.{AreKept, AreAtRest, Settles, EndsForMemory};
+    ghost use Rattle.history.specs.Contents.{capacity_of};
     ghost use Rattle.world.specs.Views.{unit_at, device_status, GivesBlocks};
 
     /// The device of a configuration. Whoever sets it up calls it once. `BadConfig` exactly where
@@ -164,9 +191,11 @@ impl World {
         }
     }
 
-    /// What holds between calls: each queue's log is lawful, and every chain that it accepted was used.
+    /// What holds between calls: each queue's log is lawful, and every chain that it accepted was used; each
+    /// unit's history is lawful, and no task is alive.
     pub fn rests(&self)
-        ensures { AreKept self.now.queues (length self.now.memory) }
+        ensures queues { AreKept self.now.queues (length self.now.memory) }
+        ensures units { AreAtRest self.now.units self.now.queues }
     {
         let _ = &self.alloc;
     }
@@ -240,7 +269,7 @@ impl World {
     }
 
     /// The unit of an address; `None` where there is none.
-    pub fn unit(&self, target: u8, lun: u16) -> Option<&Unit>
+    pub fn unit(&self, target: u8, lun: u16) -> Option<&UnitState>
         ensures { option_copied result ≡ unit_at self.now target lun }
     {
         self.units
@@ -250,7 +279,7 @@ impl World {
 
     /// The capacity in blocks of the unit of an address; `None` where there is none.
     pub fn capacity(&self, target: u8, lun: u16) -> Option<u64>
-        ensures { result ≡ option_map (λ u. capacity_of u.opening u.commits) (unit_at self.now target lun) }
+        ensures { result ≡ option_map (λ u. capacity_of u.opening u.steps) (unit_at self.now target lun) }
     {
         match self.unit(target, lun) {
             Some(unit) => Some(unit.capacity()),
@@ -289,11 +318,11 @@ impl World {
         ensures { TurnsAt self.old number result self.new }
     {
         turn_of(
-            self.alloc,
             &mut self.memory,
             &self.inventory,
             self.queues.as_mut_slice(),
             self.units.as_mut_slice(),
+            &mut self.out,
             number,
         )
     }

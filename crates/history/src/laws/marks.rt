@@ -1,11 +1,13 @@
 //! What marks say of tasks, and when a place is clear.
 
-ghost use Rattle.std.specs.Prelude.{ℕ, ◌≡◌, ◌↔◌, ◌∷◌, ◌++◌, List, Some, true, false};
+ghost use Rattle.std.specs.Prelude.{ℕ, ◌≡◌, ◌↔◌, ◌∷◌, ◌++◌, List, Some, None, true, false, not};
 ghost use Rattle.ring_core.specs.declared.log.Ticket.{Ticket};
 ghost use Rattle.history.specs.declared.reason.Reason.{Reason as AReason};
+ghost use Rattle.history.specs.declared.rule.Rule.{Rule as ARule};
 ghost use Rattle.history.specs.Steps.{Step, done};
 ghost use Rattle.history.specs.Marks.{mark_of, marked};
-ghost use Rattle.history.specs.Clearing.{is_clear, AreGone};
+ghost use Rattle.history.specs.Seen.{tasks_of, any_before};
+ghost use Rattle.history.specs.Clearing.{is_clear, AreGone, rule_at};
 ghost use Rattle.history.specs.Contents.{Opening};
 ghost use Rattle.history.specs.Lawful.{IsLawful};
 
@@ -26,4 +28,13 @@ pub fn first_mark_stays()
 /// A place is clear exactly where each task that its step met has left.
 pub fn places_are_clear_when_all_have_left()
     ensures { (o : Opening) (place : ℕ) (h : List Step) → IsLawful o h → (is_clear place h ≡ true) ↔ AreGone place h }
+{}
+
+/// By what a task set keeps: the place of an Abort or a Reset is clear exactly where its rule meets none of the tasks
+/// alive that entered before it (SAM-5 §7.2, §7.3, §7.5 to §7.7), and any other place is clear.
+pub fn places_are_clear_where_no_earlier_task_is_met()
+    ensures met { (o : Opening) (place : ℕ) (rule : ARule) (h : List Step) →
+        IsLawful o h → rule_at place h ≡ Some rule →
+        is_clear place h ≡ not (any_before place rule (tasks_of h)) }
+    ensures none { (place : ℕ) (h : List Step) → rule_at place h ≡ None → is_clear place h ≡ true }
 {}

@@ -1,9 +1,10 @@
-use Rattle.std.proofs.Common.{◌≡◌, get_or, set, length, refl, ap, ◌∙◌, subst}
+use Rattle.std.proofs.Common.{◌≡◌, get_or, length, refl, ap, subst}
 use Rattle.std.proofs.lemmas.List.{get_or-set_same}
 use Rattle.std.proofs.lemmas.Option.{slice_get_read}
 use Rattle.ring_core.specs.State.{IsLawful}
 use Rattle.world.specs.Queue.{PlainQueue}
 use Rattle.world.proofs.Stepping.{turned, turn_keeps}
+use Rattle.world.proofs.Resting.{may_take, turn_rests}
 use Rattle.world.proofs.world.turn_of.Goals as goal
 
 pub take_turn-turned-requires-clause-fits : goal.take_turn-turned-requires-clause-fits
@@ -39,3 +40,18 @@ returns-clause-kept c =
     turn_keeps c.args.inventory.now c.args.queues.now c.args.memory.now c.take_turn-turned.new.memory c.args.units.now c.take_turn-turned.new.units c.args.number (taken c)
     c.take_turn-turned.new.queue c.take_turn-turned.result c.requires.kept c.take_turn-turned.ensures.turn c.take_turn-turned.ensures.size c.requires.inside (is_taken c)
     c.take_turn-turned.ensures.ring c.take_turn-turned.ensures.number (its_log c)
+
+-- each unit may take what comes next to the queue
+pub take_turn-turned-requires-clause-rest : goal.take_turn-turned-requires-clause-rest
+take_turn-turned-requires-clause-rest c =
+    let q : PlainQueue = get_or c.args.queues.now c.args.number c.index-queues-number.result in
+    let is : q ≡ get_or c.args.queues.now c.args.number q = ap (λ (x : PlainQueue). get_or c.args.queues.now c.args.number x) c.index-queues-number.is in
+    may_take c.args.queues.now (length c.args.memory.now) c.args.number q c.args.units.now c.requires.kept c.requires.rest
+    (slice_get_read c.args.queues.now (length c.args.queues.now) c.args.number q refl c.requires.inside is)
+
+pub returns-clause-rest : goal.returns-clause-rest
+unfolding taken
+returns-clause-rest c =
+    turn_rests c.args.inventory.now c.args.queues.now (length c.args.memory.now) c.args.number (taken c) c.take_turn-turned.new.queue c.args.memory.now c.take_turn-turned.new.memory
+    c.args.units.now c.take_turn-turned.new.units c.take_turn-turned.result c.requires.kept c.requires.rest c.take_turn-turned.ensures.turn c.requires.inside
+    (slice_get_read c.args.queues.now (length c.args.queues.now) c.args.number (taken c) refl c.requires.inside (is_taken c))

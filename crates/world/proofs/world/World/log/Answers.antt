@@ -5,7 +5,7 @@ use Rattle.world.proofs.world.World.log.Goals as goal
 
 -- the queue that was looked up is kept
 looked_up : (c : goal.After-log) → IsKept c.args.number c.in-Some.queue.now (length c.args.self.now.memory)
-looked_up c = c.rests.ensures.each c.args.number c.in-Some.queue.now (sym c.queue.ensures ∙ rw c.in-Some.is refl)
+looked_up c = c.rests.ensures.queues.each c.args.number c.in-Some.queue.now (sym c.queue.ensures ∙ rw c.in-Some.is refl)
 
 pub returns-in-Some-clause-lawful : goal.returns-in-Some-clause-lawful
 returns-in-Some-clause-lawful c =

@@ -1,0 +1,8 @@
+use Rattle.history.proofs.Keeping.{tasks_enter, tasks_full}
+use Rattle.history.proofs.laws.keeping.an_enter_appends.Goals as goal
+
+pub returns-clause-enter : goal.returns-clause-enter
+returns-clause-enter c = tasks_enter
+
+pub returns-clause-full : goal.returns-clause-full
+returns-clause-full c = tasks_full

@@ -1,0 +1,4 @@
+pub mod Functions
+pub mod Demands
+pub mod Control
+pub mod Visits

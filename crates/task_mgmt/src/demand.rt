@@ -1,0 +1,67 @@
+//! How a function begins, or why it is refused.
+
+ghost use Rattle.std.specs.Prelude.{◌≡◌, ◌≤◌, length};
+ghost use Rattle.task_mgmt.specs.Demands.{places_of, demanded, begun};
+
+use crate::function::Function;
+use crate::kind::kind_of;
+use arrayvec::ArrayVec;
+use decisions::{Inventory, MOST_UNITS};
+use scsi_codec::{Address, FunctionResponse};
+
+/// The subtype of I_T NEXUS RESET (VIRTIO 1.2 §5.6.6.2).
+const I_T_NEXUS_RESET: u32 = 4;
+
+/// What a task management request asks for (VIRTIO 1.2 §5.6.6.2).
+#[derive(Clone, Copy, Debug, PartialEq, Eq)]
+pub struct TaskManagement {
+    /// Which function, as it stands.
+    pub subtype: u32,
+    /// The unit that it is for, or `None` where the bytes name none.
+    pub address: Option<Address>,
+    /// The identifier of the command that it is about, for a function that is about one.
+    pub id: u64,
+}
+
+/// The places of a target's units, rising.
+fn places_of(units: &[Address], target: u8) -> ArrayVec<usize, MOST_UNITS>
+    requires { length units.now ≤ MOST_UNITS }
+    ensures { result.items ≡ places_of units.now target }
+{
+    let mut places = ArrayVec::new();
+    for place in 0..units.len() {
+        if units[place].target == target {
+            places.push(place);
+        }
+    }
+    places
+}
+
+/// Begins a function on units of the inventory. Whoever fetched the
+/// request calls it, by [`decide_control`](crate::decide_control), while no other function is open.
+///
+/// The first that holds is the refusal: [`FunctionResponse::Rejected`] for a subtype that isn't offered,
+/// [`FunctionResponse::BadTarget`] where the bytes name no unit or the target isn't there, and
+/// [`FunctionResponse::IncorrectLun`] where the target lacks the LUN, but for I_T NEXUS RESET.
+pub fn begin(tmf: &TaskManagement, inventory: &Inventory) -> Result<Function, FunctionResponse>
+    ensures { result ≡ begun (demanded inventory.now tmf.now.subtype tmf.now.address tmf.now.id) }
+{
+    let Some(kind) = kind_of(tmf.subtype, tmf.id) else {
+        return Err(FunctionResponse::Rejected);
+    };
+    let Some(address) = tmf.address else {
+        return Err(FunctionResponse::BadTarget);
+    };
+    if !inventory.has_target(address.target) {
+        return Err(FunctionResponse::BadTarget);
+    }
+    if tmf.subtype == I_T_NEXUS_RESET {
+        return Ok(Function::opened(kind, places_of(inventory.as_slice(), address.target)));
+    }
+    let Some(place) = inventory.find(&address) else {
+        return Err(FunctionResponse::IncorrectLun);
+    };
+    let mut one = ArrayVec::new();
+    one.push(place);
+    Ok(Function::opened(kind, one))
+}

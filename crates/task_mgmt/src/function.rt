@@ -1,0 +1,137 @@
+//! One task management function, from its beginning to its response.
+
+ghost use Rattle.std.specs.Prelude.{◌≡◌, ◌<◌, ◌≤◌, length, slice_get};
+ghost use Rattle.task_mgmt.specs.Functions.{opened, marking, next_mark, asking, failing, checking, is_over, response_of};
+
+use crate::kind::Kind;
+use arrayvec::ArrayVec;
+use decisions::MOST_UNITS;
+use scsi_codec::FunctionResponse;
+use std::marker::Model;
+
+/// That a unit was marked: the mark is clear once every task that it met has left.
+#[derive(Clone, Copy, Debug, Default, PartialEq, Eq)]
+pub struct Mark {
+    /// The place of the unit in the inventory.
+    pub unit: usize,
+    /// How many steps of the unit's history stand before the mark.
+    pub place: u64,
+}
+
+/// A task management function that has begun (SAM-5 §7.1). It first visits each of its units, once and by rising
+/// LUN, then waits for each mark in that order, and then has its response. No call takes memory.
+#[derive(Debug, Drop)]
+pub struct Function {
+    kind: Kind,
+    found: bool,
+    refused: bool,
+    left: ArrayVec<usize, MOST_UNITS>,
+    waits: ArrayVec<Mark, MOST_UNITS>,
+}
+
+impl Model for Function {
+    ghost use Rattle.std.specs.Prelude.{◌+◌, ◌≤◌, length};
+    ghost use Rattle.task_mgmt.specs.Functions.{PlainFunction};
+
+    ghost Value = { PlainFunction };
+
+    ghost view = { λ f. record {
+      kind = f.kind;
+      found = f.found;
+      refused = f.refused;
+      left = f.left.items;
+      waits = f.waits.items;
+    } };
+
+    ghost invariant = { λ f. length f.left.items + length f.waits.items ≤ 64 };
+}
+
+impl Function {
+    /// A function that has visited none of its units.
+    pub(crate) fn opened(kind: Kind, units: ArrayVec<usize, MOST_UNITS>) -> Function
+        ensures { result ≡ opened kind units.items }
+    {
+        Function {
+            kind,
+            found: false,
+            refused: false,
+            left: units,
+            waits: ArrayVec::new(),
+        }
+    }
+
+    /// What it does on each of its units. Whoever visits the next one asks this first.
+    pub fn kind(&self) -> Kind
+        ensures { result ≡ self.now.kind }
+    {
+        self.kind
+    }
+
+    /// The unit to be visited next, by its place in the inventory; `None` where none is left.
+    pub fn next_unit(&self) -> Option<usize>
+        ensures { result ≡ slice_get self.now.left 0 }
+    {
+        self.left.as_slice().first().copied()
+    }
+
+    /// The next unit was marked, and so many steps of its history stand before the mark.
+    pub fn marked(&mut self, place: u64)
+        requires { 0 < length self.old.left }
+        ensures { self.new ≡ marking (next_mark place self.old) self.old }
+    {
+        let unit = self.left.remove(0);
+        self.waits.push(Mark { unit, place });
+    }
+
+    /// A query looked at the next unit, and found a task or none. Nothing is waited for.
+    pub fn found(&mut self, yes: bool)
+        requires { 0 < length self.old.left }
+        ensures { self.new ≡ asking yes self.old }
+    {
+        self.left.remove(0);
+        self.found = yes || self.found;
+    }
+
+    /// The mark of the next unit was refused memory: no unit is left, and the response is FAILURE.
+    pub fn refused(&mut self)
+        ensures { self.new ≡ failing self.old }
+    {
+        self.left.clear();
+        self.refused = true;
+    }
+
+    /// The mark that is to be clear next; `None` where none is waited for.
+    pub fn waits_for(&self) -> Option<Mark>
+        ensures { result ≡ slice_get self.now.waits 0 }
+    {
+        self.waits.as_slice().first().copied()
+    }
+
+    /// The mark that was waited for is clear.
+    pub fn cleared(&mut self)
+        requires { 0 < length self.old.waits }
+        ensures { self.new ≡ checking self.old }
+    {
+        self.waits.remove(0);
+    }
+
+    /// Whether no unit is left and no mark waited for: it may be answered.
+    pub fn finished(&self) -> bool
+        ensures { result ≡ is_over self.now }
+    {
+        self.left.is_empty() && self.waits.is_empty()
+    }
+
+    /// Its response (VIRTIO 1.2 §5.6.6.2), once it is finished.
+    pub fn answer(&self) -> FunctionResponse
+        ensures { result ≡ response_of self.now }
+    {
+        if self.refused {
+            return FunctionResponse::Failure;
+        }
+        match self.kind {
+            Kind::Asking(_) if self.found => FunctionResponse::Succeeded,
+            Kind::Asking(_) | Kind::Marking(_) => FunctionResponse::Complete,
+        }
+    }
+}

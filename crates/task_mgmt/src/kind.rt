@@ -1,0 +1,40 @@
+//! What a function does on each of its units.
+
+ghost use Rattle.std.specs.Prelude.{◌≡◌};
+ghost use Rattle.task_mgmt.specs.Functions.{kind_of};
+
+use history::Rule;
+use unit_attention::Code;
+
+/// What marks the tasks of a unit.
+#[derive(Clone, Copy, Debug, PartialEq, Eq)]
+pub enum Strike {
+    /// They are aborted (SAM-5 §7.2, §7.3, §7.5).
+    Abort(Rule),
+    /// Their unit is reset, and this code established (SAM-5 §7.6, §7.7).
+    Reset(Code),
+}
+
+/// What a function does on each of its units.
+#[derive(Clone, Copy, Debug, PartialEq, Eq)]
+pub enum Kind {
+    /// It marks the tasks that are alive, and waits until those that it meets have left.
+    Marking(Strike),
+    /// It looks for a task that is alive (SAM-5 §7.8, §7.9), and waits for none.
+    Asking(Rule),
+}
+
+/// What the function of a subtype (VIRTIO 1.2 §5.6.6.2) does; `None` for one that isn't offered.
+pub(crate) fn kind_of(subtype: u32, id: u64) -> Option<Kind>
+    ensures { result ≡ kind_of subtype id }
+{
+    match subtype {
+        0 => Some(Kind::Marking(Strike::Abort(Rule::Id(id)))),
+        1 | 3 => Some(Kind::Marking(Strike::Abort(Rule::All))),
+        4 => Some(Kind::Marking(Strike::Reset(Code::I_T_NEXUS_LOSS))),
+        5 => Some(Kind::Marking(Strike::Reset(Code::BUS_DEVICE_RESET_FUNCTION))),
+        6 => Some(Kind::Asking(Rule::Id(id))),
+        7 => Some(Kind::Asking(Rule::All)),
+        _ => None,
+    }
+}

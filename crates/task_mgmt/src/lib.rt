@@ -1,0 +1,19 @@
+//! Task management functions (SAM-5 §7): what a chain of the control queue demands, and one function from its
+//! beginning to its response. It holds no unit: whoever does marks and asks them, and says what came of it.
+#![tactic(auto)]
+
+mod control;
+mod demand;
+mod function;
+mod kind;
+mod laws;
+
+pub use control::{ControlAnswer, ControlDecision, MOST_CONTROL_BYTES, decide_control};
+pub use demand::{TaskManagement, begin};
+pub use function::{Function, Mark};
+pub use kind::{Kind, Strike};
+pub use laws::{
+    direct_answers, each_mark_is_waited_for, each_unit_is_asked_once, each_unit_is_marked_once,
+    kinds_by_subtype, places_are_those_of_the_target, refusals_in_order, refused_functions_fail,
+    responses_of_functions, units_of_functions,
+};

@@ -1,0 +1,4 @@
+pub mod Before
+pub mod Distinct
+pub mod Entering
+pub mod Lists

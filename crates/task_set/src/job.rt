@@ -1,0 +1,242 @@
+//! What is handed from hand to hand until a request is answered.
+
+ghost use Rattle.std.specs.Prelude.{◌≡◌, ◌<◌, [], ◌∷◌, ◌++◌, length, IfOk, drop, slice_get};
+ghost use Rattle.history.specs.Tasks.{entry_of};
+
+use cdb::Command;
+use decisions::{TaskAttribute, UnitRequest};
+use record::Record;
+use ring_core::{Chain, Ticket};
+use std::alloc::{AllocError, Global};
+use std::marker::Model;
+
+/// A request for a unit that has not entered its task set yet: its chain, and the request with its data.
+/// Clauses see the job that it becomes.
+#[derive(Debug, Drop)]
+pub struct Arrival {
+    unit: usize,
+    chain: Chain,
+    request: UnitRequest,
+}
+
+impl Model for Arrival {
+    ghost use Rattle.history.specs.Tasks.{entry_of};
+    ghost use Rattle.task_set.specs.Jobs.{PlainJob};
+
+    ghost Value = { PlainJob };
+
+    ghost view = { λ a. record { unit = a.unit; chain = a.chain; entry = entry_of a.chain.ticket a.request } };
+}
+
+impl Arrival {
+    /// The request of a chain, for the unit at this place of the inventory.
+    pub fn new(unit: usize, chain: Chain, request: UnitRequest) -> Arrival
+        ensures { result ≡ record { unit = unit; chain = chain; entry = entry_of chain.ticket request } }
+    {
+        Arrival {
+            unit,
+            chain,
+            request,
+        }
+    }
+
+    /// The place of its unit in the inventory.
+    pub fn unit(&self) -> usize
+        ensures { result ≡ self.now.unit }
+    {
+        self.unit
+    }
+
+    /// The ticket of its chain.
+    pub fn ticket(&self) -> Ticket
+        ensures chain { result ≡ self.now.chain.ticket }
+        ensures entry { result ≡ self.now.entry.ticket }
+    {
+        self.chain.ticket()
+    }
+
+    /// Its request.
+    pub fn request(&self) -> &UnitRequest
+        ensures { self.now.entry ≡ entry_of self.now.chain.ticket result.now }
+    {
+        &self.request
+    }
+
+    /// The job, and the request, whose data the task keeps from here on.
+    pub(crate) fn into_parts(self) -> (Job, UnitRequest)
+        ensures job { result.0 ≡ self }
+        ensures request { self.entry ≡ entry_of self.chain.ticket result.1 }
+    {
+        let Arrival {
+            unit,
+            chain,
+            request,
+        } = self;
+        let job = Job {
+            unit,
+            chain,
+            id: request.id(),
+            attribute: request.attribute(),
+            command: request.command(),
+            data_out: Record::new().and_all(request.data()),
+        };
+        (job, request)
+    }
+
+    /// The job of a request that doesn't enter. Its data are let go.
+    pub fn into_job(self) -> Job
+        ensures { result ≡ self }
+    {
+        let (job, _) = self.into_parts();
+        job
+    }
+}
+
+/// A request for a unit with its chain, which whoever has the job will answer. The data that the command
+/// takes are the task's: a job only knows, in proofs, what they were.
+#[derive(Debug, Drop)]
+pub struct Job {
+    unit: usize,
+    chain: Chain,
+    id: u64,
+    attribute: TaskAttribute,
+    command: Command,
+    data_out: Record<u8>,
+}
+
+impl Model for Job {
+    ghost use Rattle.task_set.specs.Jobs.{PlainJob};
+
+    ghost Value = { PlainJob };
+
+    ghost view = { λ j. record {
+      unit = j.unit;
+      chain = j.chain;
+      entry = record {
+        ticket = j.chain.ticket;
+        id = j.id;
+        attribute = j.attribute;
+        command = j.command;
+        data_out = j.data_out.items;
+      };
+    } };
+}
+
+impl Job {
+    /// The place of its unit in the inventory.
+    pub fn unit(&self) -> usize
+        ensures { result ≡ self.now.unit }
+    {
+        self.unit
+    }
+
+    /// The ticket of its chain.
+    pub fn ticket(&self) -> Ticket
+        ensures chain { result ≡ self.now.chain.ticket }
+        ensures entry { result ≡ self.now.entry.ticket }
+    {
+        self.chain.ticket()
+    }
+
+    /// The driver's identifier of the command.
+    pub fn id(&self) -> u64
+        ensures { result ≡ self.now.entry.id }
+    {
+        self.id
+    }
+
+    /// When its task may run beside others.
+    pub fn attribute(&self) -> TaskAttribute
+        ensures { result ≡ self.now.entry.attribute }
+    {
+        self.attribute
+    }
+
+    /// The command.
+    pub fn command(&self) -> Command
+        ensures { result ≡ self.now.entry.command }
+    {
+        self.command
+    }
+
+    /// Its chain.
+    pub fn chain(&self) -> &Chain
+        ensures { result.now ≡ self.now.chain }
+    {
+        &self.chain
+    }
+
+    /// Its chain, to be completed.
+    pub fn into_chain(self) -> Chain
+        ensures { result ≡ self.chain }
+    {
+        let Job { chain, .. } = self;
+        chain
+    }
+}
+
+/// Jobs in order, at most as many as a limit, for which room was made once.
+#[derive(Debug, Drop)]
+pub struct JobList {
+    jobs: Vec<Job>,
+    limit: usize,
+}
+
+impl Model for JobList {
+    ghost use Rattle.std.specs.Prelude.{◌≤◌, vec_capacity, vec_len};
+    ghost use Rattle.task_set.specs.Jobs.{Jobs};
+
+    ghost Value = { Jobs };
+
+    ghost view = { λ l. record { jobs = l.jobs.items; limit = l.limit } };
+
+    ghost invariant = { λ l. (vec_len l.jobs ≤ l.limit) × (l.limit ≤ vec_capacity l.jobs) };
+}
+
+impl JobList {
+    /// No jobs, and room for as many as the limit. Only this call takes memory.
+    pub fn with_limit(alloc: Global, limit: usize) -> Result<JobList, AllocError>
+        ensures { IfOk result (λ l. l ≡ record { jobs = []; limit = limit }) }
+    {
+        Ok(JobList {
+            jobs: Vec::with_capacity(alloc, limit)?,
+            limit,
+        })
+    }
+
+    /// How many jobs there are.
+    pub fn len(&self) -> usize
+        ensures { result ≡ length self.now.jobs }
+    {
+        self.jobs.len()
+    }
+
+    /// How many jobs there may be.
+    pub fn limit(&self) -> usize
+        ensures { result ≡ self.now.limit }
+    {
+        self.limit
+    }
+
+    /// Puts a job behind the others. There is a place free, which the caller sees to.
+    pub fn push(&mut self, job: Job)
+        requires { length self.old.jobs < self.old.limit }
+        ensures { self.new ≡ record self.old { jobs = self.old.jobs ++ job ∷ [] } }
+    {
+        match self.jobs.push(job) {
+            Ok(()) => {}
+            Err(_) => unreachable!(),
+        }
+    }
+
+    /// Takes the first job; `None` where there is none.
+    pub fn next(&mut self) -> Option<Job>
+        ensures first { result ≡ slice_get self.old.jobs 0 }
+        ensures rest { self.new ≡ record self.old { jobs = drop 1 self.old.jobs } }
+    {
+        if self.jobs.is_empty() {
+            return None;
+        }
+        Some(self.jobs.remove(0))
+    }
+}

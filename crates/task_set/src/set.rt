@@ -1,0 +1,160 @@
+//! The tasks of a logical unit that are alive.
+
+ghost use Rattle.std.specs.Prelude.{◌≡◌, ◌+◌, ◌<◌, ◌≤◌, ◌++◌, ◌∷◌, [], length, map, None, OnOk, OnErr, IfOk, IfErr};
+ghost use Rattle.std.specs.Option.{option_copied};
+ghost use Rattle.history.specs.Tasks.{task_of};
+ghost use Rattle.history.specs.Seen.{any_met, any_before, finished, struck, freed};
+ghost use Rattle.task_set.specs.Tasks.{PlainTask, entries_of, seen_of, moved, all_given, task_at, without, entering, run_at_once, may_run};
+
+use crate::blocking::block_next;
+use crate::job::{Arrival, Job, JobList};
+use crate::task::Task;
+use crate::walks::{finish_all, free_all, has_met, has_met_before, place_of, strike_all};
+use arrayvec::ArrayVec;
+use history::{Reason, Rule};
+use ring_core::Ticket;
+use std::marker::Model;
+
+/// The most tasks of a logical unit that are alive at once.
+pub const MOST_TASKS: usize = 64;
+
+/// Why a task can't enter: 64 are alive. Its job, whose data were let go, is to be answered with TASK SET FULL
+/// (SAM-5 §5.3.1).
+#[derive(Debug, Drop)]
+pub struct Full(pub Job);
+
+/// The tasks of a logical unit that are alive, by order of entry (SAM-5 §8.1). Clauses see it as that list. No call
+/// takes memory.
+#[derive(Debug, Drop)]
+pub struct TaskSet {
+    tasks: ArrayVec<Task, MOST_TASKS>,
+}
+
+impl Model for TaskSet {
+    ghost use Rattle.std.specs.Prelude.{List};
+    ghost use Rattle.history.specs.Tasks.{AreDistinct};
+    ghost use Rattle.task_set.specs.Tasks.{PlainTask, entries_of};
+
+    ghost Value = { List PlainTask };
+
+    ghost view = { λ s. s.tasks.items };
+
+    ghost invariant = { λ s. AreDistinct (entries_of s.tasks.items) };
+}
+
+impl TaskSet {
+    /// No task is alive. Whoever opens a unit calls it once.
+    pub fn new() -> TaskSet
+        ensures { result ≡ [] }
+    {
+        TaskSet {
+            tasks: ArrayVec::new(),
+        }
+    }
+
+    /// How many tasks are alive, 0 to 64.
+    pub fn len(&self) -> usize
+        ensures value { result ≡ length self.now }
+        ensures most { result ≤ 64 }
+    {
+        self.tasks.len()
+    }
+
+    /// The task of a ticket; `None` where it isn't alive.
+    pub fn task(&self, ticket: Ticket) -> Option<&Task>
+        ensures { option_copied result ≡ task_at ticket self.now }
+    {
+        let tasks = self.tasks.as_slice();
+        let place = place_of(tasks, ticket)?;
+        Some(&tasks[place])
+    }
+
+    /// Whether the task of a ticket may run (SAM-5 §8.6); `false` where it isn't alive. A worker asks it before it
+    /// runs the command of a job.
+    pub fn is_enabled(&self, ticket: Ticket) -> bool
+        ensures { result ≡ may_run (task_at ticket self.now) }
+    {
+        match self.task(ticket) {
+            Some(task) => task.is_enabled(),
+            None => false,
+        }
+    }
+
+    /// A task enters at this place of its unit's history (SAM-5 §8.6). Its job is given back where nothing blocks
+    /// it, and else parked. Whoever brings a request to its unit calls it, under a ticket of which no task is alive.
+    /// `Full` exactly where 64 are alive, whatever its attribute; nothing changes then.
+    pub fn enter(&mut self, arrival: Arrival, place: u64) -> Result<Option<Job>, Full>
+        requires fresh { task_of arrival.entry.ticket (entries_of self.old) ≡ None }
+        ensures ok { OnOk result
+            ((length self.old < 64) × (self.new ≡ self.old ++ entering place self.old arrival ∷ [])) }
+        ensures job { IfOk result (λ job. job ≡ run_at_once self.old arrival) }
+        ensures err { OnErr result ((length self.old ≡ 64) × (self.new ≡ self.old)) }
+        ensures full { IfErr result (λ full. full.0 ≡ arrival) }
+    {
+        if self.tasks.is_full() {
+            return Err(Full(arrival.into_job()));
+        }
+        if block_next(self.tasks.as_slice(), arrival.request().attribute()) {
+            self.tasks.push(Task::waiting(arrival, place));
+            return Ok(None);
+        }
+        let (task, job) = Task::enabled(arrival, place);
+        self.tasks.push(task);
+        Ok(Some(job))
+    }
+
+    /// The command of this ticket ran, or was answered BUSY: from here on no abort marks its task. Nothing changes
+    /// where no task of it is alive.
+    pub fn finish(&mut self, ticket: Ticket)
+        ensures { self.new ≡ map (moved (finished ticket)) self.old }
+    {
+        finish_all(self.tasks.as_mut_slice(), ticket);
+    }
+
+    /// Marks each task that the rule meets and that is neither done nor marked: it ends for this reason, without
+    /// having run (SAM-5 §7.2, §7.3, §7.5 to §7.7). The jobs of those that were parked go to `out` by order of
+    /// entry, to be answered. Whoever serves an abort or a reset calls it.
+    pub fn mark(&mut self, rule: Rule, reason: Reason, out: &mut JobList)
+        requires { length out.old.jobs + length self.old ≤ out.old.limit }
+        ensures tasks { self.new ≡ map (moved (struck rule reason)) self.old }
+        ensures out { out.new ≡ record out.old { jobs = out.old.jobs ++ all_given (struck rule reason) self.old } }
+    {
+        strike_all(self.tasks.as_mut_slice(), rule, reason, out);
+    }
+
+    /// The task of this ticket goes, if it is alive.
+    fn remove(&mut self, ticket: Ticket)
+        ensures { self.new ≡ without ticket self.old }
+    {
+        if let Some(place) = place_of(self.tasks.as_slice(), ticket) {
+            drop(self.tasks.remove(place));
+        }
+    }
+
+    /// The task of this ticket goes, once its answer is written. Those that the others don't block may run from
+    /// here on, and the jobs of such as were parked go to `out` by order of entry.
+    pub fn leave(&mut self, ticket: Ticket, out: &mut JobList)
+        requires { length out.old.jobs + length self.old ≤ out.old.limit }
+        ensures tasks { let rest = without ticket self.old in self.new ≡ map (moved (freed (entries_of rest))) rest }
+        ensures out { let rest = without ticket self.old in
+            out.new ≡ record out.old { jobs = out.old.jobs ++ all_given (freed (entries_of rest)) rest } }
+    {
+        self.remove(ticket);
+        free_all(self.tasks.as_mut_slice(), out);
+    }
+
+    /// Whether the rule meets a task, done and marked ones too.
+    pub fn is_met(&self, rule: Rule) -> bool
+        ensures { result ≡ any_met rule (entries_of self.now) }
+    {
+        has_met(self.tasks.as_slice(), rule)
+    }
+
+    /// Whether the rule meets a task that entered before this place of the unit's history. Whoever serves an abort
+    /// asks it until those that it marked have left.
+    pub fn is_met_before(&self, place: u64, rule: Rule) -> bool
+        ensures { result ≡ any_before place rule (seen_of self.now) }
+    {
+        has_met_before(self.tasks.as_slice(), place, rule)
+    }
+}

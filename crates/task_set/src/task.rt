@@ -1,0 +1,237 @@
+//! A task that is alive.
+
+ghost use Rattle.std.specs.Prelude.{◌≡◌, ◌+◌, ◌<◌, ◌≤◌, ◌++◌, length, true, false, Some, None};
+ghost use Rattle.std.specs.Option.{option_to_list};
+ghost use Rattle.cdb.specs.Need.{need_of};
+ghost use Rattle.history.specs.Tasks.{meets};
+ghost use Rattle.history.specs.Seen.{finished, struck};
+ghost use Rattle.task_set.specs.Tasks.{moved, given, enabled_unless};
+
+use crate::job::{Arrival, Job, JobList};
+use cdb::Command;
+use decisions::{TaskAttribute, UnitRequest};
+use history::{Reason, Rule};
+use ring_core::Ticket;
+use std::marker::Model;
+
+/// A task that is alive: from when its command entered the task set until its answer is written (SAM-5 §5.5).
+/// Clauses see what is kept of it, and its job as long as it waits.
+#[derive(Debug, Drop)]
+pub struct Task {
+    ticket: Ticket,
+    request: Option<UnitRequest>,
+    enabled: bool,
+    done: bool,
+    mark: Option<Reason>,
+    place: u64,
+    parked: Option<Job>,
+}
+
+impl Model for Task {
+    ghost use Rattle.task_set.specs.Tasks.{PlainTask, entry_of_request, IsKept};
+
+    ghost Value = { PlainTask };
+
+    ghost view = { λ t. record {
+      seen = record {
+        entry = entry_of_request t.ticket t.request;
+        enabled = t.enabled;
+        done = t.done;
+        mark = t.mark;
+        place = t.place;
+      };
+      parked = t.parked;
+    } };
+
+    ghost invariant = { λ t. IsKept (entry_of_request t.ticket t.request) t.enabled t.mark t.parked };
+}
+
+impl Default for Task {
+    // What stands in the free places of a task set.
+    fn default() -> Task {
+        Task {
+            ticket: Ticket {
+                queue: 0,
+                number: 0,
+            },
+            request: None,
+            enabled: true,
+            done: false,
+            mark: None,
+            place: 0,
+            parked: None,
+        }
+    }
+}
+
+impl Task {
+    /// The ticket of its chain.
+    pub fn ticket(&self) -> Ticket
+        ensures { result ≡ self.now.seen.entry.ticket }
+    {
+        self.ticket
+    }
+
+    /// The driver's identifier of the command.
+    pub fn id(&self) -> u64
+        ensures { result ≡ self.now.seen.entry.id }
+    {
+        match &self.request {
+            Some(request) => request.id(),
+            None => 0,
+        }
+    }
+
+    /// When it may run beside others.
+    pub fn attribute(&self) -> TaskAttribute
+        ensures { result ≡ self.now.seen.entry.attribute }
+    {
+        match &self.request {
+            Some(request) => request.attribute(),
+            None => TaskAttribute::Simple,
+        }
+    }
+
+    /// The command.
+    pub fn command(&self) -> Command
+        ensures { result ≡ self.now.seen.entry.command }
+    {
+        match &self.request {
+            Some(request) => request.command(),
+            None => Command::TestUnitReady,
+        }
+    }
+
+    /// The data that the command takes from the driver: exactly as many bytes as it needs.
+    pub fn data(&self) -> &[u8]
+        ensures data { result.now ≡ self.now.seen.entry.data_out }
+        ensures len { length result.now ≡ (need_of self.now.seen.entry.command).out }
+    {
+        match &self.request {
+            Some(request) => request.data(),
+            None => &[],
+        }
+    }
+
+    /// How many steps its unit's history had when it entered.
+    pub fn place(&self) -> u64
+        ensures { result ≡ self.now.seen.place }
+    {
+        self.place
+    }
+
+    /// Whether it may run (SAM-5 §8.6): once nothing blocks it, it may from then on.
+    pub fn is_enabled(&self) -> bool
+        ensures { result ≡ self.now.seen.enabled }
+    {
+        self.enabled
+    }
+
+    /// Whether its command ran, or was answered BUSY (SAM-5 §5.3.1).
+    pub fn is_done(&self) -> bool
+        ensures { result ≡ self.now.seen.done }
+    {
+        self.done
+    }
+
+    /// Why it ends without having run; `None` where it runs.
+    pub fn mark(&self) -> Option<Reason>
+        ensures { result ≡ self.now.seen.mark }
+    {
+        self.mark
+    }
+
+    /// Whether a rule meets it.
+    pub(crate) fn is_met(&self, rule: Rule) -> bool
+        ensures { result ≡ meets rule self.now.seen.entry }
+    {
+        match rule {
+            Rule::Id(id) => self.id() == id,
+            Rule::All => true,
+        }
+    }
+
+    /// A task that enters at this place of its unit's history and may run, and its job.
+    pub(crate) fn enabled(arrival: Arrival, place: u64) -> (Task, Job)
+        ensures task { result.0 ≡ record {
+          seen = record { entry = arrival.entry; enabled = true; done = false; mark = None; place = place };
+          parked = None;
+        } }
+        ensures job { result.1 ≡ arrival }
+    {
+        let (job, request) = arrival.into_parts();
+        let task = Task {
+            ticket: job.ticket(),
+            request: Some(request),
+            enabled: true,
+            done: false,
+            mark: None,
+            place,
+            parked: None,
+        };
+        (task, job)
+    }
+
+    /// A task that enters at this place of its unit's history and waits, with its job.
+    pub(crate) fn waiting(arrival: Arrival, place: u64) -> Task
+        ensures { result ≡ record {
+          seen = record { entry = arrival.entry; enabled = false; done = false; mark = None; place = place };
+          parked = Some arrival;
+        } }
+    {
+        let (job, request) = arrival.into_parts();
+        Task {
+            ticket: job.ticket(),
+            request: Some(request),
+            enabled: false,
+            done: false,
+            mark: None,
+            place,
+            parked: Some(job),
+        }
+    }
+
+    /// The command of this ticket ran, or was answered BUSY.
+    pub(crate) fn finish(&mut self, ticket: Ticket)
+        ensures { self.new ≡ moved (finished ticket) self.old }
+    {
+        if ticket == self.ticket {
+            self.done = true;
+        }
+    }
+
+    /// Marks it where the rule meets it and it isn't done, and hands it out where it was parked.
+    pub(crate) fn strike(&mut self, rule: Rule, reason: Reason, out: &mut JobList)
+        requires { length out.old.jobs < out.old.limit }
+        ensures task { self.new ≡ moved (struck rule reason) self.old }
+        ensures out { out.new ≡ record out.old {
+          jobs = out.old.jobs ++ option_to_list (given (struck rule reason) self.old);
+        } }
+        ensures room { length out.new.jobs ≤ length out.old.jobs + 1 }
+    {
+        if self.mark.is_none() && self.is_met(rule) && !self.done {
+            self.mark = Some(reason);
+            if let Some(job) = self.parked.take() {
+                out.push(job);
+            }
+        }
+    }
+
+    /// Lets it run, unless something blocks it, and hands it out where it was parked.
+    pub(crate) fn enable_unless(&mut self, blocked: bool, out: &mut JobList)
+        requires { length out.old.jobs < out.old.limit }
+        ensures task { self.new ≡ moved (enabled_unless blocked) self.old }
+        ensures out { out.new ≡ record out.old {
+          jobs = out.old.jobs ++ option_to_list (given (enabled_unless blocked) self.old);
+        } }
+        ensures room { length out.new.jobs ≤ length out.old.jobs + 1 }
+    {
+        if self.enabled || blocked {
+            return;
+        }
+        self.enabled = true;
+        if let Some(job) = self.parked.take() {
+            out.push(job);
+        }
+    }
+}

@@ -1,0 +1,92 @@
+-- What a unit answers to a job that is committed, and what its parts are then.
+use Rattle.std.proofs.Common.{◌≡◌, ℕ, ◌+◌, ◌≤◌, Bool, inl, inr, List, ◌∷◌, map, length, Option, Some, None, is_some, IsTrue, refl, sym, ◌∙◌, ap, subst}
+use Rattle.ring_core.specs.declared.log.Ticket.{Ticket}
+use Rattle.block_store.specs.Blocks.{Blocks}
+use Rattle.unit_attention.specs.declared.code.Code.{Code}
+use Rattle.block_commands.specs.Effects.{block_after}
+use Rattle.block_commands.specs.Facts.{Facts}
+use Rattle.block_commands.specs.PlainReply.{PlainReply, plain_of}
+use Rattle.block_commands.specs.Replies.{reply_of}
+use Rattle.history.specs.declared.reason.Reason.{Reason}
+use Rattle.history.specs.Tasks.{Entry, task_of}
+use Rattle.history.specs.Steps.{Step, alive, done}
+use Rattle.history.specs.Marks.{mark_of}
+use Rattle.history.specs.Seen.{Seen, seen, finished}
+use Rattle.history.specs.Contents.{Opening, facts_after, reply_after}
+use Rattle.history.specs.Lawful.{IsReady}
+use Rattle.history.specs.Receipts.{unit_of, receipt_of}
+use Rattle.task_set.specs.Jobs.{PlainJob}
+use Rattle.task_set.specs.Tasks.{PlainTask, parked_of, moved, task_at}
+use Rattle.unit_history.specs.Calls.{IsOf, asked_of, CannotCommit, Commits, may_run_short}
+use Rattle.unit_history.specs.Parts.{AreKept}
+use Rattle.unit_history.specs.Performing.{Performs, step_for, outcome_for}
+use Rattle.unit_history.specs.Turns.{Turns}
+use Rattle.unit_history.specs.declared.perform.Performed.{Performed}
+use Rattle.unit_history.specs.declared.turn.Turn.TheVariants as turn
+use Rattle.unit_history.proofs.Entering.{same_unit}
+use Rattle.unit_history.proofs.Keeping.{task_at_alive, task_at_none, ticket_at, replies_after, may_commit, may_busy, keep_commit, keep_busy}
+use Rattle.unit_history.proofs.Handing.{parked_commit, parked_busy}
+
+-- a task that may do nothing, by what is kept of it
+cannot : (s : Seen) (j : PlainJob) (past : List Step) → s ≡ seen past s.entry → Turns s j turn.Unknown → CannotCommit (Some s.entry) j past
+cannot s j past is (inl other) = inl other
+cannot s j past is (inr (inl done)) = inr (inl (sym (ap (λ (x : Seen). x.done) is) ∙ done))
+cannot s j past is (inr (inr waits)) = inr (inr (sym (ap (λ (x : Seen). is_some x.mark) is) ∙ ap (λ m. is_some m) waits.0, sym (ap (λ (x : Seen). x.enabled) is) ∙ waits.1))
+
+module _ {o : Opening} {past : List Step} {block_at : Blocks} {pending : List Code} {tasks : List PlainTask} {lasts : List (Option ℕ)} {room : ℕ}
+    (k : AreKept o past block_at pending tasks lasts room) where
+  pub cannot_none : (j : PlainJob) → task_at j.entry.ticket tasks ≡ None → CannotCommit (task_of j.entry.ticket (alive past)) j past
+  cannot_none j at = subst (λ x. CannotCommit x j past) (sym (task_at_none k j.entry.ticket at)) tt
+
+  pub cannot_turn : (j : PlainJob) (x : PlainTask) → task_at j.entry.ticket tasks ≡ Some x → Turns x.seen j turn.Unknown
+      → CannotCommit (task_of j.entry.ticket (alive past)) j past
+  cannot_turn j x at turns =
+      subst (λ y. CannotCommit y j past) (sym (task_at_alive k j.entry.ticket x at).0) (cannot x.seen j past (task_at_alive k j.entry.ticket x at).1 turns)
+
+  pub is_of : (j : PlainJob) (x : PlainTask) → task_at j.entry.ticket tasks ≡ Some x → asked_of x.seen.entry ≡ asked_of j.entry → IsOf j x.seen.entry past
+  is_of j x at asked = record { is_there = (task_at_alive k j.entry.ticket x at).0; as_asked = asked }
+
+  pub is_aborted : (t : Ticket) (x : PlainTask) (reason : Reason) → task_at t tasks ≡ Some x → x.seen.mark ≡ Some reason → mark_of t past ≡ Some reason
+  is_aborted t x reason at mark =
+      ap (λ n. mark_of n past) (ticket_at k t x at) ∙ sym (ap (λ (s : Seen). s.mark) (task_at_alive k t x at).1) ∙ mark
+
+  ran_reply : (e : Entry) (facts : Facts) → facts ≡ facts_after o past → reply_of facts e.command e.data_out block_at ≡ reply_after o e past
+  ran_reply e facts as_told = ap (λ f. reply_of f e.command e.data_out block_at) as_told ∙ replies_after k e
+
+  -- the parts once a command ran, or was refused memory
+  pub keep_run : (t : Ticket) (e : Entry) (keeps : Bool) (facts : Facts) (p : Option Performed) (block_at' : Blocks) (pending' : List Code) (room' : ℕ)
+      → IsReady t e past → facts ≡ facts_after o past → Performs keeps facts e p block_at block_at' pending pending' → room ≤ room' + 1
+      → AreKept o (step_for t p ∷ past) block_at' pending' (map (moved (finished t)) tasks) lasts room'
+  keep_run t e keeps facts None block_at' pending' room' ready as_told short reserve = keep_busy k t e block_at' pending' room' ready short.stored short.pends reserve
+  keep_run t e keeps facts (Some p) block_at' pending' room' ready as_told ran reserve =
+      keep_commit k t e (plain_of p.reply) block_at' pending' room' ready (ran.reply ∙ ran_reply e facts as_told)
+      (λ b. ran.stored b ∙ ap (λ (r : PlainReply). block_after e.command e.data_out r.status block_at b) (sym ran.reply))
+      ran.pends reserve
+
+  -- and what is answered
+  pub commits_run : (j : PlainJob) (e : Entry) (keeps : Bool) (facts : Facts) (p : Option Performed) (block_at' : Blocks) (pending' : List Code)
+      → IsOf j e past → IsReady j.entry.ticket e past → facts ≡ facts_after o past → Performs keeps facts e p block_at block_at' pending pending'
+      → Commits (record { opening = o; steps = past; parked = parked_of tasks; keeps_replies = keeps }) j
+      (outcome_for (unit_of o) (length past) j.entry.ticket p)
+      (record { opening = o; steps = step_for j.entry.ticket p ∷ past; parked = parked_of (map (moved (finished j.entry.ticket)) tasks); keeps_replies = keeps })
+  commits_run j e keeps facts None block_at' pending' of ready as_told short = (
+    e,
+    of,
+    subst (λ f. IsTrue (may_run_short keeps f e.command)) as_told short.want,
+    record {
+      may = may_busy k j.entry.ticket e ready;
+      is = same_unit o _ _ _ _ keeps keeps refl (parked_busy o past block_at pending tasks lasts room j.entry.ticket k) refl;
+    },
+  )
+  commits_run j e keeps facts (Some p) block_at' pending' of ready as_told ran =
+      let r : plain_of p.reply ≡ reply_after o e past = ran.reply ∙ ran_reply e facts as_told in (
+        e,
+        of,
+        ready,
+        ap (λ w. receipt_of o past j.entry.ticket (Some w)) r,
+        record {
+          may = may_commit k j.entry.ticket e (reply_after o e past) ready refl;
+          is = same_unit o _ _ _ _ keeps keeps (ap (λ w. Step.Commit j.entry.ticket w ∷ past) r)
+              (parked_commit o past block_at pending tasks lasts room j.entry.ticket (reply_after o e past) k) refl;
+        },
+      )

@@ -1,0 +1,67 @@
+-- What a unit answers to a request that comes, and what its parts are then.
+use Rattle.std.proofs.Common.{◌≡◌, ℕ, ◌+◌, ◌<◌, ◌≤◌, nat_lt, Bool, false, eqb, cond, List, [], ◌∷◌, ◌++◌, length, Option, Some, None, refl, sym, ◌∙◌, ap, subst}
+use Rattle.std.proofs.lemmas.Bool.{ltb-false}
+use Rattle.ring_core.specs.declared.log.Ticket.{Ticket}
+use Rattle.block_store.specs.Blocks.{Blocks}
+use Rattle.unit_attention.specs.declared.code.Code.{Code}
+use Rattle.history.specs.Steps.{Step, floor}
+use Rattle.history.specs.Contents.{Opening}
+use Rattle.task_set.specs.Jobs.{PlainJob}
+use Rattle.task_set.specs.Tasks.{PlainTask, parked_of, entering, run_at_once}
+use Rattle.unit_history.specs.Calls.{Enters, entered_of}
+use Rattle.unit_history.specs.Lasts.{floor_kept}
+use Rattle.unit_history.specs.Parts.{AreKept}
+use Rattle.unit_history.specs.Unit.{PlainUnit}
+use Rattle.unit_history.specs.declared.answers.Entered.TheVariants as entered
+use Rattle.unit_history.proofs.Keeping.{CameTo, may_enter, may_full}
+use Rattle.unit_history.proofs.Handing.{parked_run, parked_blocked, parked_full, run_free, run_blocked}
+
+-- units that say the same
+pub same_unit : (o : Opening) (steps steps' : List Step) (parked parked' : List PlainJob) (keeps keeps' : Bool)
+    → steps' ≡ steps → parked' ≡ parked → keeps' ≡ keeps
+    → let u : PlainUnit = record { opening = o; steps = steps'; parked = parked'; keeps_replies = keeps' } in
+    let v : PlainUnit = record { opening = o; steps = steps; parked = parked; keeps_replies = keeps } in u ≡ v
+same_unit o steps steps' parked parked' keeps keeps' a b c = cc
+
+-- a ticket came to places that were made before
+pub came_then : (t : Ticket) (lasts made lasts' : List (Option ℕ)) → ((q : ℕ) → floor_kept made q ≡ floor_kept lasts q) → CameTo t made lasts' → CameTo t lasts lasts'
+came_then t lasts made lasts' same came q = came q ∙ ap (λ n. cond (eqb t.queue q) (t.number + 1) n) (same q)
+
+module _ {o : Opening} {past : List Step} {block_at : Blocks} {pending : List Code} {tasks : List PlainTask} {lasts : List (Option ℕ)} {room : ℕ}
+    (k : AreKept o past block_at pending tasks lasts room) where
+  pub not_stale : (t : Ticket) (b : Bool) → b ≡ nat_lt t.number (floor_kept lasts t.queue) → b ≡ false → floor t.queue past ≤ t.number
+  not_stale t b is above = subst (λ n. n ≤ t.number) (k.floors t.queue) (ltb-false t.number (floor_kept lasts t.queue) (sym is ∙ above))
+
+  -- as many tasks as there may be are alive
+  pub enters_full : (j : PlainJob) (steps' : List Step) (keeps keeps' : Bool) → length tasks ≡ 64 → floor j.entry.ticket.queue past ≤ j.entry.ticket.number
+      → steps' ≡ Step.Full j.entry.ticket ∷ past → keeps' ≡ keeps
+      → Enters (record { opening = o; steps = past; parked = parked_of tasks; keeps_replies = keeps }) j (entered.Full j)
+      (record { opening = o; steps = steps'; parked = parked_of tasks; keeps_replies = keeps' })
+  enters_full j steps' keeps keeps' full le steps kept = (
+    refl,
+    record {
+      may = may_full k j.entry.ticket full le;
+      is = same_unit o _ steps' _ _ keeps keeps' steps (parked_full past tasks j.entry.ticket) kept;
+    },
+  )
+
+  -- its task enters, and its job is handed out where nothing blocks it
+  pub enters_task : (j : PlainJob) (x : Option PlainJob) (place : ℕ) (steps' : List Step) (keeps keeps' : Bool) → length tasks < 64
+      → floor j.entry.ticket.queue past ≤ j.entry.ticket.number → x ≡ run_at_once tasks j → steps' ≡ Step.Enter j.entry ∷ past → keeps' ≡ keeps
+      → Enters (record { opening = o; steps = past; parked = parked_of tasks; keeps_replies = keeps }) j (entered_of x)
+      (record { opening = o; steps = steps'; parked = parked_of (tasks ++ entering place tasks j ∷ []); keeps_replies = keeps' })
+  enters_task j (Some now) place steps' keeps keeps' few le run steps kept =
+      let free = run_free o past block_at pending tasks lasts room j now k (sym run) in (
+        free.0,
+        free.1,
+        record {
+          may = may_enter k j.entry few le;
+          is = same_unit o _ steps' _ _ keeps keeps' steps (parked_run o past block_at pending tasks lasts room place j k free.1) kept;
+        },
+      )
+  enters_task j None place steps' keeps keeps' few le run steps kept =
+      let blocked = run_blocked o past block_at pending tasks lasts room j k (sym run) in (
+        blocked,
+        may_enter k j.entry few le,
+        same_unit o _ steps' _ _ keeps keeps' steps (parked_blocked o past block_at pending tasks lasts room place j k blocked) kept,
+      )

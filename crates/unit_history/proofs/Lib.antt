@@ -1,0 +1,9 @@
+pub mod Places
+pub mod Confirming
+pub mod KeepingSet
+pub mod Keeping
+pub mod Fitting
+pub mod Handing
+pub mod Stepping
+pub mod Entering
+pub mod Committing

@@ -1,0 +1,48 @@
+-- What a unit is once a step was taken, and which tasks can't leave.
+use Rattle.std.proofs.Common.{◌≡◌, ℕ, Bool, false, ◌||◌, List, ◌∷◌, ◌++◌, Option, Some, None, is_some, sym, ◌∙◌, ap, subst}
+use Rattle.ring_core.specs.declared.log.Ticket.{Ticket}
+use Rattle.block_store.specs.Blocks.{Blocks}
+use Rattle.unit_attention.specs.declared.code.Code.{Code}
+use Rattle.history.specs.Tasks.{task_of}
+use Rattle.history.specs.Steps.{Step, alive, done}
+use Rattle.history.specs.Contents.{Opening}
+use Rattle.history.specs.Lawful.{May}
+use Rattle.history.specs.Released.{released}
+use Rattle.task_set.specs.Jobs.{PlainJob, Jobs, but_tasks}
+use Rattle.task_set.specs.Tasks.{PlainTask, task_at}
+use Rattle.unit_history.specs.Calls.{CannotLeave}
+use Rattle.unit_history.specs.Parts.{AreKept}
+use Rattle.unit_history.specs.Unit.{PlainUnit, Steps}
+use Rattle.unit_history.proofs.Keeping.{task_at_alive, task_at_none, is_done, is_marked}
+
+abbrev pub unit_with : Opening → List Step → List PlainJob → Bool → PlainUnit
+unit_with o steps jobs keeps = record { opening = o; steps = steps; parked = jobs; keeps_replies = keeps }
+
+same_unit : (o : Opening) (steps steps' : List Step) (jobs jobs' : List PlainJob) (keeps keeps' : Bool) → steps' ≡ steps → jobs' ≡ jobs → keeps' ≡ keeps
+    → unit_with o steps' jobs' keeps' ≡ unit_with o steps jobs keeps
+same_unit o steps steps' jobs jobs' keeps keeps' a b c =
+    ap (λ w. unit_with o w jobs' keeps') a ∙ ap (λ w. unit_with o steps w keeps') b ∙ ap (λ w. unit_with o steps jobs w) c
+
+-- the unit goes on by a step that may come next
+pub steps_is : (o : Opening) (s : Step) (past steps' : List Step) (jobs jobs' : List PlainJob) (keeps keeps' : Bool)
+    → May o s past → steps' ≡ s ∷ past → jobs' ≡ but_tasks (released s past) jobs → keeps' ≡ keeps
+    → Steps (unit_with o past jobs keeps) s (unit_with o steps' jobs' keeps')
+steps_is o s past steps' jobs jobs' keeps keeps' may a b c =
+    record { may = may; is = same_unit o (s ∷ past) steps' (but_tasks (released s past) jobs) jobs' keeps keeps' a b c }
+
+-- what it hands out is behind what was there
+pub handed_is : (out out' : Jobs) (given released : List PlainJob) → out' ≡ record out { jobs = out.jobs ++ given } → given ≡ released
+    → out' ≡ record out { jobs = out.jobs ++ released }
+handed_is out out' given released h same = h ∙ ap (λ w. let now : Jobs = record out { jobs = out.jobs ++ w } in now) same
+
+module _ {o : Opening} {past : List Step} {block_at : Blocks} {pending : List Code} {tasks : List PlainTask} {lasts : List (Option ℕ)} {room : ℕ}
+    (k : AreKept o past block_at pending tasks lasts room) where
+  -- no task of the ticket is alive
+  pub cannot_none : (t : Ticket) → task_at t tasks ≡ None → CannotLeave (task_of t (alive past)) t past
+  cannot_none t at = subst (λ w. CannotLeave w t past) (sym (task_at_none k t at)) tt
+
+  -- it neither ran nor was marked
+  pub cannot_open : (t : Ticket) (x : PlainTask) → task_at t tasks ≡ Some x → (x.seen.done || is_some x.seen.mark) ≡ false → CannotLeave (task_of t (alive past)) t past
+  cannot_open t x at unended =
+      subst (λ w. CannotLeave w t past) (sym (task_at_alive k t x at).0)
+      (sym (ap (λ b. b || is_some x.seen.mark) (is_done k t x at) ∙ ap (λ b. done t past || b) (is_marked k t x at)) ∙ unended)

@@ -1,0 +1,74 @@
+use Rattle.std.proofs.Common.{ap, sym, ◌∙◌, refl}
+use Rattle.std.specs.Option.{option_copied}
+use Rattle.block_store.specs.Blocks.{block_count, nth_block}
+use Rattle.block_commands.specs.Facts.{facts_of}
+use Rattle.cdb.specs.Need.{need_of}
+use Rattle.unit_history.specs.Calls.{Asked}
+use Rattle.unit_history.specs.Performing.{told}
+use Rattle.task_set.specs.Tasks.{task_at}
+use Rattle.unit_history.proofs.Keeping.{has_room, is_ready, told_is}
+use Rattle.unit_history.proofs.Committing.{cannot_none, cannot_turn, is_of, is_aborted, keep_run, commits_run}
+use Rattle.unit_history.proofs.unit.UnitState.commit.Goals as goal
+
+pub returns-in_default-clause-step : goal.returns-in_default-clause-step
+returns-in_default-clause-step c =
+    let at = ap (λ t. task_at t c.self.inside.tasks) (sym c.ticket-ticket.ensures.entry) ∙ sym c.task.ensures ∙ ap option_copied c.in_default.is in
+    rw (← c.self.view_is) (cannot_none c.self.invariant c.args.job.now at, refl)
+
+pub record_run-requires-clause-room : goal.record_run-requires-clause-room
+record_run-requires-clause-room c =
+    has_room c.self.invariant c.ticket-ticket.result c.in-Some.task.now (sym c.task.ensures ∙ ap option_copied c.in-Some.is)
+
+pub invariant_of-self : goal.invariant_of-self
+invariant_of-self c =
+    let at = sym c.task.ensures ∙ ap option_copied c.in-Some.is in
+    let turns = c.in-Ready.ensures in
+    rw (c.record_run.ensures.tasks, c.record_run.ensures.steps, c.perform-performed.ensures.facts, c.perform-performed.ensures.size)
+    (keep_run c.self.invariant c.ticket-ticket.result c.in-Some.task.now.seen.entry c.keeps_replies.result
+    (facts_of (told c.self.inside.facts c.self.inside.attentions) (block_count c.self.inside.store)) c.perform-performed.result _ _ _
+    (is_ready c.self.invariant c.ticket-ticket.result c.in-Some.task.now at turns.1 turns.2 turns.3)
+    (told_is c.self.invariant c.self.inside.facts (block_count c.self.inside.store) refl refl refl refl)
+    c.perform-performed.ensures.performed c.record_run.ensures.room)
+
+pub returns-in-Unknown-clause-step : goal.returns-in-Unknown-clause-step
+returns-in-Unknown-clause-step c =
+    let at = ap (λ t. task_at t c.self.inside.tasks) (sym c.ticket-ticket.ensures.entry) ∙ sym c.task.ensures ∙ ap option_copied c.in-Some.is in
+    rw (← c.self.view_is) (cannot_turn c.self.invariant c.args.job.now c.in-Some.task.now at c.in-Unknown.ensures, refl)
+
+pub returns-in-Aborted-clause-step : goal.returns-in-Aborted-clause-step
+returns-in-Aborted-clause-step c =
+    let at = ap (λ t. task_at t c.self.inside.tasks) (sym c.ticket-ticket.ensures.entry) ∙ sym c.task.ensures ∙ ap option_copied c.in-Some.is in
+    let turns = c.in-Aborted.ensures in
+    rw (← c.self.view_is) (
+      c.in-Some.task.now.seen.entry,
+      is_of c.self.invariant c.args.job.now c.in-Some.task.now at turns.0,
+      is_aborted c.self.invariant c.args.job.now.entry.ticket c.in-Some.task.now c.in-Aborted.reason at turns.2,
+      refl,
+    )
+
+pub returns-in-Ready-clause-step : goal.returns-in-Ready-clause-step
+returns-in-Ready-clause-step c =
+    let at = ap (λ t. task_at t c.self.inside.tasks) (sym c.ticket-ticket.ensures.entry) ∙ sym c.task.ensures ∙ ap option_copied c.in-Some.is in
+    let turns = c.in-Ready.ensures in
+    rw (
+      ← c.self.view_is,
+      c.record_run.ensures.outcome,
+      c.record_run.ensures.tasks,
+      c.record_run.ensures.steps,
+      c.record_run.ensures.keeps,
+      c.perform-performed.ensures.facts,
+      c.perform-performed.ensures.size,
+      c.ticket-ticket.ensures.entry,
+    )
+    (commits_run c.self.invariant c.args.job.now c.in-Some.task.now.seen.entry c.self.inside.log.keeps
+    (facts_of (told c.self.inside.facts c.self.inside.attentions) (block_count c.self.inside.store)) c.perform-performed.result
+    (nth_block c.perform-performed.new.store) c.perform-performed.new.attentions
+    (is_of c.self.invariant c.args.job.now c.in-Some.task.now at turns.0)
+    (is_ready c.self.invariant c.args.job.now.entry.ticket c.in-Some.task.now at turns.1 turns.2 turns.3)
+    (told_is c.self.invariant c.self.inside.facts (block_count c.self.inside.store) refl refl refl refl)
+    (rw (← c.keeps_replies.ensures) c.perform-performed.ensures.performed))
+
+pub returns-in-Ready-clause-fits : goal.returns-in-Ready-clause-fits
+returns-in-Ready-clause-fits c =
+    let same = ap (λ (a : Asked). (need_of a.command).into) c.in-Ready.ensures.0 in
+    c.record_run.ensures.fits _ (rw (← same) c.perform-performed.ensures.fits)

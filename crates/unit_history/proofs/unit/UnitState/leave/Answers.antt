@@ -1,0 +1,44 @@
+use Rattle.std.proofs.Common.{ap, sym, ◌∙◌, arith}
+use Rattle.std.specs.Option.{option_copied}
+use Rattle.task_set.specs.Tasks.{parked_of}
+use Rattle.unit_history.proofs.Keeping.{few, has_room, may_leave, keep_leave}
+use Rattle.unit_history.proofs.Handing.{given_leave, parked_leave}
+use Rattle.unit_history.proofs.Stepping.{cannot_none, cannot_open, steps_is, handed_is}
+use Rattle.unit_history.proofs.unit.UnitState.leave.Goals as goal
+
+pub returns-in_default-clause-unknown : goal.returns-in_default-clause-unknown
+returns-in_default-clause-unknown c =
+    rw (← c.self.view_is, ← c.ticket-ticket.ensures)
+    (cannot_none c.self.invariant c.ticket-ticket.result (sym c.task.ensures ∙ ap (λ w. option_copied w) c.in_default.is))
+
+pub returns-then-not-is_ended-clause-unknown : goal.returns-then-not-is_ended-clause-unknown
+returns-then-not-is_ended-clause-unknown c =
+    rw (← c.self.view_is, ← c.ticket-ticket.ensures)
+    (cannot_open c.self.invariant c.ticket-ticket.result c.in-Some.task.now (sym c.task.ensures ∙ ap (λ w. option_copied w) c.in-Some.is) (sym c.is_ended.ensures ∙ c.if-not-is_ended.true))
+
+pub push-requires-clause-room : goal.push-requires-clause-room
+push-requires-clause-room c = has_room c.self.invariant c.ticket-ticket.result c.in-Some.task.now (sym c.task.ensures ∙ ap (λ w. option_copied w) c.in-Some.is)
+
+pub leave-requires : goal.leave-requires
+leave-requires c = let most = few c.self.invariant in let free = c.requires in omega (arith, most, free)
+
+pub invariant_of-self : goal.invariant_of-self
+invariant_of-self c =
+    rw (c.leave.ensures.tasks, c.push.ensures.steps)
+    (keep_leave c.self.invariant c.ticket-ticket.result c.in-Some.task.now _ (sym c.task.ensures ∙ ap (λ w. option_copied w) c.in-Some.is)
+    (sym c.is_ended.ensures ∙ c.if-not-is_ended.false) c.push.ensures.room)
+
+pub returns-clause-step : goal.returns-clause-step
+returns-clause-step c =
+    let t = c.ticket-ticket.result in
+    let may = may_leave c.self.invariant t c.in-Some.task.now (sym c.task.ensures ∙ ap (λ w. option_copied w) c.in-Some.is) (sym c.is_ended.ensures ∙ c.if-not-is_ended.false) in
+    rw (← c.self.view_is, ← c.ticket-ticket.ensures)
+    (steps_is _ _ _ _ _ _ _ _ may c.push.ensures.steps
+    (ap parked_of c.leave.ensures.tasks ∙ parked_leave _ _ _ _ _ _ _ t c.self.invariant may) c.push.ensures.keeps)
+
+pub returns-clause-out : goal.returns-clause-out
+returns-clause-out c =
+    let t = c.ticket-ticket.result in
+    let may = may_leave c.self.invariant t c.in-Some.task.now (sym c.task.ensures ∙ ap (λ w. option_copied w) c.in-Some.is) (sym c.is_ended.ensures ∙ c.if-not-is_ended.false) in
+    rw (← c.self.view_is, ← c.ticket-ticket.ensures)
+    (handed_is _ _ _ _ c.leave.ensures.out (given_leave _ _ _ _ _ _ _ t c.self.invariant may))

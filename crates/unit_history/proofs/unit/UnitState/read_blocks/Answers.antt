@@ -1,0 +1,16 @@
+use Rattle.std.proofs.Common.{◌+◌, ◌≤◌, ◌++◌, ap, sym, ◌∙◌, subst}
+use Rattle.block_store.specs.Blocks.{run, nth_block}
+use Rattle.block_commands.proofs.Ranges.{run-agree}
+use Rattle.history.specs.Contents.{blocks_of}
+use Rattle.unit_history.specs.Fields.{opening_of}
+use Rattle.unit_history.specs.Unit.{PlainUnit}
+use Rattle.unit_history.proofs.unit.UnitState.read_blocks.Goals as goal
+
+pub returns-clause-ok : goal.returns-clause-ok
+returns-clause-ok c =
+    let u = c.self.inside in
+    let within : c.args.first + c.args.count ≤ (opening_of u).blocks = subst (λ (v : PlainUnit). c.args.first + c.args.count ≤ v.opening.blocks) (sym c.self.view_is) c.requires in
+    rw (← c.self.view_is)
+    (c.read_blocks.ensures.bytes
+    ∙ ap (λ w. w ++ run (nth_block u.store) c.args.first c.args.count) c.reserve.ensures.items
+    ∙ ap (λ w. c.args.into.now.items ++ w) (run-agree (nth_block u.store) (blocks_of u.log.steps) c.args.first c.args.count _ within c.self.invariant.stored))

@@ -1,0 +1,83 @@
+-- What the calls of a unit answer, by cases.
+use Rattle.std.specs.Prelude.{ℕ, ◌≡◌, ◌≢◌, ◌<◌, ◌≤◌, ◌⊎◌, nat_lt, Bool, true, false, ◌||◌, ◌&&◌, List, ◌∷◌, Option, Some, None, IsTrue, ⊤}
+use Rattle.ring_core.specs.declared.log.Ticket.{Ticket}
+use Rattle.cdb.specs.declared.commands.Command.{Command}
+use Rattle.cdb.specs.Need.{need_of}
+use Rattle.decisions.specs.declared.attribute.TaskAttribute.{TaskAttribute}
+use Rattle.block_commands.specs.Facts.{Facts}
+use Rattle.block_commands.specs.Memory.{may_want}
+use Rattle.history.specs.Tasks.{Entry, task_of, is_blocked}
+use Rattle.history.specs.Steps.{Step, alive, done, floor}
+use Rattle.history.specs.Marks.{mark_of, marked}
+use Rattle.history.specs.Enabling.{enabled}
+use Rattle.history.specs.Contents.{facts_after, reply_after}
+use Rattle.history.specs.Lawful.{IsReady, May}
+use Rattle.history.specs.Receipts.{receipt_of}
+use Rattle.task_set.specs.Jobs.{PlainJob}
+use Rattle.unit_history.specs.Unit.{PlainUnit, parking, Steps}
+use Rattle.unit_history.specs.declared.answers.Entered.{Entered}
+use Rattle.unit_history.specs.declared.answers.Entered.TheVariants as entered
+use Rattle.unit_history.specs.declared.answers.Outcome.{Outcome}
+use Rattle.unit_history.specs.declared.answers.Outcome.TheVariants as outcome
+
+-- own: a task entered: its job, where that is to be committed
+abbrev pub entered_of : Option PlainJob → Entered
+entered_of (Some job) = entered.Run job
+entered_of None = entered.Parked
+
+-- the job is handed out where nothing blocks its task, and else kept; TASK SET FULL, want of memory and a ticket that
+-- isn't above the last of its queue give it back
+abbrev pub Enters : PlainUnit → PlainJob → Entered → PlainUnit → Type 0
+Enters old j (entered.Run job) new =
+    (job ≡ j) × (is_blocked j.entry (alive (Step.Enter j.entry ∷ old.steps)) ≡ false) × Steps old (Step.Enter j.entry) new
+Enters old j entered.Parked new =
+    (is_blocked j.entry (alive (Step.Enter j.entry ∷ old.steps)) ≡ true) × May old.opening (Step.Enter j.entry) old.steps
+    × (new ≡ parking j old)
+Enters old j (entered.Full job) new = (job ≡ j) × Steps old (Step.Full j.entry.ticket) new
+Enters old j (entered.Busy job) new = (job ≡ j) × (floor j.entry.ticket.queue old.steps ≤ j.entry.ticket.number) × (new ≡ old)
+Enters old j (entered.Stale job) new = (job ≡ j) × (j.entry.ticket.number < floor j.entry.ticket.queue old.steps) × (new ≡ old)
+
+-- own: what a job says of its request: all but the data that its command takes
+pub record Asked : Type 0 where
+  pub id : ℕ
+  pub attribute : TaskAttribute
+  pub command : Command
+
+abbrev pub asked_of : Entry → Asked
+asked_of e = record { id = e.id; attribute = e.attribute; command = e.command }
+
+-- own: the task is alive under the job's ticket, and entered with what the job says
+pub record IsOf (j : PlainJob) (e : Entry) (steps : List Step) : Type 0 where
+  pub is_there : task_of j.entry.ticket (alive steps) ≡ Some e
+  pub as_asked : asked_of e ≡ asked_of j.entry
+
+-- own: the task of the job's ticket, if there is one, entered with another request, is done, or was never handed out
+abbrev pub CannotCommit : Option Entry → PlainJob → List Step → Type 0
+CannotCommit None j steps = ⊤
+CannotCommit (Some e) j steps =
+    (asked_of e ≢ asked_of j.entry)
+    ⊎ ((done e.ticket steps ≡ true) ⊎ ((marked e.ticket steps ≡ false) × (enabled e steps ≡ false)))
+
+-- own: whether a command may be refused memory: its own, or that of the reply that is kept
+abbrev pub may_run_short : Bool → Facts → Command → Bool
+may_run_short keeps facts command = may_want facts command || (keeps && nat_lt 0 (need_of command).into)
+
+-- the command runs whole and its receipt has the reply; its task was marked, and nothing changes; it is refused memory,
+-- and only a Busy stands for it; or no task of the job can take the step
+abbrev pub Commits : PlainUnit → PlainJob → Outcome → PlainUnit → Type 0
+Commits old j (outcome.Reply receipt) new =
+    (e : Entry) × IsOf j e old.steps × IsReady j.entry.ticket e old.steps
+    × (receipt ≡ receipt_of old.opening old.steps j.entry.ticket (Some (reply_after old.opening e old.steps)))
+    × Steps old (Step.Commit j.entry.ticket (reply_after old.opening e old.steps)) new
+Commits old j (outcome.Aborted reason) new =
+    (e : Entry) × IsOf j e old.steps × (mark_of j.entry.ticket old.steps ≡ Some reason) × (new ≡ old)
+Commits old j outcome.Busy new =
+    (e : Entry) × IsOf j e old.steps
+    × IsTrue (may_run_short old.keeps_replies (facts_after old.opening old.steps) e.command)
+    × Steps old (Step.Busy j.entry.ticket) new
+Commits old j outcome.Unknown new = CannotCommit (task_of j.entry.ticket (alive old.steps)) j old.steps × (new ≡ old)
+
+-- own: no task of the ticket is alive, or it is neither done nor marked
+abbrev pub CannotLeave : Option Entry → Ticket → List Step → Type 0
+CannotLeave None t steps = ⊤
+CannotLeave (Some e) t steps = (done t steps || marked t steps) ≡ false

@@ -1,0 +1,22 @@
+-- How a request ends, by what its unit's calls answered.
+use Rattle.std.specs.Prelude.{ℕ, ◌≤◌, length, Option, Some, None, IfSome, ⊤}
+use Rattle.block_commands.specs.PlainReply.{PlainReply}
+use Rattle.history.specs.Endings.{Ending}
+use Rattle.unit_history.specs.declared.answers.Outcome.{Outcome}
+use Rattle.unit_history.specs.declared.answers.Outcome.TheVariants as outcome
+
+-- own: the reply, where the receipt still has it
+abbrev pub ending_of_reply : Option PlainReply → Ending
+ending_of_reply None = Ending.Lost
+ending_of_reply (Some r) = Ending.Replied r
+
+abbrev pub ending_of : Outcome → Ending
+ending_of (outcome.Reply receipt) = ending_of_reply receipt.reply
+ending_of (outcome.Aborted why) = Ending.Aborted why
+ending_of outcome.Busy = Ending.Busy
+ending_of outcome.Unknown = Ending.Lost
+
+-- own: the data of a reply are as many bytes as the command needs room for, or fewer
+abbrev pub FitsNeed : ℕ → Outcome → Type 0
+FitsNeed room (outcome.Reply receipt) = IfSome receipt.reply (λ r. length r.payload ≤ room)
+FitsNeed room other = ⊤

@@ -1,0 +1,10 @@
+pub mod Kept
+pub mod Noted
+pub mod Lasts
+pub mod Unit
+pub mod Calls
+pub mod Parts
+pub mod Turns
+pub mod Performing
+pub mod Endings
+pub mod Fields

@@ -1,0 +1,72 @@
+-- The steps as proofs see them. Only private functions and models cite this: no promise stands on it.
+use Rattle.std.specs.Prelude.{ℕ, ◌≡◌, ◌-◌, Bool, true, false, List, [], map, min, reverse, vec_capacity, vec_len, Vec, Option, Some, None, ⊤}
+use Rattle.std.specs.Option.{option_map}
+use Rattle.block_commands.specs.PlainReply.{PlainReply, plain_of}
+use Rattle.block_commands.specs.declared.reply.Reply.{Reply}
+use Rattle.history.specs.Tasks.{Entry}
+use Rattle.history.specs.Steps.{Step}
+use Rattle.unit_history.specs.declared.kind.StepKind.{StepKind}
+use Rattle.unit_history.specs.declared.noted.NotedEntry.{NotedEntry}
+use Rattle.unit_history.specs.declared.noted.NotedReply.{NotedReply}
+use Rattle.unit_history.specs.declared.noted.NotedStep.{NotedStep}
+use Rattle.unit_history.specs.declared.noted.NotedStep.TheVariants as noted
+use Rattle.unit_history.specs.Kept.{kind_of, reply_kept}
+
+abbrev pub entry_noted : NotedEntry → Entry
+entry_noted e =
+    record { ticket = e.ticket; id = e.id; attribute = e.attribute; command = e.command; data_out = e.data_out.items }
+
+abbrev pub reply_noted : NotedReply → PlainReply
+reply_noted r = record { status = r.status; sense = r.sense; payload = r.payload.items; moved = r.moved }
+
+abbrev pub step_noted : NotedStep → Step
+step_noted (noted.Enter e) = Step.Enter (entry_noted e)
+step_noted (noted.Full t) = Step.Full t
+step_noted (noted.Commit t r) = Step.Commit t (reply_noted r)
+step_noted (noted.Busy t) = Step.Busy t
+step_noted (noted.Abort rule) = Step.Abort rule
+step_noted (noted.Reset c) = Step.Reset c
+step_noted (noted.Leave t) = Step.Leave t
+
+-- the steps, the newest first
+abbrev pub steps_noted : List NotedStep → List Step
+steps_noted items = map step_noted (reverse items)
+
+-- the kinds of steps, in their order
+abbrev pub kinds_noted : List NotedStep → List StepKind
+kinds_noted items = map (λ (s : NotedStep). kind_of (step_noted s)) items
+
+-- the replies of steps by place, where replies are kept, and else none
+abbrev pub replies_noted : Bool → List NotedStep → List (Option PlainReply)
+replies_noted true items = map (λ (s : NotedStep). reply_kept true (step_noted s)) items
+replies_noted false items = []
+
+-- what is kept of the steps
+pub record AreNoted (keeps : Bool) (kinds : List StepKind) (replies : List (Option Reply)) (items : List NotedStep) : Type 0 where
+  pub kinds_are : kinds ≡ kinds_noted items
+  pub replies_are : map (option_map plain_of) replies ≡ replies_noted keeps items
+
+-- for how many more there is room in a list
+abbrev pub spare : {T Z : Type 0} → Vec T Z → ℕ
+spare v = vec_capacity v - vec_len v
+
+-- for how many more steps there is room, by that for kinds and that for replies
+abbrev pub room_left : Bool → ℕ → ℕ → ℕ
+room_left true kinds replies = min kinds replies
+room_left false kinds replies = kinds
+
+-- the reply at a place, if there is one
+abbrev pub reply_of_place : Option (Option Reply) → Option PlainReply
+reply_of_place None = None
+reply_of_place (Some r) = option_map plain_of r
+
+-- the steps, the newest first, whether replies are kept, and for how many more there is room
+pub record Logged : Type 0 where
+  pub steps : List Step
+  pub keeps : Bool
+  pub room : ℕ
+
+-- replies agree: where both are there they are one
+abbrev pub AreAlike : Option PlainReply → Option PlainReply → Type 0
+AreAlike (Some kept) (Some given) = given ≡ kept
+AreAlike kept given = ⊤

@@ -1,0 +1,68 @@
+-- What running a command leaves. Only private functions cite it: no promise stands on it.
+use Rattle.std.specs.Prelude.{ℕ, ◌≡◌, Bool, IsTrue, List, Option, Some, None, if◌then◌else◌, ⊤}
+use Rattle.std.specs.Option.{option_map}
+use Rattle.cdb.specs.declared.commands.Command.{Command}
+use Rattle.block_store.specs.Blocks.{Blocks}
+use Rattle.block_commands.specs.Attention.{takes}
+use Rattle.block_commands.specs.declared.facts.UnitFacts.{UnitFacts}
+use Rattle.unit_attention.specs.Pending.{without_first}
+use Rattle.unit_attention.specs.declared.code.Code.{Code}
+use Rattle.block_commands.specs.Effects.{block_after}
+use Rattle.block_commands.specs.Facts.{Facts}
+use Rattle.block_commands.specs.PlainReply.{PlainReply, plain_of}
+use Rattle.block_commands.specs.Replies.{reply_of}
+use Rattle.ring_core.specs.declared.log.Ticket.{Ticket}
+use Rattle.scsi_codec.specs.declared.lun.Address.{Address}
+use Rattle.history.specs.Tasks.{Entry}
+use Rattle.history.specs.Steps.{Step}
+use Rattle.unit_history.specs.declared.answers.Outcome.{Outcome}
+use Rattle.unit_history.specs.declared.answers.Outcome.TheVariants as outcome
+use Rattle.history.specs.Contents.{oldest}
+use Rattle.unit_history.specs.Calls.{may_run_short}
+use Rattle.unit_history.specs.declared.perform.Performed.{Performed}
+
+-- the facts with what is pending first
+abbrev pub told : UnitFacts → List Code → UnitFacts
+told facts pending = record facts { pending = oldest pending }
+
+-- what is pending once a command took what it takes
+abbrev pub taken : Command → List Code → List Code
+taken command pending = if takes command then without_first pending else pending
+
+-- the reply that is kept, if replies are
+abbrev pub kept_reply : Bool → PlainReply → Option PlainReply
+kept_reply keeps r = if keeps then Some r else None
+
+-- the command of a task ran: its reply, and what it leaves
+pub record Ran (keeps : Bool) (facts : Facts) (e : Entry) (p : Performed) (blocks blocks' : Blocks)
+    (pending pending' : List Code) : Type 0 where
+  pub reply : plain_of p.reply ≡ reply_of facts e.command e.data_out blocks
+  pub kept : option_map plain_of p.kept ≡ kept_reply keeps (reply_of facts e.command e.data_out blocks)
+  pub stored : (b : ℕ) → blocks' b ≡ block_after e.command e.data_out (reply_of facts e.command e.data_out blocks).status blocks b
+  pub pends : pending' ≡ taken e.command pending
+
+-- memory was refused, and nothing changed
+pub record RanShort (keeps : Bool) (facts : Facts) (e : Entry) (blocks blocks' : Blocks) (pending pending' : List Code) : Type 0 where
+  pub want : IsTrue (may_run_short keeps facts e.command)
+  pub stored : (b : ℕ) → blocks' b ≡ blocks b
+  pub pends : pending' ≡ pending
+
+abbrev pub Performs : Bool → Facts → Entry → Option Performed → Blocks → Blocks → List Code → List Code → Type 0
+Performs keeps facts e (Some p) blocks blocks' pending pending' = Ran keeps facts e p blocks blocks' pending pending'
+Performs keeps facts e None blocks blocks' pending pending' = RanShort keeps facts e blocks blocks' pending pending'
+
+-- the replies of what ran agree
+abbrev pub IsKeptReply : Bool → Option Performed → Type 0
+IsKeptReply keeps None = ⊤
+IsKeptReply keeps (Some p) = option_map plain_of p.kept ≡ kept_reply keeps (plain_of p.reply)
+
+-- the step that stands for it
+abbrev pub step_for : Ticket → Option Performed → Step
+step_for t None = Step.Busy t
+step_for t (Some p) = Step.Commit t (plain_of p.reply)
+
+-- what is answered for it
+abbrev pub outcome_for : Address → ℕ → Ticket → Option Performed → Outcome
+outcome_for unit place t None = outcome.Busy
+outcome_for unit place t (Some p) =
+    outcome.Reply (record { unit = unit; place = place; ticket = t; reply = Some (plain_of p.reply) })

@@ -1,0 +1,16 @@
+//! The history of a logical unit with what follows from it: its blocks, what it has pending, and its task set.
+#![tactic(auto)]
+
+mod answers;
+mod kind;
+mod lasts;
+mod log;
+mod noted;
+mod perform;
+mod turn;
+mod unit;
+
+pub use answers::{Entered, Outcome, Receipt, Unknown};
+pub use kind::StepKind;
+pub use task_set::{Arrival, Job, JobList};
+pub use unit::{Place, UnitState};

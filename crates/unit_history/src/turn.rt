@@ -1,0 +1,64 @@
+//! What a task that was found may do.
+
+ghost use Rattle.std.specs.Prelude.{◌≡◌, ◌≢◌, ◌||◌, is_some, IsTrue, IsFalse};
+ghost use Rattle.unit_history.specs.Calls.{asked_of};
+ghost use Rattle.unit_history.specs.Turns.{Turns};
+
+use cdb::Command;
+use history::Reason;
+use task_set::{Job, Task};
+
+/// What a task may do for a job.
+#[derive(Drop)]
+pub(crate) enum Turn {
+    /// Nothing: it is another's, it did already, or it was never handed out.
+    Unknown,
+    /// It was marked, and ends so.
+    Aborted(Reason),
+    /// It runs.
+    Ready,
+}
+
+/// Whether two commands are one.
+fn is_same(command: Command, other: Command) -> bool
+    ensures yes { IsTrue result → command ≡ other }
+    ensures no { IsFalse result → command ≢ other }
+{
+    command == other
+}
+
+/// Whether the task entered with what the job says.
+fn is_as_asked(task: &Task, job: &Job) -> bool
+    ensures yes { IsTrue result → asked_of task.now.seen.entry ≡ asked_of job.now.entry }
+    ensures no { IsFalse result → asked_of task.now.seen.entry ≢ asked_of job.now.entry }
+{
+    task.id() == job.id()
+        && task.attribute() == job.attribute()
+        && is_same(task.command(), job.command())
+}
+
+/// What the task may do for the job of its ticket.
+pub(crate) fn turn_of(task: &Task, job: &Job) -> Turn
+    ensures { Turns task.now.seen job.now result }
+{
+    if !is_as_asked(task, job) || task.is_done() {
+        return Turn::Unknown;
+    }
+    match task.mark() {
+        Some(reason) => Turn::Aborted(reason),
+        None => {
+            if task.is_enabled() {
+                Turn::Ready
+            } else {
+                Turn::Unknown
+            }
+        }
+    }
+}
+
+/// Whether the task may leave: its command ran or was answered BUSY, or it was marked.
+pub(crate) fn is_ended(task: &Task) -> bool
+    ensures { result ≡ (task.now.seen.done || is_some task.now.seen.mark) }
+{
+    task.is_done() || task.mark().is_some()
+}

@@ -1,0 +1,350 @@
+//! A logical unit.
+
+ghost use Rattle.std.specs.Prelude.{◌≡◌, ◌+◌, ◌<◌, ◌≤◌, ◌∷◌, ℕ, length, map, IfSome};
+ghost use Rattle.cdb.specs.Need.{need_of};
+ghost use Rattle.unit_history.specs.Endings.{FitsNeed};
+ghost use Rattle.history.specs.Seen.{finished};
+ghost use Rattle.task_set.specs.Tasks.{moved};
+ghost use Rattle.unit_history.specs.Performing.{IsKeptReply, step_for, outcome_for};
+
+use crate::answers::{Entered, Outcome, Receipt, Unknown};
+use crate::kind::StepKind;
+use crate::lasts::Lasts;
+use crate::log::StepLog;
+use crate::noted::{NotedEntry, NotedReply, NotedStep};
+use crate::perform::{Performed, attentions_at_start, perform};
+use crate::turn::{Turn, is_ended, turn_of};
+use block_commands::UnitFacts;
+use block_store::{FlatStore, NoMemory, Store};
+use decisions::UnitSpec;
+use history::{Reason, Rule};
+use ring_core::{Answered, Ticket};
+use scsi_codec::Address;
+use std::alloc::Global;
+use std::marker::Model;
+use task_set::{Arrival, Full, Job, JobList, TaskSet};
+use unit_attention::{Attentions, Code};
+
+/// How many steps stand before a step of a unit's history.
+pub type Place = u64;
+
+/// For how many steps room is made before one is taken: two for each of 64 tasks that are alive, this one,
+/// and two more for the task that it may bring.
+const STEPS_AHEAD: usize = 131;
+
+/// A logical unit: its history, which proofs alone see whole, and what follows from it.
+#[derive(Drop)]
+pub struct UnitState {
+    alloc: Global,
+    // What is pending is set before each command.
+    facts: UnitFacts,
+    calm: bool,
+    attentions: Attentions,
+    store: FlatStore,
+    tasks: TaskSet,
+    log: StepLog,
+    lasts: Lasts,
+}
+
+impl Model for UnitState {
+    ghost use Rattle.unit_history.specs.Unit.{PlainUnit};
+
+    ghost Value = { PlainUnit };
+
+    ghost use Rattle.unit_history.specs.Fields.{unit_of, IsTold};
+
+    ghost view = { unit_of };
+
+    ghost invariant = { IsTold };
+}
+
+/// Records what became of a command that was to run.
+fn record_run(
+    log: &mut StepLog,
+    tasks: &mut TaskSet,
+    unit: Address,
+    ticket: Ticket,
+    performed: Option<Performed>,
+) -> Outcome
+    requires room { 0 < log.old.room }
+    requires kept { IsKeptReply log.old.keeps performed }
+    ensures outcome { result ≡ outcome_for unit (length log.old.steps) ticket performed }
+    ensures steps { log.new.steps ≡ step_for ticket performed ∷ log.old.steps }
+    ensures keeps { log.new.keeps ≡ log.old.keeps }
+    ensures room { log.old.room ≤ log.new.room + 1 }
+    ensures tasks { tasks.new ≡ map (moved (finished ticket)) tasks.old }
+    ensures fits { (room : ℕ) → IfSome performed (λ p. length p.reply.payload.items ≤ room) → FitsNeed room result }
+{
+    let place = log.len();
+    tasks.finish(ticket);
+    match performed {
+        None => {
+            log.push(NotedStep::Busy(ticket), None);
+            Outcome::Busy
+        }
+        Some(Performed { reply, kept }) => {
+            log.push(NotedStep::Commit(ticket, NotedReply::of(&reply)), kept);
+            Outcome::Reply(Receipt::new(unit, place, ticket, reply))
+        }
+    }
+}
+
+impl UnitState {
+    ghost use Rattle.std.specs.Prelude.{◌≡◌, ◌+◌, ◌<◌, ◌≤◌, ◌++◌, length, IfOk, OnOk, OnErr, IsTrue, ◌↔◌};
+    ghost use Rattle.std.specs.Option.{option_map};
+    ghost use Rattle.block_store.specs.Blocks.{run};
+    ghost use Rattle.unit_attention.specs.Code.{IsKnown};
+    ghost use Rattle.history.specs.Tasks.{task_of};
+    ghost use Rattle.history.specs.Steps.{Step, alive};
+    ghost use Rattle.history.specs.Seen.{any_met};
+    ghost use Rattle.history.specs.Clearing.{is_clear};
+    ghost use Rattle.history.specs.Contents.{blocks_of, capacity_of};
+    ghost use Rattle.history.specs.Receipts.{step_at, IsConfirmed};
+    ghost use Rattle.history.specs.Released.{released};
+    ghost use Rattle.task_set.specs.Jobs.{of_tasks};
+    ghost use Rattle.unit_history.specs.Kept.{kind_of};
+    ghost use Rattle.unit_history.specs.Unit.{opening_unit, handing, tasks_of_jobs, Steps, IsUnit};
+    ghost use Rattle.unit_history.specs.Calls.{Enters, Commits, CannotLeave};
+
+    /// A unit as it is specified, with the LUNs of its target by rising number, of which no step was taken. Whoever
+    /// sets the device up calls it, and says whether the replies of its Commits are kept, for receipts to be compared
+    /// with. `NoMemory` where its blocks or the LUNs were refused memory.
+    pub fn new(
+        alloc: Global,
+        spec: &UnitSpec,
+        luns: &[u16],
+        keeps_replies: bool,
+    ) -> Result<UnitState, NoMemory>
+        requires { length luns.now ≤ 16384 }
+        ensures { IfOk result (λ unit. unit ≡ opening_unit (record {
+          target = spec.now.target;
+          lun = spec.now.lun;
+          luns = luns.now;
+          blocks = spec.now.blocks;
+          calm = spec.now.calm;
+        }) keeps_replies) }
+    {
+        let luns = Vec::from_slice(alloc, luns)?;
+        let store = FlatStore::new(alloc, spec.blocks)?;
+        Ok(UnitState {
+            alloc,
+            facts: UnitFacts {
+                target: spec.target,
+                lun: spec.lun,
+                luns,
+                pending: None,
+            },
+            calm: spec.calm,
+            attentions: attentions_at_start(spec.calm),
+            store,
+            tasks: TaskSet::new(),
+            log: StepLog::new(alloc, keeps_replies),
+            lasts: Lasts::new(alloc),
+        })
+    }
+
+    /// What every unit is between calls.
+    pub fn stands(&self)
+        ensures { IsUnit self.now }
+    {
+        let _ = &self.alloc;
+    }
+
+    /// Takes a request in, in the hold of the unit's lock. Tested first to last: `Stale`; `Busy`, where room for its
+    /// steps was refused; `Full`. After the first two nothing is changed.
+    pub fn enter(&mut self, arrival: Arrival) -> Entered
+        ensures { Enters self.old arrival result self.new }
+    {
+        let ticket = arrival.ticket();
+        if self.lasts.is_stale(ticket) {
+            return Entered::Stale(arrival.into_job());
+        }
+        let Ok(()) = self.lasts.reserve(ticket.queue) else {
+            return Entered::Busy(arrival.into_job());
+        };
+        let Ok(()) = self.log.reserve(STEPS_AHEAD) else {
+            return Entered::Busy(arrival.into_job());
+        };
+        let place = self.log.len();
+        let entered = NotedEntry::of(&arrival);
+        self.lasts.came(ticket);
+        match self.tasks.enter(arrival, place) {
+            Err(Full(job)) => {
+                self.log.push(NotedStep::Full(ticket), None);
+                Entered::Full(job)
+            }
+            Ok(job) => {
+                self.log.push(NotedStep::Enter(entered), None);
+                Entered::of(job)
+            }
+        }
+    }
+
+    /// Runs the command of a job's task whole, in one hold of the unit's lock. Tested first to last: `Unknown`; the
+    /// mark, which answers `Aborted`; `Busy`, where memory was refused to the command itself or, where replies are
+    /// kept, to the copy of its reply.
+    pub fn commit(&mut self, job: &Job) -> Outcome
+        ensures step { Commits self.old job.now result self.new }
+        ensures fits { FitsNeed (need_of job.now.entry.command).into result }
+    {
+        let ticket = job.ticket();
+        let Some(task) = self.tasks.task(ticket) else {
+            return Outcome::Unknown;
+        };
+        match turn_of(task, job) {
+            Turn::Unknown => Outcome::Unknown,
+            Turn::Aborted(reason) => Outcome::Aborted(reason),
+            Turn::Ready => {
+                let performed = perform(
+                    self.alloc,
+                    &mut self.facts,
+                    &mut self.attentions,
+                    &mut self.store,
+                    task,
+                    self.log.keeps_replies(),
+                );
+                let unit = Address {
+                    target: self.facts.target,
+                    lun: self.facts.lun,
+                };
+                record_run(&mut self.log, &mut self.tasks, unit, ticket, performed)
+            }
+        }
+    }
+
+    /// Marks each task that the rule meets and that neither ran nor was answered BUSY, and hands out those of them
+    /// that were parked, which then end as aborted. Answers the place of the Abort. The list has 64 places free, which
+    /// the caller sees to. After `NoMemory` all is as before.
+    pub fn abort(&mut self, rule: Rule, out: &mut JobList) -> Result<Place, NoMemory>
+        requires { length out.old.jobs + 64 ≤ out.old.limit }
+        ensures step { OnOk result (Steps self.old (Step.Abort rule) self.new) }
+        ensures place { IfOk result (λ place. place ≡ length self.old.steps) }
+        ensures out { OnOk result (out.new ≡ handing (Step.Abort rule) self.old out.old) }
+        ensures err { OnErr result ((self.new ≡ self.old) × (out.new ≡ out.old)) }
+    {
+        self.log.reserve(STEPS_AHEAD)?;
+        let place = self.log.len();
+        self.log.push(NotedStep::Abort(rule), None);
+        self.tasks.mark(rule, Reason::Aborted, out);
+        Ok(place)
+    }
+
+    /// Resets the unit: marks as `abort` does of all tasks, with the reason of a reset, and raises the code, which is
+    /// one of the constants of [`Code`].
+    pub fn reset(&mut self, code: Code, out: &mut JobList) -> Result<Place, NoMemory>
+        requires known { IsKnown code }
+        requires room { length out.old.jobs + 64 ≤ out.old.limit }
+        ensures step { OnOk result (Steps self.old (Step.Reset code) self.new) }
+        ensures place { IfOk result (λ place. place ≡ length self.old.steps) }
+        ensures out { OnOk result (out.new ≡ handing (Step.Reset code) self.old out.old) }
+        ensures err { OnErr result ((self.new ≡ self.old) × (out.new ≡ out.old)) }
+    {
+        self.log.reserve(STEPS_AHEAD)?;
+        let place = self.log.len();
+        self.log.push(NotedStep::Reset(code), None);
+        self.attentions.raise(code);
+        self.tasks.mark(Rule::All, Reason::Reset, out);
+        Ok(place)
+    }
+
+    /// The task of a chain that was completed leaves, and what it alone blocked is handed out. It takes no memory. The
+    /// list has 64 places free, which the caller sees to. `Unknown`, with nothing changed, where no task of the ticket
+    /// is alive, or it neither ran, nor was answered BUSY, nor was marked.
+    pub fn leave(&mut self, answered: Answered, out: &mut JobList) -> Result<(), Unknown>
+        requires { length out.old.jobs + 64 ≤ out.old.limit }
+        ensures step { OnOk result (Steps self.old (Step.Leave answered) self.new) }
+        ensures out { OnOk result (out.new ≡ handing (Step.Leave answered) self.old out.old) }
+        ensures err { OnErr result ((self.new ≡ self.old) × (out.new ≡ out.old)) }
+        ensures unknown { OnErr result (CannotLeave (task_of answered (alive self.old.steps)) answered self.old.steps) }
+    {
+        let ticket = answered.ticket();
+        let Some(task) = self.tasks.task(ticket) else {
+            return Err(Unknown);
+        };
+        if !is_ended(task) {
+            return Err(Unknown);
+        }
+        self.log.push(NotedStep::Leave(ticket), None);
+        self.tasks.leave(ticket, out);
+        Ok(())
+    }
+
+    /// Whether all tasks that were alive at the step of this place and met by it, done or not, have left. A step that is
+    /// no Abort and no Reset met none. It takes no memory.
+    pub fn clear_of(&self, place: Place) -> bool
+        ensures { result ≡ is_clear place self.now.steps }
+    {
+        match self.log.rule_at(place) {
+            Some(rule) => !self.tasks.is_met_before(place, rule),
+            None => true,
+        }
+    }
+
+    /// Whether the Commit of a receipt stands at its place in this unit's history, with its reply where both have
+    /// one. It takes no memory.
+    pub fn confirm(&self, receipt: &Receipt) -> bool
+        ensures { IsTrue result ↔ IsConfirmed self.now.opening self.now.keeps_replies self.now.steps receipt.now }
+    {
+        let unit = receipt.unit();
+        unit.target == self.facts.target
+            && unit.lun == self.facts.lun
+            && self
+                .log
+                .has_commit(receipt.place(), receipt.ticket(), receipt.reply())
+    }
+
+    /// Whether a task that the rule meets is alive. It takes no memory.
+    pub fn is_alive(&self, rule: Rule) -> bool
+        ensures { result ≡ any_met rule (alive self.now.steps) }
+    {
+        self.tasks.is_met(rule)
+    }
+
+    /// How many steps its history has.
+    pub fn steps(&self) -> u64
+        ensures { result ≡ length self.now.steps }
+    {
+        self.log.len()
+    }
+
+    /// What the step at a place is; `None` where there is none yet.
+    pub fn step(&self, place: Place) -> Option<StepKind>
+        ensures { result ≡ option_map kind_of (step_at place self.now.steps) }
+    {
+        self.log.kind_at(place)
+    }
+
+    /// Its target, 0 to 255.
+    pub fn target(&self) -> u8
+        ensures { result ≡ self.now.opening.target }
+    {
+        self.facts.target
+    }
+
+    /// Its LUN, 0 to 16,383.
+    pub fn lun(&self) -> u16
+        ensures { result ≡ self.now.opening.lun }
+    {
+        self.facts.lun
+    }
+
+    /// Its capacity in blocks of 512 bytes.
+    pub fn capacity(&self) -> u64
+        ensures { result ≡ capacity_of self.now.opening self.now.steps }
+    {
+        self.store.capacity()
+    }
+
+    /// Appends the bytes of `count` blocks from `first` on, as its commands left them; `NoMemory`
+    /// with the list as it was where that can't grow.
+    pub fn read_blocks(&self, first: u64, count: u32, into: &mut Vec<u8>) -> Result<(), NoMemory>
+        requires { first + count ≤ capacity_of self.now.opening self.now.steps }
+        ensures ok { OnOk result (into.new.items ≡ into.old.items ++ run (blocks_of self.now.steps) first count) }
+        ensures err { OnErr result (into.new.items ≡ into.old.items) }
+        ensures want { OnErr result (0 < count) }
+    {
+        into.reserve(512 * count as usize)?;
+        self.store.read_blocks(first, count, into);
+        Ok(())
+    }
+}

@@ -1,0 +1,110 @@
+//! Which receipts a unit confirms.
+
+use super::acts::{Act, Comes, DATA, Ends, OTHER, READ, Row, SIMPLE, Sent, WRITE};
+
+/// The numbers of the chains.
+const A: u64 = 0;
+
+const B: u64 = 1;
+
+/// A chain of the other queue with the first ticket.
+const OTHER_A: u64 = OTHER;
+
+/// To unit 0:1, over the other queue.
+const TO_SECOND: Sent = Sent {
+    unit: 1,
+    to_other: true,
+    ..SIMPLE
+};
+
+/// To the unit that has the address of the first, and POWER ON, RESET, OR BUS DEVICE RESET OCCURRED pending.
+const TO_TWIN: Sent = Sent {
+    unit: 2,
+    ..TO_SECOND
+};
+
+const WRITES: Sent = Sent {
+    asked: WRITE,
+    ..SIMPLE
+};
+
+const READS: Sent = Sent {
+    asked: READ,
+    ..SIMPLE
+};
+
+pub static ROWS: [Row; 5] = [
+    Row {
+        shows: "a receipt is of its address",
+        keeps_replies: false,
+        acts: &[
+            Act::Enter(A, SIMPLE, Comes::Run),
+            Act::CommitAt(0, A, Ends::Good(0)),
+            Act::Enter(OTHER_A, TO_SECOND, Comes::Run),
+            Act::CommitAt(1, OTHER_A, Ends::Good(0)),
+            Act::Confirms(0, 0, true),
+            Act::Confirms(1, 0, false),
+            Act::Confirms(0, 1, false),
+            Act::Confirms(1, 1, true),
+        ],
+    },
+    Row {
+        shows: "a receipt is of its place and its ticket",
+        keeps_replies: true,
+        acts: &[
+            Act::Enter(A, SIMPLE, Comes::Run),
+            Act::Enter(B, SIMPLE, Comes::Run),
+            Act::CommitAt(0, A, Ends::Good(0)),
+            Act::Enter(OTHER_A, TO_TWIN, Comes::Run),
+            Act::CommitAt(2, OTHER_A, Ends::Sense(0x06, 0x29, 0x00)),
+            Act::Confirms(0, 0, true),
+            Act::Confirms(2, 0, false),
+            Act::Confirms(2, 1, true),
+            Act::Confirms(0, 1, false),
+            Act::TakeReply(1),
+            Act::Confirms(0, 1, false),
+            Act::Confirms(2, 1, true),
+        ],
+    },
+    Row {
+        shows: "replies that are kept",
+        keeps_replies: true,
+        acts: &[
+            Act::Enter(A, WRITES, Comes::Run),
+            Act::CommitAt(0, A, Ends::Good(0)),
+            Act::Enter(B, READS, Comes::Run),
+            Act::CommitAt(0, B, Ends::Good(512)),
+            Act::Data(1, DATA),
+            Act::Confirms(0, 1, true),
+            Act::TakeReply(1),
+            Act::Confirms(0, 1, true),
+            Act::Confirms(0, 0, true),
+        ],
+    },
+    Row {
+        shows: "replies that aren't kept",
+        keeps_replies: false,
+        acts: &[
+            Act::Enter(A, READS, Comes::Run),
+            Act::CommitAt(0, A, Ends::Good(512)),
+            Act::Data(0, 0),
+            Act::Confirms(0, 0, true),
+            Act::TakeReply(0),
+            Act::Confirms(0, 0, true),
+        ],
+    },
+    Row {
+        shows: "another reply is confirmed only where none is kept, or none is given",
+        keeps_replies: true,
+        acts: &[
+            Act::Enter(A, SIMPLE, Comes::Run),
+            Act::CommitAt(0, A, Ends::Good(0)),
+            Act::Enter(OTHER_A, TO_TWIN, Comes::Run),
+            Act::CommitAt(2, OTHER_A, Ends::Sense(0x06, 0x29, 0x00)),
+            Act::Confirms(0, 0, true),
+            Act::Confirms(0, 1, false),
+            Act::TakeReply(1),
+            Act::Confirms(0, 1, true),
+        ],
+    },
+];
