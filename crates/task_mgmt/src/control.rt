@@ -130,7 +130,8 @@ fn decide(inventory: &Inventory, control: &Control, writable: u64) -> ControlDec
 }
 
 /// What is decided of a chain of the control queue, by its readable bytes, how many can be written, and the
-/// inventory of units: an answer, or a function that begins. Whoever fetched the chain calls it once, while no function is open. It takes no memory.
+/// inventory of units: an answer, or a function that begins. Whoever fetched the chain calls it once, while no
+/// function is open. It takes no memory.
 pub fn decide_control(inventory: &Inventory, bytes: &[u8], writable: u64) -> ControlDecision
     ensures decision { Decides inventory.now bytes.now writable result }
     ensures suits { Suits (length inventory.now) writable result }

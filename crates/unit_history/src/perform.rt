@@ -99,8 +99,8 @@ pub(crate) fn perform<S: Store>(
     task: &Task,
     keeps_replies: bool,
 ) -> Option<Performed>
-    ensures performed { Performs keeps_replies (facts_of (told facts.old attentions.old) (S.size store.old)) task.now.seen.entry
-        result (S.block_at store.old) (S.block_at store.new) attentions.old attentions.new }
+    ensures performed { Performs keeps_replies (facts_of (told facts.old attentions.old) (S.size store.old))
+        task.now.seen.entry result (S.block_at store.old) (S.block_at store.new) attentions.old attentions.new }
     ensures facts { facts.new ≡ told facts.old attentions.old }
     ensures size { S.size store.new ≡ S.size store.old }
     ensures fits { IfSome result (λ p. length p.reply.payload.items ≤ (need_of task.now.seen.entry.command).into) }

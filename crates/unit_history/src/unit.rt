@@ -250,6 +250,8 @@ impl UnitState {
     /// The task of a chain that was completed leaves, and what it alone blocked is handed out. It takes no memory. The
     /// list has 64 places free, which the caller sees to. `Unknown`, with nothing changed, where no task of the ticket
     /// is alive, or it neither ran, nor was answered BUSY, nor was marked.
+    // Apart, so that the registers of whoever serves the request aren't spilled for it.
+    #[inline(never)]
     pub fn leave(&mut self, answered: Answered, out: &mut JobList) -> Result<(), Unknown>
         requires { length out.old.jobs + 64 ≤ out.old.limit }
         ensures step { OnOk result (Steps self.old (Step.Leave answered) self.new) }

@@ -79,7 +79,12 @@ impl Model for World {
 
     ghost Value = { PlainWorld };
 
-    ghost view = { λ w. record { memory = w.memory; inventory = w.inventory; queues = w.queues.items; units = w.units.items } };
+    ghost view = { λ w. record {
+      memory = w.memory;
+      inventory = w.inventory;
+      queues = w.queues.items;
+      units = w.units.items;
+    } };
 
     ghost invariant = { λ w.
         AreKept w.queues.items (length w.memory)

@@ -41,17 +41,21 @@ pub fn either_may_be_first()
 /// that it would have written is zeros (SAM-5 §7.2).
 pub fn abort_of_a_parked_task()
     ensures marked { (bytes : List ℕ) → mark_of (nth 1) (Step.Abort (Id 7) ∷ parked_write bytes) ≡ Some Aborted }
-    ensures handed_out { (bytes : List ℕ) → newly_marked (Step.Abort (Id 7)) (parked_write bytes) ≡ write_of_3 1 bytes ∷ [] }
+    ensures handed_out { (bytes : List ℕ) →
+        newly_marked (Step.Abort (Id 7)) (parked_write bytes) ≡ write_of_3 1 bytes ∷ [] }
     ensures not_met { (bytes : List ℕ) → mark_of (nth 0) (Step.Abort (Id 7) ∷ parked_write bytes) ≡ None }
     ensures unwritten { (bytes : List ℕ) → blocks_of (Step.Abort (Id 7) ∷ parked_write bytes) 3 ≡ zero_block }
-    ensures lawful { (bytes : List ℕ) → IsLawful calm_unit (leaves 0 ∷ runs 0 ∷ leaves 1 ∷ Step.Abort (Id 7) ∷ parked_write bytes) }
+    ensures lawful { (bytes : List ℕ) →
+        IsLawful calm_unit (leaves 0 ∷ runs 0 ∷ leaves 1 ∷ Step.Abort (Id 7) ∷ parked_write bytes) }
 {}
 
 /// An abort of a task that was handed out and has not run marks it, and hands out none; it waits for it.
 pub fn abort_of_a_taken_task()
     ensures marked { (bytes : List ℕ) → mark_of (nth 1) (Step.Abort (Id 7) ∷ taken_write bytes) ≡ Some Aborted }
-    ensures first_reason { (bytes : List ℕ) → mark_of (nth 1) (Step.Abort (Id 7) ∷ Step.Reset (code 0x29 0x03) ∷ taken_write bytes) ≡ Some Reset }
-    ensures never_runs { (bytes : List ℕ) (r : PlainReply) → May calm_unit (Step.Commit (nth 1) r) (Step.Abort (Id 7) ∷ taken_write bytes) → ⊥ }
+    ensures first_reason { (bytes : List ℕ) →
+        mark_of (nth 1) (Step.Abort (Id 7) ∷ Step.Reset (code 0x29 0x03) ∷ taken_write bytes) ≡ Some Reset }
+    ensures never_runs { (bytes : List ℕ) (r : PlainReply) →
+        May calm_unit (Step.Commit (nth 1) r) (Step.Abort (Id 7) ∷ taken_write bytes) → ⊥ }
     ensures none_handed_out { (bytes : List ℕ) → newly_marked (Step.Abort (Id 7)) (taken_write bytes) ≡ [] }
     ensures unwritten { (bytes : List ℕ) → blocks_of (Step.Abort (Id 7) ∷ taken_write bytes) 3 ≡ zero_block }
     ensures waits { (bytes : List ℕ) → is_clear 1 (Step.Abort (Id 7) ∷ taken_write bytes) ≡ false }
@@ -62,7 +66,8 @@ pub fn abort_of_a_taken_task()
 pub fn abort_of_a_committed_task()
     ensures unmarked { (bytes : List ℕ) → mark_of (nth 1) (Step.Abort (Id 7) ∷ committed_write bytes) ≡ None }
     ensures lawful { (bytes : List ℕ) → IsLawful calm_unit (leaves 1 ∷ Step.Abort (Id 7) ∷ committed_write bytes) }
-    ensures written { (bytes : List ℕ) → length bytes ≡ 512 → blocks_of (Step.Abort (Id 7) ∷ committed_write bytes) 3 ≡ bytes }
+    ensures written { (bytes : List ℕ) → length bytes ≡ 512 →
+        blocks_of (Step.Abort (Id 7) ∷ committed_write bytes) 3 ≡ bytes }
     ensures waits { (bytes : List ℕ) → is_clear 2 (Step.Abort (Id 7) ∷ committed_write bytes) ≡ false }
     ensures goes_on { (bytes : List ℕ) → is_clear 2 (leaves 1 ∷ Step.Abort (Id 7) ∷ committed_write bytes) ≡ true }
 {}

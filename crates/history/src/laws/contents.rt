@@ -19,22 +19,28 @@ pub fn commits_alone_change_blocks()
     ensures refused { (t : Ticket) (r : PlainReply) (past : List Step) (b : ℕ) → r.status ≢ good →
         blocks_of (Step.Commit t r ∷ past) b ≡ blocks_of past b }
     ensures busy { (t : Ticket) (past : List Step) (b : ℕ) → blocks_of (Step.Busy t ∷ past) b ≡ blocks_of past b }
-    ensures abort { (rule : ARule) (past : List Step) (b : ℕ) → blocks_of (Step.Abort rule ∷ past) b ≡ blocks_of past b }
+    ensures abort { (rule : ARule) (past : List Step) (b : ℕ) →
+        blocks_of (Step.Abort rule ∷ past) b ≡ blocks_of past b }
     ensures reset { (c : Code) (past : List Step) (b : ℕ) → blocks_of (Step.Reset c ∷ past) b ≡ blocks_of past b }
     ensures leave { (t : Ticket) (past : List Step) (b : ℕ) → blocks_of (Step.Leave t ∷ past) b ≡ blocks_of past b }
 {}
 
 /// A Commit of a taking command takes the oldest code, and that of another, as INQUIRY, leaves all.
 pub fn attention_is_taken_by_its_taker()
-    ensures taken { (o : Opening) (t : Ticket) (r : PlainReply) (e : Entry) (past : List Step) → task_of t (alive past) ≡ Some e →
+    ensures taken { (o : Opening) (t : Ticket) (r : PlainReply) (e : Entry) (past : List Step) →
+        task_of t (alive past) ≡ Some e →
         takes e.command ≡ true → pending_of o (Step.Commit t r ∷ past) ≡ without_first (pending_of o past) }
-    ensures left { (o : Opening) (t : Ticket) (r : PlainReply) (e : Entry) (past : List Step) → task_of t (alive past) ≡ Some e →
+    ensures left { (o : Opening) (t : Ticket) (r : PlainReply) (e : Entry) (past : List Step) →
+        task_of t (alive past) ≡ Some e →
         takes e.command ≡ false → pending_of o (Step.Commit t r ∷ past) ≡ pending_of o past }
-    ensures busy { (o : Opening) (t : Ticket) (past : List Step) → pending_of o (Step.Busy t ∷ past) ≡ pending_of o past }
+    ensures busy { (o : Opening) (t : Ticket) (past : List Step) →
+        pending_of o (Step.Busy t ∷ past) ≡ pending_of o past }
 {}
 
 /// A Reset raises its code, and an Abort raises none.
 pub fn resets_raise()
-    ensures reset { (o : Opening) (c : Code) (past : List Step) → pending_of o (Step.Reset c ∷ past) ≡ raised (pending_of o past) c }
-    ensures abort { (o : Opening) (rule : ARule) (past : List Step) → pending_of o (Step.Abort rule ∷ past) ≡ pending_of o past }
+    ensures reset { (o : Opening) (c : Code) (past : List Step) →
+        pending_of o (Step.Reset c ∷ past) ≡ raised (pending_of o past) c }
+    ensures abort { (o : Opening) (rule : ARule) (past : List Step) →
+        pending_of o (Step.Abort rule ∷ past) ≡ pending_of o past }
 {}

@@ -41,7 +41,10 @@ pub fn marks_hand_out_what_was_parked()
 
 /// The other steps hand out none and park none.
 pub fn other_steps_hand_out_nothing()
-    ensures commit { (p : Ticket → ℕ) (t : Ticket) (r : PlainReply) (past : List Step) → parked_worth p (Step.Commit t r ∷ past) ≡ parked_worth p past }
-    ensures busy { (p : Ticket → ℕ) (t : Ticket) (past : List Step) → parked_worth p (Step.Busy t ∷ past) ≡ parked_worth p past }
-    ensures full { (p : Ticket → ℕ) (t : Ticket) (past : List Step) → parked_worth p (Step.Full t ∷ past) ≡ parked_worth p past }
+    ensures commit { (p : Ticket → ℕ) (t : Ticket) (r : PlainReply) (past : List Step) →
+        parked_worth p (Step.Commit t r ∷ past) ≡ parked_worth p past }
+    ensures busy { (p : Ticket → ℕ) (t : Ticket) (past : List Step) →
+        parked_worth p (Step.Busy t ∷ past) ≡ parked_worth p past }
+    ensures full { (p : Ticket → ℕ) (t : Ticket) (past : List Step) →
+        parked_worth p (Step.Full t ∷ past) ≡ parked_worth p past }
 {}

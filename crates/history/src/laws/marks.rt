@@ -22,7 +22,8 @@ pub fn marked_commands_never_run()
 
 /// The reason of a task's first mark stays.
 pub fn first_mark_stays()
-    ensures { (t : Ticket) (r : AReason) (later past : List Step) → mark_of t past ≡ Some r → mark_of t (later ++ past) ≡ Some r }
+    ensures { (t : Ticket) (r : AReason) (later past : List Step) → mark_of t past ≡ Some r →
+        mark_of t (later ++ past) ≡ Some r }
 {}
 
 /// A place is clear exactly where each task that its step met has left.

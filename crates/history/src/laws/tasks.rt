@@ -19,16 +19,22 @@ pub fn alive_tasks_are_distinct()
 
 /// A ticket enters once, its command runs once, and what has left isn't alive.
 pub fn each_happens_once()
-    ensures enters { (o : Opening) (e : Entry) (past : List Step) → IsLawful o (Step.Enter e ∷ past) → has_entered e.ticket past ≡ false }
-    ensures runs { (o : Opening) (t : Ticket) (r : PlainReply) (past : List Step) → IsLawful o (Step.Commit t r ∷ past) → done t past ≡ false }
-    ensures leaves { (o : Opening) (t : Ticket) (h : List Step) → IsLawful o h → has_left t h ≡ true → is_alive t h ≡ false }
+    ensures enters { (o : Opening) (e : Entry) (past : List Step) → IsLawful o (Step.Enter e ∷ past) →
+        has_entered e.ticket past ≡ false }
+    ensures runs { (o : Opening) (t : Ticket) (r : PlainReply) (past : List Step) →
+        IsLawful o (Step.Commit t r ∷ past) → done t past ≡ false }
+    ensures leaves { (o : Opening) (t : Ticket) (h : List Step) → IsLawful o h → has_left t h ≡ true →
+        is_alive t h ≡ false }
 {}
 
 /// Where 64 tasks are alive none enters, and where fewer are none is refused with TASK SET FULL.
 pub fn full_alone_where_64_are_alive()
-    ensures full { (o : Opening) (e : Entry) (past : List Step) → length (alive past) ≡ 64 → May o (Step.Enter e) past → ⊥ }
-    ensures refused { (o : Opening) (t : Ticket) (past : List Step) → length (alive past) ≡ 64 → floor t.queue past ≤ t.number → May o (Step.Full t) past }
-    ensures not_full { (o : Opening) (t : Ticket) (past : List Step) → length (alive past) < 64 → May o (Step.Full t) past → ⊥ }
+    ensures full { (o : Opening) (e : Entry) (past : List Step) → length (alive past) ≡ 64 →
+        May o (Step.Enter e) past → ⊥ }
+    ensures refused { (o : Opening) (t : Ticket) (past : List Step) → length (alive past) ≡ 64 →
+        floor t.queue past ≤ t.number → May o (Step.Full t) past }
+    ensures not_full { (o : Opening) (t : Ticket) (past : List Step) → length (alive past) < 64 →
+        May o (Step.Full t) past → ⊥ }
 {}
 
 /// A task that was found enabled once stays so, whatever follows.
@@ -44,7 +50,8 @@ pub fn unblocked_is_enabled_at_once()
 
 /// Where a task is alive, one that is alive isn't blocked.
 pub fn some_task_is_free()
-    ensures { (h : List Step) → any_task (alive h) ≡ true → list_any (λ e. not (is_blocked e (alive h))) (alive h) ≡ true }
+    ensures { (h : List Step) → any_task (alive h) ≡ true →
+        list_any (λ e. not (is_blocked e (alive h))) (alive h) ≡ true }
 {}
 
 /// A task that is neither done nor marked doesn't leave.

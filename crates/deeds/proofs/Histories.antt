@@ -1,0 +1,75 @@
+-- Each unit is a unit in every world that is reached.
+use Rattle.std.proofs.Common.{◌≡◌, ℕ, List, [], filter, Some, sym, ◌∙◌, ap, subst}
+use Rattle.std.specs.Prelude.{slice_get}
+use Rattle.history.specs.Steps.{Step, alive}
+use Rattle.history.specs.Enabling.{is_parked}
+use Rattle.history.specs.Lawful.{IsLawful}
+use Rattle.unit_history.specs.Unit.{PlainUnit, tasks_of_jobs, after as stepped, parking, IsUnit}
+use Rattle.task_mgmt.specs.Functions.{step_by}
+use Rattle.task_mgmt.specs.declared.kind.Strike.{Strike}
+use Rattle.task_mgmt.specs.declared.kind.Strike.TheVariants.{Abort, Reset}
+use Rattle.deeds.specs.World.{PlainWorld, Opens, IsNewUnit, change, Everywhere}
+use Rattle.deeds.specs.Deeds.{Deed}
+use Rattle.deeds.specs.After.{hard_code, after}
+use Rattle.deeds.specs.Happens.{May, MayStep}
+use Rattle.deeds.specs.Lawful.{AreUnits}
+use Rattle.deeds.proofs.Lists.{same}
+use Rattle.deeds.proofs.Staying.{everywhere}
+use Rattle.deeds.proofs.Holding.{IsFree, unit_goes, unit_parks}
+
+abbrev All : List PlainUnit → Type 0
+All us = Everywhere (λ i u. IsUnit u) us
+
+-- one unit is changed, and stays one
+one_changes : (g : PlainUnit → PlainUnit) (k : ℕ) (us : List PlainUnit) (u : PlainUnit) → slice_get us k ≡ Some u
+    → (IsUnit u → IsUnit (g u)) → All us → All (change g k us)
+one_changes g k us u at f h =
+    everywhere (λ i v. IsUnit v) g k us (λ v there is.
+    let now : u ≡ v = same (sym at ∙ there) in
+    subst (λ z. IsUnit (g z)) now (f (subst IsUnit (sym now) is))) h
+
+one_goes : (s : Step) (k : ℕ) (us : List PlainUnit) (u : PlainUnit) → slice_get us k ≡ Some u → MayStep u s
+    → IsFree s u.steps → All us → All (change (stepped s) k us)
+one_goes s k us u at may free h = one_changes (stepped s) k us u at (unit_goes s u may free) h
+
+may_strike : (m : Strike) (u : PlainUnit) → MayStep u (step_by m)
+may_strike (Abort rule) u = tt
+may_strike (Reset c) u = tt
+
+free_strike : (m : Strike) (u : PlainUnit) → IsFree (step_by m) u.steps
+free_strike (Abort rule) u = tt
+free_strike (Reset c) u = tt
+
+-- no step, and no job
+is_new : (u : PlainUnit) → u.steps ≡ [] → u.parked ≡ [] → IsUnit u
+is_new u a b =
+    record {
+      lawful = subst (λ l. IsLawful u.opening l) (sym a) tt;
+      holds =
+          subst (λ l. tasks_of_jobs u.parked ≡ filter (is_parked l) (alive l)) (sym a) (ap tasks_of_jobs b);
+    }
+
+pub new_units : (w : PlainWorld) → Opens w → AreUnits w
+new_units w o i u at =
+    let n : IsNewUnit u = o.units i u at in
+    is_new u n.steps n.parked
+
+pub deed_units : (d : Deed) (w : PlainWorld) → May d w → AreUnits w → AreUnits (after d w)
+deed_units (Deed.Run x) w m h =
+    one_goes (Step.Enter x.entry) x.unit w.units m.comes.unit m.comes.unit_there m.may m.blocked h
+deed_units (Deed.Park x) w m h =
+    one_changes (parking x) x.unit w.units m.comes.unit m.comes.unit_there
+    (unit_parks x m.comes.unit m.may m.blocked) h
+deed_units (Deed.Full x) w m h =
+    one_goes (Step.Full x.entry.ticket) x.unit w.units m.comes.unit m.comes.unit_there m.may tt h
+deed_units (Deed.Commit k x r) w m h =
+    one_goes (Step.Commit x.entry.ticket r) x.unit w.units m.holds.unit m.holds.there m.may tt h
+deed_units (Deed.Busy k x) w m h =
+    one_goes (Step.Busy x.entry.ticket) x.unit w.units m.holds.unit m.holds.there m.may tt h
+deed_units (Deed.Leave k place t jobs) w m h =
+    one_goes (Step.Leave t) place w.units m.holds.unit m.holds.there m.may tt h
+deed_units (Deed.Mark t p s jobs) w m h =
+    let u = m.marking.unit in
+    one_goes (step_by s) p.unit w.units u m.marking.unit_there (may_strike s u) (free_strike s u) h
+deed_units (Deed.Hard p jobs) w m h = one_goes (Step.Reset hard_code) p.unit w.units m.unit m.there tt tt h
+deed_units d w m h = h

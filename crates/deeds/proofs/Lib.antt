@@ -1,0 +1,14 @@
+pub mod Lists
+pub mod Running
+pub mod Phasing
+pub mod Joining
+pub mod Apart
+pub mod Counting
+pub mod Jobs
+pub mod Places
+pub mod Once
+pub mod Using
+pub mod Staying
+pub mod Numbering
+pub mod Holding
+pub mod Histories

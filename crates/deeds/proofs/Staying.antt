@@ -1,0 +1,182 @@
+-- What holds everywhere goes on to do so, and the parts of the device stay.
+use Rattle.std.proofs.Common.{◌≡◌, ℕ, ◌+◌, List, [], ◌∷◌, ◌++◌, take, drop, length, Some, refl, sym, ◌∙◌, ap, subst, zero, suc, inl, inr, arith, length-append, length-drop}
+use Rattle.std.proofs.lemmas.List.{length-take-le}
+use Rattle.std.specs.Prelude.{slice_get, ◌≤◌}
+use Rattle.guest_mem.specs.Memory.{LiesIn, with_bytes}
+use Rattle.history.specs.Steps.{Step}
+use Rattle.history.specs.Endings.{Ending}
+use Rattle.ring_core.specs.State.{PlainChain}
+use Rattle.ring_core.specs.Writes.{Write, all_written}
+use Rattle.task_set.specs.Jobs.{PlainJob}
+use Rattle.unit_history.specs.Unit.{after as stepped, parking}
+use Rattle.task_mgmt.specs.Functions.{step_by}
+use Rattle.deeds.specs.Parts.{Outcome, Slot, Hand}
+use Rattle.deeds.specs.World.{PlainWorld, change, owner, Everywhere}
+use Rattle.deeds.specs.Deeds.{Deed}
+use Rattle.deeds.specs.After.{hard_code, arriving, taking, slotted, broken_by, completing, directing, spending, with_hand, without_first, with_jobs, leaving, completed, after}
+use Rattle.deeds.specs.Happens.{Occurrence, May, Runs}
+use Rattle.deeds.specs.Laws.{memory_after}
+use Rattle.deeds.specs.Lawful.{KeepsParts, LieIn, AllLieIn}
+use Rattle.deeds.proofs.Lists.{at_other}
+
+-- the item that is changed still does
+pub everywhere : {X : Type 0} (P : ℕ → X → Type 0) (g : X → X) (k : ℕ) (xs : List X)
+    → ((x : X) → slice_get xs k ≡ Some x → P k x → P k (g x)) → Everywhere P xs → Everywhere P (change g k xs)
+everywhere P g k xs f h i y at =
+    let o = at_other g k xs i y at in
+    elim o.2 [
+      | inl p ↦
+          let there = ap (λ j. slice_get xs j) (sym p.0) ∙ o.1 in
+          let here = subst (λ j. P j o.0) p.0 (h i o.0 o.1) in
+          subst (λ z. P i z) (sym p.1) (subst (λ j. P j (g o.0)) (sym p.0) (f o.0 there here))
+      | inr p ↦ subst (λ z. P i z) (sym p.1) (h i o.0 o.1)
+    ]
+
+-- a list of which one item is changed is as long
+pub many : {X : Type 0} (g : X → X) (k : ℕ) (xs : List X) → length (change g k xs) ≡ length xs
+many g k [] = refl
+many g zero (x ∷ xs) = refl
+many g (suc k) (x ∷ xs) = ap (λ n. suc n) (many g k xs)
+
+-- what holds of the opening and goes on with each deed holds of all that is reached
+pub run_keeps : (P : PlainWorld → Type 0) → ((d : Deed) (w : PlainWorld) → May d w → P w → P (after d w))
+    → (old : PlainWorld) (trace : List Occurrence) (w : PlainWorld) → P old → Runs old trace w → P w
+run_keeps P f old [] w h r = subst P (sym r) h
+run_keeps P f old (e ∷ past) w h r =
+    subst P (sym r.2.is) (f r.2.deed r.0 r.2.may (run_keeps P f old past r.0 h r.1))
+
+abbrev Keeping : PlainWorld → PlainWorld → Type 0
+Keeping w v = (length v.queues ≡ length w.queues) × (length v.units ≡ length w.units) × (length v.seats
+    ≡ length w.seats)
+
+-- the deed leaves these three as many as they are
+so_many : (w v : PlainWorld) → v.inventory ≡ w.inventory → v.workers ≡ w.workers → v.limit ≡ w.limit → Keeping w v
+    → KeepsParts w v
+so_many w v a b c k =
+    record { inventory = a; workers = b; limit = c; queues = k.0; units = k.1; seats = k.2 }
+
+pub all_stay : (w : PlainWorld) → KeepsParts w w
+all_stay w = so_many w w refl refl refl (refl, refl, refl)
+
+joined : (u v w : PlainWorld) → KeepsParts u v → KeepsParts v w → KeepsParts u w
+joined u v w a b =
+    record {
+      inventory = b.inventory ∙ a.inventory;
+      workers = b.workers ∙ a.workers;
+      limit = b.limit ∙ a.limit;
+      queues = b.queues ∙ a.queues;
+      units = b.units ∙ a.units;
+      seats = b.seats ∙ a.seats;
+    }
+
+used_many : (c : PlainChain) (xs : List Write) (w : PlainWorld) → length (completed c xs w) ≡ length w.queues
+used_many c xs w = many (completing (all_written w.memory xs) c) c.ticket.queue w.queues
+
+slotted_many : (s : Slot) (x : PlainJob) (w : PlainWorld)
+    → length (change (slotted s) x.chain.ticket.queue w.queues) ≡ length w.queues
+slotted_many s x w = many (slotted s) x.chain.ticket.queue w.queues
+
+stepped_many : (s : Step) (k : ℕ) (w : PlainWorld) → length (change (stepped s) k w.units) ≡ length w.units
+stepped_many s k w = many (stepped s) k w.units
+
+so_many_after : (d : Deed) (w : PlainWorld) → Keeping w (after d w)
+so_many_after (Deed.Arrive f x) w =
+    (many (arriving f.chain (Slot.Arrived x)) f.chain.ticket.queue w.queues, refl, refl)
+so_many_after (Deed.Refuse f a) w =
+    (many (arriving f.chain (Slot.Ready f.chain (Outcome.Told a))) f.chain.ticket.queue w.queues, refl, refl)
+so_many_after (Deed.Open f g) w = (many (taking f.chain) f.chain.ticket.queue w.queues, refl, refl)
+so_many_after (Deed.Hold f) w = (many (taking f.chain) f.chain.ticket.queue w.queues, refl, refl)
+so_many_after (Deed.Spend f xs) w =
+    (many (spending (all_written w.memory xs) f.chain) f.chain.ticket.queue w.queues, refl, refl)
+so_many_after (Deed.Break k n) w = (many (broken_by n) k w.queues, refl, refl)
+so_many_after (Deed.Run x) w = (
+  slotted_many Slot.Empty x w,
+  stepped_many (Step.Enter x.entry) x.unit w,
+  many (with_jobs (x ∷ [])) (owner w.workers x.chain.ticket.queue) w.seats,
+)
+so_many_after (Deed.Park x) w = (slotted_many Slot.Empty x w, many (parking x) x.unit w.units, refl)
+so_many_after (Deed.Full x) w = (
+  slotted_many (Slot.Ready x.chain (Outcome.Ended Ending.Full)) x w,
+  stepped_many (Step.Full x.entry.ticket) x.unit w,
+  refl,
+)
+so_many_after (Deed.Shed x) w = (slotted_many (Slot.Ready x.chain (Outcome.Ended Ending.Busy)) x w, refl, refl)
+so_many_after (Deed.Stall x) w = (slotted_many (Slot.Ready x.chain (Outcome.Ended Ending.Lost)) x w, refl, refl)
+so_many_after (Deed.Direct c o xs) w =
+    (many (directing (all_written w.memory xs) c) c.ticket.queue w.queues, refl, refl)
+so_many_after (Deed.Put k x) w = (refl, refl, many (without_first Hand.Free) k w.seats)
+so_many_after (Deed.Keep k x) w = (refl, refl, many (without_first (Hand.Taken x)) k w.seats)
+so_many_after (Deed.Take k x) w = (refl, refl, many (with_hand (Hand.Taken x)) k w.seats)
+so_many_after (Deed.Commit k x r) w = (
+  refl,
+  stepped_many (Step.Commit x.entry.ticket r) x.unit w,
+  many (with_hand (Hand.Done x (Outcome.Ended (Ending.Replied r)))) k w.seats,
+)
+so_many_after (Deed.Busy k x) w = (
+  refl,
+  stepped_many (Step.Busy x.entry.ticket) x.unit w,
+  many (with_hand (Hand.Done x (Outcome.Ended Ending.Busy))) k w.seats,
+)
+so_many_after (Deed.Abort k x why) w =
+    (refl, refl, many (with_hand (Hand.Done x (Outcome.Ended (Ending.Aborted why)))) k w.seats)
+so_many_after (Deed.Lose k x) w =
+    (refl, refl, many (with_hand (Hand.Done x (Outcome.Ended Ending.Lost))) k w.seats)
+so_many_after (Deed.Answer k x o xs) w =
+    (used_many x.chain xs w, refl, many (with_hand (Hand.Answered x.unit x.chain.ticket)) k w.seats)
+so_many_after (Deed.Leave k place t jobs) w =
+    (refl, stepped_many (Step.Leave t) place w, many (leaving jobs) k w.seats)
+so_many_after (Deed.Mark t p m jobs) w =
+    (refl, stepped_many (step_by m) p.unit w, many (with_jobs jobs) 0 w.seats)
+so_many_after (Deed.Hard p jobs) w =
+    (refl, stepped_many (Step.Reset hard_code) p.unit w, many (with_jobs jobs) w.workers w.seats)
+so_many_after (Deed.Respond c r xs) w = (used_many c xs w, refl, refl)
+so_many_after (Deed.Give e c xs) w = (used_many c xs w, refl, refl)
+so_many_after d w = (refl, refl, refl)
+
+inventory_after : (d : Deed) (w : PlainWorld) → (after d w).inventory ≡ w.inventory
+inventory_after (Deed.Poke x) w = refl
+inventory_after d w = refl
+
+workers_after : (d : Deed) (w : PlainWorld) → (after d w).workers ≡ w.workers
+workers_after (Deed.Poke x) w = refl
+workers_after d w = refl
+
+limit_after : (d : Deed) (w : PlainWorld) → (after d w).limit ≡ w.limit
+limit_after (Deed.Poke x) w = refl
+limit_after d w = refl
+
+pub deed_stays : (d : Deed) (w : PlainWorld) → KeepsParts w (after d w)
+deed_stays d w =
+    so_many w (after d w) (inventory_after d w) (workers_after d w) (limit_after d w) (so_many_after d w)
+
+pub run_stays : (old : PlainWorld) (trace : List Occurrence) (w : PlainWorld) → Runs old trace w → KeepsParts old w
+run_stays old trace w r =
+    run_keeps (λ v. KeepsParts old v) (λ d v m h. joined old v (after d v) h (deed_stays d v))
+    old trace w (all_stay old)
+    r
+
+long_with : (m : List ℕ) (at : ℕ) (bs : List ℕ) → LiesIn (length m) at (length bs)
+    → length (with_bytes m at bs) ≡ length m
+long_with m at bs h =
+    let rest = drop (length bs) (drop at m) in
+    let inside : at + length bs ≤ length m = h in
+    let a = length-append (take at m) (bs ++ rest) in
+    let b = length-append bs rest in
+    let c = length-take-le at m (omega (arith, inside)) in
+    let d = length-drop at m in
+    let e = length-drop (length bs) (drop at m) in
+    omega (arith, a, b, c, d, e, inside)
+
+-- writes that lie in memory leave it as long as it is
+long_written : (m : List ℕ) (size : ℕ) (xs : List Write) → length m ≡ size → LieIn size xs
+    → length (all_written m xs) ≡ size
+long_written m size [] e h = e
+long_written m size (x ∷ xs) e h =
+    let here = subst (λ n. LiesIn n x.addr (length x.bytes)) (sym e) h.0 in
+    long_written (with_bytes m x.addr x.bytes) size xs (long_with m x.addr x.bytes here ∙ e) h.1
+
+pub long_after : (m : List ℕ) (trace : List Occurrence) → AllLieIn (length m) trace
+    → length (memory_after m trace) ≡ length m
+long_after m [] h = refl
+long_after m (e ∷ past) h =
+    long_written (memory_after m past) (length m) e.action.writes (long_after m past h.1) h.0

@@ -1,0 +1,189 @@
+-- The world after a deed.
+use Rattle.std.specs.Prelude.{ℕ, ◌+◌, ◌&&◌, Bool, true, List, [], ◌∷◌, ◌++◌, drop, Option, Some, None, slice_get, if◌then◌else◌}
+use Rattle.scsi_codec.specs.declared.event_queue.Event.{Event as Report}
+use Rattle.scsi_codec.specs.EventQueue.{transport_reset}
+use Rattle.unit_attention.specs.declared.code.Code.{Code}
+use Rattle.unit_attention.specs.Code.{code}
+use Rattle.ring_core.specs.State.{RingState, PlainChain, accepting, using, breaking}
+use Rattle.ring_core.specs.Writes.{Write, all_written}
+use Rattle.ring_core.specs.Offer.{wants_notice}
+use Rattle.ring_core.specs.declared.fault.RingFault.{RingFault}
+use Rattle.history.specs.Steps.{Step}
+use Rattle.history.specs.Endings.{Ending}
+use Rattle.history.specs.Receipts.{unit_of}
+use Rattle.task_set.specs.Jobs.{PlainJob}
+use Rattle.unit_history.specs.Unit.{PlainUnit, after as stepped, parking}
+use Rattle.task_mgmt.specs.Functions.{PlainFunction, marking, asking, failing, checking, step_by}
+use Rattle.deeds.specs.Parts.{Outcome, Slot, Hand, is_short}
+use Rattle.deeds.specs.World.{PlainQueue, Seat, Opened, PlainWorld, change, owner}
+use Rattle.deeds.specs.Deeds.{Deed}
+
+abbrev pub bit : Bool → ℕ
+bit b = if b then 1 else 0
+
+-- A queue
+
+-- the ring once the chain of a fetch was accepted
+abbrev pub with_chain : PlainChain → RingState → RingState
+with_chain c s = accepting s c.id c.slots
+
+abbrev pub arriving : PlainChain → Slot → PlainQueue → PlainQueue
+arriving c s q = record q { ring = with_chain c q.ring; slot = s }
+
+abbrev pub taking : PlainChain → PlainQueue → PlainQueue
+taking c q = record q { ring = with_chain c q.ring }
+
+abbrev pub slotted : Slot → PlainQueue → PlainQueue
+slotted s q = record q { slot = s }
+
+abbrev pub broken_by : RingFault → PlainQueue → PlainQueue
+broken_by f q = record q { ring = breaking q.ring f }
+
+-- a chain was used, and memory is this: the driver may want a notice
+abbrev pub used_in : List ℕ → PlainChain → RingState → PlainQueue → PlainQueue
+used_in m c s q = record q { ring = using s c; notices = q.notices + bit (wants_notice (using s c) m) }
+
+abbrev pub completing : List ℕ → PlainChain → PlainQueue → PlainQueue
+completing m c q = used_in m c q.ring q
+
+abbrev pub directing : List ℕ → PlainChain → PlainQueue → PlainQueue
+directing m c q = slotted Slot.Empty (completing m c q)
+
+abbrev pub spending : List ℕ → PlainChain → PlainQueue → PlainQueue
+spending m c q = used_in m c (with_chain c q.ring) q
+
+-- A seat
+
+abbrev pub with_hand : Hand → Seat → Seat
+with_hand h s = record { hand = h; out = s.out }
+
+abbrev pub without_first : Hand → Seat → Seat
+without_first h s = record { hand = h; out = drop 1 s.out }
+
+abbrev pub with_jobs : List PlainJob → Seat → Seat
+with_jobs xs s = record { hand = s.hand; out = s.out ++ xs }
+
+abbrev pub leaving : List PlainJob → Seat → Seat
+leaving xs s = record { hand = Hand.Free; out = s.out ++ xs }
+
+-- The function
+
+abbrev pub on_function : (PlainFunction → PlainFunction) → Option Opened → Option Opened
+on_function f None = None
+on_function f (Some o) = Some (record o { function = f o.function })
+
+-- The operator
+
+-- POWER ON, RESET, OR BUS DEVICE RESET OCCURRED (SPC-4 §4.5.6)
+abbrev pub hard_code : Code
+hard_code = code 0x29 0x00
+
+-- a transport reset of the unit, with reason 0 (VIRTIO 1.2 §5.6.6.3)
+abbrev pub hard_report : PlainUnit → Report
+hard_report u = record { event = transport_reset; address = Some (unit_of u.opening); reason = 0 }
+
+-- of the unit at a place, if there is one
+abbrev pub reports_of : Option PlainUnit → List Report
+reports_of None = []
+reports_of (Some u) = hard_report u ∷ []
+
+-- the chain of a queue is used, by these writes
+abbrev pub completed : PlainChain → List Write → PlainWorld → List PlainQueue
+completed c xs w = change (completing (all_written w.memory xs) c) c.ticket.queue w.queues
+
+abbrev pub after : Deed → PlainWorld → PlainWorld
+after (Deed.Poke x) w = record w { memory = all_written w.memory (x ∷ []) }
+after (Deed.Arrive f x) w = record w { queues = change (arriving f.chain (Slot.Arrived x)) f.chain.ticket.queue w.queues }
+after (Deed.Refuse f a) w =
+    record w { queues = change (arriving f.chain (Slot.Ready f.chain (Outcome.Told a))) f.chain.ticket.queue w.queues }
+after (Deed.Open f g) w =
+    record w {
+      queues = change (taking f.chain) f.chain.ticket.queue w.queues;
+      function = Some (record { chain = f.chain; function = g });
+    }
+after (Deed.Hold f) w =
+    record w { queues = change (taking f.chain) f.chain.ticket.queue w.queues; buffers = w.buffers ++ f.chain ∷ [] }
+after (Deed.Spend f xs) w =
+    record w {
+      queues = change (spending (all_written w.memory xs) f.chain) f.chain.ticket.queue w.queues;
+      memory = all_written w.memory xs;
+      missed = w.missed && is_short f.chain;
+    }
+after (Deed.Break q n) w = record w { queues = change (broken_by n) q w.queues }
+after (Deed.Run x) w =
+    record w {
+      queues = change (slotted Slot.Empty) x.chain.ticket.queue w.queues;
+      units = change (stepped (Step.Enter x.entry)) x.unit w.units;
+      seats = change (with_jobs (x ∷ [])) (owner w.workers x.chain.ticket.queue) w.seats;
+    }
+after (Deed.Park x) w =
+    record w {
+      queues = change (slotted Slot.Empty) x.chain.ticket.queue w.queues;
+      units = change (parking x) x.unit w.units;
+    }
+after (Deed.Full x) w =
+    record w {
+      queues = change (slotted (Slot.Ready x.chain (Outcome.Ended Ending.Full))) x.chain.ticket.queue w.queues;
+      units = change (stepped (Step.Full x.entry.ticket)) x.unit w.units;
+    }
+after (Deed.Shed x) w =
+    record w { queues = change (slotted (Slot.Ready x.chain (Outcome.Ended Ending.Busy))) x.chain.ticket.queue w.queues }
+after (Deed.Stall x) w =
+    record w { queues = change (slotted (Slot.Ready x.chain (Outcome.Ended Ending.Lost))) x.chain.ticket.queue w.queues }
+after (Deed.Direct c o xs) w =
+    record w {
+      queues = change (directing (all_written w.memory xs) c) c.ticket.queue w.queues;
+      memory = all_written w.memory xs;
+    }
+after (Deed.Put k x) w =
+    record w { seats = change (without_first Hand.Free) k w.seats; handed_off = w.handed_off ++ x ∷ [] }
+after (Deed.Keep k x) w = record w { seats = change (without_first (Hand.Taken x)) k w.seats }
+after (Deed.Take k x) w =
+    record w { seats = change (with_hand (Hand.Taken x)) k w.seats; handed_off = drop 1 w.handed_off }
+after (Deed.Commit k x r) w =
+    record w {
+      seats = change (with_hand (Hand.Done x (Outcome.Ended (Ending.Replied r)))) k w.seats;
+      units = change (stepped (Step.Commit x.entry.ticket r)) x.unit w.units;
+    }
+after (Deed.Busy k x) w =
+    record w {
+      seats = change (with_hand (Hand.Done x (Outcome.Ended Ending.Busy))) k w.seats;
+      units = change (stepped (Step.Busy x.entry.ticket)) x.unit w.units;
+    }
+after (Deed.Abort k x why) w =
+    record w { seats = change (with_hand (Hand.Done x (Outcome.Ended (Ending.Aborted why)))) k w.seats }
+after (Deed.Lose k x) w = record w { seats = change (with_hand (Hand.Done x (Outcome.Ended Ending.Lost))) k w.seats }
+after (Deed.Answer k x o xs) w =
+    record w {
+      seats = change (with_hand (Hand.Answered x.unit x.chain.ticket)) k w.seats;
+      queues = completed x.chain xs w;
+      memory = all_written w.memory xs;
+    }
+after (Deed.Leave k u t jobs) w =
+    record w { seats = change (leaving jobs) k w.seats; units = change (stepped (Step.Leave t)) u w.units }
+after (Deed.Mark t p m jobs) w =
+    record w {
+      units = change (stepped (step_by m)) p.unit w.units;
+      seats = change (with_jobs jobs) 0 w.seats;
+      function = on_function (marking p) w.function;
+    }
+after (Deed.Ask t u rule b) w = record w { function = on_function (asking b) w.function }
+after (Deed.Fail t) w = record w { function = on_function failing w.function }
+after (Deed.Check t p) w = record w { function = on_function checking w.function }
+after (Deed.Respond c r xs) w =
+    record w { queues = completed c xs w; memory = all_written w.memory xs; function = None }
+after (Deed.Hard p jobs) w =
+    record w {
+      units = change (stepped (Step.Reset hard_code)) p.unit w.units;
+      seats = change (with_jobs jobs) w.workers w.seats;
+      waiting = w.waiting ++ reports_of (slice_get w.units p.unit);
+    }
+after (Deed.Give e c xs) w =
+    record w {
+      queues = completed c xs w;
+      memory = all_written w.memory xs;
+      buffers = drop 1 w.buffers;
+      waiting = drop 1 w.waiting;
+    }
+after (Deed.Miss e) w = record w { missed = true; waiting = drop 1 w.waiting }
+after (Deed.Idle e) w = w

@@ -1,0 +1,384 @@
+-- When a deed may happen, the world's step, and what is reached.
+use Rattle.std.specs.Prelude.{ℕ, zero, suc, ◌≡◌, ◌<◌, ◌≤◌, ◌⊎◌, ◌||◌, Bool, true, false, if◌then◌else◌, List, [], ◌∷◌, length, Some, None, slice_get, ⊤}
+use Rattle.guest_mem.specs.Memory.{LiesIn}
+use Rattle.scsi_codec.specs.declared.lun.Address.{Address}
+use Rattle.scsi_codec.specs.declared.event_queue.Event.{Event as Report}
+use Rattle.scsi_codec.specs.EventQueue.{event_bytes, events_missed}
+use Rattle.scsi_codec.specs.ControlQueue.{IsControl, function_bytes}
+use Rattle.scsi_codec.specs.declared.control_queue.Control.{Control}
+use Rattle.scsi_codec.specs.declared.control_queue.FunctionResponse.{FunctionResponse}
+use Rattle.ring_core.specs.State.{PlainChain}
+use Rattle.ring_core.specs.Writes.{Write}
+use Rattle.ring_core.specs.Offer.{Offers, Refused}
+use Rattle.ring_core.specs.Fetch.{Takes}
+use Rattle.ring_core.specs.declared.fault.RingFault.{RingFault}
+use Rattle.ring_core.specs.declared.log.Ticket.{Ticket}
+use Rattle.decisions.specs.Decision.{decided}
+use Rattle.decisions.specs.declared.decision.Decision.{Decision}
+use Rattle.decisions.specs.declared.decision.Decision.TheVariants as decision
+use Rattle.history.specs.declared.rule.Rule.{Rule}
+use Rattle.history.specs.declared.reason.Reason.{Reason}
+use Rattle.history.specs.Tasks.{Entry, is_blocked}
+use Rattle.history.specs.Steps.{Step, alive, is_alive, floor}
+use Rattle.history.specs.Marks.{mark_of}
+use Rattle.history.specs.Clearing.{is_clear}
+use Rattle.history.specs.Seen.{any_met}
+use Rattle.history.specs.Lawful as history
+use Rattle.history.specs.Released.{released}
+use Rattle.task_set.specs.Jobs.{PlainJob, of_tasks}
+use Rattle.unit_history.specs.Unit.{PlainUnit}
+use Rattle.unit_history.specs.Calls.{IsOf}
+use Rattle.task_mgmt.specs.Functions.{PlainFunction, step_by, response_of}
+use Rattle.task_mgmt.specs.Control.{decided_of}
+use Rattle.task_mgmt.specs.declared.control.ControlDecision.{ControlDecision}
+use Rattle.task_mgmt.specs.declared.control.ControlDecision.TheVariants as managed
+use Rattle.task_mgmt.specs.declared.kind.Kind.{Kind}
+use Rattle.task_mgmt.specs.declared.kind.Kind.TheVariants.{Marking, Asking}
+use Rattle.task_mgmt.specs.declared.kind.Strike.{Strike}
+use Rattle.task_mgmt.specs.declared.function.Mark.{Mark as Place}
+use Rattle.deeds.specs.Parts.{PlainFetch, Outcome, Slot, Hand, lengths_of, request_of, bytes_of, answer_writes, is_short}
+use Rattle.deeds.specs.World.{PlainQueue, Seat, Opened, PlainWorld, Opens, owner}
+use Rattle.deeds.specs.Events.{Event}
+use Rattle.deeds.specs.Deeds.{Deed, Action, event_of, action_of}
+use Rattle.deeds.specs.After.{with_chain, hard_code, after}
+
+abbrev pub QueueIs : PlainWorld → ℕ → PlainQueue → Type 0
+QueueIs w q queue = slice_get w.queues q ≡ Some queue
+
+abbrev pub UnitIs : PlainWorld → ℕ → PlainUnit → Type 0
+UnitIs w place u = slice_get w.units place ≡ Some u
+
+abbrev pub SeatIs : PlainWorld → ℕ → Hand → List PlainJob → Type 0
+SeatIs w k hand out = slice_get w.seats k ≡ Some (record { hand = hand; out = out })
+
+-- the step may come next there
+abbrev pub MayStep : PlainUnit → Step → Type 0
+MayStep u s = history.May u.opening s u.steps
+
+-- the jobs that a step hands out there
+abbrev pub handed_out : PlainUnit → Step → List PlainJob
+handed_out u s = of_tasks (released s u.steps) u.parked
+
+-- a chain is taken on an idle queue, with its bytes
+pub record Finds (w : PlainWorld) (f : PlainFetch) : Type 0 where
+  pub queue : PlainQueue
+  pub there : QueueIs w f.chain.ticket.queue queue
+  pub empty : queue.slot ≡ Slot.Empty
+  pub taken : Takes queue.ring w.memory f.chain f.bytes (with_chain f.chain queue.ring)
+
+-- queue 0 is not fetched from while a function is open
+abbrev pub IsOpenTo : PlainWorld → ℕ → Type 0
+IsOpenTo w zero = w.function ≡ None
+IsOpenTo w (suc q) = ⊤
+
+-- what is decided of a chain of a request queue, of the control queue
+abbrev pub DecidesRequest : List Address → PlainFetch → Decision → Type 0
+DecidesRequest inventory f d = decided inventory f.bytes (lengths_of f.chain) ≡ d
+
+abbrev pub DecidesControl : List Address → PlainFetch → ControlDecision → Type 0
+DecidesControl inventory f d =
+    (c : Control) × IsControl f.bytes c × (decided_of inventory c (lengths_of f.chain).writable ≡ d)
+
+-- the direct answer of a chain of a queue
+abbrev pub IsDirect : List Address → ℕ → PlainFetch → List ℕ → Type 0
+IsDirect inventory zero f a = DecidesControl inventory f (managed.Direct a)
+IsDirect inventory (suc q) f a = DecidesRequest inventory f (decision.Direct a)
+
+pub record Arrives (w : PlainWorld) (f : PlainFetch) (x : PlainJob) : Type 0 where
+  pub finds : Finds w f
+  pub request : 2 ≤ f.chain.ticket.queue
+  pub chain : x.chain ≡ f.chain
+  pub ticket : x.entry.ticket ≡ f.chain.ticket
+  pub decided : DecidesRequest w.inventory f (decision.Enter x.unit (request_of x.entry))
+
+pub record Refuses (w : PlainWorld) (f : PlainFetch) (a : List ℕ) : Type 0 where
+  pub finds : Finds w f
+  pub opened : IsOpenTo w f.chain.ticket.queue
+  pub kind : (f.chain.ticket.queue ≡ 0) ⊎ (2 ≤ f.chain.ticket.queue)
+  pub decided : IsDirect w.inventory f.chain.ticket.queue f a
+
+pub record Begins (w : PlainWorld) (f : PlainFetch) (g : PlainFunction) : Type 0 where
+  pub finds : Finds w f
+  pub closed : w.function ≡ None
+  pub control : f.chain.ticket.queue ≡ 0
+  pub decided : DecidesControl w.inventory f (managed.Opens g)
+
+-- the port gets the buffer, since it is long enough and no event was missed
+pub record Keeps (w : PlainWorld) (f : PlainFetch) : Type 0 where
+  pub finds : Finds w f
+  pub event : f.chain.ticket.queue ≡ 1
+  pub decided : (is_short f.chain || w.missed) ≡ false
+
+-- VIRTIO_SCSI_T_EVENTS_MISSED with NO_EVENT (VIRTIO 1.2 §5.6.6.3)
+abbrev pub missed_report : Report
+missed_report = record { event = events_missed; address = None; reason = 0 }
+
+-- own: a short buffer is used with no byte, another with what was missed
+abbrev pub spent_bytes : PlainChain → List ℕ
+spent_bytes c = if is_short c then [] else event_bytes missed_report
+
+-- the buffer is used at once
+pub record Spends (w : PlainWorld) (f : PlainFetch) (xs : List Write) : Type 0 where
+  pub finds : Finds w f
+  pub event : f.chain.ticket.queue ≡ 1
+  pub decided : (is_short f.chain || w.missed) ≡ true
+  pub writes : xs ≡ answer_writes (with_chain f.chain finds.queue.ring) f.chain (spent_bytes f.chain)
+
+pub record Breaks (w : PlainWorld) (q : ℕ) (n : RingFault) : Type 0 where
+  pub queue : PlainQueue
+  pub there : QueueIs w q queue
+  pub empty : queue.slot ≡ Slot.Empty
+  pub whole : queue.ring.broken ≡ None
+  pub opened : IsOpenTo w q
+  pub offered : Offers queue.ring w.memory (Refused n)
+
+-- a request that arrived, its unit, and its owner's seat
+pub record Comes (w : PlainWorld) (x : PlainJob) : Type 0 where
+  pub queue : PlainQueue
+  pub there : QueueIs w x.chain.ticket.queue queue
+  pub arrived : queue.slot ≡ Slot.Arrived x
+  pub unit : PlainUnit
+  pub unit_there : UnitIs w x.unit unit
+  pub seat : Seat
+  pub seat_there : slice_get w.seats (owner w.workers x.chain.ticket.queue) ≡ Some seat
+
+pub record Enters (w : PlainWorld) (x : PlainJob) (parks : Bool) : Type 0 where
+  pub comes : Comes w x
+  pub may : MayStep comes.unit (Step.Enter x.entry)
+  pub blocked : is_blocked x.entry (alive (Step.Enter x.entry ∷ comes.unit.steps)) ≡ parks
+
+pub record Overflows (w : PlainWorld) (x : PlainJob) : Type 0 where
+  pub comes : Comes w x
+  pub may : MayStep comes.unit (Step.Full x.entry.ticket)
+
+-- memory was refused, which only a ticket that isn't stale asks for
+pub record Sheds (w : PlainWorld) (x : PlainJob) : Type 0 where
+  pub comes : Comes w x
+  pub fresh : floor x.entry.ticket.queue comes.unit.steps ≤ x.entry.ticket.number
+
+pub record Stalls (w : PlainWorld) (x : PlainJob) : Type 0 where
+  pub comes : Comes w x
+  pub stale : x.entry.ticket.number < floor x.entry.ticket.queue comes.unit.steps
+
+pub record Directs (w : PlainWorld) (c : PlainChain) (o : Outcome) (xs : List Write) : Type 0 where
+  pub queue : PlainQueue
+  pub there : QueueIs w c.ticket.queue queue
+  pub ready : queue.slot ≡ Slot.Ready c o
+  pub writes : xs ≡ answer_writes queue.ring c (bytes_of (lengths_of c) o)
+
+pub record Puts (w : PlainWorld) (k : ℕ) (x : PlainJob) : Type 0 where
+  pub rest : List PlainJob
+  pub seat : SeatIs w k Hand.Free (x ∷ rest)
+  pub room : length w.handed_off < w.limit
+
+pub record Retains (w : PlainWorld) (k : ℕ) (x : PlainJob) : Type 0 where
+  pub rest : List PlainJob
+  pub seat : SeatIs w k Hand.Free (x ∷ rest)
+  pub full : w.limit ≤ length w.handed_off
+
+pub record TakesJob (w : PlainWorld) (k : ℕ) (x : PlainJob) : Type 0 where
+  pub worker : k < w.workers
+  pub seat : SeatIs w k Hand.Free []
+  pub rest : List PlainJob
+  pub handed_off : w.handed_off ≡ x ∷ rest
+
+-- a hand of a seat, and a unit
+pub record Holds (w : PlainWorld) (k : ℕ) (hand : Hand) (place : ℕ) : Type 0 where
+  pub out : List PlainJob
+  pub seat : SeatIs w k hand out
+  pub unit : PlainUnit
+  pub there : UnitIs w place unit
+
+pub record Commits (w : PlainWorld) (k : ℕ) (x : PlainJob) (s : Step) : Type 0 where
+  pub holds : Holds w k (Hand.Taken x) x.unit
+  pub may : MayStep holds.unit s
+
+pub record Aborts (w : PlainWorld) (k : ℕ) (x : PlainJob) (why : Reason) : Type 0 where
+  pub holds : Holds w k (Hand.Taken x) x.unit
+  pub alive : is_alive x.entry.ticket holds.unit.steps ≡ true
+  pub marked : mark_of x.entry.ticket holds.unit.steps ≡ Some why
+
+-- the unit has no task of the job that is marked or may commit
+pub record Loses (w : PlainWorld) (k : ℕ) (x : PlainJob) : Type 0 where
+  pub holds : Holds w k (Hand.Taken x) x.unit
+  pub not_ready : (e : Entry) → IsOf x e holds.unit.steps → history.IsReady x.entry.ticket e holds.unit.steps → ⊥
+  pub not_marked : (e : Entry) (why : Reason) → IsOf x e holds.unit.steps
+      → mark_of x.entry.ticket holds.unit.steps ≡ Some why → ⊥
+
+pub record Answers (w : PlainWorld) (k : ℕ) (x : PlainJob) (o : Outcome) (xs : List Write) : Type 0 where
+  pub out : List PlainJob
+  pub seat : SeatIs w k (Hand.Done x o) out
+  pub queue : PlainQueue
+  pub there : QueueIs w x.chain.ticket.queue queue
+  pub writes : xs ≡ answer_writes queue.ring x.chain (bytes_of (lengths_of x.chain) o)
+
+pub record Leaves (w : PlainWorld) (k place : ℕ) (t : Ticket) (jobs : List PlainJob) : Type 0 where
+  pub holds : Holds w k (Hand.Answered place t) place
+  pub may : MayStep holds.unit (Step.Leave t)
+  pub enables : jobs ≡ handed_out holds.unit (Step.Leave t)
+
+-- a function with a unit left to mark, or to look at
+pub record IsMarking (w : PlainWorld) (t : Ticket) (place : ℕ) (kind : Kind) : Type 0 where
+  pub opened : Opened
+  pub there : w.function ≡ Some opened
+  pub of : opened.chain.ticket ≡ t
+  pub does : opened.function.kind ≡ kind
+  pub later : List ℕ
+  pub left : opened.function.left ≡ place ∷ later
+  pub unit : PlainUnit
+  pub unit_there : UnitIs w place unit
+
+-- a function that has marked all its units
+pub record IsWaiting (w : PlainWorld) (t : Ticket) (marks : List Place) : Type 0 where
+  pub opened : Opened
+  pub there : w.function ≡ Some opened
+  pub of : opened.chain.ticket ≡ t
+  pub left : opened.function.left ≡ []
+  pub still : opened.function.waits ≡ marks
+
+pub record Marks (w : PlainWorld) (t : Ticket) (p : Place) (m : Strike) (jobs : List PlainJob) : Type 0 where
+  pub marking : IsMarking w t p.unit (Marking m)
+  pub before : p.place ≡ length marking.unit.steps
+  pub releases : jobs ≡ handed_out marking.unit (step_by m)
+  pub seat : Seat
+  pub seat_there : slice_get w.seats 0 ≡ Some seat
+
+pub record Asks (w : PlainWorld) (t : Ticket) (place : ℕ) (rule : Rule) (b : Bool) : Type 0 where
+  pub marking : IsMarking w t place (Asking rule)
+  pub is : b ≡ any_met rule (alive marking.unit.steps)
+
+pub record Fails (w : PlainWorld) (t : Ticket) : Type 0 where
+  pub strike : Strike
+  pub place : ℕ
+  pub marking : IsMarking w t place (Marking strike)
+
+pub record Checks (w : PlainWorld) (t : Ticket) (p : Place) : Type 0 where
+  pub later : List Place
+  pub waiting : IsWaiting w t (p ∷ later)
+  pub unit : PlainUnit
+  pub there : UnitIs w p.unit unit
+  pub clear : is_clear p.place unit.steps ≡ true
+
+pub record Responds (w : PlainWorld) (c : PlainChain) (r : FunctionResponse) (xs : List Write) : Type 0 where
+  pub waiting : IsWaiting w c.ticket []
+  pub chain : waiting.opened.chain ≡ c
+  pub response : r ≡ response_of waiting.opened.function
+  pub queue : PlainQueue
+  pub there : QueueIs w c.ticket.queue queue
+  pub writes : xs ≡ answer_writes queue.ring c (function_bytes r)
+
+pub record Resets (w : PlainWorld) (p : Place) (jobs : List PlainJob) : Type 0 where
+  pub unit : PlainUnit
+  pub there : UnitIs w p.unit unit
+  pub before : p.place ≡ length unit.steps
+  pub releases : jobs ≡ handed_out unit (Step.Reset hard_code)
+  pub seat : Seat
+  pub seat_there : slice_get w.seats w.workers ≡ Some seat
+
+pub record Gives (w : PlainWorld) (e : Report) (c : PlainChain) (xs : List Write) : Type 0 where
+  pub later : List Report
+  pub waits : w.waiting ≡ e ∷ later
+  pub more : List PlainChain
+  pub held : w.buffers ≡ c ∷ more
+  pub queue : PlainQueue
+  pub there : QueueIs w c.ticket.queue queue
+  pub writes : xs ≡ answer_writes queue.ring c (event_bytes e)
+
+pub record Misses (w : PlainWorld) (e : Report) : Type 0 where
+  pub later : List Report
+  pub waits : w.waiting ≡ e ∷ later
+  pub none : w.buffers ≡ []
+
+-- the deed changes something, and may happen
+abbrev pub Happens : Deed → PlainWorld → Type 0
+Happens (Deed.Poke x) w = LiesIn (length w.memory) x.addr (length x.bytes)
+Happens (Deed.Arrive f x) w = Arrives w f x
+Happens (Deed.Refuse f a) w = Refuses w f a
+Happens (Deed.Open f g) w = Begins w f g
+Happens (Deed.Hold f) w = Keeps w f
+Happens (Deed.Spend f xs) w = Spends w f xs
+Happens (Deed.Break q n) w = Breaks w q n
+Happens (Deed.Run x) w = Enters w x false
+Happens (Deed.Park x) w = Enters w x true
+Happens (Deed.Full x) w = Overflows w x
+Happens (Deed.Shed x) w = Sheds w x
+Happens (Deed.Stall x) w = ⊥
+Happens (Deed.Direct c o xs) w = Directs w c o xs
+Happens (Deed.Put k x) w = Puts w k x
+Happens (Deed.Keep k x) w = Retains w k x
+Happens (Deed.Take k x) w = TakesJob w k x
+Happens (Deed.Commit k x r) w = Commits w k x (Step.Commit x.entry.ticket r)
+Happens (Deed.Busy k x) w = Commits w k x (Step.Busy x.entry.ticket)
+Happens (Deed.Abort k x why) w = Aborts w k x why
+Happens (Deed.Lose k x) w = ⊥
+Happens (Deed.Answer k x o xs) w = Answers w k x o xs
+Happens (Deed.Leave k place t jobs) w = Leaves w k place t jobs
+Happens (Deed.Mark t p m jobs) w = Marks w t p m jobs
+Happens (Deed.Ask t place rule b) w = Asks w t place rule b
+Happens (Deed.Fail t) w = Fails w t
+Happens (Deed.Check t p) w = Checks w t p
+Happens (Deed.Respond c r xs) w = Responds w c r xs
+Happens (Deed.Hard p jobs) w = Resets w p jobs
+Happens (Deed.Give e c xs) w = Gives w e c xs
+Happens (Deed.Miss e) w = Misses w e
+Happens (Deed.Idle e) w = ⊥
+
+-- what a phase would do where the device's own parts don't fit together
+abbrev pub Errs : Deed → PlainWorld → Type 0
+Errs (Deed.Lose k x) w = Loses w k x
+Errs (Deed.Stall x) w = Stalls w x
+Errs d w = ⊥
+
+-- an event that can do nothing does nothing
+abbrev pub May : Deed → PlainWorld → Type 0
+May (Deed.Idle e) w = (d : Deed) → event_of d ≡ e → Happens d w ⊎ Errs d w → ⊥
+May (Deed.Lose k x) w = Loses w k x
+May (Deed.Stall x) w = Stalls w x
+May d w = Happens d w
+
+-- one event and its action
+pub record WorldStep (w : PlainWorld) (e : Event) (a : Action) (w' : PlainWorld) : Type 0 where
+  pub deed : Deed
+  pub event : event_of deed ≡ e
+  pub action : action_of deed ≡ a
+  pub may : May deed w
+  pub is : w' ≡ after deed w
+
+-- memory may be refused where one of these deeds would happen; nothing is changed then
+abbrev pub MayWant : Event → PlainWorld → Type 0
+MayWant (Event.Fetch q) w = (d : Deed) × (event_of d ≡ Event.Fetch q) × Happens d w
+MayWant (Event.Hard u) w = (d : Deed) × (event_of d ≡ Event.Hard u) × Happens d w
+MayWant e w = ⊥
+
+-- an event and its action
+pub record Occurrence : Type 0 where
+  pub event : Event
+  pub action : Action
+
+-- the trace, newest first, leads step by step from one world to another
+abbrev pub Runs : PlainWorld → List Occurrence → PlainWorld → Type 0
+Runs old [] w = w ≡ old
+Runs old (e ∷ past) w = (m : PlainWorld) × Runs old past m × WorldStep m e.event e.action w
+
+pub record Reached (old : PlainWorld) (trace : List Occurrence) (w : PlainWorld) : Type 0 where
+  pub opens : Opens old
+  pub runs : Runs old trace w
+
+-- the deeds of a run
+abbrev pub deeds_of : (old : PlainWorld) (trace : List Occurrence) (w : PlainWorld) → Runs old trace w → List Deed
+deeds_of old [] w r = []
+deeds_of old (e ∷ past) w r = r.2.deed ∷ deeds_of old past r.0 r.1
+
+-- Deeds fix the world: the laws are said over these.
+
+abbrev pub occurrence_of : Deed → Occurrence
+occurrence_of d = record { event = event_of d; action = action_of d }
+
+abbrev pub world_of : PlainWorld → List Deed → PlainWorld
+world_of old [] = old
+world_of old (d ∷ past) = after d (world_of old past)
+
+-- each deed might happen in the world before it
+abbrev pub Leads : PlainWorld → List Deed → Type 0
+Leads old [] = ⊤
+Leads old (d ∷ past) = Leads old past × May d (world_of old past)

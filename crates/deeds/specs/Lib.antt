@@ -1,0 +1,10 @@
+pub mod Parts
+pub mod World
+pub mod Events
+pub mod Deeds
+pub mod After
+pub mod Happens
+pub mod Phases
+pub mod Laws
+pub mod Places
+pub mod Lawful
