@@ -32,7 +32,7 @@ one_goes : (s : Step) (k : ℕ) (us : List PlainUnit) (u : PlainUnit) → slice_
     → IsFree s u.steps → All us → All (change (stepped s) k us)
 one_goes s k us u at may free h = one_changes (stepped s) k us u at (unit_goes s u may free) h
 
-may_strike : (m : Strike) (u : PlainUnit) → MayStep u (step_by m)
+pub may_strike : (m : Strike) (u : PlainUnit) → MayStep u (step_by m)
 may_strike (Abort rule) u = tt
 may_strike (Reset c) u = tt
 

@@ -12,3 +12,17 @@ pub mod Staying
 pub mod Numbering
 pub mod Holding
 pub mod Histories
+pub mod Deciding
+pub mod Functions
+pub mod Floors
+pub mod Applying
+pub mod Outstanding
+pub mod Chains
+pub mod Owning
+pub mod Handed
+pub mod Sums
+pub mod Named
+pub mod Tasks
+pub mod Working
+pub mod Rooms
+pub mod Turning

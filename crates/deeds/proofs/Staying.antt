@@ -11,7 +11,7 @@ use Rattle.task_set.specs.Jobs.{PlainJob}
 use Rattle.unit_history.specs.Unit.{after as stepped, parking}
 use Rattle.task_mgmt.specs.Functions.{step_by}
 use Rattle.deeds.specs.Parts.{Outcome, Slot, Hand}
-use Rattle.deeds.specs.World.{PlainWorld, change, owner, Everywhere}
+use Rattle.deeds.specs.World.{PlainWorld, Opens, change, owner, Everywhere}
 use Rattle.deeds.specs.Deeds.{Deed}
 use Rattle.deeds.specs.After.{hard_code, arriving, taking, slotted, broken_by, completing, directing, spending, with_hand, without_first, with_jobs, leaving, completed, after}
 use Rattle.deeds.specs.Happens.{Occurrence, May, Runs}
@@ -154,6 +154,13 @@ run_stays old trace w r =
     run_keeps (λ v. KeepsParts old v) (λ d v m h. joined old v (after d v) h (deed_stays d v))
     old trace w (all_stay old)
     r
+
+-- there are as many units as addresses
+pub units_listed : (old : PlainWorld) (trace : List Occurrence) (w : PlainWorld) → Opens old → Runs old trace w
+    → length w.units ≡ length w.inventory
+units_listed old trace w o r =
+    let k = run_stays old trace w r in
+    k.units ∙ o.there ∙ ap length (sym k.inventory)
 
 long_with : (m : List ℕ) (at : ℕ) (bs : List ℕ) → LiesIn (length m) at (length bs)
     → length (with_bytes m at bs) ≡ length m

@@ -9,7 +9,7 @@ use Rattle.scsi_codec.specs.declared.control_queue.Control.{Control}
 use Rattle.scsi_codec.specs.declared.control_queue.FunctionResponse.{FunctionResponse}
 use Rattle.ring_core.specs.State.{PlainChain}
 use Rattle.ring_core.specs.Writes.{Write}
-use Rattle.ring_core.specs.Offer.{Offers, Refused}
+use Rattle.ring_core.specs.Offer.{Offers, Refused, MayLackMemory}
 use Rattle.ring_core.specs.Fetch.{Takes}
 use Rattle.ring_core.specs.declared.fault.RingFault.{RingFault}
 use Rattle.ring_core.specs.declared.log.Ticket.{Ticket}
@@ -344,10 +344,18 @@ pub record WorldStep (w : PlainWorld) (e : Event) (a : Action) (w' : PlainWorld)
   pub may : May deed w
   pub is : w' ≡ after deed w
 
--- memory may be refused where one of these deeds would happen; nothing is changed then
+-- what a fetch may be refused memory for
+pub record WantsFetch (w : PlainWorld) (i : ℕ) : Type 0 where
+  pub queue : PlainQueue
+  pub there : QueueIs w i queue
+  pub empty : queue.slot ≡ Slot.Empty
+  pub opened : IsOpenTo w i
+  pub wants : MayLackMemory queue.ring w.memory
+
+-- memory may be refused to these events alone; nothing is changed then
 abbrev pub MayWant : Event → PlainWorld → Type 0
-MayWant (Event.Fetch q) w = (d : Deed) × (event_of d ≡ Event.Fetch q) × Happens d w
-MayWant (Event.Hard u) w = (d : Deed) × (event_of d ≡ Event.Hard u) × Happens d w
+MayWant (Event.Fetch i) w = WantsFetch w i
+MayWant (Event.Hard place) w = (u : PlainUnit) × UnitIs w place u
 MayWant e w = ⊥
 
 -- an event and its action

@@ -8,3 +8,6 @@ pub mod Phases
 pub mod Laws
 pub mod Places
 pub mod Lawful
+pub mod Standing
+pub mod Applies
+pub mod Turns

@@ -1,5 +1,5 @@
 -- What a deed asks of the unit, or of the queue with the memory, that one lock lends, and what it leaves there.
-use Rattle.std.specs.Prelude.{ℕ, ◌≡◌, ◌≤◌, ◌||◌, Bool, true, false, List, [], ◌∷◌, length, Option, Some, None, ◌⊎◌, slice_get, ⊤}
+use Rattle.std.specs.Prelude.{ℕ, ◌≡◌, ◌<◌, ◌≤◌, ◌||◌, Bool, true, false, List, [], ◌∷◌, length, Option, Some, None, ◌⊎◌, slice_get, ⊤}
 use Rattle.guest_mem.specs.Memory.{LiesIn}
 use Rattle.scsi_codec.specs.declared.lun.Address.{Address}
 use Rattle.scsi_codec.specs.declared.event_queue.Event.{Event as Report}
@@ -11,13 +11,14 @@ use Rattle.ring_core.specs.Offer.{Offers, Refused}
 use Rattle.ring_core.specs.Fetch.{Takes}
 use Rattle.ring_core.specs.declared.log.Ticket.{Ticket}
 use Rattle.decisions.specs.declared.decision.Decision.TheVariants as decision
-use Rattle.history.specs.Tasks.{is_blocked}
+use Rattle.history.specs.Tasks.{is_blocked, task_of}
 use Rattle.history.specs.Steps.{Step, alive, is_alive, floor}
 use Rattle.history.specs.Marks.{mark_of}
 use Rattle.history.specs.Clearing.{is_clear}
 use Rattle.history.specs.Seen.{any_met}
 use Rattle.task_set.specs.Jobs.{PlainJob}
 use Rattle.unit_history.specs.Unit.{PlainUnit, after as stepped, parking}
+use Rattle.unit_history.specs.Calls.{CannotCommit}
 use Rattle.task_mgmt.specs.Functions.{step_by, response_of}
 use Rattle.task_mgmt.specs.declared.control.ControlDecision.TheVariants as managed
 use Rattle.task_mgmt.specs.declared.kind.Kind.{Kind}
@@ -58,10 +59,12 @@ AsksUnit (Deed.Park x) u =
     MayStep u (Step.Enter x.entry) × (is_blocked x.entry (alive (Step.Enter x.entry ∷ u.steps)) ≡ true)
 AsksUnit (Deed.Full x) u = MayStep u (Step.Full x.entry.ticket)
 AsksUnit (Deed.Shed x) u = floor x.entry.ticket.queue u.steps ≤ x.entry.ticket.number
+AsksUnit (Deed.Stall x) u = x.entry.ticket.number < floor x.entry.ticket.queue u.steps
 AsksUnit (Deed.Commit k x r) u = MayStep u (Step.Commit x.entry.ticket r)
 AsksUnit (Deed.Busy k x) u = MayStep u (Step.Busy x.entry.ticket)
 AsksUnit (Deed.Abort k x why) u =
     (is_alive x.entry.ticket u.steps ≡ true) × (mark_of x.entry.ticket u.steps ≡ Some why)
+AsksUnit (Deed.Lose k x) u = CannotCommit (task_of x.entry.ticket (alive u.steps)) x u.steps
 AsksUnit (Deed.Leave k place t jobs) u = MayStep u (Step.Leave t) × (jobs ≡ handed_out u (Step.Leave t))
 AsksUnit (Deed.Mark t p m jobs) u = (p.place ≡ length u.steps) × (jobs ≡ handed_out u (step_by m))
 AsksUnit (Deed.Ask t place rule b) u = b ≡ any_met rule (alive u.steps)

@@ -1,7 +1,7 @@
 //! What holds of the device in every order of its steps. The laws say nothing of code: they hold of every program
 //! whose calls are deeds.
 
-ghost use Rattle.std.specs.Prelude.{ℕ, ◌≡◌, ◌+◌, ◌≤◌, ◌↔◌, ◌++◌, false, List, [], length, map, None, Some, slice_get};
+ghost use Rattle.std.specs.Prelude.{ℕ, ◌≡◌, ◌+◌, ◌≤◌, ◌↔◌, ◌++◌, false, Bool, List, [], length, map, None, Some, slice_get};
 ghost use Rattle.std.specs.List.{sum_by};
 ghost use Rattle.ring_core.specs.State.{tickets};
 ghost use Rattle.ring_core.specs.declared.log.Ticket.{Ticket};
@@ -9,7 +9,7 @@ ghost use Rattle.task_set.specs.Jobs.{PlainJob};
 ghost use Rattle.unit_history.specs.Unit.{PlainUnit};
 ghost use Rattle.deeds.specs.World.{PlainQueue, PlainWorld, Everywhere, Opens};
 ghost use Rattle.deeds.specs.Events.{Event as AnEvent};
-ghost use Rattle.deeds.specs.Deeds.{Deed, action_of};
+ghost use Rattle.deeds.specs.Deeds.{Deed, action_of, event_of};
 ghost use Rattle.deeds.specs.After.{after};
 ghost use Rattle.deeds.specs.Happens.{
   Happens,
@@ -37,6 +37,9 @@ ghost use Rattle.deeds.specs.Phases.{
 };
 ghost use Rattle.deeds.specs.Places.{Moves, accepted_worth, standing, used_worth, only, accepted_chains, used_chains};
 ghost use Rattle.deeds.specs.Lawful.{AreNumbered, AreUnits, KeepsParts, AllLieIn};
+ghost use Rattle.deeds.specs.Standing.{AreOwned, AreAtWork, AreBehind, HaveRoom, FunctionIsThere};
+ghost use Rattle.deeds.specs.Applies.{Applies};
+ghost use Rattle.deeds.specs.Turns.{Turns, IsStep};
 ghost use Rattle.deeds.specs.Laws.{AreApart, IsUsedBy, NoneIsUsed, memory_after, jobs_out, brings, ends};
 
 /// A device that was just opened is reached by the empty trace, and what runs behind a reached trace is reached by
@@ -145,4 +148,48 @@ pub fn parts_stay()
 /// and no others.
 pub fn histories_are_lawful()
     ensures { (old : PlainWorld) (trace : List Occurrence) (w : PlainWorld) → Reached old trace w → AreUnits w }
+{}
+
+/// In every world that is reached each chain that stands somewhere is outstanding in its own queue: where a chain is
+/// answered, its queue owns it.
+pub fn what_stands_is_owned()
+    ensures { (old : PlainWorld) (trace : List Occurrence) (w : PlainWorld) → Reached old trace w → AreOwned w }
+{}
+
+/// In every world that is reached each job that was handed out is that of a task that is alive in its unit: one that is
+/// to be committed may run or was marked, and isn't done; one that is to be answered or to leave is done or was marked.
+/// So a unit knows the task of each commit and of each leave.
+pub fn tasks_are_at_work()
+    ensures { (old : PlainWorld) (trace : List Occurrence) (w : PlainWorld) → Reached old trace w → AreAtWork w }
+{}
+
+/// In every world that is reached a request that arrived is the latest of its queue, its unit is there, and no history
+/// has its ticket or a later one of its queue: no unit finds it stale.
+pub fn tickets_rise()
+    ensures { (old : PlainWorld) (trace : List Occurrence) (w : PlainWorld) → Reached old trace w → AreBehind w }
+{}
+
+/// In every world that is reached no seat has more jobs than the units' task sets have places, and the hand-off has no
+/// more than its room.
+pub fn lists_have_room()
+    ensures { (old : PlainWorld) (trace : List Occurrence) (w : PlainWorld) → Reached old trace w → HaveRoom w }
+{}
+
+/// In every world that is reached the units that the open function has left to mark, and those of the marks that it waits
+/// for, are there.
+pub fn functions_find_their_units()
+    ensures { (old : PlainWorld) (trace : List Occurrence) (w : PlainWorld) → Reached old trace w →
+        FunctionIsThere (length w.units) w.function }
+{}
+
+/// Where a deed happens, its event applies; so an event that doesn't apply may do nothing.
+pub fn what_happens_applies()
+    ensures applies { (w : PlainWorld) (d : Deed) → Happens d w → Applies w (event_of d) }
+    ensures idle { (w : PlainWorld) (e : AnEvent) → (Applies w e → ⊥) → May (Deed.Idle e) w }
+{}
+
+/// A turn of an event is a step of the device, whose action says whether something changed.
+pub fn turns_are_steps()
+    ensures { (w : PlainWorld) (e : AnEvent) (changed : Bool) (next : PlainWorld) → Turns w e changed next →
+        IsStep w e changed next }
 {}

@@ -1,0 +1,140 @@
+-- What is decided names no units but those that are there.
+use Rattle.std.proofs.Common.{◌≡◌, ℕ, ◌<◌, ◌≤◌, Bool, true, false, cond, if◌then◌else◌, nat_lt, List, length, Option, Some, None, Result, Ok, Err, refl, subst, arith}
+use Rattle.std.specs.Prelude.{⊤, []}
+use Rattle.std.specs.List.{AllByRecursion}
+use Rattle.std.proofs.lemmas.Bool.Decides.{nat_tests}
+use Rattle.cdb.specs.Decoding.{command}
+use Rattle.cdb.specs.declared.commands.Command.{Command}
+use Rattle.scsi_codec.specs.Requests.{reading}
+use Rattle.scsi_codec.specs.ControlQueue.{answer_len}
+use Rattle.scsi_codec.specs.declared.lun.Address.{Address}
+use Rattle.scsi_codec.specs.declared.requests.Request.{Request}
+use Rattle.scsi_codec.specs.declared.requests.CodecFault.{CodecFault}
+use Rattle.scsi_codec.specs.declared.requests.CodecFault.TheVariants.{ShortRequest, ShortResponse, BadAddress}
+use Rattle.scsi_codec.specs.declared.responses.ResponseCode.TheVariants as code
+use Rattle.scsi_codec.specs.declared.control_queue.Control.{Control}
+use Rattle.scsi_codec.specs.declared.control_queue.Control.TheVariants.{TaskManagement, AsynchronousNotification, MalformedFunction, MalformedNotification}
+use Rattle.scsi_codec.specs.declared.control_queue.FunctionResponse.{FunctionResponse}
+use Rattle.decisions.specs.Inventory.{has_target, place_of}
+use Rattle.decisions.specs.UnitRequest.{PlainRequest}
+use Rattle.decisions.specs.Decision.{attribute_of, goes_both_ways, overruns, fails, decide_unit, decide_attribute, decide_command, decide_reading, decided}
+use Rattle.decisions.specs.declared.answer.ChainLengths.{ChainLengths}
+use Rattle.decisions.specs.declared.attribute.TaskAttribute.{TaskAttribute}
+use Rattle.decisions.specs.declared.decision.Decision.{Decision}
+use Rattle.decisions.specs.declared.decision.Decision.TheVariants as decision
+use Rattle.task_mgmt.specs.Control.{decided_of_function, decided_of, decided_with_room, Suits}
+use Rattle.task_mgmt.specs.Demands.{demanded, begun}
+use Rattle.task_mgmt.specs.declared.kind.Kind.{Kind}
+use Rattle.task_mgmt.specs.Functions.{PlainFunction}
+use Rattle.task_mgmt.specs.declared.control.ControlDecision.{ControlDecision}
+use Rattle.task_mgmt.specs.declared.control.ControlDecision.TheVariants as managed
+use Rattle.task_mgmt.proofs.Deciding.{suits_with_room}
+
+-- Of a request
+
+-- the unit that it goes to is one of so many
+abbrev IsThere : ℕ → Decision → Type 0
+IsThere n (decision.Direct answer) = ⊤
+IsThere n (decision.Enter place r) = place < n
+
+-- either way it is one of so many
+there_either : (b : Bool) (n : ℕ) (x y : Decision) → IsThere n x → IsThere n y → IsThere n (if b then x else y)
+there_either true n x y h g = h
+there_either false n x y h g = g
+
+-- a place that was found is within the list
+found_within : (n k place : ℕ) → cond (nat_lt k n) (Some k) None ≡ Some place → place < n
+found_within n k place e = grind (arith, nat_tests)
+
+-- it goes to the unit of the address, which is there
+unit_there : (o : Option ℕ) (m : ℕ) (n : ChainLengths) (bytes : List ℕ) (r : Request) (a : TaskAttribute) (c : Command)
+    → ((place : ℕ) → o ≡ Some place → place < m) → IsThere m (decide_unit o n bytes r a c)
+unit_there None m n bytes r a c h = tt
+unit_there (Some place) m n bytes r a c h = h place refl
+
+-- whatever its task attribute
+attribute_there : (o : Option TaskAttribute) (units : List Address) (n : ChainLengths) (bytes : List ℕ) (r : Request)
+    (c : Command) → IsThere (length units) (decide_attribute o units n bytes r c)
+attribute_there None units n bytes r c = tt
+attribute_there (Some a) units n bytes r c =
+    unit_there (place_of units r.address) (length units) n bytes r a c
+    (λ place e. found_within (length units) _ place e)
+
+-- whatever its command
+command_there : (units : List Address) (n : ChainLengths) (bytes : List ℕ) (r : Request) (c : Command)
+    → IsThere (length units) (decide_command units n bytes r c)
+command_there units n bytes r c =
+    there_either (overruns n c) (length units) (fails code.Overrun)
+    (decide_attribute (attribute_of r.attribute) units n bytes r c) tt
+    (attribute_there (attribute_of r.attribute) units n bytes r c)
+
+-- whatever was read
+reading_there : (o : Result Request CodecFault) (units : List Address) (n : ChainLengths) (bytes : List ℕ)
+    → IsThere (length units) (decide_reading o units n bytes)
+reading_there (Err ShortResponse) units n bytes = tt
+reading_there (Err ShortRequest) units n bytes = tt
+reading_there (Err BadAddress) units n bytes =
+    there_either (goes_both_ways n) (length units) (fails code.Failure) (fails code.BadTarget) tt tt
+reading_there (Ok r) units n bytes =
+    let c = command r.cdb in
+    let goes = decide_command units n bytes r c in
+    there_either (goes_both_ways n) (length units) (fails code.Failure)
+    (if has_target units r.address.target then goes else fails code.BadTarget) tt
+    (there_either (has_target units r.address.target) (length units) goes (fails code.BadTarget)
+    (command_there units n bytes r c) tt)
+
+-- the unit that a request goes to is there
+pub decided_there : (units : List Address) (bytes : List ℕ) (n : ChainLengths) (place : ℕ) (r : PlainRequest)
+    → decided units bytes n ≡ decision.Enter place r → place < length units
+decided_there units bytes n place r e =
+    subst (IsThere (length units)) e (reading_there (reading bytes n.writable) units n bytes)
+
+-- Of a function
+
+-- its units are among so many, and it waits for no mark
+abbrev OpensThere : ℕ → ControlDecision → Type 0
+OpensThere n (managed.Direct answer) = ⊤
+OpensThere n (managed.Opens f) = AllByRecursion (λ place. place < n) f.left × (f.waits ≡ [])
+
+-- it waits for no mark
+abbrev OpensNew : ControlDecision → Type 0
+OpensNew (managed.Direct answer) = ⊤
+OpensNew (managed.Opens f) = f.waits ≡ []
+
+-- a function that begins waits for no mark
+begun_new : (o : Result (Kind × List ℕ) FunctionResponse) → OpensNew (decided_of_function (begun o))
+begun_new (Ok (kind, places)) = refl
+begun_new (Err response) = tt
+
+-- and so does what is decided with room
+new_with_room : (units : List Address) (c : Control) → OpensNew (decided_with_room units c)
+new_with_room units (TaskManagement subtype address id) = begun_new (demanded units subtype address id)
+new_with_room units AsynchronousNotification = tt
+new_with_room units MalformedFunction = tt
+new_with_room units MalformedNotification = tt
+
+-- what suits the units, and waits for no mark
+suited : (n writable : ℕ) (d : ControlDecision) → Suits n writable d → OpensNew d → OpensThere n d
+suited n writable (managed.Direct answer) s new = tt
+suited n writable (managed.Opens f) s new = (s.1, new)
+
+-- without room no function opens
+with_room : (b : Bool) (n : ℕ) (d : ControlDecision) → (b ≡ false → OpensThere n d)
+    → OpensThere n (if b then managed.Direct [] else d)
+with_room true n d h = tt
+with_room false n d h = h refl
+
+-- where the answer isn't too long there is room
+roomy : (m n : ℕ) → nat_lt m n ≡ false → n ≤ m
+roomy m n e = grind (arith, nat_tests)
+
+-- the units of a function that opens are there, and it waits for no mark
+pub opened_there : (units : List Address) (c : Control) (writable : ℕ) (f : PlainFunction)
+    → decided_of units c writable ≡ managed.Opens f
+    → AllByRecursion (λ place. place < length units) f.left × (f.waits ≡ [])
+opened_there units c writable f e =
+    let n = length units in
+    let d = decided_with_room units c in
+    subst (OpensThere n) e
+    (with_room (nat_lt writable (answer_len c)) n d (λ b.
+    suited n writable d (suits_with_room units c writable (roomy writable (answer_len c) b)) (new_with_room units c)))

@@ -1,0 +1,121 @@
+-- The lists of jobs have room.
+use Rattle.std.proofs.Common.{◌≡◌, ℕ, ◌+◌, ◌*◌, ◌<◌, ◌≤◌, true, false, eqb, cond, List, [], ◌∷◌, length, Some, refl, sym, ◌∙◌, ap, arith, zero, suc, length-append, length-drop}
+use Rattle.std.specs.Prelude.{slice_get}
+use Rattle.std.specs.List.{AllByRecursion, sum_by}
+use Rattle.std.proofs.lemmas.Bool.{eq-eqb}
+use Rattle.std.proofs.lemmas.List.Sums.{sum_by-cons}
+use Rattle.std.proofs.lemmas.Option.{slice_get_within}
+use Rattle.history.specs.Steps.{alive}
+use Rattle.history.specs.Worths.{each_one}
+use Rattle.history.proofs.Tickets.{clash}
+use Rattle.history.proofs.Worth.{worth_ones}
+use Rattle.history.proofs.Few.{alive_few}
+use Rattle.task_set.specs.Jobs.{PlainJob}
+use Rattle.unit_history.specs.Unit.{PlainUnit}
+use Rattle.deeds.specs.World.{Seat, PlainWorld, Opens, Everywhere}
+use Rattle.deeds.specs.Deeds.{Deed}
+use Rattle.deeds.specs.After.{after}
+use Rattle.deeds.specs.Happens.{May, Occurrence, Runs}
+use Rattle.deeds.proofs.Staying.{run_keeps}
+use Rattle.deeds.proofs.Sums.{counts_one}
+use Rattle.deeds.proofs.Tasks.{of_place, seat_worth}
+use Rattle.deeds.proofs.Working.{ToCommit, Works}
+
+-- Places
+
+-- each place below the end has its item
+below_found : {X : Type 0} (xs : List X) (i : ℕ) → i < length xs → (x : X) × (slice_get xs i ≡ Some x)
+below_found [] i h = absurd (omega (arith, h))
+below_found (y ∷ xs) zero h = (y, refl)
+below_found (y ∷ xs) (suc i) h = below_found xs i (omega (arith, h))
+
+-- 1 for a place below this one
+abbrev below : ℕ → ℕ → ℕ
+below zero i = 0
+below (suc n) i = below n i + cond (eqb i n) 1 0
+
+one_below : (n i : ℕ) → i < n → 1 ≤ below n i
+one_below zero i h = absurd (omega (arith, h))
+one_below (suc n) i h =
+    (elim (eqb i n) as (λ b. eqb i n ≡ b → 1 ≤ below n i + cond b 1 0) [
+      | true ↦ λ q. omega (arith)
+      | false ↦ λ q.
+          let no : (i ≡ n → ⊥) = λ e. clash (sym (eq-eqb i n e) ∙ q) in
+          let a = one_below n i (omega (arith, h, no)) in
+          omega (arith, a)
+    ]) refl
+
+-- the jobs for units below a place
+abbrev under : ℕ → List PlainJob → ℕ
+under n xs = sum_by (λ (x : PlainJob). below n x.unit) xs
+
+under_next : (n : ℕ) (xs : List PlainJob) → under (suc n) xs ≡ under n xs + sum_by (of_place n each_one) xs
+under_next n [] = refl
+under_next n (x ∷ xs) =
+    let a = under_next n xs in
+    let b = sum_by-cons (λ (y : PlainJob). below (suc n) y.unit) x xs in
+    let c = sum_by-cons (λ (y : PlainJob). below n y.unit) x xs in
+    let d = sum_by-cons (of_place n each_one) x xs in
+    omega (arith, a, b, c, d)
+
+under_zero : (xs : List PlainJob) → under zero xs ≡ 0
+under_zero [] = refl
+under_zero (x ∷ xs) =
+    let a = under_zero xs in
+    let b = sum_by-cons (λ (y : PlainJob). below zero y.unit) x xs in
+    omega (arith, a, b)
+
+-- where no unit has more jobs than this, all those below a place have no more than so many times it
+few_under : (m n : ℕ) (xs : List PlainJob) → ((i : ℕ) → i < n → sum_by (of_place i each_one) xs ≤ m)
+    → under n xs ≤ m * n
+few_under m zero xs h = let a = under_zero xs in omega (arith, a)
+few_under m (suc n) xs h =
+    let a = few_under m n xs (λ i l. h i (omega (arith, l))) in
+    let b = under_next n xs in
+    let c = h n (omega (arith)) in
+    let e : m * suc n ≡ m * n + m = search (arith) in
+    omega (arith, a, b, c, e)
+
+all_under : (us : List PlainUnit) (xs : List PlainJob) → AllByRecursion (ToCommit us) xs
+    → length xs ≤ under (length us) xs
+all_under us [] h = omega (arith)
+all_under us (x ∷ xs) h =
+    let a = all_under us xs h.1 in
+    let b = one_below (length us) x.unit (slice_get_within us x.unit h.0.0 h.0.1) in
+    let c = sum_by-cons (λ (y : PlainJob). below (length us) y.unit) x xs in
+    omega (arith, a, b, c)
+
+-- a seat has no more jobs of a unit than there may be tasks
+few_of : (w : PlainWorld) (k : ℕ) (s : Seat) → Works w → slice_get w.seats k ≡ Some s → (n : ℕ) → n < length w.units
+    → sum_by (of_place n each_one) s.out ≤ 64
+few_of w k s h at n l =
+    let u = below_found w.units n l in
+    let is = h.0 n u.0 u.1 in
+    let b = h.2 n each_one u.0 u.1 in
+    let o = worth_ones (alive u.0.steps) in
+    let f = alive_few u.0.opening u.0.steps is.lawful in
+    let c = counts_one (seat_worth n each_one) k w.seats s at in
+    omega (arith, b, o, f, c)
+
+pub seats_room : (w : PlainWorld) → Works w → Everywhere (λ k s. length s.out ≤ 64 * length w.units) w.seats
+seats_room w h k s at =
+    let a = all_under w.units s.out (h.3.0 k s at).1 in
+    let b = few_under 64 (length w.units) s.out (few_of w k s h at) in
+    omega (arith, a, b)
+
+-- The hand-off
+
+abbrev HasRoom : PlainWorld → Type 0
+HasRoom w = length w.handed_off ≤ w.limit
+
+deed_room : (d : Deed) (w : PlainWorld) → May d w → HasRoom w → HasRoom (after d w)
+deed_room (Deed.Put k x) w m h =
+    let a = length-append w.handed_off (x ∷ []) in
+    omega (arith, a, m.room)
+deed_room (Deed.Take k x) w m h = let a = length-drop 1 w.handed_off in omega (arith, a, h)
+deed_room d w m h = h
+
+pub run_room : (old : PlainWorld) (trace : List Occurrence) (w : PlainWorld) → Opens old → Runs old trace w → HasRoom w
+run_room old trace w o r =
+    let z = ap (λ (l : List PlainJob). length l) o.handed_off in
+    run_keeps HasRoom deed_room old trace w (omega (arith, z)) r
