@@ -141,6 +141,18 @@ impl DirectAnswer {
         DirectAnswer { bytes }
     }
 
+    /// These bytes, which another table gives.
+    pub fn of_bytes(from: &[u8]) -> DirectAnswer
+        requires { length from.now ≤ MOST_DIRECT_BYTES }
+        ensures { result ≡ from.now }
+    {
+        let mut bytes = ArrayVec::new();
+        let Ok(()) = bytes.try_extend_from_slice(from) else {
+            unreachable!()
+        };
+        DirectAnswer { bytes }
+    }
+
     /// Its bytes.
     pub fn as_slice(&self) -> &[u8]
         ensures bytes { result.now ≡ self.now }

@@ -1,7 +1,7 @@
 //! One task management function, from its beginning to its response.
 
 ghost use Rattle.std.specs.Prelude.{◌≡◌, ◌<◌, ◌≤◌, length, slice_get};
-ghost use Rattle.task_mgmt.specs.Functions.{opened, marking, next_mark, asking, failing, checking, is_over, response_of};
+ghost use Rattle.task_mgmt.specs.Functions.{opened, marking, next_mark, asking, failing, checking, is_over, response_of, IsKnownKind};
 
 use crate::kind::Kind;
 use arrayvec::ArrayVec;
@@ -31,7 +31,7 @@ pub struct Function {
 
 impl Model for Function {
     ghost use Rattle.std.specs.Prelude.{◌+◌, ◌≤◌, length};
-    ghost use Rattle.task_mgmt.specs.Functions.{PlainFunction};
+    ghost use Rattle.task_mgmt.specs.Functions.{PlainFunction, IsKnownKind};
 
     ghost Value = { PlainFunction };
 
@@ -43,12 +43,13 @@ impl Model for Function {
       waits = f.waits.items;
     } };
 
-    ghost invariant = { λ f. length f.left.items + length f.waits.items ≤ 64 };
+    ghost invariant = { λ f. (length f.left.items + length f.waits.items ≤ 64) × IsKnownKind f.kind };
 }
 
 impl Function {
     /// A function that has visited none of its units.
     pub(crate) fn opened(kind: Kind, units: ArrayVec<usize, MOST_UNITS>) -> Function
+        requires { IsKnownKind kind }
         ensures { result ≡ opened kind units.items }
     {
         Function {
@@ -62,7 +63,8 @@ impl Function {
 
     /// What it does on each of its units. Whoever visits the next one asks this first.
     pub fn kind(&self) -> Kind
-        ensures { result ≡ self.now.kind }
+        ensures kind { result ≡ self.now.kind }
+        ensures known { IsKnownKind self.now.kind }
     {
         self.kind
     }

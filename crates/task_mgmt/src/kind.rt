@@ -1,7 +1,7 @@
 //! What a function does on each of its units.
 
-ghost use Rattle.std.specs.Prelude.{◌≡◌};
-ghost use Rattle.task_mgmt.specs.Functions.{kind_of};
+ghost use Rattle.std.specs.Prelude.{◌≡◌, IfSome};
+ghost use Rattle.task_mgmt.specs.Functions.{kind_of, IsKnownKind};
 
 use history::Rule;
 use unit_attention::Code;
@@ -26,7 +26,8 @@ pub enum Kind {
 
 /// What the function of a subtype (VIRTIO 1.2 §5.6.6.2) does; `None` for one that isn't offered.
 pub(crate) fn kind_of(subtype: u32, id: u64) -> Option<Kind>
-    ensures { result ≡ kind_of subtype id }
+    ensures kind { result ≡ kind_of subtype id }
+    ensures known { IfSome result IsKnownKind }
 {
     match subtype {
         0 => Some(Kind::Marking(Strike::Abort(Rule::Id(id)))),

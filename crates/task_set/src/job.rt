@@ -1,13 +1,17 @@
 //! What is handed from hand to hand until a request is answered.
 
 ghost use Rattle.std.specs.Prelude.{◌≡◌, ◌<◌, [], ◌∷◌, ◌++◌, length, IfOk, drop, slice_get};
+ghost use Rattle.std.specs.Prelude.{◌+◌, ◌≤◌, ◌^◌};
+ghost use Rattle.ring_core.specs.Parts.{readable_total, writable_total};
 ghost use Rattle.history.specs.Tasks.{entry_of};
+ghost use Rattle.task_set.specs.Jobs.{HasRoom};
 
 use cdb::Command;
-use decisions::{TaskAttribute, UnitRequest};
+use decisions::{ChainLengths, TaskAttribute, UnitRequest};
 use record::Record;
 use ring_core::{Chain, Ticket};
 use std::alloc::{AllocError, Global};
+use std::collections::VecDeque;
 use std::marker::Model;
 
 /// A request for a unit that has not entered its task set yet: its chain, and the request with its data.
@@ -21,16 +25,20 @@ pub struct Arrival {
 
 impl Model for Arrival {
     ghost use Rattle.history.specs.Tasks.{entry_of};
-    ghost use Rattle.task_set.specs.Jobs.{PlainJob};
+    ghost use Rattle.task_set.specs.Jobs.{PlainJob, HasRoom};
 
     ghost Value = { PlainJob };
 
     ghost view = { λ a. record { unit = a.unit; chain = a.chain; entry = entry_of a.chain.ticket a.request } };
+
+    ghost invariant = { λ a. HasRoom a.chain a.request.command };
 }
 
 impl Arrival {
-    /// The request of a chain, for the unit at this place of the inventory.
+    /// The request of a chain, for the unit at this place of the inventory. The chain has room for its answer, which
+    /// whoever decided that it goes to a unit has seen.
     pub fn new(unit: usize, chain: Chain, request: UnitRequest) -> Arrival
+        requires { HasRoom chain request.command }
         ensures { result ≡ record { unit = unit; chain = chain; entry = entry_of chain.ticket request } }
     {
         Arrival {
@@ -105,7 +113,7 @@ pub struct Job {
 }
 
 impl Model for Job {
-    ghost use Rattle.task_set.specs.Jobs.{PlainJob};
+    ghost use Rattle.task_set.specs.Jobs.{PlainJob, HasRoom};
 
     ghost Value = { PlainJob };
 
@@ -120,6 +128,8 @@ impl Model for Job {
         data_out = j.data_out.items;
       };
     } };
+
+    ghost invariant = { λ j. HasRoom j.chain j.command };
 }
 
 impl Job {
@@ -166,6 +176,20 @@ impl Job {
         &self.chain
     }
 
+    /// How many bytes of its chain may be read, and how many written: there is room for the answer.
+    pub fn lengths(&self) -> ChainLengths
+        ensures readable { result.readable ≡ readable_total self.now.chain.parts }
+        ensures writable { result.writable ≡ writable_total self.now.chain.parts }
+        ensures sum { result.readable + result.writable ≤ 2 ^ 32 }
+        ensures room { HasRoom self.now.chain self.now.entry.command }
+    {
+        let _parts = self.chain.parts();
+        ChainLengths {
+            readable: self.chain.readable_len(),
+            writable: self.chain.writable_len(),
+        }
+    }
+
     /// Its chain, to be completed.
     pub fn into_chain(self) -> Chain
         ensures { result ≡ self.chain }
@@ -178,19 +202,20 @@ impl Job {
 /// Jobs in order, at most as many as a limit, for which room was made once.
 #[derive(Debug, Drop)]
 pub struct JobList {
-    jobs: Vec<Job>,
+    jobs: VecDeque<Job>,
     limit: usize,
 }
 
 impl Model for JobList {
-    ghost use Rattle.std.specs.Prelude.{◌≤◌, vec_capacity, vec_len};
+    ghost use Rattle.std.specs.Prelude.{◌≤◌};
+    ghost use Rattle.std.specs.VecDeque.{deque_capacity, deque_len};
     ghost use Rattle.task_set.specs.Jobs.{Jobs};
 
     ghost Value = { Jobs };
 
     ghost view = { λ l. record { jobs = l.jobs.items; limit = l.limit } };
 
-    ghost invariant = { λ l. (vec_len l.jobs ≤ l.limit) × (l.limit ≤ vec_capacity l.jobs) };
+    ghost invariant = { λ l. (deque_len l.jobs ≤ l.limit) × (l.limit ≤ deque_capacity l.jobs) };
 }
 
 impl JobList {
@@ -199,7 +224,7 @@ impl JobList {
         ensures { IfOk result (λ l. l ≡ record { jobs = []; limit = limit }) }
     {
         Ok(JobList {
-            jobs: Vec::with_capacity(alloc, limit)?,
+            jobs: VecDeque::with_capacity(alloc, limit)?,
             limit,
         })
     }
@@ -223,7 +248,7 @@ impl JobList {
         requires { length self.old.jobs < self.old.limit }
         ensures { self.new ≡ record self.old { jobs = self.old.jobs ++ job ∷ [] } }
     {
-        match self.jobs.push(job) {
+        match self.jobs.push_back(job) {
             Ok(()) => {}
             Err(_) => unreachable!(),
         }
@@ -234,9 +259,6 @@ impl JobList {
         ensures first { result ≡ slice_get self.old.jobs 0 }
         ensures rest { self.new ≡ record self.old { jobs = drop 1 self.old.jobs } }
     {
-        if self.jobs.is_empty() {
-            return None;
-        }
-        Some(self.jobs.remove(0))
+        self.jobs.pop_front()
     }
 }

@@ -1,0 +1,50 @@
+-- What a commit at a unit is, as a deed.
+use Rattle.std.proofs.Common.{ℕ, ◌≡◌, true, refl, ap, ◌∙◌, subst}
+use Rattle.std.specs.Prelude.{is_some}
+use Rattle.history.specs.Endings.{Ending}
+use Rattle.history.specs.Contents.{reply_after}
+use Rattle.task_set.specs.Jobs.{PlainJob}
+use Rattle.unit_history.specs.Unit.{PlainUnit}
+use Rattle.unit_history.specs.Calls.{Commits}
+use Rattle.unit_history.specs.Endings.{ending_of, ending_of_reply}
+use Rattle.unit_history.specs.declared.answers.Outcome as outcome_type
+use Rattle.unit_history.specs.declared.answers.Outcome.TheVariants as outcome
+use Rattle.deeds.specs.Parts.{Outcome, Hand}
+use Rattle.deeds.specs.Deeds.{Deed}
+use Rattle.phases.specs.Doing.{DoesUnit}
+use Rattle.phases.specs.Outcomes.{PlainDone}
+use Rattle.phases.specs.Units.{IsCommitting, ending_after}
+use Rattle.phases.specs.Units as units
+
+-- a deed of the job's commit by a seat, with what it does to the unit and how the job ends
+abbrev pub CommitsAs : ℕ → PlainJob → PlainUnit → Ending → PlainUnit → Type 0
+CommitsAs k x u ending v = (d : Deed) × IsCommitting k x d × DoesUnit d u v × (ending ≡ ending_after d)
+
+-- a commit is one of its deeds, whatever the seat
+pub committed : (k : ℕ) (x : PlainJob) (u v : PlainUnit) (what : outcome_type.Outcome)
+    → Commits u x what v → CommitsAs k x u (ending_of what) v
+committed k x u v (outcome.Reply receipt) (e, of, ready, is, step) =
+    let told = ap (λ r. ending_of_reply r.reply) is in
+    let d = Deed.Commit k x (reply_after u.opening e u.steps) in
+    (d, (refl, refl), record { asks = step.may; is = step.is }, told)
+committed k x u v (outcome.Aborted why) (e, of, mark, same) =
+    (Deed.Abort k x why, (refl, refl), record { asks = (ap is_some of.is_there, mark); is = same }, refl)
+committed k x u v outcome.Busy (e, of, want, step) =
+    (Deed.Busy k x, (refl, refl), record { asks = step.may; is = step.is }, refl)
+committed k x u v outcome.Unknown (cannot, same) =
+    (Deed.Lose k x, (refl, refl), record { asks = cannot; is = same }, refl)
+
+-- the hand whose job was committed then has what came of it
+pub taken : (h : Hand) (x : PlainJob) (u v : PlainUnit) (what : outcome_type.Outcome) (made : PlainDone)
+    → Hand.Taken x ≡ h → Commits u x what v → made ≡ record { job = x; ending = ending_of what }
+    → units.Commits h u true v (Hand.Done made.job (Outcome.Ended made.ending))
+taken h x u v what made is ran same =
+    subst (λ (g : Hand). units.Commits g u true v (Hand.Done made.job (Outcome.Ended made.ending))) is
+    (λ k.
+    let (d, of, does, ends) = committed k x u v what ran in (
+      d,
+      of,
+      does,
+      ap (λ (y : PlainDone). Hand.Done y.job (Outcome.Ended y.ending)) same
+          ∙ ap (λ (e : Ending). Hand.Done x (Outcome.Ended e)) ends,
+    ))

@@ -1,0 +1,38 @@
+use Rattle.std.proofs.Common.{◌≤◌, arith, refl}
+use Rattle.phases.specs.Parts.{slot_of}
+use Rattle.phases.proofs.Reading.{read_of_taken}
+use Rattle.phases.proofs.Taking.{request_taken, broken}
+use Rattle.deeds.specs.Deeds.{Deed}
+use Rattle.phases.proofs.fetching.phase_fetch.Goals as goal
+
+pub decided_slot-requires : goal.decided_slot-requires
+decided_slot-requires c =
+    let looked = rw c.in-Ok-Got.field-0-is at c.in-Ok-Got.ensures in
+    let fetched = c.in-Ok-Got.fetched in
+    read_of_taken c.args.queue.now.ring c.fetch.new.self.ring c.args.memory.now fetched.chain fetched.bytes.items
+    (c.if-not-fits.ensures.0 refl) c.parts-parts.ensures.fit looked.0
+
+pub returns-in-Ok-Broke : goal.returns-in-Ok-Broke
+returns-in-Ok-Broke c =
+    let looked = rw c.in-Ok-Broke.field-0-is at c.in-Ok-Broke.ensures in
+    let old = c.args.queue.now in (
+      omega (arith, c.number.ensures, c.if-number-lt2.false),
+      record { empty = c.if-not-is_empty.ensures.0 refl; fits = c.if-not-fits.ensures.0 refl },
+      (
+        Deed.Break old.ring.queue looked.fault,
+        refl,
+        broken c.args.inventory.now old c.fetch.new.self c.args.memory.now (slot_of c.args.slot.now) looked,
+      ),
+    )
+
+pub returns-in-Ok-Got : goal.returns-in-Ok-Got
+returns-in-Ok-Got c =
+    let looked = rw c.in-Ok-Got.field-0-is at c.in-Ok-Got.ensures in
+    let fetched = c.in-Ok-Got.fetched in
+    let two : 2 ≤ c.args.queue.now.ring.queue = omega (arith, c.number.ensures, c.if-number-lt2.false) in (
+      two,
+      record { empty = c.if-not-is_empty.ensures.0 refl; fits = c.if-not-fits.ensures.0 refl },
+      request_taken c.args.inventory.now c.args.queue.now c.fetch.new.self c.args.memory.now fetched.chain
+          fetched.bytes.items (slot_of c.args.slot.now) looked.0 looked.1 (slot_of c.decided_slot.result) two
+          c.decided_slot.ensures,
+    )

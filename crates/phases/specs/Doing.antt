@@ -1,0 +1,39 @@
+-- What a phase does on what one lock lends: what a deed asks there, and what it leaves.
+use Rattle.std.specs.Prelude.{ℕ, ◌≡◌, ◌+◌, ◌≤◌, ◌++◌, Bool, List, length}
+use Rattle.scsi_codec.specs.declared.lun.Address.{Address}
+use Rattle.ring_core.specs.State.{PlainChain, Owns}
+use Rattle.task_set.specs.Jobs.{PlainJob, Jobs}
+use Rattle.unit_history.specs.Unit.{PlainUnit}
+use Rattle.deeds.specs.Parts.{Slot}
+use Rattle.deeds.specs.World.{PlainQueue}
+use Rattle.deeds.specs.Deeds.{Deed}
+use Rattle.deeds.specs.Phases.{AsksUnit, unit_after, AsksQueue, queue_after, bytes_after}
+use Rattle.phases.specs.Queue.{Lent, with_slot}
+
+-- a deed on a unit
+pub record DoesUnit (d : Deed) (u u' : PlainUnit) : Type 0 where
+  pub asks : AsksUnit d u
+  pub is : u' ≡ unit_after d u
+
+-- a deed on a queue with memory, where these units are
+pub record DoesQueue (inventory : List Address) (d : Deed) (q : PlainQueue) (m : List ℕ) (q' : PlainQueue) (m' : List ℕ) : Type 0 where
+  pub asks : (missed : Bool) → AsksQueue inventory missed d q m
+  pub queue : q' ≡ queue_after d m q
+  pub memory : m' ≡ bytes_after d m
+
+-- a deed on a queue with memory, whatever units there are and whatever stands in the queue's slot
+abbrev pub AtQueue : Deed → Lent → List ℕ → Lent → List ℕ → Type 0
+AtQueue d q m q' m' = (inventory : List Address) (s : Slot) → DoesQueue inventory d (with_slot s q) m (with_slot s q') m'
+
+-- the memory is the queue's, and the queue owns the chain
+pub record MayComplete (q : Lent) (m : List ℕ) (c : PlainChain) : Type 0 where
+  pub fits : length m ≡ q.ring.memory
+  pub owned : Owns q.ring c
+
+-- a list with these jobs behind its own
+abbrev pub with_more : List PlainJob → Jobs → Jobs
+with_more jobs out = record out { jobs = out.jobs ++ jobs }
+
+-- there is room for all that a unit may hand out
+abbrev pub HasPlaces : Jobs → Type 0
+HasPlaces out = length out.jobs + 64 ≤ out.limit

@@ -1,0 +1,10 @@
+pub mod AnyRing
+pub mod Queue
+pub mod Looking
+pub mod Outcomes
+pub mod Parts
+pub mod Doing
+pub mod Fetching
+pub mod Units
+pub mod Answering
+pub mod Bytes

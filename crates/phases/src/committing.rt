@@ -1,0 +1,52 @@
+//! The steps in which a job's command runs, and its task leaves.
+
+ghost use Rattle.phases.specs.Parts.{hand_of};
+ghost use Rattle.phases.specs.Units.{Commits, Leaves};
+
+use crate::done::Done;
+use crate::entering::has_places;
+use crate::hand::Hand;
+use std::mem;
+use unit_history::{JobList, UnitState, Unknown};
+
+/// The job in the hand is committed at its unit, which whoever calls has found by the hand: its command runs whole, or it
+/// was marked, or memory was refused. The hand then has what came of it. Whether something changed: not where no job is in
+/// the hand that is to be committed.
+pub fn phase_commit(unit: &mut UnitState, hand: &mut Hand) -> bool
+    ensures { Commits (hand_of hand.old) unit.old result unit.new (hand_of hand.new) }
+{
+    match mem::replace(hand, Hand::Free) {
+        Hand::Taken(job) => {
+            let outcome = unit.commit(&job);
+            *hand = Hand::Done(Done::new(job, outcome));
+            true
+        }
+        other => {
+            *hand = other;
+            false
+        }
+    }
+}
+
+/// The task in the hand leaves its unit, which whoever calls has found by the hand; the jobs that this lets go on are
+/// appended to the list. Whether something changed: not where no task is in the hand, or where the list has fewer than 64
+/// free places. A unit that doesn't know the task, which never happens in one device, stays as it was, and the hand lets go.
+pub fn phase_leave(unit: &mut UnitState, hand: &mut Hand, out: &mut JobList) -> bool
+    ensures { Leaves (hand_of hand.old) unit.old out.old result unit.new (hand_of hand.new) out.new }
+{
+    if !has_places(out) {
+        return false;
+    }
+    match mem::replace(hand, Hand::Free) {
+        Hand::Answered(_, answered) => {
+            match unit.leave(answered, out) {
+                Ok(()) => true,
+                Err(Unknown) => false,
+            }
+        }
+        other => {
+            *hand = other;
+            false
+        }
+    }
+}

@@ -1,0 +1,61 @@
+//! The step in which a request comes to its unit.
+
+ghost use Rattle.phases.specs.Parts.{slot_of};
+ghost use Rattle.phases.specs.Units.{Enters, EntersAs};
+ghost use Rattle.phases.specs.Doing.{HasPlaces};
+ghost use Rattle.std.specs.Prelude.{IsTrue, ◌↔◌, ◌≡◌};
+
+use crate::ready::Ready;
+use crate::refusal::Refusal;
+use crate::slot::Slot;
+use std::mem;
+use unit_history::{Arrival, Entered, JobList, UnitState};
+
+/// How many jobs a unit hands out at most in one call: one for each task of its task set.
+pub(crate) const TASKS: usize = 64;
+
+/// Whether there is room for all that a unit may hand out.
+pub(crate) fn has_places(out: &JobList) -> bool
+    ensures { IsTrue result ↔ HasPlaces out.now }
+{
+    out.len() <= out.limit() && out.limit() - out.len() >= TASKS
+}
+
+/// A request comes to its unit: what stands in the slot then.
+fn enter(unit: &mut UnitState, arrival: Arrival, out: &mut JobList) -> Slot
+    requires { HasPlaces out.old }
+    ensures { EntersAs arrival unit.old out.old unit.new (slot_of result) out.new }
+{
+    match unit.enter(arrival) {
+        Entered::Run(job) => {
+            out.push(job);
+            Slot::Empty
+        }
+        Entered::Parked => Slot::Empty,
+        Entered::Full(job) => Slot::Ready(Ready::refused(job, Refusal::Full)),
+        Entered::Busy(job) => Slot::Ready(Ready::refused(job, Refusal::Busy)),
+        Entered::Stale(job) => Slot::Ready(Ready::refused(job, Refusal::Stale)),
+    }
+}
+
+/// The request that arrived comes to its unit, which whoever calls has found by the slot: it enters, and its job is
+/// appended to the list where nothing blocks it; or it stands in the slot to be answered TASK SET FULL, BUSY or FAILURE.
+/// Whether something changed: not where no request arrived, or where the list has fewer than 64 free places.
+pub fn phase_enter(unit: &mut UnitState, slot: &mut Slot, out: &mut JobList) -> bool
+    ensures { Enters (slot_of slot.old) unit.old out.old result unit.new (slot_of slot.new) out.new }
+{
+    if !has_places(out) {
+        return false;
+    }
+    match mem::replace(slot, Slot::Empty) {
+        Slot::Arrived(arrival) => {
+            *slot = enter(unit, arrival, out);
+            true
+        }
+        Slot::Empty => false,
+        Slot::Ready(ready) => {
+            *slot = Slot::Ready(ready);
+            false
+        }
+    }
+}

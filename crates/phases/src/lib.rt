@@ -1,0 +1,32 @@
+//! The atomic steps of the device: each works on what one lock lends, a queue with the memory or a unit, and on what
+//! the one who takes the step has in hand. None waits, and none knows a device.
+#![tactic(auto)]
+
+mod answer;
+mod answering;
+mod any_ring;
+mod committing;
+mod done;
+mod entering;
+mod fetching;
+mod function;
+mod hand;
+mod marking;
+mod queue;
+mod ready;
+mod refusal;
+mod slot;
+
+pub use answering::{phase_answer, phase_answer_tmf, phase_direct};
+pub use any_ring::AnyRing;
+pub use committing::{phase_commit, phase_leave};
+pub use done::Done;
+pub use entering::phase_enter;
+pub use fetching::{phase_fetch, phase_fetch_control};
+pub use function::OpenFunction;
+pub use hand::Hand;
+pub use marking::{phase_check, phase_mark};
+pub use queue::{Queue, is_placed};
+pub use ready::Ready;
+pub use refusal::Refusal;
+pub use slot::Slot;

@@ -1,0 +1,78 @@
+//! A chain that is to be answered.
+
+ghost use Rattle.std.specs.Prelude.{◌≡◌, ◌≤◌, length};
+ghost use Rattle.ring_core.specs.Parts.{writable_total};
+ghost use Rattle.history.specs.Endings.{Ending};
+ghost use Rattle.deeds.specs.Parts.{Outcome, lengths_of, bytes_of};
+ghost use Rattle.phases.specs.Outcomes.{refused_as};
+
+use crate::refusal::Refusal;
+use block_commands::{BUSY, TASK_SET_FULL};
+use decisions::DirectAnswer;
+use ring_core::Chain;
+use scsi_codec::ResponseCode;
+use std::marker::Model;
+use unit_history::Job;
+
+/// A chain that is to be answered, with its answer.
+#[derive(Debug, Drop)]
+pub struct Ready {
+    chain: Chain,
+    answer: DirectAnswer,
+    refusal: Option<Refusal>,
+}
+
+impl Model for Ready {
+    ghost use Rattle.std.specs.Prelude.{◌≡◌, ◌≤◌, length};
+    ghost use Rattle.ring_core.specs.Parts.{writable_total};
+    ghost use Rattle.deeds.specs.Parts.{lengths_of, bytes_of};
+    ghost use Rattle.phases.specs.Outcomes.{PlainReady, outcome_of};
+
+    ghost Value = { PlainReady };
+
+    ghost view = { λ r. record { chain = r.chain; outcome = outcome_of r.answer r.refusal } };
+
+    ghost invariant = { λ r. (bytes_of (lengths_of r.chain) (outcome_of r.answer r.refusal) ≡ r.answer)
+        × (length r.answer ≤ writable_total r.chain.parts) };
+}
+
+impl Ready {
+    /// A chain with the answer that was decided when it was fetched.
+    pub(crate) fn told(chain: Chain, answer: DirectAnswer) -> Ready
+        requires { length answer ≤ writable_total chain.parts }
+        ensures { result ≡ record { chain = chain; outcome = Outcome.Told answer } }
+    {
+        Ready {
+            chain,
+            answer,
+            refusal: None,
+        }
+    }
+
+    /// The chain of a job that its unit refused, with what tells so.
+    pub(crate) fn refused(job: Job, refusal: Refusal) -> Ready
+        ensures { result ≡ record { chain = job.chain; outcome = Outcome.Ended (refused_as refusal) } }
+    {
+        let lengths = job.lengths();
+        let answer = match refusal {
+            Refusal::Full => DirectAnswer::of_status(&lengths, TASK_SET_FULL),
+            Refusal::Busy => DirectAnswer::of_status(&lengths, BUSY),
+            Refusal::Stale => DirectAnswer::failed(ResponseCode::Failure),
+        };
+        Ready {
+            chain: job.into_chain(),
+            answer,
+            refusal: Some(refusal),
+        }
+    }
+
+    /// Its chain, and the bytes that answer it, for which there is room.
+    pub(crate) fn into_parts(self) -> (Chain, DirectAnswer)
+        ensures chain { result.0 ≡ self.chain }
+        ensures answer { result.1 ≡ bytes_of (lengths_of self.chain) self.outcome }
+        ensures fits { length result.1 ≤ writable_total self.chain.parts }
+    {
+        let Ready { chain, answer, .. } = self;
+        (chain, answer)
+    }
+}

@@ -1,0 +1,41 @@
+//! What a queue has between two steps.
+
+use crate::ready::Ready;
+use unit_history::Arrival;
+
+/// What a queue has between two steps. Whoever fetches from the queue keeps it.
+#[derive(Debug, Drop)]
+pub enum Slot {
+    /// Nothing.
+    Empty,
+    /// A request for a unit.
+    Arrived(Arrival),
+    /// A chain that is to be answered.
+    Ready(Ready),
+}
+
+impl Slot {
+    ghost use Rattle.std.specs.Prelude.{IsTrue, ◌↔◌, ◌≡◌};
+    ghost use Rattle.deeds.specs.Parts as plain;
+    ghost use Rattle.phases.specs.Parts.{slot_of, arrived_unit};
+
+    /// Whether nothing stands there.
+    pub fn is_empty(&self) -> bool
+        ensures { IsTrue result ↔ (slot_of self.now ≡ plain.Slot.Empty) }
+    {
+        match self {
+            Slot::Empty => true,
+            Slot::Arrived(_) | Slot::Ready(_) => false,
+        }
+    }
+
+    /// The place in the inventory of the unit that a request came for; `None` where none arrived.
+    pub fn unit(&self) -> Option<usize>
+        ensures { result ≡ arrived_unit (slot_of self.now) }
+    {
+        match self {
+            Slot::Arrived(arrival) => Some(arrival.unit()),
+            Slot::Empty | Slot::Ready(_) => None,
+        }
+    }
+}
