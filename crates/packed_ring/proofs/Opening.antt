@@ -4,6 +4,7 @@ use Rattle.std.proofs.lemmas.Grind.{common_steps}
 use Rattle.std.proofs.lemmas.Bool.Decides.{nat_tests}
 use Rattle.std.proofs.lemmas.List.{length-replicate}
 use Rattle.ring_core.specs.State.{no_features, opening}
+use Rattle.ring_core.proofs.Sound.{none_there}
 use Rattle.packed_ring.specs.IsPacked.{IsPacked}
 use Rattle.packed_ring.specs.Placement.{placement_fault}
 use Rattle.ring_core.specs.declared.layout.Layout.{Layout}
@@ -28,4 +29,4 @@ unfolding opening
 fresh queue l m ids all fine small =
     let size = right_size m l fine in
     let places = right_places m l fine in
-    record { form = refl; features = refl; some = size.0; most = size.1; ids = rw (length-replicate, all) refl; slots = places.0; driver = places.1; small = small }
+    record { form = refl; features = refl; some = size.0; most = size.1; ids = rw (length-replicate, all) refl; slots = places.0; driver = places.1; small = small; each_slots = λ id c e. absurd (let p = none_there ids id in cc); within = omega arith }

@@ -1,6 +1,7 @@
--- What is true of every packed queue: it lies in its memory.
-use Rattle.std.specs.Prelude.{◌≡◌, ◌+◌, ◌*◌, ◌<◌, ◌≤◌, ◌^◌, length}
-use Rattle.ring_core.specs.State.{RingState, no_features}
+-- What is true of every packed queue: it lies in its memory, and what is outstanding fits in its ring.
+use Rattle.std.specs.Prelude.{ℕ, ◌≡◌, ◌+◌, ◌*◌, ◌<◌, ◌≤◌, ◌^◌, length, Some}
+use Rattle.ring_core.specs.State.{RingState, no_features, under}
+use Rattle.ring_core.specs.declared.outstanding.OutstandingChain.{OutstandingChain}
 use Rattle.ring_core.specs.declared.layout.Form.TheVariants.{Packed}
 
 pub record IsPacked (s : RingState) : Type 0 where
@@ -12,3 +13,6 @@ pub record IsPacked (s : RingState) : Type 0 where
   pub slots : s.layout.desc + 16 * s.layout.size ≤ s.memory
   pub driver : s.layout.driver + 4 ≤ s.memory
   pub small : s.memory ≤ 2 ^ 28
+  -- a chain has a slot, and the slots of those outstanding are no more than the ring has
+  pub each_slots : (id : ℕ) (c : OutstandingChain) → under s id ≡ Some c → 1 ≤ c.slots
+  pub within : s.accepted_slots ≤ s.used_slots + s.layout.size

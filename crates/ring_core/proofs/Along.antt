@@ -1,5 +1,5 @@
 -- A step along a sequence of descriptors.
-use Rattle.std.proofs.Common.{◌≡◌, ℕ, zero, suc, ◌+◌, List, [], ◌∷◌, ◌++◌, length, Bool, true, false, Option, Some, None, refl, sym, ap, ◌∙◌, arith, map, below_more, add-one, length-append, ◌||◌, sum_by}
+use Rattle.std.proofs.Common.{◌≡◌, ℕ, zero, suc, ◌+◌, ◌≤◌, List, [], ◌∷◌, ◌++◌, length, Bool, true, false, Option, Some, None, refl, sym, ap, ◌∙◌, arith, map, below_more, add-one, length-append, ◌||◌, sum_by}
 use Rattle.std.proofs.lemmas.Grind.{common_steps}
 use Rattle.std.proofs.lemmas.List.{map-append}
 use Rattle.std.proofs.lemmas.List.Sums.{sum_by-append}
@@ -47,6 +47,11 @@ module _ (first : Before) (on : Before → Descriptor → Bool) (wrong : Before 
   pub chain_first : (chain : List Descriptor) → IsChain first on wrong at chain → wrong (amount first []) (at 0) ≡ None
   unfolding IsChain
   chain_first chain (n, leads, right, off, is) = first_right n leads right
+
+  -- a chain has a descriptor
+  pub chain_some : (chain : List Descriptor) → IsChain first on wrong at chain → 1 ≤ length chain
+  unfolding IsChain front
+  chain_some chain (n, leads, right, off, is) = omega (arith, ap length is, length-append (front at n) (at n ∷ []))
 
   module _ (n : ℕ) (b : Before) (parts : List Part) (d : Descriptor) (a : Along n b parts) (is : d ≡ at n) where
     known : (r : Option RingFault) → wrong b d ≡ r → wrong (amount first (front at n)) (at n) ≡ r

@@ -2,6 +2,7 @@ pub mod Along
 pub mod Fitting
 pub mod ByPart
 pub mod Sound
+pub mod Few
 pub mod Exact
 pub mod Exists
 pub mod Tabulated

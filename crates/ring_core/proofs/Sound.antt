@@ -20,7 +20,7 @@ pub at_push : {X : Type 0} (xs : List X) (y : X) (k : ℕ) (x : X) → slice_get
 at_push xs y k x e = grind (arith, common_steps, gets)
 
 -- what is outstanding after a write
-at_set : (xs : List (Option OutstandingChain)) (i : ℕ) (v : Option OutstandingChain) (j : ℕ) (h : OutstandingChain) → i < length xs → get_or (set xs i v) j None ≡ Some h → ((j ≡ i) × (v ≡ Some h)) ⊎ ((j ≢ i) × (get_or xs j None ≡ Some h))
+pub at_set : (xs : List (Option OutstandingChain)) (i : ℕ) (v : Option OutstandingChain) (j : ℕ) (h : OutstandingChain) → i < length xs → get_or (set xs i v) j None ≡ Some h → ((j ≡ i) × (v ≡ Some h)) ⊎ ((j ≢ i) × (get_or xs j None ≡ Some h))
 at_set xs i v j h lt e = grind (arith, common_steps)
 
 pub lawful-accept : (queue : ℕ) (log : Log) → IsLawful queue log → IsLawful queue (record log { accepted = log.accepted ++ record { queue = queue; number = length log.accepted } ∷ [] })
@@ -164,7 +164,7 @@ room_for_use s c sound owns =
     omega (arith, f, sound.counted)
 
 -- nothing is outstanding where nothing was put
-none_there : (n i : ℕ) → get_or {A = Option OutstandingChain} (replicate n None) i None ≡ None
+pub none_there : (n i : ℕ) → get_or {A = Option OutstandingChain} (replicate n None) i None ≡ None
 none_there n i = grind (arith, common_steps)
 
 none_counted : (n : ℕ) → sum_by (λ (h : Option OutstandingChain). cond (is_some h) 1 0) (replicate n None) ≡ 0

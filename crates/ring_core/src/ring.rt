@@ -1,8 +1,8 @@
 //! What every virtqueue promises, in whatever form it lies in memory.
 
-ghost use Rattle.std.specs.Prelude.{◌≡◌, ◌↔◌, ◌<◌, length, IsTrue};
+ghost use Rattle.std.specs.Prelude.{◌≡◌, ◌↔◌, ◌<◌, ◌≤◌, length, IsTrue};
 ghost use Rattle.ring_core.specs.State.{RingState, Owns, using};
-ghost use Rattle.ring_core.specs.Sound.{IsSound};
+ghost use Rattle.ring_core.specs.Sound.{IsSound, outstanding_count};
 ghost use Rattle.ring_core.specs.Writes.{all_written};
 ghost use Rattle.ring_core.specs.Offer.{used_writes, wants_notice};
 ghost use Rattle.ring_core.specs.Fetch.{Fetches};
@@ -56,10 +56,12 @@ pub trait Ring {
         ensures { result ≡ wants_notice (state self.now) memory.now };
 
     /// Which chains were accepted, and which were used. What the queue counts and what it holds
-    /// outstanding agree with it.
+    /// outstanding agree with it. No more chains are outstanding than the queue has descriptors
+    /// (VIRTIO 1.2, 2.7 and 2.8).
     fn log(&self) -> &QueueLog
         ensures log { result.now ≡ (state self.now).log }
-        ensures sound { IsSound (state self.now) };
+        ensures sound { IsSound (state self.now) }
+        ensures few { outstanding_count (state self.now) ≤ (state self.now).layout.size };
 
     /// Whether the memory has the size that the queue was made with.
     fn fits(&self, memory: &GuestMem) -> bool
