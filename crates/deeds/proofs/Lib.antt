@@ -26,3 +26,5 @@ pub mod Tasks
 pub mod Working
 pub mod Rooms
 pub mod Turning
+pub mod Flowing
+pub mod Held

@@ -11,3 +11,4 @@ pub mod Lawful
 pub mod Standing
 pub mod Applies
 pub mod Turns
+pub mod Worths

@@ -1,5 +1,5 @@
 -- What is true of everything that stands somewhere in the device, in every world that is reached.
-use Rattle.std.specs.Prelude.{ℕ, ◌≡◌, ◌<◌, ◌≤◌, ◌+◌, ◌*◌, ◌||◌, true, false, length, Option, Some, None, ⊤}
+use Rattle.std.specs.Prelude.{ℕ, ◌≡◌, ◌<◌, ◌≤◌, ◌+◌, ◌*◌, ◌||◌, true, false, length, Option, Some, None, slice_get, ⊤}
 use Rattle.std.specs.List.{AllByRecursion}
 use Rattle.ring_core.specs.State.{PlainChain, Owns}
 use Rattle.ring_core.specs.declared.log.Ticket.{Ticket}
@@ -51,6 +51,12 @@ pub record AreOwned (w : PlainWorld) : Type 0 where
   pub handed_off : AllByRecursion (IsJob w) w.handed_off
   pub function : FunctionOwns w w.function
   pub buffers : AllByRecursion (λ (c : PlainChain). (c.ticket.queue ≡ 1) × IsOwned w c) w.buffers
+
+-- the event buffers that are held are among the chains that the event queue has outstanding
+abbrev pub BuffersAreOutstanding : PlainWorld → Type 0
+BuffersAreOutstanding w =
+    (q : PlainQueue) → slice_get w.queues 1 ≡ Some q
+    → length w.buffers + length q.ring.log.used ≤ length q.ring.log.accepted
 
 -- Tasks
 

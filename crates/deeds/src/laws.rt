@@ -37,7 +37,14 @@ ghost use Rattle.deeds.specs.Phases.{
 };
 ghost use Rattle.deeds.specs.Places.{Moves, accepted_worth, standing, used_worth, only, accepted_chains, used_chains};
 ghost use Rattle.deeds.specs.Lawful.{AreNumbered, AreUnits, KeepsParts, AllLieIn};
-ghost use Rattle.deeds.specs.Standing.{AreOwned, AreAtWork, AreBehind, HaveRoom, FunctionIsThere};
+ghost use Rattle.deeds.specs.Standing.{
+  AreOwned,
+  BuffersAreOutstanding,
+  AreAtWork,
+  AreBehind,
+  HaveRoom,
+  FunctionIsThere,
+};
 ghost use Rattle.deeds.specs.Applies.{Applies};
 ghost use Rattle.deeds.specs.Turns.{Turns, IsStep};
 ghost use Rattle.deeds.specs.Laws.{AreApart, IsUsedBy, NoneIsUsed, memory_after, jobs_out, brings, ends};
@@ -154,6 +161,13 @@ pub fn histories_are_lawful()
 /// answered, its queue owns it.
 pub fn what_stands_is_owned()
     ensures { (old : PlainWorld) (trace : List Occurrence) (w : PlainWorld) → Reached old trace w → AreOwned w }
+{}
+
+/// In every world that is reached the event buffers that are held are no more than the chains that the event queue has
+/// outstanding: with the chains that it used, they are at most those that it accepted.
+pub fn held_buffers_are_outstanding()
+    ensures { (old : PlainWorld) (trace : List Occurrence) (w : PlainWorld) → Reached old trace w →
+        BuffersAreOutstanding w }
 {}
 
 /// In every world that is reached each job that was handed out is that of a task that is alive in its unit: one that is
