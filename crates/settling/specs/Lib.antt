@@ -1,0 +1,4 @@
+pub mod Order
+pub mod Measure
+pub mod Settling
+pub mod Waking

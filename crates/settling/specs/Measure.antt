@@ -1,0 +1,68 @@
+-- What a device still owes, and what pays for it.
+use Rattle.std.specs.Prelude.{ℕ, zero, suc, ◌+◌, length, Option, Some, None}
+use Rattle.std.specs.List.{sum_by}
+use Rattle.ring_core.specs.declared.fault.RingFault.{RingFault}
+use Rattle.ring_core.specs.declared.log.Ticket.{Ticket}
+use Rattle.deeds.specs.Parts.{Hand}
+use Rattle.deeds.specs.World.{PlainQueue, Seat, Opened, PlainWorld}
+use Rattle.deeds.specs.Deeds.{Deed}
+use Rattle.deeds.specs.Worths.{Worths, held, fetches, nothing}
+
+-- own: at most so many deeds are left of a chain in each place
+abbrev pub owed : Worths
+owed =
+    record {
+      arrived = λ t. 6;
+      direct = λ t. 1;
+      kept = λ t. 5;
+      off = λ t. 4;
+      taken = λ t. 3;
+      done = λ t. 2;
+      answered = λ t. 1;
+      opened = λ t. 1;
+      port = nothing;
+    }
+
+-- own: with its Fetch, of a chain of the control queue, of the event queue, of a request queue
+abbrev pub price_at : ℕ → ℕ
+price_at zero = 2
+price_at (suc zero) = 1
+price_at (suc (suc q)) = 7
+
+abbrev pub price : Ticket → ℕ
+price t = price_at t.queue
+
+-- the marks that the open function waits for
+abbrev pub visits : Option Opened → ℕ
+visits None = 0
+visits (Some o) = length o.function.waits
+
+abbrev pub if_whole : Option RingFault → ℕ
+if_whole None = 1
+if_whole (Some f) = 0
+
+-- 1 for a queue that may still break
+abbrev pub whole : PlainQueue → ℕ
+whole q = if_whole q.ring.broken
+
+abbrev pub measure : PlainWorld → ℕ
+measure w = held owed w + visits w.function + length w.waiting + sum_by whole w.queues
+
+-- a chain pays its price, a unit that a function visits 2, a hard reset 2, a write of the guest 1
+abbrev pub pays : Deed → ℕ
+pays (Deed.Mark t p m jobs) = 2
+pays (Deed.Ask t place rule b) = 2
+pays (Deed.Fail t) = 2
+pays (Deed.Hard p jobs) = 2
+pays (Deed.Poke x) = 1
+pays d = fetches price d
+
+abbrev pub if_answered : Hand → ℕ
+if_answered Hand.Free = 0
+if_answered (Hand.Taken x) = 0
+if_answered (Hand.Done x o) = 0
+if_answered (Hand.Answered place t) = 1
+
+-- 1 for a seat whose task was answered, and is to leave
+abbrev pub answered_hand : Seat → ℕ
+answered_hand s = if_answered s.hand

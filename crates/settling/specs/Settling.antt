@@ -1,0 +1,30 @@
+-- A device that does what is first in its order, deed by deed.
+use Rattle.std.specs.Prelude.{ℕ, ◌+◌, ◌*◌, ◌≤◌, List, [], ◌∷◌, length, ⊤}
+use Rattle.std.specs.List.{sum_by}
+use Rattle.deeds.specs.World.{PlainWorld}
+use Rattle.deeds.specs.Deeds.{Deed, event_of}
+use Rattle.deeds.specs.Happens.{Happens, world_of}
+use Rattle.deeds.specs.Places.{accepted_worth, used_worth}
+use Rattle.settling.specs.Order.{IsNext}
+use Rattle.settling.specs.Measure.{price, visits, answered_hand}
+
+-- from this world on each deed happens, and is of the first event that applies; the newest deed first
+abbrev pub Settles : PlainWorld → List Deed → Type 0
+Settles w [] = ⊤
+Settles w (d ∷ past) = Settles w past × Happens d (world_of w past) × IsNext (world_of w past) (event_of d)
+
+-- 1 for a unit that a function visits
+abbrev pub visited : Deed → ℕ
+visited (Deed.Mark t p m jobs) = 1
+visited (Deed.Ask t place rule b) = 1
+visited (Deed.Fail t) = 1
+visited d = 0
+
+-- the deeds, with the price of each chain that was used before, are at most the price of each chain that was accepted
+-- until the end, 1 for each task that was answered already, 1 for each mark that was waited for already, 2 for each
+-- unit that a function visits, 1 for each waiting event, and 1 for each queue
+abbrev pub IsShort : PlainWorld → List Deed → Type 0
+IsShort w more =
+    length more + used_worth price w
+    ≤ accepted_worth price (world_of w more) + sum_by answered_hand w.seats + visits w.function
+    + 2 * sum_by visited more + length w.waiting + length w.queues
