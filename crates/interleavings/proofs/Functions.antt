@@ -1,0 +1,491 @@
+-- What the open function has done, and what it waits for.
+use Rattle.std.proofs.Common.{◌≡◌, ℕ, ◌+◌, ◌<◌, ◌≤◌, List, [], ◌∷◌, ◌++◌, drop, length, Option, Some, None, refl, sym, ◌∙◌, ap, subst, arith, inl, inr}
+use Rattle.std.specs.Prelude.{◌⊎◌, ◌↔◌, Bool, true, false, ◌||◌, ⊤}
+use Rattle.std.specs.List.{sum_by}
+use Rattle.std.proofs.lemmas.List.Sums.{sum_by-cons}
+use Rattle.ring_core.specs.declared.log.Ticket.{Ticket}
+use Rattle.history.specs.declared.rule.Rule.{Rule}
+use Rattle.history.specs.Steps.{Step}
+use Rattle.history.specs.Clearing.{AreGone}
+use Rattle.history.proofs.Clearing.{clear_gone}
+use Rattle.task_set.specs.Jobs.{PlainJob}
+use Rattle.task_mgmt.specs.Functions.{PlainFunction, step_by, marking, asking, failing, checking}
+use Rattle.task_mgmt.specs.declared.control.ControlDecision.TheVariants as managed
+use Rattle.task_mgmt.specs.declared.kind.Kind.{Kind}
+use Rattle.task_mgmt.specs.declared.kind.Kind.TheVariants.{Marking, Asking}
+use Rattle.task_mgmt.specs.declared.kind.Strike.{Strike}
+use Rattle.task_mgmt.specs.declared.function.Mark.{Mark as Place}
+use Rattle.deeds.specs.Parts.{PlainFetch, lengths_of}
+use Rattle.deeds.specs.World.{Opened, PlainWorld, Opens}
+use Rattle.deeds.specs.Deeds.{Deed}
+use Rattle.deeds.specs.After.{on_function, after}
+use Rattle.deeds.specs.Happens.{Marks, Asks, Fails, Checks, DecidesControl, Leads, world_of}
+use Rattle.deeds.specs.Places.{only}
+use Rattle.deeds.specs.Worths.{fetches}
+use Rattle.interleavings.specs.Told.{Told, IsFetch, IsMark, IsFound, IsFail, IsVisit}
+use Rattle.interleavings.specs.Histories.{step_of, pushed, history_of}
+use Rattle.interleavings.specs.Functions.{Among, IsBegun}
+use Rattle.interleavings.proofs.Steps.{at_own, length_on}
+use Rattle.interleavings.proofs.Saying.{Says}
+use Rattle.interleavings.proofs.Knowing.{parts_at, says_at}
+use Rattle.interleavings.proofs.Counts.{few_at, told_counts}
+use Rattle.interleavings.proofs.Ordering.{fetch_one}
+use Rattle.interleavings.proofs.Beginning.{opens_fresh}
+use Rattle.interleavings.proofs.Gone.{gone_on}
+
+abbrev pub Listed : Place → List Place → Type 0
+Listed p [] = ⊥
+Listed p (q ∷ qs) = (q ≡ p) ⊎ Listed p qs
+
+abbrev pub IsMarking : Kind → Type 0
+IsMarking (Marking m) = ⊤
+IsMarking (Asking rule) = ⊥
+
+abbrev pub IsAsking : Kind → Type 0
+IsAsking (Marking m) = ⊥
+IsAsking (Asking rule) = ⊤
+
+-- each unit of the function is left, or was visited, unless memory was refused; each mark of it is waited for, or clear
+pub record IsUnderWay (old : PlainWorld) (ds : List Deed) (x : Opened) : Type 0 where
+  pub begun : IsBegun old.inventory ds x.chain.ticket
+  pub chain : begun.fetch.chain ≡ x.chain
+  pub kind : begun.function.kind ≡ x.function.kind
+  pub among : (place : ℕ) → Among place x.function.left → Among place begun.function.left
+  pub visits : (place : ℕ) → Among place begun.function.left
+      → Among place x.function.left ⊎ (Told (IsVisit x.chain.ticket place) ds ⊎ Told (IsFail x.chain.ticket) ds)
+  pub waits : (p : Place) → Told (IsMark x.chain.ticket p) ds
+      → Listed p x.function.waits ⊎ AreGone p.place (history_of p.unit ds)
+  pub found : (x.function.found ≡ true) ↔ Told (IsFound x.chain.ticket) ds
+  pub failed : (x.function.refused ≡ true) ↔ Told (IsFail x.chain.ticket) ds
+  pub asks : x.function.found ≡ true → IsAsking x.function.kind
+  pub strikes : x.function.refused ≡ true → IsMarking x.function.kind
+
+abbrev pub FunctionSays : PlainWorld → List Deed → Option Opened → Type 0
+FunctionSays old ds None = ⊤
+FunctionSays old ds (Some x) = IsUnderWay old ds x
+
+-- a ticket was fetched
+abbrev WasFetched : Ticket → List Deed → Type 0
+WasFetched t ds = 1 ≤ sum_by (fetches (only t)) ds
+
+pub record FunctionsSay (old : PlainWorld) (ds : List Deed) (now : Option Opened) : Type 0 where
+  pub function : FunctionSays old ds now
+  pub marks : (t : Ticket) (p : Place) → Told (IsMark t p) ds
+      → WasFetched t ds × (p.place < length (history_of p.unit ds))
+  pub finds : (t : Ticket) → Told (IsFound t) ds → WasFetched t ds
+  pub fails : (t : Ticket) → Told (IsFail t) ds → WasFetched t ds
+
+-- What stays so
+
+fetched_on : (t : Ticket) (d : Deed) (ds : List Deed) → WasFetched t ds → WasFetched t (d ∷ ds)
+fetched_on t d ds h = let c = sum_by-cons (fetches (only t)) d ds in omega (arith, h, c)
+
+abbrev IsNoMark : Deed → Type 0
+IsNoMark d = (t : Ticket) (p : Place) → IsMark t p d → ⊥
+
+abbrev IsNoFind : Deed → Type 0
+IsNoFind d = (t : Ticket) → IsFound t d → ⊥
+
+abbrev IsNoFail : Deed → Type 0
+IsNoFail d = (t : Ticket) → IsFail t d → ⊥
+
+abbrev ArePlaced : List Deed → Type 0
+ArePlaced ds =
+    (t : Ticket) (p : Place) → Told (IsMark t p) ds → WasFetched t ds × (p.place < length (history_of p.unit ds))
+
+abbrev AreFetched : (Ticket → Deed → Type 0) → List Deed → Type 0
+AreFetched P ds = (t : Ticket) → Told (P t) ds → WasFetched t ds
+
+placed_on : (d : Deed) (ds : List Deed) → IsNoMark d → ArePlaced ds → ArePlaced (d ∷ ds)
+placed_on d ds other h t p (inl e) = absurd (other t p e)
+placed_on d ds other h t p (inr k) =
+    let q = h t p k in
+    let l = length_on (step_of p.unit d) (history_of p.unit ds) in
+    let lt = q.1 in
+    (fetched_on t d ds q.0, omega (arith, lt, l))
+
+told_fetched_on : (P : Ticket → Deed → Type 0) (d : Deed) (ds : List Deed) → ((t : Ticket) → P t d → ⊥)
+    → AreFetched P ds → AreFetched P (d ∷ ds)
+told_fetched_on P d ds other h t (inl e) = absurd (other t e)
+told_fetched_on P d ds other h t (inr k) = fetched_on t d ds (h t k)
+
+told_same : (P : Deed → Type 0) (d : Deed) (ds : List Deed) (b : Bool) → (P d → ⊥) → ((b ≡ true) ↔ Told P ds)
+    → (b ≡ true) ↔ Told P (d ∷ ds)
+told_same P d ds b other h = (λ e. inr (h.0 e), λ told. elim told [ inl q ↦ absurd (other q) | inr q ↦ h.1 q ])
+
+abbrev Waits : List Deed → List Place → Place → Type 0
+Waits ds waits p = Listed p waits ⊎ AreGone p.place (history_of p.unit ds)
+
+waits_on : (d : Deed) (ds : List Deed) (waits : List Place) (p : Place) → p.place < length (history_of p.unit ds)
+    → Waits ds waits p → Waits (d ∷ ds) waits p
+waits_on d ds waits p lt (inl h) = inl h
+waits_on d ds waits p lt (inr h) = inr (gone_on p.place (step_of p.unit d) (history_of p.unit ds) lt h)
+
+abbrev begun_on : (old : PlainWorld) (t : Ticket) (d : Deed) (ds : List Deed) → IsBegun old.inventory ds t
+    → IsBegun old.inventory (d ∷ ds) t
+begun_on old t d ds h =
+    record { fetch = h.fetch; fetched = inr h.fetched; ticket = h.ticket; function = h.function; decided = h.decided }
+
+abbrev AreVisited : Ticket → List ℕ → (ℕ → Type 0) → List Deed → Type 0
+AreVisited t units P ds = (place : ℕ) → Among place units → P place ⊎ (Told (IsVisit t place) ds ⊎ Told (IsFail t) ds)
+
+-- one unit less is left, and it was visited
+visits_on : (t : Ticket) (units : List ℕ) (P Q : ℕ → Type 0) (d : Deed) (ds : List Deed)
+    → ((place : ℕ) → P place → Q place ⊎ (IsVisit t place d ⊎ IsFail t d)) → AreVisited t units P ds
+    → AreVisited t units Q (d ∷ ds)
+visits_on t units P Q d ds f h place i =
+    elim (h place i) [
+      | inl p ↦ elim (f place p) [
+        | inl q ↦ inl q
+        | inr q ↦ elim q [ inl v ↦ inr (inl (inl v)) | inr v ↦ inr (inr (inl v)) ]
+      ]
+      | inr q ↦ elim q [ inl v ↦ inr (inl (inr v)) | inr v ↦ inr (inr (inr v)) ]
+    ]
+
+-- the function stays
+function_on : (old : PlainWorld) (d : Deed) (ds : List Deed) (o : Option Opened) → IsNoMark d → IsNoFind d → IsNoFail d
+    → ArePlaced ds → FunctionSays old ds o → FunctionSays old (d ∷ ds) o
+function_on old d ds None other quiet calm k h = tt
+function_on old d ds (Some x) other quiet calm k h =
+    let t = x.chain.ticket in
+    record {
+      begun = begun_on old t d ds h.begun;
+      chain = h.chain;
+      kind = h.kind;
+      among = h.among;
+      visits = visits_on t h.begun.function.left (λ place. Among place x.function.left)
+          (λ place. Among place x.function.left) d ds (λ place p. inl p) h.visits;
+      waits = λ p told. elim told [
+        | inl q ↦ absurd (other t p q)
+        | inr q ↦ waits_on d ds x.function.waits p (k t p q).1 (h.waits p q)
+      ];
+      found = told_same (IsFound t) d ds x.function.found (quiet t) h.found;
+      failed = told_same (IsFail t) d ds x.function.refused (calm t) h.failed;
+      asks = h.asks;
+      strikes = h.strikes;
+    }
+
+functions_on : (old : PlainWorld) (d : Deed) (ds : List Deed) (o : Option Opened) → IsNoMark d → IsNoFind d
+    → IsNoFail d → FunctionsSay old ds o → FunctionsSay old (d ∷ ds) o
+functions_on old d ds o other quiet calm s =
+    record {
+      function = function_on old d ds o other quiet calm s.marks s.function;
+      marks = placed_on d ds other s.marks;
+      finds = told_fetched_on IsFound d ds quiet s.finds;
+      fails = told_fetched_on IsFail d ds calm s.fails;
+    }
+
+-- no function is open any more
+functions_end : (old : PlainWorld) (d : Deed) (ds : List Deed) (o : Option Opened) → IsNoMark d → IsNoFind d
+    → IsNoFail d → FunctionsSay old ds o → FunctionsSay old (d ∷ ds) None
+functions_end old d ds o other quiet calm s =
+    record {
+      function = tt;
+      marks = placed_on d ds other s.marks;
+      finds = told_fetched_on IsFound d ds quiet s.finds;
+      fails = told_fetched_on IsFail d ds calm s.fails;
+    }
+
+abbrev pub was_open : (old : PlainWorld) (ds : List Deed) (o : Option Opened) (x : Opened) → o ≡ Some x
+    → FunctionsSay old ds o → IsUnderWay old ds x
+was_open old ds o x e s = subst (λ z. FunctionSays old ds z) e s.function
+
+now_open : (old : PlainWorld) (ds : List Deed) (o : Option Opened) (g : PlainFunction → PlainFunction) (x : Opened)
+    → o ≡ Some x → FunctionSays old ds (on_function g (Some x)) → FunctionSays old ds (on_function g o)
+now_open old ds o g x e s = subst (λ z. FunctionSays old ds (on_function g z)) (sym e) s
+
+-- the ticket of the open function was fetched
+open_fetched : (old : PlainWorld) (ds : List Deed) (x : Opened) → IsUnderWay old ds x → WasFetched x.chain.ticket ds
+open_fetched old ds x h =
+    let f = h.begun.fetch in
+    subst (λ t. WasFetched t ds) h.begun.ticket
+    (told_counts (IsFetch f) (fetches (only f.chain.ticket)) (fetch_one f) ds h.begun.fetched)
+
+-- Begin
+
+-- of a ticket that is fetched now nothing was told
+unfetched : (old : PlainWorld) (t : Ticket) (d : Deed) (ds : List Deed) → Opens old → Leads old (d ∷ ds)
+    → 1 ≤ fetches (only t) d → WasFetched t ds → ⊥
+unfetched old t d ds o l one h =
+    let n = few_at old (d ∷ ds) t o l in
+    let few = n.fetched in
+    let c = sum_by-cons (fetches (only t)) d ds in
+    omega (arith, one, h, few, c)
+
+off_on : {b : Bool} → b ≡ false → b ≡ true → ⊥
+off_on e f = let both = sym e ∙ f in cc
+
+functions_open : (old : PlainWorld) (f : PlainFetch) (g : PlainFunction) (ds : List Deed) → Opens old
+    → Leads old (Deed.Open f g ∷ ds) → FunctionsSay old ds (world_of old ds).function
+    → FunctionsSay old (Deed.Open f g ∷ ds) (Some (record { chain = f.chain; function = g }))
+functions_open old f g ds o l s =
+    let d = Deed.Open f g in
+    let t = f.chain.ticket in
+    let m = l.1 in
+    let e = (parts_at old ds l.0).inventory in
+    let decided = subst (λ z. DecidesControl z f (managed.Opens g)) e m.decided in
+    let fresh = opens_fresh old.inventory decided.0 (lengths_of f.chain).writable g decided.2 in
+    let new = unfetched old t d ds o l (fetch_one f d refl) in
+    record {
+      function = record {
+        begun = record { fetch = f; fetched = inl refl; ticket = refl; function = g; decided = decided };
+        chain = refl;
+        kind = refl;
+        among = λ place i. i;
+        visits = λ place i. inl i;
+        waits = λ p told. elim told [ inl q ↦ absurd q | inr q ↦ absurd (new (s.marks t p q).0) ];
+        found = (
+          λ q. absurd (off_on fresh.0 q),
+          λ told. elim told [ inl q ↦ absurd q | inr q ↦ absurd (new (s.finds t q)) ],
+        );
+        failed = (
+          λ q. absurd (off_on fresh.1 q),
+          λ told. elim told [ inl q ↦ absurd q | inr q ↦ absurd (new (s.fails t q)) ],
+        );
+        asks = λ q. absurd (off_on fresh.0 q);
+        strikes = λ q. absurd (off_on fresh.1 q);
+      };
+      marks = placed_on d ds (λ u p q. q) s.marks;
+      finds = told_fetched_on IsFound d ds (λ u q. q) s.finds;
+      fails = told_fetched_on IsFail d ds (λ u q. q) s.fails;
+    }
+
+-- Look, mark, fail, check
+
+among_drop : (place : ℕ) (left : List ℕ) → Among place (drop 1 left) → Among place left
+among_drop place [] h = h
+among_drop place (k ∷ left) h = inr h
+
+among_next : (place k : ℕ) (later left : List ℕ) → left ≡ k ∷ later → Among place left
+    → (k ≡ place) ⊎ Among place (drop 1 left)
+among_next place k later left e h =
+    elim (subst (Among place) e h) [
+      | inl q ↦ inl q
+      | inr q ↦ inr (subst (λ z. Among place (drop 1 z)) (sym e) q)
+    ]
+
+found_now : (t u : Ticket) (place : ℕ) (rule : Rule) (b found : Bool) (ds : List Deed) → u ≡ t
+    → ((found ≡ true) ↔ Told (IsFound t) ds) → ((b || found) ≡ true) ↔ Told (IsFound t) (Deed.Ask u place rule b ∷ ds)
+found_now t u place rule true found ds e h = (λ q. inl (e, refl), λ told. refl)
+found_now t u place rule false found ds e h =
+    (λ q. inr (h.0 q), λ told. elim told [ inl q ↦ let k = q.1 in absurd (cc) | inr q ↦ h.1 q ])
+
+asking_kind : (kind : Kind) (rule : Rule) → kind ≡ Asking rule → IsAsking kind
+asking_kind kind rule e = subst IsAsking (sym e) tt
+
+marking_kind : (kind : Kind) (m : Strike) → kind ≡ Marking m → IsMarking kind
+marking_kind kind m e = subst IsMarking (sym e) tt
+
+-- who is asked for isn't refused
+never_both : (kind : Kind) → IsAsking kind → IsMarking kind → ⊥
+never_both (Marking m) a b = a
+never_both (Asking rule) a b = b
+
+functions_ask : (old : PlainWorld) (t : Ticket) (place : ℕ) (rule : Rule) (b : Bool) (ds : List Deed) (w : PlainWorld)
+    → Asks w t place rule b → FunctionsSay old ds w.function
+    → FunctionsSay old (Deed.Ask t place rule b ∷ ds) (on_function (asking b) w.function)
+functions_ask old t place rule b ds w m s =
+    let d = Deed.Ask t place rule b in
+    let g = m.marking in
+    let x = g.opened in
+    let f = x.function in
+    let u = x.chain.ticket in
+    let was = was_open old ds w.function x g.there s in
+    let now : IsUnderWay old (d ∷ ds) (record x { function = asking b f }) = record {
+      begun = begun_on old u d ds was.begun;
+      chain = was.chain;
+      kind = was.kind;
+      among = λ k i. was.among k (among_drop k f.left i);
+      visits = visits_on u was.begun.function.left (λ k. Among k f.left) (λ k. Among k (drop 1 f.left)) d ds
+          (λ k p. elim (among_next k place g.later f.left g.left p) [
+            | inl e ↦ inr (inl (sym g.of, e))
+            | inr q ↦ inl q
+          ]) was.visits;
+      waits = λ p told. elim told [
+        | inl q ↦ absurd q
+        | inr q ↦ waits_on d ds f.waits p (s.marks u p q).1 (was.waits p q)
+      ];
+      found = found_now u t place rule b f.found ds (sym g.of) was.found;
+      failed = told_same (IsFail u) d ds f.refused (λ q. q) was.failed;
+      asks = λ q. asking_kind f.kind rule g.does;
+      strikes = was.strikes;
+    } in
+    let there = subst (λ z. WasFetched z ds) g.of (open_fetched old ds x was) in
+    record {
+      function = now_open old (d ∷ ds) w.function (asking b) x g.there now;
+      marks = placed_on d ds (λ v p q. q) s.marks;
+      finds = λ v told. elim told [
+        | inl q ↦ fetched_on v d ds (subst (λ z. WasFetched z ds) q.0 there)
+        | inr q ↦ fetched_on v d ds (s.finds v q)
+      ];
+      fails = told_fetched_on IsFail d ds (λ v q. q) s.fails;
+    }
+
+listed_push : (p q : Place) (ps : List Place) → Listed p ps → Listed p (ps ++ q ∷ [])
+listed_push p q [] h = absurd h
+listed_push p q (x ∷ ps) (inl e) = inl e
+listed_push p q (x ∷ ps) (inr h) = inr (listed_push p q ps h)
+
+listed_last : (p q : Place) (ps : List Place) → q ≡ p → Listed p (ps ++ q ∷ [])
+listed_last p q [] e = inl e
+listed_last p q (x ∷ ps) e = inr (listed_last p q ps e)
+
+functions_mark : (old : PlainWorld) (t : Ticket) (p : Place) (strike : Strike) (jobs : List PlainJob) (ds : List Deed)
+    (w : PlainWorld) → Says old ds w → Marks w t p strike jobs → FunctionsSay old ds w.function
+    → FunctionsSay old (Deed.Mark t p strike jobs ∷ ds) (on_function (marking p) w.function)
+functions_mark old t p strike jobs ds w says m s =
+    let d = Deed.Mark t p strike jobs in
+    let g = m.marking in
+    let x = g.opened in
+    let f = x.function in
+    let u = x.chain.ticket in
+    let was = was_open old ds w.function x g.there s in
+    let told_steps = (says.units p.unit g.unit g.unit_there).0.steps in
+    let here : p.place ≡ length (history_of p.unit ds) = m.before ∙ ap (λ (h : List Step). length h) told_steps in
+    let own : length (history_of p.unit (d ∷ ds)) ≡ length (history_of p.unit ds) + 1 =
+    ap (λ o. length (pushed o (history_of p.unit ds))) (at_own p.unit p.unit (step_by strike) refl) ∙ (omega arith) in
+    let now : IsUnderWay old (d ∷ ds) (record x { function = marking p f }) = record {
+      begun = begun_on old u d ds was.begun;
+      chain = was.chain;
+      kind = was.kind;
+      among = λ k i. was.among k (among_drop k f.left i);
+      visits = visits_on u was.begun.function.left (λ k. Among k f.left) (λ k. Among k (drop 1 f.left)) d ds
+          (λ k h. elim (among_next k p.unit g.later f.left g.left h) [
+            | inl e ↦ inr (inl (sym g.of, e))
+            | inr q ↦ inl q
+          ]) was.visits;
+      waits = λ q told. elim told [
+        | inl e ↦ inl (listed_last q p f.waits e.1)
+        | inr k ↦ elim (waits_on d ds f.waits q (s.marks u q k).1 (was.waits q k)) [
+          | inl i ↦ inl (listed_push q p f.waits i)
+          | inr i ↦ inr i
+        ]
+      ];
+      found = told_same (IsFound u) d ds f.found (λ q. q) was.found;
+      failed = told_same (IsFail u) d ds f.refused (λ q. q) was.failed;
+      asks = was.asks;
+      strikes = was.strikes;
+    } in
+    let there = subst (λ z. WasFetched z ds) g.of (open_fetched old ds x was) in
+    record {
+      function = now_open old (d ∷ ds) w.function (marking p) x g.there now;
+      marks = λ v q told. elim told [
+        | inl e ↦ (
+          fetched_on v d ds (subst (λ z. WasFetched z ds) e.0 there),
+          subst (λ (y : Place). y.place < length (history_of y.unit (d ∷ ds))) e.1 (omega (arith, here, own)),
+        )
+        | inr k ↦
+            let was_so = s.marks v q k in
+            let lt = was_so.1 in
+            let more = length_on (step_of q.unit d) (history_of q.unit ds) in
+            (fetched_on v d ds was_so.0, omega (arith, lt, more))
+      ];
+      finds = told_fetched_on IsFound d ds (λ v q. q) s.finds;
+      fails = told_fetched_on IsFail d ds (λ v q. q) s.fails;
+    }
+
+functions_fail : (old : PlainWorld) (t : Ticket) (ds : List Deed) (w : PlainWorld) → Fails w t
+    → FunctionsSay old ds w.function → FunctionsSay old (Deed.Fail t ∷ ds) (on_function failing w.function)
+functions_fail old t ds w m s =
+    let d = Deed.Fail t in
+    let g = m.marking in
+    let x = g.opened in
+    let f = x.function in
+    let u = x.chain.ticket in
+    let was = was_open old ds w.function x g.there s in
+    let now : IsUnderWay old (d ∷ ds) (record x { function = failing f }) = record {
+      begun = begun_on old u d ds was.begun;
+      chain = was.chain;
+      kind = was.kind;
+      among = λ k i. absurd i;
+      visits = visits_on u was.begun.function.left (λ k. Among k f.left) (λ k. ⊥) d ds (λ k p. inr (inr (sym g.of)))
+          was.visits;
+      waits = λ p told. elim told [
+        | inl q ↦ absurd q
+        | inr q ↦ waits_on d ds f.waits p (s.marks u p q).1 (was.waits p q)
+      ];
+      found = told_same (IsFound u) d ds f.found (λ q. q) was.found;
+      failed = (λ q. inl (sym g.of), λ q. refl);
+      asks = was.asks;
+      strikes = λ q. marking_kind f.kind m.strike g.does;
+    } in
+    let there = subst (λ z. WasFetched z ds) g.of (open_fetched old ds x was) in
+    record {
+      function = now_open old (d ∷ ds) w.function failing x g.there now;
+      marks = placed_on d ds (λ v p q. q) s.marks;
+      finds = told_fetched_on IsFound d ds (λ v q. q) s.finds;
+      fails = λ v told. elim told [
+        | inl q ↦ fetched_on v d ds (subst (λ z. WasFetched z ds) q there)
+        | inr q ↦ fetched_on v d ds (s.fails v q)
+      ];
+    }
+
+functions_check : (old : PlainWorld) (t : Ticket) (p : Place) (ds : List Deed) (w : PlainWorld) → Says old ds w
+    → Checks w t p → FunctionsSay old ds w.function
+    → FunctionsSay old (Deed.Check t p ∷ ds) (on_function checking w.function)
+functions_check old t p ds w says m s =
+    let d = Deed.Check t p in
+    let g = m.waiting in
+    let x = g.opened in
+    let f = x.function in
+    let u = x.chain.ticket in
+    let was = was_open old ds w.function x g.there s in
+    let told_steps = (says.units p.unit m.unit m.there).0.steps in
+    let clear : AreGone p.place (history_of p.unit ds) =
+    subst (λ h. AreGone p.place h) told_steps (clear_gone p.place m.unit.steps m.clear) in
+    let now : IsUnderWay old (d ∷ ds) (record x { function = checking f }) = record {
+      begun = begun_on old u d ds was.begun;
+      chain = was.chain;
+      kind = was.kind;
+      among = was.among;
+      visits = visits_on u was.begun.function.left (λ k. Among k f.left) (λ k. Among k f.left) d ds (λ k q. inl q)
+          was.visits;
+      waits = λ q told. elim told [
+        | inl e ↦ absurd e
+        | inr k ↦ elim (was.waits q k) [
+          | inl i ↦ elim (subst (Listed q) g.still i) [
+            | inl e ↦ inr (subst (λ (y : Place). AreGone y.place (history_of y.unit ds)) e clear)
+            | inr later ↦ inl (subst (λ z. Listed q (drop 1 z)) (sym g.still) later)
+          ]
+          | inr gone ↦ inr gone
+        ]
+      ];
+      found = told_same (IsFound u) d ds f.found (λ q. q) was.found;
+      failed = told_same (IsFail u) d ds f.refused (λ q. q) was.failed;
+      asks = was.asks;
+      strikes = was.strikes;
+    } in
+    record {
+      function = now_open old (d ∷ ds) w.function checking x g.there now;
+      marks = placed_on d ds (λ v q e. e) s.marks;
+      finds = told_fetched_on IsFound d ds (λ v q. q) s.finds;
+      fails = told_fetched_on IsFail d ds (λ v q. q) s.fails;
+    }
+
+-- One deed
+
+pub functions_deed : (old : PlainWorld) (d : Deed) (ds : List Deed) → Opens old → Leads old (d ∷ ds)
+    → FunctionsSay old ds (world_of old ds).function
+    → FunctionsSay old (d ∷ ds) (after d (world_of old ds)).function
+functions_deed old (Deed.Open f g) ds o l s = functions_open old f g ds o l s
+functions_deed old (Deed.Ask t place rule b) ds o l s = functions_ask old t place rule b ds (world_of old ds) l.1 s
+functions_deed old (Deed.Mark t p m jobs) ds o l s =
+    functions_mark old t p m jobs ds (world_of old ds) (says_at old ds o l.0) l.1 s
+functions_deed old (Deed.Fail t) ds o l s = functions_fail old t ds (world_of old ds) l.1 s
+functions_deed old (Deed.Check t p) ds o l s =
+    functions_check old t p ds (world_of old ds) (says_at old ds o l.0) l.1 s
+functions_deed old (Deed.Respond c r xs) ds o l s =
+    functions_end old (Deed.Respond c r xs) ds (world_of old ds).function (λ t p q. q) (λ t q. q) (λ t q. q) s
+functions_deed old d ds o l s =
+    functions_on old d ds (world_of old ds).function (λ t p q. q) (λ t q. q) (λ t q. q) s
+
+pub functions_at : (old : PlainWorld) (ds : List Deed) → Opens old → Leads old ds
+    → FunctionsSay old ds (world_of old ds).function
+functions_at old [] o l =
+    record {
+      function = subst (FunctionSays old []) (sym o.function) tt;
+      marks = λ t p told. absurd told;
+      finds = λ t told. absurd told;
+      fails = λ t told. absurd told;
+    }
+functions_at old (d ∷ ds) o l = functions_deed old d ds o l (functions_at old ds o l.0)

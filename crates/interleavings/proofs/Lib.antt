@@ -1,0 +1,13 @@
+pub mod Traces
+pub mod Steps
+pub mod Saying
+pub mod Knowing
+pub mod Counts
+pub mod Entering
+pub mod Answering
+pub mod Ordering
+pub mod Events
+pub mod Beginning
+pub mod Gone
+pub mod Functions
+pub mod Ending

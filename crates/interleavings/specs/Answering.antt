@@ -1,0 +1,76 @@
+-- What answers the chains of a reached device.
+use Rattle.std.specs.Prelude.{ℕ, ◌≡◌, ◌≤◌, ◌+◌, ◌⊎◌, List, ◌∷◌, Some}
+use Rattle.std.specs.List.{sum_by}
+use Rattle.block_commands.specs.PlainReply.{PlainReply}
+use Rattle.ring_core.specs.State.{PlainChain}
+use Rattle.ring_core.specs.Writes.{Write}
+use Rattle.ring_core.specs.declared.log.Ticket.{Ticket}
+use Rattle.history.specs.declared.reason.Reason.{Reason}
+use Rattle.history.specs.Tasks.{Entry}
+use Rattle.history.specs.Steps.{Step}
+use Rattle.history.specs.Marks.{mark_of}
+use Rattle.history.specs.Contents.{Opening, reply_after}
+use Rattle.history.specs.Lawful.{IsReady}
+use Rattle.history.specs.Endings.{Ending}
+use Rattle.task_set.specs.Jobs.{PlainJob}
+use Rattle.unit_history.specs.Unit.{PlainUnit}
+use Rattle.deeds.specs.Parts.{PlainFetch, Outcome, lengths_of, bytes_of, answer_writes}
+use Rattle.deeds.specs.World.{PlainQueue, PlainWorld}
+use Rattle.deeds.specs.Deeds.{Deed}
+use Rattle.deeds.specs.Happens.{QueueIs, UnitIs, IsDirect, world_of}
+use Rattle.deeds.specs.Places.{used_worth, only}
+use Rattle.deeds.specs.Worths.{uses, directs, answers}
+use Rattle.interleavings.specs.Told.{Told, IsBeginning, IsFetch, IsShed, IsAnswer}
+use Rattle.interleavings.specs.Histories.{Stands, StandsOn, history_of}
+use Rattle.interleavings.specs.Entering.{IsJobOf}
+
+-- the command of the task ran where it was ready, and replied as the history before it says
+abbrev pub IsReplied : Opening → Entry → PlainReply → List Step → Type 0
+IsReplied o e r h = StandsOn (Step.Commit e.ticket r) (λ past. IsReady e.ticket e past × (r ≡ reply_after o e past)) h
+
+-- the request of a job ended so: its command ran, and this was the reply; it is marked, for this reason first; its unit
+-- was full; it was refused memory by its unit, at its Enter or at its Commit
+abbrev pub HasEnded : PlainWorld → PlainJob → Ending → List Deed → Type 0
+HasEnded old x (Ending.Replied r) ds =
+    (u : PlainUnit) × UnitIs old x.unit u × IsReplied u.opening x.entry r (history_of x.unit ds)
+HasEnded old x (Ending.Aborted why) ds =
+    Stands (Step.Enter x.entry) (history_of x.unit ds) × (mark_of x.entry.ticket (history_of x.unit ds) ≡ Some why)
+HasEnded old x Ending.Full ds = Stands (Step.Full x.entry.ticket) (history_of x.unit ds)
+HasEnded old x Ending.Busy ds = Stands (Step.Busy x.entry.ticket) (history_of x.unit ds) ⊎ Told (IsShed x) ds
+HasEnded old x Ending.Lost ds = ⊥
+
+-- what an outcome tells of the fetched chain is so: its bytes are the direct answer, or its job's request ended so
+abbrev pub IsTrue : PlainWorld → PlainFetch → Outcome → List Deed → Type 0
+IsTrue old f (Outcome.Told a) ds = IsDirect old.inventory f.chain.ticket.queue f a
+IsTrue old f (Outcome.Ended ending) ds = (x : PlainJob) × IsJobOf old.inventory f x × HasEnded old x ending ds
+
+-- the chain is that of a Fetch; the writes are those of the outcome's bytes in its queue as it is before the answer;
+-- and what they tell is true by then
+pub record IsAnsweredSo (old : PlainWorld) (past : List Deed) (c : PlainChain) (o : Outcome) (xs : List Write)
+    : Type 0 where
+  pub fetch : PlainFetch
+  pub fetched : Told (IsFetch fetch) past
+  pub chain : fetch.chain ≡ c
+  pub queue : PlainQueue
+  pub there : QueueIs (world_of old past) c.ticket.queue queue
+  pub writes : xs ≡ answer_writes queue.ring c (bytes_of (lengths_of c) o)
+  pub truth : IsTrue old fetch o past
+
+-- the task of a ticket has a Commit in no history
+abbrev pub NeverRan : Ticket → List Deed → Type 0
+NeverRan t ds = (place : ℕ) (r : PlainReply) → Stands (Step.Commit t r) (history_of place ds) → ⊥
+
+-- each used ticket of a request queue has one answer, from its queue's slot or from a hand; each answer tells what is
+-- so, and who was told that its task was aborted never ran
+pub record AreAnswered (old : PlainWorld) (ds : List Deed) (w : PlainWorld) : Type 0 where
+  pub used : (p : Ticket → ℕ) → used_worth p w ≡ sum_by (uses p) ds
+  pub request : (t : Ticket) → 2 ≤ t.queue
+      → used_worth (only t) w ≡ sum_by (directs (only t)) ds + sum_by (answers (only t)) ds
+  pub once : (t : Ticket) → sum_by (directs (only t)) ds + sum_by (answers (only t)) ds ≤ 1
+  pub told : (t : Ticket) → 2 ≤ t.queue → 1 ≤ used_worth (only t) w → Told (IsAnswer t) ds
+  pub direct : (c : PlainChain) (o : Outcome) (xs : List Write) (past : List Deed)
+      → IsBeginning (Deed.Direct c o xs ∷ past) ds → IsAnsweredSo old past c o xs
+  pub answer : (k : ℕ) (x : PlainJob) (o : Outcome) (xs : List Write) (past : List Deed)
+      → IsBeginning (Deed.Answer k x o xs ∷ past) ds → IsAnsweredSo old past x.chain o xs
+  pub aborted : (k : ℕ) (x : PlainJob) (why : Reason) (xs : List Write) (past : List Deed)
+      → IsBeginning (Deed.Answer k x (Outcome.Ended (Ending.Aborted why)) xs ∷ past) ds → NeverRan x.chain.ticket ds

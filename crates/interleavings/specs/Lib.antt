@@ -1,0 +1,7 @@
+pub mod Told
+pub mod Histories
+pub mod Entering
+pub mod Answering
+pub mod Ordering
+pub mod Functions
+pub mod Events
