@@ -1,4 +1,5 @@
 pub mod Answered
+pub mod Buffers
 pub mod Commits
 pub mod Deciding
 pub mod Enters

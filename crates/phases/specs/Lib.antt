@@ -8,3 +8,5 @@ pub mod Fetching
 pub mod Units
 pub mod Answering
 pub mod Bytes
+pub mod EventQueue
+pub mod Resetting

@@ -109,11 +109,11 @@ impl Model for Queue {
 }
 
 impl Queue {
-    ghost use Rattle.std.specs.Prelude.{◌≡◌, ◌↔◌, length, is_some, IfOk, IsTrue};
+    ghost use Rattle.std.specs.Prelude.{◌≡◌, ◌≤◌, ◌↔◌, length, is_some, IfOk, IsTrue};
     ghost use Rattle.std.specs.Prelude.{None};
     ghost use Rattle.phases.specs.Queue.{opening_queue, placement_of};
     ghost use Rattle.ring_core.specs.State.{Owns};
-    ghost use Rattle.ring_core.specs.Sound.{IsSound};
+    ghost use Rattle.ring_core.specs.Sound.{IsSound, outstanding_count};
     ghost use Rattle.ring_core.specs.Writes.{all_written};
     ghost use Rattle.ring_core.specs.Offer.{used_writes};
     ghost use Rattle.phases.specs.Queue.{completing};
@@ -212,10 +212,11 @@ impl Queue {
         self.broken
     }
 
-    /// Its log.
+    /// Its log. What is outstanding agrees with it, and is no more than the queue has descriptors.
     pub fn log(&self) -> &QueueLog
         ensures log { result.now ≡ self.now.ring.log }
         ensures sound { IsSound self.now.ring }
+        ensures few { outstanding_count self.now.ring ≤ self.now.ring.layout.size }
     {
         self.ring.log()
     }

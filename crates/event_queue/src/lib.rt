@@ -1,0 +1,9 @@
+//! The event queue's port: the buffers that the device holds, what each gets, and the events that wait.
+#![tactic(auto)]
+
+pub mod laws;
+mod port;
+mod waiting;
+
+pub use port::EventPort;
+pub use waiting::WaitingEvents;

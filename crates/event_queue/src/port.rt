@@ -1,0 +1,125 @@
+//! The buffers of the event queue that the device holds.
+
+use ring_core::Chain;
+use scsi_codec::{EVENT_BYTES, EVENTS_MISSED, Event, write_event};
+use std::alloc::{AllocError, Global};
+use std::collections::VecDeque;
+use std::marker::Model;
+
+/// The buffers of the event queue that the device holds, oldest first, and whether an event was missed since one came.
+#[derive(Debug, Drop)]
+pub struct EventPort {
+    buffers: VecDeque<Chain>,
+    missed: bool,
+    limit: usize,
+}
+
+impl Model for EventPort {
+    ghost use Rattle.std.specs.Prelude.{◌≤◌};
+    ghost use Rattle.std.specs.List.{All};
+    ghost use Rattle.std.specs.VecDeque.{deque_capacity, deque_len};
+    ghost use Rattle.event_queue.specs.Port.{PlainPort, HasRoom};
+
+    ghost Value = { PlainPort };
+
+    ghost view = { λ p. record { buffers = p.buffers.items; missed = p.missed; limit = p.limit } };
+
+    ghost invariant = { λ p. (deque_len p.buffers ≤ p.limit) × (p.limit ≤ deque_capacity p.buffers)
+        × All (λ c. HasRoom c) p.buffers.items };
+}
+
+ghost use Rattle.std.specs.Prelude.{◌≡◌};
+ghost use Rattle.scsi_codec.specs.EventQueue.{event_bytes};
+ghost use Rattle.event_queue.specs.Port.{missed_event};
+
+/// The bytes that tell that events were missed (VIRTIO 1.2 §5.6.6.3).
+fn missed_bytes() -> [u8; EVENT_BYTES]
+    ensures { result ≡ event_bytes missed_event }
+{
+    write_event(&Event {
+        event: EVENTS_MISSED,
+        address: None,
+        reason: 0,
+    })
+}
+
+impl EventPort {
+    ghost use Rattle.std.specs.Prelude.{◌≡◌, ◌<◌, ◌↔◌, [], length, None, Some, IfOk, IfSome, IsTrue, slice_get};
+    ghost use Rattle.std.specs.Option.{ForSome};
+    ghost use Rattle.event_queue.specs.Port.{Happening, HasRoom, opening_port, gives, after};
+
+    /// A port that holds no buffer, with room for `size`. Only this call takes memory.
+    pub fn new(alloc: Global, size: usize) -> Result<EventPort, AllocError>
+        ensures { IfOk result (λ port. port ≡ opening_port size) }
+    {
+        Ok(EventPort {
+            buffers: VecDeque::with_capacity(alloc, size)?,
+            missed: false,
+            limit: size,
+        })
+    }
+
+    /// How many buffers it holds.
+    pub fn len(&self) -> usize
+        ensures { result ≡ length self.now.buffers }
+    {
+        self.buffers.len()
+    }
+
+    /// Whether it may hold one more.
+    pub fn has_room(&self) -> bool
+        ensures { IsTrue result ↔ (length self.now.buffers < self.now.limit) }
+    {
+        self.len() < self.limit
+    }
+
+    /// Whether an event was missed since a buffer last came.
+    pub fn missed(&self) -> bool
+        ensures { result ≡ self.now.missed }
+    {
+        self.missed
+    }
+
+    /// The oldest buffer that it holds; `None` where it holds none. An event fits into it.
+    pub fn oldest(&self) -> Option<&Chain>
+        ensures some { IfSome result (λ c. slice_get self.now.buffers 0 ≡ Some c.now) }
+        ensures none { result ≡ None → self.now.buffers ≡ [] }
+        ensures room { IfSome result (λ c. HasRoom c.now) }
+    {
+        self.buffers.front()
+    }
+
+    /// An event is raised: the oldest buffer goes back with its bytes, or the event is missed, where none is held.
+    pub fn raise(&mut self, event: &Event) -> Option<(Chain, [u8; EVENT_BYTES])>
+        requires { ForSome event.now.address (λ a. a.lun < 16384) }
+        ensures gives { result ≡ gives (Happening.Raised event.now) self.old }
+        ensures port { self.new ≡ after (Happening.Raised event.now) self.old }
+        ensures room { IfSome result (λ given. HasRoom given.0) }
+    {
+        match self.buffers.pop_front() {
+            Some(chain) => Some((chain, write_event(event))),
+            None => {
+                self.missed = true;
+                None
+            }
+        }
+    }
+
+    /// A buffer comes, into which an event fits: it goes back at once and tells that events were missed, where one was
+    /// missed since a buffer last came, and else is held. There is room for it, which the caller sees to.
+    pub fn buffer(&mut self, chain: Chain) -> Option<(Chain, [u8; EVENT_BYTES])>
+        requires room { length self.old.buffers < self.old.limit }
+        requires fits { HasRoom chain }
+        ensures gives { result ≡ gives (Happening.Came chain) self.old }
+        ensures port { self.new ≡ after (Happening.Came chain) self.old }
+    {
+        if self.missed {
+            self.missed = false;
+            return Some((chain, missed_bytes()));
+        }
+        match self.buffers.push_back(chain) {
+            Ok(()) => None,
+            Err(_) => unreachable!(),
+        }
+    }
+}
