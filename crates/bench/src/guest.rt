@@ -29,6 +29,9 @@ const REQUEST_BYTES: u32 = 51;
 
 const RESPONSE_BYTES: u32 = 108;
 
+/// The steps of a request that nothing blocks: it is fetched, enters, is put, taken, committed and answered, and leaves.
+const STEPS: u64 = 7;
+
 /// Descriptor flags (VIRTIO 1.2, 2.7.5 and 2.8.1).
 const NEXT: u16 = 1;
 
@@ -183,7 +186,10 @@ fn serve(world: &mut World, work: &Work, round: u64) -> Result<(), Failure> {
     }
     let served = world.settle()?;
     let mut response = [255; 12];
-    if served == 1 && world.memory().read(RESPONSE, &mut response).is_ok() && response == [0; 12] {
+    if served == STEPS
+        && world.memory().read(RESPONSE, &mut response).is_ok()
+        && response == [0; 12]
+    {
         Ok(())
     } else {
         Err(Failure::NotServed)

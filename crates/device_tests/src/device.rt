@@ -1,6 +1,9 @@
 //! The device, over its public calls: what a script can't show.
 
 mod configurations;
+mod events;
+mod guest;
+mod moves;
 mod service;
 mod views;
 
@@ -8,25 +11,31 @@ use ring_core::Layout;
 use std::alloc::Global;
 use world::{Config, StartFault, UnitSpec, VERSION_1, World};
 
-/// Three queues of 4 descriptors, the request queue at 0.
-static QUEUES: [Layout; 3] = [
+/// Four queues of 8 descriptors, each in 4,096 bytes of its own.
+static QUEUES: [Layout; 4] = [
     Layout {
-        size: 4,
+        size: 8,
+        desc: 0,
+        driver: 1024,
+        device: 2048,
+    },
+    Layout {
+        size: 8,
+        desc: 4096,
+        driver: 5120,
+        device: 6144,
+    },
+    Layout {
+        size: 8,
         desc: 8192,
         driver: 9216,
         device: 10240,
     },
     Layout {
-        size: 4,
+        size: 8,
         desc: 12288,
         driver: 13312,
         device: 14336,
-    },
-    Layout {
-        size: 4,
-        desc: 0,
-        driver: 1024,
-        device: 2048,
     },
 ];
 
@@ -43,8 +52,8 @@ struct Numbers {
 const NUMBERS: Numbers = Numbers {
     pages: 16,
     features: VERSION_1,
-    workers: 1,
-    handoff: 64,
+    workers: 2,
+    handoff: 8,
 };
 
 /// A device with `QUEUES`. It has no contract, so that what `new` promises is read once.

@@ -8,10 +8,12 @@ use Rattle.guest_driver.specs.Requests.{IsHead}
 use Rattle.guest_driver.proofs.Numbers.{number_from, reads_8}
 use Rattle.script_lines.specs.declared.send.Send.{Send}
 
-take_first : (n : ℕ) (xs ys : List ℕ) → length xs ≡ n → take n (xs ++ ys) ≡ xs
+-- the first n elements of a list of n and more are that list
+pub take_first : (n : ℕ) (xs ys : List ℕ) → length xs ≡ n → take n (xs ++ ys) ≡ xs
 take_first n xs ys e = subst (λ (k : ℕ). take k (xs ++ ys) ≡ xs) e (take-append_seam xs ys)
 
-drop_first : (n k : ℕ) (xs ys : List ℕ) → length xs ≡ n → drop (n + k) (xs ++ ys) ≡ drop k ys
+-- n + k elements less of a list of n and more are k less of the others
+pub drop_first : (n k : ℕ) (xs ys : List ℕ) → length xs ≡ n → drop (n + k) (xs ++ ys) ≡ drop k ys
 drop_first n k xs ys e = subst (λ (j : ℕ). drop (j + k) (xs ++ ys) ≡ drop k ys) e (drop-append-add xs ys k)
 
 module _ (bytes lun cdb : List ℕ) (id attribute : ℕ)

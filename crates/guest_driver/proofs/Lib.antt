@@ -1,3 +1,4 @@
+pub mod Functions
 pub mod Heads
 pub mod Numbers
 pub mod Rounds

@@ -1,18 +1,27 @@
-//! The guest's driver: it sends requests, and finds what was used by reading guest memory alone.
+//! The guest's driver: it sends requests and functions, and finds what was used by reading guest memory alone.
 
-use crate::guest::{put, put_bytes};
+use crate::guest::{Buffer, put, put_bytes};
 use crate::packed_queue::PackedQueue;
-use crate::requests::{Pair, Space, Used, request_head};
+use crate::requests::{Buffers, FUNCTION_BYTES, Space, Used, function_request, request_head};
 use crate::split_queue::SplitQueue;
 use guest_mem::GuestMem;
 use ring_core::Form;
-use script_lines::{LineFault, Send, Stop};
-use scsi_codec::{REQUEST_BYTES, RESPONSE_BYTES};
+use script_lines::{LineFault, Send, Stop, TaskManagement};
+use scsi_codec::{EVENT_BYTES, REQUEST_BYTES, RESPONSE_BYTES};
 use slab::Slab;
 use std::alloc::{AllocError, Global};
 use std::collections::BTreeMap;
 use std::num::NonZeroU16;
 use world::World;
+
+/// The control queue (VIRTIO 1.2, 5.6.2).
+const CONTROL_QUEUE: u16 = 0;
+
+/// The event queue (VIRTIO 1.2, 5.6.2).
+const EVENT_QUEUE: u16 = 1;
+
+/// The bytes of the response to a task management function (VIRTIO 1.2, 5.6.6.2).
+const FUNCTION_RESPONSE_BYTES: u64 = 1;
 
 /// A queue of either form.
 #[derive(Drop)]
@@ -30,19 +39,19 @@ impl Ring {
         })
     }
 
-    /// Whether there is no room for a chain.
-    fn is_full(&self) -> bool {
+    /// Whether there is no room for a chain of two buffers, or of one alone.
+    fn is_full(&self, alone: bool) -> bool {
         match self {
             Ring::Split(ring) => ring.is_full(),
-            Ring::Packed(ring) => ring.is_full(),
+            Ring::Packed(ring) => ring.is_full(alone),
         }
     }
 
     /// Makes a chain available.
-    fn offer(&mut self, world: &mut World, pair: Pair, key: usize) -> Result<(), Stop> {
+    fn offer(&mut self, world: &mut World, buffers: Buffers, key: usize) -> Result<(), Stop> {
         match self {
-            Ring::Split(ring) => ring.offer(world, pair, key),
-            Ring::Packed(ring) => ring.offer(world, pair, key),
+            Ring::Split(ring) => ring.offer(world, buffers, key),
+            Ring::Packed(ring) => ring.offer(world, buffers, key),
         }
     }
 
@@ -55,8 +64,8 @@ impl Ring {
     }
 }
 
-/// A queue, with the names of its requests in the order in which they were made available, and of those that were
-/// used, in order.
+/// A queue, with the names of its requests or functions in the order in which they were made available, and of those
+/// that were used, in order.
 #[derive(Drop)]
 struct Queue {
     ring: Ring,
@@ -64,12 +73,32 @@ struct Queue {
     used: Vec<String>,
 }
 
-/// What is known of a request that was sent.
+/// A chain that is open.
+#[derive(Drop)]
+enum Open {
+    /// The request or function of this name.
+    Named(String),
+    /// An event buffer at this address.
+    EventBuffer(u64),
+}
+
+/// What a chain asks for.
+#[derive(Clone, Copy, Debug, PartialEq, Eq)]
+pub enum Asks {
+    /// A command, by a request.
+    Command,
+    /// A task management function.
+    Function,
+}
+
+/// What is known of a request or a function that was sent.
 #[derive(Clone, Copy, Debug, PartialEq, Eq)]
 pub struct Sent {
+    /// Which of the two it is.
+    pub asks: Asks,
     /// Where its response lies.
     pub response: u64,
-    /// How many bytes the device says that it wrote, once the request was used.
+    /// How many bytes the device says that it wrote, once it was used.
     pub used: Option<u32>,
 }
 
@@ -79,10 +108,12 @@ pub struct Driver {
     alloc: Global,
     queues: Vec<Queue>,
     space: Space,
-    /// The names of the requests that are open.
-    open: Slab<String>,
+    /// What is open.
+    open: Slab<Open>,
     /// What was sent, by name.
     sent: BTreeMap<String, Sent>,
+    /// Where the event buffers lie that were used, in order.
+    events: Vec<u64>,
 }
 
 impl Driver {
@@ -110,47 +141,113 @@ impl Driver {
             space: Space::START,
             open: Slab::new(alloc),
             sent: BTreeMap::new(alloc),
+            events: Vec::new(alloc),
         })
     }
 
-    /// Sends a request: places its buffers, writes it, and makes its chain available. `BadValue` where
-    /// there is no such queue, `NameTaken` where a request of that name was sent, `QueueFull` where the
-    /// queue has no room for a chain, `NoGuestMemory` where a buffer doesn't fit; of several the first
-    /// in this order. `NoMemory` where memory runs out.
-    pub fn send(&mut self, world: &mut World, send: &Send<'_>) -> Result<(), Stop> {
-        let Some(queue) = self.queues.get_mut(send.queue as usize) else {
+    /// Places the buffers of a chain that goes to a queue under a name: so many bytes to read, and so
+    /// many to write. The faults are those of `send`.
+    fn place(
+        &mut self,
+        memory: &GuestMem,
+        queue: u16,
+        name: &str,
+        readable: u64,
+        writable: u64,
+    ) -> Result<(Buffer, Buffer), Stop> {
+        let Some(queue) = self.queues.get(queue as usize) else {
             return Err(Stop::Fault(LineFault::BadValue));
         };
-        if self.sent.contains_key(send.name) {
+        if self.sent.contains_key(name) {
             return Err(Stop::Fault(LineFault::NameTaken));
         }
-        if queue.ring.is_full() {
+        if queue.ring.is_full(false) {
             return Err(Stop::Fault(LineFault::QueueFull));
         }
-        let memory = world.memory().size();
-        let len = send.out.length().saturating_add(REQUEST_BYTES as u64);
-        let readable = self.space.place(len, memory)?;
-        let len = u64::from(send.room) + RESPONSE_BYTES as u64;
-        let writable = self.space.place(len, memory)?;
-        put(
-            world,
-            readable.at,
-            request_head(self.alloc, send)?.as_slice(),
-        )?;
-        let data = readable.at.saturating_add(REQUEST_BYTES as u64);
-        put_bytes(self.alloc, world, data, &send.out)?;
-        let key = self.open.insert(String::from_str(self.alloc, send.name)?)?;
-        queue.ring.offer(world, Pair { readable, writable }, key)?;
-        queue
-            .offered
-            .push(String::from_str(self.alloc, send.name)?)?;
-        let name = String::from_str(self.alloc, send.name)?;
+        let readable = self.space.place(readable, memory.size())?;
+        let writable = self.space.place(writable, memory.size())?;
+        Ok((readable, writable))
+    }
+
+    /// Makes the chain of buffers that were written available under a name.
+    fn offer(
+        &mut self,
+        world: &mut World,
+        queue: u16,
+        name: &str,
+        (readable, writable): (Buffer, Buffer),
+        asks: Asks,
+    ) -> Result<(), Stop> {
+        let Some(queue) = self.queues.get_mut(queue as usize) else {
+            return Err(Stop::Fault(LineFault::BadValue));
+        };
+        let key = self
+            .open
+            .insert(Open::Named(String::from_str(self.alloc, name)?))?;
+        let buffers = Buffers {
+            readable: Some(readable),
+            writable,
+        };
+        queue.ring.offer(world, buffers, key)?;
+        queue.offered.push(String::from_str(self.alloc, name)?)?;
         let sent = Sent {
+            asks,
             response: writable.at,
             used: None,
         };
-        self.sent.insert(name, sent)?;
+        self.sent.insert(String::from_str(self.alloc, name)?, sent)?;
         Ok(())
+    }
+
+    /// Sends a request: places its buffers, writes it, and makes its chain available. `BadValue` where
+    /// there is no such queue, `NameTaken` where anything of that name was sent, `QueueFull` where the
+    /// queue has no room for a chain, `NoGuestMemory` where a buffer doesn't fit; of several the first
+    /// in this order. `NoMemory` where memory runs out.
+    pub fn send(&mut self, world: &mut World, send: &Send<'_>) -> Result<(), Stop> {
+        let readable = send.out.length().saturating_add(REQUEST_BYTES as u64);
+        let writable = u64::from(send.room) + RESPONSE_BYTES as u64;
+        let buffers = self.place(world.memory(), send.queue, send.name, readable, writable)?;
+        let at = buffers.0.at;
+        put(world, at, request_head(self.alloc, send)?.as_slice())?;
+        let data = at.saturating_add(REQUEST_BYTES as u64);
+        put_bytes(self.alloc, world, data, &send.out)?;
+        self.offer(world, send.queue, send.name, buffers, Asks::Command)
+    }
+
+    /// Sends a task management function on the control queue, as `send` does a request, and with its faults.
+    pub fn send_function(
+        &mut self,
+        world: &mut World,
+        function: &TaskManagement<'_>,
+    ) -> Result<(), Stop> {
+        let buffers = self.place(
+            world.memory(),
+            CONTROL_QUEUE,
+            function.name,
+            FUNCTION_BYTES as u64,
+            FUNCTION_RESPONSE_BYTES,
+        )?;
+        put(world, buffers.0.at, &function_request(function))?;
+        self.offer(world, CONTROL_QUEUE, function.name, buffers, Asks::Function)
+    }
+
+    /// Makes an event buffer available: one writable buffer of the bytes of an event. `QueueFull` where the event
+    /// queue has no room for it, `NoGuestMemory` where it doesn't fit; of both the first. `NoMemory` where memory
+    /// runs out.
+    pub fn send_event_buffer(&mut self, world: &mut World) -> Result<(), Stop> {
+        let Some(queue) = self.queues.get_mut(EVENT_QUEUE as usize) else {
+            return Err(Stop::Fault(LineFault::BadValue));
+        };
+        if queue.ring.is_full(true) {
+            return Err(Stop::Fault(LineFault::QueueFull));
+        }
+        let writable = self.space.place(EVENT_BYTES as u64, world.memory().size())?;
+        let key = self.open.insert(Open::EventBuffer(writable.at))?;
+        let buffers = Buffers {
+            readable: None,
+            writable,
+        };
+        queue.ring.offer(world, buffers, key)
     }
 
     /// Finds what was used since the last look, by reading guest memory alone. What was used is free
@@ -160,23 +257,27 @@ impl Driver {
             let mut used = Vec::new(self.alloc);
             queue.ring.look(memory, &mut used)?;
             for Used { key, len } in used.iter() {
-                if let Some(name) = self.open.try_remove(*key) {
-                    if let Some(sent) = self.sent.get_mut(name.as_str()) {
-                        sent.used = Some(*len);
+                match self.open.try_remove(*key) {
+                    Some(Open::Named(name)) => {
+                        if let Some(sent) = self.sent.get_mut(name.as_str()) {
+                            sent.used = Some(*len);
+                        }
+                        queue.used.push(name)?;
                     }
-                    queue.used.push(name)?;
+                    Some(Open::EventBuffer(at)) => self.events.push(at)?,
+                    None => {}
                 }
             }
         }
         Ok(())
     }
 
-    /// What is known of a request, as the last look found it; `None` where none of that name was sent.
+    /// What is known of a request or a function, as the last look found it; `None` where none of that name was sent.
     pub fn sent(&self, name: &str) -> Option<Sent> {
         self.sent.get(name).copied()
     }
 
-    /// The name of the request whose chain was the one of this number, from 0, that the queue made available; `None`
+    /// The name of the request or function whose chain was the one of this number, from 0, that the queue made available; `None`
     /// where there was none.
     pub fn offered(&self, queue: u16, number: u64) -> Option<&str> {
         let queue = self.queues.get(queue as usize)?;
@@ -184,7 +285,12 @@ impl Driver {
         Some(name.as_str())
     }
 
-    /// The names of a queue's requests that were used, in order; `None` where there is no such
+    /// Where the event buffers lie that were used, in order.
+    pub fn used_event_buffers(&self) -> &[u64] {
+        self.events.as_slice()
+    }
+
+    /// The names of a queue's requests or functions that were used, in order; `None` where there is no such
     /// queue.
     pub fn used(&self, queue: u16) -> Option<&[String]> {
         Some(self.queues.get(queue as usize)?.used.as_slice())

@@ -10,5 +10,5 @@ mod requests;
 mod split_queue;
 
 pub use areas::layout_of;
-pub use driver::{Driver, Sent};
+pub use driver::{Asks, Driver, Sent};
 pub use guest::put_bytes;

@@ -1,12 +1,12 @@
 //! The driver's side of a packed virtqueue (VIRTIO 1.2, 2.8).
 
-ghost use Rattle.std.specs.Prelude.{◌≡◌, ◌<◌, ◌+◌, ℕ, Bool, IsTrue, ◌↔◌, not};
+ghost use Rattle.std.specs.Prelude.{◌≡◌, ◌<◌, ◌+◌, ℕ, Bool, true, false, IsTrue, ◌↔◌, not};
 ghost use Rattle.ring_core.specs.Packed.{used_flags};
 ghost use Rattle.guest_driver.specs.Places.{HasPassed, avail_flag, used_flag};
 
 use crate::areas::layout_of;
 use crate::guest::{descriptor, put, u16_at, u32_at};
-use crate::requests::{Pair, Used};
+use crate::requests::{Buffers, Used};
 use guest_mem::GuestMem;
 use script_lines::{LineFault, Stop};
 use std::alloc::{AllocError, Global};
@@ -26,8 +26,15 @@ const AVAILABLE: u16 = 1 << 7;
 /// VIRTQ_DESC_F_USED.
 const USED: u16 = 1 << 15;
 
-/// How many slots a chain takes.
+/// The most slots that a chain takes.
 const CHAIN_SLOTS: u16 = 2;
+
+/// An open chain: its key, and how many slots it takes.
+#[derive(Clone, Copy, Debug, PartialEq, Eq)]
+struct OpenChain {
+    key: usize,
+    slots: u16,
+}
 
 /// A place in the ring, with the wrap counter there.
 #[derive(Clone, Copy, Debug, PartialEq, Eq)]
@@ -78,7 +85,7 @@ impl Position {
     }
 }
 
-/// A packed queue, as its driver keeps it. A chain takes two slots.
+/// A packed queue, as its driver keeps it. A chain takes a slot for each of its buffers.
 #[derive(Drop)]
 pub struct PackedQueue {
     queue: u16,
@@ -87,8 +94,8 @@ pub struct PackedQueue {
     free_ids: BTreeSet<u16>,
     /// How many slots no open chain takes.
     free_slots: u16,
-    /// The key of the open request under each id.
-    open: Vec<Option<usize>>,
+    /// The open chain of each id.
+    open: Vec<Option<OpenChain>>,
     /// Where the next chain goes.
     next: Position,
     /// Where the next used descriptor comes.
@@ -113,17 +120,23 @@ impl PackedQueue {
         })
     }
 
-    /// Whether fewer slots are free than a chain takes.
-    pub fn is_full(&self) -> bool
-        ensures { IsTrue result ↔ (self.now.free_slots < 2) }
+    /// Whether fewer slots are free than a chain takes that has two buffers, or has one alone.
+    pub fn is_full(&self, alone: bool) -> bool
+        ensures two { alone ≡ false → (IsTrue result ↔ (self.now.free_slots < 2)) }
+        ensures one { alone ≡ true → (IsTrue result ↔ (self.now.free_slots < 1)) }
     {
-        self.free_slots < CHAIN_SLOTS
+        self.free_slots < if alone { 1 } else { CHAIN_SLOTS }
     }
 
-    /// Makes a chain of two buffers available, under a request's key. The flags of the first
-    /// descriptor are written last.
-    pub fn offer(&mut self, world: &mut World, pair: Pair, key: usize) -> Result<(), Stop> {
-        let Some(free_slots) = self.free_slots.checked_sub(CHAIN_SLOTS) else {
+    /// Makes a chain of its buffers available, under a key. The flags of the first descriptor are
+    /// written last.
+    pub fn offer(&mut self, world: &mut World, buffers: Buffers, key: usize) -> Result<(), Stop> {
+        let slots = if buffers.readable.is_some() {
+            CHAIN_SLOTS
+        } else {
+            1
+        };
+        let Some(free_slots) = self.free_slots.checked_sub(slots) else {
             return Err(Stop::Fault(LineFault::QueueFull));
         };
         let Some(id) = self.free_ids.pop_first() else {
@@ -132,18 +145,24 @@ impl PackedQueue {
         let Some(place) = self.open.get_mut(id as usize) else {
             return Err(Stop::Fault(LineFault::QueueFull));
         };
-        *place = Some(key);
+        *place = Some(OpenChain { key, slots });
         let layout = layout_of(self.queue, self.size.get());
         let first = self.next;
-        let second = first.next(self.size);
-        let flags = WRITE | second.available();
-        let at = layout.desc + 16 * u64::from(second.slot);
-        put(world, at, &descriptor(pair.writable, id, flags))?;
-        let flags = NEXT | first.available();
         let at = layout.desc + 16 * u64::from(first.slot);
-        put(world, at, &descriptor(pair.readable, id, 0)[..14])?;
+        let (buffer, flags, last) = match buffers.readable {
+            Some(readable) => {
+                let second = first.next(self.size);
+                let flags = WRITE | second.available();
+                let at = layout.desc + 16 * u64::from(second.slot);
+                put(world, at, &descriptor(buffers.writable, id, flags))?;
+                (readable, NEXT, second)
+            }
+            None => (buffers.writable, WRITE, first),
+        };
+        let flags = flags | first.available();
+        put(world, at, &descriptor(buffer, id, 0)[..14])?;
         put(world, at + 14, &flags.to_le_bytes())?;
-        self.next = second.next(self.size);
+        self.next = last.next(self.size);
         self.free_slots = free_slots;
         Ok(())
     }
@@ -157,26 +176,28 @@ impl PackedQueue {
             if !self.seen.is_used(u16_at(memory, at + 14)) {
                 return Ok(());
             }
-            let Some(key) = self.close(u16_at(memory, at + 12))? else {
+            let Some(OpenChain { key, slots }) = self.close(u16_at(memory, at + 12))? else {
                 return Ok(());
             };
             let len = u32_at(memory, at + 8);
             used.push(Used { key, len })?;
-            self.seen = self.seen.next(self.size).next(self.size);
+            for _ in 0..slots {
+                self.seen = self.seen.next(self.size);
+            }
         }
         Ok(())
     }
 
-    /// Frees the id and the slots of an open chain, and gives its request's key.
-    fn close(&mut self, id: u16) -> Result<Option<usize>, AllocError> {
+    /// Frees the id and the slots of an open chain, and gives the chain.
+    fn close(&mut self, id: u16) -> Result<Option<OpenChain>, AllocError> {
         let Some(place) = self.open.get_mut(id as usize) else {
             return Ok(None);
         };
-        let key = place.take();
-        if key.is_some() {
+        let chain = place.take();
+        if let Some(OpenChain { key: _, slots }) = chain {
             self.free_ids.insert(id)?;
-            self.free_slots = self.free_slots.saturating_add(CHAIN_SLOTS);
+            self.free_slots = self.free_slots.saturating_add(slots);
         }
-        Ok(key)
+        Ok(chain)
     }
 }

@@ -1,11 +1,11 @@
-//! A request on its way to the device.
+//! What is on its way to the device: requests and functions.
 
 ghost use Rattle.std.specs.Prelude.{◌≡◌, ◌≤◌, ◌<◌, ◌+◌, ◌^◌, ℕ, IsOk, IfOk, OnOk, IfErr, OnErr, ◌↔◌};
 ghost use Rattle.guest_mem.specs.Memory.{LiesIn};
-ghost use Rattle.guest_driver.specs.Requests.{IsHead, IsNextPlace};
+ghost use Rattle.guest_driver.specs.Requests.{IsFunction, IsHead, IsNextPlace};
 
 use crate::guest::Buffer;
-use script_lines::{LineFault, Send};
+use script_lines::{LineFault, Send, TaskManagement};
 use scsi_codec::REQUEST_BYTES;
 use std::alloc::{AllocError, Global};
 use std::marker::Model;
@@ -23,11 +23,26 @@ pub fn request_head(alloc: Global, send: &Send<'_>) -> Result<Vec<u8>, AllocErro
     Ok(head)
 }
 
-/// The buffers of a request.
+/// The bytes of a task management function (VIRTIO 1.2, 5.6.6.2).
+pub const FUNCTION_BYTES: usize = 24;
+
+/// The bytes of a task management function (VIRTIO 1.2, 5.6.6.2): the type 0, the subtype, the unit's
+/// address and the id.
+pub fn function_request(function: &TaskManagement<'_>) -> [u8; FUNCTION_BYTES]
+    ensures { IsFunction result function.now }
+{
+    let mut bytes = [0; FUNCTION_BYTES];
+    bytes[4..8].copy_from_slice(&function.subtype.to_le_bytes());
+    bytes[8..16].copy_from_slice(&function.lun);
+    bytes[16..].copy_from_slice(&function.id.to_le_bytes());
+    bytes
+}
+
+/// The buffers of a chain.
 #[derive(Clone, Copy, Debug, PartialEq, Eq)]
-pub struct Pair {
-    /// What the device reads.
-    pub readable: Buffer,
+pub struct Buffers {
+    /// What the device reads, of a request or of a function; none of an event buffer.
+    pub readable: Option<Buffer>,
     /// What the device writes.
     pub writable: Buffer,
 }
@@ -35,7 +50,7 @@ pub struct Pair {
 /// What a queue says of a chain that was used.
 #[derive(Clone, Copy, Debug, PartialEq, Eq)]
 pub struct Used {
-    /// The key of its request.
+    /// The key under which it was made available.
     pub key: usize,
     /// How many bytes the device says that it wrote.
     pub len: u32,

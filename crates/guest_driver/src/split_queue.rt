@@ -4,7 +4,7 @@ ghost use Rattle.std.specs.Prelude.{◌≡◌, [], IsTrue, ◌↔◌};
 
 use crate::areas::layout_of;
 use crate::guest::{descriptor, put, u16_at, u32_at};
-use crate::requests::{Pair, Used};
+use crate::requests::{Buffers, Used};
 use guest_mem::GuestMem;
 use script_lines::{LineFault, Stop};
 use std::alloc::{AllocError, Global};
@@ -19,14 +19,14 @@ const NEXT: u16 = 1;
 const WRITE: u16 = 2;
 
 /// A split queue, as its driver keeps it. A chain takes a pair of descriptors, an even one and the
-/// next.
+/// next, also where it needs one alone.
 #[derive(Drop)]
 pub struct SplitQueue {
     queue: u16,
     size: NonZeroU16,
     /// The heads of the free pairs.
     free: BTreeSet<u16>,
-    /// The key of the open request at each head.
+    /// The key of the open chain at each head.
     open: Vec<Option<usize>>,
     /// The index of the available ring.
     available: u16,
@@ -58,8 +58,8 @@ impl SplitQueue {
         self.free.is_empty()
     }
 
-    /// Makes a chain of two buffers available, under a request's key. The index is written last.
-    pub fn offer(&mut self, world: &mut World, pair: Pair, key: usize) -> Result<(), Stop> {
+    /// Makes a chain of its buffers available, under a key. The index is written last.
+    pub fn offer(&mut self, world: &mut World, buffers: Buffers, key: usize) -> Result<(), Stop> {
         let Some(head) = self.free.pop_first() else {
             return Err(Stop::Fault(LineFault::QueueFull));
         };
@@ -68,11 +68,16 @@ impl SplitQueue {
         };
         *place = Some(key);
         let layout = layout_of(self.queue, self.size.get());
-        let second = head | 1;
-        let at = layout.desc + 16 * u64::from(head);
-        put(world, at, &descriptor(pair.readable, NEXT, second))?;
-        let at = layout.desc + 16 * u64::from(second);
-        put(world, at, &descriptor(pair.writable, WRITE, 0))?;
+        let last = match buffers.readable {
+            Some(readable) => {
+                let at = layout.desc + 16 * u64::from(head);
+                put(world, at, &descriptor(readable, NEXT, head | 1))?;
+                head | 1
+            }
+            None => head,
+        };
+        let at = layout.desc + 16 * u64::from(last);
+        put(world, at, &descriptor(buffers.writable, WRITE, 0))?;
         let slot = self.available % self.size.get();
         let at = layout.driver + 4 + 2 * u64::from(slot);
         put(world, at, &head.to_le_bytes())?;
@@ -100,7 +105,7 @@ impl SplitQueue {
         Ok(())
     }
 
-    /// Frees the pair of an open chain, and gives its request's key.
+    /// Frees the pair of an open chain, and gives its key.
     fn close(&mut self, id: u32) -> Result<Option<usize>, AllocError> {
         let Ok(head) = u16::try_from(id) else {
             return Ok(None);

@@ -4,11 +4,12 @@ use crate::header::Header;
 use crate::show;
 use guest_driver::{Driver, put_bytes};
 use script_lines::{
-    Bytes, Command, LineFault, LineText, ScriptFault, Send, Stop, lines_of, text_of,
+    Bytes, Command, LineFault, LineText, ScriptFault, Send, Step, Stop, lines_of, text_of,
 };
+use scsi_codec::Address;
 use std::alloc::Global;
 use std::io::{ErrorKind, Read, Write};
-use world::World;
+use world::{Event, World};
 
 /// The lowest queue of requests (VIRTIO 1.2, 5.6.2).
 const FIRST_REQUEST_QUEUE: u16 = 2;
@@ -82,6 +83,24 @@ fn open(alloc: Global, lines: &[&[u8]]) -> Result<(Session, usize), ScriptFault>
     }
 }
 
+/// The event of a step.
+fn event_of(step: Step) -> Event {
+    match step {
+        Step::Fetch(queue) => Event::Fetch(queue),
+        Step::Enter(queue) => Event::Enter(queue),
+        Step::Direct(queue) => Event::Direct(queue),
+        Step::Put(seat) => Event::Put(seat),
+        Step::Take(seat) => Event::Take(seat),
+        Step::Commit(seat) => Event::Commit(seat),
+        Step::Answer(seat) => Event::Answer(seat),
+        Step::Leave(seat) => Event::Leave(seat),
+        Step::Mark => Event::Mark,
+        Step::Check => Event::Check,
+        Step::AnswerTmf => Event::AnswerTmf,
+        Step::Raise => Event::Raise,
+    }
+}
+
 /// A script that runs: the device, and the guest's driver.
 #[derive(Drop)]
 struct Session {
@@ -111,9 +130,18 @@ impl Session {
     fn run_command<W: Write>(&mut self, command: Command<'_>, out: &mut W) -> Result<(), Stop> {
         match command {
             Command::Send(send) => self.send(&send),
+            Command::TaskManagement(function) => {
+                self.driver.send_function(&mut self.world, &function)
+            }
+            Command::Event => self.driver.send_event_buffer(&mut self.world),
             Command::Poke(addr, bytes) => self.poke(addr, &bytes),
+            Command::Hard(unit) => self.hard(unit),
             Command::Settle => {
                 let _steps = self.world.settle()?;
+                Ok(())
+            }
+            Command::Step(step) => {
+                let _applies = self.world.step(event_of(step))?;
                 Ok(())
             }
             Command::Show(name) => show::show(out, self.world.memory(), &self.driver, name),
@@ -122,6 +150,7 @@ impl Session {
                 show::blocks(self.alloc, out, &self.world, unit, first, count)
             }
             Command::History(unit) => show::history(out, &self.world, &self.driver, unit),
+            Command::Events => show::events(out, self.world.memory(), &self.driver),
             Command::Status => show::status(out, &self.world),
             Command::Notices(queue) => show::notices(out, &self.world, queue),
         }
@@ -133,6 +162,14 @@ impl Session {
             return Err(Stop::Fault(LineFault::BadValue));
         }
         self.driver.send(&mut self.world, send)
+    }
+
+    /// The operator resets a unit; where it isn't there nothing happens.
+    fn hard(&mut self, unit: Address) -> Result<(), Stop> {
+        if let Some(place) = self.world.place(unit.target, unit.lun) {
+            let _applies = self.world.step(Event::Hard(place))?;
+        }
+        Ok(())
     }
 
     /// Writes bytes where they fit into memory, and does nothing where they don't.

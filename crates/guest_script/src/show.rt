@@ -3,11 +3,11 @@
 ghost use Rattle.std.specs.Prelude.{◌≤◌};
 
 use block_store::BLOCK_BYTES;
-use guest_driver::{Driver, Sent};
+use guest_driver::{Asks, Driver, Sent};
 use guest_mem::GuestMem;
 use ring_core::Ticket;
 use script_lines::{LineFault, Stop};
-use scsi_codec::{Address, RESPONSE_BYTES};
+use scsi_codec::{Address, EVENT_BYTES, RESPONSE_BYTES};
 use std::alloc::Global;
 use std::io;
 use std::io::Write;
@@ -169,27 +169,50 @@ fn print_response<W: Write>(
     runs.end(out)
 }
 
-/// Prints what became of a request, as its response stands now.
+/// Prints what became of a function that was used with bytes written.
+fn print_function<W: Write>(
+    out: &mut W,
+    memory: &GuestMem,
+    name: &str,
+    at: u64,
+    used: u32,
+) -> Result<(), Stop> {
+    let mut bytes = [0; 1];
+    if memory.read(at, &mut bytes).is_err() {
+        return Err(Stop::Fault(LineFault::NoGuestMemory));
+    }
+    let code = bytes[0];
+    written(writeln!(out, "{name} used={used} response={code}"))
+}
+
+/// Prints what became of a request or a function, as its response stands now.
 pub fn show<W: Write>(
     out: &mut W,
     memory: &GuestMem,
     driver: &Driver,
     name: &str,
 ) -> Result<(), Stop> {
-    match driver.sent(name) {
-        None => Err(Stop::Fault(LineFault::NoSuchName)),
-        Some(Sent { used: None, .. }) => written(writeln!(out, "{name} open")),
-        Some(Sent { used: Some(0), .. }) => written(writeln!(out, "{name} used=0")),
-        Some(
-            Sent {
-                response,
-                used: Some(used),
-            },
-        ) => print_response(out, memory, name, response, used),
+    let Some(
+        Sent {
+            asks,
+            response,
+            used,
+        },
+    ) = driver.sent(name)
+    else {
+        return Err(Stop::Fault(LineFault::NoSuchName));
+    };
+    match used {
+        None => written(writeln!(out, "{name} open")),
+        Some(0) => written(writeln!(out, "{name} used=0")),
+        Some(used) => match asks {
+            Asks::Command => print_response(out, memory, name, response, used),
+            Asks::Function => print_function(out, memory, name, response, used),
+        },
     }
 }
 
-/// Prints the names of a queue's used requests, in order.
+/// Prints the names of a queue's used requests or functions, in order.
 pub fn order<W: Write>(out: &mut W, driver: &Driver, queue: u16) -> Result<(), Stop> {
     let Some(names) = driver.used(queue) else {
         return Err(Stop::Fault(LineFault::BadValue));
@@ -284,6 +307,36 @@ pub fn history<W: Write>(
         }
     }
     written(writeln!(out))
+}
+
+/// Prints what an event buffer tells.
+fn print_event<W: Write>(
+    out: &mut W,
+    memory: &GuestMem,
+    number: usize,
+    at: u64,
+) -> Result<(), Stop> {
+    let mut bytes = [0; EVENT_BYTES];
+    if memory.read(at, &mut bytes).is_err() {
+        return Err(Stop::Fault(LineFault::NoGuestMemory));
+    }
+    let event = u32::from_le_bytes([bytes[0], bytes[1], bytes[2], bytes[3]]);
+    let lun = u64::from_be_bytes([
+        bytes[4], bytes[5], bytes[6], bytes[7], bytes[8], bytes[9], bytes[10], bytes[11],
+    ]);
+    let reason = u32::from_le_bytes([bytes[12], bytes[13], bytes[14], bytes[15]]);
+    written(writeln!(
+        out,
+        "event {number} event={event:08x} lun={lun:016x} reason={reason}"
+    ))
+}
+
+/// Prints what the used event buffers tell, in the order in which they were used, as they stand now.
+pub fn events<W: Write>(out: &mut W, memory: &GuestMem, driver: &Driver) -> Result<(), Stop> {
+    for (place, at) in driver.used_event_buffers().iter().enumerate() {
+        print_event(out, memory, place.saturating_add(1), *at)?;
+    }
+    Ok(())
 }
 
 /// Prints the status of the device.

@@ -2,7 +2,8 @@
 
 use crate::fault::{LineFault, Stop};
 use crate::header::{HeaderLine, only};
-use crate::send::Send;
+use crate::send::{Send, TaskManagement};
+use crate::step::Step;
 use crate::values::{Bytes, name, number, unit_pair};
 use scsi_codec::{Address, CDB_BYTES, write_lun};
 use std::alloc::Global;
@@ -12,19 +13,29 @@ use std::alloc::Global;
 pub enum Command<'a> {
     /// A request goes to the device.
     Send(Send<'a>),
+    /// A task management function goes to the device.
+    TaskManagement(TaskManagement<'a>),
+    /// An event buffer goes to the device.
+    Event,
     /// The guest writes bytes at an address.
     Poke(u64, Bytes),
+    /// The operator resets a unit. Whether it is there isn't known here.
+    Hard(Address),
     /// The device runs until nothing is left to do.
     Settle,
-    /// What became of a request.
+    /// The device takes one step, if it applies.
+    Step(Step),
+    /// What became of a request or a function.
     Show(&'a str),
-    /// Which requests of a queue were used, in order.
+    /// Which requests or functions of a queue were used, in order.
     Order(u16),
     /// What stands in the blocks of a unit, from one on, so many of them. Whether the unit and the
     /// blocks are there isn't known here.
     Blocks(Address, u64, u64),
     /// The steps of a unit. Whether the unit is there isn't known here.
     History(Address),
+    /// What the used event buffers tell.
+    Events,
     /// The status of the device.
     Status,
     /// How many notices a queue gave.
@@ -38,17 +49,29 @@ impl<'a> Command<'a> {
     pub fn read(alloc: Global, keyword: &str, values: &[&'a str]) -> Result<Command<'a>, Stop> {
         let command = match keyword {
             "send" => Command::Send(send(alloc, values)?),
+            "tmf" => Command::TaskManagement(task_management(values)?),
+            "event" => alone(values, Command::Event)?,
             "poke" => poke(alloc, values)?,
+            "hard" => Command::Hard(unit_pair(only(values)?)?),
             "settle" => alone(values, Command::Settle)?,
             "show" => Command::Show(name(only(values)?)?),
             "order" => Command::Order(number(only(values)?)?),
             "blocks" => blocks(values)?,
             "history" => Command::History(unit_pair(only(values)?)?),
+            "events" => alone(values, Command::Events)?,
             "status" => alone(values, Command::Status)?,
             "notices" => Command::Notices(number(only(values)?)?),
-            _ => return Err(no_command(keyword, values)),
+            _ => return step_or_fault(keyword, values),
         };
         Ok(command)
+    }
+}
+
+/// A step of the device, or why a line is no line behind the header.
+fn step_or_fault<'a>(keyword: &str, values: &[&str]) -> Result<Command<'a>, Stop> {
+    match Step::read(keyword, values)? {
+        Some(step) => Ok(Command::Step(step)),
+        None => Err(no_command(keyword, values)),
     }
 }
 
@@ -150,5 +173,19 @@ fn send<'a>(alloc: Global, values: &[&'a str]) -> Result<Send<'a>, Stop> {
             None => Bytes::none(alloc),
         },
         room,
+    })
+}
+
+/// Reads the values of `tmf`.
+fn task_management<'a>(values: &[&'a str]) -> Result<TaskManagement<'a>, LineFault> {
+    let [word, subtype, unit, id] = values else {
+        return Err(LineFault::BadValue);
+    };
+    let address = unit_pair(unit)?;
+    Ok(TaskManagement {
+        name: name(word)?,
+        subtype: number(subtype)?,
+        lun: write_lun(&address),
+        id: number(id)?,
     })
 }

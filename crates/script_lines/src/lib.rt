@@ -7,11 +7,13 @@ mod fault;
 mod header;
 mod lines;
 mod send;
+mod step;
 mod values;
 
 pub use command::Command;
 pub use fault::{LineFault, ScriptFault, Stop};
 pub use header::{Disk, HeaderLine, Queues};
 pub use lines::{LineText, lines_of, text_of};
-pub use send::Send;
+pub use send::{Send, TaskManagement};
+pub use step::Step;
 pub use values::{Bytes, Item};

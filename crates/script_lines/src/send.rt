@@ -1,4 +1,4 @@
-//! A request as a line names it.
+//! What goes to the device, as a line names it.
 
 use crate::values::Bytes;
 use scsi_codec::CDB_BYTES;
@@ -22,4 +22,17 @@ pub struct Send<'a> {
     pub out: Bytes,
     /// How many bytes of data in it has room for.
     pub room: u32,
+}
+
+/// A task management function as a line names it. Which functions and units there are isn't known here.
+#[derive(Clone, Copy, Debug, PartialEq, Eq)]
+pub struct TaskManagement<'a> {
+    /// Its name, 1 to 16 letters or digits.
+    pub name: &'a str,
+    /// Which function it is.
+    pub subtype: u32,
+    /// The bytes of its unit's address.
+    pub lun: [u8; 8],
+    /// The id of the request that it is about.
+    pub id: u64,
 }

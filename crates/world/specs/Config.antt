@@ -1,18 +1,16 @@
 -- Which configurations the device takes, and the device that it opens as.
 use Rattle.std.specs.Prelude.{ℕ, ◌+◌, ◌*◌, ◌^◌, ◌≡◌, ◌==◌, ◌&&◌, nat_le, Bool, true, false, cond, List, [], length, replicate, map, slice_get, Option, Some, None, is_none}
 use Rattle.std.specs.List.{list_all, list_any}
-use Rattle.ring_core.specs.State.{opening, no_features}
 use Rattle.ring_core.specs.declared.layout.Form.{Form}
 use Rattle.ring_core.specs.declared.layout.Form.TheVariants.{Split, Packed}
 use Rattle.ring_core.specs.declared.layout.Layout.{Layout}
-use Rattle.ring_core.specs.declared.layout.LayoutFault.{LayoutFault}
-use Rattle.split_ring.specs.Placement as split
-use Rattle.packed_ring.specs.Placement as packed
-use Rattle.world.specs.Queue.{PlainQueue}
+use Rattle.phases.specs.Queue.{placement_of, opening_queue, with_slot}
+use Rattle.deeds.specs.Parts.{Slot, Hand}
+use Rattle.deeds.specs.World.{PlainQueue, PlainWorld, IsNewSeat, Everywhere}
+use Rattle.world.specs.Kept.{KeptSeat}
 use Rattle.history.specs.Contents.{Opening}
 use Rattle.unit_history.specs.Unit.{PlainUnit}
 use Rattle.unit_history.specs.Unit as unit
-use Rattle.world.specs.World.{PlainWorld}
 use Rattle.scsi_codec.specs.declared.lun.Address.{Address}
 use Rattle.decisions.specs.Inventory.{address_of, is_rising, luns_of}
 use Rattle.decisions.specs.declared.inventory.UnitSpec.{UnitSpec}
@@ -23,10 +21,6 @@ use Rattle.world.specs.declared.config.StartFault.TheVariants.{BadConfig, NoMemo
 -- VIRTIO_F_VERSION_1 alone, or with VIRTIO_F_RING_PACKED: bits 32 and 34 (VIRTIO 1.2, 6)
 abbrev pub form_of : ℕ → Option Form
 form_of features = cond (features == 2 ^ 32) (Some Split) (cond (features == 2 ^ 32 + 2 ^ 34) (Some Packed) None)
-
-abbrev pub placement_of : Form → ℕ → Layout → Option LayoutFault
-placement_of Split memory l = split.placement_fault memory l
-placement_of Packed memory l = packed.placement_fault memory l
 
 -- a queue of 2 to 1,024 descriptors that its ring takes
 abbrev pub is_queue : Form → ℕ → Layout → Bool
@@ -60,11 +54,6 @@ is_config c =
     && nat_le 1 c.workers && nat_le c.workers 8 && nat_le 1 c.handoff && nat_le c.handoff 4096
     && are_units c.units.items
 
--- the queue of this number, of which nothing was fetched yet
-abbrev pub opening_queue : Form → ℕ → ℕ → Layout → PlainQueue
-opening_queue Split memory number l = record { ring = opening Split number l no_features memory l.size; notices = 0 }
-opening_queue Packed memory number l = record { ring = opening Packed number l no_features memory 65536; notices = 0 }
-
 -- what a unit opens with
 abbrev pub opening_of : List Address → UnitSpec → Opening
 opening_of inventory u =
@@ -84,7 +73,7 @@ opening_unit inventory u = unit.opening_unit (opening_of inventory u) false
 pub record AreOpening (form : Form) (memory : ℕ) (layouts : List Layout) (queues : List PlainQueue) : Type 0 where
   pub count : length queues ≡ length layouts
   pub each : (k : ℕ) (l : Layout) → slice_get layouts k ≡ Some l → slice_get queues k
-      ≡ Some (opening_queue form memory k l)
+      ≡ Some (with_slot Slot.Empty (opening_queue form memory k l))
 
 -- the units, of which no step was taken
 pub record AreFresh (wanted : List UnitSpec) (units : List PlainUnit) : Type 0 where
@@ -92,14 +81,28 @@ pub record AreFresh (wanted : List UnitSpec) (units : List PlainUnit) : Type 0 w
   pub each : (k : ℕ) (u : UnitSpec) → slice_get wanted k ≡ Some u → slice_get units k
       ≡ Some (opening_unit (map address_of wanted) u)
 
--- memory is zeros, of each queue nothing was fetched, and of each unit no step was taken
-pub record Opens (c : Config) (w : PlainWorld) : Type 0 where
+-- so many seats, with nothing in hand and room for so many jobs
+pub record AreSeats (count limit : ℕ) (seats : List KeptSeat) : Type 0 where
+  pub many : length seats ≡ count
+  pub each : Everywhere (λ (k : ℕ) (s : KeptSeat). s ≡ record { hand = Hand.Free; jobs = []; limit = limit }) seats
+
+-- memory is zeros, of each queue nothing was fetched, of each unit no step was taken, and no seat has anything
+pub record IsOpening (c : Config) (w : PlainWorld) : Type 0 where
   pub form : Form
   pub agreed : form_of c.features ≡ Some form
   pub memory : w.memory ≡ replicate (size_of c) 0
   pub inventory : w.inventory ≡ map address_of c.units.items
   pub queues : AreOpening form (size_of c) c.queues.items w.queues
   pub units : AreFresh c.units.items w.units
+  pub workers : w.workers ≡ c.workers
+  pub limit : w.limit ≡ c.handoff
+  pub seats : length w.seats ≡ c.workers + 1
+  pub idle : Everywhere (λ (k : ℕ) (s : _). IsNewSeat s) w.seats
+  pub handed_off : w.handed_off ≡ []
+  pub function : w.function ≡ None
+  pub buffers : w.buffers ≡ []
+  pub missed : w.missed ≡ false
+  pub waiting : w.waiting ≡ []
 
 -- a configuration is refused as such exactly where the device doesn't take it
 abbrev pub StartRefusedAs : Config → StartFault → Type 0

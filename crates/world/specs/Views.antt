@@ -1,15 +1,22 @@
 -- What a look at the device finds.
-use Rattle.std.specs.Prelude.{ℕ, ◌≡◌, ◌≤◌, ◌+◌, ◌==◌, ◌&&◌, ◌++◌, Bool, true, false, cond, List, Option, Some, None, is_some, find, ◌<◌, Result, Ok, Err}
+use Rattle.std.specs.Prelude.{ℕ, ◌≡◌, ◌≤◌, ◌+◌, ◌==◌, ◌&&◌, ◌++◌, Bool, true, false, cond, List, Option, Some, None, is_some, slice_get, find, ◌<◌, Result, Ok, Err}
 use Rattle.std.specs.List.{list_any}
 use Rattle.block_store.specs.Blocks.{run}
 use Rattle.block_store.specs.declared.NoMemory.{NoMemory}
 use Rattle.history.specs.Contents.{blocks_of, capacity_of}
 use Rattle.unit_history.specs.Unit.{PlainUnit}
-use Rattle.world.specs.World.{PlainWorld}
+use Rattle.deeds.specs.World.{PlainWorld}
 
 -- the unit of an address
 abbrev pub unit_at : PlainWorld → ℕ → ℕ → Option PlainUnit
 unit_at w target lun = find (λ u. (u.opening.target == target) && (u.opening.lun == lun)) w.units
+
+-- a unit of the address stands at the place; or none has it
+abbrev pub IsPlaceOf : PlainWorld → ℕ → ℕ → Option ℕ → Type 0
+IsPlaceOf w target lun (Some place) =
+    (u : PlainUnit) × (slice_get w.units place ≡ Some u) × (u.opening.target ≡ target) × (u.opening.lun ≡ lun)
+IsPlaceOf w target lun None =
+    (place : ℕ) (u : PlainUnit) → slice_get w.units place ≡ Some u → u.opening.target ≡ target → u.opening.lun ≡ lun → ⊥
 
 -- DEVICE_NEEDS_RESET (VIRTIO 1.2, 2.1) where a queue is broken
 abbrev pub device_status : PlainWorld → ℕ

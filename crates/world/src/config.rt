@@ -1,10 +1,11 @@
 //! Which device is wanted.
 
-ghost use Rattle.std.specs.Prelude.{◌≡◌, ◌*◌, Option, is_none};
+ghost use Rattle.std.specs.Prelude.{◌≡◌};
 ghost use Rattle.std.specs.List.{list_all};
-ghost use Rattle.world.specs.Config.{form_of, placement_of, is_queue, is_unit, has_lun_0, are_units, are_queues, is_config};
+ghost use Rattle.world.specs.Config.{form_of, is_queue, is_unit, has_lun_0, are_units, are_queues, is_config};
 
 use decisions::{UnitSpec, are_rising};
+use phases::is_placed;
 use ring_core::{Form, Layout};
 use std::error::Error;
 use std::fmt;
@@ -63,16 +64,6 @@ pub(crate) fn form(features: u64) -> Option<Form>
         Some(Form::Packed)
     } else {
         None
-    }
-}
-
-/// Whether a queue of this form can lie so, in a memory of so many bytes.
-fn is_placed(form: Form, memory: u64, layout: &Layout) -> bool
-    ensures { result ≡ is_none (placement_of form memory layout.now) }
-{
-    match form {
-        Form::Split => split_ring::check_layout(layout, memory).is_ok(),
-        Form::Packed => packed_ring::check_layout(layout, memory).is_ok(),
     }
 }
 

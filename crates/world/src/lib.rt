@@ -1,18 +1,21 @@
-//! The device: guest memory, its virtqueues and its units, and the service of what the guest makes
-//! available.
+//! The device: guest memory, its virtqueues, its units and its seats, as a machine of atomic steps.
 #![tactic(auto)]
 
-mod answer;
-mod any_ring;
+mod bay;
 mod config;
-mod queue;
-mod serving;
+mod device;
+mod seat;
+mod service;
+mod steps;
 mod world;
 
-pub use answer::Answer;
-pub use any_ring::AnyRing;
 pub use config::{Config, RING_PACKED, StartFault, VERSION_1};
 pub use decisions::UnitSpec;
-pub use queue::{Fetch, Queue};
+pub use deeds::Event;
+pub use phases::{
+    AnyRing, Done, Hand, OpenFunction, Queue, Ready, Refusal, Slot, phase_answer, phase_answer_tmf,
+    phase_check, phase_commit, phase_direct, phase_enter, phase_fetch, phase_fetch_control,
+    phase_leave, phase_mark,
+};
 pub use unit_history::{StepKind, UnitState};
 pub use world::World;

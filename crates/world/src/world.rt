@@ -1,117 +1,62 @@
 //! The device.
 
-ghost use Rattle.std.specs.Prelude.{◌≡◌, ◌<◌, ◌≤◌, length, map, IfOk, true, is_some};
+ghost use Rattle.std.specs.Prelude.{◌≡◌, ◌≤◌, [], length, map, IfOk, true, is_some};
 ghost use Rattle.decisions.specs.Inventory.{address_of};
 ghost use Rattle.std.specs.List.{list_all, list_any};
-ghost use Rattle.world.specs.Config.{AreOpening, AreFresh, Opens, is_config, is_queue, opening_unit};
-ghost use Rattle.world.specs.Turning.{TurnsAt};
-ghost use Rattle.world.specs.World.{AreKept, AreAtRest};
-ghost use Rattle.world.specs.Passing.{IsFree};
+ghost use Rattle.world.specs.Config.{AreOpening, AreFresh, AreSeats, IsOpening, is_config, is_queue, opening_unit};
 
+use crate::bay::Bay;
 use crate::config::{Config, StartFault, form};
-use crate::queue::Queue;
-use crate::serving::take_turn;
+use crate::device::Device;
+use crate::seat::Seat;
+use crate::service::Cursor;
 use block_store::NoMemory;
 use decisions::{Inventory, UnitSpec};
+use deeds::Event;
+use deeds::laws::{
+    functions_find_their_units, held_buffers_are_outstanding, lists_have_room, logs_are_numbered,
+    parts_stay, tasks_are_at_work, tickets_rise, what_stands_is_owned,
+};
+use event_queue::{EventPort, WaitingEvents};
 use guest_mem::GuestMem;
+use phases::Queue;
 use ring_core::{Form, Layout, QueueLog};
 use std::alloc::Global;
 use std::marker::Model;
 use unit_history::{JobList, UnitState};
 
-/// The number of the first request queue: queue 0 is the control queue, queue 1 the event queue
-/// (VIRTIO 1.2, 5.6.2).
-const FIRST_REQUEST_QUEUE: usize = 2;
+/// The most descriptors that a queue has.
+const MAX_QUEUE_SIZE: usize = 1024;
 
 /// How many jobs a unit hands out at most in one call: one for each task of its task set.
 const TASKS: usize = 64;
 
-/// A turn at the queue of this number.
-fn turn_of(
-    memory: &mut GuestMem,
-    inventory: &Inventory,
-    queues: &mut [Queue],
-    units: &mut [UnitState],
-    out: &mut JobList,
-    number: usize,
-) -> Result<bool, NoMemory>
-    requires inside { number < length queues.old }
-    requires kept { AreKept queues.old (length memory.old) }
-    requires there { length inventory.now ≡ length units.old }
-    requires rest { AreAtRest units.old queues.old }
-    requires out { IsFree out.old }
-    ensures turn { TurnsAt
-        (record { memory = memory.old; inventory = inventory.now; queues = queues.old; units = units.old }) number result
-        (record { memory = memory.new; inventory = inventory.now; queues = queues.new; units = units.new }) }
-    ensures kept { AreKept queues.new (length memory.new) }
-    ensures units { length units.new ≡ length units.old }
-    ensures rest { AreAtRest units.new queues.new }
-    ensures out { out.new ≡ out.old }
-{
-    let turned = take_turn(&mut queues[number], memory, inventory, units, out);
-    let _log = queues[number].log();
-    turned
-}
-
 /// Whether a fault of the guest broke a queue.
-fn is_any_broken(queues: &[Queue]) -> bool
-    ensures { result ≡ list_any (λ q. is_some q.ring.broken) queues.now }
+fn is_any_broken(bays: &[Bay]) -> bool
+    ensures { result ≡ list_any (λ q. is_some q.ring.broken) bays.now }
 {
-    queues.iter().any(|queue| queue.is_broken())
-}
-
-/// The device: guest memory, its queues and its units.
-#[derive(Drop)]
-pub struct World {
-    alloc: Global,
-    memory: GuestMem,
-    inventory: Inventory,
-    queues: Vec<Queue>,
-    units: Vec<UnitState>,
-    // What units hand out. Nothing stays there: a chain is served whole before the next.
-    out: JobList,
-}
-
-impl Model for World {
-    ghost use Rattle.std.specs.Prelude.{◌≡◌, length};
-    ghost use Rattle.world.specs.World.{PlainWorld, AreKept, AreAtRest};
-    ghost use Rattle.world.specs.Passing.{IsFree};
-
-    ghost Value = { PlainWorld };
-
-    ghost view = { λ w. record {
-      memory = w.memory;
-      inventory = w.inventory;
-      queues = w.queues.items;
-      units = w.units.items;
-    } };
-
-    ghost invariant = { λ w.
-        AreKept w.queues.items (length w.memory)
-        × (length w.inventory ≡ length w.units.items)
-        × AreAtRest w.units.items w.queues.items
-        × IsFree w.out };
+    bays.iter().any(|bay| bay.queue.is_broken())
 }
 
 /// The queues of these layouts, of which nothing was fetched yet.
-fn open_queues(
+fn open_bays(
     alloc: Global,
     form: Form,
     layouts: &[Layout],
     memory: &GuestMem,
-) -> Result<Vec<Queue>, NoMemory>
+) -> Result<Vec<Bay>, NoMemory>
     requires few { length layouts.now ≤ 18 }
     requires placed { list_all (is_queue form (length memory.now)) layouts.now ≡ true }
-    ensures { IfOk result (λ queues. AreOpening form (length memory.now) layouts.now queues.items) }
+    ensures { IfOk result (λ bays. AreOpening form (length memory.now) layouts.now bays.items) }
 {
-    let mut queues = Vec::new(alloc);
+    let mut bays = Vec::new(alloc);
     for number in 0..layouts.len() {
         let queue = Queue::new(alloc, form, number as u16, layouts[number], memory)?;
-        if queues.push(queue).is_err() {
+        if bays.push(Bay::new(queue)).is_err() {
             return Err(NoMemory);
         }
     }
-    Ok(queues)
+    Ok(bays)
 }
 
 /// A unit among those of an inventory, of which no step was taken. `NoMemory` where its blocks or its target's
@@ -120,7 +65,7 @@ fn open_unit(alloc: Global, spec: &UnitSpec, inventory: &Inventory) -> Result<Un
     ensures { IfOk result (λ unit. unit ≡ opening_unit inventory.now spec.now) }
 {
     let luns = inventory.luns_of(alloc, spec.target)?;
-    // No receipt outlives the service of its chain, so no reply is kept to be compared.
+    // No receipt outlives the answer of its chain, so no reply is kept to be compared.
     UnitState::new(alloc, spec, luns.as_slice(), false)
 }
 
@@ -143,10 +88,24 @@ fn open_units(
     Ok(units)
 }
 
-/// The device of a configuration that is valid.
-fn open_world(alloc: Global, config: &Config) -> Result<World, NoMemory>
+/// Seats with nothing in hand, and room for so many jobs in each list.
+fn open_seats(alloc: Global, count: usize, limit: usize) -> Result<Vec<Seat>, NoMemory>
+    ensures { IfOk result (λ seats. AreSeats count limit seats.items) }
+{
+    let mut seats = Vec::new(alloc);
+    for _number in 0..count {
+        let out = JobList::with_limit(alloc, limit)?;
+        if seats.push(Seat::new(out)).is_err() {
+            return Err(NoMemory);
+        }
+    }
+    Ok(seats)
+}
+
+/// The parts of the device of a configuration that is valid.
+fn open_device(alloc: Global, config: &Config) -> Result<Device, NoMemory>
     requires { is_config config.now ≡ true }
-    ensures { IfOk result (λ w. Opens config.now w) }
+    ensures { IfOk result (λ d. IsOpening config.now d) }
 {
     let Some(form) = form(config.features) else {
         unreachable!()
@@ -154,99 +113,213 @@ fn open_world(alloc: Global, config: &Config) -> Result<World, NoMemory>
     let Ok(memory) = GuestMem::new(alloc, config.pages) else {
         return Err(NoMemory);
     };
-    let queues = open_queues(alloc, form, config.queues.as_slice(), &memory)?;
+    let bays = open_bays(alloc, form, config.queues.as_slice(), &memory)?;
     let inventory = Inventory::new(config.units.as_slice());
     let units = open_units(alloc, config.units.as_slice(), &inventory)?;
-    let out = JobList::with_limit(alloc, TASKS)?;
-    Ok(World {
+    // The last seat is the operator's.
+    let seats = open_seats(
         alloc,
+        config.workers as usize + 1,
+        TASKS * units.len() + TASKS,
+    )?;
+    let handed_off = JobList::with_limit(alloc, config.handoff as usize)?;
+    // One place more than a queue may have chains outstanding, so that a full port keeps no fault from being found.
+    let Ok(port) = EventPort::new(alloc, MAX_QUEUE_SIZE + 1) else {
+        return Err(NoMemory);
+    };
+    Ok(Device {
         memory,
         inventory,
-        queues,
+        bays,
         units,
-        out,
+        seats,
+        workers: config.workers,
+        handed_off,
+        function: None,
+        port,
+        waiting: WaitingEvents::new(alloc),
     })
 }
 
-impl World {
-    ghost use Rattle.std.specs.Prelude.{true, ◌↔◌, IsTrue, IfSome, slice_get};
-    ghost use Rattle.std.specs.Bool.{OnTrue, OnFalse};
-    ghost use Rattle.std.specs.Option.{option_copied, option_map};
-    ghost use Rattle.guest_mem.specs.Memory.{with_bytes, LiesIn};
-    ghost use Rattle.world.specs.Config.{is_config, Opens, StartRefusedAs};
-    ghost use Rattle.std.specs.Prelude.{◌≡◌, ◌<◌, length, MatchResult};
-    ghost use Rattle.ring_core.specs.State.{IsLawful};
-    ghost use Rattle.world.specs.Turning.{TurnsAt, NextTurns};
-    ghost use Rattle.world.specs.World.{AreKept, AreAtRest, Settles, EndsForMemory};
-    ghost use Rattle.history.specs.Contents.{capacity_of};
-    ghost use Rattle.world.specs.Views.{unit_at, device_status, GivesBlocks};
+/// The device: guest memory, its queues, its units and the seats that serve them, between two steps.
+#[derive(Drop)]
+pub struct World {
+    device: Device,
+}
 
-    /// The device of a configuration. Whoever sets it up calls it once. `BadConfig` exactly where
-    /// the configuration isn't valid; else `NoMemory` where a growth was refused.
+impl Model for World {
+    ghost use Rattle.deeds.specs.World.{PlainWorld};
+    ghost use Rattle.world.specs.Sound.{IsWhole};
+
+    ghost Value = { PlainWorld };
+
+    ghost view = { λ w. w.device };
+
+    ghost invariant = { λ w. IsWhole w.device };
+}
+
+impl World {
+    ghost use Rattle.std.specs.Prelude.{true, IfSome, slice_get, MatchResult};
+    ghost use Rattle.std.specs.Option.{option_copied, option_map};
+    ghost use Rattle.ring_core.specs.State.{IsLawful};
+    ghost use Rattle.deeds.specs.Events.{Event as AnEvent, plain_event};
+    ghost use Rattle.deeds.specs.World as plain;
+    ghost use Rattle.history.specs.Contents.{capacity_of};
+    ghost use Rattle.world.specs.Config.{is_config, IsOpening, StartRefusedAs};
+    ghost use Rattle.world.specs.Sound.{AreFew, IsReached, IsSound};
+    ghost use Rattle.deeds.specs.Turns.{Turns};
+    ghost use Rattle.world.specs.Steps.{Steps, RunsAll};
+    ghost use Rattle.world.specs.Settling.{ServesOrWants};
+    ghost use Rattle.world.specs.Cursors.{NoneBefore, TurnsNext};
+    ghost use Rattle.world.specs.Views.{unit_at, IsPlaceOf, device_status, GivesBlocks};
+
+    /// The device of a configuration, of which nothing has happened yet. Whoever sets it up calls it once. `BadConfig`
+    /// exactly where the configuration isn't valid; else `NoMemory` where a growth was refused.
     pub fn new(alloc: Global, config: &Config) -> Result<World, StartFault>
-        ensures { MatchResult result (λ w. (is_config config.now ≡ true) × Opens config.now w)
+        ensures opening { MatchResult result (λ w. (is_config config.now ≡ true) × IsOpening config.now w)
             (λ fault. StartRefusedAs config.now fault) }
+        ensures opens { IfOk result (λ w. plain.Opens w) }
     {
         if !config.is_valid() {
             return Err(StartFault::BadConfig);
         }
-        match open_world(alloc, config) {
-            Ok(world) => Ok(world),
+        match open_device(alloc, config) {
+            Ok(device) => Ok(World { device }),
             Err(NoMemory) => Err(StartFault::NoMemory),
         }
     }
 
-    /// What holds between calls: each queue's log is lawful, and every chain that it accepted was used; each
-    /// unit's history is lawful, and no task is alive.
-    pub fn rests(&self)
-        ensures queues { AreKept self.now.queues (length self.now.memory) }
-        ensures units { AreAtRest self.now.units self.now.queues }
+    /// That some trace led here from an opening: every law over reached traces holds of it.
+    pub fn is_reached(&self)
+        ensures { IsReached self.now }
     {
-        let _ = &self.alloc;
+        let _ = &self.device.memory;
     }
 
-    /// The guest's write: puts bytes at an address. False, with nothing changed, where one of them
-    /// would lie outside memory.
-    pub fn poke(&mut self, addr: u64, bytes: &[u8]) -> bool
-        ensures inside { IsTrue result ↔ LiesIn (length self.old.memory) addr (length bytes.now) }
-        ensures written { OnTrue result (self.new
-            ≡ record self.old { memory = with_bytes self.old.memory addr bytes.now }) }
-        ensures unchanged { OnFalse result (self.new ≡ self.old) }
+    /// What each step rests on.
+    fn is_sound(&self)
+        ensures sound { IsSound self.now }
+        ensures few { AreFew self.now }
     {
-        self.memory.write(addr, bytes).is_ok()
+        what_stands_is_owned();
+        tasks_are_at_work();
+        tickets_rise();
+        lists_have_room();
+        functions_find_their_units();
+        logs_are_numbered();
+        held_buffers_are_outstanding();
+        parts_stay();
+        let _ = &self.device.memory;
+    }
+
+    /// One event, by reference.
+    fn step_by(&mut self, event: &Event) -> Result<bool, NoMemory>
+        ensures { Steps self.old (plain_event event.now) result self.new }
+    {
+        self.is_sound();
+        match event {
+            Event::Poke(addr, bytes) => Ok(self.device.poke(*addr, bytes.as_slice())),
+            Event::Fetch(queue) => self.device.fetch(*queue),
+            Event::Enter(queue) => Ok(self.device.enter(*queue)),
+            Event::Direct(queue) => Ok(self.device.direct(*queue)),
+            Event::Put(seat) => Ok(self.device.put(*seat)),
+            Event::Take(seat) => Ok(self.device.take(*seat)),
+            Event::Commit(seat) => Ok(self.device.commit(*seat)),
+            Event::Answer(seat) => Ok(self.device.answer(*seat)),
+            Event::Leave(seat) => Ok(self.device.leave(*seat)),
+            Event::Mark => Ok(self.device.mark()),
+            Event::Check => Ok(self.device.check()),
+            Event::AnswerTmf => Ok(self.device.answer_tmf()),
+            Event::Hard(place) => self.device.hard(*place),
+            Event::Raise => Ok(self.device.raise()),
+        }
+    }
+
+    /// One event. Whether it changed something; one that doesn't apply changes nothing. Only a Fetch and a Hard can answer
+    /// `NoMemory`, and have changed nothing then.
+    pub fn step(&mut self, event: Event) -> Result<bool, NoMemory>
+        ensures { Steps self.old (plain_event event) result self.new }
+    {
+        self.step_by(&event)
+    }
+
+    /// One event after another. Answers how many changed something. After `NoMemory` those before the refused one ran, and it
+    /// changed nothing.
+    pub fn run(&mut self, events: &[Event]) -> Result<u64, NoMemory>
+        ensures { RunsAll self.old events.now result self.new }
+    {
+        let mut count = 0;
+        for place in 0..events.len() {
+            if self.step_by(&events[place])? {
+                count += 1;
+            }
+        }
+        Ok(count)
+    }
+
+    /// Serves what the guest made available: the first event that applies, in the order of `order` in
+    /// `settling/specs/Order.antt`, one after another until none does. Answers how many there were. Then every chain
+    /// that was accepted was used, but for event buffers that are held, nothing is left that waits, and no queue has a
+    /// chain, unless a fault broke it. It takes at most 7 steps for each request chain, 2 for each control chain, 1 for
+    /// each event buffer, 1 for each event that waits, for each queue and for each task that was answered before, and 2
+    /// for each unit that a function visits. It ends whatever the guest wrote, since each chain that it accepts
+    /// lengthens a log.
+    ///
+    /// `NoMemory` where what was first was refused memory, or its queue has accepted 2^64 - 1 chains: what was served
+    /// before stands, and nothing else changed.
+    pub fn settle(&mut self) -> Result<u64, NoMemory>
+        ensures { ServesOrWants self.old result self.new }
+    {
+        self.is_reached();
+        let mut cursor = Cursor::Start;
+        for count in 0..u64::MAX {
+            match self.turn(cursor) {
+                Ok(Some(next)) => cursor = next,
+                Ok(None) => return Ok(count),
+                Err(NoMemory) => return Err(NoMemory),
+            }
+        }
+        Err(NoMemory)
+    }
+
+    /// The first event of the order that applies, from a place on; and from where on to look then.
+    fn turn(&mut self, cursor: Cursor) -> Result<Option<Cursor>, NoMemory>
+        requires { NoneBefore cursor self.old }
+        ensures { TurnsNext self.old result self.new }
+    {
+        self.is_sound();
+        self.device.turn(cursor)
+    }
+
+    /// The guest's write: puts bytes at an address. False, with nothing changed, where one of them would lie outside memory.
+    pub fn poke(&mut self, addr: u64, bytes: &[u8]) -> bool
+        ensures { Turns self.old (AnEvent.Poke (record { addr = addr; bytes = bytes.now })) result self.new }
+    {
+        self.device.poke(addr, bytes)
     }
 
     /// Guest memory.
     pub fn memory(&self) -> &GuestMem
         ensures { result.now ≡ self.now.memory }
     {
-        &self.memory
+        &self.device.memory
     }
 
     /// How many queues there are.
     pub fn queues(&self) -> usize
         ensures { result ≡ length self.now.queues }
     {
-        self.queues.len()
+        self.device.bays.len()
     }
 
-    /// The queue of a number; `None` where there is none.
-    pub fn queue(&self, number: u16) -> Option<&Queue>
-        ensures { option_copied result ≡ slice_get self.now.queues number }
-    {
-        self.queues.get(number as usize)
-    }
-
-    /// The log of a queue: how many chains it accepted, and how many were used, which are all of them.
-    /// `None` where there is no such queue.
+    /// The log of a queue: which chains it accepted, and which were used. `None` where there is no such queue.
     pub fn log(&self, number: u16) -> Option<&QueueLog>
         ensures log { option_copied result ≡ option_map (λ q. q.ring.log) (slice_get self.now.queues number) }
         ensures lawful { IfSome result (λ log. IsLawful number log.now) }
-        ensures all_used { IfSome result (λ log. length log.now.used ≡ length log.now.accepted) }
     {
-        self.rests();
-        match self.queue(number) {
-            Some(queue) => Some(queue.log()),
+        self.is_sound();
+        match self.device.bays.get(number as usize) {
+            Some(bay) => Some(bay.queue.log()),
             None => None,
         }
     }
@@ -255,8 +328,8 @@ impl World {
     pub fn notices(&self, number: u16) -> Option<u64>
         ensures { result ≡ option_map (λ q. q.notices) (slice_get self.now.queues number) }
     {
-        match self.queues.get(number as usize) {
-            Some(queue) => Some(queue.notices()),
+        match self.device.bays.get(number as usize) {
+            Some(bay) => Some(bay.queue.notices()),
             None => None,
         }
     }
@@ -266,18 +339,28 @@ impl World {
     pub fn status(&self) -> u8
         ensures { result ≡ device_status self.now }
     {
-        if is_any_broken(self.queues.as_slice()) {
+        if is_any_broken(self.device.bays.as_slice()) {
             64
         } else {
             0
         }
     }
 
+    /// The place in the inventory of the unit of an address, by which an event names it; `None` where there is no such
+    /// unit.
+    pub fn place(&self, target: u8, lun: u16) -> Option<u16>
+        ensures { IsPlaceOf self.now target lun result }
+    {
+        self.is_sound();
+        self.device.place(target, lun)
+    }
+
     /// The unit of an address; `None` where there is none.
     pub fn unit(&self, target: u8, lun: u16) -> Option<&UnitState>
         ensures { option_copied result ≡ unit_at self.now target lun }
     {
-        self.units
+        self.device
+            .units
             .iter()
             .find(|unit| unit.target() == target && unit.lun() == lun)
     }
@@ -315,62 +398,5 @@ impl World {
             }
             None => Ok(false),
         }
-    }
-
-    /// A turn at one queue.
-    fn turn_at(&mut self, number: usize) -> Result<bool, NoMemory>
-        requires { number < length self.old.queues }
-        ensures { TurnsAt self.old number result self.new }
-    {
-        turn_of(
-            &mut self.memory,
-            &self.inventory,
-            self.queues.as_mut_slice(),
-            self.units.as_mut_slice(),
-            &mut self.out,
-            number,
-        )
-    }
-
-    /// A turn at the lowest request queue at which something is to be done; whether there was one.
-    fn next_turn(&mut self) -> Result<bool, NoMemory>
-        ensures { NextTurns self.old result self.new }
-    {
-        for number in FIRST_REQUEST_QUEUE..self.queues.len() {
-            match self.turn_at(number) {
-                Ok(false) => {}
-                Ok(true) => return Ok(true),
-                Err(NoMemory) => return Err(NoMemory),
-            }
-        }
-        Ok(false)
-    }
-
-    /// Serves chains until no request queue has one: after each, the lowest queue that has a chain.
-    /// Answers how many chains were served and queues were broken. A queue that a fault of its guest
-    /// broke is served no more. `NoMemory` where a fetch was refused memory, or its queue has accepted
-    /// 2^64 - 1 chains: there is something to fetch then, what was served before stands, and nothing
-    /// else changed.
-    pub fn settle(&mut self) -> Result<u64, NoMemory>
-        ensures run { MatchResult result (λ count. Settles self.old count self.new)
-            (λ _. EndsForMemory self.old self.new) }
-        ensures kept { AreKept self.new.queues (length self.new.memory) }
-    {
-        // Each step lengthens a log or breaks a queue, and no log counts more tickets.
-        for count in 0..u64::MAX {
-            match self.next_turn() {
-                Ok(true) => {}
-                Ok(false) => {
-                    self.rests();
-                    return Ok(count);
-                }
-                Err(NoMemory) => {
-                    self.rests();
-                    return Err(NoMemory);
-                }
-            }
-        }
-        self.rests();
-        Err(NoMemory)
     }
 }

@@ -27,3 +27,34 @@ fn blocks_and_capacities(rt: HostRuntime) -> Result<(), Fail> {
     assert_eq!(rt; capacities, (Some(8), None));
     Ok(())
 }
+
+/// Three units.
+const UNITS: [UnitSpec; 3] = [
+    UNIT,
+    UnitSpec { lun: 300, ..UNIT },
+    UnitSpec {
+        target: 255,
+        ..UNIT
+    },
+];
+
+/// A target, a LUN, and the place of that unit.
+static PLACES: [(u8, u16, Option<u16>); 7] = [
+    (3, 0, Some(0)),
+    (3, 300, Some(1)),
+    (255, 0, Some(2)),
+    (0, 0, None),
+    (3, 44, None),
+    (255, 300, None),
+    (255, 65535, None),
+];
+
+#[test]
+fn places_of_units(rt: HostRuntime) -> Result<(), Fail> {
+    let world = start(rt.alloc(), NUMBERS, UNITS.as_slice())?;
+    for (target, lun, wanted) in PLACES {
+        let place = world.place(target, lun);
+        assert_eq!(rt; place, wanted, "{target}:{lun}");
+    }
+    Ok(())
+}

@@ -8,5 +8,6 @@ abbrev pub invariant-loop-number : goal.invariant-loop-number
 invariant-loop-number l =
     record {
       count : length l.units.items ≡ l.number;
-      each : (k : ℕ) (u : UnitSpec) → k < l.number → slice_get l.wanted k ≡ Some u → slice_get l.units.items k ≡ Some (opening_unit l.inventory u);
+      each : (k : ℕ) (u : UnitSpec) → k < l.number → slice_get l.wanted k ≡ Some u
+          → slice_get l.units.items k ≡ Some (opening_unit l.inventory u);
     }

@@ -1,0 +1,97 @@
+-- The phase that answers the job in a seat's hand takes the turn of its event.
+use Rattle.std.proofs.Common.{◌≡◌, ℕ, Bool, true, false, List, [], length, Some, refl, sym, ap, ◌∙◌, subst}
+use Rattle.std.specs.Prelude.{slice_get, slice_set, map}
+use Rattle.ring_core.specs.State.{Owns}
+use Rattle.ring_core.specs.Writes.{all_written}
+use Rattle.task_set.specs.Jobs.{PlainJob}
+use Rattle.deeds.specs.Parts.{Outcome, Slot, Hand}
+use Rattle.deeds.specs.World.{PlainQueue, Seat, PlainWorld, Everywhere, change}
+use Rattle.deeds.specs.Deeds.{Deed}
+use Rattle.deeds.specs.Events.{Event}
+use Rattle.deeds.specs.After.{completing, with_hand}
+use Rattle.deeds.specs.Phases.{HasHand}
+use Rattle.deeds.specs.Turns.{Turns}
+use Rattle.deeds.proofs.Lists.{same, nothing}
+use Rattle.deeds.proofs.Joining.{joins}
+use Rattle.phases.specs.Parts.{hand_queue}
+use Rattle.phases.specs.Queue.{Lent, with_slot}
+use Rattle.phases.specs.Doing.{AtQueue}
+use Rattle.phases.specs.Answering.{told_writes, Answers, LetsGo}
+use Rattle.world.specs.Kept.{KeptSeat, seat_of}
+use Rattle.world.specs.Sound.{IsSound}
+use Rattle.world.proofs.Setting.{set_change}
+use Rattle.world.proofs.Seats.{seat_set, shown, one_there, with_queue_and_seat, moved_queue}
+
+-- the phase keeps the size of the memory that the queue was made with
+pub keeps_memory : (hand : Hand) (q r : Lent) (m m' : List ℕ) (b : Bool) (h : Hand) → Answers hand q m b r m' h
+    → r.ring.memory ≡ q.ring.memory
+keeps_memory Hand.Free q r m m' true h c = absurd c
+keeps_memory Hand.Free q r m m' false h c = ap (λ (z : Lent). z.ring.memory) c.0.queue
+keeps_memory (Hand.Taken x) q r m m' true h c = absurd c
+keeps_memory (Hand.Taken x) q r m m' false h c = ap (λ (z : Lent). z.ring.memory) c.0.queue
+keeps_memory (Hand.Answered p t) q r m m' true h c = absurd c
+keeps_memory (Hand.Answered p t) q r m m' false h c = ap (λ (z : Lent). z.ring.memory) c.0.queue
+keeps_memory (Hand.Done x o) q r m m' true h c =
+    ap (λ (z : PlainQueue). z.ring.memory) (c.0 0 [] Slot.Empty).queue
+keeps_memory (Hand.Done x o) q r m m' false h c = ap (λ (z : Lent). z.ring.memory) c.0.stays.queue
+
+module _ (w : PlainWorld) (kept : List KeptSeat) (k : ℕ) (x : PlainJob) (o : Outcome) (jobs : List PlainJob) (limit : ℕ)
+    (slot : Slot) (q r : Lent) (m : List ℕ) (h : Hand) (seats : w.seats ≡ map seat_of kept)
+    (at : slice_get kept k ≡ Some (record { hand = Hand.Done x o; jobs = jobs; limit = limit }))
+    (there : slice_get w.queues x.chain.ticket.queue ≡ Some (with_slot slot q)) where
+  -- the seat, as the device shows it
+  abbrev held : HasHand w k (Hand.Done x o)
+  held = (jobs, shown w kept k (record { hand = Hand.Done x o; jobs = jobs; limit = limit }) seats at)
+
+  -- the job is answered
+  answered : AtQueue (Deed.Answer k x o (told_writes q.ring x.chain o)) q w.memory r m
+      → h ≡ Hand.Answered x.unit x.chain.ticket
+      → Turns w (Event.Answer k) true (with_queue_and_seat w m x.chain.ticket.queue (with_slot slot r) kept k
+      (record { hand = h; jobs = jobs; limit = limit }))
+  answered at_queue hs =
+      let xs = told_writes q.ring x.chain o in
+      let d = Deed.Answer k x o xs in
+      let i = x.chain.ticket.queue in
+      let does = at_queue w.inventory slot in
+      let hand = Hand.Answered x.unit x.chain.ticket in
+      let s : KeptSeat = record { hand = Hand.Done x o; jobs = jobs; limit = limit } in
+      let t : KeptSeat = record { hand = h; jobs = jobs; limit = limit } in
+      let es : map seat_of (slice_set kept k t) ≡ change (with_hand hand) k w.seats =
+      seat_set (with_hand hand) k kept s t at (ap (λ (z : Hand). record { hand = z; out = jobs }) hs)
+      ∙ ap (λ (zs : List Seat). change (with_hand hand) k zs) (sym seats) in
+      let g : PlainQueue → PlainQueue = completing (all_written w.memory xs) x.chain in
+      let eq : slice_set w.queues i (with_slot slot r) ≡ change g i w.queues =
+      ap (λ (z : PlainQueue). slice_set w.queues i z) does.queue ∙ set_change g i w.queues (with_slot slot q) there in
+      (d, refl, joins d w held tt (with_slot slot q, there, does.asks w.missed), moved_queue w _ _ _ _ _ _ does.memory eq es)
+
+  -- the queue owns the chain, so it isn't let go
+  must_answer : IsSound w → Everywhere (λ i (q : PlainQueue). q.ring.memory ≡ length w.memory) w.queues
+      → LetsGo q w.memory x.chain r m → ⊥
+  must_answer sound fits c =
+      let job = (sound.owned.seats k _ held.1).0 in
+      let is : job.chain.queue ≡ with_slot slot q =
+      one_there w.queues x.chain.ticket.queue job.chain.queue (with_slot slot q) job.chain.there there in
+      c.why (record {
+        fits = sym (fits x.chain.ticket.queue _ there);
+        owned = subst (λ (z : PlainQueue). Owns z.ring x.chain) is job.chain.owned;
+      })
+
+-- the phase takes the event's turn
+pub answers : (w : PlainWorld) (kept : List KeptSeat) (k i : ℕ) (hand : Hand) (jobs : List PlainJob) (limit : ℕ)
+    (slot : Slot) (q r : Lent) (m : List ℕ) (h : Hand) (b : Bool) → IsSound w
+    → Everywhere (λ i (q : PlainQueue). q.ring.memory ≡ length w.memory) w.queues
+    → w.seats ≡ map seat_of kept → slice_get kept k ≡ Some (record { hand = hand; jobs = jobs; limit = limit })
+    → hand_queue hand ≡ Some i → slice_get w.queues i ≡ Some (with_slot slot q) → Answers hand q w.memory b r m h
+    → Turns w (Event.Answer k) b (with_queue_and_seat w m i (with_slot slot r) kept k
+    (record { hand = h; jobs = jobs; limit = limit }))
+answers w kept k i Hand.Free jobs limit slot q r m h b sound fits seats at queue there c = absurd (nothing queue)
+answers w kept k i (Hand.Taken x) jobs limit slot q r m h b sound fits seats at queue there c = absurd (nothing queue)
+answers w kept k i (Hand.Answered p t) jobs limit slot q r m h b sound fits seats at queue there c = absurd (nothing queue)
+answers w kept k i (Hand.Done x o) jobs limit slot q r m h true sound fits seats at queue there c =
+    let is : x.chain.ticket.queue ≡ i = same queue in
+    subst (λ n. Turns w (Event.Answer k) true (with_queue_and_seat w m n (with_slot slot r) kept k
+    (record { hand = h; jobs = jobs; limit = limit }))) is
+    (answered w kept k x o jobs limit slot q r m h seats at (ap (λ n. slice_get w.queues n) is ∙ there) (c.0 k) c.1)
+answers w kept k i (Hand.Done x o) jobs limit slot q r m h false sound fits seats at queue there c =
+    let there_x = ap (λ n. slice_get w.queues n) (same queue) ∙ there in
+    absurd (must_answer w kept k x o jobs limit slot q r m h seats at there_x sound fits c.0)

@@ -1,0 +1,153 @@
+-- What a fetch of the event queue does is a turn of its event, and the ring and the port keep their sizes.
+use Rattle.std.proofs.Common.{◌≡◌, ◌≤◌, ◌<◌, ℕ, zero, suc, Bool, true, false, List, [], ◌∷◌, ◌++◌, length, Option, Some, None, Result, Ok, Err, refl, sym, ap, ◌∙◌, subst, arith}
+use Rattle.std.specs.Prelude.{slice_get, slice_set, ◌&&◌}
+use Rattle.block_store.specs.declared.NoMemory.{NoMemory}
+use Rattle.ring_core.specs.State.{PlainChain}
+use Rattle.ring_core.specs.Writes.{all_written}
+use Rattle.ring_core.specs.Sound as ring
+use Rattle.event_queue.specs.Port.{PlainPort}
+use Rattle.deeds.specs.Parts.{Slot, is_short}
+use Rattle.deeds.specs.World.{PlainQueue, PlainWorld, change}
+use Rattle.deeds.specs.Events.{Event}
+use Rattle.deeds.specs.Deeds.{Deed}
+use Rattle.deeds.specs.After.{taking, spending, broken_by}
+use Rattle.deeds.specs.Happens.{IsOpenTo}
+use Rattle.deeds.specs.Phases.{AsksQueue}
+use Rattle.deeds.specs.Turns.{Turns}
+use Rattle.deeds.proofs.Joining.{joins}
+use Rattle.phases.specs.EventQueue.{IsEventFetch, DoesAtPort, FetchesEvent, MayHold, StaysAtPort, port_after}
+use Rattle.world.specs.Steps.{TurnsOrWants}
+use Rattle.world.specs.Sound.{IsSound, AreFew, size_of}
+use Rattle.world.proofs.Setting.{map_get, set_same}
+use Rattle.world.proofs.Placing.{set_as}
+use Rattle.world.proofs.Fetches.{at_number, has_some}
+use Rattle.world.proofs.Memories.{keeps_memory}
+
+-- the world with this memory, these queues and this port
+abbrev pub with_port : List ℕ → List PlainQueue → PlainPort → PlainWorld → PlainWorld
+with_port m qs p w = record w { memory = m; queues = qs; buffers = p.buffers; missed = p.missed }
+
+-- the event queue is open whatever function is
+open_event : (w : PlainWorld) (i : ℕ) → i ≡ 1 → IsOpenTo w i
+open_event w zero e = absurd (omega (arith, e))
+open_event w (suc i) e = tt
+
+module _ (w : PlainWorld) (k : ℕ) (q q' : PlainQueue) (m' : List ℕ) (p p' : PlainPort) (second : k ≡ 1)
+    (at : slice_get w.queues k ≡ Some q) (held : p.buffers ≡ w.buffers) (missed : p.missed ≡ w.missed) where
+  -- what the deed asks where the port's word stands for the world's
+  asked : (d : Deed) → AsksQueue w.inventory p.missed d q w.memory → AsksQueue w.inventory w.missed d q w.memory
+  asked d h = subst (λ b. AsksQueue w.inventory b d q w.memory) missed h
+
+  -- the world afterwards, where only these parts changed
+  abbrev changed : List ℕ → List PlainQueue → PlainPort → PlainWorld
+  changed m qs z = record w { memory = m; queues = qs; buffers = z.buffers; missed = z.missed }
+
+  -- by what the parts are
+  parts_are : (m : List ℕ) (qs : List PlainQueue) (z : PlainPort) → m' ≡ m → slice_set w.queues k q' ≡ qs → p' ≡ z
+      → with_port m' (slice_set w.queues k q') p' w ≡ changed m qs z
+  parts_are m qs z a b c =
+      ap (λ m. changed m (slice_set w.queues k q') p') a ∙ ap (λ qs. changed m qs p') b ∙ ap (λ z. changed m qs z) c
+
+  -- a fetch with its deed is a turn
+  event_deed : (d : Deed) → q.slot ≡ Slot.Empty → IsEventFetch d → DoesAtPort d q w.memory p q' m' p'
+      → Turns w (Event.Fetch 1) true (with_port m' (slice_set w.queues k q') p' w)
+  event_deed (Deed.Hold f) empty of does =
+      let d = Deed.Hold f in
+      let here = at_number w k f.chain.ticket.queue q at (of ∙ sym second) in
+      let set = set_as (taking f.chain) k f.chain.ticket.queue w.queues q q' at does.queue (of ∙ sym second) in
+      let qs = change (taking f.chain) f.chain.ticket.queue w.queues in (
+        d,
+        ap (λ n. Event.Fetch n) of,
+        joins d w ((q, here, empty), of) tt (q, here, asked d (does.asks w.inventory)),
+        parts_are w.memory qs _ does.memory set does.port
+            ∙ ap (λ (b : List PlainChain). record w { queues = qs; buffers = b ++ f.chain ∷ []; missed = p.missed }) held
+            ∙ ap (λ (b : Bool). record w { queues = qs; buffers = w.buffers ++ f.chain ∷ []; missed = b }) missed,
+      )
+  event_deed (Deed.Spend f xs) empty of does =
+      let d = Deed.Spend f xs in
+      let here = at_number w k f.chain.ticket.queue q at (of ∙ sym second) in
+      let m = all_written w.memory xs in
+      let set = set_as (spending m f.chain) k f.chain.ticket.queue w.queues q q' at does.queue (of ∙ sym second) in
+      let qs = change (spending m f.chain) f.chain.ticket.queue w.queues in (
+        d,
+        ap (λ n. Event.Fetch n) of,
+        joins d w ((q, here, empty), of) tt (q, here, asked d (does.asks w.inventory)),
+        parts_are m qs _ does.memory set does.port
+            ∙ ap (λ (b : List PlainChain). record w { memory = m; queues = qs; buffers = b; missed = p.missed && is_short f.chain }) held
+            ∙ ap (λ (b : Bool). record w { memory = m; queues = qs; missed = b && is_short f.chain }) missed,
+      )
+  event_deed (Deed.Break n fault) empty of does =
+      let d = Deed.Break n fault in
+      let here = at_number w k n q at (of ∙ sym second) in
+      let set = set_as (broken_by fault) k n w.queues q q' at does.queue (of ∙ sym second) in
+      let qs = change (broken_by fault) n w.queues in (
+        d,
+        ap (λ n. Event.Fetch n) of,
+        joins d w ((q, here, empty), open_event w n of) tt (q, here, asked d (does.asks w.inventory)),
+        parts_are w.memory qs _ does.memory set does.port
+            ∙ ap (λ (b : List PlainChain). record w { queues = qs; buffers = b; missed = p.missed }) held
+            ∙ ap (λ (b : Bool). record w { queues = qs; missed = b }) missed,
+      )
+  event_deed d empty of does = absurd of
+
+  -- where nothing was changed the world is as it was
+  event_still : StaysAtPort q w.memory p q' m' p' → with_port m' (slice_set w.queues k q') p' w ≡ w
+  event_still h =
+      parts_are w.memory w.queues p h.memory (ap (λ z. slice_set w.queues k z) h.queue ∙ set_same k w.queues q at) h.port
+      ∙ ap (λ (b : List PlainChain). record w { buffers = b; missed = p.missed }) held
+      ∙ ap (λ (b : Bool). record w { missed = b }) missed
+
+  -- what a fetch does is a turn of its event, or memory was refused
+  pub event_turns : (r : Result Bool NoMemory) → IsSound w → q.ring.memory ≡ length w.memory → MayHold p
+      → FetchesEvent q w.memory p r q' m' p'
+      → TurnsOrWants w (Event.Fetch 1) r (with_port m' (slice_set w.queues k q') p' w)
+  event_turns (Ok true) sound fits room h = event_deed h.2.0 h.1.empty h.2.1 h.2.2
+  event_turns (Ok false) sound fits room h = (
+    event_still h.0,
+    λ may.
+        h.1 ((sound.numbered k q at).queue ∙ second) room
+        (has_some w 1 q (at_number w k 1 q at (sym second)) (sym fits) may),
+  )
+  event_turns (Err e) sound fits room h = (
+    record {
+      queue = q;
+      there = at_number w k 1 q at (sym second);
+      empty = h.2.empty;
+      opened = tt;
+      wants = h.3;
+    },
+    event_still h.0,
+  )
+
+-- the ring keeps its memory
+pub event_memory : (q q' : PlainQueue) (m m' : List ℕ) (p p' : PlainPort) (r : Result Bool NoMemory)
+    → FetchesEvent q m p r q' m' p' → q'.ring.memory ≡ q.ring.memory
+event_memory q q' m m' p p' (Ok true) h =
+    ap (λ (z : PlainQueue). z.ring.memory) h.2.2.queue ∙ keeps_memory h.2.0 m q
+event_memory q q' m m' p p' (Ok false) h = ap (λ (z : PlainQueue). z.ring.memory) h.0.queue
+event_memory q q' m m' p p' (Err e) h = ap (λ (z : PlainQueue). z.ring.memory) h.0.queue
+
+-- a deed keeps how many buffers the port may hold
+limit_after : (d : Deed) (p : PlainPort) → (port_after d p).limit ≡ p.limit
+limit_after (Deed.Hold f) p = refl
+limit_after (Deed.Spend f xs) p = refl
+limit_after (Deed.Give e c xs) p = refl
+limit_after (Deed.Miss e) p = refl
+limit_after d p = refl
+
+-- and so does a fetch
+pub event_limit : (q q' : PlainQueue) (m m' : List ℕ) (p p' : PlainPort) (r : Result Bool NoMemory)
+    → FetchesEvent q m p r q' m' p' → p'.limit ≡ p.limit
+event_limit q q' m m' p p' (Ok true) h = ap (λ (z : PlainPort). z.limit) h.2.2.port ∙ limit_after h.2.0 p
+event_limit q q' m m' p p' (Ok false) h = ap (λ (z : PlainPort). z.limit) h.0.port
+event_limit q q' m m' p p' (Err e) h = ap (λ (z : PlainPort). z.limit) h.0.port
+
+-- the port may hold one more buffer
+pub may_hold : (w : PlainWorld) (k : ℕ) (q : PlainQueue) (p : PlainPort) → IsSound w → AreFew w → k ≡ 1
+    → slice_get w.queues k ≡ Some q → p.buffers ≡ w.buffers → p.limit ≡ 1025 → ring.IsSound q.ring
+    → ring.outstanding_count q.ring ≤ q.ring.layout.size → MayHold p
+may_hold w k q p sound few second at held limit rings bound =
+    let one = sound.held q (at_number w k 1 q at (sym second)) in
+    let size : q.ring.layout.size ≤ 1024 = few.sizes k (size_of q) (map_get size_of k w.queues q at) in
+    let same_length : length p.buffers ≡ length w.buffers = ap (λ (b : List PlainChain). length b) held in
+    omega (arith, one, size, same_length, rings.counted, bound, limit)

@@ -1,0 +1,92 @@
+-- What a check of the open function does is a turn of its event.
+use Rattle.std.proofs.Common.{◌≡◌, ℕ, Bool, true, false, List, [], ◌∷◌, Option, Some, refl, sym, ap, ◌∙◌}
+use Rattle.std.specs.Prelude.{slice_get}
+use Rattle.history.specs.Clearing.{is_clear}
+use Rattle.unit_history.specs.Unit.{PlainUnit}
+use Rattle.task_mgmt.specs.Functions.{checking}
+use Rattle.task_mgmt.specs.declared.function.Mark.{Mark as Place}
+use Rattle.deeds.specs.World.{Opened, PlainWorld}
+use Rattle.deeds.specs.Events.{Event}
+use Rattle.deeds.specs.Deeds.{Deed}
+use Rattle.deeds.specs.After.{on_function}
+use Rattle.deeds.specs.Applies.{MayCheck}
+use Rattle.deeds.specs.Happens.{IsWaiting}
+use Rattle.deeds.specs.Turns.{Turns}
+use Rattle.deeds.proofs.Joining.{joins}
+use Rattle.deeds.proofs.Lists.{same}
+use Rattle.phases.specs.Units.{Checks, ChecksFirst}
+
+-- the world with this function
+abbrev with_function : Option Opened → PlainWorld → PlainWorld
+with_function f w = record w { function = f }
+
+-- a list with an item isn't empty
+not_empty : {X : Type 0} {x : X} {xs : List X} → x ∷ xs ≡ [] → ⊥
+not_empty e = cc
+
+-- an empty list has no first item
+no_first : {X : Type 0} {x : X} {xs : List X} → [] ≡ x ∷ xs → ⊥
+no_first e = cc
+
+-- lists that begin alike have the same first item
+same_first : {X : Type 0} {x y : X} {xs ys : List X} → x ∷ xs ≡ y ∷ ys → x ≡ y
+same_first e = cc
+
+-- no mark is both clear and not
+not_both : {b : Bool} → b ≡ false → b ≡ true → ⊥
+not_both e h = cc
+
+-- a mark that isn't clear keeps its function from going on
+not_clear : (w : PlainWorld) (f : Opened) (p : Place) (later : List Place) (u : PlainUnit) → w.function ≡ Some f
+    → f.function.waits ≡ p ∷ later → slice_get w.units p.unit ≡ Some u → is_clear p.place u.steps ≡ false
+    → MayCheck w → ⊥
+not_clear w f p later u there waits at unclear h =
+    let opened : f ≡ h.opened = same (sym there ∙ h.there) in
+    let mark : p ≡ h.mark =
+    same_first (sym waits ∙ ap (λ (o : Opened). o.function.waits) opened ∙ h.still) in
+    let unit : u ≡ h.unit = same (sym at ∙ ap (λ (m : Place). slice_get w.units m.unit) mark ∙ h.unit_there) in
+    not_both unclear
+    (ap (λ (m : Place). is_clear m.place u.steps) mark
+    ∙ ap (λ (v : PlainUnit). is_clear h.mark.place v.steps) unit ∙ h.clear)
+
+-- by what is left to visit, and what is waited for
+first_turns : (w : PlainWorld) (f f' : Opened) (left : List ℕ) (waits : List Place) (mark : Place) (u : PlainUnit)
+    (r : Bool) → w.function ≡ Some f → f.function.left ≡ left → f.function.waits ≡ waits
+    → slice_get waits 0 ≡ Some mark → slice_get w.units mark.unit ≡ Some u → ChecksFirst f left waits u r f'
+    → Turns w Event.Check r (with_function (Some f') w)
+first_turns w f f' [] (p ∷ later) mark u true there left waits first at h =
+    let here = ap (λ (m : Place). slice_get w.units m.unit) (same first) ∙ at in
+    let waiting : IsWaiting w f.chain.ticket (p ∷ later) =
+    record { opened = f; there = there; of = refl; left = left; still = waits } in (
+      Deed.Check f.chain.ticket p,
+      refl,
+      joins (Deed.Check f.chain.ticket p) w (later, waiting) (u, here, h.0.asks) tt,
+      ap (λ o. with_function o w)
+          (ap (λ o. Some o) h.1 ∙ ap (λ o. on_function checking o) (sym there)),
+    )
+first_turns w f f' [] (p ∷ later) mark u false there left waits first at h =
+    let here = ap (λ (m : Place). slice_get w.units m.unit) (same first) ∙ at in (
+      ap (λ o. with_function o w) (ap (λ o. Some o) h.1 ∙ sym there),
+      not_clear w f p later u there waits here h.0,
+    )
+first_turns w f f' [] [] mark u true there left waits first at h = absurd h
+first_turns w f f' [] [] mark u false there left waits first at h = (
+  ap (λ o. with_function o w) (ap (λ o. Some o) h ∙ sym there),
+  λ may.
+      no_first
+      (sym waits ∙ ap (λ (o : Opened). o.function.waits) (same (sym there ∙ may.there)) ∙ may.still),
+)
+first_turns w f f' (place ∷ more) waits mark u true there left still first at h = absurd h
+first_turns w f f' (place ∷ more) waits mark u false there left still first at h = (
+  ap (λ o. with_function o w) (ap (λ o. Some o) h ∙ sym there),
+  λ may.
+      not_empty
+      (sym left ∙ ap (λ (o : Opened). o.function.left) (same (sym there ∙ may.there)) ∙ may.left),
+)
+
+-- what a check does is a turn of its event
+pub check_turns : (w : PlainWorld) (f f' : Opened) (mark : Place) (u : PlainUnit) (r : Bool) → w.function ≡ Some f
+    → slice_get f.function.waits 0 ≡ Some mark → slice_get w.units mark.unit ≡ Some u → Checks f u r f'
+    → Turns w Event.Check r (with_function (Some f') w)
+check_turns w f f' mark u r there first at h =
+    first_turns w f f' f.function.left f.function.waits mark u r there refl refl first at h

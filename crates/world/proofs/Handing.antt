@@ -1,0 +1,119 @@
+-- A seat hands its next job off, or keeps it; a worker takes a job from the hand-off.
+use Rattle.std.proofs.Common.{◌≡◌, ◌≤◌, ◌<◌, ℕ, true, false, List, [], ◌∷◌, ◌++◌, length, Some, None, refl, sym, ap, ◌∙◌}
+use Rattle.std.specs.Prelude.{slice_get, slice_set, map, drop}
+use Rattle.task_set.specs.Jobs.{PlainJob, Jobs}
+use Rattle.deeds.specs.Parts.{Hand}
+use Rattle.deeds.specs.World.{Seat, PlainWorld, change}
+use Rattle.deeds.specs.Events.{Event}
+use Rattle.deeds.specs.Deeds.{Deed}
+use Rattle.deeds.specs.After.{with_hand, without_first}
+use Rattle.deeds.specs.Happens.{SeatIs}
+use Rattle.deeds.specs.Applies.{MayPut}
+use Rattle.deeds.specs.Turns.{Turns}
+use Rattle.deeds.proofs.Lists.{same, nothing}
+use Rattle.world.specs.Kept.{KeptSeat, seat_of}
+use Rattle.world.proofs.Setting.{set_same, map_get, seat_change}
+
+-- a list that has a first item begins with it
+pub begins : {X : Type 0} (xs : List X) (x : X) → slice_get xs 0 ≡ Some x → xs ≡ x ∷ drop 1 xs
+begins [] x e = absurd (nothing e)
+begins (y ∷ xs) x e = ap (λ z. z ∷ xs) (same e)
+
+-- one that has none is empty
+pub is_empty : {X : Type 0} (xs : List X) → slice_get xs 0 ≡ None → xs ≡ []
+is_empty [] e = refl
+is_empty (y ∷ xs) e = absurd (nothing (sym e))
+
+no_item : {X : Type 0} {x : X} {xs : List X} → [] ≡ x ∷ xs → ⊥
+no_item e = cc
+
+module _ (w : PlainWorld) (kept : List KeptSeat) (seats : w.seats ≡ map seat_of kept) (k : ℕ) (s t : KeptSeat)
+    (at : slice_get kept k ≡ Some s) where
+  -- the seat as the world has it
+  pub seat_is : (hand : Hand) (out : List PlainJob) → s.hand ≡ hand → s.jobs ≡ out → SeatIs w k hand out
+  seat_is hand out a b =
+      ap (λ l. slice_get l k) seats ∙ map_get seat_of k kept s at
+      ∙ ap (λ (h : Hand). Some (record { hand = h; out = s.jobs })) a
+      ∙ ap (λ (xs : List PlainJob). Some (record { hand = hand; out = xs })) b
+
+  -- the seats afterwards
+  pub seats_after : (g : Seat → Seat) → seat_of t ≡ g (seat_of s)
+      → map seat_of (slice_set kept k t) ≡ change g k w.seats
+  seats_after g is = seat_change g k kept s t at is ∙ ap (λ l. change g k l) (sym seats)
+
+  -- where the list is empty nothing is done
+  pub puts_nothing : slice_get s.jobs 0 ≡ None → t ≡ record s { jobs = drop 1 s.jobs }
+      → Turns w (Event.Put k) false (record w { seats = map seat_of (slice_set kept k t) })
+  puts_nothing none is =
+      let e = is_empty s.jobs none in
+      let still : t ≡ s =
+      is ∙ ap (λ (xs : List PlainJob). record s { jobs = xs }) (ap (λ (xs : List PlainJob). drop 1 xs) e ∙ sym e) in (
+        ap (λ (l : List Seat). record w { seats = l })
+            (ap (λ z. map seat_of (slice_set kept k z)) still ∙ ap (λ l. map seat_of l) (set_same k kept s at)
+            ∙ sym seats),
+        λ (m : MayPut w k).
+            no_item (ap (λ (z : Seat). z.out) (same (sym (seat_is s.hand [] refl e) ∙ m.seat))),
+      )
+
+  -- the first job is handed off
+  pub puts : (x : PlainJob) (h : Jobs) → s.hand ≡ Hand.Free → slice_get s.jobs 0 ≡ Some x
+      → t ≡ record s { jobs = drop 1 s.jobs } → length w.handed_off < w.limit
+      → h ≡ record { jobs = w.handed_off ++ x ∷ []; limit = w.limit }
+      → Turns w (Event.Put k) true
+      (record w { seats = map seat_of (slice_set kept k t); handed_off = h.jobs; limit = h.limit })
+  puts x h free first is room more = (
+    Deed.Put k x,
+    refl,
+    record {
+      rest = drop 1 s.jobs;
+      seat = seat_is Hand.Free (x ∷ drop 1 s.jobs) free (begins s.jobs x first);
+      room = room;
+    },
+    ap (λ (l : List Seat). record w { seats = l; handed_off = h.jobs; limit = h.limit })
+        (seats_after (without_first Hand.Free)
+        (ap seat_of is ∙ ap (λ (a : Hand). record { hand = a; out = drop 1 s.jobs }) free))
+        ∙ ap (λ (j : Jobs). record w {
+          seats = change (without_first Hand.Free) k w.seats;
+          handed_off = j.jobs;
+          limit = j.limit;
+        }) more,
+  )
+
+  -- the first job is kept, since the hand-off is full
+  pub keeps : (x : PlainJob) → s.hand ≡ Hand.Free → slice_get s.jobs 0 ≡ Some x
+      → t ≡ record { hand = Hand.Taken x; jobs = drop 1 s.jobs; limit = s.limit } → w.limit ≤ length w.handed_off
+      → Turns w (Event.Put k) true (record w { seats = map seat_of (slice_set kept k t) })
+  keeps x free first is full = (
+    Deed.Keep k x,
+    refl,
+    record {
+      rest = drop 1 s.jobs;
+      seat = seat_is Hand.Free (x ∷ drop 1 s.jobs) free (begins s.jobs x first);
+      full = full;
+    },
+    ap (λ (l : List Seat). record w { seats = l }) (seats_after (without_first (Hand.Taken x)) (ap seat_of is)),
+  )
+
+  -- a worker takes the first job of the hand-off
+  pub takes : (x : PlainJob) (h : Jobs) → k < w.workers → s.hand ≡ Hand.Free → s.jobs ≡ []
+      → slice_get w.handed_off 0 ≡ Some x → t ≡ record s { hand = Hand.Taken x }
+      → h ≡ record { jobs = drop 1 w.handed_off; limit = w.limit }
+      → Turns w (Event.Take k) true
+      (record w { seats = map seat_of (slice_set kept k t); handed_off = h.jobs; limit = h.limit })
+  takes x h worker free none first is less = (
+    Deed.Take k x,
+    refl,
+    record {
+      worker = worker;
+      seat = seat_is Hand.Free [] free none;
+      rest = drop 1 w.handed_off;
+      handed_off = begins w.handed_off x first;
+    },
+    ap (λ (l : List Seat). record w { seats = l; handed_off = h.jobs; limit = h.limit })
+        (seats_after (with_hand (Hand.Taken x)) (ap seat_of is))
+        ∙ ap (λ (j : Jobs). record w {
+          seats = change (with_hand (Hand.Taken x)) k w.seats;
+          handed_off = j.jobs;
+          limit = j.limit;
+        }) less,
+  )

@@ -1,0 +1,151 @@
+-- What the raising of an event does is a turn of it, and the ring and the port keep their sizes.
+use Rattle.std.proofs.Common.{◌≡◌, ℕ, Bool, true, false, List, [], ◌∷◌, length, Some, refl, sym, ap, ◌∙◌, subst}
+use Rattle.std.specs.Prelude.{slice_get, slice_set, drop}
+use Rattle.std.specs.List.{AllByRecursion}
+use Rattle.scsi_codec.specs.declared.event_queue.Event.{Event as Report}
+use Rattle.scsi_codec.specs.EventQueue.{event_bytes}
+use Rattle.ring_core.specs.State.{PlainChain}
+use Rattle.ring_core.specs.Writes.{all_written}
+use Rattle.event_queue.specs.Port.{PlainPort}
+use Rattle.deeds.specs.Parts.{Slot, answer_writes}
+use Rattle.deeds.specs.World.{PlainQueue, PlainWorld, change}
+use Rattle.deeds.specs.Events.{Event}
+use Rattle.deeds.specs.Deeds.{Deed}
+use Rattle.deeds.specs.After.{completing}
+use Rattle.deeds.specs.Standing.{IsOwned}
+use Rattle.deeds.specs.Turns.{Turns}
+use Rattle.deeds.proofs.Joining.{joins}
+use Rattle.deeds.proofs.Lists.{same}
+use Rattle.phases.specs.Queue.{Lent, with_slot}
+use Rattle.phases.specs.Doing.{MayComplete}
+use Rattle.phases.specs.EventQueue.{RaisesNext, RaisesTo, StaysRaised, port_after}
+use Rattle.world.specs.Sound.{IsSound}
+use Rattle.world.proofs.Setting.{set_same}
+use Rattle.world.proofs.Placing.{set_as}
+use Rattle.world.proofs.Memories.{keeps_memory}
+
+-- the world with this memory, these queues, this port and these events that wait
+abbrev pub with_raised : List ℕ → List PlainQueue → PlainPort → List Report → PlainWorld → PlainWorld
+with_raised m qs p x w =
+    record w { memory = m; queues = qs; buffers = p.buffers; missed = p.missed; waiting = x }
+
+-- no list with an item is empty
+none_there : {X : Type 0} {x : X} {xs : List X} → [] ≡ x ∷ xs → ⊥
+none_there e = cc
+
+module _ (w : PlainWorld) (k : ℕ) (s : Slot) (l l' : Lent) (m' : List ℕ) (p p' : PlainPort) (x' : List Report)
+    (second : k ≡ 1) (at : slice_get w.queues k ≡ Some (with_slot s l)) (held : p.buffers ≡ w.buffers)
+    (missed : p.missed ≡ w.missed) where
+  -- by what the parts are
+  parts_are : (m : List ℕ) (qs : List PlainQueue) (z : PlainPort) (x : List Report) → m' ≡ m
+      → slice_set w.queues k (with_slot s l') ≡ qs → p' ≡ z → x' ≡ x
+      → with_raised m' (slice_set w.queues k (with_slot s l')) p' x' w ≡ with_raised m qs z x w
+  parts_are m qs z x a b c d =
+      ap (λ m. with_raised m (slice_set w.queues k (with_slot s l')) p' x' w) a
+      ∙ ap (λ qs. with_raised m qs p' x' w) b ∙ ap (λ z. with_raised m qs z x' w) c
+      ∙ ap (λ x. with_raised m qs z x w) d
+
+  -- where nothing was changed the world is as it was
+  still : (x : List Report) → w.waiting ≡ x → StaysRaised l w.memory p x l' m' p' x'
+      → with_raised m' (slice_set w.queues k (with_slot s l')) p' x' w ≡ w
+  still x waits h =
+      parts_are w.memory w.queues p w.waiting h.at_queue.memory
+      (ap (λ z. slice_set w.queues k (with_slot s z)) h.at_queue.queue ∙ set_same k w.queues (with_slot s l) at) h.port
+      (h.waiting ∙ sym waits)
+      ∙ ap (λ (b : List PlainChain). record w { buffers = b; missed = p.missed }) held
+      ∙ ap (λ (b : Bool). record w { missed = b }) missed
+
+  -- the queue owns a buffer that is held
+  may_give : (c : PlainChain) → l.ring.memory ≡ length w.memory → (c.ticket.queue ≡ 1) × IsOwned w c
+      → MayComplete l w.memory c
+  may_give c fits h =
+      let is = same (sym h.1.there ∙ ap (λ i. slice_get w.queues i) (h.0 ∙ sym second) ∙ at) in
+      record { fits = sym fits; owned = rw (ap (λ (q : PlainQueue). q.ring) is) at h.1.owned }
+
+  -- by the buffers that are held
+  raises_to : (cs : List PlainChain) (e : Report) (later : List Report) (r : Bool) → p.buffers ≡ cs
+      → w.waiting ≡ e ∷ later → l.ring.memory ≡ length w.memory
+      → AllByRecursion (λ (c : PlainChain). (c.ticket.queue ≡ 1) × IsOwned w c) cs
+      → RaisesTo cs e later l w.memory p r l' m' p' x'
+      → Turns w Event.Raise r (with_raised m' (slice_set w.queues k (with_slot s l')) p' x' w)
+  raises_to (c ∷ more) e later true has waits fits owned h =
+      let xs = answer_writes l.ring c (event_bytes e) in
+      let m = all_written w.memory xs in
+      let d = Deed.Give e c xs in
+      let does = h.0 w.inventory s in
+      let first = owned.0.0 ∙ sym second in
+      let here : slice_get w.queues c.ticket.queue ≡ Some (with_slot s l) = ap (λ i. slice_get w.queues i) first ∙ at in
+      let qs = change (completing m c) c.ticket.queue w.queues in
+      let set = set_as (completing m c) k c.ticket.queue w.queues (with_slot s l) (with_slot s l') at does.queue first in (
+        d,
+        refl,
+        joins d w (record { later = later; waits = waits; more = more; held = sym held ∙ has }) tt
+            (with_slot s l, here, does.asks w.missed),
+        parts_are m qs _ later does.memory set h.1 h.2
+            ∙ ap (λ (b : List PlainChain). record w {
+              memory = m;
+              queues = qs;
+              buffers = drop 1 b;
+              missed = p.missed;
+              waiting = later;
+            }) held
+            ∙ ap (λ (b : Bool). record w {
+              memory = m;
+              queues = qs;
+              buffers = drop 1 w.buffers;
+              missed = b;
+              waiting = later;
+            }) missed
+            ∙ ap (λ (x : List Report). record w {
+              memory = m;
+              queues = qs;
+              buffers = drop 1 w.buffers;
+              waiting = drop 1 x;
+            }) (sym waits),
+      )
+  raises_to (c ∷ more) e later false has waits fits owned h = absurd (h.0 (may_give c fits owned.0))
+  raises_to [] e later true has waits fits owned h =
+      let d = Deed.Miss e in (
+        d,
+        refl,
+        joins d w (record { later = later; waits = waits; none = sym held ∙ has }) tt tt,
+        parts_are w.memory w.queues _ later h.0.memory
+            (ap (λ z. slice_set w.queues k (with_slot s z)) h.0.queue ∙ set_same k w.queues (with_slot s l) at) h.1 h.2
+            ∙ ap (λ (b : List PlainChain). record w { buffers = b; missed = true; waiting = later }) held
+            ∙ ap (λ (x : List Report). record w { missed = true; waiting = drop 1 x }) (sym waits),
+      )
+  raises_to [] e later false has waits fits owned h = absurd h
+
+  -- by the events that wait
+  pub raises : (x : List Report) (r : Bool) → w.waiting ≡ x → IsSound w → l.ring.memory ≡ length w.memory
+      → RaisesNext x l w.memory p r l' m' p' x'
+      → Turns w Event.Raise r (with_raised m' (slice_set w.queues k (with_slot s l')) p' x' w)
+  raises (e ∷ later) r waits sound fits h =
+      raises_to p.buffers e later r refl waits fits
+      (subst (λ cs. AllByRecursion (λ (c : PlainChain). (c.ticket.queue ≡ 1) × IsOwned w c) cs) (sym held) sound.owned.buffers) h
+  raises [] true waits sound fits h = absurd h
+  raises [] false waits sound fits h =
+      (still [] waits h, λ may. none_there (sym waits ∙ may.2))
+
+-- what holds of the sizes afterwards
+to_sizes : (cs : List PlainChain) (e : Report) (later : List Report) (l l' : Lent) (m m' : List ℕ) (p p' : PlainPort)
+    (x' : List Report) (r : Bool) → RaisesTo cs e later l m p r l' m' p' x'
+    → (l'.ring.memory ≡ l.ring.memory) × (p'.limit ≡ p.limit)
+to_sizes (c ∷ more) e later l l' m m' p p' x' true h =
+    let xs = answer_writes l.ring c (event_bytes e) in (
+      ap (λ (q : PlainQueue). q.ring.memory) (h.0 [] Slot.Empty).queue
+          ∙ keeps_memory (Deed.Give e c xs) m (with_slot Slot.Empty l),
+      ap (λ (z : PlainPort). z.limit) h.1,
+    )
+to_sizes (c ∷ more) e later l l' m m' p p' x' false h =
+    (ap (λ (q : Lent). q.ring.memory) h.1.at_queue.queue, ap (λ (z : PlainPort). z.limit) h.1.port)
+to_sizes [] e later l l' m m' p p' x' true h =
+    (ap (λ (q : Lent). q.ring.memory) h.0.queue, ap (λ (z : PlainPort). z.limit) h.1)
+to_sizes [] e later l l' m m' p p' x' false h = absurd h
+
+pub raise_sizes : (x : List Report) (l l' : Lent) (m m' : List ℕ) (p p' : PlainPort) (x' : List Report) (r : Bool)
+    → RaisesNext x l m p r l' m' p' x' → (l'.ring.memory ≡ l.ring.memory) × (p'.limit ≡ p.limit)
+raise_sizes (e ∷ later) l l' m m' p p' x' r h = to_sizes p.buffers e later l l' m m' p p' x' r h
+raise_sizes [] l l' m m' p p' x' true h = absurd h
+raise_sizes [] l l' m m' p p' x' false h =
+    (ap (λ (q : Lent). q.ring.memory) h.at_queue.queue, ap (λ (z : PlainPort). z.limit) h.port)

@@ -1,0 +1,69 @@
+-- A device that was reached goes on to be.
+use Rattle.std.proofs.Common.{◌≡◌, ℕ, Bool, true, false, ◌∷◌, Option, Some, None, Result, Ok, Err, refl, sym, subst, arith}
+use Rattle.block_store.specs.declared.NoMemory.{NoMemory}
+use Rattle.std.specs.Prelude.{map, ◌≤◌}
+use Rattle.deeds.specs.World.{PlainWorld, Everywhere}
+use Rattle.deeds.specs.Events.{Event}
+use Rattle.deeds.specs.Deeds.{event_of}
+use Rattle.deeds.specs.Lawful.{KeepsParts}
+use Rattle.deeds.specs.Turns.{Turns, IsStep}
+use Rattle.deeds.proofs.Staying.{deed_stays}
+use Rattle.deeds.proofs.Turning.{step_of}
+use Rattle.world.specs.Sound.{AreFew, IsReached, IsWhole, size_of, lun_of}
+use Rattle.world.specs.Steps.{TurnsOrWants, Steps}
+use Rattle.world.specs.Cursors.{TurnsNext}
+use Rattle.world.specs.declared.service.Cursor.{Cursor}
+use Rattle.world.proofs.Keeping.{sizes_stay, luns_stay}
+
+-- by a step
+pub reached_by : (w : PlainWorld) (e : Event) (b : Bool) (w' : PlainWorld) → IsReached w → IsStep w e b w' → IsReached w'
+reached_by w e b w' r s =
+    record {
+      old = r.old;
+      trace = record { event = e; action = s.action } ∷ r.trace;
+      reached = record { opens = r.reached.opens; runs = (w, r.reached.runs, s.step) };
+    }
+
+-- a turn leaves as many queues and seats
+few_by : (w : PlainWorld) (e : Event) (b : Bool) (w' : PlainWorld) → AreFew w → Turns w e b w' → AreFew w'
+few_by w e true w' f t =
+    let k : KeepsParts w w' = subst (λ z. KeepsParts w z) (sym t.3) (deed_stays t.0 w) in
+    record {
+      several = omega (arith, k.queues, f.several);
+      queues = omega (arith, k.queues, f.queues);
+      seats = omega (arith, k.seats, f.seats);
+      units = omega (arith, k.units, f.units);
+      sizes = subst (λ z. Everywhere (λ i (n : ℕ). n ≤ 1024) (map size_of z.queues)) (sym t.3)
+          (subst (λ ns. Everywhere (λ i (n : ℕ). n ≤ 1024) ns) (sym (sizes_stay t.0 w)) f.sizes);
+      luns = subst (λ z. Everywhere (λ k (n : ℕ). n ≤ 16383) (map lun_of z.units)) (sym t.3)
+          (subst (λ ns. Everywhere (λ k (n : ℕ). n ≤ 16383) ns) (sym (luns_stay t.0 w)) f.luns);
+    }
+few_by w e false w' f t = subst AreFew (sym t.0) f
+
+-- by a turn
+pub whole_by : (w : PlainWorld) (e : Event) (b : Bool) (w' : PlainWorld) → IsWhole w → Turns w e b w' → IsWhole w'
+whole_by w e b w' h t =
+    record { reached = reached_by w e b w' h.reached (step_of w e b w' t); few = few_by w e b w' h.few t }
+
+-- by what was first in the order, or where nothing was left, or memory was refused
+pub whole_by_next : (w : PlainWorld) (r : Result (Option Cursor) NoMemory) (w' : PlainWorld) → IsWhole w → TurnsNext w r w'
+    → IsWhole w'
+whole_by_next w (Ok (Some c)) w' h t = whole_by w (event_of t.0) true w' h (t.0, refl, t.1, t.3)
+whole_by_next w (Ok None) w' h t = subst IsWhole (sym t.0) h
+whole_by_next w (Err x) w' h t = subst IsWhole (sym t.0) h
+
+-- by the turn of an event, or where memory was refused
+pub whole_by_result : (w : PlainWorld) (e : Event) (r : Result Bool NoMemory) (w' : PlainWorld) → IsWhole w
+    → TurnsOrWants w e r w' → IsWhole w'
+whole_by_result w e (Ok b) w' h t = whole_by w e b w' h t
+whole_by_result w e (Err x) w' h t = subst IsWhole (sym t.1) h
+
+-- a turn of an event, or want of memory, is a step
+pub steps_by_result : (w : PlainWorld) (e : Event) (r : Result Bool NoMemory) (w' : PlainWorld) → TurnsOrWants w e r w'
+    → Steps w e r w'
+steps_by_result w e (Ok b) w' t = step_of w e b w' t
+steps_by_result w e (Err x) w' t = t
+
+-- a turn of an event that can't want memory
+pub steps_by : (w : PlainWorld) (e : Event) (b : Bool) (w' : PlainWorld) → Turns w e b w' → Steps w e (Ok b) w'
+steps_by w e b w' t = step_of w e b w' t

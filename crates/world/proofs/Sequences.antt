@@ -1,0 +1,109 @@
+-- Runs of the device by a list of events, and by settling.
+use Rattle.std.proofs.Common.{◌≡◌, ℕ, zero, suc, ◌+◌, Bool, true, false, if◌then◌else◌, List, [], ◌∷◌, ◌++◌, map, take, length, Some, Ok, refl, sym, ap, true≢false, subst, ◌∙◌, arith}
+use Rattle.std.specs.Prelude.{◌<◌, slice_get, get_or, reverse}
+use Rattle.std.proofs.lemmas.List.{map-append, reverse-append}
+use Rattle.deeds.specs.World.{PlainWorld}
+use Rattle.deeds.specs.Events.{Event, plain_event}
+use Rattle.deeds.specs.declared.event.Event as declared
+use Rattle.deeds.specs.Deeds.{Deed, event_of}
+use Rattle.deeds.specs.After.{after}
+use Rattle.deeds.specs.Happens.{Happens, world_of}
+use Rattle.deeds.specs.Turns.{IsStep, count_changes}
+use Rattle.deeds.proofs.Lists.{nothing, same}
+use Rattle.settling.specs.Order.{IsNext, IsQuiet, IsAtRest}
+use Rattle.settling.proofs.Runs.{settles_to_rest}
+use Rattle.settling.proofs.Bounds.{settles_short}
+use Rattle.world.specs.Sound.{IsReached}
+use Rattle.world.specs.Steps.{IsRun, events_of}
+use Rattle.world.specs.Settling.{ServesBy, ServesAll}
+
+-- one item more
+take_suc : {X : Type 0} (n : ℕ) (xs : List X) (x : X) → slice_get xs n ≡ Some x → take (suc n) xs ≡ take n xs ++ x ∷ []
+take_suc n [] x e = absurd (nothing e)
+take_suc zero (y ∷ xs) x e = ap (λ z. z ∷ []) (same e)
+take_suc (suc n) (y ∷ xs) x e = ap (λ zs. y ∷ zs) (take_suc n xs x e)
+
+next_number : (n : ℕ) → n + 1 ≡ suc n
+next_number n = omega arith
+
+pub take_next : {X : Type 0} (n : ℕ) (xs : List X) (x : X) → slice_get xs n ≡ Some x → take (n + 1) xs ≡ take n xs ++ x ∷ []
+take_next n xs x e = ap (λ k. take k xs) (next_number n) ∙ take_suc n xs x e
+
+-- one event more
+events_next : (xs : List declared.Event) (e : declared.Event) → events_of (xs ++ e ∷ []) ≡ plain_event e ∷ events_of xs
+events_next xs e =
+    ap (λ ys. reverse ys) (map-append plain_event xs (e ∷ []))
+    ∙ reverse-append (map plain_event xs) (plain_event e ∷ [])
+
+next_length : (k n : ℕ) → k ≡ n → suc k ≡ n + 1
+next_length k n e = omega (arith, e)
+
+abbrev pub bit : Bool → ℕ
+bit b = if b then 1 else 0
+
+-- what an action counts beside those before it
+count_on : (c b : Bool) (k n : ℕ) → c ≡ b → k ≡ n → (if c then 1 else 0) + k ≡ n + bit b
+count_on true true k n e f = omega (arith, f)
+count_on false false k n e f = omega (arith, f)
+count_on true false k n e f = absurd (true≢false e)
+count_on false true k n e f = absurd (true≢false (sym e))
+
+-- an event more
+pub run_on : (w v : PlainWorld) (xs : List declared.Event) (n : ℕ) (e : declared.Event) (b : Bool) (u : PlainWorld)
+    → IsRun w xs n v → IsStep v (plain_event e) b u → IsRun w (xs ++ e ∷ []) (n + bit b) u
+run_on w v xs n e b u r s =
+    record {
+      trace = record { event = plain_event e; action = s.action } ∷ r.trace;
+      runs = (v, r.runs, s.step);
+      told = ap (λ ys. plain_event e ∷ ys) r.told ∙ sym (events_next xs e);
+      counted = count_on s.action.changed b (count_changes r.trace) n s.told r.counted;
+    }
+
+-- nothing ran yet
+pub run_none : (w : PlainWorld) → IsRun w [] 0 w
+run_none w = record { trace = []; runs = refl; told = refl; counted = refl }
+
+-- one deed more that was first
+pub serves_on : (w v : PlainWorld) (n : ℕ) (u : PlainWorld) (d : Deed) → ServesBy w n v → Happens d v
+    → IsNext v (event_of d) → u ≡ after d v → ServesBy w (n + 1) u
+serves_on w v n u d r h next is =
+    record {
+      deeds = d ∷ r.deeds;
+      settles = (
+        r.settles,
+        subst (λ z. Happens d z) r.is h,
+        subst (λ z. IsNext z (event_of d)) r.is next,
+      );
+      is = is ∙ ap (λ z. after d z) r.is;
+      counted = next_length (length r.deeds) n r.counted;
+    }
+
+-- nothing was served yet
+pub serves_none : (w : PlainWorld) → ServesBy w 0 w
+serves_none w = record { deeds = []; settles = tt; is = refl; counted = refl }
+
+-- served whole
+pub serves_all : (w : PlainWorld) (n : ℕ) (v : PlainWorld) → IsReached w → ServesBy w n v → IsQuiet v → ServesAll w n v
+serves_all w n v reached r quiet =
+    let still : IsQuiet (world_of w r.deeds) = subst (λ z. IsQuiet z) r.is quiet in
+    record {
+      serves = r;
+      quiet = quiet;
+      rest = subst (λ z. IsAtRest z) (sym r.is) (settles_to_rest reached.old reached.trace w r.deeds reached.reached r.settles still);
+      short = settles_short reached.old reached.trace w r.deeds reached.reached r.settles;
+    }
+
+-- what a step counts, where it changed something and where not
+pub counts_one : (n m : ℕ) (b : Bool) → b ≡ true → m ≡ n + 1 → n + bit b ≡ m
+counts_one n m true on e = sym e
+counts_one n m false on e = absurd (true≢false (sym on))
+
+pub counts_none : (n m : ℕ) (b : Bool) → b ≡ false → m ≡ n → n + bit b ≡ m
+counts_none n m true off e = absurd (true≢false off)
+counts_none n m false off e = omega (arith, e)
+
+-- what is read from a list stands there
+pub read_there : {X : Type 0} (xs : List X) (k : ℕ) (x : X) → k < length xs → x ≡ get_or xs k x → slice_get xs k ≡ Some x
+read_there [] k x lt e = absurd (omega (arith, lt))
+read_there (y ∷ xs) zero x lt e = ap (λ z. Some z) (sym e)
+read_there (y ∷ xs) (suc k) x lt e = read_there xs k x (omega (arith, lt)) e

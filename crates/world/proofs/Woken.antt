@@ -1,0 +1,395 @@
+-- What a deed wakes, by its event alone; and so where to look next.
+use Rattle.std.proofs.Common.{◌≡◌, inl, inr, ℕ, ◌<◌, Bool, true, List, [], ◌∷◌, length, Some, None, is_some, Ok, Err, refl, sym, subst, ap, ◌∙◌, arith}
+use Rattle.std.specs.Prelude.{◌≤◌, ⊤}
+use Rattle.std.specs.List.{AllByRecursion}
+use Rattle.block_store.specs.declared.NoMemory.{NoMemory}
+use Rattle.ring_core.specs.State.{PlainChain}
+use Rattle.task_set.specs.Jobs.{PlainJob}
+use Rattle.deeds.specs.Parts.{Slot, Outcome}
+use Rattle.deeds.specs.World.{PlainQueue, PlainWorld, owner}
+use Rattle.deeds.specs.Events.{Event}
+use Rattle.deeds.specs.Deeds.{Deed, event_of, queue_fetched, queue_of_job}
+use Rattle.deeds.specs.After.{after}
+use Rattle.deeds.specs.Happens.{Happens, MayWant}
+use Rattle.deeds.specs.Applies.{Applies}
+use Rattle.deeds.specs.Phases.{SlotIs}
+use Rattle.deeds.specs.Lawful.{KeepsParts}
+use Rattle.deeds.specs.Turns.{Turns}
+use Rattle.deeds.proofs.Applying.{applies}
+use Rattle.deeds.proofs.Lists.{same}
+use Rattle.deeds.proofs.Staying.{deed_stays}
+use Rattle.settling.specs.Order.{of_seat, order_of, IsFirstOf, IsNext, NoneApplies}
+use Rattle.settling.specs.Waking.{IsAmong, IsFetch, IsTake, IsOwn, Wakes}
+use Rattle.phases.specs.Parts.{arrived_unit}
+use Rattle.settling.proofs.Waking.{wakes}
+use Rattle.world.specs.Cursors.{TurnsFirst, of_function, NoStart, NoDirectBelow, NoDirect, NoSeatBelow, NoSeat, NoEnterBelow, NoFetchBelow, NoneBefore, NoneBeforeFetch, LeavesNext, EntersNext, FetchesNext, TurnsNext}
+use Rattle.world.specs.declared.service.Cursor.{Cursor}
+use Rattle.world.specs.declared.service.Cursor.TheVariants as cursor
+use Rattle.world.proofs.Choosing.{none_open}
+use Rattle.world.proofs.Ordering.{Is, is_first, of_first, wants_first, Wants, first_function, first_raise, first_direct, first_seat, first_enter, first_fetch, none_left}
+
+abbrev Never : PlainWorld → Event → Type 0
+Never w e = Applies w e → ⊥
+
+-- after an event of a seat: what stands behind the seats, and a mark that is clear now
+abbrev AfterSeat : Event → Type 0
+AfterSeat (Event.Fetch i) = ⊤
+AfterSeat (Event.Put k) = ⊤
+AfterSeat (Event.Take k) = ⊤
+AfterSeat (Event.Commit k) = ⊤
+AfterSeat (Event.Answer k) = ⊤
+AfterSeat (Event.Leave k) = ⊤
+AfterSeat Event.Check = ⊤
+AfterSeat e = ⊥
+
+-- after a request came to its unit: its own queue's answer, or a job that a seat is to hand off
+abbrev AfterEnter : ℕ → Event → Type 0
+AfterEnter i (Event.Fetch j) = ⊤
+AfterEnter i (Event.Put k) = ⊤
+AfterEnter i (Event.Direct j) = j ≡ i
+AfterEnter i e = ⊥
+
+-- after a queue took a chain: its own request or answer, or a function
+abbrev AfterFetch : ℕ → Event → Type 0
+AfterFetch i (Event.Fetch j) = ⊤
+AfterFetch i (Event.Enter j) = j ≡ i
+AfterFetch i (Event.Direct j) = j ≡ i
+AfterFetch i Event.Mark = ⊤
+AfterFetch i Event.AnswerTmf = ⊤
+AfterFetch i e = ⊥
+
+-- what may apply after a deed of the first event that didn't before
+abbrev WokenBy : Event → Event → Type 0
+WokenBy (Event.Direct i) e = IsFetch e
+WokenBy (Event.Put k) e = AfterSeat e
+WokenBy (Event.Take k) e = AfterSeat e
+WokenBy (Event.Commit k) e = AfterSeat e
+WokenBy (Event.Answer k) e = AfterSeat e
+WokenBy (Event.Leave k) e = AfterSeat e
+WokenBy (Event.Enter i) e = AfterEnter i e
+WokenBy (Event.Fetch i) e = AfterFetch i e
+WokenBy x e = ⊤
+
+among : (P : Event → Type 0) (xs : List Event) (e : Event) → AllByRecursion P xs → IsAmong xs e → P e
+among P [] e all h = absurd h
+among P (x ∷ xs) e all (inl p) = subst P (sym p) all.0
+among P (x ∷ xs) e all (inr h) = among P xs e all.1 h
+
+fetch_after_seat : (e : Event) → IsFetch e → AfterSeat e
+fetch_after_seat (Event.Fetch i) h = tt
+fetch_after_seat e h = absurd h
+
+take_after_seat : (e : Event) → IsTake e → AfterSeat e
+take_after_seat (Event.Take k) h = tt
+take_after_seat e h = absurd h
+
+fetch_after_fetch : (i : ℕ) (e : Event) → IsFetch e → AfterFetch i e
+fetch_after_fetch i (Event.Fetch j) h = tt
+fetch_after_fetch i e h = absurd h
+
+woken : (w : PlainWorld) (d : Deed) (e : Event) → Happens d w → Wakes w d e → WokenBy (event_of d) e
+woken w (Deed.Arrive f x) e m h =
+    among (AfterFetch (queue_fetched f)) (Event.Enter (queue_fetched f) ∷ []) e (refl, tt) h
+woken w (Deed.Refuse f a) e m h =
+    among (AfterFetch (queue_fetched f)) (Event.Direct (queue_fetched f) ∷ []) e (refl, tt) h
+woken w (Deed.Open f g) e m h =
+    among (AfterFetch (queue_fetched f)) (Event.Mark ∷ Event.AnswerTmf ∷ []) e (tt, (tt, tt)) h
+woken w (Deed.Hold f) e m h = absurd h
+woken w (Deed.Spend f xs) e m h = fetch_after_fetch (queue_fetched f) e h
+woken w (Deed.Break q n) e m h = absurd h
+woken w (Deed.Run x) e m h =
+    let i = queue_of_job x in
+    among (AfterEnter i) (Event.Fetch i ∷ Event.Put (owner w.workers i) ∷ []) e (tt, (tt, tt)) h
+woken w (Deed.Park x) e m h =
+    among (AfterEnter (queue_of_job x)) (Event.Fetch (queue_of_job x) ∷ []) e (tt, tt) h
+woken w (Deed.Full x) e m h =
+    among (AfterEnter (queue_of_job x)) (Event.Direct (queue_of_job x) ∷ []) e (refl, tt) h
+woken w (Deed.Shed x) e m h =
+    among (AfterEnter (queue_of_job x)) (Event.Direct (queue_of_job x) ∷ []) e (refl, tt) h
+woken w (Deed.Stall x) e m h = absurd m
+woken w (Deed.Direct c o xs) e m h = h
+woken w (Deed.Put k x) e m h = take_after_seat e h
+woken w (Deed.Keep k x) e m h = among AfterSeat (Event.Commit k ∷ []) e (tt, tt) h
+woken w (Deed.Take k x) e m h = among AfterSeat (Event.Commit k ∷ []) e (tt, tt) h
+woken w (Deed.Commit k x r) e m h = among AfterSeat (Event.Answer k ∷ []) e (tt, tt) h
+woken w (Deed.Busy k x) e m h = among AfterSeat (Event.Answer k ∷ []) e (tt, tt) h
+woken w (Deed.Abort k x why) e m h = among AfterSeat (Event.Answer k ∷ []) e (tt, tt) h
+woken w (Deed.Lose k x) e m h = absurd m
+woken w (Deed.Answer k x o xs) e m (inl h) = fetch_after_seat e h
+woken w (Deed.Answer k x o xs) e m (inr h) = among AfterSeat (Event.Leave k ∷ []) e (tt, tt) h
+woken w (Deed.Leave k place t jobs) e m h =
+    among AfterSeat (Event.Put k ∷ Event.Take k ∷ Event.Check ∷ []) e (tt, (tt, (tt, tt))) h
+woken w (Deed.Idle x) e m h = absurd m
+woken w d e m h = tt
+
+-- what didn't apply doesn't after a deed, if it doesn't where the deed woke it
+still : (w : PlainWorld) (d : Deed) (x e : Event) → event_of d ≡ x → Happens d w → IsOwn e
+    → (WokenBy x e → Never (after d w) e) → Never w e → Never (after d w) e
+still w d x e is m own f never a =
+    f (subst (λ y. WokenBy y e) is (woken w d e m (wakes w d e own m a never))) a
+
+-- there are as many queues as before
+as_many : (w : PlainWorld) (d : Deed) (i : ℕ) → i < length (after d w).queues → i < length w.queues
+as_many w d i lt = let k : KeepsParts w (after d w) = deed_stays d w in omega (arith, lt, k.queues)
+
+as_many_seats : (w : PlainWorld) (d : Deed) (i : ℕ) → i < length (after d w).seats → i < length w.seats
+as_many_seats w d i lt = let k : KeepsParts w (after d w) = deed_stays d w in omega (arith, lt, k.seats)
+
+-- Where to look next
+
+-- after an answer of a queue: from there on
+after_direct : (w : PlainWorld) (d : Deed) (i : ℕ) → event_of d ≡ Event.Direct i → Happens d w → NoStart w
+    → NoDirectBelow i w → NoneBefore (cursor.Direct i) (after d w)
+after_direct w d i is m s below =
+    let x = Event.Direct i in (
+      record {
+        function = (
+          still w d x Event.AnswerTmf is m tt (λ h. absurd h) s.function.0,
+          (
+            still w d x Event.Check is m tt (λ h. absurd h) s.function.1.0,
+            (still w d x Event.Mark is m tt (λ h. absurd h) s.function.1.1.0, tt),
+          ),
+        );
+        waiting = still w d x Event.Raise is m tt (λ h. absurd h) s.waiting;
+      },
+      λ j lt. still w d x (Event.Direct j) is m tt (λ h. absurd h) (below j lt),
+    )
+
+-- it is one of these events
+first_all : (P : Event → Type 0) (w : PlainWorld) (xs : List Event) (e : Event) → AllByRecursion P xs
+    → IsFirstOf w xs e → P e
+first_all P w [] e all h = absurd h
+first_all P w (x ∷ xs) e all (inl h) = subst P h.1 all.0
+first_all P w (x ∷ xs) e all (inr h) = first_all P w xs e all.1 h.1
+
+abbrev WakesAfterSeat : Event → Event → Type 0
+WakesAfterSeat e x = WokenBy x e → AfterSeat e
+
+wakes_after_seat : (w : PlainWorld) (k : ℕ) (x e : Event) → IsFirstOf w (of_seat k) x → WakesAfterSeat e x
+wakes_after_seat w k x e h =
+    first_all (WakesAfterSeat e) w (of_seat k) x (λ h. h, (λ h. h, (λ h. h, (λ h. h, (λ h. h, tt))))) h
+
+-- after an event of a seat, where no function is open: from the seats on
+after_seat : (w : PlainWorld) (d : Deed) (k : ℕ) → IsFirstOf w (of_seat k) (event_of d) → Happens d w → NoStart w
+    → NoDirect w → (after d w).function ≡ None → NoneBefore cursor.Seats (after d w)
+after_seat w d k first m s direct closed =
+    let x = event_of d in (
+      record {
+        function = none_open (after d w) closed;
+        waiting = still w d x Event.Raise refl m tt
+            (λ h. absurd (wakes_after_seat w k x Event.Raise first h)) s.waiting;
+      },
+      λ j lt. still w d x (Event.Direct j) refl m tt
+          (λ h. absurd (wakes_after_seat w k x (Event.Direct j) first h)) (direct j (as_many w d j lt)),
+    )
+
+empty_ready : (c : PlainChain) (o : Outcome) → Slot.Empty ≡ Slot.Ready c o → ⊥
+empty_ready c o e = cc
+
+arrived_ready : (x : PlainJob) (c : PlainChain) (o : Outcome) → Slot.Arrived x ≡ Slot.Ready c o → ⊥
+arrived_ready x c o e = cc
+
+-- the slot of a queue is one
+one_slot : (w : PlainWorld) (i : ℕ) (s t : Slot) → SlotIs w i s → SlotIs w i t → s ≡ t
+one_slot w i s t a b = sym a.2 ∙ ap (λ (q : PlainQueue). q.slot) (same (sym a.1 ∙ b.1)) ∙ b.2
+
+-- where a slot has nothing that is ready, nothing is answered
+never_direct : (w : PlainWorld) (i j : ℕ) (s : Slot) → ((c : PlainChain) (o : Outcome) → s ≡ Slot.Ready c o → ⊥)
+    → SlotIs w i s → j ≡ i → Never w (Event.Direct j)
+never_direct w i j s other at is a =
+    let here : Applies w (Event.Direct i) = subst (λ k. Applies w (Event.Direct k)) is a in
+    other here.0 here.1 (one_slot w i s (Slot.Ready here.0 here.1) at here.2)
+
+-- after a request came to its unit, where its slot is empty: from the seats on
+after_enter : (w : PlainWorld) (d : Deed) (i : ℕ) → event_of d ≡ Event.Enter i → Happens d w → NoStart w → NoDirect w
+    → SlotIs (after d w) i Slot.Empty → NoneBefore cursor.Seats (after d w)
+after_enter w d i is m s direct empty =
+    let x = Event.Enter i in (
+      record {
+        function = (
+          still w d x Event.AnswerTmf is m tt (λ h. absurd h) s.function.0,
+          (
+            still w d x Event.Check is m tt (λ h. absurd h) s.function.1.0,
+            (still w d x Event.Mark is m tt (λ h. absurd h) s.function.1.1.0, tt),
+          ),
+        );
+        waiting = still w d x Event.Raise is m tt (λ h. absurd h) s.waiting;
+      },
+      λ j lt. still w d x (Event.Direct j) is m tt (never_direct (after d w) i j Slot.Empty empty_ready empty)
+          (direct j (as_many w d j lt)),
+    )
+
+-- a number below another isn't that
+not_below : (i j : ℕ) → j < i → j ≡ i → ⊥
+not_below i j lt e = omega (arith, lt, e)
+
+-- after a queue took a chain, where a request arrived there and no function is open: from there on
+after_fetch : (w : PlainWorld) (d : Deed) (i : ℕ) (y : PlainJob) → event_of d ≡ Event.Fetch i → Happens d w
+    → NoneBeforeFetch w → i < length w.queues → (after d w).function ≡ None
+    → SlotIs (after d w) i (Slot.Arrived y) → NoneBefore (cursor.Enter i) (after d w)
+after_fetch w d i y is m none lt closed arrived =
+    let x = Event.Fetch i in
+    let seat : NoSeatBelow (length (after d w).seats) w = λ k less. none.2 k (as_many_seats w d k less) in (
+      record {
+        function = none_open (after d w) closed;
+        waiting = still w d x Event.Raise is m tt (λ h. absurd h) none.0.waiting;
+      },
+      λ j less. still w d x (Event.Direct j) is m tt
+          (never_direct (after d w) i j (Slot.Arrived y) (arrived_ready y) arrived) (none.1 j (as_many w d j less)),
+      λ k less. (
+        still w d x (Event.Leave k) is m tt (λ h. absurd h) (seat k less).0,
+        (
+          still w d x (Event.Answer k) is m tt (λ h. absurd h) (seat k less).1.0,
+          (
+            still w d x (Event.Commit k) is m tt (λ h. absurd h) (seat k less).1.1.0,
+            (
+              still w d x (Event.Put k) is m tt (λ h. absurd h) (seat k less).1.1.1.0,
+              (still w d x (Event.Take k) is m tt (λ h. absurd h) (seat k less).1.1.1.1.0, tt),
+            ),
+          ),
+        ),
+      ),
+      λ j less. still w d x (Event.Enter j) is m tt (λ h. absurd (not_below i j less h))
+          (none.3 j (omega (arith, less, lt))),
+    )
+
+-- What is first was done, and where to look next
+
+-- an event of the function
+pub function_next : (w w' : PlainWorld) (b : Bool) → b ≡ true → TurnsFirst of_function w b w'
+    → TurnsNext w (Ok (Some cursor.Start)) w'
+function_next w w' b on t =
+    let u : TurnsFirst of_function w true w' = rw on at t in
+    let e = event_of u.0 in
+    (u.0, u.1, is_first w e (order_of w) (first_function (Is w e) w (of_first w e of_function u.2)), u.3, tt)
+
+-- an event changed something, where those before it changed nothing
+turned : (w v w' : PlainWorld) (e : Event) (b : Bool) → b ≡ true → v ≡ w → Turns v e b w' → Turns w e true w'
+turned w v w' e b on same t = subst (λ z. Turns z e true w') same (rw on at t)
+
+-- it applied, and is first where it is so by its name
+next_by : (w : PlainWorld) (d : Deed) (e : Event) → event_of d ≡ e → Happens d w
+    → (Is w e e → IsNext w e) → IsNext w (event_of d)
+next_by w d e is m f =
+    subst (λ x. IsNext w x) (sym is) (f (subst (λ x. Applies w x) is (applies d w m), refl))
+
+-- the oldest event that waits
+pub raise_next : (w v w' : PlainWorld) (b : Bool) → b ≡ true → v ≡ w → NoneApplies w of_function
+    → Turns v Event.Raise b w' → TurnsNext w (Ok (Some cursor.Start)) w'
+raise_next w v w' b on same none t =
+    let u = turned w v w' Event.Raise b on same t in
+    let next = next_by w u.0 Event.Raise u.1 u.2
+    (λ a. is_first w Event.Raise (order_of w) (first_raise (Is w Event.Raise) w none a)) in
+    (u.0, u.2, next, u.3, tt)
+
+-- the answer that is ready on a queue
+pub direct_next : (w v w' : PlainWorld) (i : ℕ) (b : Bool) → b ≡ true → v ≡ w → NoStart w → NoDirectBelow i w
+    → i < length w.queues → Turns v (Event.Direct i) b w' → TurnsNext w (Ok (Some (cursor.Direct i))) w'
+direct_next w v w' i b on same s below lt t =
+    let e = Event.Direct i in
+    let u = turned w v w' e b on same t in
+    let next = next_by w u.0 e u.1 u.2 (λ a. is_first w e (order_of w) (first_direct (Is w e) w i s below lt a)) in
+    (u.0, u.2, next, u.3, subst (NoneBefore (cursor.Direct i)) (sym u.3) (after_direct w u.0 i u.1 u.2 s below))
+
+-- where the cursor is the beginning, nothing is asked
+at_start : (w : PlainWorld) (c : Cursor) → c ≡ cursor.Start → NoneBefore c w
+at_start w c e = subst (λ z. NoneBefore z w) (sym e) tt
+
+at_other : (w v : PlainWorld) (c x : Cursor) → c ≡ x → v ≡ w → NoneBefore x w → NoneBefore c v
+at_other w v c x e f h = subst (λ z. NoneBefore z v) (sym e) (subst (λ z. NoneBefore x z) (sym f) h)
+
+-- an event of a seat
+pub seat_next : (w v w' : PlainWorld) (k : ℕ) (b : Bool) (c : Cursor) → b ≡ true → v ≡ w → NoneBefore cursor.Seats w
+    → NoSeatBelow k w → k < length w.seats → TurnsFirst (of_seat k) v b w' → LeavesNext w' c
+    → TurnsNext w (Ok (Some c)) w'
+seat_next w v w' k b c on same none below lt t leaves =
+    let u : TurnsFirst (of_seat k) w true w' = subst (λ z. TurnsFirst (of_seat k) z true w') same (rw on at t) in
+    let e = event_of u.0 in
+    let next = is_first w e (order_of w)
+    (first_seat (Is w e) w k none.0 none.1 below lt (of_first w e (of_seat k) u.2)) in
+    let before : NoneBefore c w' = elim leaves [
+      | inl p ↦ at_start w' c p
+      | inr p ↦
+          let closed = ap (λ (z : PlainWorld). z.function) (sym u.3) ∙ p.1 in
+          at_other (after u.0 w) w' c cursor.Seats p.0 u.3 (after_seat w u.0 k u.2 u.1 none.0 none.1 closed)
+    ] in
+    (u.0, u.1, next, u.3, before)
+
+-- a request that arrived
+pub enter_next : (w v w' : PlainWorld) (i : ℕ) (b : Bool) (c : Cursor) → b ≡ true → v ≡ w → NoStart w → NoDirect w
+    → NoSeat w → NoEnterBelow i w → i < length w.queues → Turns v (Event.Enter i) b w' → EntersNext i w' c
+    → TurnsNext w (Ok (Some c)) w'
+enter_next w v w' i b c on same s direct seat below lt t enters =
+    let e = Event.Enter i in
+    let u = turned w v w' e b on same t in
+    let next = next_by w u.0 e u.1 u.2
+    (λ a. is_first w e (order_of w) (first_enter (Is w e) w i s direct seat below lt a)) in
+    let before : NoneBefore c w' = elim enters [
+      | inl p ↦ at_start w' c p
+      | inr p ↦
+          let empty = subst (λ z. SlotIs z i Slot.Empty) u.3 p.1 in
+          at_other (after u.0 w) w' c cursor.Seats p.0 u.3 (after_enter w u.0 i u.1 u.2 s direct empty)
+    ] in
+    (u.0, u.2, next, u.3, before)
+
+-- a queue's next chain
+pub fetch_next : (w v w' : PlainWorld) (i : ℕ) (b : Bool) (c : Cursor) → b ≡ true → v ≡ w → NoneBeforeFetch w
+    → NoFetchBelow i w → i < length w.queues → Turns v (Event.Fetch i) b w' → FetchesNext i w' c
+    → TurnsNext w (Ok (Some c)) w'
+fetch_next w v w' i b c on same none below lt t fetches =
+    let e = Event.Fetch i in
+    let u = turned w v w' e b on same t in
+    let next = next_by w u.0 e u.1 u.2
+    (λ a. is_first w e (order_of w) (first_fetch (Is w e) w i none below lt a)) in
+    let before : NoneBefore c w' = elim fetches [
+      | inl p ↦ at_start w' c p
+      | inr p ↦
+          let closed = ap (λ (z : PlainWorld). z.function) (sym u.3) ∙ p.1 in
+          let arrived = subst (λ z. SlotIs z i (Slot.Arrived p.2.0)) u.3 p.2.1 in
+          at_other (after u.0 w) w' c (cursor.Enter i) p.0 u.3
+          (after_fetch w u.0 i p.2.0 u.1 u.2 none lt closed arrived)
+    ] in
+    (u.0, u.2, next, u.3, before)
+
+-- memory was refused for a queue's next chain
+pub fetch_wants : (w v w' : PlainWorld) (i : ℕ) (x : NoMemory) → v ≡ w → NoneBeforeFetch w → NoFetchBelow i w
+    → i < length w.queues → MayWant (Event.Fetch i) v × (w' ≡ v) → TurnsNext w (Err x) w'
+fetch_wants w v w' i x same none below lt t =
+    let want : MayWant (Event.Fetch i) w = subst (λ z. MayWant (Event.Fetch i) z) same t.0 in
+    (t.1 ∙ same, wants_first w (order_of w) (first_fetch (Wants w) w i none below lt want))
+
+-- nothing was left
+pub nothing_next : (w v : PlainWorld) → v ≡ w → NoneBeforeFetch w → NoFetchBelow (length w.queues) w
+    → TurnsNext w (Ok None) v
+nothing_next w v same none below = (same, none_left w none below)
+
+-- a slot with a unit has a request that arrived
+pub arrived_there : (s : Slot) → is_some (arrived_unit s) ≡ true → (x : PlainJob) × (s ≡ Slot.Arrived x)
+arrived_there Slot.Empty e = absurd (cc)
+arrived_there (Slot.Arrived x) e = (x, refl)
+arrived_there (Slot.Ready c o) e = absurd (cc)
+
+-- Past the last of a kind
+
+-- no queue has an answer ready
+pub directs_past : (w v : PlainWorld) (n : ℕ) → v ≡ w → length w.queues ≤ n → NoStart w → NoDirectBelow n w
+    → NoneBefore cursor.Seats v
+directs_past w v n same le s below =
+    subst (NoneBefore cursor.Seats) (sym same) (s, λ i lt. below i (omega (arith, lt, le)))
+
+-- no seat has an event
+pub seats_past : (w v : PlainWorld) (n : ℕ) → v ≡ w → length w.seats ≤ n → NoneBefore cursor.Seats w → NoSeatBelow n w
+    → NoneBefore (cursor.Enter 0) v
+seats_past w v n same le none below =
+    subst (NoneBefore (cursor.Enter 0)) (sym same) (
+      none.0,
+      none.1,
+      λ k lt. below k (omega (arith, lt, le)),
+      λ i lt. absurd (omega (arith, lt)),
+    )
+
+-- no request arrived
+pub enters_past : (w v : PlainWorld) (n : ℕ) → v ≡ w → length w.queues ≤ n → NoStart w → NoDirect w → NoSeat w
+    → NoEnterBelow n w → NoneBeforeFetch v
+enters_past w v n same le s direct seat below =
+    subst NoneBeforeFetch (sym same) (s, direct, seat, λ i lt. below i (omega (arith, lt, le)))

@@ -1,0 +1,11 @@
+use Rattle.std.proofs.Common.{◌≡◌, length}
+use Rattle.world.specs.Cursors.{NoDirectBelow}
+use Rattle.world.proofs.device.Device.from_direct.Given as goal
+
+abbrev pub invariant-loop-number : goal.invariant-loop-number
+invariant-loop-number l =
+    record {
+      same : l.self ≡ l.fn.self;
+      below : NoDirectBelow l.number l.fn.self;
+      all : l.number-end ≡ length l.fn.self.queues;
+    }

@@ -1,0 +1,83 @@
+use Rattle.std.proofs.Common.{◌≡◌, true, false, Some, refl, sym, ap, ◌∙◌, arith}
+use Rattle.std.specs.Prelude.{slice_get}
+use Rattle.std.proofs.lemmas.Option.{slice_get_read}
+use Rattle.deeds.specs.Parts.{Hand}
+use Rattle.deeds.specs.Events.{Event as PlainEvent}
+use Rattle.deeds.proofs.Lists.{same}
+use Rattle.world.specs.Kept.{KeptSeat}
+use Rattle.world.specs.contracts.device.Device as seen
+use Rattle.world.proofs.Setting.{seat_kept, turns_seen}
+use Rattle.world.proofs.Handing.{puts_nothing, puts, keeps}
+use Rattle.world.proofs.device.Device.put.Goals as goal
+
+pub returns-in_default : goal.returns-in_default
+returns-in_default c =
+    let kept = c.self.inside.seats.items in
+    let k = c.args.number in
+    let s = c.index_mut-seat.result.now in
+    let at : slice_get kept k ≡ Some s =
+    slice_get_read kept c.len.result k s (c.len.ensures ∙ c.self.inside.seats.ok.0) c.if-at-len.false
+    c.index_mut-seat.ensures.value in
+    turns_seen _ _ (PlainEvent.Put k) false _ c.self.view_is
+    (puts_nothing (seen.the_view c.self.inside) kept refl k s c.next.new.self at
+    (sym c.next.ensures.first ∙ c.in_default.is) c.next.ensures.rest)
+
+pub invariant_of-self-then-len-limit : goal.invariant_of-self-then-len-limit
+invariant_of-self-then-len-limit c =
+    let kept = c.self.inside.seats.items in
+    let k = c.args.number in
+    let s = c.index_mut-seat.result.now in
+    let at : slice_get kept k ≡ Some s =
+    slice_get_read kept c.len.result k s (c.len.ensures ∙ c.self.inside.seats.ok.0) c.if-at-len.false
+    c.index_mut-seat.ensures.value in
+    seat_kept c.self.inside.memory c.self.inside.bays.items c.self.inside.units.items kept k s c.next.new.self
+    c.self.invariant at (ap (λ (z : KeptSeat). z.limit) c.next.ensures.rest)
+
+pub invariant_of-self-else-len-limit : goal.invariant_of-self-else-len-limit
+invariant_of-self-else-len-limit c =
+    let kept = c.self.inside.seats.items in
+    let k = c.args.number in
+    let s = c.index_mut-seat.result.now in
+    let at : slice_get kept k ≡ Some s =
+    slice_get_read kept c.len.result k s (c.len.ensures ∙ c.self.inside.seats.ok.0) c.if-at-len.false
+    c.index_mut-seat.ensures.value in
+    seat_kept c.self.inside.memory c.self.inside.bays.items c.self.inside.units.items kept k s c.hold.new.self
+    c.self.invariant at
+    (ap (λ (z : KeptSeat). z.limit) c.hold.ensures ∙ ap (λ (z : KeptSeat). z.limit) c.next.ensures.rest)
+
+pub returns-then-len-limit : goal.returns-then-len-limit
+returns-then-len-limit c =
+    let kept = c.self.inside.seats.items in
+    let k = c.args.number in
+    let s = c.index_mut-seat.result.now in
+    let at : slice_get kept k ≡ Some s =
+    slice_get_read kept c.len.result k s (c.len.ensures ∙ c.self.inside.seats.ok.0) c.if-at-len.false
+    c.index_mut-seat.ensures.value in
+    let before : slice_get kept k ≡ Some c.index.result.now =
+    slice_get_read kept c.len.result k c.index.result.now (c.len.ensures ∙ c.self.inside.seats.ok.0)
+    c.if-at-len.false c.index.ensures in
+    let free : s.hand ≡ Hand.Free =
+    ap (λ (z : KeptSeat). z.hand) (same (sym at ∙ before)) ∙ c.if-not-is_free.ensures.0 refl in
+    turns_seen _ _ (PlainEvent.Put k) true _ c.self.view_is
+    (puts (seen.the_view c.self.inside) kept refl k s c.next.new.self at c.in-Some.job c.push.new.self free
+    (sym c.next.ensures.first ∙ c.in-Some.is) c.next.ensures.rest
+    (omega (arith, c.if-len-limit.true, c.len-2.ensures, c.limit.ensures)) c.push.ensures)
+
+pub returns-else-len-limit : goal.returns-else-len-limit
+returns-else-len-limit c =
+    let kept = c.self.inside.seats.items in
+    let k = c.args.number in
+    let s = c.index_mut-seat.result.now in
+    let at : slice_get kept k ≡ Some s =
+    slice_get_read kept c.len.result k s (c.len.ensures ∙ c.self.inside.seats.ok.0) c.if-at-len.false
+    c.index_mut-seat.ensures.value in
+    let before : slice_get kept k ≡ Some c.index.result.now =
+    slice_get_read kept c.len.result k c.index.result.now (c.len.ensures ∙ c.self.inside.seats.ok.0)
+    c.if-at-len.false c.index.ensures in
+    let free : s.hand ≡ Hand.Free =
+    ap (λ (z : KeptSeat). z.hand) (same (sym at ∙ before)) ∙ c.if-not-is_free.ensures.0 refl in
+    turns_seen _ _ (PlainEvent.Put k) true _ c.self.view_is
+    (keeps (seen.the_view c.self.inside) kept refl k s c.hold.new.self at c.in-Some.job free
+    (sym c.next.ensures.first ∙ c.in-Some.is)
+    (c.hold.ensures ∙ ap (λ (z : KeptSeat). record z { hand = Hand.Taken c.in-Some.job }) c.next.ensures.rest)
+    (omega (arith, c.if-len-limit.false, c.len-2.ensures, c.limit.ensures)))

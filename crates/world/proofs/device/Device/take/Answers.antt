@@ -1,0 +1,39 @@
+use Rattle.std.proofs.Common.{◌≡◌, true, Some, refl, sym, ap, ◌∙◌}
+use Rattle.std.specs.Prelude.{slice_get}
+use Rattle.std.proofs.lemmas.Option.{slice_get_read}
+use Rattle.deeds.specs.Events.{Event as PlainEvent}
+use Rattle.deeds.proofs.Lists.{same}
+use Rattle.world.specs.Kept.{KeptSeat}
+use Rattle.world.specs.contracts.device.Device as seen
+use Rattle.world.proofs.Setting.{seat_kept, turns_seen}
+use Rattle.world.proofs.Handing.{takes}
+use Rattle.world.proofs.device.Device.take.Goals as goal
+
+pub invariant_of-self-2 : goal.invariant_of-self-2
+invariant_of-self-2 c =
+    let kept = c.self.inside.seats.items in
+    let k = c.args.number in
+    let s = c.index_mut.result.now in
+    let at : slice_get kept k ≡ Some s =
+    slice_get_read kept c.len.result k s (c.len.ensures ∙ c.self.inside.seats.ok.0) c.if-at-len.false
+    c.index_mut.ensures.value in
+    seat_kept c.self.inside.memory c.self.inside.bays.items c.self.inside.units.items kept k s c.hold.new.self
+    c.self.invariant at (ap (λ (z : KeptSeat). z.limit) c.hold.ensures)
+
+pub returns : goal.returns
+returns c =
+    let kept = c.self.inside.seats.items in
+    let k = c.args.number in
+    let s = c.index_mut.result.now in
+    let at : slice_get kept k ≡ Some s =
+    slice_get_read kept c.len.result k s (c.len.ensures ∙ c.self.inside.seats.ok.0) c.if-at-len.false
+    c.index_mut.ensures.value in
+    let before : slice_get kept k ≡ Some c.index.result.now =
+    slice_get_read kept c.len.result k c.index.result.now (c.len.ensures ∙ c.self.inside.seats.ok.0)
+    c.if-at-len.false c.index.ensures in
+    let one : s ≡ c.index.result.now = same (sym at ∙ before) in
+    let idle = c.if-not-is_idle.ensures.0 refl in
+    turns_seen _ _ (PlainEvent.Take k) true _ c.self.view_is
+    (takes (seen.the_view c.self.inside) kept refl k s c.hold.new.self at c.in-Some.job c.next.new.self
+    c.if-number-self.false (ap (λ (z : KeptSeat). z.hand) one ∙ idle.0) (ap (λ (z : KeptSeat). z.jobs) one ∙ idle.1)
+    (sym c.next.ensures.first ∙ c.in-Some.is) c.hold.ensures c.next.ensures.rest)

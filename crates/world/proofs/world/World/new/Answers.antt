@@ -1,0 +1,14 @@
+use Rattle.std.proofs.Common.{◌≡◌, true, sym, ◌∙◌}
+use Rattle.world.specs.Config.{is_config}
+use Rattle.world.proofs.Opening.{opens, opens_whole}
+use Rattle.world.proofs.world.World.new.Goals as goal
+
+-- the configuration is taken
+taken : (c : goal.In-Ok) → is_config c.args.config.now ≡ true
+taken c = sym c.is_valid.ensures ∙ c.if-not-is_valid.false
+
+pub invariant_of-result : goal.invariant_of-result
+invariant_of-result c = opens_whole c.args.config.now c.in-Ok.device (taken c) c.in-Ok.ensures
+
+pub returns-in-Ok-clause-opens : goal.returns-in-Ok-clause-opens
+returns-in-Ok-clause-opens c = opens c.args.config.now c.in-Ok.device (taken c) c.in-Ok.ensures

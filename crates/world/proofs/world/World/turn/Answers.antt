@@ -1,0 +1,5 @@
+use Rattle.world.proofs.Reaching.{whole_by_next}
+use Rattle.world.proofs.world.World.turn.Goals as goal
+
+pub invariant_of-self : goal.invariant_of-self
+invariant_of-self c = whole_by_next c.self.inside.device c.turn.result c.turn.new.self c.self.invariant c.turn.ensures

@@ -1,0 +1,22 @@
+-- What the device keeps beside its plain value. Only private functions and models cite it: no promise stands on it.
+use Rattle.std.specs.Prelude.{ℕ, ◌≡◌, ◌+◌, ◌*◌, List, length}
+use Rattle.task_set.specs.Jobs.{PlainJob}
+use Rattle.unit_history.specs.Unit.{PlainUnit}
+use Rattle.deeds.specs.Parts.{Hand}
+use Rattle.deeds.specs.World.{PlainQueue, Seat, Everywhere}
+
+-- a seat, and how many jobs there is room for
+pub record KeptSeat : Type 0 where
+  pub hand : Hand
+  pub jobs : List PlainJob
+  pub limit : ℕ
+
+abbrev pub seat_of : KeptSeat → Seat
+seat_of s = record { hand = s.hand; out = s.jobs }
+
+-- each ring was made with this memory, each seat's list has room for all tasks and 64 more, and the port for one
+-- buffer more than the largest queue has descriptors
+pub record HasLists (memory : List ℕ) (queues : List PlainQueue) (units : List PlainUnit) (seats : List KeptSeat) (room : ℕ) : Type 0 where
+  pub fits : Everywhere (λ i (q : PlainQueue). q.ring.memory ≡ length memory) queues
+  pub limits : Everywhere (λ k (s : KeptSeat). s.limit ≡ 64 * length units + 64) seats
+  pub port : room ≡ 1025

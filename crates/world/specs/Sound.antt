@@ -1,0 +1,45 @@
+-- What holds of the device between two steps. Only private functions and models cite it: no promise stands on it.
+use Rattle.std.specs.Prelude.{ℕ, ◌≡◌, ◌≤◌, ◌+◌, List, length, map}
+use Rattle.unit_history.specs.Unit.{PlainUnit}
+use Rattle.deeds.specs.World.{PlainQueue, PlainWorld, Everywhere}
+use Rattle.deeds.specs.Happens.{Occurrence, Reached}
+use Rattle.deeds.specs.Lawful.{AreNumbered}
+use Rattle.deeds.specs.Standing.{AreOwned, AreAtWork, AreBehind, HaveRoom, FunctionIsThere, BuffersAreOutstanding}
+
+-- some trace reached it from an opening
+pub record IsReached (w : PlainWorld) : Type 0 where
+  pub old : PlainWorld
+  pub trace : List Occurrence
+  pub reached : Reached old trace w
+
+-- what a step rests on
+pub record IsSound (w : PlainWorld) : Type 0 where
+  pub owned : AreOwned w
+  pub works : AreAtWork w
+  pub behind : AreBehind w
+  pub room : HaveRoom w
+  pub function : FunctionIsThere (length w.units) w.function
+  pub numbered : AreNumbered w
+  pub working : 1 ≤ w.workers
+  pub seated : length w.seats ≡ w.workers + 1
+  pub held : BuffersAreOutstanding w
+
+abbrev pub size_of : PlainQueue → ℕ
+size_of q = q.ring.layout.size
+
+abbrev pub lun_of : PlainUnit → ℕ
+lun_of u = u.opening.lun
+
+-- a device has 3 to 18 queues, 9 seats and 64 units, its queues have at most 1,024 descriptors, and its units LUNs to 16,383
+pub record AreFew (w : PlainWorld) : Type 0 where
+  pub several : 3 ≤ length w.queues
+  pub queues : length w.queues ≤ 18
+  pub seats : length w.seats ≤ 9
+  pub units : length w.units ≤ 64
+  pub sizes : Everywhere (λ i (n : ℕ). n ≤ 1024) (map size_of w.queues)
+  pub luns : Everywhere (λ k (n : ℕ). n ≤ 16383) (map lun_of w.units)
+
+-- what holds between two calls
+pub record IsWhole (w : PlainWorld) : Type 0 where
+  pub reached : IsReached w
+  pub few : AreFew w

@@ -1,0 +1,78 @@
+//! The parts of the device.
+
+use crate::bay::Bay;
+use crate::seat::Seat;
+use decisions::Inventory;
+use event_queue::{EventPort, WaitingEvents};
+use guest_mem::GuestMem;
+use phases::OpenFunction;
+use std::marker::Model;
+use unit_history::{JobList, UnitState};
+
+/// The parts of the device: memory, queues with their slots, units, seats, the hand-off, the function, the event port
+/// and the events that wait for it.
+#[derive(Drop)]
+pub(crate) struct Device {
+    pub(crate) memory: GuestMem,
+    pub(crate) inventory: Inventory,
+    pub(crate) bays: Vec<Bay>,
+    pub(crate) units: Vec<UnitState>,
+    pub(crate) seats: Vec<Seat>,
+    pub(crate) workers: u16,
+    pub(crate) handed_off: JobList,
+    pub(crate) function: Option<OpenFunction>,
+    pub(crate) port: EventPort,
+    pub(crate) waiting: WaitingEvents,
+}
+
+impl Model for Device {
+    ghost use Rattle.std.specs.Prelude.{map};
+    ghost use Rattle.deeds.specs.World.{PlainWorld};
+    ghost use Rattle.world.specs.Kept.{seat_of, HasLists};
+
+    ghost Value = { PlainWorld };
+
+    ghost view = { λ d. record {
+      memory = d.memory;
+      inventory = d.inventory;
+      queues = d.bays.items;
+      units = d.units.items;
+      seats = map seat_of d.seats.items;
+      workers = d.workers;
+      handed_off = d.handed_off.jobs;
+      limit = d.handed_off.limit;
+      function = d.function;
+      buffers = d.port.buffers;
+      missed = d.port.missed;
+      waiting = d.waiting;
+    } };
+
+    ghost invariant = { λ d. HasLists d.memory d.bays.items d.units.items d.seats.items d.port.limit };
+}
+
+ghost use Rattle.std.specs.Prelude.{◌≡◌, ◌↔◌, IsTrue};
+
+/// Whether a unit has this address.
+fn has_address(unit: &UnitState, target: u8, lun: u16) -> bool
+    ensures { IsTrue result ↔ ((unit.now.opening.target ≡ target) × (unit.now.opening.lun ≡ lun)) }
+{
+    unit.target() == target && unit.lun() == lun
+}
+
+impl Device {
+    ghost use Rattle.world.specs.Sound.{AreFew};
+    ghost use Rattle.world.specs.Views.{IsPlaceOf};
+
+    /// The place of the unit of an address.
+    pub(crate) fn place(&self, target: u8, lun: u16) -> Option<u16>
+        requires few { AreFew self.now }
+        ensures { IsPlaceOf self.now target lun result }
+    {
+        for place in 0..self.units.len() {
+            if has_address(&self.units[place], target, lun) {
+                return Some(place as u16);
+            }
+        }
+        None
+    }
+}

@@ -1,0 +1,305 @@
+//! Each event's step on the parts of the device.
+
+ghost use Rattle.std.specs.Prelude.{◌≡◌, ◌≤◌};
+ghost use Rattle.deeds.specs.World.{owner};
+ghost use Rattle.deeds.specs.Events.{Event as AnEvent};
+ghost use Rattle.deeds.specs.Turns.{Turns};
+ghost use Rattle.world.specs.Steps.{TurnsOrWants};
+ghost use Rattle.world.specs.Sound.{AreFew, IsSound};
+
+use crate::device::Device;
+use block_store::NoMemory;
+use phases::{
+    phase_answer, phase_answer_tmf, phase_check, phase_commit, phase_direct, phase_enter,
+    phase_fetch, phase_fetch_control, phase_fetch_event, phase_hard, phase_leave, phase_mark,
+    phase_raise,
+};
+
+/// The seat that serves a request queue.
+fn owner(workers: u16, queue: u16) -> usize
+    requires some { 1 ≤ workers }
+    requires request { 2 ≤ queue }
+    ensures { result ≡ owner workers queue }
+{
+    ((queue - 2) % workers) as usize
+}
+
+impl Device {
+    /// The guest writes bytes at an address, where all of them lie in memory.
+    pub(crate) fn poke(&mut self, addr: u64, bytes: &[u8]) -> bool
+        ensures { Turns self.old (AnEvent.Poke (record { addr = addr; bytes = bytes.now })) result self.new }
+    {
+        self.memory.write(addr, bytes).is_ok()
+    }
+
+    /// A queue takes its next chain.
+    pub(crate) fn fetch(&mut self, number: u16) -> Result<bool, NoMemory>
+        requires sound { IsSound self.old }
+        requires few { AreFew self.old }
+        ensures { TurnsOrWants self.old (AnEvent.Fetch number) result self.new }
+    {
+        match number {
+            0 => self.fetch_control(),
+            1 => self.fetch_event(),
+            _ => self.fetch_request(number),
+        }
+    }
+
+    /// A request queue takes its next chain.
+    fn fetch_request(&mut self, number: u16) -> Result<bool, NoMemory>
+        requires sound { IsSound self.old }
+        requires request { 2 ≤ number }
+        ensures { TurnsOrWants self.old (AnEvent.Fetch number) result self.new }
+    {
+        let at = number as usize;
+        if at >= self.bays.len() {
+            return Ok(false);
+        }
+        let bay = &mut self.bays[at];
+        phase_fetch(&mut bay.queue, &mut bay.slot, &self.memory, &self.inventory)
+    }
+
+    /// The control queue takes its next chain.
+    fn fetch_control(&mut self) -> Result<bool, NoMemory>
+        requires sound { IsSound self.old }
+        ensures { TurnsOrWants self.old (AnEvent.Fetch 0) result self.new }
+    {
+        if self.bays.is_empty() {
+            return Ok(false);
+        }
+        let bay = &mut self.bays[0];
+        phase_fetch_control(
+            &mut bay.queue,
+            &mut bay.slot,
+            &mut self.function,
+            &self.memory,
+            &self.inventory,
+        )
+    }
+
+    /// The event queue takes its next chain.
+    fn fetch_event(&mut self) -> Result<bool, NoMemory>
+        requires sound { IsSound self.old }
+        requires few { AreFew self.old }
+        ensures { TurnsOrWants self.old (AnEvent.Fetch 1) result self.new }
+    {
+        let bay = &mut self.bays[1];
+        let _log = bay.queue.log();
+        phase_fetch_event(&mut bay.queue, &bay.slot, &mut self.port, &mut self.memory)
+    }
+
+    /// The request that arrived on a queue comes to its unit.
+    pub(crate) fn enter(&mut self, number: u16) -> bool
+        requires sound { IsSound self.old }
+        ensures { Turns self.old (AnEvent.Enter number) result self.new }
+    {
+        let at = number as usize;
+        if number < 2 || at >= self.bays.len() {
+            return false;
+        }
+        let Some(place) = self.bays[at].slot.unit() else {
+            return false;
+        };
+        let seat = owner(self.workers, number);
+        if place >= self.units.len() || seat >= self.seats.len() {
+            return false;
+        }
+        phase_enter(
+            &mut self.units[place],
+            &mut self.bays[at].slot,
+            &mut self.seats[seat].out,
+        )
+    }
+
+    /// The chain that is ready on a queue is answered.
+    pub(crate) fn direct(&mut self, number: u16) -> bool
+        requires sound { IsSound self.old }
+        ensures { Turns self.old (AnEvent.Direct number) result self.new }
+    {
+        let at = number as usize;
+        if at >= self.bays.len() {
+            return false;
+        }
+        let bay = &mut self.bays[at];
+        phase_direct(&mut bay.queue, &mut bay.slot, &mut self.memory)
+    }
+
+    /// A seat hands its next job off, or keeps it where the hand-off is full.
+    pub(crate) fn put(&mut self, number: u16) -> bool
+        requires sound { IsSound self.old }
+        ensures { Turns self.old (AnEvent.Put number) result self.new }
+    {
+        let at = number as usize;
+        if at >= self.seats.len() || !self.seats[at].is_free() {
+            return false;
+        }
+        let seat = &mut self.seats[at];
+        let Some(job) = seat.next() else {
+            return false;
+        };
+        if self.handed_off.len() < self.handed_off.limit() {
+            self.handed_off.push(job);
+        } else {
+            seat.hold(job);
+        }
+        true
+    }
+
+    /// A worker takes a job from the hand-off.
+    pub(crate) fn take(&mut self, number: u16) -> bool
+        requires sound { IsSound self.old }
+        ensures { Turns self.old (AnEvent.Take number) result self.new }
+    {
+        let at = number as usize;
+        if number >= self.workers || at >= self.seats.len() {
+            return false;
+        }
+        if !self.seats[at].is_idle() {
+            return false;
+        }
+        let Some(job) = self.handed_off.next() else {
+            return false;
+        };
+        self.seats[at].hold(job);
+        true
+    }
+
+    /// The job in a seat's hand is committed.
+    pub(crate) fn commit(&mut self, number: u16) -> bool
+        requires sound { IsSound self.old }
+        ensures { Turns self.old (AnEvent.Commit number) result self.new }
+    {
+        let at = number as usize;
+        if at >= self.seats.len() {
+            return false;
+        }
+        let Some(place) = self.seats[at].hand.unit() else {
+            return false;
+        };
+        if place >= self.units.len() {
+            return false;
+        }
+        phase_commit(&mut self.units[place], &mut self.seats[at].hand)
+    }
+
+    /// The job in a seat's hand is answered.
+    pub(crate) fn answer(&mut self, number: u16) -> bool
+        requires sound { IsSound self.old }
+        ensures { Turns self.old (AnEvent.Answer number) result self.new }
+    {
+        let at = number as usize;
+        if at >= self.seats.len() {
+            return false;
+        }
+        let Some(queue) = self.seats[at].hand.queue() else {
+            return false;
+        };
+        if queue as usize >= self.bays.len() {
+            return false;
+        }
+        phase_answer(
+            &mut self.bays[queue as usize].queue,
+            &mut self.memory,
+            &mut self.seats[at].hand,
+        )
+    }
+
+    /// The task in a seat's hand leaves.
+    pub(crate) fn leave(&mut self, number: u16) -> bool
+        requires sound { IsSound self.old }
+        ensures { Turns self.old (AnEvent.Leave number) result self.new }
+    {
+        let at = number as usize;
+        if at >= self.seats.len() {
+            return false;
+        }
+        let Some(place) = self.seats[at].hand.unit() else {
+            return false;
+        };
+        if place >= self.units.len() {
+            return false;
+        }
+        let seat = &mut self.seats[at];
+        phase_leave(&mut self.units[place], &mut seat.hand, &mut seat.out)
+    }
+
+    /// The open function marks its next unit, or looks at it.
+    pub(crate) fn mark(&mut self) -> bool
+        requires sound { IsSound self.old }
+        ensures { Turns self.old AnEvent.Mark result self.new }
+    {
+        let Some(function) = &mut self.function else {
+            return false;
+        };
+        let Some(place) = function.function().next_unit() else {
+            return false;
+        };
+        if place >= self.units.len() || self.seats.is_empty() {
+            return false;
+        }
+        phase_mark(&mut self.units[place], function, &mut self.seats[0].out)
+    }
+
+    /// The open function sees that its first mark is clear.
+    pub(crate) fn check(&mut self) -> bool
+        requires sound { IsSound self.old }
+        ensures { Turns self.old AnEvent.Check result self.new }
+    {
+        let Some(function) = &mut self.function else {
+            return false;
+        };
+        let Some(mark) = function.function().waits_for() else {
+            return false;
+        };
+        if mark.unit >= self.units.len() {
+            return false;
+        }
+        phase_check(&self.units[mark.unit], function)
+    }
+
+    /// The open function is answered.
+    pub(crate) fn answer_tmf(&mut self) -> bool
+        requires sound { IsSound self.old }
+        ensures { Turns self.old AnEvent.AnswerTmf result self.new }
+    {
+        if self.bays.is_empty() {
+            return false;
+        }
+        phase_answer_tmf(
+            &mut self.bays[0].queue,
+            &mut self.memory,
+            &mut self.function,
+        )
+    }
+
+    /// The operator resets a unit.
+    pub(crate) fn hard(&mut self, place: u16) -> Result<bool, NoMemory>
+        requires sound { IsSound self.old }
+        requires few { AreFew self.old }
+        ensures { TurnsOrWants self.old (AnEvent.Hard place) result self.new }
+    {
+        let (at, seat) = (place as usize, self.workers as usize);
+        if at >= self.units.len() {
+            return Ok(false);
+        }
+        phase_hard(
+            &mut self.units[at],
+            &mut self.seats[seat].out,
+            &mut self.waiting,
+        )
+    }
+
+    /// The oldest event that waits goes to the guest, or is missed.
+    pub(crate) fn raise(&mut self) -> bool
+        requires sound { IsSound self.old }
+        requires few { AreFew self.old }
+        ensures { Turns self.old AnEvent.Raise result self.new }
+    {
+        phase_raise(
+            &mut self.bays[1].queue,
+            &mut self.memory,
+            &mut self.port,
+            &mut self.waiting,
+        )
+    }
+}
