@@ -69,22 +69,31 @@ impl PackedRing {
 }
 
 impl PackedRing {
-    ghost use Rattle.std.specs.Prelude.{◌≡◌, length, None};
+    ghost use Rattle.std.specs.Prelude.{◌≡◌, length, None, true};
+    ghost use Rattle.ring_core.specs.Packed.{is_available as is_available_in};
     ghost use Rattle.packed_ring.specs.Inner.{PackedFinds};
     ghost use Rattle.ring_core.specs.Offer.{PackedOffers, Found};
     ghost use Rattle.ring_core.specs.Fetch.{Fetches};
 
-    /// The next chain.
-    fn next(&self, memory: &GuestMem) -> Result<Option<Run>, RingFault>
+    /// Whether the next slot holds an available descriptor.
+    fn has_next(&self, memory: &GuestMem) -> bool
         requires { length memory.now ≡ self.now.memory }
-        ensures { PackedFinds self.now memory.now result }
+        ensures { result ≡ is_available_in self.now memory.now }
     {
         let layout = self.base.layout();
         let accepted = self.base.accepted_slots();
         let first = descriptor_at(memory, &layout, accepted);
-        if !is_available(&first, wrap_at(layout.size, accepted)) {
-            return Ok(None);
-        }
+        is_available(&first, wrap_at(layout.size, accepted))
+    }
+
+    /// The next chain, where there is one.
+    fn next(&self, memory: &GuestMem) -> Result<Run, RingFault>
+        requires fits { length memory.now ≡ self.now.memory }
+        requires some { is_available_in self.now memory.now ≡ true }
+        ensures { PackedFinds self.now memory.now result }
+    {
+        let layout = self.base.layout();
+        let accepted = self.base.accepted_slots();
         match walk(self.base.allocator(), memory, &layout, accepted) {
             Ok(run) => {
                 let outstanding = accepted - self.base.used_slots();
@@ -93,7 +102,7 @@ impl PackedRing {
                 } else if outstanding + run.slots as u128 > layout.size as u128 {
                     Err(RingFault::RingOverrun)
                 } else {
-                    Ok(Some(run))
+                    Ok(run)
                 }
             }
             Err(fault) => Err(fault),
@@ -104,15 +113,15 @@ impl PackedRing {
     fn take(&mut self, memory: &GuestMem, run: Run) -> Result<Option<Fetched>, RingFault>
         requires fits { length memory.now ≡ self.old.memory }
         requires unbroken { self.old.broken ≡ None }
-        requires found { PackedOffers self.old memory.now (Found run.id run.slots run.parts.items) }
+        requires found { PackedOffers self.old memory.now (Found run.id run.slots run.draft) }
         ensures { Fetches self.old memory.now result self.new }
     {
         let alloc = self.base.allocator();
-        let Run { id, slots, parts } = run;
-        let Ok(bytes) = gather(alloc, memory, parts.as_slice(), FIRST_BYTES) else {
+        let Run { id, slots, draft } = run;
+        let Ok(bytes) = gather(alloc, memory, &draft, FIRST_BYTES) else {
             return Err(RingFault::NoMemory);
         };
-        match self.base.accept(id, slots, parts) {
+        match self.base.accept(id, slots, draft) {
             Ok(chain) => Ok(Some(Fetched { chain, bytes })),
             Err(_) => Err(RingFault::NoMemory),
         }
@@ -126,15 +135,21 @@ impl Ring for PackedRing {
         if let Some(fault) = self.base.broken() {
             return Err(fault);
         }
+        if !self.has_next(memory) {
+            return Ok(None);
+        }
         match self.next(memory) {
-            Ok(None) => Ok(None),
-            Ok(Some(run)) => self.take(memory, run),
+            Ok(run) => self.take(memory, run),
             Err(RingFault::NoMemory) => Err(RingFault::NoMemory),
             Err(fault) => {
                 self.base.break_with(fault);
                 Err(fault)
             }
         }
+    }
+
+    fn is_idle(&self, memory: &GuestMem) -> bool {
+        !self.base.is_broken() && !self.has_next(memory)
     }
 
     fn finish(

@@ -28,6 +28,19 @@ pub(crate) fn number_at(memory: &GuestMem, addr: u64) -> u16
     LittleEndian::read_u16(&bytes)
 }
 
+/// The slot that is reached once so many slots were passed. Counts below 2^64 are divided as such,
+/// which is far cheaper.
+fn slot_after(passed: u128, size: u16) -> u16
+    requires { 0 < size }
+    ensures { result ≡ passed % size }
+{
+    if passed < 1 << 64 {
+        (passed as u64 % size as u64) as u16
+    } else {
+        (passed % size as u128) as u16
+    }
+}
+
 /// Where the slot lies that is reached once so many slots were passed.
 pub(crate) fn place_of(layout: &Layout, passed: u128) -> u64
     requires some { 0 < layout.now.size }
@@ -35,7 +48,7 @@ pub(crate) fn place_of(layout: &Layout, passed: u128) -> u64
     ensures place { result ≡ layout.now.desc + 16 * (passed % layout.now.size) }
     ensures inside { result + 16 ≤ layout.now.desc + 16 * layout.now.size }
 {
-    layout.desc + 16 * (passed % layout.size as u128) as u64
+    layout.desc + 16 * slot_after(passed, layout.size) as u64
 }
 
 /// The wrap counter once so many slots were passed.
@@ -43,7 +56,11 @@ pub(crate) fn wrap_at(size: u16, passed: u128) -> bool
     requires { 0 < size }
     ensures { result ≡ wrap_counter size passed }
 {
-    passed / size as u128 % 2 == 0
+    if passed < 1 << 64 {
+        passed as u64 / size as u64 % 2 == 0
+    } else {
+        passed / size as u128 % 2 == 0
+    }
 }
 
 /// The descriptor in the slot that is reached once so many slots were passed.

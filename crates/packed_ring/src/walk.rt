@@ -7,7 +7,7 @@ ghost use Rattle.packed_ring.specs.Inner.{IsRun, PackedFailsOrLacks};
 
 use crate::slots::descriptor_at;
 use guest_mem::GuestMem;
-use ring_core::{Before, Descriptor, Layout, Part, RingFault};
+use ring_core::{Before, Descriptor, Draft, Layout, RingFault};
 use std::alloc::Global;
 
 /// A run of slots that is a chain.
@@ -15,7 +15,7 @@ use std::alloc::Global;
 pub struct Run {
     pub id: u16,
     pub slots: u16,
-    pub parts: Vec<Part>,
+    pub draft: Draft,
 }
 
 /// The first thing wrong with a descriptor, in a memory and a ring of these sizes.
@@ -38,6 +38,23 @@ fn check(before: &Before, d: &Descriptor, memory: u64, size: u16) -> Result<(), 
     }
 }
 
+/// What is answered where there is no room for the chain in the slots from there on: what is wrong
+/// with its first descriptor, and want of memory where nothing is.
+#[cold]
+fn fault_without_room(memory: &GuestMem, layout: &Layout, passed: u128) -> RingFault
+    requires some { 0 < layout.now.size }
+    requires inside { layout.now.desc + 16 * layout.now.size ≤ length memory.now }
+    requires small { length memory.now ≤ 2 ^ 28 }
+    ensures { PackedFailsOrLacks no_features memory.now layout.now passed result }
+{
+    let before = Before::nothing();
+    let first = descriptor_at(memory, layout, passed);
+    match check(&before, &first, memory.size(), layout.size) {
+        Ok(()) => RingFault::NoMemory,
+        Err(fault) => fault,
+    }
+}
+
 /// The chain in the slots from there on, or the first thing wrong along it.
 pub(crate) fn walk(
     alloc: Global,
@@ -54,21 +71,23 @@ pub(crate) fn walk(
         (λ fault. PackedFailsOrLacks no_features memory.now layout.now passed fault) }
 {
     let bytes = memory.size();
-    let mut parts = Vec::new(alloc);
+    let Ok(mut draft) = Draft::new(alloc) else {
+        return Err(fault_without_room(memory, layout, passed));
+    };
     let mut before = Before::nothing();
     'along: for step in 0..layout.size {
         let d = descriptor_at(memory, layout, passed + step as u128);
         if let Err(fault) = check(&before, &d, bytes, layout.size) {
             return Err(fault);
         }
-        if parts.push(d.part()).is_err() {
+        if draft.push(d.part()).is_err() {
             return Err(RingFault::NoMemory);
         }
         if !d.goes_on() {
             return Ok(Run {
                 id: d.next_or_id,
                 slots: step + 1,
-                parts,
+                draft,
             });
         }
         before = before.with(&d);

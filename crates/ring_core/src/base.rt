@@ -5,8 +5,7 @@ ghost use Rattle.ring_core.specs.State.{under, accepting, using, breaking, openi
 ghost use Rattle.ring_core.specs.Sound.{IsSound};
 ghost use Rattle.ring_core.specs.Parts.{PartsFit};
 
-use crate::chain::Chain;
-use crate::descriptor::Part;
+use crate::chain::{Chain, Draft};
 use crate::fault::RingFault;
 use crate::layout::{Features, Form, Layout};
 use crate::log::{QueueLog, Ticket};
@@ -152,6 +151,13 @@ impl RingBase {
         self.broken
     }
 
+    /// Whether a fault broke it.
+    pub fn is_broken(&self) -> bool
+        ensures { result ≡ is_some self.now.broken }
+    {
+        self.broken.is_some()
+    }
+
     /// Whether a chain with this head or id is outstanding.
     pub fn is_outstanding(&self, id: u16) -> bool
         ensures { result ≡ is_some (under self.now id) }
@@ -175,15 +181,15 @@ impl RingBase {
 
     /// A chain that was found is accepted. Refused where the table of outstanding chains can't grow, or
     /// the log can count no more.
-    pub fn accept(&mut self, id: u16, slots: u16, parts: Vec<Part>) -> Result<Chain, AllocError>
+    pub fn accept(&mut self, id: u16, slots: u16, draft: Draft) -> Result<Chain, AllocError>
         requires free { under self.old id ≡ None }
         requires in_range { id < length self.old.outstanding }
-        requires fit { PartsFit self.old.memory parts.items }
+        requires fit { PartsFit self.old.memory draft }
         ensures chain { IfOk result (λ c. c ≡ record {
           ticket = next_ticket self.old;
           id = id;
           slots = slots;
-          parts = parts.items;
+          parts = draft;
           memory = self.old.memory;
         }) }
         ensures ok { OnOk result (self.new ≡ accepting self.old id slots) }
@@ -202,7 +208,7 @@ impl RingBase {
             return Err(refused);
         }
         self.accepted_slots += slots as u128;
-        Ok(Chain::of(ticket, id, slots, parts, self.memory))
+        Ok(Chain::of(ticket, id, slots, draft, self.memory))
     }
 
     /// An outstanding chain is used. It takes no memory.

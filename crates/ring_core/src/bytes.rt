@@ -5,7 +5,7 @@ ghost use Rattle.guest_mem.specs.Memory.{with_bytes};
 ghost use Rattle.ring_core.specs.Parts.{PartsFit, inside, readable_of, readable_bytes, writable_total};
 ghost use Rattle.ring_core.specs.Writes.{all_written, scatter_writes};
 
-use crate::chain::{Chain, total_readable};
+use crate::chain::{Chain, Draft};
 use crate::descriptor::Part;
 use guest_mem::GuestMem;
 use std::alloc::{AllocError, Global};
@@ -38,20 +38,20 @@ fn append_part(
     }
 }
 
-/// The first readable bytes of the parts, at most `most` of them. For rings.
+/// The first readable bytes of a chain that was found, at most `most` of them. For rings.
 pub fn gather(
     alloc: Global,
     memory: &GuestMem,
-    parts: &[Part],
+    draft: &Draft,
     most: usize,
 ) -> Result<Vec<u8>, AllocError>
-    requires fit { PartsFit (length memory.now) parts.now }
+    requires fit { PartsFit (length memory.now) draft.now }
     requires most { most < 2 ^ 32 }
-    ensures { IfOk result (λ bytes. bytes.items ≡ take most (readable_bytes memory.now parts.now)) }
+    ensures { IfOk result (λ bytes. bytes.items ≡ take most (readable_bytes memory.now draft.now)) }
 {
-    let total = total_readable(parts).min(most as u64);
+    let total = draft.readable_len().min(most as u64);
     let mut bytes = Vec::with_capacity(alloc, total as usize)?;
-    for part in parts {
+    for part in draft.parts() {
         append_part(memory, part, &mut bytes, most)?;
     }
     Ok(bytes)

@@ -2,18 +2,49 @@
 
 use crate::descriptor::Part;
 use crate::log::Ticket;
+use smallvec::SmallVec;
+use std::alloc::{AllocError, Global};
 use std::marker::Model;
+
+/// How many parts a chain has room for without a further allocation.
+const FEW_PARTS: usize = 4;
+
+/// A chain where it stands in memory. A chain that moves is a pointer to it.
+#[derive(Debug, Drop)]
+pub(crate) struct Body {
+    ticket: Ticket,
+    id: u16,
+    slots: u16,
+    memory: u64,
+    readable_len: u64,
+    writable_len: u64,
+    parts: SmallVec<Part, FEW_PARTS>,
+}
+
+/// The room of a chain, with the parts that were found of it, seen as the list of them. For rings.
+#[derive(Debug, Drop)]
+pub struct Draft {
+    body: Box<Body>,
+}
+
+impl Model for Draft {
+    ghost use Rattle.std.specs.Prelude.{◌≡◌, ◌%◌, ◌^◌, List};
+    ghost use Rattle.ring_core.specs.declared.descriptor.Part.{Part};
+    ghost use Rattle.ring_core.specs.Parts.{readable_total, writable_total};
+
+    ghost Value = { List Part };
+
+    ghost view = { λ d. d.body.value.parts.items };
+
+    ghost invariant = { λ d.
+        (d.body.value.readable_len ≡ readable_total d.body.value.parts.items % 2 ^ 64)
+        × (d.body.value.writable_len ≡ writable_total d.body.value.parts.items % 2 ^ 64) };
+}
 
 /// A chain that was fetched and not completed. It is moved, never copied.
 #[derive(Debug, Drop)]
 pub struct Chain {
-    ticket: Ticket,
-    id: u16,
-    slots: u16,
-    parts: Vec<Part>,
-    memory: u64,
-    readable_len: u64,
-    writable_len: u64,
+    body: Box<Body>,
 }
 
 impl Model for Chain {
@@ -24,63 +55,111 @@ impl Model for Chain {
 
     ghost use Rattle.ring_core.specs.Parts.{readable_total, writable_total, PartsFit};
 
-    ghost view = { λ c. record { ticket = c.ticket; id = c.id; slots = c.slots; parts = c.parts.items; memory = c.memory } };
+    ghost view = { λ c. record {
+      ticket = c.body.value.ticket;
+      id = c.body.value.id;
+      slots = c.body.value.slots;
+      parts = c.body.value.parts.items;
+      memory = c.body.value.memory;
+    } };
 
     ghost invariant = { λ c.
-        (c.readable_len ≡ readable_total c.parts.items)
-        × (c.writable_len ≡ writable_total c.parts.items)
-        × PartsFit c.memory c.parts.items };
+        (c.body.value.readable_len ≡ readable_total c.body.value.parts.items)
+        × (c.body.value.writable_len ≡ writable_total c.body.value.parts.items)
+        × PartsFit c.body.value.memory c.body.value.parts.items };
 }
 
-ghost use Rattle.std.specs.Prelude.{◌≡◌, ◌≤◌, ◌<◌, ◌^◌};
+ghost use Rattle.std.specs.Prelude.{◌≡◌, ◌≤◌, ◌%◌, ◌^◌, ◌∷◌, ◌++◌, [], cond, IfOk, OnOk, OnErr};
 ghost use Rattle.ring_core.specs.Parts.{readable_total, writable_total, PartsFit};
 
-/// How many bytes of the parts can be read.
-pub(crate) fn total_readable(parts: &[Part]) -> u64
-    requires { readable_total parts.now < 2 ^ 64 }
-    ensures { result ≡ readable_total parts.now }
+/// How many bytes of a part can be read.
+fn readable_in(part: &Part) -> u64
+    ensures { result ≡ cond part.now.writable 0 part.now.len }
 {
-    parts
-        .iter()
-        .map(|p| if p.writable { 0 } else { p.len as u64 })
-        .sum()
+    if part.writable { 0 } else { part.len as u64 }
 }
 
-/// How many bytes of the parts can be written.
-fn total_writable(parts: &[Part]) -> u64
-    requires { writable_total parts.now < 2 ^ 64 }
-    ensures { result ≡ writable_total parts.now }
+/// How many bytes of a part can be written.
+fn writable_in(part: &Part) -> u64
+    ensures { result ≡ cond part.now.writable part.now.len 0 }
 {
-    parts
-        .iter()
-        .map(|p| if p.writable { p.len as u64 } else { 0 })
-        .sum()
+    if part.writable { part.len as u64 } else { 0 }
+}
+
+impl Draft {
+    /// No parts yet. It takes the chain's memory: as long as the parts are few, nothing more is taken.
+    pub fn new(alloc: Global) -> Result<Draft, AllocError>
+        ensures { IfOk result (λ draft. draft ≡ []) }
+    {
+        let body = Body {
+            ticket: Ticket {
+                queue: 0,
+                number: 0,
+            },
+            id: 0,
+            slots: 0,
+            memory: 0,
+            readable_len: 0,
+            writable_len: 0,
+            parts: SmallVec::new(alloc),
+        };
+        match Box::new(alloc, body) {
+            Ok(body) => Ok(Draft { body }),
+            Err(_) => Err(AllocError),
+        }
+    }
+
+    /// One part more.
+    pub fn push(&mut self, part: Part) -> Result<(), AllocError>
+        ensures ok { OnOk result (self.new ≡ self.old ++ part ∷ []) }
+        ensures err { OnErr result (self.new ≡ self.old) }
+    {
+        let readable = readable_in(&part);
+        let writable = writable_in(&part);
+        match self.body.parts.push(part) {
+            Ok(()) => {
+                self.body.readable_len = self.body.readable_len.wrapping_add(readable);
+                self.body.writable_len = self.body.writable_len.wrapping_add(writable);
+                Ok(())
+            }
+            Err(_) => Err(AllocError),
+        }
+    }
+
+    /// How many of its bytes can be read, modulo 2^64.
+    pub(crate) fn readable_len(&self) -> u64
+        ensures { result ≡ readable_total self.now % 2 ^ 64 }
+    {
+        self.body.readable_len
+    }
+
+    /// The parts, in order.
+    pub fn parts(&self) -> &[Part]
+        ensures { result.now ≡ self.now }
+    {
+        self.body.parts.as_slice()
+    }
 }
 
 impl Chain {
     /// A chain that was found.
-    pub(crate) fn of(ticket: Ticket, id: u16, slots: u16, parts: Vec<Part>, memory: u64) -> Chain
-        requires { PartsFit memory parts.items }
-        ensures { result ≡ record { ticket = ticket; id = id; slots = slots; parts = parts.items; memory = memory } }
+    pub(crate) fn of(ticket: Ticket, id: u16, slots: u16, draft: Draft, memory: u64) -> Chain
+        requires { PartsFit memory draft }
+        ensures { result ≡ record { ticket = ticket; id = id; slots = slots; parts = draft; memory = memory } }
     {
-        let readable_len = total_readable(parts.as_slice());
-        let writable_len = total_writable(parts.as_slice());
-        Chain {
-            ticket,
-            id,
-            slots,
-            parts,
-            memory,
-            readable_len,
-            writable_len,
-        }
+        let Draft { mut body } = draft;
+        body.ticket = ticket;
+        body.id = id;
+        body.slots = slots;
+        body.memory = memory;
+        Chain { body }
     }
 
     /// Its ticket.
     pub fn ticket(&self) -> Ticket
         ensures { result ≡ self.now.ticket }
     {
-        self.ticket
+        self.body.ticket
     }
 
     /// How many of its bytes the device can read, at most 2^32.
@@ -88,7 +167,7 @@ impl Chain {
         ensures len { result ≡ readable_total self.now.parts }
         ensures bounded { result ≤ 2 ^ 32 }
     {
-        self.readable_len
+        self.body.readable_len
     }
 
     /// How many of its bytes the device can write, at most 2^32.
@@ -96,28 +175,28 @@ impl Chain {
         ensures len { result ≡ writable_total self.now.parts }
         ensures bounded { result ≤ 2 ^ 32 }
     {
-        self.writable_len
+        self.body.writable_len
     }
 
     /// The size in bytes of the memory that it was fetched from.
     pub fn memory(&self) -> u64
         ensures { result ≡ self.now.memory }
     {
-        self.memory
+        self.body.memory
     }
 
     /// Its head in a split queue, its id in a packed one.
     pub fn id(&self) -> u16
         ensures { result ≡ self.now.id }
     {
-        self.id
+        self.body.id
     }
 
     /// How many slots of the ring it takes: 1 in a split queue.
     pub fn slots(&self) -> u16
         ensures { result ≡ self.now.slots }
     {
-        self.slots
+        self.body.slots
     }
 
     /// Its parts, in order.
@@ -125,7 +204,7 @@ impl Chain {
         ensures parts { result.now ≡ self.now.parts }
         ensures fit { PartsFit self.now.memory self.now.parts }
     {
-        self.parts.as_slice()
+        self.body.parts.as_slice()
     }
 }
 

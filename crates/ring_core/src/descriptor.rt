@@ -40,7 +40,7 @@ impl Flags for DescriptorFlags {
 }
 
 /// One buffer of a chain.
-#[derive(Clone, Copy, Debug, PartialEq, Eq)]
+#[derive(Clone, Copy, Debug, Default, PartialEq, Eq)]
 pub struct Part {
     /// Where it begins in guest memory.
     pub addr: u64,

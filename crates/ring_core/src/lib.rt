@@ -23,7 +23,7 @@ pub use answered::{Answered, Completion};
 pub use base::RingBase;
 pub use before::Before;
 pub use bytes::{FIRST_BYTES, gather, scatter};
-pub use chain::{Chain, Fetched};
+pub use chain::{Chain, Draft, Fetched};
 pub use descriptor::{Descriptor, DescriptorFlags, Part};
 pub use fault::RingFault;
 pub use laws::{

@@ -4,7 +4,7 @@ ghost use Rattle.std.specs.Prelude.{◌≡◌, ◌↔◌, ◌<◌, ◌≤◌, le
 ghost use Rattle.ring_core.specs.State.{RingState, Owns, using};
 ghost use Rattle.ring_core.specs.Sound.{IsSound, outstanding_count};
 ghost use Rattle.ring_core.specs.Writes.{all_written};
-ghost use Rattle.ring_core.specs.Offer.{used_writes, wants_notice};
+ghost use Rattle.ring_core.specs.Offer.{Offers, Nothing, used_writes, wants_notice};
 ghost use Rattle.ring_core.specs.Fetch.{Fetches};
 
 use crate::answered::{Answered, Completion};
@@ -26,6 +26,12 @@ pub trait Ring {
     fn fetch(&mut self, memory: &GuestMem) -> Result<Option<Fetched>, RingFault>
         requires { length memory.now ≡ (state self.old).memory }
         ensures { Fetches (state self.old) memory.now result (state self.new) };
+
+    /// Whether a fetch would find nothing: the cheap test before one. A broken queue isn't idle.
+    /// Called with a memory that `fits`.
+    fn is_idle(&self, memory: &GuestMem) -> bool
+        requires { length memory.now ≡ (state self.now).memory }
+        ensures { IsTrue result ↔ Offers (state self.now) memory.now Nothing };
 
     /// The part of `complete` that is the queue's own; `complete` alone can call it.
     fn finish(&mut self, memory: &mut GuestMem, chain: Chain, len: u32, leave: Completion) -> Ticket

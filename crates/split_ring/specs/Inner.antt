@@ -1,10 +1,10 @@
 -- What the ring's own functions answer to one another. No promise stands on these: public clauses cite what ring_core
 -- defines.
-use Rattle.std.specs.Prelude.{ℕ, ◌≡◌, ◌≢◌, List, length, Option, Some, None, Result, Ok, Err}
+use Rattle.std.specs.Prelude.{ℕ, ◌≡◌, List, length, None, Result, Ok, Err}
 use Rattle.ring_core.specs.State.{RingState}
 use Rattle.ring_core.specs.Walk.{nothing_before}
-use Rattle.ring_core.specs.Split.{ahead, next_head, entry_wrong, in_table, split_wrong, SplitFails}
-use Rattle.ring_core.specs.Offer.{SplitOffers, Nothing, Found, Refused, BeginsInForm}
+use Rattle.ring_core.specs.Split.{in_table, split_wrong, SplitFails}
+use Rattle.ring_core.specs.Offer.{SplitOffers, Found, Refused, BeginsInForm}
 use Rattle.split_ring.specs.declared.ring.Candidate.{Candidate}
 use Rattle.ring_core.specs.declared.layout.Features.{Features}
 use Rattle.ring_core.specs.declared.layout.Form.TheVariants.{Split}
@@ -17,18 +17,11 @@ SplitFailsOrLacks features m table size head NoMemory =
     split_wrong features (length m) size nothing_before (in_table m table head) ≡ None
 SplitFailsOrLacks features m table size head f = SplitFails features m table size head f
 
--- the head that the next entry names, or what is wrong with it
-abbrev pub NamesHead : RingState → List ℕ → Result (Option ℕ) RingFault → Type 0
-NamesHead s m (Ok None) = ahead s m ≡ 0
-NamesHead s m (Ok (Some head)) = (ahead s m ≢ 0) × (entry_wrong s m ≡ None) × (head ≡ next_head s m)
-NamesHead s m (Err f) = (ahead s m ≢ 0) × (entry_wrong s m ≡ Some f)
-
 -- the offer of an unbroken queue; memory is wanted only where a chain begins
 abbrev pub SplitFaultFound : RingState → List ℕ → RingFault → Type 0
 SplitFaultFound s m NoMemory = BeginsInForm Split s m
 SplitFaultFound s m f = SplitOffers s m (Refused f)
 
-abbrev pub SplitFinds : RingState → List ℕ → Result (Option Candidate) RingFault → Type 0
-SplitFinds s m (Ok None) = SplitOffers s m Nothing
-SplitFinds s m (Ok (Some c)) = SplitOffers s m (Found c.head 1 c.parts.items)
+abbrev pub SplitFinds : RingState → List ℕ → Result Candidate RingFault → Type 0
+SplitFinds s m (Ok c) = SplitOffers s m (Found c.head 1 c.draft)
 SplitFinds s m (Err f) = SplitFaultFound s m f

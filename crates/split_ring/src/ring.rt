@@ -5,7 +5,7 @@ use crate::placement::check_layout;
 use crate::walk::walk;
 use guest_mem::GuestMem;
 use ring_core::{
-    Chain, Completion, FIRST_BYTES, Features, Fetched, Layout, LayoutFault, Part, QueueLog, Ring,
+    Chain, Completion, Draft, FIRST_BYTES, Features, Fetched, Layout, LayoutFault, QueueLog, Ring,
     RingBase, RingFault, Ticket, gather,
 };
 use std::alloc::Global;
@@ -18,7 +18,7 @@ const NO_INTERRUPT: u16 = 1;
 #[derive(Debug, Drop)]
 pub struct Candidate {
     head: u16,
-    parts: Vec<Part>,
+    draft: Draft,
 }
 
 /// A split virtqueue, seen as its plain value. It takes its memory from the allocator that it
@@ -73,23 +73,40 @@ impl SplitRing {
 }
 
 impl SplitRing {
-    ghost use Rattle.std.specs.Prelude.{◌≡◌, length};
-    ghost use Rattle.split_ring.specs.Inner.{NamesHead, SplitFinds};
+    ghost use Rattle.std.specs.Prelude.{◌≡◌, ◌≢◌, ◌%◌, length, MatchResult, None, Some};
+    ghost use Rattle.ring_core.specs.Split.{ahead as ahead_of, entry_wrong, next_head};
+    ghost use Rattle.split_ring.specs.Inner.{SplitFinds};
 
-    /// The head that the next entry of the available ring names.
-    fn entry(&self, memory: &GuestMem) -> Result<Option<u16>, RingFault>
+    /// How many chains were accepted, as the available ring's index counts them.
+    fn accepted(&self) -> u16
+        ensures { result ≡ length self.now.log.accepted % 65536 }
+    {
+        (self.base.log().accepted() % 65536) as u16
+    }
+
+    /// How many entries of the available ring weren't accepted yet.
+    fn ahead(&self, memory: &GuestMem) -> u16
         requires { length memory.now ≡ self.now.memory }
-        ensures { NamesHead self.now memory.now result }
+        ensures { result ≡ ahead_of self.now memory.now }
+    {
+        let accepted = self.accepted();
+        number_at(memory, self.base.layout().driver + 2).wrapping_sub(accepted)
+    }
+
+    /// The head that the next entry of the available ring names, where so many weren't accepted
+    /// yet.
+    fn entry(&self, memory: &GuestMem, ahead: u16) -> Result<u16, RingFault>
+        requires fits { length memory.now ≡ self.now.memory }
+        requires some { ahead ≡ ahead_of self.now memory.now }
+        ensures { MatchResult result
+            (λ head. (entry_wrong self.now memory.now ≡ None) × (head ≡ next_head self.now memory.now))
+            (λ fault. entry_wrong self.now memory.now ≡ Some fault) }
     {
         let layout = self.base.layout();
-        let accepted = (self.base.log().accepted() % 65536) as u16;
-        let ahead = number_at(memory, layout.driver + 2).wrapping_sub(accepted);
-        if ahead == 0 {
-            return Ok(None);
-        }
         if ahead > layout.size {
             return Err(RingFault::IndexJump);
         }
+        let accepted = self.accepted();
         let place = layout.driver + 4 + 2 * (accepted % layout.size) as u64;
         let head = number_at(memory, place);
         if head >= layout.size {
@@ -98,30 +115,27 @@ impl SplitRing {
         if self.base.is_outstanding(head) {
             return Err(RingFault::AlreadyOutstanding);
         }
-        Ok(Some(head))
+        Ok(head)
     }
 
-    /// The next chain.
-    fn next(&self, memory: &GuestMem) -> Result<Option<Candidate>, RingFault>
-        requires { length memory.now ≡ self.now.memory }
+    /// The next chain, where so many weren't accepted yet.
+    fn next(&self, memory: &GuestMem, ahead: u16) -> Result<Candidate, RingFault>
+        requires fits { length memory.now ≡ self.now.memory }
+        requires is { ahead ≡ ahead_of self.now memory.now }
+        requires some { ahead ≢ 0 }
         ensures { SplitFinds self.now memory.now result }
     {
-        match self.entry(memory) {
-            Ok(None) => Ok(None),
+        let head = self.entry(memory, ahead)?;
+        let layout = self.base.layout();
+        match walk(
+            self.base.allocator(),
+            memory,
+            layout.desc,
+            layout.size,
+            head,
+        ) {
+            Ok(draft) => Ok(Candidate { head, draft }),
             Err(fault) => Err(fault),
-            Ok(Some(head)) => {
-                let layout = self.base.layout();
-                match walk(
-                    self.base.allocator(),
-                    memory,
-                    layout.desc,
-                    layout.size,
-                    head,
-                ) {
-                    Ok(parts) => Ok(Some(Candidate { head, parts })),
-                    Err(fault) => Err(fault),
-                }
-            }
         }
     }
 }
@@ -139,15 +153,15 @@ impl SplitRing {
     ) -> Result<Option<Fetched>, RingFault>
         requires fits { length memory.now ≡ self.old.memory }
         requires unbroken { self.old.broken ≡ None }
-        requires found { SplitOffers self.old memory.now (Found candidate.head 1 candidate.parts.items) }
+        requires found { SplitOffers self.old memory.now (Found candidate.head 1 candidate.draft) }
         ensures { Fetches self.old memory.now result self.new }
     {
         let alloc = self.base.allocator();
-        let Candidate { head, parts } = candidate;
-        let Ok(bytes) = gather(alloc, memory, parts.as_slice(), FIRST_BYTES) else {
+        let Candidate { head, draft } = candidate;
+        let Ok(bytes) = gather(alloc, memory, &draft, FIRST_BYTES) else {
             return Err(RingFault::NoMemory);
         };
-        match self.base.accept(head, 1, parts) {
+        match self.base.accept(head, 1, draft) {
             Ok(chain) => Ok(Some(Fetched { chain, bytes })),
             Err(_) => Err(RingFault::NoMemory),
         }
@@ -161,15 +175,22 @@ impl Ring for SplitRing {
         if let Some(fault) = self.base.broken() {
             return Err(fault);
         }
-        match self.next(memory) {
-            Ok(None) => Ok(None),
-            Ok(Some(candidate)) => self.take(memory, candidate),
+        let ahead = self.ahead(memory);
+        if ahead == 0 {
+            return Ok(None);
+        }
+        match self.next(memory, ahead) {
+            Ok(candidate) => self.take(memory, candidate),
             Err(RingFault::NoMemory) => Err(RingFault::NoMemory),
             Err(fault) => {
                 self.base.break_with(fault);
                 Err(fault)
             }
         }
+    }
+
+    fn is_idle(&self, memory: &GuestMem) -> bool {
+        !self.base.is_broken() && self.ahead(memory) == 0
     }
 
     fn finish(

@@ -7,7 +7,7 @@ ghost use Rattle.split_ring.specs.Inner.{SplitFailsOrLacks};
 
 use crate::areas::descriptor_at;
 use guest_mem::GuestMem;
-use ring_core::{Before, Descriptor, Part, RingFault};
+use ring_core::{Before, Descriptor, Draft, RingFault};
 use std::alloc::Global;
 
 /// The first thing wrong with a descriptor, in a memory and a table of these sizes.
@@ -34,6 +34,23 @@ fn check(before: &Before, d: &Descriptor, memory: u64, size: u16) -> Result<(), 
     }
 }
 
+/// What is answered where there is no room for the chain at a head: what is wrong with its first
+/// descriptor, and want of memory where nothing is.
+#[cold]
+fn fault_without_room(memory: &GuestMem, table: u64, size: u16, head: u16) -> RingFault
+    requires inside { table + 16 * size ≤ length memory.now }
+    requires small { length memory.now ≤ 2 ^ 28 }
+    requires head { head < size }
+    ensures { SplitFailsOrLacks no_features memory.now table size head result }
+{
+    let before = Before::nothing();
+    let first = descriptor_at(memory, table, head);
+    match check(&before, &first, memory.size(), size) {
+        Ok(()) => RingFault::NoMemory,
+        Err(fault) => fault,
+    }
+}
+
 /// The parts of the chain at a head of a table, or the first thing wrong along it.
 pub(crate) fn walk(
     alloc: Global,
@@ -41,16 +58,18 @@ pub(crate) fn walk(
     table: u64,
     size: u16,
     head: u16,
-) -> Result<Vec<Part>, RingFault>
+) -> Result<Draft, RingFault>
     requires inside { table + 16 * size ≤ length memory.now }
     requires small { length memory.now ≤ 2 ^ 28 }
     requires head { head < size }
     ensures { MatchResult result
-        (λ parts. SplitChain no_features memory.now table size head parts.items)
+        (λ draft. SplitChain no_features memory.now table size head draft)
         (λ fault. SplitFailsOrLacks no_features memory.now table size head fault) }
 {
     let bytes = memory.size();
-    let mut parts = Vec::new(alloc);
+    let Ok(mut draft) = Draft::new(alloc) else {
+        return Err(fault_without_room(memory, table, size, head));
+    };
     let mut before = Before::nothing();
     let mut number = head;
     'along: for _step in 0..size {
@@ -58,11 +77,11 @@ pub(crate) fn walk(
         if let Err(fault) = check(&before, &d, bytes, size) {
             return Err(fault);
         }
-        if parts.push(d.part()).is_err() {
+        if draft.push(d.part()).is_err() {
             return Err(RingFault::NoMemory);
         }
         if !d.goes_on() {
-            return Ok(parts);
+            return Ok(draft);
         }
         before = before.with(&d);
         number = d.next_or_id;

@@ -3,4 +3,4 @@ use Rattle.packed_ring.proofs.BySlot.{Walked}
 use Rattle.packed_ring.proofs.walk.walk.Given as goal
 
 abbrev pub invariant-along : goal.invariant-along
-invariant-along l = Walked no_features l.memory l.layout l.passed l.step l.before l.parts.items
+invariant-along l = Walked no_features l.memory l.layout l.passed l.step l.before l.draft

@@ -3,4 +3,4 @@ use Rattle.split_ring.proofs.Path.{Walked}
 use Rattle.split_ring.proofs.walk.walk.Given as goal
 
 abbrev pub invariant-along : goal.invariant-along
-invariant-along l = Walked no_features l.memory l.table l.size l.head l._step l.before l.number l.parts.items
+invariant-along l = Walked no_features l.memory l.table l.size l.head l._step l.before l.number l.draft

@@ -6,13 +6,13 @@ use Rattle.packed_ring.proofs.ring.PackedRing.next.Goals as goal
 pub returns-then-is_outstanding : goal.returns-then-is_outstanding
 returns-then-is_outstanding c =
     let some : is_available c.args.self.now c.args.memory.now ≡ true = search rules in
-    let chain : PackedChain c.args.self.now.features c.args.memory.now c.args.self.now.layout c.args.self.now.accepted_slots c.in-Ok.run'.id c.in-Ok.run'.slots c.in-Ok.run'.parts.items = search rules in
+    let chain : PackedChain c.args.self.now.features c.args.memory.now c.args.self.now.layout c.args.self.now.accepted_slots c.in-Ok.run'.id c.in-Ok.run'.slots c.in-Ok.run'.draft = search rules in
     let bad : whole_wrong c.args.self.now c.in-Ok.run'.id c.in-Ok.run'.slots ≡ Some AlreadyOutstanding = search rules in
-    (some, inr (c.in-Ok.run'.id, c.in-Ok.run'.slots, c.in-Ok.run'.parts.items, chain, bad))
+    (some, inr (c.in-Ok.run'.id, c.in-Ok.run'.slots, c.in-Ok.run'.draft, chain, bad))
 
 pub returns-then-outstanding-run : goal.returns-then-outstanding-run
 returns-then-outstanding-run c =
     let some : is_available c.args.self.now c.args.memory.now ≡ true = search rules in
-    let chain : PackedChain c.args.self.now.features c.args.memory.now c.args.self.now.layout c.args.self.now.accepted_slots c.in-Ok.run'.id c.in-Ok.run'.slots c.in-Ok.run'.parts.items = search rules in
+    let chain : PackedChain c.args.self.now.features c.args.memory.now c.args.self.now.layout c.args.self.now.accepted_slots c.in-Ok.run'.id c.in-Ok.run'.slots c.in-Ok.run'.draft = search rules in
     let bad : whole_wrong c.args.self.now c.in-Ok.run'.id c.in-Ok.run'.slots ≡ Some RingOverrun = search rules in
-    (some, inr (c.in-Ok.run'.id, c.in-Ok.run'.slots, c.in-Ok.run'.parts.items, chain, bad))
+    (some, inr (c.in-Ok.run'.id, c.in-Ok.run'.slots, c.in-Ok.run'.draft, chain, bad))

@@ -4,7 +4,7 @@ use Rattle.ring_core.proofs.Sound.{sound-accept, put_back}
 use Rattle.ring_core.proofs.base.RingBase.accept.Goals as goal
 
 -- the table once the chain was put and taken back
-as_before : (c : goal.After-drop-parts-in-Err) → c.remove.new.self ≡ c.self.inside.outstanding
+as_before : (c : goal.After-drop-draft-inside-in-Err) → c.remove.new.self ≡ c.self.inside.outstanding
 as_before c =
     let free : get_or c.self.inside.outstanding c.args.id None ≡ None = rw (← c.self.view_is) at c.requires.free in
     let lt : c.args.id < length c.self.inside.outstanding = rw (← c.self.view_is) at c.requires.in_range in
