@@ -75,7 +75,7 @@ decided units bytes n = decide_reading (reading bytes n.writable) units n bytes
 
 -- the answer fits into the chain; the unit is there, the data that the command takes are, and there is room for those that it gives
 abbrev pub Suits : ℕ → ChainLengths → Decision → Type 0
-Suits units n (Direct answer) = (length answer ≤ 144) × (length answer ≤ n.writable)
+Suits units n (Direct answer) = length answer ≤ n.writable
 Suits units n (Enter place r) =
     (place < units) × (51 + (need_of r.command).out ≤ n.readable) × (108 + (need_of r.command).into ≤ n.writable)
 

@@ -1,4 +1,5 @@
 pub mod Inventory
 pub mod Answers
+pub mod Direct
 pub mod UnitRequest
 pub mod Decision

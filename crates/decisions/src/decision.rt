@@ -4,8 +4,9 @@ ghost use Rattle.std.specs.Prelude.{◌≡◌, ◌+◌, ◌<◌, ◌≤◌, ◌^
 ghost use Rattle.cdb.specs.Decoding.{command};
 ghost use Rattle.decisions.specs.Decision.{decided, goes_both_ways, decide_command, fails, IfDirect, Suits};
 
-use crate::answer::{ChainLengths, DirectAnswer};
+use crate::answer::ChainLengths;
 use crate::attribute::attribute_of;
+use crate::direct::DirectAnswer;
 use crate::inventory::Inventory;
 use crate::unit_request::UnitRequest;
 use cdb::{decode, need};

@@ -5,11 +5,13 @@
 mod answer;
 mod attribute;
 mod decision;
+mod direct;
 mod inventory;
 mod unit_request;
 
-pub use answer::{ChainLengths, DirectAnswer, MOST_DIRECT_BYTES, response_ok};
+pub use answer::{ChainLengths, response_ok};
 pub use attribute::TaskAttribute;
 pub use decision::{Decision, decide};
+pub use direct::{DirectAnswer, DirectBytes, MOST_DIRECT_BYTES, MOST_OTHER_BYTES};
 pub use inventory::{Inventory, MOST_UNITS, UnitSpec, are_rising};
 pub use unit_request::UnitRequest;

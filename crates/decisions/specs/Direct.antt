@@ -1,0 +1,32 @@
+-- What is told without a unit, and its bytes.
+use Rattle.std.specs.Prelude.{ℕ, ◌≤◌, ◌+◌, ◌^◌, List, [], ⊤}
+use Rattle.cdb.specs.Need.{need_of}
+use Rattle.block_commands.specs.Absent.{absent_reply}
+use Rattle.block_commands.specs.PlainReply.{refusal}
+use Rattle.decisions.specs.Answers.{failed, answer_of_reply, status_reply}
+use Rattle.decisions.specs.declared.answer.ChainLengths.{ChainLengths}
+use Rattle.decisions.specs.declared.direct.Told.{Told}
+use Rattle.decisions.specs.declared.direct.Told.TheVariants as told
+
+-- the bytes over a chain of these lengths
+abbrev pub told_bytes : ChainLengths → Told → List ℕ
+told_bytes n told.Nothing = []
+told_bytes n (told.Failed code) = failed code
+told_bytes n (told.Status status) = answer_of_reply n (status_reply status)
+told_bytes n (told.Refused sense) = answer_of_reply n (refusal sense)
+told_bytes n (told.Absent command) = answer_of_reply n (absent_reply command)
+told_bytes n (told.Other bytes) = bytes.items
+
+-- a chain of these lengths has room for a response and so many bytes
+pub record HasRoomFor (n : ChainLengths) (bytes : ℕ) : Type 0 where
+  pub sum : n.readable + n.writable ≤ 2 ^ 32
+  pub room : 108 + bytes ≤ n.writable
+
+-- it can be told over a chain of these lengths
+abbrev pub CanTell : ChainLengths → Told → Type 0
+CanTell n told.Nothing = ⊤
+CanTell n (told.Failed code) = ⊤
+CanTell n (told.Status status) = HasRoomFor n 0
+CanTell n (told.Refused sense) = HasRoomFor n 0
+CanTell n (told.Absent command) = HasRoomFor n (need_of command).into
+CanTell n (told.Other bytes) = ⊤

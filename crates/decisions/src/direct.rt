@@ -1,0 +1,228 @@
+//! An answer that needs no unit.
+
+ghost use Rattle.std.specs.Prelude.{◌≡◌, ◌+◌, ◌≤◌, ◌^◌, ◌++◌, [], length};
+ghost use Rattle.cdb.specs.Need.{need_of};
+ghost use Rattle.block_commands.specs.Absent.{absent_reply};
+ghost use Rattle.block_commands.specs.PlainReply.{refusal};
+ghost use Rattle.decisions.specs.Answers.{failed, answer_of_reply, status_reply};
+
+use crate::answer::{ChainLengths, response_ok};
+use arrayvec::ArrayVec;
+use block_commands::{ABSENT_BYTES, CHECK_CONDITION, exec_absent};
+use cdb::Command;
+use scsi_codec::{RESPONSE_BYTES, Response, ResponseCode, write_response};
+use sense::Sense;
+use std::marker::Model;
+
+/// The most bytes of an answer that needs no unit: a response, and the standard data of INQUIRY.
+pub const MOST_DIRECT_BYTES: usize = RESPONSE_BYTES + ABSENT_BYTES;
+
+/// The most bytes of an answer of another table.
+pub const MOST_OTHER_BYTES: usize = 5;
+
+/// The bytes of an answer that needs no unit. They stand in place, so that making them takes no memory.
+pub type DirectBytes = ArrayVec<u8, MOST_DIRECT_BYTES>;
+
+/// What is told without a unit.
+#[derive(Debug, Drop)]
+pub(crate) enum Told {
+    /// No byte.
+    Nothing,
+    /// A response other than OK.
+    Failed(ResponseCode),
+    /// A status with no sense data.
+    Status(u8),
+    /// CHECK CONDITION with sense data.
+    Refused(Sense),
+    /// What a LUN that its target lacks is answered.
+    Absent(Command),
+    /// Bytes that another table gives.
+    Other(ArrayVec<u8, MOST_OTHER_BYTES>),
+}
+
+/// An answer that needs no unit: its bytes are 0, or 108 and the data behind them, or those of another table. It is small,
+/// and its bytes are made where they are written, so that neither takes memory.
+#[derive(Debug, Drop)]
+pub struct DirectAnswer {
+    lengths: ChainLengths,
+    told: Told,
+}
+
+impl Model for DirectAnswer {
+    ghost use Rattle.std.specs.Prelude.{List, ℕ};
+    ghost use Rattle.decisions.specs.Direct.{told_bytes, CanTell};
+
+    ghost Value = { List ℕ };
+
+    ghost view = { λ a. told_bytes a.lengths a.told };
+
+    ghost invariant = { λ a. CanTell a.lengths a.told };
+}
+
+/// A response, and the data behind it.
+fn with_data(head: &[u8; RESPONSE_BYTES], payload: &[u8]) -> DirectBytes
+    requires { length payload.now ≤ ABSENT_BYTES }
+    ensures { result.items ≡ head.now ++ payload.now }
+{
+    let mut bytes = ArrayVec::new();
+    let Ok(()) = bytes.try_extend_from_slice(head) else {
+        unreachable!()
+    };
+    let Ok(()) = bytes.try_extend_from_slice(payload) else {
+        unreachable!()
+    };
+    bytes
+}
+
+/// A response other than OK.
+fn failed_bytes(code: ResponseCode) -> DirectBytes
+    ensures { result.items ≡ failed code }
+{
+    let head = write_response(&Response {
+        code,
+        status: 0,
+        residual: 0,
+        sense: None,
+    });
+    with_data(&head, &[])
+}
+
+/// CHECK CONDITION with this sense data.
+fn refused_bytes(lengths: &ChainLengths, sense: Sense) -> DirectBytes
+    requires sum { lengths.now.readable + lengths.now.writable ≤ 2 ^ 32 }
+    requires room { RESPONSE_BYTES ≤ lengths.now.writable }
+    ensures { result.items ≡ answer_of_reply lengths.now (refusal sense) }
+{
+    let head = response_ok(lengths, CHECK_CONDITION, Some(sense), 0);
+    with_data(&head, &[])
+}
+
+/// A status with no sense data.
+fn status_bytes(lengths: &ChainLengths, status: u8) -> DirectBytes
+    requires sum { lengths.now.readable + lengths.now.writable ≤ 2 ^ 32 }
+    requires room { RESPONSE_BYTES ≤ lengths.now.writable }
+    ensures { result.items ≡ answer_of_reply lengths.now (status_reply status) }
+{
+    let head = response_ok(lengths, status, None, 0);
+    with_data(&head, &[])
+}
+
+/// What a LUN that its target lacks is answered.
+fn absent_bytes(lengths: &ChainLengths, command: &Command) -> DirectBytes
+    requires sum { lengths.now.readable + lengths.now.writable ≤ 2 ^ 32 }
+    requires room { RESPONSE_BYTES + (need_of command.now).into ≤ lengths.now.writable }
+    ensures { result.items ≡ answer_of_reply lengths.now (absent_reply command.now) }
+{
+    let reply = exec_absent(command);
+    let head = response_ok(lengths, reply.status, reply.sense, reply.moved);
+    with_data(&head, reply.payload.as_slice())
+}
+
+/// These bytes.
+fn other_bytes(from: &[u8]) -> DirectBytes
+    requires { length from.now ≤ MOST_OTHER_BYTES }
+    ensures { result.items ≡ from.now }
+{
+    let mut bytes = ArrayVec::new();
+    let Ok(()) = bytes.try_extend_from_slice(from) else {
+        unreachable!()
+    };
+    bytes
+}
+
+/// The lengths where an answer doesn't depend on them.
+const NO_LENGTHS: ChainLengths = ChainLengths {
+    readable: 0,
+    writable: 0,
+};
+
+impl DirectAnswer {
+    /// No byte: the chain is used with length 0.
+    pub fn nothing() -> DirectAnswer
+        ensures { result ≡ [] }
+    {
+        DirectAnswer {
+            lengths: NO_LENGTHS,
+            told: Told::Nothing,
+        }
+    }
+
+    /// A response other than OK.
+    pub fn failed(code: ResponseCode) -> DirectAnswer
+        ensures bytes { result ≡ failed code }
+        ensures len { length result ≡ RESPONSE_BYTES }
+    {
+        DirectAnswer {
+            lengths: NO_LENGTHS,
+            told: Told::Failed(code),
+        }
+    }
+
+    /// CHECK CONDITION with this sense data.
+    pub fn refused(lengths: &ChainLengths, sense: Sense) -> DirectAnswer
+        requires sum { lengths.now.readable + lengths.now.writable ≤ 2 ^ 32 }
+        requires room { RESPONSE_BYTES ≤ lengths.now.writable }
+        ensures bytes { result ≡ answer_of_reply lengths.now (refusal sense) }
+        ensures len { length result ≡ RESPONSE_BYTES }
+    {
+        DirectAnswer {
+            lengths: *lengths,
+            told: Told::Refused(sense),
+        }
+    }
+
+    /// A status with no sense data, which moves nothing, as BUSY and TASK SET FULL.
+    pub fn of_status(lengths: &ChainLengths, status: u8) -> DirectAnswer
+        requires sum { lengths.now.readable + lengths.now.writable ≤ 2 ^ 32 }
+        requires room { RESPONSE_BYTES ≤ lengths.now.writable }
+        ensures bytes { result ≡ answer_of_reply lengths.now (status_reply status) }
+        ensures len { length result ≡ RESPONSE_BYTES }
+    {
+        DirectAnswer {
+            lengths: *lengths,
+            told: Told::Status(status),
+        }
+    }
+
+    /// What a LUN that its target lacks is answered.
+    pub(crate) fn absent(lengths: &ChainLengths, command: &Command) -> DirectAnswer
+        requires sum { lengths.now.readable + lengths.now.writable ≤ 2 ^ 32 }
+        requires room { RESPONSE_BYTES + (need_of command.now).into ≤ lengths.now.writable }
+        ensures bytes { result ≡ answer_of_reply lengths.now (absent_reply command.now) }
+        ensures fits { length result ≤ lengths.now.writable }
+    {
+        DirectAnswer {
+            lengths: *lengths,
+            told: Told::Absent(*command),
+        }
+    }
+
+    /// These bytes, which another table gives.
+    pub fn of_bytes(from: &[u8]) -> DirectAnswer
+        requires { length from.now ≤ MOST_OTHER_BYTES }
+        ensures { result ≡ from.now }
+    {
+        let mut bytes = ArrayVec::new();
+        let Ok(()) = bytes.try_extend_from_slice(from) else {
+            unreachable!()
+        };
+        DirectAnswer {
+            lengths: NO_LENGTHS,
+            told: Told::Other(bytes),
+        }
+    }
+
+    /// Its bytes.
+    pub fn bytes(&self) -> DirectBytes
+        ensures { result.items ≡ self.now }
+    {
+        match &self.told {
+            Told::Nothing => ArrayVec::new(),
+            Told::Failed(code) => failed_bytes(*code),
+            Told::Status(status) => status_bytes(&self.lengths, *status),
+            Told::Refused(sense) => refused_bytes(&self.lengths, *sense),
+            Told::Absent(command) => absent_bytes(&self.lengths, command),
+            Told::Other(bytes) => other_bytes(bytes.as_slice()),
+        }
+    }
+}
