@@ -52,7 +52,7 @@ pub record AreOwned (w : PlainWorld) : Type 0 where
   pub function : FunctionOwns w w.function
   pub buffers : AllByRecursion (λ (c : PlainChain). (c.ticket.queue ≡ 1) × IsOwned w c) w.buffers
 
--- the event buffers that are held are among the chains that the event queue has outstanding
+-- the event queue has at least as many chains outstanding as event buffers are held
 abbrev pub BuffersAreOutstanding : PlainWorld → Type 0
 BuffersAreOutstanding w =
     (q : PlainQueue) → slice_get w.queues 1 ≡ Some q

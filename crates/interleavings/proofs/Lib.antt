@@ -11,3 +11,4 @@ pub mod Beginning
 pub mod Gone
 pub mod Functions
 pub mod Ending
+pub mod Logs

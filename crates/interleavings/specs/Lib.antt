@@ -5,3 +5,4 @@ pub mod Answering
 pub mod Ordering
 pub mod Functions
 pub mod Events
+pub mod Promise

@@ -11,6 +11,12 @@ ghost use Rattle.interleavings.specs.Answering.{AreAnswered};
 ghost use Rattle.interleavings.specs.Ordering.{AreInOrder};
 ghost use Rattle.interleavings.specs.Functions.{AreOver};
 ghost use Rattle.interleavings.specs.Events.{AreEvents};
+ghost use Rattle.interleavings.specs.Promise.{AreLogs, IsPromised};
+
+use deeds::laws::{
+    a_trace_is_that_of_its_deeds, each_chain_stands_in_one_place, logs_are_numbered,
+    memory_is_that_of_the_writes,
+};
 
 /// The history of each unit is lawful, has the steps that the deeds tell, in their order, and no others, and begins as
 /// the unit stood at the opening of the device; and a step is taken only on a unit that is there.
@@ -66,3 +72,30 @@ pub fn events_are_given_in_order()
     ensures { (old : PlainWorld) (trace : List Occurrence) (w : PlainWorld) (r : Reached old trace w) →
         AreEvents old (deeds_of old trace w r.runs) w }
 {}
+
+/// The log of each queue is lawful: its accepted chains are numbered 0, 1, 2 and so on, and its used ones are its own,
+/// accepted, and distinct.
+pub fn logs_are_lawful()
+    ensures { (old : PlainWorld) (trace : List Occurrence) (w : PlainWorld) → Reached old trace w → AreLogs w }
+{
+    logs_are_numbered();
+    each_chain_stands_in_one_place();
+}
+
+/// The promise of the device is kept by every trace that reached a world: all that these laws say of it, in one record.
+pub fn the_promise_is_kept()
+    ensures { (old : PlainWorld) (trace : List Occurrence) (w : PlainWorld) (r : Reached old trace w) →
+        IsPromised old trace w r }
+{
+    a_trace_is_that_of_its_deeds();
+    histories_are_told();
+    tasks_enter_once();
+    answers_are_true();
+    logs_are_lawful();
+    each_chain_stands_in_one_place();
+    commands_keep_their_order();
+    functions_end_after_their_tasks();
+    memory_is_that_of_the_writes();
+    none_is_lost();
+    events_are_given_in_order();
+}
