@@ -1,14 +1,19 @@
 -- A job that is answered, as a deed.
-use Rattle.std.proofs.Common.{ℕ, ◌≡◌, true, List, refl, ap, sym, ◌∙◌, subst}
+use Rattle.std.proofs.Common.{ℕ, ◌≡◌, true, List, length, Option, Some, None, refl, ap, sym, ◌∙◌, subst}
+use Rattle.std.specs.Prelude.{is_some, IfSome}
 use Rattle.ring_core.specs.State.{PlainChain}
 use Rattle.ring_core.specs.declared.log.Ticket.{Ticket}
-use Rattle.ring_core.specs.Writes.{all_written}
+use Rattle.ring_core.specs.Writes.{all_written, scatter_writes}
+use Rattle.ring_core.specs.Offer.{used_writes}
+use Rattle.ring_core.proofs.Scattering.{written_in_order}
 use Rattle.decisions.specs.declared.answer.ChainLengths.{ChainLengths}
 use Rattle.history.specs.Endings.{Ending, answer_of}
 use Rattle.task_set.specs.Jobs.{PlainJob}
-use Rattle.deeds.specs.Parts.{Outcome, Hand, lengths_of, answer_writes}
+use Rattle.deeds.specs.Parts.{Outcome, Hand, lengths_of}
 use Rattle.phases.specs.Queue.{Lent, completing}
 use Rattle.phases.specs.Answering.{Answers, told_writes}
+use Rattle.phases.specs.Outcomes.{WritesWhole, WritesEnding}
+use Rattle.phases.specs.Parts.{held_hand, job_held}
 
 -- memory once a job was answered
 abbrev written : Lent → List ℕ → PlainJob → Outcome → List ℕ
@@ -23,32 +28,40 @@ answers_plainly : (x : PlainJob) (o : Outcome) (q : Lent) (m : List ℕ)
     → Answers (Hand.Done x o) q m true (used q m x o) (written q m x o) (Hand.Answered x.unit x.chain.ticket)
 answers_plainly x o q m = (λ k inventory s. record { asks = λ missed. refl; queue = refl; memory = refl }, refl)
 
--- a job whose commit is over is answered by what came of it
-pub answered : (h : Hand) (x y : PlainJob) (e : Ending) (q q' : Lent) (m m' : List ℕ) (c : PlainChain)
-    (n : ChainLengths) (bytes : List ℕ) (place : ℕ) (t : Ticket)
-    → Hand.Done x (Outcome.Ended e) ≡ h → y ≡ x → c ≡ y.chain → n ≡ lengths_of y.chain → bytes ≡ answer_of n e
-    → place ≡ y.unit → t ≡ c.ticket
-    → m' ≡ all_written m (answer_writes q.ring c bytes) → q' ≡ completing m' c q
-    → Answers h q m true q' m' (Hand.Answered place t)
-answered h x y e q q' m m' c n bytes place t h_is y_is c_is n_is bytes_is place_is t_is m_is q_is =
+-- a job that ended so is answered by its ending
+answered_so : (x : PlainJob) (e : Ending) (q q' : Lent) (m n m' : List ℕ) (len : ℕ) (c : PlainChain) (place : ℕ)
+    (t : Ticket) → WritesWhole x e m len n → place ≡ x.unit → c ≡ x.chain → t ≡ c.ticket
+    → m' ≡ all_written n (used_writes q.ring c.id len) → q' ≡ completing m' c q
+    → Answers (Hand.Done x (Outcome.Ended e)) q m true q' m' (Hand.Answered place t)
+answered_so x e q q' m n m' len c place t wrote place_is chain t_is m_is q_is =
     let o = Outcome.Ended e in
-    let chain : c ≡ x.chain = c_is ∙ ap (λ (j : PlainJob). j.chain) y_is in
-    let told : bytes ≡ answer_of (lengths_of x.chain) e =
-    bytes_is ∙ ap (λ (k : ChainLengths). answer_of k e) (n_is ∙ ap (λ (j : PlainJob). lengths_of j.chain) y_is) in
+    let bytes = answer_of (lengths_of x.chain) e in
+    let first = scatter_writes x.chain.parts 0 bytes in
     let memory : m' ≡ written q m x o =
     m_is
-    ∙ ap (λ (d : PlainChain). all_written m (answer_writes q.ring d bytes)) chain
-    ∙ ap (λ (bs : List ℕ). all_written m (answer_writes q.ring x.chain bs)) told in
+    ∙ ap (λ (d : PlainChain). all_written n (used_writes q.ring d.id len)) chain
+    ∙ ap (λ (k : ℕ). all_written n (used_writes q.ring x.chain.id k)) wrote.written
+    ∙ ap (λ (k : List ℕ). all_written k (used_writes q.ring x.chain.id (length bytes))) wrote.memory
+    ∙ sym (written_in_order m first (used_writes q.ring x.chain.id (length bytes))) in
     let queue : q' ≡ used q m x o =
     q_is ∙ ap (λ (d : PlainChain). completing m' d q) chain ∙ ap (λ (k : List ℕ). completing k x.chain q) memory in
     let hand : Hand.Answered place t ≡ Hand.Answered x.unit x.chain.ticket =
-    ap (λ (p : ℕ). Hand.Answered p t) (place_is ∙ ap (λ (j : PlainJob). j.unit) y_is)
+    ap (λ (p : ℕ). Hand.Answered p t) place_is
     ∙ ap (λ (k : Ticket). Hand.Answered x.unit k) (t_is ∙ ap (λ (d : PlainChain). d.ticket) chain) in
-    subst (λ (g : Hand). Answers g q m true q' m' (Hand.Answered place t)) h_is
-    (subst (λ (a : Lent). Answers (Hand.Done x o) q m true a m' (Hand.Answered place t)) (sym queue)
+    subst (λ (a : Lent). Answers (Hand.Done x o) q m true a m' (Hand.Answered place t)) (sym queue)
     (subst (λ (k : List ℕ). Answers (Hand.Done x o) q m true (used q m x o) k (Hand.Answered place t)) (sym memory)
     (subst (λ (g : Hand). Answers (Hand.Done x o) q m true (used q m x o) (written q m x o) g) (sym hand)
-    (answers_plainly x o q m))))
+    (answers_plainly x o q m)))
+
+-- a job whose commit is over is answered by what came of it
+pub answered : (x : PlainJob) (ending : Option Ending) (q q' : Lent) (m n m' : List ℕ) (len : ℕ) (c : PlainChain)
+    (place : ℕ) (t : Ticket) → is_some ending ≡ true → WritesEnding (record { job = x; ending = ending }) m len n
+    → IfSome (job_held (held_hand x ending)) (λ (y : PlainJob). (place ≡ y.unit) × (c ≡ y.chain))
+    → t ≡ c.ticket → m' ≡ all_written n (used_writes q.ring c.id len) → q' ≡ completing m' c q
+    → Answers (held_hand x ending) q m true q' m' (Hand.Answered place t)
+answered x None q q' m n m' len c place t over wrote took t_is m_is q_is = absurd (cc)
+answered x (Some e) q q' m n m' len c place t over wrote took t_is m_is q_is =
+    answered_so x e q q' m n m' len c place t wrote took.0 took.1 t_is m_is q_is
 
 -- these many readable and writable bytes
 abbrev pub the_lengths : ℕ → ℕ → ChainLengths

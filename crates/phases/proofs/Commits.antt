@@ -1,5 +1,5 @@
 -- What a commit at a unit is, as a deed.
-use Rattle.std.proofs.Common.{ℕ, ◌≡◌, true, refl, ap, ◌∙◌, subst}
+use Rattle.std.proofs.Common.{ℕ, ◌≡◌, true, false, Option, Some, None, refl, ap, sym, ◌∙◌, subst}
 use Rattle.std.specs.Prelude.{is_some}
 use Rattle.history.specs.Endings.{Ending}
 use Rattle.history.specs.Contents.{reply_after}
@@ -12,7 +12,8 @@ use Rattle.unit_history.specs.declared.answers.Outcome.TheVariants as outcome
 use Rattle.deeds.specs.Parts.{Outcome, Hand}
 use Rattle.deeds.specs.Deeds.{Deed}
 use Rattle.phases.specs.Doing.{DoesUnit}
-use Rattle.phases.specs.Outcomes.{PlainDone}
+use Rattle.phases.specs.Outcomes.{PlainHeld}
+use Rattle.phases.specs.Parts.{held_hand}
 use Rattle.phases.specs.Units.{IsCommitting, ending_after}
 use Rattle.phases.specs.Units as units
 
@@ -34,17 +35,21 @@ committed k x u v outcome.Busy (e, of, want, step) =
 committed k x u v outcome.Unknown (cannot, same) =
     (Deed.Lose k x, (refl, refl), record { asks = cannot; is = same }, refl)
 
+-- a job whose commit isn't over is to be committed
+still_to_commit : (x : PlainJob) (e : Option Ending) → is_some e ≡ false → held_hand x e ≡ Hand.Taken x
+still_to_commit x None is = refl
+still_to_commit x (Some e) is = absurd (cc)
+
 -- the hand whose job was committed then has what came of it
-pub taken : (h : Hand) (x : PlainJob) (u v : PlainUnit) (what : outcome_type.Outcome) (made : PlainDone)
-    → Hand.Taken x ≡ h → Commits u x what v → made ≡ record { job = x; ending = ending_of what }
-    → units.Commits h u true v (Hand.Done made.job (Outcome.Ended made.ending))
-taken h x u v what made is ran same =
-    subst (λ (g : Hand). units.Commits g u true v (Hand.Done made.job (Outcome.Ended made.ending))) is
+pub taken : (x : PlainJob) (e : Option Ending) (u v : PlainUnit) (what : outcome_type.Outcome) (made : PlainHeld)
+    → is_some e ≡ false → Commits u x what v → made ≡ record { job = x; ending = Some (ending_of what) }
+    → units.Commits (held_hand x e) u true v (held_hand made.job made.ending)
+taken x e u v what made not_over ran same =
+    subst (λ (g : Hand). units.Commits g u true v (held_hand made.job made.ending)) (sym (still_to_commit x e not_over))
     (λ k.
     let (d, of, does, ends) = committed k x u v what ran in (
       d,
       of,
       does,
-      ap (λ (y : PlainDone). Hand.Done y.job (Outcome.Ended y.ending)) same
-          ∙ ap (λ (e : Ending). Hand.Done x (Outcome.Ended e)) ends,
+      ap (λ (y : PlainHeld). held_hand y.job y.ending) same ∙ ap (λ (e : Ending). Hand.Done x (Outcome.Ended e)) ends,
     ))

@@ -7,6 +7,5 @@ pub mod Doing
 pub mod Fetching
 pub mod Units
 pub mod Answering
-pub mod Bytes
 pub mod EventQueue
 pub mod Resetting

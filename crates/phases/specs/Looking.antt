@@ -1,4 +1,4 @@
--- What a look at a queue answers. Only private functions cite it: no promise stands on it.
+-- What a look at a queue answers.
 use Rattle.std.specs.Prelude.{ℕ, ◌≡◌, ◌⊎◌, List, None, IsSome, Result, Ok, Err}
 use Rattle.ring_core.specs.State.{RingState, breaking}
 use Rattle.ring_core.specs.Offer.{Offers, Nothing, Refused, MayLackMemory}

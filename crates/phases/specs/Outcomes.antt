@@ -1,9 +1,10 @@
 -- What a chain or a job is answered with, as plain values.
-use Rattle.std.specs.Prelude.{ℕ, List, Option, Some, None}
+use Rattle.std.specs.Prelude.{ℕ, ◌≡◌, List, length, Option, Some, None, IfSome}
 use Rattle.ring_core.specs.State.{PlainChain}
-use Rattle.history.specs.Endings.{Ending}
+use Rattle.ring_core.specs.Writes.{all_written, scatter_writes}
+use Rattle.history.specs.Endings.{Ending, answer_of}
 use Rattle.task_set.specs.Jobs.{PlainJob}
-use Rattle.deeds.specs.Parts.{Outcome}
+use Rattle.deeds.specs.Parts.{Outcome, lengths_of}
 use Rattle.phases.specs.declared.refusal.Refusal.{Refusal}
 use Rattle.phases.specs.declared.refusal.Refusal.TheVariants as refusal
 
@@ -23,7 +24,16 @@ pub record PlainReady : Type 0 where
   pub chain : PlainChain
   pub outcome : Outcome
 
--- a job whose commit is over, and how it ended
-pub record PlainDone : Type 0 where
+-- a job in hand, and how it ended once its commit is over
+pub record PlainHeld : Type 0 where
   pub job : PlainJob
-  pub ending : Ending
+  pub ending : Option Ending
+
+-- what answers the job is written over its chain's parts, and has so many bytes
+pub record WritesWhole (x : PlainJob) (e : Ending) (m : List ℕ) (len : ℕ) (m' : List ℕ) : Type 0 where
+  pub written : len ≡ length (answer_of (lengths_of x.chain) e)
+  pub memory : m' ≡ all_written m (scatter_writes x.chain.parts 0 (answer_of (lengths_of x.chain) e))
+
+-- the same of a job whose commit is over
+abbrev pub WritesEnding : PlainHeld → List ℕ → ℕ → List ℕ → Type 0
+WritesEnding h m len m' = IfSome h.ending (λ e. WritesWhole h.job e m len m')

@@ -1,5 +1,7 @@
 -- What stands in a slot and in a hand, as plain values.
-use Rattle.std.specs.Prelude.{ℕ, Option, Some, None}
+use Rattle.std.specs.Prelude.{ℕ, Bool, true, false, Option, Some, None}
+use Rattle.history.specs.Endings.{Ending}
+use Rattle.task_set.specs.Jobs.{PlainJob}
 use Rattle.deeds.specs.Parts.{Outcome, Slot, Hand}
 use Rattle.phases.specs.declared.slot.Slot as declared_slot
 use Rattle.phases.specs.declared.slot.Slot.TheVariants as slot
@@ -11,10 +13,14 @@ slot_of slot.Empty = Slot.Empty
 slot_of (slot.Arrived x) = Slot.Arrived x
 slot_of (slot.Ready r) = Slot.Ready r.chain r.outcome
 
+-- a job is to be committed, or to be answered where its commit is over
+abbrev pub held_hand : PlainJob → Option Ending → Hand
+held_hand x None = Hand.Taken x
+held_hand x (Some e) = Hand.Done x (Outcome.Ended e)
+
 abbrev pub hand_of : declared_hand.Hand → Hand
 hand_of hand.Free = Hand.Free
-hand_of (hand.Taken x) = Hand.Taken x
-hand_of (hand.Done d) = Hand.Done d.job (Outcome.Ended d.ending)
+hand_of (hand.Held h) = held_hand h.job h.ending
 hand_of (hand.Answered place t) = Hand.Answered place t
 
 -- the unit that a request came for
@@ -23,16 +29,36 @@ arrived_unit Slot.Empty = None
 arrived_unit (Slot.Arrived x) = Some x.unit
 arrived_unit (Slot.Ready c o) = None
 
--- the unit that the hand's next phase works on
-abbrev pub hand_unit : Hand → Option ℕ
-hand_unit Hand.Free = None
-hand_unit (Hand.Taken x) = Some x.unit
-hand_unit (Hand.Done x o) = None
-hand_unit (Hand.Answered place t) = Some place
+-- a chain is to be answered
+abbrev pub is_ready : Slot → Bool
+is_ready Slot.Empty = false
+is_ready (Slot.Arrived x) = false
+is_ready (Slot.Ready c o) = true
+
+-- the job in the hand
+abbrev pub job_held : Hand → Option PlainJob
+job_held Hand.Free = None
+job_held (Hand.Taken x) = Some x
+job_held (Hand.Done x o) = Some x
+job_held (Hand.Answered place t) = None
+
+-- the unit at which the hand's job is to be committed
+abbrev pub committing_unit : Hand → Option ℕ
+committing_unit Hand.Free = None
+committing_unit (Hand.Taken x) = Some x.unit
+committing_unit (Hand.Done x o) = None
+committing_unit (Hand.Answered place t) = None
 
 -- the queue whose chain it is to answer
-abbrev pub hand_queue : Hand → Option ℕ
-hand_queue Hand.Free = None
-hand_queue (Hand.Taken x) = None
-hand_queue (Hand.Done x o) = Some x.chain.ticket.queue
-hand_queue (Hand.Answered place t) = None
+abbrev pub answering_queue : Hand → Option ℕ
+answering_queue Hand.Free = None
+answering_queue (Hand.Taken x) = None
+answering_queue (Hand.Done x o) = Some x.chain.ticket.queue
+answering_queue (Hand.Answered place t) = None
+
+-- the unit that the hand's task is to leave
+abbrev pub leaving_unit : Hand → Option ℕ
+leaving_unit Hand.Free = None
+leaving_unit (Hand.Taken x) = None
+leaving_unit (Hand.Done x o) = None
+leaving_unit (Hand.Answered place t) = Some place

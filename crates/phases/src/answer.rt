@@ -1,36 +1,49 @@
-//! The bytes that answer a request.
+//! Writing what answers a request into its chain.
 
 ghost use Rattle.std.specs.Prelude.{◌≡◌, ◌+◌, ◌≤◌, ◌<◌, ◌-◌, ◌^◌, length, IfSome};
+ghost use Rattle.ring_core.specs.Parts.{writable_total};
+ghost use Rattle.ring_core.specs.Writes.{all_written, scatter_writes};
 ghost use Rattle.block_commands.specs.PlainReply.{plain_of};
 ghost use Rattle.decisions.specs.Answers.{answer_of_reply};
 ghost use Rattle.history.specs.Endings.{answer_of, code_of};
 ghost use Rattle.unit_history.specs.Endings.{ending_of, ending_of_reply, FitsNeed};
-ghost use Rattle.phases.specs.Bytes.{bytes_of};
 
 use block_commands::{BUSY, Reply};
 use decisions::{ChainLengths, DirectAnswer, response_ok};
+use guest_mem::GuestMem;
 use history::Reason;
+use ring_core::{Chain, scatter};
 use scsi_codec::{RESPONSE_BYTES, ResponseCode};
 use unit_history::{Outcome, Receipt};
 
-/// The bytes that answer a request.
-#[derive(Debug, Drop)]
-pub enum Answer {
-    /// An answer without data of a unit.
-    Direct(DirectAnswer),
-    /// A response, and the data behind it.
-    Bytes([u8; RESPONSE_BYTES], Vec<u8>),
+/// Writes response OK with a reply.
+fn write_reply(memory: &mut GuestMem, chain: &Chain, lengths: &ChainLengths, reply: &Reply) -> u32
+    requires fits { length memory.old ≡ chain.now.memory }
+    requires sum { lengths.now.readable + lengths.now.writable ≤ 2 ^ 32 }
+    requires whole { lengths.now.writable ≡ writable_total chain.now.parts }
+    requires room { RESPONSE_BYTES ≤ lengths.now.writable }
+    requires less { lengths.now.writable < 2 ^ 32 }
+    requires payload { length reply.now.payload.items ≤ lengths.now.writable - RESPONSE_BYTES }
+    ensures written { result ≡ length (answer_of_reply lengths.now (plain_of reply.now)) }
+    ensures memory { memory.new
+        ≡ all_written memory.old (scatter_writes chain.now.parts 0 (answer_of_reply lengths.now (plain_of reply.now))) }
+    ensures size { length memory.new ≡ length memory.old }
+{
+    let _parts = chain.parts();
+    let head = response_ok(lengths, reply.status, reply.sense, reply.moved);
+    let first = scatter(memory, chain, 0, &head);
+    first + scatter(memory, chain, first, reply.payload.as_slice())
 }
 
-/// Response OK with a reply.
-fn of_reply(lengths: &ChainLengths, reply: Reply) -> Answer
-    requires sum { lengths.now.readable + lengths.now.writable ≤ 2 ^ 32 }
-    requires room { RESPONSE_BYTES ≤ lengths.now.writable }
-    ensures bytes { bytes_of result ≡ answer_of_reply lengths.now (plain_of reply) }
-    ensures len { length (bytes_of result) ≡ RESPONSE_BYTES + length reply.payload.items }
+/// Writes an answer that needs no unit.
+pub(crate) fn write_direct(memory: &mut GuestMem, chain: &Chain, answer: &DirectAnswer) -> u32
+    requires fits { length memory.old ≡ chain.now.memory }
+    requires room { length answer.now ≤ writable_total chain.now.parts }
+    ensures written { result ≡ length answer.now }
+    ensures memory { memory.new ≡ all_written memory.old (scatter_writes chain.now.parts 0 answer.now) }
+    ensures size { length memory.new ≡ length memory.old }
 {
-    let head = response_ok(lengths, reply.status, reply.sense, reply.moved);
-    Answer::Bytes(head, reply.payload)
+    scatter(memory, chain, 0, answer.bytes().as_slice())
 }
 
 /// The response code of a task that was marked (VIRTIO 1.2 §5.6.6.1).
@@ -43,36 +56,60 @@ fn code_of_reason(reason: Reason) -> ResponseCode
     }
 }
 
-/// What answers a job whose command ran: its reply, or FAILURE where the receipt lacks it.
-fn of_receipt(lengths: &ChainLengths, mut receipt: Receipt) -> Answer
+/// Writes what answers a job whose command ran: its reply, or FAILURE where the receipt lacks it.
+fn write_receipt(
+    memory: &mut GuestMem,
+    chain: &Chain,
+    lengths: &ChainLengths,
+    receipt: &Receipt,
+) -> u32
+    requires fits { length memory.old ≡ chain.now.memory }
     requires sum { lengths.now.readable + lengths.now.writable ≤ 2 ^ 32 }
+    requires whole { lengths.now.writable ≡ writable_total chain.now.parts }
     requires room { RESPONSE_BYTES ≤ lengths.now.writable }
     requires less { lengths.now.writable < 2 ^ 32 }
-    requires fits { IfSome receipt.reply (λ r. length r.payload ≤ lengths.now.writable - RESPONSE_BYTES) }
-    ensures bytes { bytes_of result ≡ answer_of lengths.now (ending_of_reply receipt.reply) }
-    ensures fits { length (bytes_of result) ≤ lengths.now.writable }
-    ensures small { length (bytes_of result) < 2 ^ 32 }
+    requires payload { IfSome receipt.now.reply (λ r. length r.payload ≤ lengths.now.writable - RESPONSE_BYTES) }
+    ensures written { result ≡ length (answer_of lengths.now (ending_of_reply receipt.now.reply)) }
+    ensures memory { memory.new ≡ all_written memory.old
+        (scatter_writes chain.now.parts 0 (answer_of lengths.now (ending_of_reply receipt.now.reply))) }
+    ensures size { length memory.new ≡ length memory.old }
 {
-    match receipt.take_reply() {
-        Some(reply) => of_reply(lengths, reply),
-        None => Answer::Direct(DirectAnswer::failed(ResponseCode::Failure)),
+    match receipt.reply() {
+        Some(reply) => write_reply(memory, chain, lengths, reply),
+        None => write_direct(memory, chain, &DirectAnswer::failed(ResponseCode::Failure)),
     }
 }
 
-/// What answers a job, by what came of its commit.
-pub fn of_outcome(lengths: &ChainLengths, outcome: Outcome) -> Answer
+/// Writes what answers a job over the writable parts of its chain, by what came of its commit: how many bytes it has.
+pub(crate) fn write_outcome(
+    memory: &mut GuestMem,
+    chain: &Chain,
+    lengths: &ChainLengths,
+    outcome: &Outcome,
+) -> u32
+    requires fits { length memory.old ≡ chain.now.memory }
     requires sum { lengths.now.readable + lengths.now.writable ≤ 2 ^ 32 }
+    requires whole { lengths.now.writable ≡ writable_total chain.now.parts }
     requires room { RESPONSE_BYTES ≤ lengths.now.writable }
     requires less { lengths.now.writable < 2 ^ 32 }
-    requires fits { FitsNeed (lengths.now.writable - RESPONSE_BYTES) outcome }
-    ensures bytes { bytes_of result ≡ answer_of lengths.now (ending_of outcome) }
-    ensures fits { length (bytes_of result) ≤ lengths.now.writable }
-    ensures small { length (bytes_of result) < 2 ^ 32 }
+    requires payload { FitsNeed (lengths.now.writable - RESPONSE_BYTES) outcome.now }
+    ensures written { result ≡ length (answer_of lengths.now (ending_of outcome.now)) }
+    ensures memory { memory.new ≡ all_written memory.old
+        (scatter_writes chain.now.parts 0 (answer_of lengths.now (ending_of outcome.now))) }
+    ensures size { length memory.new ≡ length memory.old }
 {
     match outcome {
-        Outcome::Reply(receipt) => of_receipt(lengths, receipt),
-        Outcome::Aborted(reason) => Answer::Direct(DirectAnswer::failed(code_of_reason(reason))),
-        Outcome::Busy => Answer::Direct(DirectAnswer::of_status(lengths, BUSY)),
-        Outcome::Unknown => Answer::Direct(DirectAnswer::failed(ResponseCode::Failure)),
+        Outcome::Reply(receipt) => write_receipt(memory, chain, lengths, receipt),
+        Outcome::Aborted(reason) => {
+            write_direct(
+                memory,
+                chain,
+                &DirectAnswer::failed(code_of_reason(*reason)),
+            )
+        }
+        Outcome::Busy => write_direct(memory, chain, &DirectAnswer::of_status(lengths, BUSY)),
+        Outcome::Unknown => {
+            write_direct(memory, chain, &DirectAnswer::failed(ResponseCode::Failure))
+        }
     }
 }

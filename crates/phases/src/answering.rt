@@ -1,57 +1,45 @@
 //! The steps that complete a chain.
 
-ghost use Rattle.std.specs.Prelude.{◌≡◌, ◌≤◌, ◌<◌, ◌^◌, length};
+ghost use Rattle.std.specs.Prelude.{◌≡◌, ◌≤◌, ◌<◌, ◌^◌, length, true, is_some, MatchOption, IfSome};
 ghost use Rattle.ring_core.specs.Parts.{writable_total};
-ghost use Rattle.ring_core.specs.Writes.{all_written, scatter_writes};
+ghost use Rattle.ring_core.specs.Writes.{all_written};
 ghost use Rattle.ring_core.specs.State.{Owns};
 ghost use Rattle.deeds.specs.Parts.{answer_writes};
-ghost use Rattle.phases.specs.Bytes.{bytes_of};
 ghost use Rattle.phases.specs.Queue.{completing};
-ghost use Rattle.phases.specs.Parts.{slot_of, hand_of};
+ghost use Rattle.deeds.specs.Parts as plain;
+ghost use Rattle.phases.specs.Doing.{MayComplete};
+ghost use Rattle.phases.specs.Parts.{slot_of, hand_of, job_held};
+ghost use Rattle.phases.specs.Outcomes.{WritesEnding};
 ghost use Rattle.phases.specs.Answering.{Directs, Answers, Responds};
 
-use crate::answer::{Answer, of_outcome};
+use crate::answer::write_direct;
 use crate::function::OpenFunction;
 use crate::hand::Hand;
+use crate::held::Held;
 use crate::queue::Queue;
 use crate::slot::Slot;
 use decisions::DirectAnswer;
 use guest_mem::GuestMem;
-use ring_core::{Answered, Chain, scatter};
+use ring_core::{Answered, Chain};
 use std::mem;
 use task_mgmt::ControlAnswer;
 
-/// Writes an answer over a chain's writable parts, and answers how many bytes it has.
-fn write_answer(memory: &mut GuestMem, chain: &Chain, answer: &Answer) -> u32
-    requires fits { length memory.old ≡ chain.now.memory }
-    requires room { length (bytes_of answer.now) ≤ writable_total chain.now.parts }
-    requires small { length (bytes_of answer.now) < 2 ^ 32 }
-    ensures written { result ≡ length (bytes_of answer.now) }
-    ensures memory { memory.new ≡ all_written memory.old (scatter_writes chain.now.parts 0 (bytes_of answer.now)) }
-    ensures size { length memory.new ≡ length memory.old }
-{
-    let _parts = chain.parts();
-    match answer {
-        Answer::Direct(direct) => scatter(memory, chain, 0, direct.as_slice()),
-        Answer::Bytes(head, payload) => {
-            let first = scatter(memory, chain, 0, head);
-            first + scatter(memory, chain, first, payload.as_slice())
-        }
-    }
-}
-
 /// Answers a chain, and uses it.
-fn answer_chain(queue: &mut Queue, memory: &mut GuestMem, chain: Chain, answer: &Answer) -> Answered
+fn answer_chain(
+    queue: &mut Queue,
+    memory: &mut GuestMem,
+    chain: Chain,
+    answer: &DirectAnswer,
+) -> Answered
     requires fits { length memory.old ≡ queue.old.ring.memory }
     requires owned { Owns queue.old.ring chain }
-    requires room { length (bytes_of answer.now) ≤ writable_total chain.parts }
-    requires small { length (bytes_of answer.now) < 2 ^ 32 }
+    requires room { length answer.now ≤ writable_total chain.parts }
     ensures ticket { result ≡ chain.ticket }
-    ensures memory { memory.new ≡ all_written memory.old (answer_writes queue.old.ring chain (bytes_of answer.now)) }
+    ensures memory { memory.new ≡ all_written memory.old (answer_writes queue.old.ring chain answer.now) }
     ensures size { length memory.new ≡ length memory.old }
     ensures queue { queue.new ≡ completing memory.new chain queue.old }
 {
-    let len = write_answer(memory, &chain, answer);
+    let len = write_direct(memory, &chain, answer);
     queue.complete(memory, chain, len)
 }
 
@@ -61,20 +49,48 @@ pub fn phase_direct(queue: &mut Queue, slot: &mut Slot, memory: &mut GuestMem) -
     ensures directs { Directs (slot_of slot.old) queue.old memory.old result queue.new memory.new (slot_of slot.new) }
     ensures size { length memory.new ≡ length memory.old }
 {
+    if !slot.is_ready() {
+        return false;
+    }
     match mem::replace(slot, Slot::Empty) {
         Slot::Ready(ready) => {
             let (chain, direct) = ready.into_parts();
             if !queue.may_complete(memory, &chain) {
                 return false;
             }
-            let _few = direct.as_slice();
-            let _answered = answer_chain(queue, memory, chain, &Answer::Direct(direct));
+            let _answered = answer_chain(queue, memory, chain, &direct);
             true
         }
-        other => {
-            *slot = other;
-            false
+        Slot::Empty | Slot::Arrived(_) => unreachable!(),
+    }
+}
+
+/// Writes what answers a job whose commit is over: how many bytes it has. `None` where the memory isn't the queue's, or
+/// the queue doesn't own the chain.
+fn write_held(queue: &Queue, memory: &mut GuestMem, held: &Held) -> Option<u32>
+    requires over { is_some held.now.ending ≡ true }
+    ensures owned { MatchOption result ((MayComplete queue.now memory.old held.now.job.chain → ⊥) × (memory.new ≡ memory.old))
+        (λ len. MayComplete queue.now memory.old held.now.job.chain × WritesEnding held.now memory.old len memory.new) }
+    ensures size { length memory.new ≡ length memory.old }
+{
+    if !queue.may_complete(memory, held.job().chain()) {
+        return None;
+    }
+    Some(held.write(memory))
+}
+
+/// Lets go of the job in a hand: its unit, and its chain.
+fn take_job(hand: &mut Hand) -> (usize, Chain)
+    requires held { is_some (job_held (hand_of hand.old)) ≡ true }
+    ensures job { IfSome (job_held (hand_of hand.old)) (λ x. (result.0 ≡ x.unit) × (result.1 ≡ x.chain)) }
+    ensures hand { hand_of hand.new ≡ plain.Hand.Free }
+{
+    match mem::replace(hand, Hand::Free) {
+        Hand::Held(held) => {
+            let job = held.into_job();
+            (job.unit(), job.into_chain())
         }
+        Hand::Free | Hand::Answered(_, _) => unreachable!(),
     }
 }
 
@@ -85,22 +101,22 @@ pub fn phase_answer(queue: &mut Queue, memory: &mut GuestMem, hand: &mut Hand) -
     ensures answers { Answers (hand_of hand.old) queue.old memory.old result queue.new memory.new (hand_of hand.new) }
     ensures size { length memory.new ≡ length memory.old }
 {
-    match mem::replace(hand, Hand::Free) {
-        Hand::Done(done) => {
-            let (job, outcome) = done.into_parts();
-            if !queue.may_complete(memory, job.chain()) {
+    let written = match hand {
+        Hand::Held(held) => {
+            if !held.is_over() {
                 return false;
             }
-            let unit = job.unit();
-            let answer = of_outcome(&job.lengths(), outcome);
-            let answered = answer_chain(queue, memory, job.into_chain(), &answer);
-            *hand = Hand::Answered(unit, answered);
+            write_held(queue, memory, held)
+        }
+        Hand::Free | Hand::Answered(_, _) => return false,
+    };
+    let (unit, chain) = take_job(hand);
+    match written {
+        Some(len) => {
+            *hand = Hand::Answered(unit, queue.complete(memory, chain, len));
             true
         }
-        other => {
-            *hand = other;
-            false
-        }
+        None => false,
     }
 }
 
@@ -127,7 +143,7 @@ pub fn phase_answer_tmf(
             }
             let response = ControlAnswer::of_function(finished.answer());
             let direct = DirectAnswer::of_bytes(response.as_slice());
-            let _answered = answer_chain(queue, memory, chain, &Answer::Direct(direct));
+            let _answered = answer_chain(queue, memory, chain, &direct);
             true
         }
         None => false,

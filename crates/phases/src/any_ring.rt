@@ -26,6 +26,13 @@ impl Ring for AnyRing {
         }
     }
 
+    fn is_idle(&self, memory: &GuestMem) -> bool {
+        match self {
+            AnyRing::Split(ring) => ring.is_idle(memory),
+            AnyRing::Packed(ring) => ring.is_idle(memory),
+        }
+    }
+
     fn finish(
         &mut self,
         memory: &mut GuestMem,

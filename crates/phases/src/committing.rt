@@ -3,7 +3,6 @@
 ghost use Rattle.phases.specs.Parts.{hand_of};
 ghost use Rattle.phases.specs.Units.{Commits, Leaves};
 
-use crate::done::Done;
 use crate::entering::has_places;
 use crate::hand::Hand;
 use std::mem;
@@ -15,16 +14,15 @@ use unit_history::{JobList, UnitState, Unknown};
 pub fn phase_commit(unit: &mut UnitState, hand: &mut Hand) -> bool
     ensures { Commits (hand_of hand.old) unit.old result unit.new (hand_of hand.new) }
 {
-    match mem::replace(hand, Hand::Free) {
-        Hand::Taken(job) => {
-            let outcome = unit.commit(&job);
-            *hand = Hand::Done(Done::new(job, outcome));
+    match hand {
+        Hand::Held(held) => {
+            if held.is_over() {
+                return false;
+            }
+            held.commit(unit);
             true
         }
-        other => {
-            *hand = other;
-            false
-        }
+        Hand::Free | Hand::Answered(_, _) => false,
     }
 }
 
@@ -34,7 +32,7 @@ pub fn phase_commit(unit: &mut UnitState, hand: &mut Hand) -> bool
 pub fn phase_leave(unit: &mut UnitState, hand: &mut Hand, out: &mut JobList) -> bool
     ensures { Leaves (hand_of hand.old) unit.old out.old result unit.new (hand_of hand.new) out.new }
 {
-    if !has_places(out) {
+    if hand.leaving_unit().is_none() || !has_places(out) {
         return false;
     }
     match mem::replace(hand, Hand::Free) {
@@ -44,9 +42,6 @@ pub fn phase_leave(unit: &mut UnitState, hand: &mut Hand, out: &mut JobList) -> 
                 Err(Unknown) => false,
             }
         }
-        other => {
-            *hand = other;
-            false
-        }
+        Hand::Free | Hand::Held(_) => unreachable!(),
     }
 }

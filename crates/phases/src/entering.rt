@@ -44,7 +44,7 @@ fn enter(unit: &mut UnitState, arrival: Arrival, out: &mut JobList) -> Slot
 pub fn phase_enter(unit: &mut UnitState, slot: &mut Slot, out: &mut JobList) -> bool
     ensures { Enters (slot_of slot.old) unit.old out.old result unit.new (slot_of slot.new) out.new }
 {
-    if !has_places(out) {
+    if slot.unit().is_none() || !has_places(out) {
         return false;
     }
     match mem::replace(slot, Slot::Empty) {
@@ -52,10 +52,6 @@ pub fn phase_enter(unit: &mut UnitState, slot: &mut Slot, out: &mut JobList) -> 
             *slot = enter(unit, arrival, out);
             true
         }
-        Slot::Empty => false,
-        Slot::Ready(ready) => {
-            *slot = Slot::Ready(ready);
-            false
-        }
+        Slot::Empty | Slot::Ready(_) => unreachable!(),
     }
 }

@@ -1,6 +1,6 @@
 //! What a seat has in hand between two steps.
 
-use crate::done::Done;
+use crate::held::Held;
 use ring_core::Answered;
 use unit_history::Job;
 
@@ -9,10 +9,8 @@ use unit_history::Job;
 pub enum Hand {
     /// Nothing.
     Free,
-    /// A job that is to be committed.
-    Taken(Job),
-    /// A job that is to be answered.
-    Done(Done),
+    /// A job that is to be committed, or is to be answered once its commit is over.
+    Held(Held),
     /// A task that is to leave its unit, by the unit's place in the inventory.
     Answered(usize, Answered),
 }
@@ -20,7 +18,14 @@ pub enum Hand {
 impl Hand {
     ghost use Rattle.std.specs.Prelude.{IsTrue, ◌↔◌, ◌≡◌};
     ghost use Rattle.deeds.specs.Parts as plain;
-    ghost use Rattle.phases.specs.Parts.{hand_of, hand_unit, hand_queue};
+    ghost use Rattle.phases.specs.Parts.{hand_of, committing_unit, leaving_unit, answering_queue};
+
+    /// A job that is to be committed.
+    pub fn taken(job: Job) -> Hand
+        ensures { hand_of result ≡ plain.Hand.Taken job }
+    {
+        Hand::Held(Held::new(job))
+    }
 
     /// Whether there is nothing in it.
     pub fn is_free(&self) -> bool
@@ -28,29 +33,47 @@ impl Hand {
     {
         match self {
             Hand::Free => true,
-            Hand::Taken(_) | Hand::Done(_) | Hand::Answered(_, _) => false,
+            Hand::Held(_) | Hand::Answered(_, _) => false,
         }
     }
 
-    /// The place in the inventory of the unit that its next phase works on; `None` where that is on a queue, or
-    /// nothing is in it.
-    pub fn unit(&self) -> Option<usize>
-        ensures { result ≡ hand_unit (hand_of self.now) }
+    /// The place in the inventory of the unit at which its job is to be committed; `None` where none is.
+    pub fn committing_unit(&self) -> Option<usize>
+        ensures { result ≡ committing_unit (hand_of self.now) }
     {
         match self {
-            Hand::Taken(job) => Some(job.unit()),
+            Hand::Held(held) => {
+                if held.is_over() {
+                    return None;
+                }
+                Some(held.job().unit())
+            }
+            Hand::Free | Hand::Answered(_, _) => None,
+        }
+    }
+
+    /// The place in the inventory of the unit that its task is to leave; `None` where none is.
+    pub fn leaving_unit(&self) -> Option<usize>
+        ensures { result ≡ leaving_unit (hand_of self.now) }
+    {
+        match self {
             Hand::Answered(unit, _) => Some(*unit),
-            Hand::Free | Hand::Done(_) => None,
+            Hand::Free | Hand::Held(_) => None,
         }
     }
 
     /// The queue of the chain that is to be answered next; `None` where none is.
-    pub fn queue(&self) -> Option<u16>
-        ensures { result ≡ hand_queue (hand_of self.now) }
+    pub fn answering_queue(&self) -> Option<u16>
+        ensures { result ≡ answering_queue (hand_of self.now) }
     {
         match self {
-            Hand::Done(done) => Some(done.job().chain().ticket().queue),
-            Hand::Free | Hand::Taken(_) | Hand::Answered(_, _) => None,
+            Hand::Held(held) => {
+                if !held.is_over() {
+                    return None;
+                }
+                Some(held.job().chain().ticket().queue)
+            }
+            Hand::Free | Hand::Answered(_, _) => None,
         }
     }
 }

@@ -118,7 +118,7 @@ impl Queue {
     ghost use Rattle.ring_core.specs.Offer.{used_writes};
     ghost use Rattle.phases.specs.Queue.{completing};
     ghost use Rattle.phases.specs.Doing.{MayComplete};
-    ghost use Rattle.phases.specs.Looking.{Looks};
+    ghost use Rattle.phases.specs.Looking.{IsIdle, Looks};
 
     /// A queue with this number at a place that its ring takes, of which nothing was fetched yet.
     /// `NoMemory` where its ring was refused memory.
@@ -160,6 +160,15 @@ impl Queue {
         ensures { IsTrue result ↔ MayComplete self.now memory.now chain.now }
     {
         self.ring.fits(memory) && self.ring.owns(chain)
+    }
+
+    /// Whether a fetch would find nothing to do: it is broken, or nothing is available. Called with a memory of the size
+    /// that it was made with.
+    pub fn is_silent(&self, memory: &GuestMem) -> bool
+        requires { length memory.now ≡ self.now.ring.memory }
+        ensures { IsTrue result ↔ IsIdle self.now.ring memory.now }
+    {
+        self.broken || self.ring.is_idle(memory)
     }
 
     /// Looks for the next chain.

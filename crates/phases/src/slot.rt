@@ -17,7 +17,7 @@ pub enum Slot {
 impl Slot {
     ghost use Rattle.std.specs.Prelude.{IsTrue, ◌↔◌, ◌≡◌};
     ghost use Rattle.deeds.specs.Parts as plain;
-    ghost use Rattle.phases.specs.Parts.{slot_of, arrived_unit};
+    ghost use Rattle.phases.specs.Parts.{slot_of, arrived_unit, is_ready};
 
     /// Whether nothing stands there.
     pub fn is_empty(&self) -> bool
@@ -26,6 +26,16 @@ impl Slot {
         match self {
             Slot::Empty => true,
             Slot::Arrived(_) | Slot::Ready(_) => false,
+        }
+    }
+
+    /// Whether a chain stands there that is to be answered.
+    pub fn is_ready(&self) -> bool
+        ensures { result ≡ is_ready (slot_of self.now) }
+    {
+        match self {
+            Slot::Ready(_) => true,
+            Slot::Empty | Slot::Arrived(_) => false,
         }
     }
 

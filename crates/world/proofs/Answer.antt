@@ -13,7 +13,7 @@ use Rattle.deeds.specs.Phases.{HasHand}
 use Rattle.deeds.specs.Turns.{Turns}
 use Rattle.deeds.proofs.Lists.{same, nothing}
 use Rattle.deeds.proofs.Joining.{joins}
-use Rattle.phases.specs.Parts.{hand_queue}
+use Rattle.phases.specs.Parts.{answering_queue}
 use Rattle.phases.specs.Queue.{Lent, with_slot}
 use Rattle.phases.specs.Doing.{AtQueue}
 use Rattle.phases.specs.Answering.{told_writes, Answers, LetsGo}
@@ -81,7 +81,7 @@ pub answers : (w : PlainWorld) (kept : List KeptSeat) (k i : ℕ) (hand : Hand) 
     (slot : Slot) (q r : Lent) (m : List ℕ) (h : Hand) (b : Bool) → IsSound w
     → Everywhere (λ i (q : PlainQueue). q.ring.memory ≡ length w.memory) w.queues
     → w.seats ≡ map seat_of kept → slice_get kept k ≡ Some (record { hand = hand; jobs = jobs; limit = limit })
-    → hand_queue hand ≡ Some i → slice_get w.queues i ≡ Some (with_slot slot q) → Answers hand q w.memory b r m h
+    → answering_queue hand ≡ Some i → slice_get w.queues i ≡ Some (with_slot slot q) → Answers hand q w.memory b r m h
     → Turns w (Event.Answer k) b (with_queue_and_seat w m i (with_slot slot r) kept k
     (record { hand = h; jobs = jobs; limit = limit }))
 answers w kept k i Hand.Free jobs limit slot q r m h b sound fits seats at queue there c = absurd (nothing queue)

@@ -23,13 +23,13 @@ use Rattle.deeds.specs.Standing.{IsToCommit}
 use Rattle.deeds.specs.Turns.{Turns}
 use Rattle.deeds.proofs.Lists.{same, nothing}
 use Rattle.deeds.proofs.Joining.{joins}
-use Rattle.phases.specs.Parts.{hand_unit}
+use Rattle.phases.specs.Parts.{committing_unit}
 use Rattle.phases.specs.Doing.{DoesUnit}
 use Rattle.phases.specs.Units.{IsCommitting, ending_after, Commits}
 use Rattle.world.specs.Kept.{KeptSeat, seat_of}
 use Rattle.world.specs.Sound.{IsSound}
 use Rattle.world.proofs.Setting.{set_change, set_same}
-use Rattle.world.proofs.Seats.{seat_set, shown, with_unit_and_seat, moved, unit_stays}
+use Rattle.world.proofs.Seats.{seat_set, shown, with_unit_and_seat, moved}
 
 -- one of two tests that hold isn't neither
 neither : (a b : Bool) → (a || b) ≡ true → b ≡ false → a ≡ false → ⊥
@@ -120,28 +120,15 @@ module _ (w : PlainWorld) (kept : List KeptSeat) (k : ℕ) (x : PlainJob) (jobs 
       absurd (not_lost w x u (sound.works.seats k _ held.1).0 there lost.asks)
   done_as d sound is_it does is = absurd is_it
 
--- nothing is changed, and the hand has no job that is to be committed
-stays : (w : PlainWorld) (kept : List KeptSeat) (k place : ℕ) (s : KeptSeat) (u v : PlainUnit) (h : Hand)
-    → w.seats ≡ map seat_of kept → slice_get kept k ≡ Some s → slice_get w.units place ≡ Some u
-    → ((x : PlainJob) → s.hand ≡ Hand.Taken x → ⊥) → (v ≡ u) × (h ≡ s.hand)
-    → Turns w (Event.Commit k) false (with_unit_and_seat w place v kept k (record s { hand = h }))
-stays w kept k place s u v h seats at there not_taken (vu, hs) = (
-  unit_stays w kept k place s _ u v seats at there (ap (λ (z : Hand). record s { hand = z }) hs) vu,
-  λ (x, (out, there_is)). not_taken x (ap (λ (z : Seat). z.hand) (same (sym (shown w kept k s seats at) ∙ there_is))),
-)
-
 -- the phase takes the event's turn
 pub commits : (w : PlainWorld) (kept : List KeptSeat) (k place : ℕ) (hand : Hand) (jobs : List PlainJob) (limit : ℕ)
     (u v : PlainUnit) (h : Hand) (b : Bool) → IsSound w → w.seats ≡ map seat_of kept
-    → slice_get kept k ≡ Some (record { hand = hand; jobs = jobs; limit = limit }) → hand_unit hand ≡ Some place
+    → slice_get kept k ≡ Some (record { hand = hand; jobs = jobs; limit = limit }) → committing_unit hand ≡ Some place
     → slice_get w.units place ≡ Some u → Commits hand u b v h
     → Turns w (Event.Commit k) b (with_unit_and_seat w place v kept k (record { hand = h; jobs = jobs; limit = limit }))
 commits w kept k place Hand.Free jobs limit u v h b sound seats at unit there c = absurd (nothing unit)
 commits w kept k place (Hand.Done x o) jobs limit u v h b sound seats at unit there c = absurd (nothing unit)
-commits w kept k place (Hand.Answered p t) jobs limit u v h true sound seats at unit there c = absurd c
-commits w kept k place (Hand.Answered p t) jobs limit u v h false sound seats at unit there c =
-    stays w kept k place (record { hand = Hand.Answered p t; jobs = jobs; limit = limit }) u v h seats at there
-    (λ x e. cc) c
+commits w kept k place (Hand.Answered p t) jobs limit u v h b sound seats at unit there c = absurd (nothing unit)
 commits w kept k place (Hand.Taken x) jobs limit u v h false sound seats at unit there c = absurd c
 commits w kept k place (Hand.Taken x) jobs limit u v h true sound seats at unit there c =
     let is : x.unit ≡ place = same unit in

@@ -19,13 +19,13 @@ use Rattle.deeds.specs.Standing.{IsToLeave}
 use Rattle.deeds.specs.Turns.{Turns}
 use Rattle.deeds.proofs.Lists.{same, nothing}
 use Rattle.deeds.proofs.Joining.{joins}
-use Rattle.phases.specs.Parts.{hand_unit}
+use Rattle.phases.specs.Parts.{leaving_unit}
 use Rattle.phases.specs.Doing.{DoesUnit, with_more}
 use Rattle.phases.specs.Units.{Leaves}
 use Rattle.world.specs.Kept.{KeptSeat, seat_of}
 use Rattle.world.specs.Sound.{IsSound}
 use Rattle.world.proofs.Setting.{set_change}
-use Rattle.world.proofs.Seats.{seat_set, shown, one_there, with_unit_and_seat, moved, unit_stays}
+use Rattle.world.proofs.Seats.{seat_set, shown, one_there, with_unit_and_seat, moved}
 
 -- a seat with this in its hand, and these jobs
 abbrev pub seat_with : Hand → Jobs → KeptSeat
@@ -86,30 +86,15 @@ module _ (w : PlainWorld) (kept : List KeptSeat) (k place : ℕ) (t : Ticket) (u
   must_leave sound limits (vu, same_out, inr (cannot, hs)) =
       known w place t u (sound.works.seats k _ held.1).0 there cannot
 
--- nothing is changed, and the hand has no task that is to leave
-stays : (w : PlainWorld) (kept : List KeptSeat) (k place : ℕ) (hand : Hand) (u v : PlainUnit) (out more : Jobs) (h : Hand)
-    → w.seats ≡ map seat_of kept → slice_get kept k ≡ Some (seat_with hand out) → slice_get w.units place ≡ Some u
-    → ((p : ℕ) (t : Ticket) → hand ≡ Hand.Answered p t → ⊥) → (v ≡ u) × (h ≡ hand) × (more ≡ out)
-    → Turns w (Event.Leave k) false (with_unit_and_seat w place v kept k (seat_with h more))
-stays w kept k place hand u v out more h seats at there not_answered (vu, hs, same_out) =
-    let ts : seat_with h more ≡ seat_with hand out =
-    ap (λ (z : Hand). seat_with z more) hs ∙ ap (λ (z : Jobs). seat_with hand z) same_out in (
-      unit_stays w kept k place (seat_with hand out) (seat_with h more) u v seats at there ts vu,
-      λ (p, t, (jobs, there_is)).
-          not_answered p t (ap (λ (z : Seat). z.hand) (same (sym (shown w kept k _ seats at) ∙ there_is))),
-    )
-
 -- the phase takes the event's turn
 pub leaves : (w : PlainWorld) (kept : List KeptSeat) (k place : ℕ) (hand : Hand) (u v : PlainUnit) (out more : Jobs)
     (h : Hand) (b : Bool) → IsSound w → Everywhere (λ i (s : KeptSeat). s.limit ≡ 64 * length w.units + 64) kept
-    → w.seats ≡ map seat_of kept → slice_get kept k ≡ Some (seat_with hand out) → hand_unit hand ≡ Some place
+    → w.seats ≡ map seat_of kept → slice_get kept k ≡ Some (seat_with hand out) → leaving_unit hand ≡ Some place
     → slice_get w.units place ≡ Some u → Leaves hand u out b v h more
     → Turns w (Event.Leave k) b (with_unit_and_seat w place v kept k (seat_with h more))
 leaves w kept k place Hand.Free u v out more h b sound limits seats at unit there c = absurd (nothing unit)
 leaves w kept k place (Hand.Done x o) u v out more h b sound limits seats at unit there c = absurd (nothing unit)
-leaves w kept k place (Hand.Taken x) u v out more h true sound limits seats at unit there c = absurd c
-leaves w kept k place (Hand.Taken x) u v out more h false sound limits seats at unit there c =
-    stays w kept k place (Hand.Taken x) u v out more h seats at there (λ p t e. cc) c
+leaves w kept k place (Hand.Taken x) u v out more h b sound limits seats at unit there c = absurd (nothing unit)
 leaves w kept k place (Hand.Answered p t) u v out more h true sound limits seats at unit there c =
     let is : p ≡ place = same unit in
     let there_p = ap (λ i. slice_get w.units i) is ∙ there in

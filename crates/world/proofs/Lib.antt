@@ -23,3 +23,4 @@ pub mod Keeping
 pub mod Buffering
 pub mod Resetting
 pub mod Raising
+pub mod Promising

@@ -5,3 +5,4 @@ pub mod Settling
 pub mod Cursors
 pub mod Config
 pub mod Views
+pub mod Promise

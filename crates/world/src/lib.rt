@@ -13,7 +13,7 @@ pub use config::{Config, RING_PACKED, StartFault, VERSION_1};
 pub use decisions::UnitSpec;
 pub use deeds::Event;
 pub use phases::{
-    AnyRing, Done, Hand, OpenFunction, Queue, Ready, Refusal, Slot, phase_answer, phase_answer_tmf,
+    AnyRing, Hand, Held, OpenFunction, Queue, Ready, Refusal, Slot, phase_answer, phase_answer_tmf,
     phase_check, phase_commit, phase_direct, phase_enter, phase_fetch, phase_fetch_control,
     phase_leave, phase_mark,
 };

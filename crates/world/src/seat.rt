@@ -61,6 +61,6 @@ impl Seat {
     pub(crate) fn hold(&mut self, job: Job)
         ensures { self.new ≡ record self.old { hand = plain.Hand.Taken job } }
     {
-        self.hand = Hand::Taken(job);
+        self.hand = Hand::taken(job);
     }
 }

@@ -1,8 +1,9 @@
 //! Each event's step on the parts of the device.
 
-ghost use Rattle.std.specs.Prelude.{◌≡◌, ◌≤◌};
+ghost use Rattle.std.specs.Prelude.{◌≡◌, ◌≤◌, IsTrue};
 ghost use Rattle.deeds.specs.World.{owner};
 ghost use Rattle.deeds.specs.Events.{Event as AnEvent};
+ghost use Rattle.deeds.specs.Applies.{Applies};
 ghost use Rattle.deeds.specs.Turns.{Turns};
 ghost use Rattle.world.specs.Steps.{TurnsOrWants};
 ghost use Rattle.world.specs.Sound.{AreFew, IsSound};
@@ -32,12 +33,24 @@ impl Device {
         self.memory.write(addr, bytes).is_ok()
     }
 
+    /// Whether a queue has nothing to take, by which little more than its index is looked at.
+    fn is_silent(&self, number: u16) -> bool
+        requires sound { IsSound self.now }
+        ensures { IsTrue result → Applies self.now (AnEvent.Fetch number) → ⊥ }
+    {
+        let at = number as usize;
+        at >= self.bays.len() || self.bays[at].queue.is_silent(&self.memory)
+    }
+
     /// A queue takes its next chain.
     pub(crate) fn fetch(&mut self, number: u16) -> Result<bool, NoMemory>
         requires sound { IsSound self.old }
         requires few { AreFew self.old }
         ensures { TurnsOrWants self.old (AnEvent.Fetch number) result self.new }
     {
+        if self.is_silent(number) {
+            return Ok(false);
+        }
         match number {
             0 => self.fetch_control(),
             1 => self.fetch_event(),
@@ -173,7 +186,7 @@ impl Device {
         if at >= self.seats.len() {
             return false;
         }
-        let Some(place) = self.seats[at].hand.unit() else {
+        let Some(place) = self.seats[at].hand.committing_unit() else {
             return false;
         };
         if place >= self.units.len() {
@@ -191,7 +204,7 @@ impl Device {
         if at >= self.seats.len() {
             return false;
         }
-        let Some(queue) = self.seats[at].hand.queue() else {
+        let Some(queue) = self.seats[at].hand.answering_queue() else {
             return false;
         };
         if queue as usize >= self.bays.len() {
@@ -213,7 +226,7 @@ impl Device {
         if at >= self.seats.len() {
             return false;
         }
-        let Some(place) = self.seats[at].hand.unit() else {
+        let Some(place) = self.seats[at].hand.leaving_unit() else {
             return false;
         };
         if place >= self.units.len() {

@@ -14,11 +14,12 @@ use block_store::NoMemory;
 use decisions::{Inventory, UnitSpec};
 use deeds::Event;
 use deeds::laws::{
-    functions_find_their_units, held_buffers_are_outstanding, lists_have_room, logs_are_numbered,
-    parts_stay, tasks_are_at_work, tickets_rise, what_stands_is_owned,
+    every_run_goes_on, functions_find_their_units, held_buffers_are_outstanding, lists_have_room,
+    logs_are_numbered, parts_stay, tasks_are_at_work, tickets_rise, what_stands_is_owned,
 };
 use event_queue::{EventPort, WaitingEvents};
 use guest_mem::GuestMem;
+use interleavings::laws::the_promise_is_kept;
 use phases::Queue;
 use ring_core::{Form, Layout, QueueLog};
 use std::alloc::Global;
@@ -159,7 +160,7 @@ impl Model for World {
 }
 
 impl World {
-    ghost use Rattle.std.specs.Prelude.{true, IfSome, slice_get, MatchResult};
+    ghost use Rattle.std.specs.Prelude.{true, [], IfSome, slice_get, MatchResult};
     ghost use Rattle.std.specs.Option.{option_copied, option_map};
     ghost use Rattle.ring_core.specs.State.{IsLawful};
     ghost use Rattle.deeds.specs.Events.{Event as AnEvent, plain_event};
@@ -167,18 +168,22 @@ impl World {
     ghost use Rattle.history.specs.Contents.{capacity_of};
     ghost use Rattle.world.specs.Config.{is_config, IsOpening, StartRefusedAs};
     ghost use Rattle.world.specs.Sound.{AreFew, IsReached, IsSound};
+    ghost use Rattle.deeds.specs.Happens.{Reached};
     ghost use Rattle.deeds.specs.Turns.{Turns};
     ghost use Rattle.world.specs.Steps.{Steps, RunsAll};
     ghost use Rattle.world.specs.Settling.{ServesOrWants};
+    ghost use Rattle.world.specs.Promise.{StepsAsPromised, RunsAsPromised, SettlesAsPromised};
     ghost use Rattle.world.specs.Cursors.{NoneBefore, TurnsNext};
     ghost use Rattle.world.specs.Views.{unit_at, IsPlaceOf, device_status, GivesBlocks};
 
     /// The device of a configuration, of which nothing has happened yet. Whoever sets it up calls it once. `BadConfig`
-    /// exactly where the configuration isn't valid; else `NoMemory` where a growth was refused.
+    /// exactly where the configuration isn't valid; else `NoMemory` where a growth was refused. The empty trace leads from
+    /// the device to itself: here every trace begins.
     pub fn new(alloc: Global, config: &Config) -> Result<World, StartFault>
         ensures opening { MatchResult result (λ w. (is_config config.now ≡ true) × IsOpening config.now w)
             (λ fault. StartRefusedAs config.now fault) }
         ensures opens { IfOk result (λ w. plain.Opens w) }
+        ensures reaches { IfOk result (λ w. Reached w [] w) }
     {
         if !config.is_valid() {
             return Err(StartFault::BadConfig);
@@ -236,18 +241,30 @@ impl World {
     }
 
     /// One event. Whether it changed something; one that doesn't apply changes nothing. Only a Fetch and a Hard can answer
-    /// `NoMemory`, and have changed nothing then.
+    /// `NoMemory`, and have changed nothing then. Behind every trace that led here from an opening, the promise is kept.
     pub fn step(&mut self, event: Event) -> Result<bool, NoMemory>
-        ensures { Steps self.old (plain_event event) result self.new }
+        ensures steps { Steps self.old (plain_event event) result self.new }
+        ensures promise { StepsAsPromised self.old (plain_event event) result self.new }
     {
+        every_run_goes_on();
+        the_promise_is_kept();
         self.step_by(&event)
     }
 
     /// One event after another. Answers how many changed something. After `NoMemory` those before the refused one ran, and it
     /// changed nothing.
+    ///
+    /// Behind every trace that led here from an opening, a trace of these events leads to where the device is then, and
+    /// the promise is kept by both together: each unit's blocks, and each status, sense byte and data byte answered for
+    /// it, are those of one sequential disk running the commands of its history whole, one at a time, in an order lawful
+    /// for their task attributes; a command answered as aborted changed nothing, and each accepted chain is used at most
+    /// once (`IsPromised` in `interleavings/specs/Promise.antt`).
     pub fn run(&mut self, events: &[Event]) -> Result<u64, NoMemory>
-        ensures { RunsAll self.old events.now result self.new }
+        ensures runs { RunsAll self.old events.now result self.new }
+        ensures promise { RunsAsPromised self.old events.now result self.new }
     {
+        every_run_goes_on();
+        the_promise_is_kept();
         let mut count = 0;
         for place in 0..events.len() {
             if self.step_by(&events[place])? {
@@ -265,11 +282,15 @@ impl World {
     /// for each unit that a function visits. It ends whatever the guest wrote, since each chain that it accepts
     /// lengthens a log.
     ///
-    /// `NoMemory` where what was first was refused memory, or its queue has accepted 2^64 - 1 chains: what was served
-    /// before stands, and nothing else changed.
+    /// `NoMemory` where what was first was refused memory, or is a chain of a queue that has accepted 2^64 - 1, or where
+    /// 2^64 - 1 events were counted: what was served before stands, and nothing else changed. The promise is kept as by
+    /// `run`.
     pub fn settle(&mut self) -> Result<u64, NoMemory>
-        ensures { ServesOrWants self.old result self.new }
+        ensures serves { ServesOrWants self.old result self.new }
+        ensures promise { SettlesAsPromised self.old result self.new }
     {
+        every_run_goes_on();
+        the_promise_is_kept();
         self.is_reached();
         let mut cursor = Cursor::Start;
         for count in 0..u64::MAX {

@@ -1,10 +1,12 @@
-use Rattle.std.proofs.Common.{ap}
-use Rattle.phases.specs.Parts.{hand_of}
+use Rattle.std.proofs.Common.{true, sym, ◌∙◌}
+use Rattle.phases.specs.Parts.{hand_of, held_hand}
+use Rattle.phases.specs.Units.{Commits}
 use Rattle.phases.proofs.Commits.{taken}
 use Rattle.phases.proofs.committing.phase_commit.Goals as goal
 
-pub returns-in-Taken : goal.returns-in-Taken
-returns-in-Taken c =
-    taken (hand_of c.args.hand.now) c.in-Taken.job c.args.unit.now c.commit-outcome.new.self
-    c.commit-outcome.result c.new.result
-    (ap hand_of c.in-Taken.ensures.value) c.commit-outcome.ensures.step c.new.ensures
+pub returns-else-is_over : goal.returns-else-is_over
+returns-else-is_over c =
+    let held = c.in-Held.held in
+    let (what, ran, same) = c.commit.ensures in
+    rw c.in-Held.is (taken held.job held.ending c.args.unit.now c.commit.new.unit what c.commit.new.self
+    (sym c.is_over.ensures ∙ c.if-is_over.false) ran same)

@@ -1,7 +1,7 @@
 use Rattle.std.proofs.Common.{◌≡◌, Some, sym, subst, ap, refl, ◌∙◌, length, arith}
 use Rattle.deeds.specs.Events.{Event}
 use Rattle.deeds.specs.Turns.{Turns}
-use Rattle.phases.specs.Parts.{hand_queue, slot_of}
+use Rattle.phases.specs.Parts.{answering_queue, slot_of}
 use Rattle.phases.specs.Queue.{with_slot}
 use Rattle.world.specs.Kept.{KeptSeat}
 use Rattle.world.specs.Sound.{IsSound}
@@ -54,8 +54,8 @@ returns c =
     let there = found d.bays.items c.len-2.result i (with_slot slot q) c.index_mut.result.now many c.if-queue-len.false
     c.index_mut.ensures.value c.behind-self-2.view_is in
     let one = one_there d.seats.items k s seen at at_seen in
-    let queue : hand_queue s.hand ≡ Some i =
-    ap (λ (z : KeptSeat). hand_queue z.hand) one ∙ sym c.in-Some.ensures in
+    let queue : answering_queue s.hand ≡ Some i =
+    ap (λ (z : KeptSeat). answering_queue z.hand) one ∙ sym c.in-Some.ensures in
     let next = with_queue_and_seat (the_view d) m i (with_slot slot r) d.seats.items k t in
     subst (λ w. Turns w (Event.Answer k) c.phase_answer.result next) c.self.view_is
     (answers (the_view d) d.seats.items k i s.hand s.jobs s.limit slot q r m t.hand c.phase_answer.result

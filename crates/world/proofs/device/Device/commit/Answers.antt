@@ -1,7 +1,7 @@
 use Rattle.std.proofs.Common.{◌≡◌, Some, sym, subst, ap, refl, ◌∙◌, length, arith}
 use Rattle.deeds.specs.Events.{Event}
 use Rattle.deeds.specs.Turns.{Turns}
-use Rattle.phases.specs.Parts.{hand_unit}
+use Rattle.phases.specs.Parts.{committing_unit}
 use Rattle.world.specs.Kept.{KeptSeat}
 use Rattle.world.specs.Sound.{IsSound}
 use Rattle.world.specs.contracts.device.Device.{the_view}
@@ -36,8 +36,8 @@ returns c =
     let there = found d.units.items c.len-2.result c.in-Some.place c.index_mut.result.now c.index_mut.result.now
     many c.if-place-len.false c.index_mut.ensures.value refl in
     let one = one_there d.seats.items k s seen at at_seen in
-    let unit : hand_unit s.hand ≡ Some c.in-Some.place =
-    ap (λ (z : KeptSeat). hand_unit z.hand) one ∙ sym c.in-Some.ensures in
+    let unit : committing_unit s.hand ≡ Some c.in-Some.place =
+    ap (λ (z : KeptSeat). committing_unit z.hand) one ∙ sym c.in-Some.ensures in
     let t : KeptSeat = seat.the_view (record { hand = c.phase_commit.new.hand; out = c.behind-self-2.inside.out }) in
     let next = with_unit_and_seat (the_view d) c.in-Some.place c.phase_commit.new.unit d.seats.items k t in
     subst (λ w. Turns w (Event.Commit k) c.phase_commit.result next) c.self.view_is

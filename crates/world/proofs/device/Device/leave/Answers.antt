@@ -1,7 +1,7 @@
 use Rattle.std.proofs.Common.{◌≡◌, Some, sym, subst, ap, refl, ◌∙◌, length, arith}
 use Rattle.deeds.specs.Events.{Event}
 use Rattle.deeds.specs.Turns.{Turns}
-use Rattle.phases.specs.Parts.{hand_unit, hand_of}
+use Rattle.phases.specs.Parts.{leaving_unit, hand_of}
 use Rattle.world.specs.Kept.{KeptSeat}
 use Rattle.world.specs.Sound.{IsSound}
 use Rattle.world.specs.contracts.device.Device.{the_view}
@@ -38,8 +38,8 @@ returns c =
     let there = found d.units.items c.len-2.result c.in-Some.place c.index_mut.result.now c.index_mut.result.now
     many c.if-place-len.false c.index_mut.ensures.value refl in
     let one = one_there d.seats.items k s seen at at_seen in
-    let unit : hand_unit s.hand ≡ Some c.in-Some.place =
-    ap (λ (z : KeptSeat). hand_unit z.hand) one ∙ sym c.in-Some.ensures in
+    let unit : leaving_unit s.hand ≡ Some c.in-Some.place =
+    ap (λ (z : KeptSeat). leaving_unit z.hand) one ∙ sym c.in-Some.ensures in
     let t = seat_with (hand_of c.phase_leave.new.hand) c.phase_leave.new.out in
     let next = with_unit_and_seat (the_view d) c.in-Some.place c.phase_leave.new.unit d.seats.items k t in
     subst (λ w. Turns w (Event.Leave k) c.phase_leave.result next) c.self.view_is

@@ -1,4 +1,4 @@
-use Rattle.std.proofs.Common.{◌≡◌, true, sym, ◌∙◌}
+use Rattle.std.proofs.Common.{◌≡◌, true, refl, sym, ◌∙◌}
 use Rattle.world.specs.Config.{is_config}
 use Rattle.world.proofs.Opening.{opens, opens_whole}
 use Rattle.world.proofs.world.World.new.Goals as goal
@@ -12,3 +12,7 @@ invariant_of-result c = opens_whole c.args.config.now c.in-Ok.device (taken c) c
 
 pub returns-in-Ok-clause-opens : goal.returns-in-Ok-clause-opens
 returns-in-Ok-clause-opens c = opens c.args.config.now c.in-Ok.device (taken c) c.in-Ok.ensures
+
+pub returns-in-Ok-clause-reaches : goal.returns-in-Ok-clause-reaches
+returns-in-Ok-clause-reaches c =
+    record { opens = opens c.args.config.now c.in-Ok.device (taken c) c.in-Ok.ensures; runs = refl }

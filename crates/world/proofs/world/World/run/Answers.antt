@@ -1,4 +1,4 @@
-use Rattle.std.proofs.Common.{◌≡◌, ◌+◌, take, refl, sym, subst, arith}
+use Rattle.std.proofs.Common.{◌+◌, take, refl, sym, subst, arith}
 use Rattle.world.specs.Steps.{IsRun}
 use Rattle.world.proofs.Sequences.{bit, read_there, take_next, run_on, counts_one, counts_none}
 use Rattle.world.proofs.world.World.run.Goals.{then-branch, else-branch}

@@ -1,0 +1,88 @@
+//! A job in hand.
+
+ghost use Rattle.std.specs.Prelude.{◌≡◌, is_some, Some};
+ghost use Rattle.unit_history.specs.Calls.{Commits};
+ghost use Rattle.unit_history.specs.Endings.{ending_of};
+
+use crate::answer::write_outcome;
+use guest_mem::GuestMem;
+use std::marker::Model;
+use unit_history::{Job, Outcome, UnitState};
+
+/// A job in hand, and what came of its commit once that is over. The commit changes it in place, so that the job
+/// doesn't move.
+#[derive(Debug, Drop)]
+pub struct Held {
+    job: Job,
+    outcome: Option<Outcome>,
+}
+
+impl Model for Held {
+    ghost use Rattle.std.specs.Prelude.{IfSome};
+    ghost use Rattle.std.specs.Option.{option_map};
+    ghost use Rattle.cdb.specs.Need.{need_of};
+    ghost use Rattle.unit_history.specs.Endings.{ending_of, FitsNeed};
+    ghost use Rattle.phases.specs.Outcomes.{PlainHeld};
+
+    ghost Value = { PlainHeld };
+
+    ghost view = { λ h. record { job = h.job; ending = option_map ending_of h.outcome } };
+
+    ghost invariant = { λ h. IfSome h.outcome (FitsNeed (need_of h.job.entry.command).into) };
+}
+
+impl Held {
+    ghost use Rattle.std.specs.Prelude.{None, true, length};
+    ghost use Rattle.phases.specs.Outcomes.{WritesEnding};
+    ghost use Rattle.unit_history.specs.declared.answers.Outcome as answers;
+
+    /// A job that is to be committed.
+    pub fn new(job: Job) -> Held
+        ensures { result ≡ record { job = job; ending = None } }
+    {
+        Held { job, outcome: None }
+    }
+
+    /// The job.
+    pub fn job(&self) -> &Job
+        ensures { result.now ≡ self.now.job }
+    {
+        &self.job
+    }
+
+    /// Whether its commit is over.
+    pub fn is_over(&self) -> bool
+        ensures { result ≡ is_some self.now.ending }
+    {
+        self.outcome.is_some()
+    }
+
+    /// The job is committed at its unit.
+    pub(crate) fn commit(&mut self, unit: &mut UnitState)
+        ensures { (o : answers.Outcome) × Commits unit.old self.old.job o unit.new
+            × (self.new ≡ record { job = self.old.job; ending = Some (ending_of o) }) }
+    {
+        self.outcome = Some(unit.commit(&self.job));
+    }
+
+    /// Writes what answers the job over the writable parts of its chain, where its commit is over: how many bytes it has.
+    pub(crate) fn write(&self, memory: &mut GuestMem) -> u32
+        requires fits { length memory.old ≡ self.now.job.chain.memory }
+        requires over { is_some self.now.ending ≡ true }
+        ensures written { WritesEnding self.now memory.old result memory.new }
+        ensures size { length memory.new ≡ length memory.old }
+    {
+        match &self.outcome {
+            Some(outcome) => write_outcome(memory, self.job.chain(), &self.job.lengths(), outcome),
+            None => unreachable!(),
+        }
+    }
+
+    /// The job, to be let go of its outcome.
+    pub(crate) fn into_job(self) -> Job
+        ensures { result ≡ self.job }
+    {
+        let Held { job, .. } = self;
+        job
+    }
+}

@@ -1,0 +1,54 @@
+-- What a run of the device promises.
+use Rattle.std.proofs.Common.{◌≡◌, ℕ, ◌+◌, Bool, arith, List, [], ◌∷◌, ◌++◌, map, if◌then◌else◌, Result, Ok, Err, refl, sym, ◌∙◌, subst}
+use Rattle.block_store.specs.declared.NoMemory.{NoMemory}
+use Rattle.deeds.specs.World.{PlainWorld}
+use Rattle.deeds.specs.Events.{Event}
+use Rattle.deeds.specs.Happens.{Occurrence, Runs, Reached, occurrence_of}
+use Rattle.deeds.specs.Turns.{count_changes}
+use Rattle.interleavings.specs.Promise.{IsPromised}
+use Rattle.settling.proofs.Runs.{settles_run, each_changes}
+use Rattle.world.specs.Steps.{Steps}
+use Rattle.world.specs.Settling.{ServesBy}
+use Rattle.world.specs.Promise.{GoesOn, StepsAsPromised}
+
+-- the promise is kept by every trace
+abbrev pub AllArePromised : Type 0
+AllArePromised = (old : PlainWorld) (trace : List Occurrence) (w : PlainWorld) (r : Reached old trace w) → IsPromised old trace w r
+
+-- and every run goes on
+abbrev pub AllGoOn : Type 0
+AllGoOn =
+    (old : PlainWorld) (past more : List Occurrence) (w after : PlainWorld) → Reached old past w → Runs w more after
+    → Reached old (more ++ past) after
+
+pub goes_on : AllArePromised → AllGoOn → (w w' : PlainWorld) (more : List Occurrence) (events : List Event) (count : ℕ)
+    → Runs w more w' → map (λ (o : Occurrence). o.event) more ≡ events → count_changes more ≡ count
+    → GoesOn w events count w'
+goes_on p g w w' more events count r e n =
+    record {
+      more = more;
+      told = e;
+      counted = n;
+      reaches = λ old past h. g old past more w w' h r;
+      kept = λ old past h. p old (more ++ past) w' (g old past more w w' h r);
+    }
+
+one_changes : (a b : Bool) → a ≡ b → (if a then 1 else 0) + 0 ≡ (if b then 1 else 0)
+one_changes a b e = subst (λ z. (if a then 1 else 0) + 0 ≡ (if z then 1 else 0)) e (omega arith)
+
+pub steps_promised : AllArePromised → AllGoOn → (w : PlainWorld) (e : Event) (r : Result Bool NoMemory) (w' : PlainWorld)
+    → Steps w e r w' → StepsAsPromised w e r w'
+steps_promised p g w e (Ok changed) w' h =
+    goes_on p g w w' (record { event = e; action = h.action } ∷ []) (e ∷ []) (if changed then 1 else 0)
+    (w, refl, h.step) refl (one_changes h.action.changed changed h.told)
+steps_promised p g w e (Err x) w' h = h
+
+pub settled : AllArePromised → AllGoOn → (w : PlainWorld) (count : ℕ) (w' : PlainWorld) → ServesBy w count w'
+    → (events : List Event) × GoesOn w events count w'
+settled p g w count w' h =
+    let more = map occurrence_of h.deeds in
+    let r : Runs w more w' = subst (λ v. Runs w more v) (sym h.is) (settles_run w h.deeds h.settles) in (
+      map (λ (o : Occurrence). o.event) more,
+      goes_on p g w w' more (map (λ (o : Occurrence). o.event) more) count r refl
+          (each_changes w h.deeds h.settles ∙ h.counted),
+    )
