@@ -1,0 +1,123 @@
+-- What stands under the locks may go to another thread. The search alone finds it of small types only.
+use denote.Param.Send.{IsSend, sendable, recorded_send, struct_send, enum_send}
+use denote.RattleType.{RattleType}
+use denote.Struct.Declared.{shape}
+use denote.Struct.Field.{row_field}
+use denote.Enum.Declared.{shape as enum_shape}
+use Rattle.std.specs.contracts.option.Option.{the_field as option_field, the_type as option_type}
+use Rattle.task_set.specs.contracts.job.Job.{the_row as job_row}
+use Rattle.task_set.specs.contracts.job.Job.TheInside as job
+use Rattle.task_set.specs.contracts.task.Task.{the_row as task_row}
+use Rattle.task_set.specs.contracts.task.Task.TheInside as task
+use Rattle.task_set.specs.contracts.set.TaskSet.{the_row as set_row}
+use Rattle.task_set.specs.contracts.set.TaskSet.TheInside as set
+use Rattle.ring_core.proofs.chain.Chain.TheSendSync as chain
+use Rattle.std.proofs.Crossing.{crosses}
+use Rattle.std.proofs.option.Option.TheSendSync as option
+use Rattle.unit_history.proofs.kind.StepKind.TheSendSync as kind
+use Rattle.block_commands.proofs.reply.Reply.TheSendSync as reply
+use Rattle.split_ring.specs.contracts.ring.SplitRing.{the_row as split_row}
+use Rattle.split_ring.specs.contracts.ring.SplitRing.TheInside as split
+use Rattle.packed_ring.specs.contracts.ring.PackedRing.{the_row as packed_row}
+use Rattle.packed_ring.specs.contracts.ring.PackedRing.TheInside as packed
+use Rattle.phases.specs.contracts.any_ring.AnyRing.{the_field as ring_field, the_type as ring_type}
+use Rattle.phases.specs.contracts.queue.Queue.{the_row as queue_row}
+use Rattle.phases.specs.contracts.queue.Queue.TheInside as queue
+use Rattle.arrayvec.proofs.array_vec.ArrayVec.TheSendSync as array_vec
+use Rattle.unit_history.specs.contracts.log.StepLog.{the_row as steps_row}
+use Rattle.unit_history.specs.contracts.log.StepLog.TheInside as steps
+use Rattle.unit_history.specs.contracts.lasts.Lasts.{the_field as lasts_field, the_type as lasts_type}
+use Rattle.unit_attention.proofs.attentions.Attentions.TheSendSync as attentions
+use Rattle.history.specs.contracts.reason.Reason.{the_row as reason_row}
+use Rattle.ring_core.specs.contracts.fault.RingFault.{the_row as fault_row}
+use Rattle.sense.specs.contracts.Sense.{the_row as sense_row}
+use Rattle.decisions.proofs.unit_request.UnitRequest.TheSendSync as request
+use Rattle.unit_history.specs.contracts.unit.UnitState.{the_row as unit_row}
+use Rattle.unit_history.specs.contracts.unit.UnitState.TheInside as unit
+use Rattle.block_store.proofs.flat.FlatStore.TheSendSync as store
+use Rattle.block_commands.specs.contracts.facts.UnitFacts.{the_field as facts_field, the_type as facts_type}
+use Rattle.ring_core.proofs.outstanding.OutstandingTable.TheSendSync as table
+use Rattle.ring_core.specs.contracts.base.RingBase.{the_row as base_row}
+use Rattle.ring_core.specs.contracts.base.RingBase.TheInside as base
+use Rattle.ring_core.specs.contracts.log.QueueLog.{the_row as log_row}
+use Rattle.ring_core.specs.contracts.log.QueueLog.TheInside as log
+
+option_sends : (R : RattleType) → IsSend (row_field R).row → IsSend (option_field R).row
+option_sends R s = enum_send (enum_shape (option_type R)) (tt, ((s, tt), tt))
+
+job_fields : IsSend job.the_row
+job_fields = recorded_send job.the_field.row _ _ job.the_type.to_one
+    (struct_send (shape job.the_type) (search sendable, (chain.the_send, (search sendable, (search sendable, (search sendable depth 30, (search sendable, tt)))))))
+
+pub job_sends : IsSend job_row
+job_sends = search (sendable, job_fields)
+
+task_fields : IsSend task.the_row
+task_fields = recorded_send task.the_field.row _ _ task.the_type.to_one
+    (struct_send (shape task.the_type) (search sendable, (option_sends _ request.the_send, (search sendable, (search sendable, (option_sends reason_row (search sendable depth 30), (search sendable, (option_sends _ job_sends, tt))))))))
+
+task_sends : IsSend task_row
+task_sends = search (sendable, task_fields)
+
+log_fields : IsSend log.the_row
+log_fields = recorded_send log.the_field.row _ _ log.the_type.to_one
+    (struct_send (shape log.the_type) (search sendable, (search sendable, (search sendable, (search sendable, tt)))))
+
+log_sends : IsSend log_row
+log_sends = search (sendable, log_fields)
+
+facts_sends : IsSend facts_field.row
+facts_sends = struct_send (shape facts_type) (search sendable, (search sendable, (search crosses depth 30, (option_sends sense_row (search sendable depth 30), tt))))
+
+base_fields : IsSend base.the_row
+base_fields = recorded_send base.the_field.row _ _ base.the_type.to_one
+    (struct_send (shape base.the_type) (search sendable, (search sendable, (search sendable, (search sendable depth 30, (search sendable depth 30, (search sendable, (log_sends, (table.the_send, (search sendable, (search sendable, (search sendable, (option_sends fault_row (search sendable depth 30), tt)))))))))))))
+
+base_sends : IsSend base_row
+base_sends = search (sendable, base_fields)
+
+set_fields : IsSend set.the_row
+set_fields = recorded_send set.the_field.row _ _ set.the_type.to_one
+    (struct_send (shape set.the_type) (search (crosses, array_vec.the_send, task_sends), tt))
+
+set_sends : IsSend set_row
+set_sends = search (sendable, set_fields)
+
+steps_fields : IsSend steps.the_row
+steps_fields = recorded_send steps.the_field.row _ _ steps.the_type.to_one
+    (struct_send (shape steps.the_type) (search sendable, (search (crosses, kind.the_send), (search (crosses, option.the_send, reply.the_send), (search sendable depth 30, tt)))))
+
+steps_sends : IsSend steps_row
+steps_sends = search (sendable, steps_fields)
+
+lasts_sends : IsSend lasts_field.row
+lasts_sends = struct_send (shape lasts_type) (search (crosses, option.the_send) depth 30, tt)
+
+unit_fields : IsSend unit.the_row
+unit_fields = recorded_send unit.the_field.row _ _ unit.the_type.to_one
+    (struct_send (shape unit.the_type) (search sendable, (facts_sends, (search sendable, (attentions.the_send, (store.the_send, (set_sends, (steps_sends, (lasts_sends, tt)))))))))
+
+pub unit_sends : IsSend unit_row
+unit_sends = search (sendable, unit_fields)
+
+split_fields : IsSend split.the_row
+split_fields = recorded_send split.the_field.row _ _ split.the_type.to_one (struct_send (shape split.the_type) (base_sends, tt))
+
+split_sends : IsSend split_row
+split_sends = search (sendable, split_fields)
+
+packed_fields : IsSend packed.the_row
+packed_fields = recorded_send packed.the_field.row _ _ packed.the_type.to_one (struct_send (shape packed.the_type) (base_sends, tt))
+
+packed_sends : IsSend packed_row
+packed_sends = search (sendable, packed_fields)
+
+ring_sends : IsSend ring_field.row
+ring_sends = enum_send (enum_shape ring_type) ((split_sends, tt), ((packed_sends, tt), tt))
+
+queue_fields : IsSend queue.the_row
+queue_fields = recorded_send queue.the_field.row _ _ queue.the_type.to_one
+    (struct_send (shape queue.the_type) (search sendable, (ring_sends, (search sendable, (search sendable, tt)))))
+
+pub queue_sends : IsSend queue_row
+queue_sends = search (sendable, queue_fields)

@@ -1,0 +1,33 @@
+//! A gate that requests pass, which may hold a thread up.
+
+use ring_core::Ticket;
+
+/// Where a request passes the gate.
+#[derive(Clone, Copy, Debug, PartialEq, Eq)]
+pub enum Point {
+    /// It entered its unit. No lock is held.
+    Entered,
+    /// A worker took its job from the hand-off. No lock is held.
+    Taken,
+    /// Its unit's lock is held, and no other, for its commit, of which nothing is done yet.
+    Locked,
+    /// Its commit is over. No lock is held.
+    Committed,
+    /// Its chain was answered and used. No lock is held.
+    Answered,
+}
+
+/// What looks on as requests go by, and may hold a thread up: a test has one to put threads into an order. Nothing that
+/// the device promises stands on it.
+pub trait Gate {
+    /// The request of this ticket comes to this point. The worker that serves it calls, and goes on once this returns.
+    fn pass(&self, point: Point, ticket: Ticket);
+}
+
+/// Lets every request pass at once.
+#[derive(Clone, Copy, Drop)]
+pub struct Open;
+
+impl Gate for Open {
+    fn pass(&self, _point: Point, _ticket: Ticket) {}
+}

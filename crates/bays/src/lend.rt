@@ -1,0 +1,74 @@
+//! What lends a phase what it works on.
+
+ghost use Rattle.std.specs.Prelude.{◌≡◌, ◌<◌, List, ℕ};
+ghost use Rattle.std.specs.Fn.{FnOnceReturnsAtMut};
+ghost use Rattle.unit_history.specs.Unit.{PlainUnit};
+ghost use Rattle.phases.specs.Queue.{Lent};
+ghost use Rattle.bays.specs.Lending.{OnceAtTwo};
+
+use guest_mem::GuestMem;
+use phases::Queue;
+use unit_history::UnitState;
+
+/// What has the units, the queues and the memory of a device, and lends one unit, or one queue with the memory, or the
+/// memory alone, for as long as one closure runs. Units are counted by their places in the inventory, queues by their
+/// numbers.
+pub trait Bays {
+    /// The unit at this place may be lent as this.
+    ghost lends_unit: { Self → ℕ → PlainUnit → Type 0 };
+
+    /// The unit at this place came back as this, and nothing else changed.
+    ghost keeps_unit: { Self → ℕ → PlainUnit → Self → Type 0 };
+
+    /// The queue of this number may be lent as this, with the memory as these bytes.
+    ghost lends_queue: { Self → ℕ → Lent → List ℕ → Type 0 };
+
+    /// The queue of this number came back as this, with the memory as these bytes, and nothing else changed.
+    ghost keeps_queue: { Self → ℕ → Lent → List ℕ → Self → Type 0 };
+
+    /// The memory may be lent as these bytes.
+    ghost lends_memory: { Self → List ℕ → Type 0 };
+
+    /// The memory came back as these bytes, and nothing else changed.
+    ghost keeps_memory: { Self → List ℕ → Self → Type 0 };
+
+    /// How many units there are.
+    ghost units: { Self → ℕ };
+
+    /// How many queues there are.
+    ghost queues: { Self → ℕ };
+
+    /// How many units there are. Whoever has a place that a request names asks before it has that unit lent.
+    fn unit_count(&self) -> usize
+        ensures { result ≡ units self.now };
+
+    /// How many queues there are.
+    fn queue_count(&self) -> usize
+        ensures { result ≡ queues self.now };
+
+    /// Runs a phase on the unit at a place.
+    fn unit<T, F: FnOnce(&mut UnitState) -> T>(&mut self, at: usize, phase: F) -> T
+        requires there { at < units self.old }
+        requires phase { F.IsAlwaysCallable phase }
+        ensures did { (u : PlainUnit) × (v : PlainUnit) × lends_unit self.old at u
+            × FnOnceReturnsAtMut F.FnOnce phase u result v × keeps_unit self.old at v self.new }
+        ensures units { units self.new ≡ units self.old }
+        ensures queues { queues self.new ≡ queues self.old };
+
+    /// Runs a phase on the queue of a number, with the memory.
+    fn queue<T, F: FnOnce(&mut Queue, &mut GuestMem) -> T>(&mut self, at: usize, phase: F) -> T
+        requires there { at < queues self.old }
+        requires phase { F.IsAlwaysCallable phase }
+        ensures did { (q : Lent) × (m : List ℕ) × (r : Lent) × (n : List ℕ) × lends_queue self.old at q m
+            × OnceAtTwo F.FnOnce phase q m result r n × keeps_queue self.old at r n self.new }
+        ensures units { units self.new ≡ units self.old }
+        ensures queues { queues self.new ≡ queues self.old };
+
+    /// Runs what reads or writes the memory alone.
+    fn memory<T, F: FnOnce(&mut GuestMem) -> T>(&mut self, phase: F) -> T
+        requires phase { F.IsAlwaysCallable phase }
+        ensures did { (m : List ℕ) × (n : List ℕ) × lends_memory self.old m
+            × FnOnceReturnsAtMut F.FnOnce phase m result n × keeps_memory self.old n self.new }
+        ensures units { units self.new ≡ units self.old }
+        ensures queues { queues self.new ≡ queues self.old };
+}

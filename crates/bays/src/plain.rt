@@ -1,0 +1,59 @@
+//! The parts of a device that one thread has.
+
+ghost use Rattle.std.specs.Prelude.{◌≡◌, Some, slice_get, slice_set, length};
+
+use crate::lend::Bays;
+use guest_mem::GuestMem;
+use phases::Queue;
+use unit_history::UnitState;
+
+/// The parts of a device that one thread has: what is lent is what stands there, and what comes back stands there then.
+#[derive(Drop)]
+pub struct Plain<'a> {
+    /// The units by their places in the inventory.
+    pub units: &'a mut [UnitState],
+    /// The queues by their numbers.
+    pub queues: &'a mut [Queue],
+    /// The memory.
+    pub memory: &'a mut GuestMem,
+}
+
+impl<'a> Bays for Plain<'a> {
+    ghost lends_unit = { λ s at u. slice_get s.units.now at ≡ Some u };
+
+    ghost keeps_unit = { λ s at v t. (t.units.now ≡ slice_set s.units.now at v) × (t.queues.now ≡ s.queues.now)
+        × (t.memory.now ≡ s.memory.now) };
+
+    ghost lends_queue = { λ s at q m. (slice_get s.queues.now at ≡ Some q) × (m ≡ s.memory.now) };
+
+    ghost keeps_queue = { λ s at r n t. (t.units.now ≡ s.units.now) × (t.queues.now ≡ slice_set s.queues.now at r)
+        × (t.memory.now ≡ n) };
+
+    ghost lends_memory = { λ s m. m ≡ s.memory.now };
+
+    ghost keeps_memory = { λ s n t. (t.units.now ≡ s.units.now) × (t.queues.now ≡ s.queues.now) × (t.memory.now ≡ n) };
+
+    ghost units = { λ s. length s.units.now };
+
+    ghost queues = { λ s. length s.queues.now };
+
+    fn unit_count(&self) -> usize {
+        self.units.len()
+    }
+
+    fn queue_count(&self) -> usize {
+        self.queues.len()
+    }
+
+    fn unit<T, F: FnOnce(&mut UnitState) -> T>(&mut self, at: usize, phase: F) -> T {
+        phase(&mut self.units[at])
+    }
+
+    fn queue<T, F: FnOnce(&mut Queue, &mut GuestMem) -> T>(&mut self, at: usize, phase: F) -> T {
+        phase(&mut self.queues[at], self.memory)
+    }
+
+    fn memory<T, F: FnOnce(&mut GuestMem) -> T>(&mut self, phase: F) -> T {
+        phase(self.memory)
+    }
+}
