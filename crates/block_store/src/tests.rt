@@ -1,22 +1,75 @@
 use super::*;
 use std::alloc::Global;
 use std::fmt::Write;
-use std::process::Abort;
 use std::test::Fail;
 
-/// The bytes of the first five blocks of a store of five.
-fn contents<S: Store>(rt: &impl Abort, alloc: Global, store: &S) -> Result<Vec<u8>, Fail> {
-    let mut bytes = Vec::with_capacity(alloc, 5 * BLOCK_BYTES)?;
-    assert_eq!(rt; store.capacity(), 5);
-    assert!(rt; bytes.capacity() == 5 * BLOCK_BYTES);
-    store.read_blocks(0, 2, &mut bytes);
-    store.read_blocks(2, 3, &mut bytes);
-    store.read_blocks(5, 0, &mut bytes);
-    Ok(bytes)
+/// What is done with a store.
+#[derive(Clone, Copy)]
+enum Act {
+    /// Bytes are written over blocks from a number on.
+    Write(u64, &'static [u8]),
+    /// So many blocks from a number on get a byte everywhere.
+    Fill(u64, u32, u8),
+    /// So many blocks from a number on get zeros.
+    Zero(u64, u32),
 }
 
-/// Five blocks that contain these bytes, each 512 times.
-fn is_made_of(bytes: &[u8], each: [u8; 5]) -> bool {
+/// What is done with a store of five blocks of zeros, one after the other, and the byte of which each block then
+/// consists.
+static ACTS: [(Act, [u8; 5]); 7] = [
+    (Act::Zero(0, 0), [0, 0, 0, 0, 0]),
+    (Act::Write(1, &[7; 1024]), [0, 7, 7, 0, 0]),
+    (Act::Fill(2, 3, 9), [0, 7, 9, 9, 9]),
+    (Act::Zero(3, 1), [0, 7, 9, 0, 9]),
+    (Act::Write(5, &[]), [0, 7, 9, 0, 9]),
+    (Act::Fill(5, 0, 1), [0, 7, 9, 0, 9]),
+    (Act::Zero(5, 0), [0, 7, 9, 0, 9]),
+];
+
+/// Writes bytes over blocks. Whether these are there.
+fn write<S: Store>(store: &mut S, first: u64, bytes: &[u8]) -> Result<bool, NoMemory> {
+    let capacity = store.capacity();
+    let count = (bytes.len() / BLOCK_BYTES) as u64;
+    if bytes.len() % BLOCK_BYTES != 0 || first > capacity || count > capacity - first {
+        return Ok(false);
+    }
+    store.write_blocks(first, bytes)?;
+    Ok(true)
+}
+
+/// Puts a byte into blocks everywhere. Whether these are there.
+fn fill<S: Store>(store: &mut S, first: u64, count: u32, byte: u8) -> Result<bool, NoMemory> {
+    let capacity = store.capacity();
+    if first > capacity || u64::from(count) > capacity - first {
+        return Ok(false);
+    }
+    store.fill_blocks(first, count, &[byte; BLOCK_BYTES])?;
+    Ok(true)
+}
+
+/// Puts zeros into blocks. Whether these are there.
+fn zero<S: Store>(store: &mut S, first: u64, count: u32) -> bool {
+    let capacity = store.capacity();
+    if first > capacity || u64::from(count) > capacity - first {
+        return false;
+    }
+    store.zero_blocks(first, count);
+    true
+}
+
+/// Appends the bytes of blocks. Whether these, and room for their bytes, are there.
+fn read<S: Store>(store: &S, first: u64, count: u32, into: &mut Vec<u8>) -> bool {
+    let capacity = store.capacity();
+    let room = into.capacity().saturating_sub(into.len()) / BLOCK_BYTES;
+    if first > capacity || u64::from(count) > capacity - first || count as usize > room {
+        return false;
+    }
+    store.read_blocks(first, count, into);
+    true
+}
+
+/// Whether bytes are five blocks, each of which consists of its byte.
+fn are_made_of(bytes: &[u8], each: [u8; 5]) -> bool {
     bytes.len() == 5 * BLOCK_BYTES
         && bytes
             .chunks(BLOCK_BYTES)
@@ -24,27 +77,47 @@ fn is_made_of(bytes: &[u8], each: [u8; 5]) -> bool {
             .all(|(block, byte)| block.iter().all(|b| b == byte))
 }
 
-/// Writes, fills and zeroes blocks of a store of five blocks of zeros.
-fn runs_through<S: Store>(rt: &impl Abort, alloc: Global, store: &mut S) -> Result<(), Fail> {
-    assert_eq!(rt; store.capacity(), 5);
-    assert!(rt; is_made_of(&contents(rt, alloc, store)?, [0, 0, 0, 0, 0]));
-    store.write_blocks(1, &[7; 1024])?;
-    assert!(rt; is_made_of(&contents(rt, alloc, store)?, [0, 7, 7, 0, 0]));
-    store.fill_blocks(2, 3, &[9; BLOCK_BYTES])?;
-    assert!(rt; is_made_of(&contents(rt, alloc, store)?, [0, 7, 9, 9, 9]));
-    store.zero_blocks(3, 1);
-    assert!(rt; is_made_of(&contents(rt, alloc, store)?, [0, 7, 9, 0, 9]));
-    store.write_blocks(5, &[])?;
-    store.fill_blocks(5, 0, &[1; BLOCK_BYTES])?;
-    store.zero_blocks(5, 0);
-    assert!(rt; is_made_of(&contents(rt, alloc, store)?, [0, 7, 9, 0, 9]));
-    Ok(())
+/// Whether a store is five blocks, each of which consists of its byte. They are read in two parts, and an empty third.
+fn is_made_of<S: Store>(alloc: Global, store: &S, each: [u8; 5]) -> Result<bool, NoMemory> {
+    let Ok(mut bytes) = Vec::with_capacity(alloc, 5 * BLOCK_BYTES) else {
+        return Err(NoMemory);
+    };
+    let is_read = read(store, 0, 2, &mut bytes)
+        && read(store, 2, 3, &mut bytes)
+        && read(store, 5, 0, &mut bytes);
+    Ok(is_read && store.capacity() == 5 && are_made_of(bytes.as_slice(), each))
+}
+
+/// Does an act. Whether its blocks are there.
+fn does<S: Store>(store: &mut S, act: Act) -> Result<bool, NoMemory> {
+    match act {
+        Act::Write(first, bytes) => write(store, first, bytes),
+        Act::Fill(first, count, byte) => fill(store, first, count, byte),
+        Act::Zero(first, count) => Ok(zero(store, first, count)),
+    }
+}
+
+/// Does acts. The number of the first that doesn't go as it says, from 0.
+fn first_wrong<S: Store>(
+    alloc: Global,
+    store: &mut S,
+    acts: &[(Act, [u8; 5])],
+) -> Result<Option<usize>, NoMemory> {
+    for number in 0..acts.len() {
+        let (act, each) = acts[number];
+        if !does(store, act)? || !is_made_of(alloc, store, each)? {
+            return Ok(Some(number));
+        }
+    }
+    Ok(None)
 }
 
 #[test]
 fn flat_store(rt: HostRuntime) -> Result<(), Fail> {
     let mut store = FlatStore::new(rt.alloc(), 5)?;
-    runs_through(&rt, rt.alloc(), &mut store)
+    let wrong = first_wrong(rt.alloc(), &mut store, &ACTS)?;
+    assert_eq!(rt; wrong, None);
+    Ok(())
 }
 
 #[test]
@@ -55,12 +128,18 @@ fn refusal_in_words(rt: HostRuntime) -> Result<(), Fail> {
     Ok(())
 }
 
+/// Whether a store of so many blocks is refused.
+fn is_refused(alloc: Global, blocks: u64) -> bool {
+    match FlatStore::new(alloc, blocks) {
+        Ok(_) => false,
+        Err(NoMemory) => true,
+    }
+}
+
 #[test]
 fn too_large_a_store(rt: HostRuntime) {
     for blocks in [u64::MAX, 1 << 55, (1 << 55) - 1, 1 << 54] {
-        match FlatStore::new(rt.alloc(), blocks) {
-            Ok(_) => panic!(rt; "{blocks} blocks"),
-            Err(fault) => assert_eq!(rt; fault, NoMemory),
-        }
+        let is_refused = is_refused(rt.alloc(), blocks);
+        assert!(rt; is_refused, "{blocks} blocks");
     }
 }

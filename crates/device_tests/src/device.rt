@@ -2,75 +2,46 @@
 
 mod configurations;
 mod events;
-mod guest;
-mod moves;
 mod service;
 mod views;
 
-use ring_core::Layout;
+use device_bench::{Row, first_wrong};
 use std::alloc::Global;
-use world::{Config, StartFault, UnitSpec, VERSION_1, World};
+use std::process::Abort;
+use std::test::Fail;
 
-/// Four queues of 8 descriptors, each in 4,096 bytes of its own.
-static QUEUES: [Layout; 4] = [
-    Layout {
-        size: 8,
-        desc: 0,
-        driver: 1024,
-        device: 2048,
-    },
-    Layout {
-        size: 8,
-        desc: 4096,
-        driver: 5120,
-        device: 6144,
-    },
-    Layout {
-        size: 8,
-        desc: 8192,
-        driver: 9216,
-        device: 10240,
-    },
-    Layout {
-        size: 8,
-        desc: 12288,
-        driver: 13312,
-        device: 14336,
-    },
-];
-
-/// The numbers of a configuration.
-#[derive(Clone, Copy)]
-struct Numbers {
-    pages: u32,
-    features: u64,
-    workers: u16,
-    handoff: u16,
+/// Plays a row.
+fn play(rt: &impl Abort, alloc: Global, row: &Row) -> Result<(), Fail> {
+    let shows = row.shows;
+    let wrong = first_wrong(alloc, row)?;
+    assert_eq!(rt; wrong, None, "wrong step of {shows}");
+    Ok(())
 }
 
-/// Numbers that are taken, of split queues.
-const NUMBERS: Numbers = Numbers {
-    pages: 16,
-    features: VERSION_1,
-    workers: 2,
-    handoff: 8,
-};
+/// Plays rows.
+fn play_all(rt: &impl Abort, alloc: Global, rows: &[Row]) -> Result<(), Fail> {
+    for row in rows {
+        play(rt, alloc, row)?;
+    }
+    Ok(())
+}
 
-/// A device with `QUEUES`. It has no contract, so that what `new` promises is read once.
-fn start(alloc: Global, numbers: Numbers, units: &[UnitSpec]) -> Result<World, StartFault> {
-    let Ok(queues) = Vec::from_slice(alloc, QUEUES.as_slice()) else {
-        return Err(StartFault::NoMemory);
-    };
-    let Ok(units) = Vec::from_slice(alloc, units) else {
-        return Err(StartFault::NoMemory);
-    };
-    let config = Config {
-        pages: numbers.pages,
-        features: numbers.features,
-        queues,
-        workers: numbers.workers,
-        handoff: numbers.handoff,
-        units,
-    };
-    World::new(alloc, &config)
+#[test]
+fn refuses_bad_configurations(rt: HostRuntime) -> Result<(), Fail> {
+    play_all(&rt, rt.alloc(), &configurations::ROWS)
+}
+
+#[test]
+fn serves_what_is_sent(rt: HostRuntime) -> Result<(), Fail> {
+    play_all(&rt, rt.alloc(), &service::ROWS)
+}
+
+#[test]
+fn takes_events_that_apply(rt: HostRuntime) -> Result<(), Fail> {
+    play_all(&rt, rt.alloc(), &events::ROWS)
+}
+
+#[test]
+fn tells_of_its_units(rt: HostRuntime) -> Result<(), Fail> {
+    play_all(&rt, rt.alloc(), &views::ROWS)
 }

@@ -18,7 +18,7 @@ fn set_once<T: Drop>(place: &mut Option<T>, value: T) -> Result<(), LineFault> {
 
 /// The header, as far as it was read.
 #[derive(Debug, Drop)]
-pub struct Header {
+pub(crate) struct Header {
     pages: Option<u32>,
     form: Option<Form>,
     queues: Option<Queues>,
@@ -29,7 +29,7 @@ pub struct Header {
 
 impl Header {
     /// Of no line.
-    pub fn new(alloc: Global) -> Header {
+    pub(crate) fn new(alloc: Global) -> Header {
         Header {
             pages: None,
             form: None,
@@ -42,7 +42,7 @@ impl Header {
 
     /// Takes a line, and says whether it belongs to the header: a header line, or one that does
     /// nothing.
-    pub fn take(&mut self, alloc: Global, line: &[u8]) -> Result<bool, Stop> {
+    pub(crate) fn take(&mut self, alloc: Global, line: &[u8]) -> Result<bool, Stop> {
         let words = match text_of(alloc, line)? {
             LineText::Blank => return Ok(true),
             LineText::NoText => return Ok(false),
@@ -75,7 +75,7 @@ impl Header {
 
     /// Starts the device that the header asks for, and the guest's driver beside it. `BadConfig`
     /// where a line lacks, or where the device refuses.
-    pub fn start(self, alloc: Global) -> Result<(World, Driver), Stop> {
+    pub(crate) fn start(self, alloc: Global) -> Result<(World, Driver), Stop> {
         let (Some(pages), Some(form), Some(queues)) = (self.pages, self.form, self.queues) else {
             return Err(Stop::Fault(LineFault::BadConfig));
         };

@@ -186,7 +186,7 @@ fn print_function<W: Write>(
 }
 
 /// Prints what became of a request or a function, as its response stands now.
-pub fn show<W: Write>(
+pub(crate) fn show<W: Write>(
     out: &mut W,
     memory: &GuestMem,
     driver: &Driver,
@@ -213,7 +213,7 @@ pub fn show<W: Write>(
 }
 
 /// Prints the names of a queue's used requests or functions, in order.
-pub fn order<W: Write>(out: &mut W, driver: &Driver, queue: u16) -> Result<(), Stop> {
+pub(crate) fn order<W: Write>(out: &mut W, driver: &Driver, queue: u16) -> Result<(), Stop> {
     let Some(names) = driver.used(queue) else {
         return Err(Stop::Fault(LineFault::BadValue));
     };
@@ -226,7 +226,7 @@ pub fn order<W: Write>(out: &mut W, driver: &Driver, queue: u16) -> Result<(), S
 }
 
 /// Prints what stands in the blocks of a unit.
-pub fn blocks<W: Write>(
+pub(crate) fn blocks<W: Write>(
     alloc: Global,
     out: &mut W,
     world: &World,
@@ -288,7 +288,7 @@ fn print_step<W: Write>(out: &mut W, driver: &Driver, step: StepKind) -> Result<
 }
 
 /// Prints the steps of a unit, in order.
-pub fn history<W: Write>(
+pub(crate) fn history<W: Write>(
     out: &mut W,
     world: &World,
     driver: &Driver,
@@ -332,7 +332,11 @@ fn print_event<W: Write>(
 }
 
 /// Prints what the used event buffers tell, in the order in which they were used, as they stand now.
-pub fn events<W: Write>(out: &mut W, memory: &GuestMem, driver: &Driver) -> Result<(), Stop> {
+pub(crate) fn events<W: Write>(
+    out: &mut W,
+    memory: &GuestMem,
+    driver: &Driver,
+) -> Result<(), Stop> {
     for (place, at) in driver.used_event_buffers().iter().enumerate() {
         print_event(out, memory, place.saturating_add(1), *at)?;
     }
@@ -340,13 +344,13 @@ pub fn events<W: Write>(out: &mut W, memory: &GuestMem, driver: &Driver) -> Resu
 }
 
 /// Prints the status of the device.
-pub fn status<W: Write>(out: &mut W, world: &World) -> Result<(), Stop> {
+pub(crate) fn status<W: Write>(out: &mut W, world: &World) -> Result<(), Stop> {
     let status = world.status();
     written(writeln!(out, "status {status}"))
 }
 
 /// Prints how many notices a queue gave.
-pub fn notices<W: Write>(out: &mut W, world: &World, queue: u16) -> Result<(), Stop> {
+pub(crate) fn notices<W: Write>(out: &mut W, world: &World, queue: u16) -> Result<(), Stop> {
     match world.notices(queue) {
         Some(notices) => written(writeln!(out, "notices {queue}: {notices}")),
         None => Err(Stop::Fault(LineFault::BadValue)),

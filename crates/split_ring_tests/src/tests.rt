@@ -27,7 +27,7 @@ fn queue(
     layout: Layout,
     memory: &GuestMem,
 ) -> Result<SplitRing, LayoutFault> {
-    SplitRing::new(alloc, number, layout, memory)
+    Ok(SplitRing::new(alloc, number, layout, memory)?)
 }
 
 /// A queue of this layout in fresh memory.
@@ -40,11 +40,17 @@ fn bench(alloc: Global, pages: u32, layout: Layout) -> Result<Bench<SplitRing>, 
     Ok(Bench::of(alloc, ring, memory))
 }
 
+/// The number of the first move of a row that doesn't go as it says, from 0.
+fn first_wrong(alloc: Global, row: &Row) -> Result<Option<usize>, Fail> {
+    let mut bench = bench(alloc, row.pages, row.layout)?;
+    Ok(bench.first_wrong(row.moves))
+}
+
 /// Plays a row.
 fn play(rt: &impl Abort, alloc: Global, row: &Row) -> Result<(), Fail> {
-    let mut bench = bench(alloc, row.pages, row.layout)?;
     let shows = row.shows;
-    assert_eq!(rt; bench.first_wrong(row.moves), None, "wrong move of {shows}");
+    let wrong = first_wrong(alloc, row)?;
+    assert_eq!(rt; wrong, None, "wrong move of {shows}");
     Ok(())
 }
 

@@ -1,29 +1,14 @@
 //! A logical unit, over its public calls.
 
 mod aborts;
-mod acts;
-mod bench;
-mod calls;
-mod hand;
 mod orders;
-mod port;
 mod receipts;
 mod refusals;
 
-use acts::Row;
-use bench::Bench;
-use block_store::NoMemory;
 use std::alloc::Global;
 use std::process::Abort;
 use std::test::Fail;
-
-/// The number of the first act of a row that doesn't go as it says, from 0.
-fn first_wrong(alloc: Global, row: &Row) -> Result<Option<usize>, NoMemory> {
-    match Bench::new(alloc, row.keeps_replies) {
-        Some(mut bench) => Ok(bench.first_wrong(row.acts)),
-        None => Err(NoMemory),
-    }
-}
+use unit_bench::{Row, first_wrong};
 
 /// Plays a row. Where memory is refused on the way, its acts end there: what was refused changed no more than it
 /// may, and the units serve on.

@@ -1,81 +1,164 @@
 //! Which configurations are refused.
 
-use super::{NUMBERS, Numbers, start};
-use std::alloc::Global;
+use device_bench::{NUMBERS, Numbers, Row, UNIT};
 use std::test::Fail;
 use world::{RING_PACKED, StartFault, UnitSpec, VERSION_1};
 
-/// A unit of 8 blocks.
-const UNIT: UnitSpec = UnitSpec {
-    target: 0,
-    lun: 0,
-    blocks: 8,
+/// A unit with a power-on attention.
+const FIRST: UnitSpec = UnitSpec {
     calm: false,
+    ..UNIT
 };
 
 /// Units that are taken.
-const UNITS: [UnitSpec; 3] = [
-    UNIT,
-    UnitSpec { lun: 16383, ..UNIT },
+const UNITS: &[UnitSpec] = &[
+    FIRST,
+    UnitSpec {
+        lun: 16383,
+        ..FIRST
+    },
     UnitSpec {
         target: 255,
-        ..UNIT
+        ..FIRST
     },
 ];
 
-/// Whether a configuration is refused as bad; another refusal is a failure.
-fn is_bad(alloc: Global, numbers: Numbers, units: &[UnitSpec]) -> Result<bool, Fail> {
-    match start(alloc, numbers, units) {
-        Ok(_) => Ok(false),
-        Err(StartFault::BadConfig) => Ok(true),
-        Err(StartFault::NoMemory) => Err(Fail::from("no memory")),
-    }
-}
+/// Of each row the numbers and the units are said where they aren't these.
+const ROW: Row = Row {
+    shows: "",
+    numbers: NUMBERS,
+    units: UNITS,
+    is_refused: true,
+    steps: &[],
+};
 
-/// Pages, features, workers, jobs between them, and whether a device with `UNITS` is refused.
-static ROWS: [(u32, u64, u16, u16, bool); 9] = [
-    (16, VERSION_1, 1, 64, false),
-    (16, VERSION_1, 9, 64, true),
-    (16, VERSION_1, 8, 4097, true),
-    (16, VERSION_1, 8, 4096, false),
-    (0, VERSION_1, 8, 4096, true),
-    (16, 0, 1, 64, true),
-    (16, RING_PACKED, 1, 64, true),
-    (16, VERSION_1 + 1, 1, 64, true),
-    (16, 2 * VERSION_1, 1, 64, true),
+pub(crate) static ROWS: [Row; 13] = [
+    Row {
+        shows: "one worker",
+        numbers: Numbers {
+            pages: 16,
+            features: VERSION_1,
+            workers: 1,
+            handoff: 64,
+        },
+        is_refused: false,
+        ..ROW
+    },
+    Row {
+        shows: "nine workers",
+        numbers: Numbers {
+            pages: 16,
+            features: VERSION_1,
+            workers: 9,
+            handoff: 64,
+        },
+        is_refused: true,
+        ..ROW
+    },
+    Row {
+        shows: "4,097 jobs between workers",
+        numbers: Numbers {
+            pages: 16,
+            features: VERSION_1,
+            workers: 8,
+            handoff: 4097,
+        },
+        is_refused: true,
+        ..ROW
+    },
+    Row {
+        shows: "eight workers and 4,096 jobs",
+        numbers: Numbers {
+            pages: 16,
+            features: VERSION_1,
+            workers: 8,
+            handoff: 4096,
+        },
+        is_refused: false,
+        ..ROW
+    },
+    Row {
+        shows: "no memory",
+        numbers: Numbers {
+            pages: 0,
+            features: VERSION_1,
+            workers: 8,
+            handoff: 4096,
+        },
+        is_refused: true,
+        ..ROW
+    },
+    Row {
+        shows: "no features",
+        numbers: Numbers {
+            pages: 16,
+            features: 0,
+            workers: 1,
+            handoff: 64,
+        },
+        is_refused: true,
+        ..ROW
+    },
+    Row {
+        shows: "packed queues without VERSION_1",
+        numbers: Numbers {
+            pages: 16,
+            features: RING_PACKED,
+            workers: 1,
+            handoff: 64,
+        },
+        is_refused: true,
+        ..ROW
+    },
+    Row {
+        shows: "a feature that is not offered",
+        numbers: Numbers {
+            pages: 16,
+            features: VERSION_1 + 1,
+            workers: 1,
+            handoff: 64,
+        },
+        is_refused: true,
+        ..ROW
+    },
+    Row {
+        shows: "another feature in place of VERSION_1",
+        numbers: Numbers {
+            pages: 16,
+            features: 2 * VERSION_1,
+            workers: 1,
+            handoff: 64,
+        },
+        is_refused: true,
+        ..ROW
+    },
+    Row {
+        shows: "no units",
+        units: &[],
+        ..ROW
+    },
+    Row {
+        shows: "a target without LUN 0",
+        units: &[UnitSpec { lun: 1, ..FIRST }],
+        ..ROW
+    },
+    Row {
+        shows: "a unit twice",
+        units: &[FIRST, FIRST],
+        ..ROW
+    },
+    Row {
+        shows: "a LUN that is too large",
+        units: &[
+            FIRST,
+            UnitSpec {
+                lun: 16384,
+                ..FIRST
+            },
+        ],
+        ..ROW
+    },
 ];
-
-#[test]
-fn numbers_of_a_configuration(rt: HostRuntime) -> Result<(), Fail> {
-    for (pages, features, workers, handoff, wanted) in ROWS {
-        let numbers = Numbers {
-            pages,
-            features,
-            workers,
-            handoff,
-        };
-        let found = is_bad(rt.alloc(), numbers, UNITS.as_slice())?;
-        assert_eq!(rt; found, wanted, "{pages} {features} {workers} {handoff}");
-    }
-    Ok(())
-}
-
-/// Units that are refused: none, a target without LUN 0, one twice, and a LUN that is too large.
-static REFUSED: [&[UnitSpec]; 4] = [
-    &[],
-    &[UnitSpec { lun: 1, ..UNIT }],
-    &[UNIT, UNIT],
-    &[UNIT, UnitSpec { lun: 16384, ..UNIT }],
-];
-
-#[test]
-fn units_of_a_configuration(rt: HostRuntime) -> Result<(), Fail> {
-    for number in 0..REFUSED.len() {
-        let is_refused = is_bad(rt.alloc(), NUMBERS, REFUSED[number])?;
-        assert!(rt; is_refused, "units {number} from 0");
-    }
-    Ok(())
-}
 
 #[test]
 fn names_start_faults(rt: HostRuntime) -> Result<(), Fail> {

@@ -1,47 +1,27 @@
 //! Steps of the device: how many there are, and what they leave in the rings and in a unit's history.
 
-use super::guest::{
-    ABSENT, BUFFER, NEXUS_RESET, ORDERED, READ, READY, REJECTED, Sent, UNIT_RESET, has, poke, send,
-    was_answered,
+use device_bench::{
+    ABSENT, BUFFER, Move, NEXUS_RESET, NUMBERS, Numbers, ORDERED, READ, READY, REJECTED, Row, Sent,
+    Step, UNIT, UNIT_RESET,
 };
-use super::moves::{Move, run};
-use super::{NUMBERS, Numbers, start};
 use ring_core::Ticket;
-use std::alloc::Global;
-use std::process::Abort;
-use std::test::Fail;
-use world::{RING_PACKED, StepKind, UnitSpec, VERSION_1, World};
+use world::{RING_PACKED, StepKind, UnitSpec, VERSION_1};
 
-/// What the driver or the device does, and what comes of it.
-#[derive(Clone, Copy)]
-enum Step {
-    /// The driver writes bytes at an address.
-    Poke(u64, &'static [u8]),
-    /// The driver makes the chain of a number available.
-    Send(u8, Sent),
-    /// Of these events, taken one after another, so many change something.
-    Run(&'static [Move], u64),
-    /// The device settles in so many steps.
-    Settle(u64),
-    /// Guest memory has these bytes at an address.
-    Has(u64, &'static [u8]),
-    /// What the device wrote for a queue's chain of a number begins so.
-    Answer(u16, u8, &'static [u8]),
-    /// The history of the unit 0:0.
-    History(&'static [StepKind]),
-    /// The device's status.
-    Status(u8),
-    /// How many notices a queue gave.
-    Notices(u16, u64),
-}
+/// The units 0:0 and 0:1.
+const CALM: &[UnitSpec] = &[UNIT, UnitSpec { lun: 1, ..UNIT }];
 
-/// A device with the units 0:0 and 0:1 of 8 blocks, and what is done with it.
-struct Row {
-    shows: &'static str,
-    numbers: Numbers,
-    calm: bool,
-    steps: &'static [Step],
-}
+/// The same with power-on attentions.
+const ATTENTIVE: &[UnitSpec] = &[
+    UnitSpec {
+        calm: false,
+        ..UNIT
+    },
+    UnitSpec {
+        lun: 1,
+        calm: false,
+        ..UNIT
+    },
+];
 
 /// The response of a power-on attention, as far as it isn't zero.
 const ATTENTION: &[u8] = &[
@@ -72,11 +52,12 @@ const D: Ticket = Ticket {
 /// TEST UNIT READY on the other request queue.
 const OTHER: Sent = Sent { queue: 3, ..READY };
 
-static ROWS: [Row; 11] = [
+pub(crate) static ROWS: [Row; 11] = [
     Row {
         shows: "an attention, and then good",
         numbers: NUMBERS,
-        calm: false,
+        units: ATTENTIVE,
+        is_refused: false,
         steps: &[
             Step::Settle(0),
             Step::Send(0, READY),
@@ -96,16 +77,19 @@ static ROWS: [Row; 11] = [
             features: VERSION_1 + RING_PACKED,
             ..NUMBERS
         },
-        calm: false,
+        units: ATTENTIVE,
+        is_refused: false,
         steps: &[
-            Step::Poke(24576, &[1, 0, 0x40]),
+            Step::Poke(24576, &[1, 0, 0x40], true),
             Step::Poke(
                 8192,
                 &[0, 0x60, 0, 0, 0, 0, 0, 0, 51, 0, 0, 0, 9, 0, 0x81, 0],
+                true,
             ),
             Step::Poke(
                 8208,
                 &[0x40, 0x60, 0, 0, 0, 0, 0, 0, 108, 0, 0, 0, 9, 0, 0x82, 0],
+                true,
             ),
             Step::Settle(7),
             Step::Answer(2, 0, ATTENTION),
@@ -115,9 +99,10 @@ static ROWS: [Row; 11] = [
     Row {
         shows: "a response with too little room is used with nothing",
         numbers: NUMBERS,
-        calm: true,
+        units: CALM,
+        is_refused: false,
         steps: &[
-            Step::Poke(24640, &[0xee; 108]),
+            Step::Poke(24640, &[0xee; 108], true),
             Step::Send(
                 0,
                 Sent {
@@ -134,10 +119,11 @@ static ROWS: [Row; 11] = [
     Row {
         shows: "a broken queue is served no more, and another one is",
         numbers: NUMBERS,
-        calm: true,
+        units: CALM,
+        is_refused: false,
         steps: &[
             Step::Send(0, READY),
-            Step::Poke(8208, &[0, 0, 1]),
+            Step::Poke(8208, &[0, 0, 1], true),
             Step::Settle(1),
             Step::Status(64),
             Step::Settle(0),
@@ -154,7 +140,8 @@ static ROWS: [Row; 11] = [
     Row {
         shows: "requests that nothing blocks, and one for an absent target",
         numbers: NUMBERS,
-        calm: true,
+        units: CALM,
+        is_refused: false,
         steps: &[
             Step::Send(0, READY),
             Step::Settle(7),
@@ -177,7 +164,8 @@ static ROWS: [Row; 11] = [
     Row {
         shows: "functions on idle units",
         numbers: NUMBERS,
-        calm: true,
+        units: CALM,
+        is_refused: false,
         steps: &[
             Step::Send(0, UNIT_RESET),
             Step::Settle(4),
@@ -199,7 +187,8 @@ static ROWS: [Row; 11] = [
     Row {
         shows: "a reset meets a task",
         numbers: NUMBERS,
-        calm: true,
+        units: CALM,
+        is_refused: false,
         steps: &[
             Step::Send(0, READY),
             Step::Send(0, UNIT_RESET),
@@ -215,7 +204,8 @@ static ROWS: [Row; 11] = [
     Row {
         shows: "event buffers, and events with one and with none",
         numbers: NUMBERS,
-        calm: true,
+        units: CALM,
+        is_refused: false,
         steps: &[
             Step::Send(0, BUFFER),
             Step::Settle(1),
@@ -253,7 +243,8 @@ static ROWS: [Row; 11] = [
     Row {
         shows: "an ordered task between simple ones",
         numbers: NUMBERS,
-        calm: true,
+        units: CALM,
+        is_refused: false,
         steps: &[
             Step::Run(&[], 0),
             Step::Send(0, READY),
@@ -314,7 +305,8 @@ static ROWS: [Row; 11] = [
             handoff: 1,
             ..NUMBERS
         },
-        calm: true,
+        units: CALM,
+        is_refused: false,
         steps: &[
             Step::Send(0, READY),
             Step::Send(0, OTHER),
@@ -364,7 +356,8 @@ static ROWS: [Row; 11] = [
             handoff: 1,
             ..NUMBERS
         },
-        calm: true,
+        units: CALM,
+        is_refused: false,
         steps: &[
             Step::Send(0, READY),
             Step::Send(0, OTHER),
@@ -391,75 +384,3 @@ static ROWS: [Row; 11] = [
         ],
     },
 ];
-
-/// Whether the unit 0:0 has this history.
-fn has_history(world: &World, steps: &[StepKind]) -> bool {
-    let Some(unit) = world.unit(0, 0) else {
-        return false;
-    };
-    for place in 0..steps.len() {
-        if unit.step(place as u64) != Some(steps[place]) {
-            return false;
-        }
-    }
-    unit.steps() == steps.len() as u64
-}
-
-/// In how many steps the device settles. It has no contract, so that what `settle` promises is read once.
-fn settle(world: &mut World) -> Result<u64, Fail> {
-    Ok(world.settle()?)
-}
-
-/// Whether memory, a history or a number is as a step says.
-fn shows(world: &World, step: Step) -> bool {
-    match step {
-        Step::Has(addr, bytes) => has(world, addr, bytes),
-        Step::Answer(queue, number, bytes) => was_answered(world, queue, number, bytes),
-        Step::History(steps) => has_history(world, steps),
-        Step::Status(status) => world.status() == status,
-        Step::Notices(queue, count) => world.notices(queue) == Some(count),
-        _ => false,
-    }
-}
-
-/// Whether a step goes as its row says.
-fn takes(alloc: Global, world: &mut World, step: Step) -> Result<bool, Fail> {
-    match step {
-        Step::Poke(addr, bytes) => Ok(poke(world, addr, bytes)),
-        Step::Send(number, sent) => Ok(send(world, number, sent)),
-        Step::Run(moves, count) => Ok(run(alloc, world, moves)? == count),
-        Step::Settle(count) => Ok(settle(world)? == count),
-        _ => Ok(shows(world, step)),
-    }
-}
-
-/// Takes all steps of a row.
-fn take_all(rt: &impl Abort, alloc: Global, world: &mut World, row: &Row) -> Result<(), Fail> {
-    let shows = row.shows;
-    for number in 0..row.steps.len() {
-        let taken = takes(alloc, world, row.steps[number])?;
-        assert!(rt; taken, "{shows}: step {number} from 0");
-    }
-    Ok(())
-}
-
-/// Plays a row on a device of its own.
-fn play(rt: &impl Abort, alloc: Global, row: &Row) -> Result<(), Fail> {
-    let unit = UnitSpec {
-        target: 0,
-        lun: 0,
-        blocks: 8,
-        calm: row.calm,
-    };
-    let units = [unit, UnitSpec { lun: 1, ..unit }];
-    let mut world = start(alloc, row.numbers, &units)?;
-    take_all(rt, alloc, &mut world, row)
-}
-
-#[test]
-fn plays_rows(rt: HostRuntime) -> Result<(), Fail> {
-    for row in &ROWS {
-        play(&rt, rt.alloc(), row)?;
-    }
-    Ok(())
-}

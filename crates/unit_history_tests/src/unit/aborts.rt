@@ -1,7 +1,7 @@
 //! What aborts and resets meet, and what becomes of that.
 
-use super::acts::{Act, Comes, DATA, Ends, ORDERED, Row, SIMPLE, Sent, WRITE};
 use history::Rule;
+use unit_bench::{Act, Comes, DATA, Ends, ORDERED, Row, SIMPLE, Sent, WRITE};
 
 /// The numbers of the chains.
 const A: u64 = 0;
@@ -27,7 +27,7 @@ const OLDER: Sent = Sent { id: 9, ..ORDERED };
 /// The attention of a reset: BUS DEVICE RESET FUNCTION OCCURRED.
 const WAS_RESET: Ends = Ends::Sense(0x06, 0x29, 0x03);
 
-pub static ROWS: [Row; 6] = [
+pub(crate) static ROWS: [Row; 6] = [
     Row {
         shows: "an abort of a parked task",
         keeps_replies: false,

@@ -1,6 +1,6 @@
 //! When tasks run beside others.
 
-use super::acts::{Act, Comes, Ends, HEAD, ORDERED, Row, SIMPLE, Told};
+use unit_bench::{Act, Comes, Ends, HEAD, ORDERED, Row, SIMPLE, Told};
 
 /// The numbers of the chains.
 const A: u64 = 0;
@@ -16,7 +16,7 @@ const NEXT: u64 = 65;
 
 const ONE_MORE: u64 = 66;
 
-pub static ROWS: [Row; 5] = [
+pub(crate) static ROWS: [Row; 5] = [
     Row {
         shows: "ordered between simples",
         keeps_replies: false,

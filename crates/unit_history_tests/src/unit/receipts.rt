@@ -1,6 +1,6 @@
 //! Which receipts a unit confirms.
 
-use super::acts::{Act, Comes, DATA, Ends, OTHER, READ, Row, SIMPLE, Sent, WRITE};
+use unit_bench::{Act, Comes, DATA, Ends, OTHER, READ, Row, SIMPLE, Sent, WRITE};
 
 /// The numbers of the chains.
 const A: u64 = 0;
@@ -33,7 +33,7 @@ const READS: Sent = Sent {
     ..SIMPLE
 };
 
-pub static ROWS: [Row; 5] = [
+pub(crate) static ROWS: [Row; 5] = [
     Row {
         shows: "a receipt is of its address",
         keeps_replies: false,

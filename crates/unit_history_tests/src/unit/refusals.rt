@@ -1,7 +1,7 @@
 //! What is refused, and changes nothing.
 
-use super::acts::{Act, Comes, Ends, HEAD, OTHER, READ, Row, SIMPLE, Sent};
 use history::Rule;
+use unit_bench::{Act, Comes, Ends, HEAD, OTHER, READ, Row, SIMPLE, Sent};
 
 /// The numbers of the chains.
 const A: u64 = 0;
@@ -38,7 +38,7 @@ const OTHER_ATTRIBUTE: Sent = Sent {
     ..HEAD
 };
 
-pub static ROWS: [Row; 3] = [
+pub(crate) static ROWS: [Row; 3] = [
     Row {
         shows: "a task that can't leave",
         keeps_replies: false,

@@ -1,7 +1,7 @@
 //! The queues that requests come from.
 
-use super::acts::{DATA, QUEUE, Sent};
-use super::bench::{CALM, SECOND};
+use crate::acts::{DATA, QUEUE, Sent};
+use crate::bench::{CALM, SECOND};
 use block_store::NoMemory;
 use decisions::{ChainLengths, Decision, Inventory, MOST_UNITS, UnitSpec, are_rising, decide};
 use guest_mem::GuestMem;
@@ -11,7 +11,7 @@ use std::alloc::Global;
 use unit_history::{Arrival, Job};
 
 /// The pages of the memory of each queue. They differ, so that their chains do.
-pub const PAGES: u32 = 8;
+pub(crate) const PAGES: u32 = 8;
 
 const OTHER_PAGES: u32 = 9;
 
@@ -161,7 +161,7 @@ fn arrival_of(inventory: &Inventory, sent: &Sent, fetched: Fetched) -> Option<Ar
 
 /// Two queues whose tickets are the same, and the units that their requests may name.
 #[derive(Drop)]
-pub struct Ports {
+pub(crate) struct Ports {
     inventory: Inventory,
     port: Port,
     other: Port,
@@ -169,7 +169,7 @@ pub struct Ports {
 
 impl Ports {
     /// Queues of which nothing was fetched; `None` where memory was refused.
-    pub fn new(alloc: Global) -> Option<Ports> {
+    pub(crate) fn new(alloc: Global) -> Option<Ports> {
         let port = Port::new(alloc, PAGES)?;
         let other = Port::new(alloc, OTHER_PAGES)?;
         let inventory = inventory_of(&[CALM, SECOND])?;
@@ -191,7 +191,7 @@ impl Ports {
     }
 
     /// A request is fetched. `NoMemory` where that was refused: the next request then stands in its place.
-    pub fn arrive(&mut self, sent: &Sent) -> Result<Option<Arrival>, NoMemory> {
+    pub(crate) fn arrive(&mut self, sent: &Sent) -> Result<Option<Arrival>, NoMemory> {
         match self.send(sent) {
             Ok(Some(fetched)) => Ok(arrival_of(&self.inventory, sent, fetched)),
             Err(RingFault::NoMemory) => Err(NoMemory),
@@ -200,7 +200,7 @@ impl Ports {
     }
 
     /// Completes a chain; `None` where it is of no queue.
-    pub fn complete(&mut self, chain: Chain) -> Option<Answered> {
+    pub(crate) fn complete(&mut self, chain: Chain) -> Option<Answered> {
         if self.port.ring.owns(&chain) {
             self.port.complete(chain)
         } else {
@@ -209,7 +209,7 @@ impl Ports {
     }
 
     /// Whether the chain of a job, if there is one, can be completed. Nothing leaves for it.
-    pub fn let_go(&mut self, job: Option<Job>) -> bool {
+    pub(crate) fn let_go(&mut self, job: Option<Job>) -> bool {
         match job {
             Some(job) => self.complete(job.into_chain()).is_some(),
             None => true,

@@ -1,8 +1,8 @@
 //! What the calls of units gave.
 
-use super::acts::{Ends, OTHER};
-use super::calls;
-use super::port::PAGES;
+use crate::acts::{Ends, OTHER};
+use crate::calls;
+use crate::port::PAGES;
 use block_store::NoMemory;
 use history::Rule;
 use ring_core::Answered;
@@ -10,10 +10,10 @@ use std::alloc::Global;
 use unit_history::{Job, JobList, Outcome, Place, Receipt, UnitState};
 
 /// More jobs than a row has.
-pub const MOST_JOBS: usize = 256;
+pub(crate) const MOST_JOBS: usize = 256;
 
 /// The name of the job of this number.
-pub fn name_of(number: u64, is_other: bool) -> u64 {
+pub(crate) fn name_of(number: u64, is_other: bool) -> u64 {
     if is_other {
         number.saturating_add(OTHER)
     } else {
@@ -49,7 +49,7 @@ fn are_named(jobs: &[Job], names: &[u64]) -> bool {
 
 /// The jobs in hand, those that were handed out, and the receipts.
 #[derive(Drop)]
-pub struct Hand {
+pub(crate) struct Hand {
     jobs: Vec<Job>,
     receipts: Vec<Receipt>,
     out: JobList,
@@ -57,7 +57,7 @@ pub struct Hand {
 
 impl Hand {
     /// Nothing, and room for more than a row has; `None` where memory was refused.
-    pub fn new(alloc: Global) -> Option<Hand> {
+    pub(crate) fn new(alloc: Global) -> Option<Hand> {
         let out = JobList::with_limit(alloc, MOST_JOBS).ok()?;
         let jobs = Vec::with_capacity(alloc, MOST_JOBS).ok()?;
         let receipts = Vec::with_capacity(alloc, MOST_JOBS).ok()?;
@@ -69,7 +69,7 @@ impl Hand {
     }
 
     /// Puts a job with the others, if there is one. Whether there was room.
-    pub fn put(&mut self, job: Option<Job>) -> bool {
+    pub(crate) fn put(&mut self, job: Option<Job>) -> bool {
         match job {
             Some(job) => self.jobs.push(job).is_ok(),
             None => true,
@@ -77,7 +77,7 @@ impl Hand {
     }
 
     /// Takes the job of this name out.
-    pub fn take(&mut self, name: u64) -> Option<Job> {
+    pub(crate) fn take(&mut self, name: u64) -> Option<Job> {
         let place = place_of(self.jobs.as_slice(), name)?;
         if place < self.jobs.len() {
             Some(self.jobs.remove(place))
@@ -87,13 +87,13 @@ impl Hand {
     }
 
     /// The name of the job that was had last, and its unit.
-    pub fn last(&self) -> Option<(u64, usize)> {
+    pub(crate) fn last(&self) -> Option<(u64, usize)> {
         let job = self.jobs.last()?;
         Some((name_of_job(job), job.unit()))
     }
 
     /// Takes what was handed out into hand. Whether there was room.
-    pub fn take_all(&mut self) -> bool {
+    pub(crate) fn take_all(&mut self) -> bool {
         for _ in 0..self.out.len() {
             let job = self.out.next();
             if !self.put(job) {
@@ -104,7 +104,7 @@ impl Hand {
     }
 
     /// Takes what was handed out into hand. Whether these are its names.
-    pub fn gets(&mut self, names: &[u64]) -> bool {
+    pub(crate) fn gets(&mut self, names: &[u64]) -> bool {
         let before = self.jobs.len();
         if !self.take_all() {
             return false;
@@ -116,7 +116,7 @@ impl Hand {
     }
 
     /// A job is committed at a unit.
-    pub fn commit(&mut self, unit: &mut UnitState, name: u64) -> Result<Ends, NoMemory> {
+    pub(crate) fn commit(&mut self, unit: &mut UnitState, name: u64) -> Result<Ends, NoMemory> {
         let Some(place) = place_of(self.jobs.as_slice(), name) else {
             return Ok(Ends::Otherwise);
         };
@@ -147,22 +147,26 @@ impl Hand {
     }
 
     /// Whether the task of a completed chain leaves.
-    pub fn leave(&mut self, unit: &mut UnitState, answered: Answered) -> Option<bool> {
+    pub(crate) fn leave(&mut self, unit: &mut UnitState, answered: Answered) -> Option<bool> {
         calls::leave(unit, answered, &mut self.out)
     }
 
     /// An abort.
-    pub fn abort(&mut self, unit: &mut UnitState, rule: Rule) -> Result<Option<Place>, NoMemory> {
+    pub(crate) fn abort(
+        &mut self,
+        unit: &mut UnitState,
+        rule: Rule,
+    ) -> Result<Option<Place>, NoMemory> {
         calls::abort(unit, rule, &mut self.out)
     }
 
     /// A reset.
-    pub fn reset(&mut self, unit: &mut UnitState) -> Result<Option<Place>, NoMemory> {
+    pub(crate) fn reset(&mut self, unit: &mut UnitState) -> Result<Option<Place>, NoMemory> {
         calls::reset(unit, &mut self.out)
     }
 
     /// Whether a receipt had a reply, which is taken.
-    pub fn take_reply(&mut self, number: usize) -> bool {
+    pub(crate) fn take_reply(&mut self, number: usize) -> bool {
         match self.receipts.get_mut(number) {
             Some(receipt) => receipt.take_reply().is_some(),
             None => false,
@@ -170,13 +174,13 @@ impl Hand {
     }
 
     /// Whether a unit confirms a receipt.
-    pub fn is_confirmed(&self, unit: &UnitState, number: usize) -> Option<bool> {
+    pub(crate) fn is_confirmed(&self, unit: &UnitState, number: usize) -> Option<bool> {
         let receipt = self.receipts.get(number)?;
         Some(unit.confirm(receipt))
     }
 
     /// Whether the data of a receipt are 512 times this byte.
-    pub fn has_data(&self, number: usize, byte: u8) -> bool {
+    pub(crate) fn has_data(&self, number: usize, byte: u8) -> bool {
         match self.receipts.get(number) {
             Some(receipt) => match receipt.reply() {
                 Some(reply) => reply.payload.as_slice() == [byte; 512].as_slice(),

@@ -5,7 +5,7 @@ use ring_core::Ticket;
 use unit_history::{Place, StepKind};
 
 /// The queue that all chains come from.
-pub const QUEUE: u16 = 2;
+pub(crate) const QUEUE: u16 = 2;
 
 /// What stands before the number of a chain of the other queue, in the names of jobs.
 pub const OTHER: u64 = 1000;
@@ -170,7 +170,7 @@ fn ticket(number: u64) -> Ticket {
 
 impl Told {
     /// As a unit tells it.
-    pub fn kind(&self) -> StepKind {
+    pub(crate) fn kind(&self) -> StepKind {
         match *self {
             Told::Entered(number) => StepKind::Enter(ticket(number)),
             Told::Committed(number) => StepKind::Commit(ticket(number)),

@@ -1,6 +1,6 @@
 //! The calls of a unit, each with whether its history is then longer by the step that its answer says, or by none.
 
-use super::acts::{Comes, Ends};
+use crate::acts::{Comes, Ends};
 use block_commands::{CHECK_CONDITION, GOOD, Reply};
 use block_store::NoMemory;
 use history::{Reason, Rule};
@@ -16,14 +16,14 @@ fn is_told(unit: &UnitState, before: u64, step: Option<StepKind>) -> bool {
 
 /// What became of an arrival.
 #[derive(Drop)]
-pub struct Came {
+pub(crate) struct Came {
     /// `None` where memory was refused.
-    pub comes: Option<Comes>,
+    pub(crate) comes: Option<Comes>,
     /// Its job, where the caller got it.
-    pub job: Option<Job>,
+    pub(crate) job: Option<Job>,
     step: Option<StepKind>,
     /// Whether the history says the same.
-    pub is_told: bool,
+    pub(crate) is_told: bool,
 }
 
 /// The parts of an answer of enter.
@@ -44,7 +44,7 @@ fn parts_of(entered: Entered, ticket: Ticket) -> Came {
 }
 
 /// An arrival enters.
-pub fn enter(unit: &mut UnitState, arrival: Arrival) -> Came {
+pub(crate) fn enter(unit: &mut UnitState, arrival: Arrival) -> Came {
     let ticket = arrival.ticket();
     let before = unit.steps();
     let mut came = parts_of(unit.enter(arrival), ticket);
@@ -73,7 +73,7 @@ fn ends_of(reply: &Reply) -> Ends {
 }
 
 /// What a receipt says.
-pub fn ends_of_receipt(receipt: &Receipt) -> Ends {
+pub(crate) fn ends_of_receipt(receipt: &Receipt) -> Ends {
     match receipt.reply() {
         Some(reply) => ends_of(reply),
         None => Ends::Otherwise,
@@ -90,7 +90,7 @@ fn step_of(outcome: &Outcome, ticket: Ticket) -> Option<StepKind> {
 }
 
 /// A job is committed. `None` where the history doesn't say the same.
-pub fn commit(unit: &mut UnitState, job: &Job) -> Option<Outcome> {
+pub(crate) fn commit(unit: &mut UnitState, job: &Job) -> Option<Outcome> {
     let before = unit.steps();
     let outcome = unit.commit(job);
     let step = step_of(&outcome, job.ticket());
@@ -105,7 +105,7 @@ pub fn commit(unit: &mut UnitState, job: &Job) -> Option<Outcome> {
 const PLACES: usize = 64;
 
 /// Whether the task of a completed chain leaves. `None` where the history doesn't say the same.
-pub fn leave(unit: &mut UnitState, answered: Answered, out: &mut JobList) -> Option<bool> {
+pub(crate) fn leave(unit: &mut UnitState, answered: Answered, out: &mut JobList) -> Option<bool> {
     if out.limit().saturating_sub(out.len()) < PLACES {
         return None;
     }
@@ -151,7 +151,7 @@ fn place_told(
 }
 
 /// An abort.
-pub fn abort(
+pub(crate) fn abort(
     unit: &mut UnitState,
     rule: Rule,
     out: &mut JobList,
@@ -165,7 +165,7 @@ pub fn abort(
 }
 
 /// A reset.
-pub fn reset(unit: &mut UnitState, out: &mut JobList) -> Result<Option<Place>, NoMemory> {
+pub(crate) fn reset(unit: &mut UnitState, out: &mut JobList) -> Result<Option<Place>, NoMemory> {
     if out.limit().saturating_sub(out.len()) < PLACES {
         return Ok(None);
     }
@@ -175,7 +175,7 @@ pub fn reset(unit: &mut UnitState, out: &mut JobList) -> Result<Option<Place>, N
 }
 
 /// How a job ends where it ends without a reply.
-pub fn ends_without_reply(reason: Reason) -> Ends {
+pub(crate) fn ends_without_reply(reason: Reason) -> Ends {
     match reason {
         Reason::Aborted => Ends::Aborted,
         Reason::Reset => Ends::Reset,

@@ -81,12 +81,12 @@ const NEXT: u16 = 1;
 const WRITE: u16 = 2;
 
 /// The guest's write. It has no contract, so that what `poke` promises is read once.
-pub fn poke(world: &mut World, addr: u64, bytes: &[u8]) -> bool {
+pub(crate) fn poke(world: &mut World, addr: u64, bytes: &[u8]) -> bool {
     world.poke(addr, bytes)
 }
 
 /// Whether memory has these bytes there.
-pub fn has(world: &World, addr: u64, bytes: &[u8]) -> bool {
+pub(crate) fn has(world: &World, addr: u64, bytes: &[u8]) -> bool {
     match world.memory().slice(addr, bytes.len()) {
         Ok(here) => here == bytes,
         Err(_) => false,
@@ -121,7 +121,7 @@ fn put_descriptor(
 
 /// Makes a chain available, the one of this number on its queue, from 0. It takes the pair of descriptors of that number,
 /// and of these the second alone where the device reads nothing of it.
-pub fn send(world: &mut World, number: u8, sent: Sent) -> bool {
+pub(crate) fn send(world: &mut World, number: u8, sent: Sent) -> bool {
     let area = 4096 * u64::from(sent.queue);
     let place = u64::from(place_of(sent.queue, number));
     let slot = 2 * u16::from(number);
@@ -145,6 +145,6 @@ pub fn send(world: &mut World, number: u8, sent: Sent) -> bool {
 }
 
 /// Whether the device's answer of a chain begins so.
-pub fn was_answered(world: &World, queue: u16, number: u8, bytes: &[u8]) -> bool {
+pub(crate) fn was_answered(world: &World, queue: u16, number: u8, bytes: &[u8]) -> bool {
     has(world, u64::from(place_of(queue, number)) + RESPONSE, bytes)
 }

@@ -1,10 +1,10 @@
 //! What makes the acts of a row.
 
-use super::acts::{Act, Comes, Ends, SIMPLE, Sent, Told};
-use super::calls;
-use super::calls::Came;
-use super::hand::{Hand, MOST_JOBS, name_of};
-use super::port::Ports;
+use crate::acts::{Act, Comes, Ends, Row, SIMPLE, Sent, Told};
+use crate::calls;
+use crate::calls::Came;
+use crate::hand::{Hand, MOST_JOBS, name_of};
+use crate::port::Ports;
 use block_store::NoMemory;
 use decisions::UnitSpec;
 use history::Rule;
@@ -12,7 +12,7 @@ use std::alloc::Global;
 use unit_history::{Place, UnitState};
 
 /// A unit of 1,000 blocks with nothing pending.
-pub const CALM: UnitSpec = UnitSpec {
+pub(crate) const CALM: UnitSpec = UnitSpec {
     target: 0,
     lun: 0,
     blocks: 1000,
@@ -20,7 +20,7 @@ pub const CALM: UnitSpec = UnitSpec {
 };
 
 /// Another unit of its target.
-pub const SECOND: UnitSpec = UnitSpec { lun: 1, ..CALM };
+pub(crate) const SECOND: UnitSpec = UnitSpec { lun: 1, ..CALM };
 
 /// A unit with the address of the first that isn't calm.
 const TWIN: UnitSpec = UnitSpec {
@@ -31,11 +31,16 @@ const TWIN: UnitSpec = UnitSpec {
 /// Units, of which the third is a twin of the first; the queues that their requests come from; and what their calls
 /// gave.
 #[derive(Drop)]
-pub struct Bench {
+struct Bench {
     alloc: Global,
     ports: Ports,
     units: Vec<UnitState>,
     hand: Hand,
+}
+
+/// A unit of target 0. It has no contract, so that what `new` promises is read once.
+fn new_unit(alloc: Global, spec: &UnitSpec, keeps_replies: bool) -> Result<UnitState, NoMemory> {
+    Ok(UnitState::new(alloc, spec, &[0, 1], keeps_replies)?)
 }
 
 /// Whether one more unit of target 0 can be had.
@@ -45,7 +50,7 @@ fn adds_unit(
     spec: &UnitSpec,
     keeps_replies: bool,
 ) -> bool {
-    match UnitState::new(alloc, spec, &[0, 1], keeps_replies) {
+    match new_unit(alloc, spec, keeps_replies) {
         Ok(unit) => units.push(unit).is_ok(),
         Err(_) => false,
     }
@@ -66,7 +71,7 @@ fn units_of(alloc: Global, keeps_replies: bool) -> Option<Vec<UnitState>> {
 
 impl Bench {
     /// Units of which no step was taken, and queues of which nothing was fetched; `None` where memory was refused.
-    pub fn new(alloc: Global, keeps_replies: bool) -> Option<Bench> {
+    fn new(alloc: Global, keeps_replies: bool) -> Option<Bench> {
         let units = units_of(alloc, keeps_replies)?;
         let ports = Ports::new(alloc)?;
         let hand = Hand::new(alloc)?;
@@ -80,7 +85,7 @@ impl Bench {
 
     /// Makes acts. The number of the first that doesn't go as it says, from 0. Where memory is refused the acts end,
     /// and the units have to serve on.
-    pub fn first_wrong(&mut self, acts: &[Act]) -> Option<usize> {
+    fn first_wrong(&mut self, acts: &[Act]) -> Option<usize> {
         for number in 0..acts.len() {
             let goes = self.makes(acts[number]);
             if goes != Ok(true) {
@@ -333,4 +338,14 @@ fn has_bytes(alloc: Global, unit: &UnitState, number: u64, byte: u8) -> Result<b
     let mut bytes = Vec::new(alloc);
     unit.read_blocks(number, 1, &mut bytes)?;
     Ok(bytes.as_slice() == [byte; 512].as_slice())
+}
+
+/// Plays a row on units and queues of its own. The number of its first act that doesn't go as it says, from 0. Where
+/// memory is refused on the way, its acts end there: what was refused changed no more than it may, and the units serve
+/// on. `NoMemory` where the units can't be had.
+pub fn first_wrong(alloc: Global, row: &Row) -> Result<Option<usize>, NoMemory> {
+    match Bench::new(alloc, row.keeps_replies) {
+        Some(mut bench) => Ok(bench.first_wrong(row.acts)),
+        None => Err(NoMemory),
+    }
 }

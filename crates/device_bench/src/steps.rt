@@ -1,0 +1,141 @@
+//! What is done with a device, a step at a time, and whether that comes of it which should.
+
+use crate::guest::{Sent, has, poke, send, was_answered};
+use crate::moves::{Move, run, step, step_all};
+use crate::opening::{Numbers, start};
+use block_store::NoMemory;
+use std::alloc::Global;
+use world::{StartFault, StepKind, UnitSpec, World};
+
+/// The unit 0:0 of 8 blocks, with nothing pending.
+pub const UNIT: UnitSpec = UnitSpec {
+    target: 0,
+    lun: 0,
+    blocks: 8,
+    calm: true,
+};
+
+/// What the driver or the device does, and what comes of it.
+#[derive(Clone, Copy)]
+pub enum Step {
+    /// The driver writes bytes at an address: whether they lie in memory.
+    Poke(u64, &'static [u8], bool),
+    /// The driver makes the chain of a number available.
+    Send(u8, Sent),
+    /// One event, and whether it changes something.
+    Event(Move, bool),
+    /// Of these events, taken one after another, so many change something.
+    Run(&'static [Move], u64),
+    /// Of the device's events on this queue and this seat, and the operator's on the unit at this place, none changes
+    /// something.
+    Idle(u16, u16, u16),
+    /// The device settles in so many steps.
+    Settle(u64),
+    /// Guest memory has these bytes at an address.
+    Has(u64, &'static [u8]),
+    /// What the device wrote for a queue's chain of a number begins so.
+    Answer(u16, u8, &'static [u8]),
+    /// The history of the unit 0:0.
+    History(&'static [StepKind]),
+    /// The device's status.
+    Status(u8),
+    /// How many notices a queue gave.
+    Notices(u16, u64),
+    /// Whether a target's LUN 0 has this block.
+    Block(u8, u64, bool),
+    /// How many blocks a target's LUN 0 has.
+    Capacity(u8, Option<u64>),
+    /// The place of the unit of a target and a LUN.
+    Place(u8, u16, Option<u16>),
+}
+
+/// A configuration, whether it is refused as bad, and what is done with its device where it is taken.
+#[derive(Clone, Copy)]
+pub struct Row {
+    pub shows: &'static str,
+    pub numbers: Numbers,
+    pub units: &'static [UnitSpec],
+    pub is_refused: bool,
+    pub steps: &'static [Step],
+}
+
+/// Whether the unit 0:0 has this history.
+fn has_history(world: &World, steps: &[StepKind]) -> bool {
+    let Some(unit) = world.unit(0, 0) else {
+        return false;
+    };
+    for place in 0..steps.len() {
+        if unit.step(place as u64) != Some(steps[place]) {
+            return false;
+        }
+    }
+    unit.steps() == steps.len() as u64
+}
+
+/// In how many steps the device settles. It has no contract, so that what `settle` promises is read once.
+fn settle(world: &mut World) -> Result<u64, NoMemory> {
+    Ok(world.settle()?)
+}
+
+/// Whether a target's LUN 0 has a block.
+fn has_block(alloc: Global, world: &World, target: u8, lba: u64) -> Result<bool, NoMemory> {
+    let mut block = Vec::new(alloc);
+    world.read_blocks(target, 0, lba, 1, &mut block)
+}
+
+/// Whether memory, a unit or a number is as a step says.
+fn shows(world: &World, step: Step) -> bool {
+    match step {
+        Step::Has(addr, bytes) => has(world, addr, bytes),
+        Step::Answer(queue, number, bytes) => was_answered(world, queue, number, bytes),
+        Step::History(steps) => has_history(world, steps),
+        Step::Status(status) => world.status() == status,
+        Step::Notices(queue, count) => world.notices(queue) == Some(count),
+        Step::Capacity(target, blocks) => world.capacity(target, 0) == blocks,
+        Step::Place(target, lun, place) => world.place(target, lun) == place,
+        _ => false,
+    }
+}
+
+/// Whether a step goes as its row says.
+fn takes(alloc: Global, world: &mut World, named: Step) -> Result<bool, NoMemory> {
+    match named {
+        Step::Poke(addr, bytes, fits) => Ok(poke(world, addr, bytes) == fits),
+        Step::Send(number, sent) => Ok(send(world, number, sent)),
+        Step::Event(event, changes) => Ok(step(alloc, world, event)? == changes),
+        Step::Run(moves, count) => Ok(run(alloc, world, moves)? == count),
+        Step::Idle(queue, seat, place) => Ok(step_all(alloc, world, queue, seat, place)? == 0),
+        Step::Settle(count) => Ok(settle(world)? == count),
+        Step::Block(target, lba, is_there) => Ok(has_block(alloc, world, target, lba)? == is_there),
+        _ => Ok(shows(world, named)),
+    }
+}
+
+/// The number of the first step that doesn't go as it says, from 0.
+fn first_wrong_step(
+    alloc: Global,
+    world: &mut World,
+    steps: &[Step],
+) -> Result<Option<usize>, NoMemory> {
+    for number in 0..steps.len() {
+        if !takes(alloc, world, steps[number])? {
+            return Ok(Some(number));
+        }
+    }
+    Ok(None)
+}
+
+/// Plays a row on a device of its own. The number of its first step that doesn't go as it says, from 0, which is also
+/// where its configuration is refused, or taken, and should not be. `NoMemory` where memory is refused on the way.
+pub fn first_wrong(alloc: Global, row: &Row) -> Result<Option<usize>, NoMemory> {
+    match start(alloc, row.numbers, row.units) {
+        Ok(mut world) => {
+            if row.is_refused {
+                return Ok(Some(0));
+            }
+            first_wrong_step(alloc, &mut world, row.steps)
+        }
+        Err(StartFault::BadConfig) => Ok(if row.is_refused { None } else { Some(0) }),
+        Err(StartFault::NoMemory) => Err(NoMemory),
+    }
+}
