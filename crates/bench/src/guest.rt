@@ -1,33 +1,28 @@
-//! A guest that sends one request over and over, from the same place in its memory.
+//! A guest that makes so many requests available at once, over and over, from the same places in its memory.
 
+ghost use Rattle.std.specs.Prelude.{◌<◌, ◌^◌};
+
+use crate::work::{Kind, MOST_DEPTH, REQUEST_BYTES, RESPONSE_BYTES, Request, Work, request_of};
 use block_store::NoMemory;
 use ring_core::{Form, Layout};
 use std::alloc::{AllocError, Global};
 use world::{Config, RING_PACKED, StartFault, UnitSpec, VERSION_1, World};
 
-/// The most blocks of a request: 1 MiB.
-pub const MOST_BLOCKS: u16 = 2048;
-
-/// Guest memory, in pages.
-const PAGES: u32 = 1024;
-
-/// The request queue's areas; those of the other two queues lie behind them.
+/// The areas of the request queue; those of the other two queues lie behind them.
 const DESCRIPTORS: u64 = 0;
 
-const DRIVER: u64 = 1024;
+const DRIVER: u64 = 0x2000;
 
-const DEVICE: u64 = 2048;
+const DEVICE: u64 = 0x4000;
 
-/// Where the request lies, with the data to the device behind it.
-const REQUEST: u64 = 0x4000;
+const OTHER_QUEUES: [u32; 2] = [0x8000, 0x9000];
 
-/// Where the response goes, with the data from the device behind it.
-const RESPONSE: u64 = 0x20_0000;
+/// Where the requests and responses lie, each pair in an area of its own.
+const AREAS: u64 = 0x1_0000;
 
-/// The bytes of a request, and of a response.
-const REQUEST_BYTES: u32 = 51;
+const SMALL_AREA: u64 = 0x1000;
 
-const RESPONSE_BYTES: u32 = 108;
+const LARGE_AREA: u64 = 0x1_1000;
 
 /// The steps of a request that nothing blocks: it is fetched, enters, is put, taken, committed and answered, and leaves.
 const STEPS: u64 = 7;
@@ -41,32 +36,10 @@ const AVAILABLE: u16 = 0x80;
 
 const USED: u16 = 0x8000;
 
-/// What each request does.
-#[derive(Clone, Copy, Debug, PartialEq, Eq)]
-pub enum Transfer {
-    /// READ (10) from block 0 on.
-    Read,
-    /// WRITE (10) from block 0 on.
-    Write,
-}
-
-/// What is to be done.
-#[derive(Clone, Copy, Debug)]
-pub struct Work {
-    /// What each request does.
-    pub transfer: Transfer,
-    /// To how many blocks.
-    pub blocks: u16,
-    /// The form of the queues.
-    pub form: Form,
-    /// How many requests.
-    pub rounds: u64,
-}
-
 /// Why the work wasn't done.
 #[derive(Clone, Copy, Debug, PartialEq, Eq)]
 pub enum Failure {
-    /// A request wasn't served, or its command didn't end with GOOD.
+    /// A request wasn't served, or its command didn't end with GOOD, or its data are not those of its blocks.
     NotServed,
     /// Memory was refused.
     NoMemory,
@@ -93,115 +66,228 @@ impl From<StartFault> for Failure {
     }
 }
 
-/// One calm unit and one request queue.
-fn config(alloc: Global, form: Form) -> Result<Config, AllocError> {
+/// Where the request with this number lies.
+fn request_at(kind: Kind, number: u16) -> u64
+    ensures { result < 2 ^ 40 }
+{
+    match kind {
+        Kind::Read64k | Kind::Write64k => AREAS + number as u64 * LARGE_AREA,
+        _ => AREAS + number as u64 * SMALL_AREA,
+    }
+}
+
+/// Where the response to a request goes: right behind it, at a multiple of 64.
+fn response_at(kind: Kind, number: u16, request: &Request) -> u64 {
+    let sent = REQUEST_BYTES as u64 + request.sent as u64;
+    request_at(kind, number) + (sent / 64 + 1) * 64
+}
+
+/// A queue with so many descriptors, whose areas begin here.
+fn layout(size: u16, at: u32) -> Layout {
+    let desc = at as u64;
+    Layout {
+        size,
+        desc,
+        driver: desc + 0x400,
+        device: desc + 0x800,
+    }
+}
+
+/// Two calm units and one request queue.
+fn config(alloc: Global, work: &Work) -> Result<Config, AllocError> {
     let mut queues = Vec::new(alloc);
-    for desc in [4096, 8192, DESCRIPTORS] {
-        queues.push(Layout {
-            size: 2,
-            desc,
-            driver: desc + DRIVER,
-            device: desc + DEVICE,
+    for at in OTHER_QUEUES {
+        queues.push(layout(2, at))?;
+    }
+    queues.push(Layout {
+        size: work.depth.wrapping_mul(2),
+        desc: DESCRIPTORS,
+        driver: DRIVER,
+        device: DEVICE,
+    })?;
+    let mut units = Vec::new(alloc);
+    for lun in [0, 1] {
+        units.push(UnitSpec {
+            target: 0,
+            lun,
+            blocks: MOST_DEPTH as u64 * work.kind.blocks() as u64,
+            calm: true,
         })?;
     }
-    let mut units = Vec::new(alloc);
-    units.push(UnitSpec {
-        target: 0,
-        lun: 0,
-        blocks: MOST_BLOCKS as u64,
-        calm: true,
-    })?;
     Ok(Config {
-        pages: PAGES,
-        features: match form {
+        pages: (request_at(work.kind, work.depth) / 4096 + 1) as u32,
+        features: match work.form {
             Form::Split => VERSION_1,
             Form::Packed => VERSION_1 + RING_PACKED,
         },
         queues,
         workers: 1,
-        handoff: 1,
+        handoff: 8,
         units,
     })
 }
 
-/// Puts the request's bytes into memory.
-fn put_request(world: &mut World, work: &Work) {
-    let mut bytes = [0; 51];
-    bytes[0] = 1;
-    bytes[2] = 0x40;
-    bytes[19] = match work.transfer {
-        Transfer::Read => 0x28,
-        Transfer::Write => 0x2a,
-    };
-    bytes[26..28].copy_from_slice(&work.blocks.to_be_bytes());
-    world.poke(REQUEST, bytes.as_slice());
-}
-
-/// A descriptor of either form: in a split one the last two numbers are flags and next, in a packed
+/// The bytes of a descriptor of either form: in a split one the last two numbers are flags and next, in a packed
 /// one id and flags.
-fn put_descriptor(world: &mut World, place: u64, addr: u64, len: u32, pair: [u16; 2]) {
+fn descriptor(addr: u64, len: u32, pair: [u16; 2]) -> [u8; 16] {
     let [first, second] = pair;
     let mut bytes = [0; 16];
     bytes[0..8].copy_from_slice(&addr.to_le_bytes());
     bytes[8..12].copy_from_slice(&len.to_le_bytes());
     bytes[12..14].copy_from_slice(&first.to_le_bytes());
     bytes[14..16].copy_from_slice(&second.to_le_bytes());
-    world.poke(place, bytes.as_slice());
+    bytes
 }
 
-/// How many bytes the request and the response have, with their data.
-fn lengths(work: &Work) -> (u32, u32) {
-    let data = 512 * work.blocks as u32;
-    match work.transfer {
-        Transfer::Read => (REQUEST_BYTES, RESPONSE_BYTES + data),
-        Transfer::Write => (REQUEST_BYTES + data, RESPONSE_BYTES),
+/// A guest with its device.
+#[derive(Drop)]
+pub struct Guest {
+    world: World,
+    work: Work,
+    responses: Vec<u64>,
+    // A packed queue's descriptors, as the driver writes them in rounds with an even and with an odd number.
+    even: Vec<u8>,
+    odd: Vec<u8>,
+    served: u64,
+}
+
+/// Puts the bytes of a request into memory.
+fn put_request(world: &mut World, work: &Work, number: u16, request: &Request) {
+    let mut bytes = [0; 51];
+    bytes[0] = 1;
+    bytes[2] = 0x40;
+    bytes[3] = request.lun;
+    bytes[8..10].copy_from_slice(&number.to_le_bytes());
+    bytes[16] = request.attribute;
+    bytes[19..35].copy_from_slice(&request.cdb);
+    world.poke(request_at(work.kind, number), bytes.as_slice());
+}
+
+/// Puts a request's chain into the table of a split queue, and into its available ring.
+fn put_split(world: &mut World, work: &Work, number: u16, response: u64, request: &Request) {
+    let head = number.wrapping_mul(2);
+    let at = DESCRIPTORS + 16 * head as u64;
+    let next = head.wrapping_add(1);
+    let sent = REQUEST_BYTES.wrapping_add(request.sent);
+    let taken = RESPONSE_BYTES.wrapping_add(request.taken);
+    let first = descriptor(request_at(work.kind, number), sent, [NEXT, next]);
+    world.poke(at, first.as_slice());
+    world.poke(at + 16, descriptor(response, taken, [WRITE, 0]).as_slice());
+    // The ring has twice as many entries as there are requests.
+    for entry in [number, number.wrapping_add(work.depth)] {
+        let place = DRIVER + 4 + 2 * entry as u64;
+        world.poke(place, head.to_le_bytes().as_slice());
     }
 }
 
-/// Makes the request available on a split queue, whose chain is put at the first time.
-fn send_split(world: &mut World, work: &Work, round: u64) {
-    if round == 0 {
-        let (sent, taken) = lengths(work);
-        put_descriptor(world, DESCRIPTORS, REQUEST, sent, [NEXT, 1]);
-        put_descriptor(world, DESCRIPTORS + 16, RESPONSE, taken, [WRITE, 0]);
-    }
-    let index = (round % 65536) as u16;
-    world.poke(DRIVER + 2, &index.wrapping_add(1).to_le_bytes());
+/// Appends a request's chain to the descriptors of a packed queue.
+fn put_packed(
+    slots: &mut Vec<u8>,
+    work: &Work,
+    number: u16,
+    response: u64,
+    request: &Request,
+    wrap: u16,
+) -> Result<(), AllocError> {
+    let sent = REQUEST_BYTES.wrapping_add(request.sent);
+    let taken = RESPONSE_BYTES.wrapping_add(request.taken);
+    let first = descriptor(request_at(work.kind, number), sent, [number, NEXT | wrap]);
+    slots.extend_from_slice(&first)?;
+    slots.extend_from_slice(&descriptor(response, taken, [number, WRITE | wrap]))
 }
 
-/// Makes the request available on a packed queue, over both of its slots.
-fn send_packed(world: &mut World, work: &Work, round: u64) {
-    let (sent, taken) = lengths(work);
-    let wrap = if round % 2 == 0 { AVAILABLE } else { USED };
-    put_descriptor(world, DESCRIPTORS, REQUEST, sent, [0, NEXT | wrap]);
-    put_descriptor(world, DESCRIPTORS + 16, RESPONSE, taken, [0, WRITE | wrap]);
-}
-
-/// Sends the request, lets the device serve it, and looks whether it ended with GOOD.
-fn serve(world: &mut World, work: &Work, round: u64) -> Result<(), Failure> {
-    world.poke(RESPONSE, &[255; 12]);
-    match work.form {
-        Form::Split => send_split(world, work, round),
-        Form::Packed => send_packed(world, work, round),
+impl Guest {
+    /// A guest with its device, and all requests in memory.
+    pub(crate) fn new(alloc: Global, work: &Work) -> Result<Guest, Failure> {
+        let world = World::new(alloc, &config(alloc, work)?)?;
+        let mut guest = Guest {
+            world,
+            work: *work,
+            responses: Vec::new(alloc),
+            even: Vec::new(alloc),
+            odd: Vec::new(alloc),
+            served: 0,
+        };
+        for number in 0..work.depth {
+            guest.put(number)?;
+        }
+        Ok(guest)
     }
-    let served = world.settle()?;
-    let mut response = [255; 12];
-    if served == STEPS
-        && world.memory().read(RESPONSE, &mut response).is_ok()
-        && response == [0; 12]
-    {
+
+    /// Puts one request into memory.
+    fn put(&mut self, number: u16) -> Result<(), Failure> {
+        let request = request_of(self.work.kind, number);
+        let response = response_at(self.work.kind, number, &request);
+        if self.responses.push(response).is_err() {
+            return Err(Failure::NoMemory);
+        }
+        put_request(&mut self.world, &self.work, number, &request);
+        match self.work.form {
+            Form::Split => {
+                put_split(&mut self.world, &self.work, number, response, &request);
+            }
+            Form::Packed => {
+                let (even, odd) = (AVAILABLE, USED);
+                put_packed(&mut self.even, &self.work, number, response, &request, even)?;
+                put_packed(&mut self.odd, &self.work, number, response, &request, odd)?;
+            }
+        }
         Ok(())
-    } else {
-        Err(Failure::NotServed)
     }
-}
 
-/// Serves the request in so many rounds.
-pub fn serve_rounds(alloc: Global, work: &Work) -> Result<(), Failure> {
-    let mut world = World::new(alloc, &config(alloc, work.form)?)?;
-    put_request(&mut world, work);
-    for round in 0..work.rounds {
-        serve(&mut world, work, round)?;
+    /// Makes all requests available, the first time with an index of 0.
+    fn send(&mut self, round: u64) {
+        match self.work.form {
+            Form::Split => {
+                let index = (round.wrapping_add(1).wrapping_mul(self.work.depth as u64)
+                    % 65536) as u16;
+                self.world.poke(DRIVER + 2, index.to_le_bytes().as_slice());
+            }
+            Form::Packed => {
+                if round % 2 == 0 {
+                    self.world.poke(DESCRIPTORS, self.even.as_slice());
+                } else {
+                    self.world.poke(DESCRIPTORS, self.odd.as_slice());
+                }
+            }
+        }
     }
-    Ok(())
+
+    /// Takes what was answered: how many requests ended with GOOD.
+    fn take(&mut self) -> u64 {
+        let mut good: u64 = 0;
+        for response in self.responses.iter() {
+            let mut head = [255; 12];
+            if self.world.memory().read(*response, &mut head).is_ok() && head == [0; 12] {
+                good = good.wrapping_add(1);
+            }
+        }
+        good
+    }
+
+    /// Clears the responses, makes all requests available, lets the device serve them, and looks whether each ended
+    /// with GOOD.
+    pub(crate) fn serve(&mut self, round: u64) -> Result<(), Failure> {
+        for response in self.responses.iter() {
+            self.world.poke(*response, &[255; 12]);
+        }
+        self.send(round);
+        if self.work.kind == Kind::None {
+            self.take();
+            return Ok(());
+        }
+        let steps = self.world.settle()?;
+        let good = self.take();
+        self.served = self.served.wrapping_add(good);
+        if good == self.work.depth as u64 && steps == STEPS.wrapping_mul(good) {
+            Ok(())
+        } else {
+            Err(Failure::NotServed)
+        }
+    }
+
+    /// How many requests were served.
+    pub(crate) fn served(&self) -> u64 {
+        self.served
+    }
 }

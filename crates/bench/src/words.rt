@@ -1,15 +1,19 @@
 //! What the words of the command line name.
 
-use crate::guest::{MOST_BLOCKS, Transfer, Work};
+use crate::work::{KINDS, Kind, Work};
 use ring_core::Form;
 
-/// What a word names as a command.
-fn transfer_of(word: &str) -> Option<Transfer> {
-    match word {
-        "read" => Some(Transfer::Read),
-        "write" => Some(Transfer::Write),
-        _ => None,
+/// How many requests may be made available at once.
+const DEPTHS: [u16; 9] = [1, 2, 4, 8, 16, 32, 64, 128, 256];
+
+/// What a word names as a kind of request.
+fn kind_of(word: &str) -> Option<Kind> {
+    for kind in KINDS {
+        if kind.word() == word {
+            return Some(kind);
+        }
     }
+    None
 }
 
 /// What a word names as a form of queue.
@@ -21,24 +25,27 @@ fn form_of(word: &str) -> Option<Form> {
     }
 }
 
-/// The work that four words behind the program's name name.
-pub fn work_of(words: &[String]) -> Option<Work> {
-    let [_, transfer, blocks, form, rounds] = words else {
+/// What a word names as a depth: a power of two.
+fn depth_of(word: &str) -> Option<u16> {
+    let Ok(depth) = word.parse::<u16>() else {
         return None;
     };
-    let Ok(blocks) = blocks.parse::<u16>() else {
-        return None;
-    };
+    if DEPTHS.contains(&depth) {
+        Some(depth)
+    } else {
+        None
+    }
+}
+
+/// The work that four words name.
+pub(crate) fn work_of(kind: &str, form: &str, depth: &str, rounds: &str) -> Option<Work> {
     let Ok(rounds) = rounds.parse::<u64>() else {
         return None;
     };
-    if blocks < 1 || blocks > MOST_BLOCKS {
-        return None;
-    }
     Some(Work {
-        transfer: transfer_of(transfer)?,
-        blocks,
+        kind: kind_of(kind)?,
         form: form_of(form)?,
+        depth: depth_of(depth)?,
         rounds,
     })
 }
