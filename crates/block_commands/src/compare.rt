@@ -44,8 +44,19 @@ pub(crate) fn compare_and_write<S: Store>(
     Ok(())
 }
 
-/// The offset of the first byte in which the two differ.
+/// The offset of the first byte in which the two differ. Where they are equal, as most often, they are compared whole.
 fn first_unequal(left: &[u8], right: &[u8]) -> Option<usize>
+    ensures offset { result ≡ first_unequal left.now right.now }
+    ensures bound { IfSome result (λ offset. offset < length left.now) }
+{
+    if left == right {
+        return None;
+    }
+    find_unequal(left, right)
+}
+
+/// The same, byte after byte.
+fn find_unequal(left: &[u8], right: &[u8]) -> Option<usize>
     ensures offset { result ≡ first_unequal left.now right.now }
     ensures bound { IfSome result (λ offset. offset < length left.now) }
 {

@@ -42,16 +42,16 @@ fn fail(code: ResponseCode) -> Decision
 /// What is decided of a request whose target is there.
 fn decide_by_command(
     inventory: &Inventory,
-    bytes: Vec<u8>,
+    bytes: &mut Vec<u8>,
     lengths: &ChainLengths,
     request: &Request,
 ) -> Decision
-    requires fetched { length bytes.items ≡ min 1048627 lengths.now.readable }
-    requires whole { REQUEST_BYTES ≤ length bytes.items }
+    requires fetched { length bytes.old.items ≡ min 1048627 lengths.now.readable }
+    requires whole { REQUEST_BYTES ≤ length bytes.old.items }
     requires sum { lengths.now.readable + lengths.now.writable ≤ 2 ^ 32 }
     requires room { RESPONSE_BYTES ≤ lengths.now.writable }
     ensures decision { result
-        ≡ decide_command inventory.now lengths.now bytes.items request.now (command request.now.cdb) }
+        ≡ decide_command inventory.now lengths.now bytes.old.items request.now (command request.now.cdb) }
     ensures suits { Suits (length inventory.now) lengths.now result }
 {
     let command = decode(&request.cdb);
@@ -77,11 +77,12 @@ fn decide_by_command(
 
 /// What is decided of a request, by the first bytes of its chain, 1,048,627 at most: the first cause that
 /// holds of those that answer it directly, else that it goes to its unit. A worker calls it once a chain,
-/// in the hold of the queue in which it was fetched. It takes no memory.
-pub fn decide(inventory: &Inventory, bytes: Vec<u8>, lengths: &ChainLengths) -> Decision
-    requires fetched { length bytes.items ≡ min 1048627 lengths.now.readable }
+/// in the hold of the queue in which it was fetched. It takes no memory. Bytes in which data stand that the command takes are
+/// moved into the request; all others are left to whoever calls.
+pub fn decide(inventory: &Inventory, bytes: &mut Vec<u8>, lengths: &ChainLengths) -> Decision
+    requires fetched { length bytes.old.items ≡ min 1048627 lengths.now.readable }
     requires sum { lengths.now.readable + lengths.now.writable ≤ 2 ^ 32 }
-    ensures decision { result ≡ decided inventory.now bytes.items lengths.now }
+    ensures decision { result ≡ decided inventory.now bytes.old.items lengths.now }
     ensures suits { Suits (length inventory.now) lengths.now result }
 {
     match read_request(bytes.as_slice(), lengths.writable) {

@@ -8,6 +8,7 @@ use crate::attribute::TaskAttribute;
 use cdb::{Command, need};
 use scsi_codec::REQUEST_BYTES;
 use std::marker::Model;
+use std::mem;
 
 /// A request that goes to a unit, decoded once, when it was fetched. Nobody can change it.
 #[derive(Debug, Drop)]
@@ -15,12 +16,12 @@ pub struct UnitRequest {
     id: u64,
     attribute: TaskAttribute,
     command: Command,
-    // The first bytes of the chain: the command's data stand from byte 51 on.
+    // The first bytes of the chain, where the command takes data: these stand from byte 51 on.
     bytes: Vec<u8>,
 }
 
 impl Model for UnitRequest {
-    ghost use Rattle.std.specs.Prelude.{◌+◌, ◌≤◌, drop, length};
+    ghost use Rattle.std.specs.Prelude.{◌≡◌, ◌⊎◌, ◌+◌, ◌≤◌, drop, length};
     ghost use Rattle.cdb.specs.Need.{need_of};
     ghost use Rattle.block_commands.specs.Replies.{data_of};
     ghost use Rattle.decisions.specs.UnitRequest.{PlainRequest};
@@ -34,30 +35,35 @@ impl Model for UnitRequest {
       data_out = data_of r.command (drop 51 r.bytes.items);
     } };
 
-    ghost invariant = { λ r. 51 + (need_of r.command).out ≤ length r.bytes.items };
+    ghost invariant = { λ r.
+        ((need_of r.command).out ≡ 0) ⊎ (51 + (need_of r.command).out ≤ length r.bytes.items) };
 }
 
 impl UnitRequest {
-    /// The request in the first bytes of a chain, decoded.
+    /// The request in the first bytes of a chain, decoded. It takes the bytes where the command takes data from them.
     pub(crate) fn new(
         id: u64,
         attribute: TaskAttribute,
         command: Command,
-        bytes: Vec<u8>,
+        bytes: &mut Vec<u8>,
     ) -> UnitRequest
-        requires { REQUEST_BYTES + (need_of command).out ≤ length bytes.items }
+        requires { REQUEST_BYTES + (need_of command).out ≤ length bytes.old.items }
         ensures { result ≡ record {
           id = id;
           attribute = attribute;
           command = command;
-          data_out = data_of command (drop 51 bytes.items);
+          data_out = data_of command (drop 51 bytes.old.items);
         } }
     {
+        let mut own = Vec::new(*bytes.allocator());
+        if need(&command).out > 0 {
+            mem::swap(bytes, &mut own);
+        }
         UnitRequest {
             id,
             attribute,
             command,
-            bytes,
+            bytes: own,
         }
     }
 
@@ -87,7 +93,11 @@ impl UnitRequest {
         ensures data { result.now ≡ self.now.data_out }
         ensures len { length result.now ≡ (need_of self.now.command).out }
     {
+        let len = need(&self.command).out as usize;
+        if len == 0 {
+            return &[];
+        }
         let (_, data) = self.bytes.as_slice().split_at(REQUEST_BYTES);
-        &data[..need(&self.command).out as usize]
+        &data[..len]
     }
 }

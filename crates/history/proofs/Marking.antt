@@ -5,11 +5,11 @@ use Rattle.history.specs.declared.rule.Rule.TheVariants as rules
 use Rattle.history.specs.declared.reason.Reason.{Reason}
 use Rattle.history.specs.declared.reason.Reason.TheVariants as reason
 use Rattle.history.specs.Tasks.{same_ticket, task_of}
-use Rattle.history.specs.Steps.{Step, alive, done}
+use Rattle.history.specs.Steps.{Step, alive, done, has_left}
 use Rattle.history.specs.Marks.{meets_one, strikes, first_mark, mark_of, marked}
 use Rattle.history.specs.Contents.{Opening}
 use Rattle.history.specs.Lawful.{IsLawful}
-use Rattle.history.proofs.Tickets.{same-true, clash, or_right}
+use Rattle.history.proofs.Tickets.{same-true, clash, or_right, right_off}
 
 struck_off : (a b : Bool) → (a && not b) ≡ true → b ≡ false
 struck_off true true h = absurd (cc)
@@ -100,3 +100,23 @@ done_never_marked o t later past l d =
       | true ↦ λ k. absurd (clash (sym (done_lasts t later past d) ∙ marked_undone o t (later ++ past) l k))
       | false ↦ λ k. refl
     ] refl
+
+-- of a task that is done or marked, and not done
+other_one : (a b : Bool) → (a || b) ≡ true → a ≡ false → b ≡ true
+other_one true b h n = absurd (cc)
+other_one false b h n = h
+
+-- what left without having run, nor was answered BUSY, was marked
+pub left_marked : (o : Opening) (t : Ticket) (h : List Step) → IsLawful o h → has_left t h ≡ true → done t h ≡ false → marked t h ≡ true
+left_marked o t [] l k n = absurd (cc)
+left_marked o t (Step.Enter e ∷ past) l k n = left_marked o t past l.0 k n
+left_marked o t (Step.Full u ∷ past) l k n = left_marked o t past l.0 k n
+left_marked o t (Step.Commit u r ∷ past) l k n = left_marked o t past l.0 k (right_off (same_ticket u t) (done t past) n)
+left_marked o t (Step.Busy u ∷ past) l k n = left_marked o t past l.0 k (right_off (same_ticket u t) (done t past) n)
+left_marked o t (Step.Abort rule ∷ past) l k n = marked_on (Step.Abort rule) t past (left_marked o t past l.0 k n)
+left_marked o t (Step.Reset c ∷ past) l k n = marked_on (Step.Reset c) t past (left_marked o t past l.0 k n)
+left_marked o t (Step.Leave u ∷ past) l k n =
+    (elim (same_ticket u t) as (λ b. (same_ticket u t ≡ b) → (b || has_left t past) ≡ true → marked t past ≡ true) [
+      | true ↦ λ q w. other_one (done t past) (marked t past) (ap (λ z. done z past || marked z past) (sym (same-true u t q)) ∙ l.1.2) n
+      | false ↦ λ q w. left_marked o t past l.0 w n
+    ]) refl k

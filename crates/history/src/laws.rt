@@ -25,7 +25,7 @@ pub use keeping::{
 };
 pub use marks::{
     first_mark_stays, marked_commands_never_run, places_are_clear_when_all_have_left,
-    places_are_clear_where_no_earlier_task_is_met,
+    places_are_clear_where_no_earlier_task_is_met, what_left_undone_was_marked,
 };
 pub use owing::{at_most_128_are_owed, each_step_is_owed};
 pub use receipts::{

@@ -4,10 +4,10 @@ use crate::placement::check_layout;
 use crate::slots::{
     descriptor_at, flags_of_used, is_available, number_at, place_of, put_used, wrap_at,
 };
-use crate::walk::{Run, walk};
+use crate::walk::{Run, fault_without_room, walk};
 use guest_mem::GuestMem;
 use ring_core::{
-    Chain, Completion, FIRST_BYTES, Features, Fetched, Layout, LayoutFault, QueueLog, Ring,
+    Chain, Completion, Draft, FIRST_BYTES, Features, Fetched, Layout, LayoutFault, QueueLog, Ring,
     RingBase, RingFault, Ticket, gather,
 };
 use std::alloc::Global;
@@ -69,7 +69,7 @@ impl PackedRing {
 }
 
 impl PackedRing {
-    ghost use Rattle.std.specs.Prelude.{◌≡◌, length, None, true};
+    ghost use Rattle.std.specs.Prelude.{◌≡◌, [], length, None, true};
     ghost use Rattle.ring_core.specs.Packed.{is_available as is_available_in};
     ghost use Rattle.packed_ring.specs.Inner.{PackedFinds};
     ghost use Rattle.ring_core.specs.Offer.{PackedOffers, Found};
@@ -87,14 +87,30 @@ impl PackedRing {
     }
 
     /// The next chain, where there is one.
-    fn next(&self, memory: &GuestMem) -> Result<Run, RingFault>
+    fn next(&mut self, memory: &GuestMem) -> Result<Run, RingFault>
+        requires fits { length memory.now ≡ self.old.memory }
+        requires some { is_available_in self.old memory.now ≡ true }
+        ensures finds { PackedFinds self.old memory.now result }
+        ensures same { self.new ≡ self.old }
+    {
+        let layout = self.base.layout();
+        let accepted = self.base.accepted_slots();
+        let Ok(draft) = self.base.draft() else {
+            return Err(fault_without_room(memory, &layout, accepted));
+        };
+        self.find(memory, draft)
+    }
+
+    /// The next chain, where there is one, in this room.
+    fn find(&self, memory: &GuestMem, draft: Draft) -> Result<Run, RingFault>
         requires fits { length memory.now ≡ self.now.memory }
         requires some { is_available_in self.now memory.now ≡ true }
+        requires empty { draft ≡ [] }
         ensures { PackedFinds self.now memory.now result }
     {
         let layout = self.base.layout();
         let accepted = self.base.accepted_slots();
-        match walk(self.base.allocator(), memory, &layout, accepted) {
+        match walk(draft, memory, &layout, accepted) {
             Ok(run) => {
                 let outstanding = accepted - self.base.used_slots();
                 if self.base.is_outstanding(run.id) {
@@ -116,9 +132,13 @@ impl PackedRing {
         requires found { PackedOffers self.old memory.now (Found run.id run.slots run.draft) }
         ensures { Fetches self.old memory.now result self.new }
     {
-        let alloc = self.base.allocator();
-        let Run { id, slots, draft } = run;
-        let Ok(bytes) = gather(alloc, memory, &draft, FIRST_BYTES) else {
+        let _ = &self.base;
+        let Run {
+            id,
+            slots,
+            mut draft,
+        } = run;
+        let Ok(bytes) = gather(memory, &mut draft, FIRST_BYTES) else {
             return Err(RingFault::NoMemory);
         };
         match self.base.accept(id, slots, draft) {
@@ -173,6 +193,14 @@ impl Ring for PackedRing {
 
     fn log(&self) -> &QueueLog {
         self.base.log()
+    }
+
+    fn least_outstanding(&self) -> Option<u64> {
+        self.base.least_outstanding()
+    }
+
+    fn broken(&self) -> Option<RingFault> {
+        self.base.broken()
     }
 
     fn fits(&self, memory: &GuestMem) -> bool {

@@ -1,6 +1,6 @@
 //! Walking along the slots of a chain.
 
-ghost use Rattle.std.specs.Prelude.{◌≡◌, ◌+◌, ◌*◌, ◌<◌, ◌≤◌, ◌^◌, length, MatchResult, None, Some};
+ghost use Rattle.std.specs.Prelude.{◌≡◌, ◌+◌, ◌*◌, ◌<◌, ◌≤◌, ◌^◌, length, [], MatchResult, None, Some};
 ghost use Rattle.ring_core.specs.State.{no_features};
 ghost use Rattle.ring_core.specs.Packed.{packed_wrong};
 ghost use Rattle.packed_ring.specs.Inner.{IsRun, PackedFailsOrLacks};
@@ -8,7 +8,6 @@ ghost use Rattle.packed_ring.specs.Inner.{IsRun, PackedFailsOrLacks};
 use crate::slots::descriptor_at;
 use guest_mem::GuestMem;
 use ring_core::{Before, Descriptor, Draft, Layout, RingFault};
-use std::alloc::Global;
 
 /// A run of slots that is a chain.
 #[derive(Debug, Drop)]
@@ -41,7 +40,7 @@ fn check(before: &Before, d: &Descriptor, memory: u64, size: u16) -> Result<(), 
 /// What is answered where there is no room for the chain in the slots from there on: what is wrong
 /// with its first descriptor, and want of memory where nothing is.
 #[cold]
-fn fault_without_room(memory: &GuestMem, layout: &Layout, passed: u128) -> RingFault
+pub(crate) fn fault_without_room(memory: &GuestMem, layout: &Layout, passed: u128) -> RingFault
     requires some { 0 < layout.now.size }
     requires inside { layout.now.desc + 16 * layout.now.size ≤ length memory.now }
     requires small { length memory.now ≤ 2 ^ 28 }
@@ -57,7 +56,7 @@ fn fault_without_room(memory: &GuestMem, layout: &Layout, passed: u128) -> RingF
 
 /// The chain in the slots from there on, or the first thing wrong along it.
 pub(crate) fn walk(
-    alloc: Global,
+    mut draft: Draft,
     memory: &GuestMem,
     layout: &Layout,
     passed: u128,
@@ -66,14 +65,12 @@ pub(crate) fn walk(
     requires inside { layout.now.desc + 16 * layout.now.size ≤ length memory.now }
     requires small { length memory.now ≤ 2 ^ 28 }
     requires passed { passed < 2 ^ 100 }
+    requires empty { draft ≡ [] }
     ensures { MatchResult result
         (λ run. IsRun no_features memory.now layout.now passed run)
         (λ fault. PackedFailsOrLacks no_features memory.now layout.now passed fault) }
 {
     let bytes = memory.size();
-    let Ok(mut draft) = Draft::new(alloc) else {
-        return Err(fault_without_room(memory, layout, passed));
-    };
     let mut before = Before::nothing();
     'along: for step in 0..layout.size {
         let d = descriptor_at(memory, layout, passed + step as u128);

@@ -3,6 +3,7 @@ pub mod Fitting
 pub mod ByPart
 pub mod Sound
 pub mod Few
+pub mod Least
 pub mod Exact
 pub mod Exists
 pub mod Tabulated

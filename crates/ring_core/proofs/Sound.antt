@@ -6,7 +6,8 @@ use Rattle.std.proofs.lemmas.List.{get_or-set_same, get_or-set_other, length-set
 use Rattle.std.proofs.lemmas.List.Sums.{sum_by-set}
 use Rattle.std.specs.Prelude.{slice_get}
 use Rattle.ring_core.specs.State.{RingState, Log, PlainChain, Owns, IsLawful, under, next_ticket, accepting, using, breaking, tickets, opening}
-use Rattle.ring_core.specs.Sound.{IsSound, outstanding_count, slots_of}
+use Rattle.ring_core.specs.Sound.{IsSound, IsLeastOutstanding, outstanding_count, slots_of}
+use Rattle.ring_core.specs.Table.{IsLeastBelow}
 use Rattle.ring_core.specs.declared.log.Ticket.{Ticket}
 use Rattle.ring_core.specs.declared.outstanding.OutstandingChain.{OutstandingChain}
 use Rattle.ring_core.specs.declared.layout.Form.{Form}
@@ -55,6 +56,24 @@ lawful-use queue log n l lt fresh =
           ];
     }
 
+-- an element stays where it is
+at_left : {X : Type 0} (xs : List X) (y : X) (k : ℕ) (x : X) → slice_get xs k ≡ Some x → slice_get (xs ++ y ∷ []) k ≡ Some x
+at_left xs y k x e = grind (arith, common_steps, gets)
+
+at_end : {X : Type 0} (xs : List X) (y : X) → slice_get (xs ++ y ∷ []) (length xs) ≡ Some y
+at_end [] y = refl
+at_end (x ∷ xs) y = at_end xs y
+
+same_or_other : (j i : ℕ) → (j ≡ i) ⊎ (j ≢ i)
+same_or_other j i = grind arith
+
+below_or_last : (n m : ℕ) → n < m + 1 → (n < m) ⊎ (n ≡ m)
+below_or_last n m lt = grind arith
+
+-- what is outstanding elsewhere stays so
+elsewhere : (xs : List (Option OutstandingChain)) (i : ℕ) (v : Option OutstandingChain) (j : ℕ) (c : OutstandingChain) → j ≢ i → get_or xs j None ≡ Some c → get_or (set xs i v) j None ≡ Some c
+elsewhere xs i v j c other e = get_or-set_other xs i j v None other ∙ e
+
 pub sound-accept : (s : RingState) (id slots : ℕ) → IsSound s → id < length s.outstanding → under s id ≡ None → slots < 65536 → IsSound (accepting s id slots)
 sound-accept s id slots sound lt free small =
     let n : ℕ = length s.log.accepted in
@@ -87,6 +106,17 @@ sound-accept s id slots sound lt free small =
           elim (at_set s.outstanding id (Some new) i h lt e) [
             | inl a ↦ let p : slots ≡ h.slots = cc in omega (arith, p, small)
             | inr a ↦ sound.few_slots i h a.1
+          ];
+      accounted = λ m below.
+          elim (below_or_last m n (omega (arith, grown, below))) [
+            | inl old ↦ elim (sound.accounted m old) [
+              | inl used ↦ inl used
+              | inr out ↦ elim (same_or_other out.0 id) [
+                | inl same ↦ absurd (let gone = ap (λ (i : ℕ). get_or s.outstanding i None) same in let was = out.2 in cc)
+                | inr other ↦ inr (out.0, out.1, elsewhere s.outstanding id (Some new) out.0 out.1 other out.2, out.3)
+              ]
+            ]
+            | inr last ↦ inr (id, new, get_or-set_same s.outstanding id (Some new) None lt, sym last)
           ];
       counted =
           let e : outstanding_count (accepting s id slots) + cond (is_some (under s id)) 1 0 ≡ outstanding_count s + 1 = sum_by-set (λ (h : Option OutstandingChain). cond (is_some h) 1 0) s.outstanding id (Some new) None lt in
@@ -142,6 +172,17 @@ sound-use s c sound owns =
             | inl a ↦ absurd (cc)
             | inr a ↦ sound.few_slots i h a.1
           ];
+      accounted = λ m below.
+          elim (sound.accounted m below) [
+            | inl used ↦ inl (used.0, at_left s.log.used c.ticket used.0 _ used.1)
+            | inr out ↦ elim (same_or_other out.0 c.id) [
+              | inl same ↦
+                  let was : Some mine ≡ Some out.1 = sym owns.outstanding ∙ sym (ap (λ (i : ℕ). get_or s.outstanding i None) same) ∙ out.2 in
+                  let number : c.ticket.number ≡ m = ap (λ (o : OutstandingChain). o.number) (same_Some mine out.1 was) ∙ out.3 in
+                  inl (length s.log.used, at_end s.log.used c.ticket ∙ ap (λ (t : Ticket). Some t) (ticket ∙ ap (λ (k : ℕ). record { queue = s.queue; number = k }) number))
+              | inr other ↦ inr (out.0, out.1, elsewhere s.outstanding c.id None out.0 out.1 other out.2, out.3)
+            ]
+          ];
       counted =
           let e : outstanding_count (using s c) + cond (is_some (under s c.id)) 1 0 ≡ outstanding_count s + 0 = sum_by-set (λ (h : Option OutstandingChain). cond (is_some h) 1 0) s.outstanding c.id None None lt in
           let f : outstanding_count (using s c) + 1 ≡ outstanding_count s + 0 = rw owns.outstanding at e in
@@ -184,6 +225,7 @@ sound-opening form queue layout features memory ids =
       not_used = λ i h k e u. cc;
       under_one = λ i j h k e f same. absurd (let p = none_there ids i in cc);
       few_slots = λ i h e. absurd (let p = none_there ids i in cc);
+      accounted = λ m below. absurd (omega (arith, below));
       counted = omega (arith, none_counted ids);
       slots_counted = omega (arith, no_slots ids);
       accepted_bounded = omega arith;
@@ -199,15 +241,13 @@ sound-break s f sound guest =
       not_used = sound.not_used;
       under_one = sound.under_one;
       few_slots = sound.few_slots;
+      accounted = sound.accounted;
       counted = sound.counted;
       slots_counted = sound.slots_counted;
       accepted_bounded = sound.accepted_bounded;
       used_bounded = sound.used_bounded;
       broken_by_guest = λ e. guest (same_Some f NoMemory e);
     }
-
-same_or_other : (j i : ℕ) → (j ≡ i) ⊎ (j ≢ i)
-same_or_other j i = grind arith
 
 -- what was put into a free place and taken back leaves the list as it was
 pub put_back : (xs : List (Option OutstandingChain)) (i : ℕ) (v : Option OutstandingChain) → i < length xs → get_or xs i None ≡ None → set (set xs i v) i None ≡ xs
@@ -217,3 +257,22 @@ put_back xs i v lt free =
       | inl same ↦ ap (λ (k : ℕ). get_or (set (set xs i v) i None) k None) same ∙ get_or-set_same (set xs i v) i None None (omega (arith, length-set xs i v, lt)) ∙ sym (ap (λ (k : ℕ). get_or xs k None) same ∙ free)
       | inr other ↦ get_or-set_other (set xs i v) i j None None other ∙ get_or-set_other xs i j v None other
     ])
+
+-- the least number of what is outstanding is that of what was accepted and not used
+pub least_accounted : (s : RingState) (r : Option ℕ) → IsSound s → IsLeastBelow s.outstanding (length s.outstanding) r → IsLeastOutstanding s r
+least_accounted s None sound none = λ n lt.
+    elim (sound.accounted n lt) [
+      | inl used ↦ used
+      | inr out ↦ absurd (let gone = none out.0 (is_within s out.0 out.1 out.2) in let was = out.2 in cc)
+    ]
+least_accounted s (Some n) sound is =
+    let t = is.there in
+    let accepted : n < length s.log.accepted = omega (arith, sound.was_accepted t.0 t.1 t.3, t.4) in (
+      accepted,
+      (λ used. sound.not_used t.0 t.1 used.0 t.3 (used.1 ∙ ap (λ (k : ℕ). Some (record { queue = s.queue; number = k })) (sym t.4))),
+      (λ m below.
+          elim (sound.accounted m (omega (arith, below, accepted))) [
+            | inl used ↦ used
+            | inr out ↦ absurd (omega (arith, is.least out.0 out.1 (is_within s out.0 out.1 out.2) out.2, out.3, below))
+          ]),
+    )

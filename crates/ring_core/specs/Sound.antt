@@ -1,5 +1,5 @@
 -- What is true of every queue, whatever its guest wrote.
-use Rattle.std.specs.Prelude.{ℕ, ◌+◌, ◌≡◌, ◌<◌, ◌≤◌, ◌*◌, length, Option, Some, None, slice_get, sum_by, is_some, cond}
+use Rattle.std.specs.Prelude.{ℕ, ◌+◌, ◌≡◌, ◌<◌, ◌≤◌, ◌*◌, ◌⊎◌, length, Option, Some, None, slice_get, sum_by, is_some, cond}
 use Rattle.ring_core.specs.State.{RingState, PlainChain, Owns, IsLawful, under, opening, accepting, using, breaking}
 use Rattle.ring_core.specs.declared.outstanding.OutstandingChain.{OutstandingChain}
 use Rattle.ring_core.specs.declared.layout.Form.{Form}
@@ -17,6 +17,14 @@ abbrev pub slots_of : Option OutstandingChain → ℕ
 slots_of None = 0
 slots_of (Some c) = c.slots
 
+-- the chain of this number was used
+abbrev pub WasUsed : RingState → ℕ → Type 0
+WasUsed s n = (k : ℕ) × (slice_get s.log.used k ≡ Some (record { queue = s.queue; number = n }))
+
+-- it is outstanding under a head or id
+abbrev pub IsOutstanding : RingState → ℕ → Type 0
+IsOutstanding s n = (id : ℕ) × (c : OutstandingChain) × (under s id ≡ Some c) × (c.number ≡ n)
+
 pub record IsSound (s : RingState) : Type 0 where
   pub lawful : IsLawful s.queue s.log
   -- what is outstanding was accepted and not used, each chain under one head or id
@@ -28,12 +36,18 @@ pub record IsSound (s : RingState) : Type 0 where
   -- two bytes hold the slots of each
   pub few_slots : (id : ℕ) (c : OutstandingChain) → under s id ≡ Some c → c.slots < 65536
   -- what was accepted is outstanding or used
+  pub accounted : (n : ℕ) → n < length s.log.accepted → WasUsed s n ⊎ IsOutstanding s n
   pub counted : length s.log.used + outstanding_count s ≡ length s.log.accepted
   pub slots_counted : s.used_slots + sum_by slots_of s.outstanding ≡ s.accepted_slots
   pub accepted_bounded : s.accepted_slots ≤ 65536 * length s.log.accepted
   pub used_bounded : s.used_slots ≤ 65536 * length s.log.used
   -- want of memory breaks no queue
   pub broken_by_guest : s.broken ≡ Some NoMemory → ⊥
+
+-- own: the least number of an accepted chain that was not used, if there is one
+abbrev pub IsLeastOutstanding : RingState → Option ℕ → Type 0
+IsLeastOutstanding s None = (n : ℕ) → n < length s.log.accepted → WasUsed s n
+IsLeastOutstanding s (Some n) = (n < length s.log.accepted) × (WasUsed s n → ⊥) × ((m : ℕ) → m < n → WasUsed s m)
 
 -- a fresh queue is sound
 abbrev pub OpensSound : Type 0

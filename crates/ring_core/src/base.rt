@@ -1,11 +1,11 @@
 //! What both forms of queue keep.
 
-ghost use Rattle.std.specs.Prelude.{◌≡◌, ◌+◌, ◌<◌, ◌≤◌, ◌^◌, ◌↔◌, length, IfOk, OnErr, OnOk, Some, None, IsTrue, is_some};
+ghost use Rattle.std.specs.Prelude.{◌≡◌, ◌+◌, ◌<◌, ◌≤◌, ◌^◌, ◌↔◌, length, IfOk, OnErr, OnOk, Some, None, [], IsTrue, is_some};
 ghost use Rattle.ring_core.specs.State.{under, accepting, using, breaking, opening, next_ticket, Owns};
-ghost use Rattle.ring_core.specs.Sound.{IsSound};
+ghost use Rattle.ring_core.specs.Sound.{IsSound, IsLeastOutstanding};
 ghost use Rattle.ring_core.specs.Parts.{PartsFit};
 
-use crate::chain::{Chain, Draft};
+use crate::chain::{Chain, Draft, Spare};
 use crate::fault::RingFault;
 use crate::layout::{Features, Form, Layout};
 use crate::log::{QueueLog, Ticket};
@@ -28,6 +28,8 @@ pub struct RingBase {
     used_slots: u128,
     latest_slots: u16,
     broken: Option<RingFault>,
+    // What the chain that was used last leaves to the next.
+    spare: Option<Spare>,
 }
 
 impl Model for RingBase {
@@ -68,11 +70,12 @@ impl RingBase {
             used_slots: 0,
             latest_slots: 0,
             broken: None,
+            spare: None,
         })
     }
 
-    /// A packed queue of which nothing was fetched yet, whose ids are below `ids`. It takes no
-    /// memory.
+    /// A packed queue of which nothing was fetched yet, whose ids are below `ids`, at most 65,536. It
+    /// takes no memory.
     pub fn packed(
         alloc: Global,
         queue: u16,
@@ -81,6 +84,7 @@ impl RingBase {
         memory: u64,
         ids: usize,
     ) -> RingBase
+        requires { ids ≤ 65536 }
         ensures { result ≡ opening Form.Packed queue layout features memory ids }
     {
         RingBase {
@@ -96,12 +100,19 @@ impl RingBase {
             used_slots: 0,
             latest_slots: 0,
             broken: None,
+            spare: None,
         }
     }
 
-    /// The allocator that it was made with.
-    pub fn allocator(&self) -> Global {
-        self.alloc
+    /// Room for the next chain: what the one that was used last left, or else memory is taken for it.
+    pub fn draft(&mut self) -> Result<Draft, AllocError>
+        ensures empty { IfOk result (λ draft. draft ≡ []) }
+        ensures same { self.new ≡ self.old }
+    {
+        match self.spare.take() {
+            Some(spare) => Ok(spare.into_draft()),
+            None => Draft::new(self.alloc),
+        }
     }
 
     /// Its log.
@@ -179,6 +190,13 @@ impl RingBase {
                 })
     }
 
+    /// The least number of an accepted chain that wasn't used, if there is one.
+    pub fn least_outstanding(&self) -> Option<u64>
+        ensures { IsLeastOutstanding self.now result }
+    {
+        self.outstanding.least()
+    }
+
     /// A chain that was found is accepted. Refused where the table of outstanding chains can't grow, or
     /// the log can count no more.
     pub fn accept(&mut self, id: u16, slots: u16, draft: Draft) -> Result<Chain, AllocError>
@@ -212,6 +230,7 @@ impl RingBase {
     }
 
     /// An outstanding chain is used. It takes no memory.
+    #[inline(always)]
     pub fn release(&mut self, chain: Chain) -> Ticket
         requires { Owns self.old chain }
         ensures ticket { result ≡ chain.ticket }
@@ -222,7 +241,17 @@ impl RingBase {
         self.outstanding.remove(chain.id());
         self.used_slots += chain.slots() as u128;
         self.latest_slots = chain.slots();
+        self.keep(chain);
         ticket
+    }
+
+    /// Keeps the room of a chain that is over for the next, where none is kept yet.
+    fn keep(&mut self, chain: Chain)
+        ensures { self.new ≡ self.old }
+    {
+        if self.spare.is_none() {
+            self.spare = chain.into_spare();
+        }
     }
 
     /// The queue is broken for good.

@@ -8,7 +8,7 @@ ghost use Rattle.ring_core.specs.Writes.{all_written, scatter_writes};
 use crate::chain::{Chain, Draft};
 use crate::descriptor::Part;
 use guest_mem::GuestMem;
-use std::alloc::{AllocError, Global};
+use std::alloc::AllocError;
 
 /// How many of a chain's readable bytes are read when it is fetched: a request's 51 bytes and
 /// the 2,048 blocks of 512 bytes that a command writes at most.
@@ -39,18 +39,16 @@ fn append_part(
 }
 
 /// The first readable bytes of a chain that was found, at most `most` of them. For rings.
-pub fn gather(
-    alloc: Global,
-    memory: &GuestMem,
-    draft: &Draft,
-    most: usize,
-) -> Result<Vec<u8>, AllocError>
-    requires fit { PartsFit (length memory.now) draft.now }
+pub fn gather(memory: &GuestMem, draft: &mut Draft, most: usize) -> Result<Vec<u8>, AllocError>
+    requires fit { PartsFit (length memory.now) draft.old }
     requires most { most < 2 ^ 32 }
-    ensures { IfOk result (λ bytes. bytes.items ≡ take most (readable_bytes memory.now draft.now)) }
+    ensures bytes { IfOk result (λ bytes. bytes.items ≡ take most (readable_bytes memory.now draft.old)) }
+    ensures same { draft.new ≡ draft.old }
 {
     let total = draft.readable_len().min(most as u64);
-    let mut bytes = Vec::with_capacity(alloc, total as usize)?;
+    let mut bytes = draft.take_room();
+    bytes.clear();
+    bytes.reserve(total as usize)?;
     for part in draft.parts() {
         append_part(memory, part, &mut bytes, most)?;
     }

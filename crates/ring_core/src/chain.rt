@@ -5,9 +5,13 @@ use crate::log::Ticket;
 use smallvec::SmallVec;
 use std::alloc::{AllocError, Global};
 use std::marker::Model;
+use std::mem;
 
 /// How many parts a chain has room for without a further allocation.
 const FEW_PARTS: usize = 4;
+
+/// Of how many bytes room is kept from one chain for the next, at most.
+const FEW_BYTES: usize = 4096;
 
 /// A chain where it stands in memory. A chain that moves is a pointer to it.
 #[derive(Debug, Drop)]
@@ -19,6 +23,8 @@ pub(crate) struct Body {
     readable_len: u64,
     writable_len: u64,
     parts: SmallVec<Part, FEW_PARTS>,
+    // Room for the first bytes of the next chain that stands here, while they are nobody's.
+    room: Vec<u8>,
 }
 
 /// The room of a chain, with the parts that were found of it, seen as the list of them. For rings.
@@ -39,6 +45,35 @@ impl Model for Draft {
     ghost invariant = { λ d.
         (d.body.value.readable_len ≡ readable_total d.body.value.parts.items % 2 ^ 64)
         × (d.body.value.writable_len ≡ writable_total d.body.value.parts.items % 2 ^ 64) };
+}
+
+/// The room of a chain that is over, without parts: the next one takes it in place of memory.
+#[derive(Debug, Drop)]
+pub(crate) struct Spare {
+    draft: Draft,
+}
+
+impl Model for Spare {
+    ghost use Rattle.std.specs.Prelude.{◌≡◌, [], List};
+    ghost use Rattle.ring_core.specs.declared.descriptor.Part.{Part};
+
+    ghost Value = { List Part };
+
+    ghost view = { λ s. s.draft };
+
+    ghost invariant = { λ s. s.draft ≡ [] };
+}
+
+impl Spare {
+    ghost use Rattle.std.specs.Prelude.{◌≡◌, []};
+
+    /// It, for the next chain.
+    pub(crate) fn into_draft(self) -> Draft
+        ensures { result ≡ [] }
+    {
+        let Spare { draft } = self;
+        draft
+    }
 }
 
 /// A chain that was fetched and not completed. It is moved, never copied.
@@ -102,6 +137,7 @@ impl Draft {
             readable_len: 0,
             writable_len: 0,
             parts: SmallVec::new(alloc),
+            room: Vec::new(alloc),
         };
         match Box::new(alloc, body) {
             Ok(body) => Ok(Draft { body }),
@@ -124,6 +160,14 @@ impl Draft {
             }
             Err(_) => Err(AllocError),
         }
+    }
+
+    /// Room for the first bytes, with whatever stands there.
+    pub(crate) fn take_room(&mut self) -> Vec<u8>
+        ensures { self.new ≡ self.old }
+    {
+        let none = Vec::new(*self.body.room.allocator());
+        mem::replace(&mut self.body.room, none)
     }
 
     /// How many of its bytes can be read, modulo 2^64.
@@ -153,6 +197,30 @@ impl Chain {
         body.slots = slots;
         body.memory = memory;
         Chain { body }
+    }
+
+    /// Keeps these bytes' room for a later chain of its queue, where it isn't much. Whoever has read its first bytes and
+    /// needs them no more gives them back so.
+    pub fn keep_room(&mut self, bytes: Vec<u8>)
+        ensures { self.new ≡ self.old }
+    {
+        if bytes.capacity() <= FEW_BYTES {
+            self.body.room = bytes;
+        }
+    }
+
+    /// Its room, for a later chain; `None` where its parts took more than what stands in place.
+    pub(crate) fn into_spare(self) -> Option<Spare> {
+        if self.body.parts.len() > FEW_PARTS {
+            return None;
+        }
+        let Chain { mut body } = self;
+        body.parts.clear();
+        body.readable_len = 0;
+        body.writable_len = 0;
+        Some(Spare {
+            draft: Draft { body },
+        })
     }
 
     /// Its ticket.

@@ -1,9 +1,9 @@
 //! Which chain is outstanding under each head or id, found by index or by key.
 
-ghost use Rattle.std.specs.Prelude.{◌≡◌, ◌<◌, ℕ, length, replicate, get_or, slice_set, None, Some, IfOk, OnOk, OnErr};
+ghost use Rattle.std.specs.Prelude.{◌≡◌, ◌<◌, ◌≤◌, ℕ, length, replicate, get_or, slice_set, None, Some, IfOk, OnOk, OnErr};
 ghost use Rattle.std.specs.Ordering.{nat_cmp};
 ghost use Rattle.std.specs.BTreeMap.{get};
-ghost use Rattle.ring_core.specs.Table.{tabulated};
+ghost use Rattle.ring_core.specs.Table.{tabulated, IsLeastBelow, lesser_of};
 
 use std::alloc::{AllocError, Global};
 use std::collections::BTreeMap;
@@ -68,6 +68,40 @@ fn remove_chain(chains: &mut BTreeMap<u16, OutstandingChain>, id: u16)
     let _ = chains.remove(&id);
 }
 
+/// The lesser of a number and that of a chain, where there are such.
+fn lesser(least: Option<u64>, chain: Option<OutstandingChain>) -> Option<u64>
+    ensures { result ≡ lesser_of least chain }
+{
+    match (least, chain) {
+        (least, None) => least,
+        (None, Some(chain)) => Some(chain.number),
+        (Some(number), Some(chain)) => Some(number.min(chain.number)),
+    }
+}
+
+/// The least number of the chains in their places.
+fn least_by_head(places: &[Option<OutstandingChain>]) -> Option<u64>
+    ensures { IsLeastBelow places.now (length places.now) result }
+{
+    let mut least = None;
+    for place in places {
+        least = lesser(least, *place);
+    }
+    least
+}
+
+/// The least number of the chains under the ids below a bound.
+fn least_by_id(chains: &BTreeMap<u16, OutstandingChain>, ids: usize) -> Option<u64>
+    requires { ids ≤ 65536 }
+    ensures { IsLeastBelow (tabulated (get nat_cmp chains.now) ids) ids result }
+{
+    let mut least = None;
+    for id in 0..ids {
+        least = lesser(least, chain_at(chains, ids, id as u16));
+    }
+    least
+}
+
 /// Which chain is outstanding under each head or id below a bound, seen as a list.
 #[derive(Debug, Drop)]
 pub struct OutstandingTable {
@@ -76,7 +110,7 @@ pub struct OutstandingTable {
 }
 
 impl Model for OutstandingTable {
-    ghost use Rattle.std.specs.Prelude.{List, Option};
+    ghost use Rattle.std.specs.Prelude.{◌≤◌, List, Option};
     ghost use Rattle.ring_core.specs.declared.outstanding.OutstandingChain.{OutstandingChain};
 
     ghost Value = { List (Option OutstandingChain) };
@@ -84,11 +118,14 @@ impl Model for OutstandingTable {
     ghost use Rattle.ring_core.specs.Table.{entries_listed};
 
     ghost view = { λ t. entries_listed t.entries t.ids };
+
+    ghost invariant = { λ t. t.ids ≤ 65536 };
 }
 
 impl OutstandingTable {
     /// None outstanding under the heads below `ids`, with a place for each.
     pub(crate) fn by_head(alloc: Global, ids: usize) -> Result<OutstandingTable, AllocError>
+        requires { ids ≤ 65536 }
         ensures { IfOk result (λ table. table ≡ replicate ids None) }
     {
         let mut places = Vec::new(alloc);
@@ -101,6 +138,7 @@ impl OutstandingTable {
 
     /// None outstanding under the ids below `ids`. It takes no memory.
     pub(crate) fn by_id(alloc: Global, ids: usize) -> OutstandingTable
+        requires { ids ≤ 65536 }
         ensures { result ≡ replicate ids None }
     {
         OutstandingTable {
@@ -110,12 +148,23 @@ impl OutstandingTable {
     }
 
     /// The chain under a head or id, if any.
+    #[inline(always)]
     pub(crate) fn get(&self, id: u16) -> Option<OutstandingChain>
         ensures { result ≡ get_or self.now id None }
     {
         match &self.entries {
             Entries::ByHead(places) => places.get(id as usize).copied().flatten(),
             Entries::ById(chains) => chain_at(chains, self.ids, id),
+        }
+    }
+
+    /// The least number of a chain under a head or id, if there is one.
+    pub(crate) fn least(&self) -> Option<u64>
+        ensures { IsLeastBelow self.now (length self.now) result }
+    {
+        match &self.entries {
+            Entries::ByHead(places) => least_by_head(places),
+            Entries::ById(chains) => least_by_id(chains, self.ids),
         }
     }
 
@@ -137,6 +186,7 @@ impl OutstandingTable {
     }
 
     /// Takes the chain from under a head or id. It takes no memory.
+    #[inline(always)]
     pub(crate) fn remove(&mut self, id: u16)
         requires { id < length self.old }
         ensures { self.new ≡ slice_set self.old id None }

@@ -2,7 +2,7 @@
 
 ghost use Rattle.std.specs.Prelude.{◌≡◌, ◌↔◌, ◌<◌, ◌≤◌, length, IsTrue};
 ghost use Rattle.ring_core.specs.State.{RingState, Owns, using};
-ghost use Rattle.ring_core.specs.Sound.{IsSound, outstanding_count};
+ghost use Rattle.ring_core.specs.Sound.{IsSound, IsLeastOutstanding, outstanding_count};
 ghost use Rattle.ring_core.specs.Writes.{all_written};
 ghost use Rattle.ring_core.specs.Offer.{Offers, Nothing, used_writes, wants_notice};
 ghost use Rattle.ring_core.specs.Fetch.{Fetches};
@@ -68,6 +68,15 @@ pub trait Ring {
         ensures log { result.now ≡ (state self.now).log }
         ensures sound { IsSound (state self.now) }
         ensures few { outstanding_count (state self.now) ≤ (state self.now).layout.size };
+
+    /// The least number of an accepted chain that wasn't used, if there is one: asked once the queue is no longer
+    /// served. It takes no memory.
+    fn least_outstanding(&self) -> Option<u64>
+        ensures { IsLeastOutstanding (state self.now) result };
+
+    /// The fault of the guest that broke the queue, if any.
+    fn broken(&self) -> Option<RingFault>
+        ensures { result ≡ (state self.now).broken };
 
     /// Whether the memory has the size that the queue was made with.
     fn fits(&self, memory: &GuestMem) -> bool

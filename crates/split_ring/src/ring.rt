@@ -2,7 +2,7 @@
 
 use crate::areas::{number_at, put_element, put_number};
 use crate::placement::check_layout;
-use crate::walk::walk;
+use crate::walk::{fault_without_room, walk};
 use guest_mem::GuestMem;
 use ring_core::{
     Chain, Completion, Draft, FIRST_BYTES, Features, Fetched, Layout, LayoutFault, QueueLog, Ring,
@@ -119,21 +119,19 @@ impl SplitRing {
     }
 
     /// The next chain, where so many weren't accepted yet.
-    fn next(&self, memory: &GuestMem, ahead: u16) -> Result<Candidate, RingFault>
-        requires fits { length memory.now ≡ self.now.memory }
-        requires is { ahead ≡ ahead_of self.now memory.now }
+    fn next(&mut self, memory: &GuestMem, ahead: u16) -> Result<Candidate, RingFault>
+        requires fits { length memory.now ≡ self.old.memory }
+        requires is { ahead ≡ ahead_of self.old memory.now }
         requires some { ahead ≢ 0 }
-        ensures { SplitFinds self.now memory.now result }
+        ensures finds { SplitFinds self.old memory.now result }
+        ensures same { self.new ≡ self.old }
     {
         let head = self.entry(memory, ahead)?;
         let layout = self.base.layout();
-        match walk(
-            self.base.allocator(),
-            memory,
-            layout.desc,
-            layout.size,
-            head,
-        ) {
+        let Ok(draft) = self.base.draft() else {
+            return Err(fault_without_room(memory, layout.desc, layout.size, head));
+        };
+        match walk(draft, memory, layout.desc, layout.size, head) {
             Ok(draft) => Ok(Candidate { head, draft }),
             Err(fault) => Err(fault),
         }
@@ -156,9 +154,9 @@ impl SplitRing {
         requires found { SplitOffers self.old memory.now (Found candidate.head 1 candidate.draft) }
         ensures { Fetches self.old memory.now result self.new }
     {
-        let alloc = self.base.allocator();
-        let Candidate { head, draft } = candidate;
-        let Ok(bytes) = gather(alloc, memory, &draft, FIRST_BYTES) else {
+        let _ = &self.base;
+        let Candidate { head, mut draft } = candidate;
+        let Ok(bytes) = gather(memory, &mut draft, FIRST_BYTES) else {
             return Err(RingFault::NoMemory);
         };
         match self.base.accept(head, 1, draft) {
@@ -215,6 +213,14 @@ impl Ring for SplitRing {
 
     fn log(&self) -> &QueueLog {
         self.base.log()
+    }
+
+    fn least_outstanding(&self) -> Option<u64> {
+        self.base.least_outstanding()
+    }
+
+    fn broken(&self) -> Option<RingFault> {
+        self.base.broken()
     }
 
     fn fits(&self, memory: &GuestMem) -> bool {

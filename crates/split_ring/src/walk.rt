@@ -1,6 +1,6 @@
 //! Walking along a chain of descriptors.
 
-ghost use Rattle.std.specs.Prelude.{◌≡◌, ◌+◌, ◌*◌, ◌<◌, ◌≤◌, ◌^◌, length, MatchResult, None, Some};
+ghost use Rattle.std.specs.Prelude.{◌≡◌, ◌+◌, ◌*◌, ◌<◌, ◌≤◌, ◌^◌, length, [], MatchResult, None, Some};
 ghost use Rattle.ring_core.specs.State.{no_features};
 ghost use Rattle.ring_core.specs.Split.{split_wrong, SplitChain};
 ghost use Rattle.split_ring.specs.Inner.{SplitFailsOrLacks};
@@ -8,7 +8,6 @@ ghost use Rattle.split_ring.specs.Inner.{SplitFailsOrLacks};
 use crate::areas::descriptor_at;
 use guest_mem::GuestMem;
 use ring_core::{Before, Descriptor, Draft, RingFault};
-use std::alloc::Global;
 
 /// The first thing wrong with a descriptor, in a memory and a table of these sizes.
 fn check(before: &Before, d: &Descriptor, memory: u64, size: u16) -> Result<(), RingFault>
@@ -37,7 +36,7 @@ fn check(before: &Before, d: &Descriptor, memory: u64, size: u16) -> Result<(), 
 /// What is answered where there is no room for the chain at a head: what is wrong with its first
 /// descriptor, and want of memory where nothing is.
 #[cold]
-fn fault_without_room(memory: &GuestMem, table: u64, size: u16, head: u16) -> RingFault
+pub(crate) fn fault_without_room(memory: &GuestMem, table: u64, size: u16, head: u16) -> RingFault
     requires inside { table + 16 * size ≤ length memory.now }
     requires small { length memory.now ≤ 2 ^ 28 }
     requires head { head < size }
@@ -51,9 +50,9 @@ fn fault_without_room(memory: &GuestMem, table: u64, size: u16, head: u16) -> Ri
     }
 }
 
-/// The parts of the chain at a head of a table, or the first thing wrong along it.
+/// The parts of the chain at a head of a table, for which there is room, or the first thing wrong along it.
 pub(crate) fn walk(
-    alloc: Global,
+    mut draft: Draft,
     memory: &GuestMem,
     table: u64,
     size: u16,
@@ -62,14 +61,12 @@ pub(crate) fn walk(
     requires inside { table + 16 * size ≤ length memory.now }
     requires small { length memory.now ≤ 2 ^ 28 }
     requires head { head < size }
+    requires empty { draft ≡ [] }
     ensures { MatchResult result
         (λ draft. SplitChain no_features memory.now table size head draft)
         (λ fault. SplitFailsOrLacks no_features memory.now table size head fault) }
 {
     let bytes = memory.size();
-    let Ok(mut draft) = Draft::new(alloc) else {
-        return Err(fault_without_room(memory, table, size, head));
-    };
     let mut before = Before::nothing();
     let mut number = head;
     'along: for _step in 0..size {

@@ -138,7 +138,7 @@ fn inventory_of(units: &[UnitSpec]) -> Option<Inventory> {
 
 /// What is decided of a fetched request: its request for a unit of this LUN.
 fn arrival_of(inventory: &Inventory, sent: &Sent, fetched: Fetched) -> Option<Arrival> {
-    let Fetched { chain, bytes } = fetched;
+    let Fetched { chain, mut bytes } = fetched;
     let lengths = ChainLengths {
         readable: chain.readable_len(),
         writable: chain.writable_len(),
@@ -147,7 +147,7 @@ fn arrival_of(inventory: &Inventory, sent: &Sent, fetched: Fetched) -> Option<Ar
     if bytes.len() as u64 != first || lengths.readable + lengths.writable > 1 << 32 {
         return None;
     }
-    match decide(inventory, bytes, &lengths) {
+    match decide(inventory, &mut bytes, &lengths) {
         Decision::Enter(place, request) => {
             if place == sent.unit % 2 {
                 Some(Arrival::new(sent.unit, chain, request))

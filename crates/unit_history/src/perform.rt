@@ -91,6 +91,7 @@ pub(crate) struct Performed {
 
 /// Runs the command of a task on the blocks of its unit, with what is pending; `None` where memory was refused,
 /// with blocks and attentions as before.
+#[inline(always)]
 pub(crate) fn perform<S: Store>(
     alloc: Global,
     facts: &mut UnitFacts,

@@ -59,6 +59,7 @@ impl Model for UnitState {
 }
 
 /// Records what became of a command that was to run.
+#[inline(always)]
 fn record_run(
     log: &mut StepLog,
     tasks: &mut TaskSet,
@@ -195,19 +196,31 @@ impl UnitState {
             Turn::Unknown => Outcome::Unknown,
             Turn::Aborted(reason) => Outcome::Aborted(reason),
             Turn::Ready => {
-                let performed = perform(
-                    self.alloc,
-                    &mut self.facts,
-                    &mut self.attentions,
-                    &mut self.store,
-                    task,
-                    self.log.keeps_replies(),
-                );
                 let unit = Address {
                     target: self.facts.target,
                     lun: self.facts.lun,
                 };
-                record_run(&mut self.log, &mut self.tasks, unit, ticket, performed)
+                if self.log.keeps_replies() {
+                    let performed = perform(
+                        self.alloc,
+                        &mut self.facts,
+                        &mut self.attentions,
+                        &mut self.store,
+                        task,
+                        true,
+                    );
+                    record_run(&mut self.log, &mut self.tasks, unit, ticket, performed)
+                } else {
+                    let performed = perform(
+                        self.alloc,
+                        &mut self.facts,
+                        &mut self.attentions,
+                        &mut self.store,
+                        task,
+                        false,
+                    );
+                    record_run(&mut self.log, &mut self.tasks, unit, ticket, performed)
+                }
             }
         }
     }

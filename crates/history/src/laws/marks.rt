@@ -4,7 +4,7 @@ ghost use Rattle.std.specs.Prelude.{ℕ, ◌≡◌, ◌↔◌, ◌∷◌, ◌++�
 ghost use Rattle.ring_core.specs.declared.log.Ticket.{Ticket};
 ghost use Rattle.history.specs.declared.reason.Reason.{Reason as AReason};
 ghost use Rattle.history.specs.declared.rule.Rule.{Rule as ARule};
-ghost use Rattle.history.specs.Steps.{Step, done};
+ghost use Rattle.history.specs.Steps.{Step, done, has_left};
 ghost use Rattle.history.specs.Marks.{mark_of, marked};
 ghost use Rattle.history.specs.Seen.{tasks_of, any_before};
 ghost use Rattle.history.specs.Clearing.{is_clear, AreGone, rule_at};
@@ -18,6 +18,12 @@ pub fn marked_commands_never_run()
         marked t past ≡ true → done t (later ++ past) ≡ false }
     ensures never_after { (o : Opening) (t : Ticket) (later past : List Step) → IsLawful o (later ++ past) →
         done t past ≡ true → marked t (later ++ past) ≡ false }
+{}
+
+/// A task that left with no Commit and no Busy was marked.
+pub fn what_left_undone_was_marked()
+    ensures { (o : Opening) (t : Ticket) (h : List Step) → IsLawful o h → has_left t h ≡ true → done t h ≡ false →
+        marked t h ≡ true }
 {}
 
 /// The reason of a task's first mark stays.

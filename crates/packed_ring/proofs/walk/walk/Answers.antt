@@ -5,7 +5,7 @@ use Rattle.packed_ring.proofs.BySlot.{walked_start, walked_more, walked_end, wal
 use Rattle.packed_ring.proofs.walk.walk.Goals as goal
 
 pub along-init : goal.along-init
-along-init c = rw (c.in-Ok.ensures, c.nothing-before.ensures) (walked_start no_features c.args.memory.now c.args.layout.now c.args.passed c.requires.some)
+along-init c = rw (c.requires.empty, c.nothing-before.ensures) (walked_start no_features c.args.memory.now c.args.layout.now c.args.passed c.requires.some)
 
 pub returns-in-Err : goal.returns-in-Err
 returns-in-Err c =
@@ -15,18 +15,18 @@ returns-in-Err c =
 pub returns-then-is_err : goal.returns-then-is_err
 returns-then-is_err c =
     walked_first no_features c.args.memory.now c.args.layout.now c.args.passed c.along.step c.along.before c.along.draft c.descriptor_at-d.result
-    c.along.invariant c.descriptor_at-d.ensures (rw c.size-bytes.ensures.size at c.in_default-check.ensures)
+    c.along.invariant c.descriptor_at-d.ensures (rw c.size-bytes.ensures.size at c.in_default.ensures)
 
 pub returns-then-not-goes_on : goal.returns-then-not-goes_on
 returns-then-not-goes_on c =
     let pushed : c.push.new.self ≡ c.along.draft ++ part_of c.descriptor_at-d.result ∷ [] = search rules in
     rw pushed
     (walked_end no_features c.args.memory.now c.args.layout.now c.args.passed c.along.step c.along.before c.along.draft c.descriptor_at-d.result
-    c.along.invariant c.descriptor_at-d.ensures (rw c.size-bytes.ensures.size at c.in_default-check.ensures) (rw c.goes_on.ensures at c.if-not-goes_on.true))
+    c.along.invariant c.descriptor_at-d.ensures (rw c.size-bytes.ensures.size at c.in_default.ensures) (rw c.goes_on.ensures at c.if-not-goes_on.true))
 
 pub along-preserved : goal.along-preserved
 along-preserved c =
     let pushed : c.push.new.self ≡ c.along.draft ++ part_of c.descriptor_at-d.result ∷ [] = search rules in
     rw (pushed, c.with-before.ensures)
     (walked_more no_features c.args.memory.now c.args.layout.now c.args.passed c.along.step c.along.before c.along.draft c.descriptor_at-d.result
-    c.along.invariant c.descriptor_at-d.ensures (rw c.size-bytes.ensures.size at c.in_default-check.ensures) (rw c.goes_on.ensures at c.if-not-goes_on.false))
+    c.along.invariant c.descriptor_at-d.ensures (rw c.size-bytes.ensures.size at c.in_default.ensures) (rw c.goes_on.ensures at c.if-not-goes_on.false))

@@ -1,9 +1,7 @@
-use Rattle.std.proofs.Common.{ap, sym, ◌∙◌, refl}
+use Rattle.std.proofs.Common.{◌≡◌, true, false, ap, sym, ◌∙◌, refl}
 use Rattle.std.specs.Option.{option_copied}
 use Rattle.block_store.specs.Blocks.{block_count, nth_block}
 use Rattle.block_commands.specs.Facts.{facts_of}
-use Rattle.cdb.specs.Need.{need_of}
-use Rattle.unit_history.specs.Calls.{Asked}
 use Rattle.unit_history.specs.Performing.{told}
 use Rattle.task_set.specs.Tasks.{task_at}
 use Rattle.unit_history.proofs.Keeping.{has_room, is_ready, told_is}
@@ -24,7 +22,7 @@ invariant_of-self c =
     let at = sym c.task.ensures ∙ ap option_copied c.in-Some.is in
     let turns = c.in-Ready.ensures in
     rw (c.record_run.ensures.tasks, c.record_run.ensures.steps, c.perform-performed.ensures.facts, c.perform-performed.ensures.size)
-    (keep_run c.self.invariant c.ticket-ticket.result c.in-Some.task.now.seen.entry c.keeps_replies.result
+    (keep_run c.self.invariant c.ticket-ticket.result c.in-Some.task.now.seen.entry true
     (facts_of (told c.self.inside.facts c.self.inside.attentions) (block_count c.self.inside.store)) c.perform-performed.result _ _ _
     (is_ready c.self.invariant c.ticket-ticket.result c.in-Some.task.now at turns.1 turns.2 turns.3)
     (told_is c.self.invariant c.self.inside.facts (block_count c.self.inside.store) refl refl refl refl)
@@ -46,10 +44,11 @@ returns-in-Aborted-clause-step c =
       refl,
     )
 
-pub returns-in-Ready-clause-step : goal.returns-in-Ready-clause-step
-returns-in-Ready-clause-step c =
+pub returns-then-keeps_replies-clause-step : goal.returns-then-keeps_replies-clause-step
+returns-then-keeps_replies-clause-step c =
     let at = ap (λ t. task_at t c.self.inside.tasks) (sym c.ticket-ticket.ensures.entry) ∙ sym c.task.ensures ∙ ap option_copied c.in-Some.is in
     let turns = c.in-Ready.ensures in
+    let keeps : c.self.inside.log.keeps ≡ true = sym c.keeps_replies.ensures ∙ c.if-keeps_replies.true in
     rw (
       ← c.self.view_is,
       c.record_run.ensures.outcome,
@@ -66,9 +65,42 @@ returns-in-Ready-clause-step c =
     (is_of c.self.invariant c.args.job.now c.in-Some.task.now at turns.0)
     (is_ready c.self.invariant c.args.job.now.entry.ticket c.in-Some.task.now at turns.1 turns.2 turns.3)
     (told_is c.self.invariant c.self.inside.facts (block_count c.self.inside.store) refl refl refl refl)
-    (rw (← c.keeps_replies.ensures) c.perform-performed.ensures.performed))
+    (rw keeps c.perform-performed.ensures.performed))
 
-pub returns-in-Ready-clause-fits : goal.returns-in-Ready-clause-fits
-returns-in-Ready-clause-fits c =
-    let same = ap (λ (a : Asked). (need_of a.command).into) c.in-Ready.ensures.0 in
-    c.record_run.ensures.fits _ (rw (← same) c.perform-performed.ensures.fits)
+pub returns-else-keeps_replies-clause-step : goal.returns-else-keeps_replies-clause-step
+returns-else-keeps_replies-clause-step c =
+    let at = ap (λ t. task_at t c.self.inside.tasks) (sym c.ticket-ticket.ensures.entry) ∙ sym c.task.ensures ∙ ap option_copied c.in-Some.is in
+    let turns = c.in-Ready.ensures in
+    let keeps : c.self.inside.log.keeps ≡ false = sym c.keeps_replies.ensures ∙ c.if-keeps_replies.false in
+    rw (
+      ← c.self.view_is,
+      c.record_run-else-keeps_replies.ensures.outcome,
+      c.record_run-else-keeps_replies.ensures.tasks,
+      c.record_run-else-keeps_replies.ensures.steps,
+      c.record_run-else-keeps_replies.ensures.keeps,
+      c.perform-performed-else-keeps_replies.ensures.facts,
+      c.perform-performed-else-keeps_replies.ensures.size,
+      c.ticket-ticket.ensures.entry,
+    )
+    (commits_run c.self.invariant c.args.job.now c.in-Some.task.now.seen.entry c.self.inside.log.keeps
+    (facts_of (told c.self.inside.facts c.self.inside.attentions) (block_count c.self.inside.store)) c.perform-performed-else-keeps_replies.result
+    (nth_block c.perform-performed-else-keeps_replies.new.store) c.perform-performed-else-keeps_replies.new.attentions
+    (is_of c.self.invariant c.args.job.now c.in-Some.task.now at turns.0)
+    (is_ready c.self.invariant c.args.job.now.entry.ticket c.in-Some.task.now at turns.1 turns.2 turns.3)
+    (told_is c.self.invariant c.self.inside.facts (block_count c.self.inside.store) refl refl refl refl)
+    (rw keeps c.perform-performed-else-keeps_replies.ensures.performed))
+
+pub record_run-requires-else-keeps_replies-clause-room : goal.record_run-requires-else-keeps_replies-clause-room
+record_run-requires-else-keeps_replies-clause-room c =
+    has_room c.self.invariant c.ticket-ticket.result c.in-Some.task.now (sym c.task.ensures ∙ ap option_copied c.in-Some.is)
+
+pub invariant_of-self-else-keeps_replies : goal.invariant_of-self-else-keeps_replies
+invariant_of-self-else-keeps_replies c =
+    let at = sym c.task.ensures ∙ ap option_copied c.in-Some.is in
+    let turns = c.in-Ready.ensures in
+    rw (c.record_run-else-keeps_replies.ensures.tasks, c.record_run-else-keeps_replies.ensures.steps, c.perform-performed-else-keeps_replies.ensures.facts, c.perform-performed-else-keeps_replies.ensures.size)
+    (keep_run c.self.invariant c.ticket-ticket.result c.in-Some.task.now.seen.entry false
+    (facts_of (told c.self.inside.facts c.self.inside.attentions) (block_count c.self.inside.store)) c.perform-performed-else-keeps_replies.result _ _ _
+    (is_ready c.self.invariant c.ticket-ticket.result c.in-Some.task.now at turns.1 turns.2 turns.3)
+    (told_is c.self.invariant c.self.inside.facts (block_count c.self.inside.store) refl refl refl refl)
+    c.perform-performed-else-keeps_replies.ensures.performed c.record_run-else-keeps_replies.ensures.room)

@@ -1,7 +1,7 @@
 use Rattle.std.proofs.Common.{◌≡◌, true, rules, inr, Some}
 use Rattle.ring_core.specs.Packed.{is_available, whole_wrong, PackedChain}
 use Rattle.ring_core.specs.declared.fault.RingFault.TheVariants.{AlreadyOutstanding, RingOverrun}
-use Rattle.packed_ring.proofs.ring.PackedRing.next.Goals as goal
+use Rattle.packed_ring.proofs.ring.PackedRing.find.Goals as goal
 
 pub returns-then-is_outstanding : goal.returns-then-is_outstanding
 returns-then-is_outstanding c =
