@@ -9,6 +9,8 @@ use Rattle.ring_core.proofs.Scattering.{written_in_order}
 use Rattle.decisions.specs.declared.answer.ChainLengths.{ChainLengths}
 use Rattle.history.specs.Endings.{Ending, answer_of}
 use Rattle.task_set.specs.Jobs.{PlainJob}
+use Rattle.unit_history.specs.Endings.{ending_of}
+use Rattle.unit_history.specs.declared.answers.Outcome as answers
 use Rattle.deeds.specs.Parts.{Outcome, Hand, lengths_of}
 use Rattle.phases.specs.Queue.{Lent, completing}
 use Rattle.phases.specs.Answering.{Answers, told_writes}
@@ -54,14 +56,14 @@ answered_so x e q q' m n m' len c place t wrote place_is chain t_is m_is q_is =
     (answers_plainly x o q m)))
 
 -- a job whose commit is over is answered by what came of it
-pub answered : (x : PlainJob) (ending : Option Ending) (q q' : Lent) (m n m' : List ℕ) (len : ℕ) (c : PlainChain)
-    (place : ℕ) (t : Ticket) → is_some ending ≡ true → WritesEnding (record { job = x; ending = ending }) m len n
-    → IfSome (job_held (held_hand x ending)) (λ (y : PlainJob). (place ≡ y.unit) × (c ≡ y.chain))
+pub answered : (x : PlainJob) (outcome : Option answers.Outcome) (q q' : Lent) (m n m' : List ℕ) (len : ℕ) (c : PlainChain)
+    (place : ℕ) (t : Ticket) → is_some outcome ≡ true → WritesEnding (record { job = x; outcome = outcome }) m len n
+    → IfSome (job_held (held_hand x outcome)) (λ (y : PlainJob). (place ≡ y.unit) × (c ≡ y.chain))
     → t ≡ c.ticket → m' ≡ all_written n (used_writes q.ring c.id len) → q' ≡ completing m' c q
-    → Answers (held_hand x ending) q m true q' m' (Hand.Answered place t)
+    → Answers (held_hand x outcome) q m true q' m' (Hand.Answered place t)
 answered x None q q' m n m' len c place t over wrote took t_is m_is q_is = absurd (cc)
-answered x (Some e) q q' m n m' len c place t over wrote took t_is m_is q_is =
-    answered_so x e q q' m n m' len c place t wrote took.0 took.1 t_is m_is q_is
+answered x (Some o) q q' m n m' len c place t over wrote took t_is m_is q_is =
+    answered_so x (ending_of o) q q' m n m' len c place t wrote took.0 took.1 t_is m_is q_is
 
 -- these many readable and writable bytes
 abbrev pub the_lengths : ℕ → ℕ → ChainLengths

@@ -36,20 +36,21 @@ committed k x u v outcome.Unknown (cannot, same) =
     (Deed.Lose k x, (refl, refl), record { asks = cannot; is = same }, refl)
 
 -- a job whose commit isn't over is to be committed
-still_to_commit : (x : PlainJob) (e : Option Ending) → is_some e ≡ false → held_hand x e ≡ Hand.Taken x
+still_to_commit : (x : PlainJob) (before : Option outcome_type.Outcome) → is_some before ≡ false
+    → held_hand x before ≡ Hand.Taken x
 still_to_commit x None is = refl
-still_to_commit x (Some e) is = absurd (cc)
+still_to_commit x (Some o) is = absurd (cc)
 
 -- the hand whose job was committed then has what came of it
-pub taken : (x : PlainJob) (e : Option Ending) (u v : PlainUnit) (what : outcome_type.Outcome) (made : PlainHeld)
-    → is_some e ≡ false → Commits u x what v → made ≡ record { job = x; ending = Some (ending_of what) }
-    → units.Commits (held_hand x e) u true v (held_hand made.job made.ending)
-taken x e u v what made not_over ran same =
-    subst (λ (g : Hand). units.Commits g u true v (held_hand made.job made.ending)) (sym (still_to_commit x e not_over))
+pub taken : (x : PlainJob) (before : Option outcome_type.Outcome) (u v : PlainUnit) (what : outcome_type.Outcome)
+    (made : PlainHeld) → is_some before ≡ false → Commits u x what v → made ≡ record { job = x; outcome = Some what }
+    → units.Commits (held_hand x before) u true v (held_hand made.job made.outcome)
+taken x before u v what made not_over ran same =
+    subst (λ (g : Hand). units.Commits g u true v (held_hand made.job made.outcome)) (sym (still_to_commit x before not_over))
     (λ k.
     let (d, of, does, ends) = committed k x u v what ran in (
       d,
       of,
       does,
-      ap (λ (y : PlainHeld). held_hand y.job y.ending) same ∙ ap (λ (e : Ending). Hand.Done x (Outcome.Ended e)) ends,
+      ap (λ (y : PlainHeld). held_hand y.job y.outcome) same ∙ ap (λ (e : Ending). Hand.Done x (Outcome.Ended e)) ends,
     ))

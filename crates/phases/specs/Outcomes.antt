@@ -4,6 +4,8 @@ use Rattle.ring_core.specs.State.{PlainChain}
 use Rattle.ring_core.specs.Writes.{all_written, scatter_writes}
 use Rattle.history.specs.Endings.{Ending, answer_of}
 use Rattle.task_set.specs.Jobs.{PlainJob}
+use Rattle.unit_history.specs.Endings.{ending_of}
+use Rattle.unit_history.specs.declared.answers.Outcome as answers
 use Rattle.deeds.specs.Parts.{Outcome, lengths_of}
 use Rattle.phases.specs.declared.refusal.Refusal.{Refusal}
 use Rattle.phases.specs.declared.refusal.Refusal.TheVariants as refusal
@@ -24,10 +26,10 @@ pub record PlainReady : Type 0 where
   pub chain : PlainChain
   pub outcome : Outcome
 
--- a job in hand, and how it ended once its commit is over
+-- a job in hand, and what came of its commit once that is over
 pub record PlainHeld : Type 0 where
   pub job : PlainJob
-  pub ending : Option Ending
+  pub outcome : Option answers.Outcome
 
 -- what answers the job is written over its chain's parts, and has so many bytes
 pub record WritesWhole (x : PlainJob) (e : Ending) (m : List ℕ) (len : ℕ) (m' : List ℕ) : Type 0 where
@@ -36,4 +38,4 @@ pub record WritesWhole (x : PlainJob) (e : Ending) (m : List ℕ) (len : ℕ) (m
 
 -- the same of a job whose commit is over
 abbrev pub WritesEnding : PlainHeld → List ℕ → ℕ → List ℕ → Type 0
-WritesEnding h m len m' = IfSome h.ending (λ e. WritesWhole h.job e m len m')
+WritesEnding h m len m' = IfSome h.outcome (λ o. WritesWhole h.job (ending_of o) m len m')

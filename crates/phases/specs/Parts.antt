@@ -1,7 +1,8 @@
 -- What stands in a slot and in a hand, as plain values.
 use Rattle.std.specs.Prelude.{ℕ, Bool, true, false, Option, Some, None}
-use Rattle.history.specs.Endings.{Ending}
 use Rattle.task_set.specs.Jobs.{PlainJob}
+use Rattle.unit_history.specs.Endings.{ending_of}
+use Rattle.unit_history.specs.declared.answers.Outcome as answers
 use Rattle.deeds.specs.Parts.{Outcome, Slot, Hand}
 use Rattle.phases.specs.declared.slot.Slot as declared_slot
 use Rattle.phases.specs.declared.slot.Slot.TheVariants as slot
@@ -14,13 +15,13 @@ slot_of (slot.Arrived x) = Slot.Arrived x
 slot_of (slot.Ready r) = Slot.Ready r.chain r.outcome
 
 -- a job is to be committed, or to be answered where its commit is over
-abbrev pub held_hand : PlainJob → Option Ending → Hand
+abbrev pub held_hand : PlainJob → Option answers.Outcome → Hand
 held_hand x None = Hand.Taken x
-held_hand x (Some e) = Hand.Done x (Outcome.Ended e)
+held_hand x (Some o) = Hand.Done x (Outcome.Ended (ending_of o))
 
 abbrev pub hand_of : declared_hand.Hand → Hand
 hand_of hand.Free = Hand.Free
-hand_of (hand.Held h) = held_hand h.job h.ending
+hand_of (hand.Held h) = held_hand h.job h.outcome
 hand_of (hand.Answered place t) = Hand.Answered place t
 
 -- the unit that a request came for
@@ -34,6 +35,12 @@ abbrev pub is_ready : Slot → Bool
 is_ready Slot.Empty = false
 is_ready (Slot.Arrived x) = false
 is_ready (Slot.Ready c o) = true
+
+-- what came of the commit of the hand's job
+abbrev pub outcome_in : declared_hand.Hand → Option answers.Outcome
+outcome_in hand.Free = None
+outcome_in (hand.Held h) = h.outcome
+outcome_in (hand.Answered place t) = None
 
 -- the job in the hand
 abbrev pub job_held : Hand → Option PlainJob

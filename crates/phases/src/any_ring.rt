@@ -60,6 +60,20 @@ impl Ring for AnyRing {
         }
     }
 
+    fn least_outstanding(&self) -> Option<u64> {
+        match self {
+            AnyRing::Split(ring) => ring.least_outstanding(),
+            AnyRing::Packed(ring) => ring.least_outstanding(),
+        }
+    }
+
+    fn broken(&self) -> Option<RingFault> {
+        match self {
+            AnyRing::Split(ring) => ring.broken(),
+            AnyRing::Packed(ring) => ring.broken(),
+        }
+    }
+
     fn fits(&self, memory: &GuestMem) -> bool {
         match self {
             AnyRing::Split(ring) => ring.fits(memory),

@@ -1,7 +1,9 @@
 //! The steps in which a job's command runs, and its task leaves.
 
+ghost use Rattle.std.specs.Prelude.{IsTrue};
 ghost use Rattle.phases.specs.Parts.{hand_of};
 ghost use Rattle.phases.specs.Units.{Commits, Leaves};
+ghost use Rattle.phases.specs.Giving.{KeepsOutcome};
 
 use crate::entering::has_places;
 use crate::hand::Hand;
@@ -12,7 +14,8 @@ use unit_history::{JobList, UnitState, Unknown};
 /// was marked, or memory was refused. The hand then has what came of it. Whether something changed: not where no job is in
 /// the hand that is to be committed.
 pub fn phase_commit(unit: &mut UnitState, hand: &mut Hand) -> bool
-    ensures { Commits (hand_of hand.old) unit.old result unit.new (hand_of hand.new) }
+    ensures commits { Commits (hand_of hand.old) unit.old result unit.new (hand_of hand.new) }
+    ensures kept { IsTrue result → KeepsOutcome hand.old unit.old unit.new hand.new }
 {
     match hand {
         Hand::Held(held) => {

@@ -1,5 +1,6 @@
 //! The step in which a request comes to its unit.
 
+ghost use Rattle.deeds.specs.Parts as plain;
 ghost use Rattle.phases.specs.Parts.{slot_of};
 ghost use Rattle.phases.specs.Units.{Enters, EntersAs};
 ghost use Rattle.phases.specs.Doing.{HasPlaces};
@@ -21,20 +22,18 @@ pub(crate) fn has_places(out: &JobList) -> bool
     out.len() <= out.limit() && out.limit() - out.len() >= TASKS
 }
 
-/// A request comes to its unit: what stands in the slot then.
-fn enter(unit: &mut UnitState, arrival: Arrival, out: &mut JobList) -> Slot
-    requires { HasPlaces out.old }
-    ensures { EntersAs arrival unit.old out.old unit.new (slot_of result) out.new }
+/// A request comes to its unit, out of a slot that is empty now: the slot is written only where it was refused.
+fn enter(unit: &mut UnitState, arrival: Arrival, slot: &mut Slot, out: &mut JobList)
+    requires places { HasPlaces out.old }
+    requires empty { slot_of slot.old ≡ plain.Slot.Empty }
+    ensures { EntersAs arrival unit.old out.old unit.new (slot_of slot.new) out.new }
 {
     match unit.enter(arrival) {
-        Entered::Run(job) => {
-            out.push(job);
-            Slot::Empty
-        }
-        Entered::Parked => Slot::Empty,
-        Entered::Full(job) => Slot::Ready(Ready::refused(job, Refusal::Full)),
-        Entered::Busy(job) => Slot::Ready(Ready::refused(job, Refusal::Busy)),
-        Entered::Stale(job) => Slot::Ready(Ready::refused(job, Refusal::Stale)),
+        Entered::Run(job) => out.push(job),
+        Entered::Parked => {}
+        Entered::Full(job) => *slot = Slot::Ready(Ready::refused(job, Refusal::Full)),
+        Entered::Busy(job) => *slot = Slot::Ready(Ready::refused(job, Refusal::Busy)),
+        Entered::Stale(job) => *slot = Slot::Ready(Ready::refused(job, Refusal::Stale)),
     }
 }
 
@@ -49,7 +48,7 @@ pub fn phase_enter(unit: &mut UnitState, slot: &mut Slot, out: &mut JobList) -> 
     }
     match mem::replace(slot, Slot::Empty) {
         Slot::Arrived(arrival) => {
-            *slot = enter(unit, arrival, out);
+            enter(unit, arrival, slot, out);
             true
         }
         Slot::Empty | Slot::Ready(_) => unreachable!(),

@@ -39,11 +39,20 @@ fn decided_slot(inventory: &Inventory, fetched: Fetched) -> Slot
     requires { length fetched.bytes.items ≡ min 1048627 (readable_total fetched.chain.parts) }
     ensures { Arrives inventory.now fetched.chain fetched.bytes.items (slot_of result) }
 {
-    let Fetched { chain, bytes } = fetched;
+    let Fetched {
+        mut chain,
+        mut bytes,
+    } = fetched;
     let lengths = lengths_of_chain(&chain);
-    match decide(inventory, bytes, &lengths) {
-        Decision::Direct(answer) => Slot::Ready(Ready::told(chain, answer)),
-        Decision::Enter(unit, request) => Slot::Arrived(Arrival::new(unit, chain, request)),
+    match decide(inventory, &mut bytes, &lengths) {
+        Decision::Direct(answer) => {
+            chain.keep_room(bytes);
+            Slot::Ready(Ready::told(chain, answer))
+        }
+        Decision::Enter(unit, request) => {
+            chain.keep_room(bytes);
+            Slot::Arrived(Arrival::new(unit, chain, request))
+        }
     }
 }
 

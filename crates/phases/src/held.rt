@@ -2,7 +2,6 @@
 
 ghost use Rattle.std.specs.Prelude.{◌≡◌, is_some, Some};
 ghost use Rattle.unit_history.specs.Calls.{Commits};
-ghost use Rattle.unit_history.specs.Endings.{ending_of};
 
 use crate::answer::write_outcome;
 use guest_mem::GuestMem;
@@ -19,14 +18,13 @@ pub struct Held {
 
 impl Model for Held {
     ghost use Rattle.std.specs.Prelude.{IfSome};
-    ghost use Rattle.std.specs.Option.{option_map};
     ghost use Rattle.cdb.specs.Need.{need_of};
-    ghost use Rattle.unit_history.specs.Endings.{ending_of, FitsNeed};
+    ghost use Rattle.unit_history.specs.Endings.{FitsNeed};
     ghost use Rattle.phases.specs.Outcomes.{PlainHeld};
 
     ghost Value = { PlainHeld };
 
-    ghost view = { λ h. record { job = h.job; ending = option_map ending_of h.outcome } };
+    ghost view = { λ h. record { job = h.job; outcome = h.outcome } };
 
     ghost invariant = { λ h. IfSome h.outcome (FitsNeed (need_of h.job.entry.command).into) };
 }
@@ -38,7 +36,7 @@ impl Held {
 
     /// A job that is to be committed.
     pub fn new(job: Job) -> Held
-        ensures { result ≡ record { job = job; ending = None } }
+        ensures { result ≡ record { job = job; outcome = None } }
     {
         Held { job, outcome: None }
     }
@@ -52,7 +50,7 @@ impl Held {
 
     /// Whether its commit is over.
     pub fn is_over(&self) -> bool
-        ensures { result ≡ is_some self.now.ending }
+        ensures { result ≡ is_some self.now.outcome }
     {
         self.outcome.is_some()
     }
@@ -60,7 +58,7 @@ impl Held {
     /// The job is committed at its unit.
     pub(crate) fn commit(&mut self, unit: &mut UnitState)
         ensures { (o : answers.Outcome) × Commits unit.old self.old.job o unit.new
-            × (self.new ≡ record { job = self.old.job; ending = Some (ending_of o) }) }
+            × (self.new ≡ record { job = self.old.job; outcome = Some o }) }
     {
         self.outcome = Some(unit.commit(&self.job));
     }
@@ -68,7 +66,7 @@ impl Held {
     /// Writes what answers the job over the writable parts of its chain, where its commit is over: how many bytes it has.
     pub(crate) fn write(&self, memory: &mut GuestMem) -> u32
         requires fits { length memory.old ≡ self.now.job.chain.memory }
-        requires over { is_some self.now.ending ≡ true }
+        requires over { is_some self.now.outcome ≡ true }
         ensures written { WritesEnding self.now memory.old result memory.new }
         ensures size { length memory.new ≡ length memory.old }
     {
@@ -78,11 +76,12 @@ impl Held {
         }
     }
 
-    /// The job, to be let go of its outcome.
-    pub(crate) fn into_job(self) -> Job
-        ensures { result ≡ self.job }
+    /// The job, and what came of its commit once that is over.
+    pub(crate) fn into_parts(self) -> (Job, Option<Outcome>)
+        ensures job { result.0 ≡ self.job }
+        ensures outcome { result.1 ≡ self.outcome }
     {
-        let Held { job, .. } = self;
-        job
+        let Held { job, outcome } = self;
+        (job, outcome)
     }
 }

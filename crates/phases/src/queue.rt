@@ -13,6 +13,17 @@ use split_ring::SplitRing;
 use std::alloc::Global;
 use std::marker::Model;
 
+/// Why a queue of this form can't lie so, in a memory of so many bytes; `None` where it can.
+pub fn placement(form: Form, memory: u64, layout: &Layout) -> Option<LayoutFault>
+    ensures { result ≡ placement_of form memory layout.now }
+{
+    let checked = match form {
+        Form::Split => split_ring::check_layout(layout, memory),
+        Form::Packed => packed_ring::check_layout(layout, memory),
+    };
+    checked.err()
+}
+
 /// Whether a queue of this form can lie so, in a memory of so many bytes.
 pub fn is_placed(form: Form, memory: u64, layout: &Layout) -> bool
     ensures { result ≡ is_none (placement_of form memory layout.now) }
@@ -113,7 +124,7 @@ impl Queue {
     ghost use Rattle.std.specs.Prelude.{None};
     ghost use Rattle.phases.specs.Queue.{opening_queue, placement_of};
     ghost use Rattle.ring_core.specs.State.{Owns};
-    ghost use Rattle.ring_core.specs.Sound.{IsSound, outstanding_count};
+    ghost use Rattle.ring_core.specs.Sound.{IsSound, IsLeastOutstanding, outstanding_count};
     ghost use Rattle.ring_core.specs.Writes.{all_written};
     ghost use Rattle.ring_core.specs.Offer.{used_writes};
     ghost use Rattle.phases.specs.Queue.{completing};
@@ -156,6 +167,7 @@ impl Queue {
     }
 
     /// Whether the memory has the size that it was made with, and the chain is outstanding here.
+    #[inline(always)]
     pub(crate) fn may_complete(&self, memory: &GuestMem, chain: &Chain) -> bool
         ensures { IsTrue result ↔ MayComplete self.now memory.now chain.now }
     {
@@ -191,6 +203,7 @@ impl Queue {
     }
 
     /// Completes a chain, and counts the notice where the driver wants one.
+    #[inline(always)]
     pub(crate) fn complete(&mut self, memory: &mut GuestMem, chain: Chain, len: u32) -> Answered
         requires fits { length memory.old ≡ self.old.ring.memory }
         requires owned { Owns self.old.ring chain }
@@ -221,6 +234,13 @@ impl Queue {
         self.broken
     }
 
+    /// The fault of the guest that broke it, if any.
+    pub fn fault(&self) -> Option<RingFault>
+        ensures { result ≡ self.now.ring.broken }
+    {
+        self.ring.broken()
+    }
+
     /// Its log. What is outstanding agrees with it, and is no more than the queue has descriptors.
     pub fn log(&self) -> &QueueLog
         ensures log { result.now ≡ self.now.ring.log }
@@ -228,5 +248,12 @@ impl Queue {
         ensures few { outstanding_count self.now.ring ≤ self.now.ring.layout.size }
     {
         self.ring.log()
+    }
+
+    /// The least number of an accepted chain that wasn't used, if there is one: asked once the queue is no longer served.
+    pub fn least_outstanding(&self) -> Option<u64>
+        ensures { IsLeastOutstanding self.now.ring result }
+    {
+        self.ring.least_outstanding()
     }
 }

@@ -1,11 +1,13 @@
 //! A chain that is to be answered.
 
-ghost use Rattle.std.specs.Prelude.{◌≡◌, ◌≤◌, length};
+ghost use Rattle.std.specs.Prelude.{◌≡◌, ◌≤◌, ℕ, List, length};
 ghost use Rattle.ring_core.specs.Parts.{writable_total};
 ghost use Rattle.history.specs.Endings.{Ending};
 ghost use Rattle.deeds.specs.Parts.{Outcome, lengths_of, bytes_of};
-ghost use Rattle.phases.specs.Outcomes.{refused_as};
+ghost use Rattle.phases.specs.Outcomes.{refused_as, outcome_of};
+ghost use Rattle.phases.specs.Giving.{cause_for};
 
+use crate::note::Cause;
 use crate::refusal::Refusal;
 use block_commands::{BUSY, TASK_SET_FULL};
 use decisions::DirectAnswer;
@@ -34,6 +36,18 @@ impl Model for Ready {
 
     ghost invariant = { λ r. (bytes_of (lengths_of r.chain) (outcome_of r.answer r.refusal) ≡ r.answer)
         × (length r.answer ≤ writable_total r.chain.parts) };
+}
+
+/// Why a chain that is ready gets no receipt.
+fn cause_of(refusal: Option<Refusal>) -> Cause
+    ensures { (bytes : List ℕ) → result ≡ cause_for (outcome_of bytes refusal) }
+{
+    match refusal {
+        None => Cause::Direct,
+        Some(Refusal::Full) => Cause::Full,
+        Some(Refusal::Busy) => Cause::Busy,
+        Some(Refusal::Stale) => Cause::Stale,
+    }
 }
 
 impl Ready {
@@ -66,13 +80,18 @@ impl Ready {
         }
     }
 
-    /// Its chain, and the bytes that answer it, for which there is room.
-    pub(crate) fn into_parts(self) -> (Chain, DirectAnswer)
+    /// Its chain, the bytes that answer it, for which there is room, and why it gets no receipt.
+    pub(crate) fn into_parts(self) -> (Chain, DirectAnswer, Cause)
         ensures chain { result.0 ≡ self.chain }
         ensures answer { result.1 ≡ bytes_of (lengths_of self.chain) self.outcome }
         ensures fits { length result.1 ≤ writable_total self.chain.parts }
+        ensures cause { result.2 ≡ cause_for self.outcome }
     {
-        let Ready { chain, answer, .. } = self;
-        (chain, answer)
+        let Ready {
+            chain,
+            answer,
+            refusal,
+        } = self;
+        (chain, answer, cause_of(refusal))
     }
 }

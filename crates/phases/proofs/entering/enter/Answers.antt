@@ -3,11 +3,12 @@ use Rattle.phases.proofs.entering.enter.Goals as goal
 
 pub returns-in-Run : goal.returns-in-Run
 returns-in-Run c =
-    rw c.push.ensures
+    rw (c.push.ensures, c.requires.empty)
     (runs c.args.arrival c.args.unit.now c.enter.new.self c.args.out.now c.in-Run.job c.in-Run.ensures)
 
 pub returns-in-Parked : goal.returns-in-Parked
-returns-in-Parked c = parks c.args.arrival c.args.unit.now c.enter.new.self c.args.out.now c.in-Parked.ensures
+returns-in-Parked c =
+    rw c.requires.empty (parks c.args.arrival c.args.unit.now c.enter.new.self c.args.out.now c.in-Parked.ensures)
 
 pub returns-in-Full : goal.returns-in-Full
 returns-in-Full c =
