@@ -10,7 +10,7 @@ use Rattle.settling.specs.Order.{IsFirstOf, NoneApplies}
 use Rattle.world.specs.Cursors.{TurnsFirst, of_function}
 
 -- where an event changed something it applied, so it is first where it is behind those that don't apply
-taken : (xs : List Event) (e : Event) (w w' : PlainWorld) → (Applies w e → IsFirstOf w xs e) → Turns w e true w'
+pub taken : (xs : List Event) (e : Event) (w w' : PlainWorld) → (Applies w e → IsFirstOf w xs e) → Turns w e true w'
     → TurnsFirst xs w true w'
 taken xs e w w' first t = (
   t.0,

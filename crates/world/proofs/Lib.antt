@@ -1,6 +1,8 @@
+pub mod Faults
 pub mod Setting
 pub mod Choosing
 pub mod Ordering
+pub mod Stages
 pub mod Woken
 pub mod Reaching
 pub mod Placing

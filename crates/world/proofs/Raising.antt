@@ -18,7 +18,7 @@ use Rattle.deeds.proofs.Joining.{joins}
 use Rattle.deeds.proofs.Lists.{same}
 use Rattle.phases.specs.Queue.{Lent, with_slot}
 use Rattle.phases.specs.Doing.{MayComplete}
-use Rattle.phases.specs.EventQueue.{RaisesNext, RaisesTo, StaysRaised, port_after}
+use Rattle.phases.specs.EventQueue.{RaisesNext, RaisesTo, StaysRaised}
 use Rattle.world.specs.Sound.{IsSound}
 use Rattle.world.proofs.Setting.{set_same}
 use Rattle.world.proofs.Placing.{set_as}

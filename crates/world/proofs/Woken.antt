@@ -22,7 +22,7 @@ use Rattle.settling.specs.Order.{of_seat, order_of, IsFirstOf, IsNext, NoneAppli
 use Rattle.settling.specs.Waking.{IsAmong, IsFetch, IsTake, IsOwn, Wakes}
 use Rattle.phases.specs.Parts.{arrived_unit}
 use Rattle.settling.proofs.Waking.{wakes}
-use Rattle.world.specs.Cursors.{TurnsFirst, of_function, NoStart, NoDirectBelow, NoDirect, NoSeatBelow, NoSeat, NoEnterBelow, NoFetchBelow, NoneBefore, NoneBeforeFetch, LeavesNext, EntersNext, FetchesNext, TurnsNext}
+use Rattle.world.specs.Cursors.{TurnsFirst, of_function, NoStart, NoDirectBelow, NoDirect, NoSeatBelow, NoSeat, NoEnterBelow, NoFetchBelow, NoneBefore, NoneBeforeFetch, LeavesNext, EntersNext, FetchesNext, TurnsNext, direct_from, seat_from, enter_from}
 use Rattle.world.specs.declared.service.Cursor.{Cursor}
 use Rattle.world.specs.declared.service.Cursor.TheVariants as cursor
 use Rattle.world.proofs.Choosing.{none_open}
@@ -299,19 +299,19 @@ at_other : (w v : PlainWorld) (c x : Cursor) → c ≡ x → v ≡ w → NoneBef
 at_other w v c x e f h = subst (λ z. NoneBefore z v) (sym e) (subst (λ z. NoneBefore x z) (sym f) h)
 
 -- an event of a seat
-pub seat_next : (w v w' : PlainWorld) (k : ℕ) (b : Bool) (c : Cursor) → b ≡ true → v ≡ w → NoneBefore cursor.Seats w
+pub seat_next : (w v w' : PlainWorld) (k : ℕ) (b : Bool) (c : Cursor) → b ≡ true → v ≡ w → NoStart w → NoDirect w
     → NoSeatBelow k w → k < length w.seats → TurnsFirst (of_seat k) v b w' → LeavesNext w' c
     → TurnsNext w (Ok (Some c)) w'
-seat_next w v w' k b c on same none below lt t leaves =
+seat_next w v w' k b c on same s direct below lt t leaves =
     let u : TurnsFirst (of_seat k) w true w' = subst (λ z. TurnsFirst (of_seat k) z true w') same (rw on at t) in
     let e = event_of u.0 in
     let next = is_first w e (order_of w)
-    (first_seat (Is w e) w k none.0 none.1 below lt (of_first w e (of_seat k) u.2)) in
+    (first_seat (Is w e) w k s direct below lt (of_first w e (of_seat k) u.2)) in
     let before : NoneBefore c w' = elim leaves [
       | inl p ↦ at_start w' c p
       | inr p ↦
           let closed = ap (λ (z : PlainWorld). z.function) (sym u.3) ∙ p.1 in
-          at_other (after u.0 w) w' c cursor.Seats p.0 u.3 (after_seat w u.0 k u.2 u.1 none.0 none.1 closed)
+          at_other (after u.0 w) w' c cursor.Seats p.0 u.3 (after_seat w u.0 k u.2 u.1 s direct closed)
     ] in
     (u.0, u.1, next, u.3, before)
 
@@ -369,24 +369,46 @@ arrived_there Slot.Empty e = absurd (cc)
 arrived_there (Slot.Arrived x) e = (x, refl)
 arrived_there (Slot.Ready c o) e = absurd (cc)
 
+-- Where a cursor begins
+
+-- it isn't at the beginning
+pub past_start : (w : PlainWorld) (c : Cursor) → (c ≡ cursor.Start → ⊥) → NoneBefore c w → NoStart w
+past_start w cursor.Start other before = absurd (other refl)
+past_start w (cursor.Direct n) other before = before.0
+past_start w cursor.Seats other before = before.0
+past_start w (cursor.Enter n) other before = before.0
+
+-- nothing is below 0
+none_below : (P : ℕ → Type 0) (i : ℕ) → i < 0 → P i
+none_below P i lt = absurd (omega (arith, lt))
+
+pub directs_from : (w : PlainWorld) (c : Cursor) → NoneBefore c w → NoDirectBelow (direct_from c (length w.queues)) w
+directs_from w cursor.Start before = none_below (λ i. Never w (Event.Direct i))
+directs_from w (cursor.Direct n) before = before.1
+directs_from w cursor.Seats before = before.1
+directs_from w (cursor.Enter n) before = before.1
+
+pub seats_from : (w : PlainWorld) (c : Cursor) → NoneBefore c w → NoSeatBelow (seat_from c (length w.seats)) w
+seats_from w cursor.Start before = none_below (λ k. NoneApplies w (of_seat k))
+seats_from w (cursor.Direct n) before = none_below (λ k. NoneApplies w (of_seat k))
+seats_from w cursor.Seats before = none_below (λ k. NoneApplies w (of_seat k))
+seats_from w (cursor.Enter n) before = before.2
+
+pub enters_from : (w : PlainWorld) (c : Cursor) → NoneBefore c w → NoEnterBelow (enter_from c) w
+enters_from w cursor.Start before = none_below (λ i. Never w (Event.Enter i))
+enters_from w (cursor.Direct n) before = none_below (λ i. Never w (Event.Enter i))
+enters_from w cursor.Seats before = none_below (λ i. Never w (Event.Enter i))
+enters_from w (cursor.Enter n) before = before.3
+
 -- Past the last of a kind
 
 -- no queue has an answer ready
-pub directs_past : (w v : PlainWorld) (n : ℕ) → v ≡ w → length w.queues ≤ n → NoStart w → NoDirectBelow n w
-    → NoneBefore cursor.Seats v
-directs_past w v n same le s below =
-    subst (NoneBefore cursor.Seats) (sym same) (s, λ i lt. below i (omega (arith, lt, le)))
+pub directs_past : (w v : PlainWorld) (n : ℕ) → v ≡ w → length w.queues ≤ n → NoDirectBelow n w → NoDirect v
+directs_past w v n same le below = subst NoDirect (sym same) (λ i lt. below i (omega (arith, lt, le)))
 
 -- no seat has an event
-pub seats_past : (w v : PlainWorld) (n : ℕ) → v ≡ w → length w.seats ≤ n → NoneBefore cursor.Seats w → NoSeatBelow n w
-    → NoneBefore (cursor.Enter 0) v
-seats_past w v n same le none below =
-    subst (NoneBefore (cursor.Enter 0)) (sym same) (
-      none.0,
-      none.1,
-      λ k lt. below k (omega (arith, lt, le)),
-      λ i lt. absurd (omega (arith, lt)),
-    )
+pub seats_past : (w v : PlainWorld) (n : ℕ) → v ≡ w → length w.seats ≤ n → NoSeatBelow n w → NoSeat v
+seats_past w v n same le below = subst NoSeat (sym same) (λ k lt. below k (omega (arith, lt, le)))
 
 -- no request arrived
 pub enters_past : (w v : PlainWorld) (n : ℕ) → v ≡ w → length w.queues ≤ n → NoStart w → NoDirect w → NoSeat w

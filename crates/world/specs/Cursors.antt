@@ -57,6 +57,26 @@ NoneBefore (cursor.Direct n) w = NoStart w × NoDirectBelow n w
 NoneBefore cursor.Seats w = NoStart w × NoDirect w
 NoneBefore (cursor.Enter n) w = NoStart w × NoDirect w × NoSeat w × NoEnterBelow n w
 
+-- the first of so many queues whose answer may be ready, where none before the cursor applies; of so many seats, the first
+-- that may have a step; and the first queue on which a request may have arrived
+abbrev pub direct_from : Cursor → ℕ → ℕ
+direct_from cursor.Start queues = 0
+direct_from (cursor.Direct n) queues = n
+direct_from cursor.Seats queues = queues
+direct_from (cursor.Enter n) queues = queues
+
+abbrev pub seat_from : Cursor → ℕ → ℕ
+seat_from cursor.Start seats = 0
+seat_from (cursor.Direct n) seats = 0
+seat_from cursor.Seats seats = 0
+seat_from (cursor.Enter n) seats = seats
+
+abbrev pub enter_from : Cursor → ℕ
+enter_from cursor.Start = 0
+enter_from (cursor.Direct n) = 0
+enter_from cursor.Seats = 0
+enter_from (cursor.Enter n) = n
+
 -- nor one before the first fetch
 abbrev pub NoneBeforeFetch : PlainWorld → Type 0
 NoneBeforeFetch w = NoStart w × NoDirect w × NoSeat w × NoEnter w

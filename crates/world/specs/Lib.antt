@@ -3,6 +3,9 @@ pub mod Sound
 pub mod Steps
 pub mod Settling
 pub mod Cursors
+pub mod Stages
 pub mod Config
+pub mod ConfigFault
 pub mod Views
+pub mod Notifications
 pub mod Promise

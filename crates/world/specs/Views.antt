@@ -5,7 +5,8 @@ use Rattle.block_store.specs.Blocks.{run}
 use Rattle.block_store.specs.declared.NoMemory.{NoMemory}
 use Rattle.history.specs.Contents.{blocks_of, capacity_of}
 use Rattle.unit_history.specs.Unit.{PlainUnit}
-use Rattle.deeds.specs.World.{PlainWorld}
+use Rattle.ring_core.specs.declared.fault.RingFault.{RingFault}
+use Rattle.deeds.specs.World.{PlainQueue, PlainWorld}
 
 -- the unit of an address
 abbrev pub unit_at : PlainWorld → ℕ → ℕ → Option PlainUnit
@@ -17,6 +18,11 @@ IsPlaceOf w target lun (Some place) =
     (u : PlainUnit) × (slice_get w.units place ≡ Some u) × (u.opening.target ≡ target) × (u.opening.lun ≡ lun)
 IsPlaceOf w target lun None =
     (place : ℕ) (u : PlainUnit) → slice_get w.units place ≡ Some u → u.opening.target ≡ target → u.opening.lun ≡ lun → ⊥
+
+-- the fault that broke a queue, if it is there
+abbrev pub fault_of : Option PlainQueue → Option RingFault
+fault_of None = None
+fault_of (Some q) = q.ring.broken
 
 -- DEVICE_NEEDS_RESET (VIRTIO 1.2, 2.1) where a queue is broken
 abbrev pub device_status : PlainWorld → ℕ

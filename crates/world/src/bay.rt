@@ -34,4 +34,11 @@ impl Bay {
             slot: Slot::Empty,
         }
     }
+
+    /// How many notices its driver wanted.
+    pub(crate) fn notices(&self) -> u64
+        ensures { result ≡ self.now.notices }
+    {
+        self.queue.notices()
+    }
 }

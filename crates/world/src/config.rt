@@ -1,11 +1,11 @@
 //! Which device is wanted.
 
-ghost use Rattle.std.specs.Prelude.{◌≡◌};
-ghost use Rattle.std.specs.List.{list_all};
-ghost use Rattle.world.specs.Config.{form_of, is_queue, is_unit, has_lun_0, are_units, are_queues, is_config};
+ghost use Rattle.std.specs.Prelude.{◌≡◌, ◌&&◌, nat_le, is_none, IfSome};
+ghost use Rattle.world.specs.Config.{form_of, is_config};
+ghost use Rattle.world.specs.ConfigFault.{IsFault};
 
-use decisions::{UnitSpec, are_rising};
-use phases::is_placed;
+use crate::config_fault::{ConfigFault, fault_of_queues, fault_of_units};
+use decisions::UnitSpec;
 use ring_core::{Form, Layout};
 use std::error::Error;
 use std::fmt;
@@ -15,6 +15,9 @@ pub const VERSION_1: u64 = 1 << 32;
 
 /// VIRTIO_F_RING_PACKED: packed virtqueues in place of split ones.
 pub const RING_PACKED: u64 = 1 << 34;
+
+/// Every feature that the device offers. Of these a driver has to agree to `VERSION_1` (VIRTIO 1.2, 6.1).
+pub const FEATURES: u64 = VERSION_1 + RING_PACKED;
 
 /// A device that is wanted.
 #[derive(Debug, Drop)]
@@ -54,8 +57,8 @@ impl fmt::Display for StartFault {
 
 impl Error for StartFault {}
 
-/// The form of queue that features ask for, if they are a set that the device takes.
-pub(crate) fn form(features: u64) -> Option<Form>
+/// The form of queue that features ask for; `None` where they are no set that the device takes.
+pub fn form(features: u64) -> Option<Form>
     ensures { result ≡ form_of features }
 {
     if features == VERSION_1 {
@@ -67,85 +70,44 @@ pub(crate) fn form(features: u64) -> Option<Form>
     }
 }
 
-/// Whether a queue lies within the limits.
-fn check_queue(form: Form, memory: u64, layout: &Layout) -> bool
-    ensures { result ≡ is_queue form memory layout.now }
+/// Whether a number is at least the one and at most the other.
+fn lies_within(number: u64, least: u64, most: u64) -> bool
+    ensures { result ≡ (nat_le least number && nat_le number most) }
 {
-    layout.size >= 2 && layout.size <= 1024 && is_placed(form, memory, layout)
-}
-
-/// Whether all queues lie within the limits.
-fn check_each(form: Form, memory: u64, queues: &[Layout]) -> bool
-    ensures { result ≡ list_all (is_queue form memory) queues.now }
-{
-    queues
-        .iter()
-        .all(|layout| check_queue(form, memory, layout))
-}
-
-/// Whether there are queues of each kind, within the limits.
-fn check_queues(form: Option<Form>, memory: u64, queues: &[Layout]) -> bool
-    ensures { result ≡ are_queues form memory queues.now }
-{
-    match form {
-        None => false,
-        Some(form) => {
-            queues.len() >= 3 && queues.len() <= 18 && check_each(form, memory, queues)
-        }
-    }
-}
-
-/// Whether a unit lies within the limits.
-fn check_unit(unit: &UnitSpec) -> bool
-    ensures { result ≡ is_unit unit.now }
-{
-    unit.lun <= 16383 && unit.blocks >= 1 && unit.blocks <= 131_072
-}
-
-/// Whether a target has LUN 0.
-fn check_lun_0(units: &[UnitSpec], target: u8) -> bool
-    ensures { result ≡ has_lun_0 units.now target }
-{
-    units
-        .iter()
-        .any(|unit| unit.target == target && unit.lun == 0)
-}
-
-/// Whether each unit lies within the limits.
-fn check_each_unit(units: &[UnitSpec]) -> bool
-    ensures { result ≡ list_all is_unit units.now }
-{
-    units.iter().all(|unit| check_unit(unit))
-}
-
-/// Whether each target has LUN 0.
-fn check_each_target(units: &[UnitSpec]) -> bool
-    ensures { result ≡ list_all (λ u. has_lun_0 units.now u.target) units.now }
-{
-    units.iter().all(|unit| check_lun_0(units, unit.target))
-}
-
-/// Whether the units lie within the limits.
-fn check_units(units: &[UnitSpec]) -> bool
-    ensures { result ≡ are_units units.now }
-{
-    let some = units.len() >= 1 && units.len() <= 64;
-    some && check_each_unit(units) && are_rising(units) && check_each_target(units)
+    number >= least && number <= most
 }
 
 impl Config {
+    /// Why the device doesn't take it; `None` exactly where it does. Whoever sets a device up asks it to say what
+    /// `World::new` answers `BadConfig` for. Pages are looked at first, then features, queues, workers, the hand-off
+    /// and units.
+    pub fn fault(&self) -> Option<ConfigFault>
+        ensures none { is_none result ≡ is_config self.now }
+        ensures cause { IfSome result (λ fault. IsFault self.now fault) }
+    {
+        if !lies_within(self.pages as u64, 1, 65536) {
+            return Some(ConfigFault::Pages);
+        }
+        let Some(form) = form(self.features) else {
+            return Some(ConfigFault::Features);
+        };
+        let memory = self.pages as u64 * 4096;
+        if let Some(fault) = fault_of_queues(form, memory, self.queues.as_slice()) {
+            return Some(fault);
+        }
+        if !lies_within(self.workers as u64, 1, 8) {
+            return Some(ConfigFault::Workers);
+        }
+        if !lies_within(self.handoff as u64, 1, 4096) {
+            return Some(ConfigFault::Handoff);
+        }
+        fault_of_units(self.units.as_slice())
+    }
+
     /// Whether the device takes it.
     pub fn is_valid(&self) -> bool
         ensures { result ≡ is_config self.now }
     {
-        let memory = self.pages as u64 * 4096;
-        self.pages >= 1
-            && self.pages <= 65536
-            && check_queues(form(self.features), memory, self.queues.as_slice())
-            && self.workers >= 1
-            && self.workers <= 8
-            && self.handoff >= 1
-            && self.handoff <= 4096
-            && check_units(self.units.as_slice())
+        self.fault().is_none()
     }
 }

@@ -3,19 +3,24 @@
 
 mod bay;
 mod config;
+mod config_fault;
 mod device;
+mod notifications;
 mod seat;
 mod service;
 mod steps;
 mod world;
 
-pub use config::{Config, RING_PACKED, StartFault, VERSION_1};
+pub use config::{Config, FEATURES, RING_PACKED, StartFault, VERSION_1, form};
+pub use config_fault::ConfigFault;
 pub use decisions::UnitSpec;
 pub use deeds::Event;
+pub use notifications::Notifications;
 pub use phases::{
-    AnyRing, Hand, Held, OpenFunction, Queue, Ready, Refusal, Slot, phase_answer, phase_answer_tmf,
-    phase_check, phase_commit, phase_direct, phase_enter, phase_fetch, phase_fetch_control,
-    phase_leave, phase_mark,
+    AnyRing, Cause, Given, Hand, Held, Note, OpenFunction, Queue, Ready, Refusal, Slot,
+    phase_answer, phase_answer_tmf, phase_check, phase_commit, phase_direct, phase_enter,
+    phase_fetch, phase_fetch_control, phase_leave, phase_mark,
 };
+pub use ring_core::{Layout, LayoutFault, RingFault};
 pub use unit_history::{StepKind, UnitState};
 pub use world::World;

@@ -4,6 +4,19 @@ use phases::Hand;
 use std::marker::Model;
 use unit_history::{Job, JobList};
 
+/// What a seat's hand says of its next step.
+#[derive(Clone, Copy, Debug, PartialEq, Eq)]
+pub(crate) enum Stage {
+    /// Nothing is in hand.
+    Free,
+    /// A job is to be committed.
+    Committing,
+    /// A job is to be answered.
+    Answering,
+    /// A task is to leave.
+    Leaving,
+}
+
 /// What a worker, or the operator, has between two steps: its hand, and the jobs that it is to hand off.
 #[derive(Debug, Drop)]
 pub(crate) struct Seat {
@@ -23,6 +36,7 @@ impl Model for Seat {
 impl Seat {
     ghost use Rattle.std.specs.Prelude.{◌≡◌, ◌↔◌, IsTrue, [], drop, slice_get};
     ghost use Rattle.deeds.specs.Parts as plain;
+    ghost use Rattle.world.specs.Stages.{stage_of};
 
     /// A seat with nothing in hand and an empty list.
     pub(crate) fn new(out: JobList) -> Seat
@@ -33,6 +47,22 @@ impl Seat {
             hand: Hand::Free,
             out,
         }
+    }
+
+    /// What its hand says of its next step.
+    pub(crate) fn stage(&self) -> Stage
+        ensures { result ≡ stage_of self.now.hand }
+    {
+        if self.hand.is_free() {
+            return Stage::Free;
+        }
+        if self.hand.leaving_unit().is_some() {
+            return Stage::Leaving;
+        }
+        if self.hand.answering_queue().is_some() {
+            return Stage::Answering;
+        }
+        Stage::Committing
     }
 
     /// Whether it has nothing in hand.
@@ -58,6 +88,7 @@ impl Seat {
     }
 
     /// The seat has this job in hand, which is to be committed.
+    #[inline(always)]
     pub(crate) fn hold(&mut self, job: Job)
         ensures { self.new ≡ record self.old { hand = plain.Hand.Taken job } }
     {

@@ -134,7 +134,7 @@ impl Device {
             return false;
         }
         let bay = &mut self.bays[at];
-        phase_direct(&mut bay.queue, &mut bay.slot, &mut self.memory)
+        phase_direct(&mut bay.queue, &mut bay.slot, &mut self.memory).is_some()
     }
 
     /// A seat hands its next job off, or keeps it where the hand-off is full.
@@ -215,6 +215,7 @@ impl Device {
             &mut self.memory,
             &mut self.seats[at].hand,
         )
+        .is_some()
     }
 
     /// The task in a seat's hand leaves.

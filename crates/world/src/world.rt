@@ -21,7 +21,7 @@ use event_queue::{EventPort, WaitingEvents};
 use guest_mem::GuestMem;
 use interleavings::laws::the_promise_is_kept;
 use phases::Queue;
-use ring_core::{Form, Layout, QueueLog};
+use ring_core::{Form, Layout, QueueLog, RingFault};
 use std::alloc::Global;
 use std::marker::Model;
 use unit_history::{JobList, UnitState};
@@ -174,7 +174,7 @@ impl World {
     ghost use Rattle.world.specs.Settling.{ServesOrWants};
     ghost use Rattle.world.specs.Promise.{StepsAsPromised, RunsAsPromised, SettlesAsPromised};
     ghost use Rattle.world.specs.Cursors.{NoneBefore, TurnsNext};
-    ghost use Rattle.world.specs.Views.{unit_at, IsPlaceOf, device_status, GivesBlocks};
+    ghost use Rattle.world.specs.Views.{unit_at, IsPlaceOf, fault_of, device_status, GivesBlocks};
 
     /// The device of a configuration, of which nothing has happened yet. Whoever sets it up calls it once. `BadConfig`
     /// exactly where the configuration isn't valid; else `NoMemory` where a growth was refused. The empty trace leads from
@@ -304,6 +304,7 @@ impl World {
     }
 
     /// The first event of the order that applies, from a place on; and from where on to look then.
+    #[inline(always)]
     fn turn(&mut self, cursor: Cursor) -> Result<Option<Cursor>, NoMemory>
         requires { NoneBefore cursor self.old }
         ensures { TurnsNext self.old result self.new }
@@ -353,6 +354,25 @@ impl World {
             Some(bay) => Some(bay.queue.notices()),
             None => None,
         }
+    }
+
+    /// The fault of the guest that broke a queue; `None` where none did, or where there is no such queue.
+    pub fn broken(&self, number: u16) -> Option<RingFault>
+        ensures { result ≡ fault_of (slice_get self.now.queues number) }
+    {
+        match self.device.bays.get(number as usize) {
+            Some(bay) => bay.queue.fault(),
+            None => None,
+        }
+    }
+
+    /// The queues with their slots, of which there are few.
+    pub(crate) fn bays(&self) -> &[Bay]
+        ensures queues { result.now ≡ self.now.queues }
+        ensures few { length result.now ≤ 18 }
+    {
+        self.is_sound();
+        self.device.bays.as_slice()
     }
 
     /// The device's status: 64, DEVICE_NEEDS_RESET (VIRTIO 1.2, 2.1), where a queue is broken,

@@ -1,4 +1,4 @@
-use Rattle.std.proofs.Common.{◌≡◌, Some, sym, subst, ap, refl, ◌∙◌, length, arith}
+use Rattle.std.proofs.Common.{◌≡◌, is_some, Some, sym, subst, ap, refl, ◌∙◌, length, arith}
 use Rattle.deeds.specs.Events.{Event}
 use Rattle.deeds.specs.Turns.{Turns}
 use Rattle.phases.specs.Parts.{answering_queue, slot_of}
@@ -31,7 +31,7 @@ invariant_of-self c =
     keeps_seat m _ d.units.items d.seats.items k s t at refl
     (keeps_queue d.memory m d.bays.items d.units.items d.seats.items i (with_slot slot q) (with_slot slot r)
     c.phase_answer.ensures.size there
-    (keeps_memory s.hand q r d.memory m c.phase_answer.result t.hand c.phase_answer.ensures.answers) c.self.invariant)
+    (keeps_memory s.hand q r d.memory m (is_some c.phase_answer.result) t.hand c.phase_answer.ensures.answers) c.self.invariant)
 
 pub returns : goal.returns
 returns c =
@@ -57,7 +57,8 @@ returns c =
     let queue : answering_queue s.hand ≡ Some i =
     ap (λ (z : KeptSeat). answering_queue z.hand) one ∙ sym c.in-Some.ensures in
     let next = with_queue_and_seat (the_view d) m i (with_slot slot r) d.seats.items k t in
-    subst (λ w. Turns w (Event.Answer k) c.phase_answer.result next) c.self.view_is
-    (answers (the_view d) d.seats.items k i s.hand s.jobs s.limit slot q r m t.hand c.phase_answer.result
+    subst (λ w. Turns w (Event.Answer k) c.is_some.result next) c.self.view_is
+    (subst (λ b. Turns (the_view d) (Event.Answer k) b next) (sym c.is_some.ensures)
+    (answers (the_view d) d.seats.items k i s.hand s.jobs s.limit slot q r m t.hand (is_some c.phase_answer.result)
     (subst IsSound (sym c.self.view_is) c.requires.sound) c.self.invariant.fits refl at queue there
-    c.phase_answer.ensures.answers)
+    c.phase_answer.ensures.answers))

@@ -43,4 +43,4 @@ returns c =
     subst (λ w. Turns w (Event.Commit k) c.phase_commit.result next) c.self.view_is
     (commits (the_view d) d.seats.items k c.in-Some.place s.hand s.jobs s.limit c.index_mut.result.now
     c.phase_commit.new.unit _ c.phase_commit.result (subst IsSound (sym c.self.view_is) c.requires.sound) refl at unit
-    there c.phase_commit.ensures)
+    there c.phase_commit.ensures.commits)

@@ -1,4 +1,4 @@
-use Rattle.std.proofs.Common.{◌≡◌, sym, subst, length, arith}
+use Rattle.std.proofs.Common.{◌≡◌, is_some, sym, subst, length, arith}
 use Rattle.deeds.specs.Events.{Event}
 use Rattle.deeds.specs.Turns.{Turns}
 use Rattle.phases.specs.Parts.{slot_of}
@@ -23,7 +23,7 @@ invariant_of-self c =
     c.index_mut-bay.ensures.value c.bay.view_is in
     keeps_queue d.memory m d.bays.items d.units.items d.seats.items i (with_slot slot q) (with_slot next_slot r)
     c.phase_direct.ensures.size there
-    (keeps_memory slot q r d.memory m c.phase_direct.result next_slot c.phase_direct.ensures.directs) c.self.invariant
+    (keeps_memory slot q r d.memory m (is_some c.phase_direct.result) next_slot c.phase_direct.ensures.directs) c.self.invariant
 
 pub returns : goal.returns
 returns c =
@@ -38,6 +38,7 @@ returns c =
     let there = found d.bays.items c.len.result i (with_slot slot q) c.index_mut-bay.result.now many c.if-at-len.false
     c.index_mut-bay.ensures.value c.bay.view_is in
     let next = with_queue (the_view d) m i (with_slot next_slot r) in
-    subst (λ w. Turns w (Event.Direct i) c.phase_direct.result next) c.self.view_is
-    (directs (the_view d) i slot next_slot q r m c.phase_direct.result
-    (subst IsSound (sym c.self.view_is) c.requires.sound) c.self.invariant.fits there c.phase_direct.ensures.directs)
+    subst (λ w. Turns w (Event.Direct i) c.is_some.result next) c.self.view_is
+    (subst (λ b. Turns (the_view d) (Event.Direct i) b next) (sym c.is_some.ensures)
+    (directs (the_view d) i slot next_slot q r m (is_some c.phase_direct.result)
+    (subst IsSound (sym c.self.view_is) c.requires.sound) c.self.invariant.fits there c.phase_direct.ensures.directs))

@@ -1,15 +1,30 @@
-use Rattle.std.proofs.Common.{subst, arith}
+use Rattle.std.proofs.Common.{◌≡◌, ◌∙◌, refl, sym, ap, subst, length, arith}
 use Rattle.deeds.specs.Events.{Event}
 use Rattle.deeds.specs.Applies.{Applies}
-use Rattle.world.specs.Cursors.{TurnsNext}
+use Rattle.deeds.specs.World.{PlainWorld}
+use Rattle.world.specs.Cursors.{TurnsNext, NoStart, NoneBefore, NoDirectBelow, direct_from}
 use Rattle.world.proofs.Choosing.{idle, and_next}
-use Rattle.world.proofs.Woken.{directs_past, direct_next}
+use Rattle.world.proofs.Woken.{directs_from, directs_past, direct_next}
 use Rattle.world.proofs.device.Device.from_direct.Goals as goal
+
+pub loop-number-init : goal.loop-number-init
+loop-number-init c =
+    let d = c.self.inside in
+    let w = c.args.self.now in
+    let many : c.len.result ≡ length d.bays.items = omega (arith, d.bays.ok.0, c.len.ensures) in
+    let end : c.len-number-end.result ≡ length d.bays.items = omega (arith, d.bays.ok.0, c.len-number-end.ensures) in
+    let same : length d.bays.items ≡ length w.queues = ap (λ (z : PlainWorld). length z.queues) c.self.view_is in
+    let first = c.first_direct-number.ensures ∙ ap (λ n. direct_from c.args.cursor n) (many ∙ same) in
+    record {
+      same = refl;
+      below = subst (λ n. NoDirectBelow n w) (sym first) (directs_from w c.args.cursor c.requires.before);
+      all = end ∙ same;
+    }
 
 pub returns-then-direct : goal.returns-then-direct
 returns-then-direct c =
     direct_next c.args.self.now c.loop-number.self c.direct.new.self c.loop-number.number c.direct.result
-    c.if-direct.true c.loop-number.invariant.same c.requires.before.0 c.loop-number.invariant.below
+    c.if-direct.true c.loop-number.invariant.same c.requires.start c.loop-number.invariant.below
     (omega (arith, c.loop-number-test.true, c.loop-number.invariant.all)) c.direct.ensures
 
 pub loop-number-preserved : goal.loop-number-preserved
@@ -23,11 +38,17 @@ loop-number-preserved c =
       all = c.loop-number.invariant.all;
     }
 
+pub from_seats-requires-clause-start : goal.from_seats-requires-clause-start
+from_seats-requires-clause-start c = subst NoStart (sym c.loop-number.invariant.same) c.requires.start
+
+pub from_seats-requires-clause-direct : goal.from_seats-requires-clause-direct
+from_seats-requires-clause-direct c =
+    directs_past c.args.self.now c.loop-number.self c.loop-number.number c.loop-number.invariant.same
+    (omega (arith, c.loop-number-test.false, c.loop-number.invariant.all)) c.loop-number.invariant.below
+
 pub from_seats-requires-clause-before : goal.from_seats-requires-clause-before
 from_seats-requires-clause-before c =
-    directs_past c.args.self.now c.loop-number.self c.loop-number.number c.loop-number.invariant.same
-    (omega (arith, c.loop-number-test.false, c.loop-number.invariant.all)) c.requires.before.0
-    c.loop-number.invariant.below
+    subst (NoneBefore c.args.cursor) (sym c.loop-number.invariant.same) c.requires.before
 
 pub returns : goal.returns
 returns c =

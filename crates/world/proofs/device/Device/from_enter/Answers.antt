@@ -1,16 +1,29 @@
-use Rattle.std.proofs.Common.{subst, arith}
+use Rattle.std.proofs.Common.{◌≡◌, ◌∙◌, refl, sym, ap, subst, length, arith}
 use Rattle.deeds.specs.Events.{Event}
 use Rattle.deeds.specs.Applies.{Applies}
-use Rattle.world.specs.Cursors.{TurnsNext}
+use Rattle.deeds.specs.World.{PlainWorld}
+use Rattle.world.specs.Cursors.{TurnsNext, NoEnterBelow}
 use Rattle.world.proofs.Choosing.{idle, and_next}
-use Rattle.world.proofs.Woken.{enters_past, enter_next}
+use Rattle.world.proofs.Woken.{enters_from, enters_past, enter_next}
 use Rattle.world.proofs.device.Device.from_enter.Goals as goal
+
+pub loop-number-init : goal.loop-number-init
+loop-number-init c =
+    let d = c.self.inside in
+    let w = c.args.self.now in
+    let end : c.len-number-end.result ≡ length d.bays.items = omega (arith, d.bays.ok.0, c.len-number-end.ensures) in
+    let same : length d.bays.items ≡ length w.queues = ap (λ (z : PlainWorld). length z.queues) c.self.view_is in
+    record {
+      same = refl;
+      below = subst (λ n. NoEnterBelow n w) (sym c.first_enter-number.ensures)
+          (enters_from w c.args.cursor c.requires.before);
+      all = end ∙ same;
+    }
 
 pub returns-then-enter : goal.returns-then-enter
 returns-then-enter c =
-    let none = c.requires.before in
     enter_next c.args.self.now c.loop-number.self c.enter.new.self c.loop-number.number c.enter.result
-    c.after_enter.result c.if-enter.true c.loop-number.invariant.same none.0 none.1 none.2 c.loop-number.invariant.below
+    c.after_enter.result c.if-enter.true c.loop-number.invariant.same c.requires.start c.requires.direct c.requires.seat c.loop-number.invariant.below
     (omega (arith, c.loop-number-test.true, c.loop-number.invariant.all)) c.enter.ensures c.after_enter.ensures
 
 pub loop-number-preserved : goal.loop-number-preserved
@@ -26,9 +39,8 @@ loop-number-preserved c =
 
 pub from_fetch-requires-clause-before : goal.from_fetch-requires-clause-before
 from_fetch-requires-clause-before c =
-    let none = c.requires.before in
     enters_past c.args.self.now c.loop-number.self c.loop-number.number c.loop-number.invariant.same
-    (omega (arith, c.loop-number-test.false, c.loop-number.invariant.all)) none.0 none.1 none.2
+    (omega (arith, c.loop-number-test.false, c.loop-number.invariant.all)) c.requires.start c.requires.direct c.requires.seat
     c.loop-number.invariant.below
 
 pub returns : goal.returns

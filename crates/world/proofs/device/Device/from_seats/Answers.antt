@@ -1,15 +1,34 @@
-use Rattle.std.proofs.Common.{subst, arith}
+use Rattle.std.proofs.Common.{◌≡◌, ◌∙◌, refl, sym, ap, subst, length, arith}
 use Rattle.settling.specs.Order.{of_seat, NoneApplies}
-use Rattle.world.specs.Cursors.{TurnsNext}
+use Rattle.deeds.specs.World.{PlainWorld}
+use Rattle.std.proofs.lemmas.List.{length-map}
+use Rattle.world.specs.Kept.{seat_of}
+use Rattle.world.specs.Cursors.{TurnsNext, NoStart, NoDirect, NoneBefore, NoSeatBelow, seat_from}
 use Rattle.world.proofs.Choosing.{none_of, and_next}
-use Rattle.world.proofs.Woken.{seats_past, seat_next}
+use Rattle.world.proofs.Woken.{seats_from, seats_past, seat_next}
 use Rattle.world.proofs.device.Device.from_seats.Goals as goal
+
+pub loop-number-init : goal.loop-number-init
+loop-number-init c =
+    let d = c.self.inside in
+    let w = c.args.self.now in
+    let many : c.len.result ≡ length d.seats.items = omega (arith, d.seats.ok.0, c.len.ensures) in
+    let end : c.len-number-end.result ≡ length d.seats.items = omega (arith, d.seats.ok.0, c.len-number-end.ensures) in
+    let same : length d.seats.items ≡ length w.seats =
+    sym (length-map d.seats.items seat_of) ∙ ap (λ (z : PlainWorld). length z.seats) c.self.view_is in
+    let first = c.first_seat-number.ensures ∙ ap (λ n. seat_from c.args.cursor n) (many ∙ same) in
+    record {
+      same = refl;
+      below = subst (λ n. NoSeatBelow n w) (sym first) (seats_from w c.args.cursor c.requires.before);
+      all = end ∙ same;
+    }
 
 pub returns-then-turn_seat : goal.returns-then-turn_seat
 returns-then-turn_seat c =
     seat_next c.args.self.now c.loop-number.self c.turn_seat.new.self c.loop-number.number c.turn_seat.result
-    c.after_seat.result c.if-turn_seat.true c.loop-number.invariant.same c.requires.before c.loop-number.invariant.below
-    (omega (arith, c.loop-number-test.true, c.loop-number.invariant.all)) c.turn_seat.ensures c.after_seat.ensures
+    c.after_seat.result c.if-turn_seat.true c.loop-number.invariant.same c.requires.start c.requires.direct
+    c.loop-number.invariant.below (omega (arith, c.loop-number-test.true, c.loop-number.invariant.all))
+    c.turn_seat.ensures c.after_seat.ensures
 
 pub loop-number-preserved : goal.loop-number-preserved
 loop-number-preserved c =
@@ -22,11 +41,20 @@ loop-number-preserved c =
       all = c.loop-number.invariant.all;
     }
 
+pub from_enter-requires-clause-start : goal.from_enter-requires-clause-start
+from_enter-requires-clause-start c = subst NoStart (sym c.loop-number.invariant.same) c.requires.start
+
+pub from_enter-requires-clause-direct : goal.from_enter-requires-clause-direct
+from_enter-requires-clause-direct c = subst NoDirect (sym c.loop-number.invariant.same) c.requires.direct
+
+pub from_enter-requires-clause-seat : goal.from_enter-requires-clause-seat
+from_enter-requires-clause-seat c =
+    seats_past c.args.self.now c.loop-number.self c.loop-number.number c.loop-number.invariant.same
+    (omega (arith, c.loop-number-test.false, c.loop-number.invariant.all)) c.loop-number.invariant.below
+
 pub from_enter-requires-clause-before : goal.from_enter-requires-clause-before
 from_enter-requires-clause-before c =
-    seats_past c.args.self.now c.loop-number.self c.loop-number.number c.loop-number.invariant.same
-    (omega (arith, c.loop-number-test.false, c.loop-number.invariant.all)) c.requires.before
-    c.loop-number.invariant.below
+    subst (NoneBefore c.args.cursor) (sym c.loop-number.invariant.same) c.requires.before
 
 pub returns : goal.returns
 returns c =

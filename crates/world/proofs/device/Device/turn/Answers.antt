@@ -2,7 +2,7 @@ use Rattle.std.proofs.Common.{refl}
 use Rattle.world.specs.Cursors.{of_function}
 use Rattle.world.proofs.Choosing.{none_of}
 use Rattle.world.proofs.Woken.{function_next, raise_next}
-use Rattle.world.proofs.device.Device.from_start.Goals as goal
+use Rattle.world.proofs.device.Device.turn.Goals as goal
 
 pub returns-then-turn_function : goal.returns-then-turn_function
 returns-then-turn_function c =
