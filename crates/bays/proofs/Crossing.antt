@@ -12,6 +12,7 @@ use Rattle.task_set.specs.contracts.task.Task.TheInside as task
 use Rattle.task_set.specs.contracts.set.TaskSet.{the_row as set_row}
 use Rattle.task_set.specs.contracts.set.TaskSet.TheInside as set
 use Rattle.ring_core.proofs.chain.Chain.TheSendSync as chain
+use Rattle.ring_core.proofs.chain.Spare.TheSendSync as spare
 use Rattle.std.proofs.Crossing.{crosses}
 use Rattle.std.proofs.option.Option.TheSendSync as option
 use Rattle.unit_history.proofs.kind.StepKind.TheSendSync as kind
@@ -71,7 +72,7 @@ facts_sends = struct_send (shape facts_type) (search sendable, (search sendable,
 
 base_fields : IsSend base.the_row
 base_fields = recorded_send base.the_field.row _ _ base.the_type.to_one
-    (struct_send (shape base.the_type) (search sendable, (search sendable, (search sendable, (search sendable depth 30, (search sendable depth 30, (search sendable, (log_sends, (table.the_send, (search sendable, (search sendable, (search sendable, (option_sends fault_row (search sendable depth 30), tt)))))))))))))
+    (struct_send (shape base.the_type) (search sendable, (search sendable, (search sendable, (search sendable depth 30, (search sendable depth 30, (search sendable, (log_sends, (table.the_send, (search sendable, (search sendable, (search sendable, (option_sends fault_row (search sendable depth 30), (option_sends _ spare.the_send, tt))))))))))))))
 
 base_sends : IsSend base_row
 base_sends = search (sendable, base_fields)

@@ -1,11 +1,12 @@
 //! The phases on a queue with the memory, each run on what is lent. The clause is the phase's own, for some queue and
 //! memory that were lent and came back.
 
-ghost use Rattle.std.specs.Prelude.{◌≡◌, ◌<◌, List, ℕ, length};
+ghost use Rattle.std.specs.Prelude.{◌≡◌, ◌<◌, List, ℕ, length, is_some, IfSome, Some};
 ghost use Rattle.phases.specs.Queue.{Lent, with_slot};
 ghost use Rattle.phases.specs.Parts.{slot_of, hand_of};
 ghost use Rattle.phases.specs.Fetching.{FetchesRequest, FetchesControl};
 ghost use Rattle.phases.specs.Answering.{Directs, Answers, Responds};
+ghost use Rattle.phases.specs.Giving.{note_in, given_in};
 ghost use Rattle.phases.specs.EventQueue.{FetchesEvent, RaisesNext};
 
 use crate::lend::Bays;
@@ -13,8 +14,8 @@ use block_store::NoMemory;
 use decisions::Inventory;
 use event_queue::{EventPort, WaitingEvents};
 use phases::{
-    Hand, OpenFunction, Slot, phase_answer, phase_answer_tmf, phase_direct, phase_fetch,
-    phase_fetch_control, phase_fetch_event, phase_raise,
+    Given, Hand, Note, OpenFunction, Slot, phase_answer, phase_answer_tmf, phase_direct,
+    phase_fetch, phase_fetch_control, phase_fetch_event, phase_raise,
 };
 
 /// A request queue takes its next chain (`phase_fetch`), in one hold of it and of the memory. The queue's owner calls.
@@ -106,20 +107,21 @@ pub fn fetch_event_on<B: Bays>(
 }
 
 /// The chain that is ready in the slot is answered and used (`phase_direct`), in one hold of its queue and of the memory.
-/// The queue's owner calls. Whether it was, and then the slot.
-pub fn direct_on<B: Bays>(bays: &mut B, at: usize, slot: Slot) -> (bool, Slot)
+/// The queue's owner calls. A note of why it got no receipt, where it was, and then the slot.
+pub fn direct_on<B: Bays>(bays: &mut B, at: usize, slot: Slot) -> (Option<Note>, Slot)
     requires there { at < B.queues bays.old }
     ensures did { (q : Lent) × (m : List ℕ) × (r : Lent) × (n : List ℕ) × B.lends_queue bays.old at q m
-        × Directs (slot_of slot) q m result.0 r n (slot_of result.1) × (length n ≡ length m)
+        × Directs (slot_of slot) q m (is_some result.0) r n (slot_of result.1) × (length n ≡ length m)
         × B.keeps_queue bays.old at r n bays.new }
+    ensures note { IfSome result.0 (λ note. note_in (slot_of slot) ≡ Some note) }
     ensures units { B.units bays.new ≡ B.units bays.old }
     ensures queues { B.queues bays.new ≡ B.queues bays.old }
 {
     bays.queue(
         at,
-        move |queue, memory| -> (bool, Slot)
-            ensures { Directs (slot_of slot) queue.old memory.old result.0 queue.new memory.new (slot_of result.1)
-                × (length memory.new ≡ length memory.old) }
+        move |queue, memory| -> (Option<Note>, Slot)
+            ensures { Directs (slot_of slot) queue.old memory.old (is_some result.0) queue.new memory.new (slot_of result.1)
+                × (length memory.new ≡ length memory.old) × IfSome result.0 (λ note. note_in (slot_of slot) ≡ Some note) }
         {
             let mut slot = slot;
             let did = phase_direct(queue, &mut slot, memory);
@@ -129,21 +131,22 @@ pub fn direct_on<B: Bays>(bays: &mut B, at: usize, slot: Slot) -> (bool, Slot)
 }
 
 /// The job in the hand whose commit is over is answered, and its chain used (`phase_answer`), in one hold of its queue and
-/// of the memory. The seat that has the hand calls, with its place from `Hand::answering_queue`. Whether it was, and then
-/// the hand.
-pub fn answer_on<B: Bays>(bays: &mut B, at: usize, hand: Hand) -> (bool, Hand)
+/// of the memory. The seat that has the hand calls, with its place from `Hand::answering_queue`. Its receipt, or a note of
+/// why it got none, where it was, and then the hand.
+pub fn answer_on<B: Bays>(bays: &mut B, at: usize, hand: Hand) -> (Option<Given>, Hand)
     requires there { at < B.queues bays.old }
     ensures did { (q : Lent) × (m : List ℕ) × (r : Lent) × (n : List ℕ) × B.lends_queue bays.old at q m
-        × Answers (hand_of hand) q m result.0 r n (hand_of result.1) × (length n ≡ length m)
+        × Answers (hand_of hand) q m (is_some result.0) r n (hand_of result.1) × (length n ≡ length m)
         × B.keeps_queue bays.old at r n bays.new }
+    ensures gives { IfSome result.0 (λ given. given_in hand ≡ Some given) }
     ensures units { B.units bays.new ≡ B.units bays.old }
     ensures queues { B.queues bays.new ≡ B.queues bays.old }
 {
     bays.queue(
         at,
-        move |queue, memory| -> (bool, Hand)
-            ensures { Answers (hand_of hand) queue.old memory.old result.0 queue.new memory.new (hand_of result.1)
-                × (length memory.new ≡ length memory.old) }
+        move |queue, memory| -> (Option<Given>, Hand)
+            ensures { Answers (hand_of hand) queue.old memory.old (is_some result.0) queue.new memory.new (hand_of result.1)
+                × (length memory.new ≡ length memory.old) × IfSome result.0 (λ given. given_in hand ≡ Some given) }
         {
             let mut hand = hand;
             let did = phase_answer(queue, memory, &mut hand);

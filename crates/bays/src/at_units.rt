@@ -1,10 +1,11 @@
 //! The phases on a unit, each run on one that is lent. The clause is the phase's own, for some unit that was lent and came
 //! back.
 
-ghost use Rattle.std.specs.Prelude.{◌≡◌, ◌<◌};
+ghost use Rattle.std.specs.Prelude.{◌≡◌, ◌<◌, IsTrue};
 ghost use Rattle.unit_history.specs.Unit.{PlainUnit};
 ghost use Rattle.phases.specs.Parts.{slot_of, hand_of};
 ghost use Rattle.phases.specs.Units.{Enters, Commits, Leaves, Marks, Checks};
+ghost use Rattle.phases.specs.Giving.{KeepsOutcome};
 ghost use Rattle.phases.specs.Resetting.{Resets};
 
 use crate::gate::{Gate, Point};
@@ -53,14 +54,16 @@ fn pass_locked<G: Gate>(gate: &G, hand: &Hand) {
 pub fn commit_on<B: Bays, G: Gate>(bays: &mut B, gate: &G, at: usize, hand: Hand) -> (bool, Hand)
     requires there { at < B.units bays.old }
     ensures did { (u : PlainUnit) × (v : PlainUnit) × B.lends_unit bays.old at u
-        × Commits (hand_of hand) u result.0 v (hand_of result.1) × B.keeps_unit bays.old at v bays.new }
+        × Commits (hand_of hand) u result.0 v (hand_of result.1) × (IsTrue result.0 → KeepsOutcome hand u v result.1)
+        × B.keeps_unit bays.old at v bays.new }
     ensures units { B.units bays.new ≡ B.units bays.old }
     ensures queues { B.queues bays.new ≡ B.queues bays.old }
 {
     bays.unit(
         at,
         move |unit| -> (bool, Hand)
-            ensures { Commits (hand_of hand) unit.old result.0 unit.new (hand_of result.1) }
+            ensures { Commits (hand_of hand) unit.old result.0 unit.new (hand_of result.1)
+                × (IsTrue result.0 → KeepsOutcome hand unit.old unit.new result.1) }
         {
             pass_locked(gate, &hand);
             let mut hand = hand;

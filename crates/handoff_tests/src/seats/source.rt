@@ -54,7 +54,7 @@ fn inventory() -> Option<Inventory> {
 
 /// What is decided of a fetched request: its job.
 fn job_of(inventory: &Inventory, fetched: Fetched) -> Option<Job> {
-    let Fetched { chain, bytes } = fetched;
+    let Fetched { chain, mut bytes } = fetched;
     let lengths = ChainLengths {
         readable: chain.readable_len(),
         writable: chain.writable_len(),
@@ -63,7 +63,7 @@ fn job_of(inventory: &Inventory, fetched: Fetched) -> Option<Job> {
     if bytes.len() as u64 != first || lengths.readable + lengths.writable > 1 << 32 {
         return None;
     }
-    match decide(inventory, bytes, &lengths) {
+    match decide(inventory, &mut bytes, &lengths) {
         Decision::Enter(place, request) => Some(Arrival::new(place, chain, request).into_job()),
         Decision::Direct(_) => None,
     }

@@ -1,5 +1,5 @@
 use denote.Param.Send.{sendable}
-use Rattle.handoff_tests.proofs.Crossing.{seat_sends}
+use Rattle.handoff.proofs.Crossing.{seat_sends}
 use Rattle.handoff_tests.proofs.seats.may_go.Goals as goal
 
 pub goes_to_a_thread-requires-send-T : goal.goes_to_a_thread-requires-send-T

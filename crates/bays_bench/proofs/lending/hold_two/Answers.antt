@@ -4,9 +4,9 @@ use Rattle.std.proofs.Crossing.{crosses}
 use Rattle.guest_mem.proofs.memory.GuestMem.TheSendSync as memory
 use Rattle.decisions.proofs.inventory.Inventory.TheSendSync as inventory
 use Rattle.bays.proofs.Crossing.{unit_sends, queue_sends}
-use Rattle.bays_tests.specs.contracts.lending.Shared.{the_row as shared_row, the_type as shared_type}
-use Rattle.bays_tests.specs.contracts.lending.meeting.Meeting.{the_row as meeting_row, the_type as meeting_type}
-use Rattle.bays_tests.proofs.lending.hold_two.Goals as goal
+use Rattle.bays_bench.specs.contracts.lending.Shared.{the_row as shared_row, the_type as shared_type}
+use Rattle.bays_bench.specs.contracts.meeting.Meeting.{the_row as meeting_row, the_type as meeting_type}
+use Rattle.bays_bench.proofs.lending.hold_two.Goals as goal
 
 meeting_syncs : IsSync meeting_row
 meeting_syncs = declared_sync meeting_type (search crosses, (search crosses, tt))

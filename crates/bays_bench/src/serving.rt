@@ -1,13 +1,13 @@
 //! What serves a device through what is lent of it.
 
-use super::parts::{put, used};
+use crate::parts::{put, used};
 use bays::{
     Bays, Gate, answer_on, answer_tmf_on, check_on, commit_on, direct_on, enter_on,
     fetch_control_on, fetch_event_on, fetch_on, hard_on, leave_on, mark_on, raise_on,
 };
 use decisions::Inventory;
 use event_queue::{EventPort, WaitingEvents};
-use phases::{Hand, OpenFunction, Slot};
+use phases::{Cause, Given, Hand, OpenFunction, Slot};
 use std::alloc::Global;
 use unit_history::{Job, JobList};
 
@@ -92,8 +92,9 @@ fn answer<B: Bays>(bays: &mut B, hand: Hand) -> Option<Hand> {
     if at >= bays.queue_count() {
         return None;
     }
-    match answer_on(bays, at, hand) {
-        (true, hand) => Some(hand),
+    let (given, hand) = answer_on(bays, at, hand);
+    match given {
+        Some(Given::Receipt(_)) => Some(hand),
         _ => None,
     }
 }
@@ -133,10 +134,11 @@ pub(crate) fn refuse<B: Bays>(bays: &mut B, inventory: &Inventory) -> Option<u8>
     if at >= bays.queue_count() {
         return None;
     }
-    match direct_on(bays, at, slot) {
-        (true, Slot::Empty) => bays.memory(|memory| used(memory, ABSENT.queue)),
-        _ => None,
+    let (note, slot) = direct_on(bays, at, slot);
+    if !slot.is_empty() || note?.cause() != Cause::Direct {
+        return None;
     }
+    bays.memory(|memory| used(memory, ABSENT.queue))
 }
 
 /// The first chain of the control queue is taken, which opens a function.
