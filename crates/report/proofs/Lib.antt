@@ -1,0 +1,10 @@
+pub mod Bools
+pub mod Slots
+pub mod Folding
+pub mod Firsts
+pub mod Histories
+pub mod Answering
+pub mod Verdict
+pub mod Prefixes
+pub mod Sourcing
+pub mod Summing

@@ -1,0 +1,11 @@
+use Rattle.unit_history.specs.Unit.{IsUnit}
+use Rattle.report.proofs.Prefixes.{each_more, each_all}
+use Rattle.report.proofs.confirming.stand.Goals as goal
+
+pub loop-unit-preserved : goal.loop-unit-preserved
+loop-unit-preserved c =
+    each_more (λ u. IsUnit u) c.args.units.now c.loop-unit.unit-index c.unit-item.result c.loop-unit.invariant c.unit-item.is
+    (record { lawful = c.stands.ensures.lawful; holds = c.stands.ensures.holds })
+
+pub returns : goal.returns
+returns c = each_all (λ u. IsUnit u) c.args.units.now c.loop-unit.unit-index c.loop-unit.invariant c.loop-unit-test.false

@@ -1,0 +1,28 @@
+use Rattle.std.proofs.Common.{refl, subst, List, None, Option}
+use Rattle.ring_core.specs.declared.log.Ticket.{Ticket}
+use Rattle.history.specs.Receipts.{Receipt}
+use Rattle.unit_history.specs.Unit.{PlainUnit}
+use Rattle.phases.specs.Queue.{Lent}
+use Rattle.report.specs.Closed.{IsFirst, AreConfirmed, is_outstanding}
+use Rattle.report.specs.Unconfirmed.{AllStand, AllSound}
+use Rattle.report.proofs.Summing.{adds_up}
+use Rattle.report.proofs.examining.examine.Goals as goal
+
+pub returns-in-Ok-None : goal.returns-in-Ok-None
+returns-in-Ok-None c =
+    let r = c.args.report in
+    let none : IsFirst (is_outstanding r.units.items r.queues.items r.receipts.items r.notes.items) None =
+    subst (λ (o : Option Ticket). IsFirst (is_outstanding r.units.items r.queues.items r.receipts.items r.notes.items) o) c.in-Ok-None.field-0-is c.in-Ok-None.ensures in
+    let confirmed : AreConfirmed r.units.items r.receipts.items =
+    subst (λ (us : List PlainUnit). AreConfirmed us r.receipts.items) c.as_slice.ensures.value
+    (subst (λ (cs : List Receipt). AreConfirmed c.as_slice.result.now cs) c.as_slice-2.ensures.value c.in_default.ensures) in (
+      refl,
+      adds_up r.units.items r.queues.items r.receipts.items r.notes.items none
+          (subst (λ (us : List PlainUnit). AllStand us) c.as_slice-3.ensures.value c.stand.ensures)
+          (subst (λ (qs : List Lent). AllSound qs) c.as_slice-4.ensures.value c.are_sound.ensures)
+          confirmed,
+      none,
+    )
+
+pub first_outstanding-requires-clause-stand : goal.first_outstanding-requires-clause-stand
+first_outstanding-requires-clause-stand c = subst (λ (us : List PlainUnit). AllStand us) c.as_slice-3.ensures.value c.stand.ensures

@@ -1,0 +1,42 @@
+use Rattle.std.proofs.Common.{subst, List, Vec}
+use Rattle.std.specs.List.{fold}
+use Rattle.std.specs.declared.alloc.Global.{Global}
+use Rattle.history.specs.Receipts.{Receipt}
+use Rattle.phases.specs.Queue.{Lent}
+use Rattle.phases.specs.Notes.{PlainNote}
+use Rattle.report.specs.declared.tally.Tally.{Tally}
+use Rattle.report.specs.Closed.{IsFirst}
+use Rattle.report.specs.Settled.{is_request}
+use Rattle.report.specs.Sources.{amiss_of, stray}
+use Rattle.report.specs.Tallies.{fresh, AreTallies, tally_at, with_receipt, with_note, with_unit}
+use Rattle.report.proofs.Folding.{known_kept}
+use Rattle.report.proofs.Sourcing.{found_first, read_on}
+use Rattle.report.proofs.examining.first_outstanding.Goals as goal
+
+pub returns : goal.returns
+returns c =
+    let r = c.args.report.now in
+    let first : List (Vec Tally Global) = c.in_ok-tables.tables.tables.items in
+    let second : List (Vec Tally Global) = c.read_receipts-of_receipts.new.tables.tables.items in
+    let third : List (Vec Tally Global) = c.read_notes-of_notes.new.tables.tables.items in
+    let last : List (Vec Tally Global) = c.read_units.new.tables.tables.items in
+    let units = c.as_slice-units.ensures.value in
+    let queues = c.as_slice-queues.ensures.value in
+    let receipts = c.as_slice.ensures.value in
+    let notes = c.as_slice-2.ensures.value in
+    let opened : AreTallies r.queues.items (λ t. fresh) first = subst (λ (qs : List Lent). AreTallies qs (λ t. fresh) first) queues c.in_ok-tables.ensures in
+    rw (c.lesser-2.ensures, c.lesser.ensures)
+    (found_first r.units.items r.queues.items r.receipts.items r.notes.items c.requires.stand
+    first second last c.first_of-of_queues.result c.read_receipts-of_receipts.result c.read_notes-of_notes.result
+    opened
+    (λ t. known_kept _ _ _ (c.read_receipts-of_receipts.ensures.tallied t))
+    (λ t.
+    read_on (λ s. fold (with_receipt t) s r.receipts.items) (λ s. fold (with_note t) s r.notes.items) (λ s. fold (with_unit t) s r.units.items) (is_request r.queues.items t)
+    (tally_at first t) (tally_at second t) (tally_at third t) (tally_at last t)
+    (opened t)
+    (rw receipts at (c.read_receipts-of_receipts.ensures.tallied t))
+    (rw notes at (c.read_notes-of_notes.ensures.tallied t))
+    (rw units at (c.read_units.ensures t)))
+    (subst (λ (qs : List Lent). IsFirst (amiss_of qs last) c.first_of-of_queues.result) queues c.first_of-of_queues.ensures)
+    (subst (λ (xs : List Receipt). IsFirst (stray (λ (z : Receipt). z.ticket) first xs) c.read_receipts-of_receipts.result) receipts c.read_receipts-of_receipts.ensures.strays)
+    (subst (λ (xs : List PlainNote). IsFirst (stray (λ (z : PlainNote). z.ticket) second xs) c.read_notes-of_notes.result) notes c.read_notes-of_notes.ensures.strays))

@@ -1,0 +1,83 @@
+-- What is known of a report that a closed host gives, and why none is given.
+use Rattle.std.specs.Prelude.{ℕ, ◌≡◌, Bool, true, false, not, ◌&&◌, ◌||◌, List, Option, Some, None, slice_get, Result, Ok, Err, ⊤}
+use Rattle.std.specs.List.{list_any}
+use Rattle.ring_core.specs.declared.log.Ticket.{Ticket}
+use Rattle.ring_core.specs.Sound.{IsSound}
+use Rattle.history.specs.Steps.{has_entered, has_left}
+use Rattle.history.specs.Receipts.{Receipt, IsConfirmed}
+use Rattle.unit_history.specs.Unit.{PlainUnit, IsUnit}
+use Rattle.phases.specs.Queue.{Lent}
+use Rattle.phases.specs.Notes.{PlainNote}
+use Rattle.phases.specs.declared.note.Cause.TheVariants as cause
+use Rattle.report.specs.declared.report.Report.{Report}
+use Rattle.report.specs.declared.fault.CloseFault.{CloseFault}
+use Rattle.report.specs.declared.fault.CloseFault.TheVariants as fault
+use Rattle.report.specs.Words.{has_full, is_before}
+use Rattle.report.specs.Settled.{is_asked, is_used, is_request, is_settled, has_answer, answers, is_of}
+
+-- a ticket is the first, by queue and number, that passes a test; or none passes it
+abbrev pub IsFirst : (Ticket → Bool) → Option Ticket → Type 0
+IsFirst test None = (t : Ticket) → test t ≡ false
+IsFirst test (Some t) = (test t ≡ true) × ((u : Ticket) → is_before u t ≡ true → test u ≡ false)
+
+-- the Commit of a receipt stands at its place in the history of its unit, which is one of these
+abbrev pub IsConfirmedBy : List PlainUnit → Receipt → Type 0
+IsConfirmedBy units c =
+    (k : ℕ) × (u : PlainUnit) × (slice_get units k ≡ Some u) × IsConfirmed u.opening u.keeps_replies u.steps c
+
+abbrev pub AreConfirmed : List PlainUnit → List Receipt → Type 0
+AreConfirmed units receipts = (k : ℕ) (c : Receipt) → slice_get receipts k ≡ Some c → IsConfirmedBy units c
+
+-- own: the ticket is that of a receipt that isn't confirmed, and the first such
+pub record IsFirstUnconfirmed (units : List PlainUnit) (receipts : List Receipt) (t : Ticket) : Type 0 where
+  pub some : (k : ℕ) × (c : Receipt) × (slice_get receipts k ≡ Some c) × (c.ticket ≡ t) × (IsConfirmedBy units c → ⊥)
+  pub first : (k : ℕ) (c : Receipt) → slice_get receipts k ≡ Some c → is_before c.ticket t ≡ true → IsConfirmedBy units c
+
+-- own: the chain of a request or control queue isn't used, or the request isn't settled; or what is no accepted request
+-- has a receipt or a note all the same
+abbrev pub is_outstanding : List PlainUnit → List Lent → List Receipt → List PlainNote → Ticket → Bool
+is_outstanding units queues receipts notes t =
+    (is_asked queues t && not (is_used queues t))
+    || ((is_request queues t && not (is_settled units receipts notes t))
+    || (not (is_request queues t) && has_answer receipts notes t))
+
+pub record IsReport (units : List PlainUnit) (queues : List Lent) (receipts : List Receipt) (notes : List PlainNote) : Type 0 where
+  -- each history is lawful, and its unit is what it says
+  pub units_stand : (k : ℕ) (u : PlainUnit) → slice_get units k ≡ Some u → IsUnit u
+  -- each log is lawful
+  pub logs_lawful : (k : ℕ) (q : Lent) → slice_get queues k ≡ Some q → IsSound q.ring
+  -- each accepted chain of a request or control queue is used
+  pub used : (t : Ticket) → is_asked queues t ≡ true → is_used queues t ≡ true
+  -- each request has exactly one receipt or note, and these are of requests alone
+  pub answered_once : (t : Ticket) → is_request queues t ≡ true → answers receipts notes t ≡ 1
+  pub of_requests : (t : Ticket) → is_request queues t ≡ false → has_answer receipts notes t ≡ false
+  -- no note is Stale or Unknown
+  pub known : (k : ℕ) (n : PlainNote) → slice_get notes k ≡ Some n → (n.cause ≡ cause.Stale → ⊥) × (n.cause ≡ cause.Unknown → ⊥)
+  -- each receipt's Commit stands at its place
+  pub confirmed : AreConfirmed units receipts
+  -- each request that entered has left there
+  pub left : (t : Ticket) (k : ℕ) (u : PlainUnit) → is_request queues t ≡ true → slice_get units k ≡ Some u
+      → has_entered t u.steps ≡ true → has_left t u.steps ≡ true
+  -- and a note of it is of its Busy or its mark there
+  pub of_its_end : (j k : ℕ) (n : PlainNote) (u : PlainUnit) → slice_get notes j ≡ Some n → slice_get units k ≡ Some u
+      → has_entered n.ticket u.steps ≡ true → is_of n.cause n.ticket u.steps ≡ true
+  -- what has no Enter has no note Aborted, and a note Full only with a Full
+  pub aborted_entered : (j : ℕ) (n : PlainNote) → slice_get notes j ≡ Some n → n.cause ≡ cause.Aborted
+      → list_any (λ (u : PlainUnit). has_entered n.ticket u.steps) units ≡ true
+  pub full_stands : (j : ℕ) (n : PlainNote) → slice_get notes j ≡ Some n → n.cause ≡ cause.Full
+      → list_any (λ (u : PlainUnit). has_full n.ticket u.steps) units ≡ true
+
+-- own: why a report is refused, and which ticket is named: the first
+abbrev pub Refuses : Report → CloseFault → Type 0
+Refuses r fault.NoMemory = ⊤
+Refuses r (fault.Unconfirmed t) = IsFirstUnconfirmed r.units.items r.receipts.items t
+Refuses r (fault.Outstanding t) =
+    AreConfirmed r.units.items r.receipts.items
+    × IsFirst (is_outstanding r.units.items r.queues.items r.receipts.items r.notes.items) (Some t)
+
+-- own: a report is given as it was where nothing is outstanding; nothing is where it is given
+abbrev pub Examines : Report → Result Report CloseFault → Type 0
+Examines r (Ok given) =
+    (given ≡ r) × IsReport r.units.items r.queues.items r.receipts.items r.notes.items
+    × IsFirst (is_outstanding r.units.items r.queues.items r.receipts.items r.notes.items) None
+Examines r (Err f) = Refuses r f

@@ -1,0 +1,10 @@
+pub mod Words
+pub mod Settled
+pub mod Closed
+pub mod Tallies
+pub mod Opening
+pub mod Sources
+pub mod Unconfirmed
+pub mod Finding
+pub mod Views
+pub mod Prefix

@@ -1,0 +1,89 @@
+-- Which tickets of a closed host are outstanding. The queue of a ticket is the one at the place that it names.
+use Rattle.std.specs.Prelude.{ℕ, ◌+◌, Bool, true, false, not, nat_lt, nat_le, ◌==◌, ◌&&◌, ◌||◌, List, length, Option, Some, None, slice_get, count_by}
+use Rattle.std.specs.List.{list_any, list_all}
+use Rattle.ring_core.specs.declared.log.Ticket.{Ticket}
+use Rattle.history.specs.Tasks.{same_ticket}
+use Rattle.history.specs.Steps.{Step, has_entered, has_left}
+use Rattle.history.specs.Marks.{marked}
+use Rattle.history.specs.Receipts.{Receipt}
+use Rattle.unit_history.specs.Unit.{PlainUnit}
+use Rattle.phases.specs.Queue.{Lent}
+use Rattle.phases.specs.Notes.{PlainNote}
+use Rattle.phases.specs.declared.note.Cause.{Cause}
+use Rattle.phases.specs.declared.note.Cause.TheVariants as cause
+use Rattle.report.specs.Words.{has_busy, has_full}
+
+-- how many chains a queue accepted, if there is one
+abbrev pub count_accepted : Option Lent → ℕ
+count_accepted None = 0
+count_accepted (Some q) = length q.ring.log.accepted
+
+abbrev pub is_accepted : List Lent → Ticket → Bool
+is_accepted queues t = nat_lt t.number (count_accepted (slice_get queues t.queue))
+
+-- a queue, if there is one, used the chain of a ticket
+abbrev pub uses : Option Lent → Ticket → Bool
+uses None t = false
+uses (Some q) t = list_any (λ (u : Ticket). same_ticket u t) q.ring.log.used
+
+abbrev pub is_used : List Lent → Ticket → Bool
+is_used queues t = uses (slice_get queues t.queue) t
+
+-- own: the chain is to be used: one of a request queue or of the control queue, and no buffer for events (VIRTIO 1.2, 5.6.2)
+abbrev pub is_asked : List Lent → Ticket → Bool
+is_asked queues t = not (t.queue == 1) && is_accepted queues t
+
+-- the ticket is that of a request: queues 2 and up are request queues (VIRTIO 1.2, 5.6.2)
+abbrev pub is_request : List Lent → Ticket → Bool
+is_request queues t = nat_le 2 t.queue && is_accepted queues t
+
+-- own: how many receipts and notes a ticket has
+abbrev pub answers : List Receipt → List PlainNote → Ticket → ℕ
+answers receipts notes t =
+    count_by (λ (c : Receipt). same_ticket c.ticket t) receipts + count_by (λ (n : PlainNote). same_ticket n.ticket t) notes
+
+-- own: the task has an Enter in some history; the request has a Full in some history
+abbrev pub any_entered : List PlainUnit → Ticket → Bool
+any_entered units t = list_any (λ (u : PlainUnit). has_entered t u.steps) units
+
+abbrev pub any_full : List PlainUnit → Ticket → Bool
+any_full units t = list_any (λ (u : PlainUnit). has_full t u.steps) units
+
+-- own: each history that has the Enter of a ticket passes a test
+abbrev pub where_entered : List PlainUnit → Ticket → (List Step → Bool) → Bool
+where_entered units t test = list_all (λ (u : PlainUnit). not (has_entered t u.steps) || test u.steps) units
+
+-- own: a cause is of what became of a task in a history: BUSY of its Busy, an abort of its mark, and no other
+abbrev pub is_of : Cause → Ticket → List Step → Bool
+is_of cause.Busy t h = has_busy t h
+is_of cause.Aborted t h = marked t h
+is_of cause.Full t h = false
+is_of cause.Direct t h = false
+is_of cause.Stale t h = false
+is_of cause.Unknown t h = false
+
+-- own: what a note of a cause has to have: an abort the Enter of its task, TASK SET FULL its Full; two causes never occur
+abbrev pub is_founded : List PlainUnit → Cause → Ticket → Bool
+is_founded units cause.Aborted t = any_entered units t
+is_founded units cause.Full t = any_full units t
+is_founded units cause.Busy t = true
+is_founded units cause.Direct t = true
+is_founded units cause.Stale t = false
+is_founded units cause.Unknown t = false
+
+-- own: a note of that cause is right for a ticket: it is founded, and is of what became of its task where that entered
+abbrev pub is_right : List PlainUnit → Ticket → Cause → Bool
+is_right units t why = is_founded units why t && where_entered units t (λ h. is_of why t h)
+
+abbrev pub are_right : List PlainUnit → List PlainNote → Ticket → Bool
+are_right units notes t = list_all (λ (n : PlainNote). not (same_ticket n.ticket t) || is_right units t n.cause) notes
+
+-- own: a request is settled: it has one receipt or note, it left where it entered, and its note is right
+abbrev pub is_settled : List PlainUnit → List Receipt → List PlainNote → Ticket → Bool
+is_settled units receipts notes t =
+    (answers receipts notes t == 1) && (where_entered units t (λ h. has_left t h) && are_right units notes t)
+
+-- own: a receipt or a note has this ticket
+abbrev pub has_answer : List Receipt → List PlainNote → Ticket → Bool
+has_answer receipts notes t =
+    list_any (λ (c : Receipt). same_ticket c.ticket t) receipts || list_any (λ (n : PlainNote). same_ticket n.ticket t) notes

@@ -1,0 +1,40 @@
+-- What makes a ticket outstanding, source by source. Only private functions cite it: no promise stands on it.
+use Rattle.std.specs.Prelude.{ℕ, Bool, true, false, not, nat_lt, ◌==◌, ◌&&◌, ◌||◌, List, length, Option, Some, None, slice_get, Vec, is_some}
+use Rattle.std.specs.List.{list_any}
+use Rattle.std.specs.declared.alloc.Global.{Global}
+use Rattle.ring_core.specs.declared.log.Ticket.{Ticket}
+use Rattle.history.specs.Tasks.{same_ticket}
+use Rattle.phases.specs.Queue.{Lent}
+use Rattle.report.specs.Tallies.{tally_at, ends_amiss}
+use Rattle.report.specs.declared.tally.Tally.{Tally}
+
+-- a chain that the queue at a place accepted and did not use
+abbrev pub unused_in : ℕ → Lent → Ticket → Bool
+unused_in place q t =
+    (t.queue == place)
+    && (nat_lt t.number (length q.ring.log.accepted) && not (list_any (λ (u : Ticket). same_ticket u t) q.ring.log.used))
+
+-- a request of the queue at a place, of which these are the tallies, that is not settled
+abbrev pub unsettled_in : ℕ → ℕ → List (Vec Tally Global) → Ticket → Bool
+unsettled_in place count tables t = (t.queue == place) && (nat_lt t.number count && ends_amiss (tally_at tables t))
+
+abbrev pub amiss_in : ℕ → Lent → List (Vec Tally Global) → Ticket → Bool
+amiss_in place q tables t =
+    (not (place == 1) && unused_in place q t) || unsettled_in place (length q.ring.log.accepted) tables t
+
+-- the same of the queue that a ticket names, if there is one
+abbrev pub amiss_at : Option Lent → List (Vec Tally Global) → Ticket → Bool
+amiss_at None tables t = false
+amiss_at (Some q) tables t = amiss_in t.queue q tables t
+
+abbrev pub amiss_of : List Lent → List (Vec Tally Global) → Ticket → Bool
+amiss_of queues tables t = amiss_at (slice_get queues t.queue) tables t
+
+-- what has an answer and is no request of these
+abbrev pub stray : {A : Type 0} → (A → Ticket) → List (Vec Tally Global) → List A → Ticket → Bool
+stray ticket tables answers t = not (is_some (tally_at tables t)) && list_any (λ a. same_ticket (ticket a) t) answers
+
+-- the ticket, if it is no request
+abbrev pub stray_one : Bool → Ticket → Option Ticket
+stray_one true t = None
+stray_one false t = Some t

@@ -1,0 +1,62 @@
+//! Whether receipts are confirmed by their units.
+
+ghost use Rattle.std.specs.Prelude.{◌≡◌, ◌↔◌, IsTrue, Some, slice_get};
+ghost use Rattle.unit_history.specs.Unit.{IsUnit};
+ghost use Rattle.ring_core.specs.Sound.{IsSound};
+ghost use Rattle.report.specs.Words.{is_before as comes_before};
+ghost use Rattle.report.specs.Closed.{IsConfirmedBy};
+ghost use Rattle.report.specs.Unconfirmed.{Confirms, with_unconfirmed, AllStand, AllSound};
+
+use crate::least::lesser;
+use phases::Queue;
+use ring_core::Ticket;
+use unit_history::{Receipt, UnitState};
+
+/// Whether the Commit of a receipt stands at its place in the history of its unit.
+fn is_confirmed(units: &[UnitState], receipt: &Receipt) -> bool
+    ensures { IsTrue result ↔ IsConfirmedBy units.now receipt.now }
+{
+    for unit in units {
+        if unit.confirm(receipt) {
+            return true;
+        }
+    }
+    false
+}
+
+/// The ticket, if its receipt isn't confirmed.
+fn unless(confirmed: bool, ticket: Ticket) -> Option<Ticket>
+    ensures { result ≡ with_unconfirmed confirmed ticket }
+{
+    if confirmed { None } else { Some(ticket) }
+}
+
+/// The first ticket of a receipt that isn't confirmed.
+pub(crate) fn first_unconfirmed(units: &[UnitState], receipts: &[Receipt]) -> Option<Ticket>
+    ensures { Confirms units.now receipts.now result }
+{
+    let mut first = None;
+    for receipt in receipts {
+        let confirmed = is_confirmed(units, receipt);
+        first = lesser(first, unless(confirmed, receipt.ticket()));
+    }
+    first
+}
+
+/// What is known of each unit.
+pub(crate) fn stand(units: &[UnitState])
+    ensures { AllStand units.now }
+{
+    for unit in units {
+        unit.stands();
+    }
+}
+
+/// What is known of each queue.
+pub(crate) fn are_sound(queues: &[Queue])
+    ensures { AllSound queues.now }
+{
+    for queue in queues {
+        queue.log();
+    }
+}

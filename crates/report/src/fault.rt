@@ -1,0 +1,40 @@
+//! Why no report is given.
+
+use block_store::NoMemory;
+use ring_core::Ticket;
+use std::error::Error;
+use std::fmt;
+
+/// Why a host that was closed gives no report. A receipt that isn't confirmed is named before a ticket that is outstanding,
+/// and each time the first, by queue and number.
+#[derive(Clone, Copy, Debug, PartialEq, Eq)]
+pub enum CloseFault {
+    /// A growth was refused.
+    NoMemory,
+    /// A receipt isn't confirmed by its unit.
+    Unconfirmed(Ticket),
+    /// A chain isn't used, or a request isn't settled.
+    Outstanding(Ticket),
+}
+
+impl fmt::Display for CloseFault {
+    fn fmt<W: fmt::Write>(&self, f: &mut fmt::Formatter<W>) -> fmt::Result {
+        match self {
+            CloseFault::NoMemory => write!(f, "no memory"),
+            CloseFault::Unconfirmed(ticket) => {
+                write!(f, "unconfirmed {}/{}", ticket.queue, ticket.number)
+            }
+            CloseFault::Outstanding(ticket) => {
+                write!(f, "outstanding {}/{}", ticket.queue, ticket.number)
+            }
+        }
+    }
+}
+
+impl Error for CloseFault {}
+
+impl From<NoMemory> for CloseFault {
+    fn from(_refused: NoMemory) -> CloseFault {
+        CloseFault::NoMemory
+    }
+}

@@ -1,0 +1,126 @@
+//! The parts of a small device, and what its guest writes.
+
+use decisions::{Inventory, MOST_UNITS, UnitSpec, are_rising};
+use guest_mem::GuestMem;
+use phases::{Queue, is_placed};
+use ring_core::{Form, Layout};
+use std::alloc::Global;
+use unit_history::UnitState;
+
+/// A control queue, an event queue and two request queues of 8 descriptors, each in a page of its own.
+const QUEUES: u16 = 4;
+
+/// The bytes of a page.
+const PAGE: u64 = 4096;
+
+/// Where a queue's request stands in its page, and where its response.
+const REQUEST: u64 = 3072;
+
+const RESPONSE: u64 = 3584;
+
+/// VIRTQ_DESC_F_NEXT and VIRTQ_DESC_F_WRITE (VIRTIO 1.2, 2.7.5).
+const NEXT: u16 = 1;
+
+const WRITE: u16 = 2;
+
+/// The units, of which LUN 1 is the second.
+const UNITS: [UnitSpec; 2] = [
+    UnitSpec {
+        target: 0,
+        lun: 0,
+        blocks: 8,
+        calm: true,
+    },
+    UnitSpec {
+        target: 0,
+        lun: 1,
+        blocks: 8,
+        calm: true,
+    },
+];
+
+/// The parts of a device.
+#[derive(Drop)]
+pub(crate) struct Parts {
+    pub units: Vec<UnitState>,
+    pub queues: Vec<Queue>,
+    pub memory: GuestMem,
+    pub inventory: Inventory,
+}
+
+/// The inventory of the units.
+fn inventory() -> Option<Inventory> {
+    if UNITS.len() > MOST_UNITS || !are_rising(&UNITS) {
+        return None;
+    }
+    Some(Inventory::new(&UNITS))
+}
+
+/// The units; `None` where memory was refused.
+fn units(alloc: Global) -> Option<Vec<UnitState>> {
+    let mut units = Vec::new(alloc);
+    for spec in &UNITS {
+        units
+            .push(UnitState::new(alloc, spec, &[0, 1], true).ok()?)
+            .ok()?;
+    }
+    Some(units)
+}
+
+/// The queue of a number, in its page.
+fn queue(alloc: Global, number: u16, memory: &GuestMem) -> Option<Queue> {
+    let page = PAGE * u64::from(number);
+    let layout = Layout {
+        size: 8,
+        desc: page,
+        driver: page + 1024,
+        device: page + 2048,
+    };
+    if !is_placed(Form::Split, memory.size(), &layout) {
+        return None;
+    }
+    Queue::new(alloc, Form::Split, number, layout, memory).ok()
+}
+
+/// The queues; `None` where memory was refused.
+fn queues(alloc: Global, memory: &GuestMem) -> Option<Vec<Queue>> {
+    let mut queues = Vec::new(alloc);
+    for number in 0..QUEUES {
+        queues.push(queue(alloc, number, memory)?).ok()?;
+    }
+    Some(queues)
+}
+
+/// Writes a descriptor of a queue. All addresses lie in memory: else nothing is fetched.
+fn put_descriptor(memory: &mut GuestMem, at: u64, addr: u64, len: u32, flags: u16) {
+    let mut bytes = [0; 16];
+    bytes[..8].copy_from_slice(&addr.to_le_bytes());
+    bytes[8..12].copy_from_slice(&len.to_le_bytes());
+    bytes[12..14].copy_from_slice(&flags.to_le_bytes());
+    bytes[14] = 1;
+    let _ = memory.write(at, &bytes);
+}
+
+/// Makes the first request of a queue available, with so many bytes for its response.
+pub(crate) fn put(memory: &mut GuestMem, number: u16, request: &[u8], room: u32) {
+    let page = PAGE * u64::from(number);
+    let len = (request.len() % 65536) as u32;
+    let _ = memory.write(page + REQUEST, request);
+    put_descriptor(memory, page, page + REQUEST, len, NEXT);
+    put_descriptor(memory, page + 16, page + RESPONSE, room, WRITE);
+    let _ = memory.write(page + 1026, &[1]);
+}
+
+impl Parts {
+    /// A device of which nothing was asked; `None` where memory was refused.
+    pub(crate) fn new(alloc: Global) -> Option<Parts> {
+        let memory = GuestMem::new(alloc, 4).ok()?;
+        let queues = queues(alloc, &memory)?;
+        Some(Parts {
+            units: units(alloc)?,
+            queues,
+            memory,
+            inventory: inventory()?,
+        })
+    }
+}

@@ -1,0 +1,119 @@
+//! Reports with something amiss, and what is said of them.
+
+use crate::parts::Parts;
+use crate::serving::{Asked, REFUSED, RUN, fetch, refuse, serve};
+use phases::{Given, Note};
+use report::{CloseFault, Report, examine};
+use std::alloc::Global;
+use unit_history::Receipt;
+
+/// What is amiss in a report of a device whose queue 2 had a request that ran, and whose queue 3 had one that was refused.
+#[derive(Clone, Copy)]
+pub enum Amiss {
+    /// Nothing.
+    Nothing,
+    /// The receipt of the first is lost.
+    ReceiptLost,
+    /// There is another receipt of the same commit.
+    ReceiptTwice,
+    /// The units are put back as they were before any request.
+    HistoryLost,
+    /// The second was fetched alone.
+    ChainUnused,
+    /// The first has a note in place of its receipt.
+    NoteOfAnother,
+    /// The note of the second is lost, and so is the receipt of the first.
+    BothLost,
+}
+
+/// A device that was closed, and what its requests were answered with.
+#[derive(Drop)]
+struct Closed {
+    parts: Parts,
+    receipts: Vec<Receipt>,
+    notes: Vec<Note>,
+}
+
+/// The first request ran, and the second wasn't asked.
+fn with_first(alloc: Global) -> Option<Closed> {
+    let mut parts = Parts::new(alloc)?;
+    let Given::Receipt(receipt) = serve(alloc, &mut parts, &RUN)? else {
+        return None;
+    };
+    let mut receipts = Vec::new(alloc);
+    receipts.push(receipt).ok()?;
+    Some(Closed {
+        parts,
+        receipts,
+        notes: Vec::new(alloc),
+    })
+}
+
+/// Both were served.
+fn with_both(alloc: Global) -> Option<Closed> {
+    let mut closed = with_first(alloc)?;
+    let note = refuse(&mut closed.parts, &REFUSED)?;
+    closed.notes.push(note).ok()?;
+    Some(closed)
+}
+
+/// A note of the first chain of queue 2, as another device gave it.
+fn another_note(alloc: Global) -> Option<Note> {
+    let mut parts = Parts::new(alloc)?;
+    refuse(
+        &mut parts,
+        &Asked {
+            queue: 2,
+            ..REFUSED
+        },
+    )
+}
+
+/// With what is amiss.
+fn closed_with(alloc: Global, amiss: Amiss) -> Option<Closed> {
+    let mut closed = with_both(alloc)?;
+    match amiss {
+        Amiss::Nothing => {}
+        Amiss::ReceiptLost => closed.receipts.clear(),
+        Amiss::ReceiptTwice => {
+            closed
+                .receipts
+                .push(with_first(alloc)?.receipts.pop()?)
+                .ok()?;
+        }
+        Amiss::HistoryLost => closed.parts.units = Parts::new(alloc)?.units,
+        Amiss::ChainUnused => {
+            closed = with_first(alloc)?;
+            fetch(&mut closed.parts, &REFUSED)?;
+        }
+        Amiss::NoteOfAnother => {
+            closed.receipts.clear();
+            closed.notes.push(another_note(alloc)?).ok()?;
+        }
+        Amiss::BothLost => {
+            closed.receipts.clear();
+            closed.notes.clear();
+        }
+    }
+    Some(closed)
+}
+
+/// What is said of a report with this amiss; `None` where memory was refused.
+pub fn fault_of(alloc: Global, amiss: Amiss) -> Option<Option<CloseFault>> {
+    let closed = closed_with(alloc, amiss)?;
+    let report = Report {
+        units: closed.parts.units,
+        queues: closed.parts.queues,
+        memory: closed.parts.memory,
+        receipts: closed.receipts,
+        notes: closed.notes,
+    };
+    if report.queues.len() > 65536 {
+        return None;
+    }
+    match examine(alloc, report) {
+        Ok(_) => Some(None),
+        Err(CloseFault::NoMemory) => None,
+        Err(fault) => Some(Some(fault)),
+    }
+}
