@@ -1,0 +1,132 @@
+-- What a worker begins with and brings back may go to another thread. The search alone finds it of small types only.
+use denote.Param.Send.{IsSend, IsSync, sendable, recorded_send, recorded_sync, struct_send, struct_sync, enum_send}
+use denote.Param.SendFields.{declared_send, declared_sync}
+use denote.RattleType.{RattleType}
+use denote.Struct.Declared.{shape}
+use denote.Struct.Field.{row_field}
+use denote.Enum.Declared.{shape as enum_shape}
+use Rattle.std.proofs.Crossing.{crosses, send, sync, frees}
+use Rattle.std.specs.contracts.option.Option.{the_field as option_field, the_type as option_type}
+use Rattle.handoff.proofs.Crossing.{job_sends, seat_sends}
+use Rattle.task_set.specs.contracts.job.JobList.{the_row as list_row}
+use Rattle.task_set.specs.contracts.job.JobList.TheInside as list
+use Rattle.ring_core.proofs.answered.Answered.TheSendSync as answered
+use Rattle.unit_history.proofs.answers.Outcome.TheSendSync as outcome
+use Rattle.unit_history.proofs.answers.Receipt.TheSendSync as receipt
+use Rattle.phases.proofs.note.Note.TheSendSync as note
+use Rattle.phases.specs.contracts.held.Held.{the_row as held_row}
+use Rattle.phases.specs.contracts.held.Held.TheInside as held
+use Rattle.phases.specs.contracts.hand.Hand.{the_field as hand_field, the_type as hand_type}
+use Rattle.bays.proofs.Crossing.{unit_sends, queue_sends}
+use Rattle.guest_mem.proofs.memory.GuestMem.TheSendSync as memory
+use Rattle.event_queue.proofs.port.EventPort.TheSendSync as port
+use Rattle.decisions.proofs.inventory.Inventory.TheSendSync as inventory
+use Rattle.std.proofs.option.Option.TheSendSync as option
+use denote.Struct.Field.{unit-field}
+use denote.Exit.{yes}
+use denote.Param.{param, arg}
+use denote.Param.Send.{given_send}
+use mir.Syntax.{Ty}
+use Prim.Native.Nat.{ℕ}
+use Rattle.atomic_table.specs.declared.shared.TableRule as rule
+use Rattle.std.specs.contracts.alloc.Global.{the_row as heap_row}
+use Rattle.std.specs.contracts.impls.GlobalAllocator.TheImpl.{ghosts}
+use Rattle.crossbeam_queue.specs.contracts.array_queue.Slotted.{the_field as slotted_field}
+use Rattle.crossbeam_queue.proofs.array_queue.Slotted.TheSendSync as slotted
+use Rattle.handoff.specs.contracts.queue.Handoff.{the_row as handoff_row}
+use Rattle.handoff.specs.contracts.queue.Handoff.TheInside as handoff
+use Rattle.workers.specs.contracts.shared.Shared.{the_row as shared_row, the_type as shared_type}
+use Rattle.workers.specs.contracts.kept.Kept.{the_field as kept_field, the_type as kept_type}
+use Rattle.workers.specs.contracts.post.Post.{the_field as post_field, the_type as post_type}
+use Rattle.workers.specs.contracts.worker.Worked.{the_field as worked_field, the_type as worked_type}
+
+option_sends : (R : RattleType) → IsSend (row_field R).row → IsSend (option_field R).row
+option_sends R s = enum_send (enum_shape (option_type R)) (tt, ((s, tt), tt))
+
+list_fields : IsSend list.the_row
+list_fields = recorded_send list.the_field.row _ _ list.the_type.to_one
+    (struct_send (shape list.the_type) (search (crosses, job_sends), (search sendable, tt)))
+
+list_sends : IsSend list_row
+list_sends = search (sendable, list_fields)
+
+held_fields : IsSend held.the_row
+held_fields = recorded_send held.the_field.row _ _ held.the_type.to_one
+    (struct_send (shape held.the_type) (job_sends, (option_sends _ outcome.the_send, tt)))
+
+held_sends : IsSend held_row
+held_sends = search (sendable, held_fields)
+
+hand_sends : IsSend hand_field.row
+hand_sends = enum_send (enum_shape hand_type) (tt, ((held_sends, tt), ((search sendable, (answered.the_send, tt)), tt)))
+
+kept_sends : IsSend kept_field.row
+kept_sends = struct_send (shape kept_type) (search (crosses, receipt.the_send), (search (crosses, note.the_send), tt))
+
+pub post_sends : IsSend post_field.row
+post_sends = struct_send (shape post_type) (seat_sends, (list_sends, (hand_sends, (kept_sends, tt))))
+
+pub worked_sends : IsSend worked_field.row
+worked_sends = struct_send (shape worked_type) (seat_sends, (kept_sends, tt))
+
+handoff_fields_sync : IsSync handoff.the_row
+handoff_fields_sync = declared_sync handoff.the_type
+    (search (sendable, slotted.the_sync, option.the_send, job_sends, send, sync, frees) depth 20, (search sendable, tt))
+
+handoff_syncs : IsSync handoff_row
+handoff_syncs = search (sendable, handoff_fields_sync)
+
+handoff_fields_send : IsSend handoff.the_row
+handoff_fields_send = declared_send handoff.the_type
+    (search (sendable, slotted.the_send, option.the_send, job_sends, send, frees) depth 20, (search sendable, tt))
+
+handoff_sends : IsSend handoff_row
+handoff_sends = search (sendable, handoff_fields_send)
+
+-- threads may share what a host has, where they may share its gate
+pub shared_syncs : (G : RattleType) → IsSync G → IsSync (shared_row G)
+shared_syncs G gate = declared_sync (shared_type G) (
+  search (crosses, unit_sends),
+  (
+    search (crosses, queue_sends),
+    (
+      search (crosses, memory.the_send),
+      (
+        search (crosses, option.the_send, port.the_send),
+        (
+          inventory.the_sync,
+          (
+            handoff_syncs,
+            (search (sendable, gate), (search (sendable, crosses) depth 20, tt)),
+          ),
+        ),
+      ),
+    ),
+  ),
+)
+
+-- and what one thread has of it may go to another
+pub shared_sends : (G : RattleType) → IsSend G → IsSend (shared_row G)
+shared_sends G gate = declared_send (shared_type G) (
+  search (crosses, unit_sends),
+  (
+    search (crosses, queue_sends),
+    (
+      search (crosses, memory.the_send),
+      (
+        search (crosses, option.the_send, port.the_send),
+        (
+          inventory.the_send,
+          (
+            handoff_sends,
+            (search (sendable, gate), (search (sendable, crosses) depth 20, tt)),
+          ),
+        ),
+      ),
+    ),
+  ),
+)
+
+-- the same of a gate as a caller names its type
+pub given_shared_sends : (i : ℕ) (δ : Ty) (G : RattleType) → IsSend (param i G) → IsSend (shared_row (arg δ yes G))
+given_shared_sends i δ G gate = shared_sends (arg δ yes G) (given_send i δ G gate)

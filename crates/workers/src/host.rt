@@ -1,0 +1,256 @@
+//! The host: its threads, from start to close.
+
+ghost use Rattle.std.specs.Prelude.{◌≡◌, ◌<◌, ◌≤◌, true, length, IfOk};
+ghost use Rattle.std.specs.Arc.{arc_value};
+ghost use Rattle.handoff.specs.Seats.{IsSeatOf, IsSameSeat};
+ghost use Rattle.world.specs.Config.{is_config};
+ghost use Rattle.workers.specs.Extent.{Starts, extent_of};
+
+use crate::closing::{report, unshared};
+use crate::control::raise;
+use crate::crew::{dismiss, hire_all, join_all};
+use crate::hired::{Hired, Works};
+use crate::opening::open;
+use crate::post::{Post, clear};
+use crate::shared::Shared;
+use crate::worker::{Worked, Worker, work};
+use bays::{Gate, hard_on};
+use block_store::NoMemory;
+use event_queue::WaitingEvents;
+use guest_mem::MemFault;
+use handoff::Handoff;
+use report::{CloseFault, Report};
+use std::alloc::Global;
+use std::marker::Model;
+use std::sync::{Arc, Wait};
+use std::thread::Threads;
+use world::{Config, StartFault};
+
+/// How many jobs a unit hands out at most in one call: one for each task of its task set.
+const TASKS: usize = 64;
+
+impl<G: Gate + Drop> Works<Post> for Shared<G> {
+    ghost hub = { λ s. s.handoff };
+
+    fn handoff(&self) -> &Handoff {
+        &self.handoff
+    }
+
+    fn close(&self) {
+        Shared::close(self);
+    }
+
+    fn work<R: Wait>(&self, rt: &R, post: Post, number: usize, workers: usize) -> Worked {
+        let worker = Worker {
+            post,
+            function: None,
+            number,
+            workers,
+        };
+        work(rt, self, worker)
+    }
+}
+
+/// A value for several threads.
+fn share<T: Drop>(alloc: Global, value: T) -> Result<Arc<T>, NoMemory>
+    ensures { IfOk result (λ shared. arc_value shared ≡ value) }
+{
+    match Arc::new(alloc, value) {
+        Ok(shared) => Ok(shared),
+        Err(_) => Err(NoMemory),
+    }
+}
+
+/// The parts of a host of a valid configuration, with its threads.
+fn started<R, G>(rt: R, alloc: Global, config: &Config, gate: G) -> Result<Host<G>, NoMemory>
+where
+    R: Threads + Wait + Copy + Send + 'static,
+    G: Gate + Drop + Send + Sync + 'static,
+    requires valid { is_config config.now ≡ true }
+    ensures { IfOk result (λ h. h ≡ extent_of config.now) }
+{
+    let workers = config.workers as usize;
+    let (handoff, mut seats) = Handoff::new(alloc, config.handoff as usize, workers + 1)?;
+    let Some(last) = seats.pop() else {
+        unreachable!()
+    };
+    let limit = TASKS * config.units.len() + TASKS;
+    let post = Post::new(alloc, last, limit)?;
+    let shared = share(alloc, open(alloc, config, handoff, gate)?)?;
+    let crew = hire_all(rt, alloc, &shared, seats, limit)?;
+    Ok(Host {
+        alloc,
+        shared,
+        crew,
+        post: Some(post),
+        waiting: Some(WaitingEvents::new(alloc)),
+    })
+}
+
+/// A unit is reset by the operator, and the guest is told. What the operator's seat had is served first.
+fn reset<R: Wait, G: Gate + Drop>(
+    rt: &R,
+    shared: &Shared<G>,
+    at: usize,
+    post: Post,
+    waiting: WaitingEvents,
+) -> (Result<(), NoMemory>, Post, WaitingEvents)
+    requires seat { IsSeatOf shared.now.handoff post.seat }
+    ensures seat { IsSameSeat post.seat result.1.seat }
+{
+    let post = clear(rt, shared, post);
+    if at >= shared.units.len() {
+        return (Ok(()), post, waiting);
+    }
+    if !post.is_free() {
+        return (Err(NoMemory), post, waiting);
+    }
+    let Post {
+        seat,
+        out,
+        hand,
+        kept,
+    } = post;
+    let (did, out, waiting) = hard_on(&mut shared.bays(rt), at, out, waiting);
+    let post = Post {
+        seat,
+        out,
+        hand,
+        kept,
+    };
+    match did {
+        Err(NoMemory) => (Err(NoMemory), post, waiting),
+        Ok(_) => {
+            let waiting = raise(rt, shared, waiting);
+            (Ok(()), clear(rt, shared, post), waiting)
+        }
+    }
+}
+
+/// A device that threads serve. Clauses see how many workers, units and queues it has. It isn't `Drop`: who starts one
+/// closes it, which ends its threads.
+pub struct Host<G: Gate + Drop> {
+    alloc: Global,
+    shared: Arc<Shared<G>>,
+    crew: Vec<Hired>,
+    // What the operator's seat has, and the events that wait: not there only within a call.
+    post: Option<Post>,
+    waiting: Option<WaitingEvents>,
+}
+
+impl<G: Gate + Drop> Model for Host<G> {
+    ghost use Rattle.std.specs.Prelude.{◌≡◌, ◌≤◌, true, is_some, IfSome, vec_len};
+    ghost use Rattle.std.specs.Arc.{arc_value};
+    ghost use Rattle.workers.specs.Crew.{IsWhole};
+    ghost use Rattle.workers.specs.Extent.{Extent};
+
+    ghost Value = { Extent };
+
+    ghost view = { λ h. record {
+      workers = vec_len h.crew;
+      units = vec_len (arc_value h.shared).units;
+      queues = vec_len (arc_value h.shared).queues;
+    } };
+
+    ghost invariant = { λ h. (vec_len (arc_value h.shared).queues ≤ 18) × (is_some h.post ≡ true) × (is_some h.waiting ≡ true)
+        × IfSome h.post (λ p. IsWhole (arc_value h.shared).handoff h.crew.items p.seat) };
+}
+
+impl<G: Gate + Drop> Host<G> {
+    ghost use Rattle.std.specs.Prelude.{◌≡◌, IfOk, IfErr, OnErr, vec_len};
+    ghost use Rattle.report.specs.Closed.{IsReport};
+    ghost use Rattle.guest_mem.specs.declared.memory.MemFault.TheVariants as MemFault;
+
+    /// Starts `n` workers, 1 to 8, in place of the number that the configuration has. Who embeds the device calls it once.
+    /// `BadConfig` exactly where the device doesn't take such a configuration; else `NoMemory` where a growth was refused,
+    /// or a thread couldn't be made: those that were made are ended. It may wait for these.
+    pub fn start<R: Threads + Wait + Copy + Send + 'static>(
+        rt: R,
+        alloc: Global,
+        config: Config,
+        gate: G,
+        n: u16,
+    ) -> Result<Host<G>, StartFault>
+    where
+        G: Send + Sync + 'static,
+        ensures { Starts config n result }
+    {
+        let wanted = Config {
+            workers: n,
+            ..config
+        };
+        if !wanted.is_valid() {
+            return Err(StartFault::BadConfig);
+        }
+        match started(rt, alloc, &wanted, gate) {
+            Ok(host) => Ok(host),
+            Err(NoMemory) => Err(StartFault::NoMemory),
+        }
+    }
+
+    /// The guest writes bytes, beside the workers, in one hold of the memory. `Outside`, with nothing changed, exactly
+    /// where one of them lies behind the end.
+    pub fn poke<R: Wait>(&self, rt: &R, addr: u64, bytes: &[u8]) -> Result<(), MemFault>
+        ensures { IfErr result (λ fault. fault ≡ MemFault.Outside) }
+    {
+        self.shared.memory.lock(rt).write(addr, bytes)
+    }
+
+    /// The guest reads bytes, beside the workers, in one hold of the memory. `Outside`, with nothing read, exactly where
+    /// one of them lies behind the end.
+    pub fn peek<R: Wait>(&self, rt: &R, addr: u64, out: &mut [u8]) -> Result<(), MemFault>
+        ensures fault { IfErr result (λ fault. fault ≡ MemFault.Outside) }
+        ensures unchanged { OnErr result (out.new ≡ out.old) }
+    {
+        self.shared.memory.lock(rt).read(addr, out)
+    }
+
+    /// The operator resets the unit at a place of the configuration, and the guest is told (TRANSPORT_RESET). A unit that
+    /// isn't there changes nothing. `NoMemory` where a growth was refused: the unit wasn't reset then.
+    pub fn operator<R: Wait>(&mut self, rt: &R, place: u16) -> Result<(), NoMemory>
+        ensures { self.new ≡ self.old }
+    {
+        let (Some(post), Some(waiting)) = (self.post.take(), self.waiting.take()) else {
+            unreachable!()
+        };
+        let (did, post, waiting) = reset(rt, &*self.shared, place as usize, post, waiting);
+        self.post = Some(post);
+        self.waiting = Some(waiting);
+        did
+    }
+
+    /// Ends the workers once nothing is left to them, waits for that, and says what became of every chain that was
+    /// accepted. `Unconfirmed`: the least ticket of a receipt whose Commit doesn't stand in its unit's history.
+    /// `Outstanding`: the least ticket of a chain of the control queue or of a request that wasn't answered, once and as
+    /// its unit's history says. `NoMemory` where a growth was refused. The host is gone afterwards, also at an `Err`.
+    pub fn close<R: Threads + Wait>(self, rt: &R) -> Result<Report, CloseFault>
+        ensures report { IfOk result (λ r. IsReport r.units.items r.queues.items r.receipts.items r.notes.items) }
+        ensures units { IfOk result (λ r. vec_len r.units ≡ self.units) }
+        ensures queues { IfOk result (λ r. vec_len r.queues ≡ self.queues) }
+    {
+        let Host {
+            alloc,
+            shared,
+            crew,
+            post,
+            waiting: _,
+        } = self;
+        let Some(post) = post else { unreachable!() };
+        let Post { seat, kept, .. } = clear(rt, &*shared, post);
+        Shared::close(&*shared);
+        let room = crew.len() + 1;
+        let (Ok(seats), Ok(all)) = (
+            Vec::with_capacity(alloc, room),
+            Vec::with_capacity(alloc, room),
+        ) else {
+            dismiss(rt, &*shared, crew);
+            return Err(CloseFault::NoMemory);
+        };
+        let (mut seats, mut all) = join_all(rt, crew, seats, all);
+        seats.push_reserved(seat);
+        all.push_reserved(kept);
+        let shared = unshared(rt, shared);
+        shared.handoff.gather(seats);
+        report(alloc, shared, all)
+    }
+}

@@ -1,0 +1,53 @@
+//! What the threads of a host share.
+
+ghost use Rattle.std.specs.Prelude.{◌≡◌, length, vec_len};
+
+use bays::{Gate, Locked};
+use decisions::Inventory;
+use event_queue::EventPort;
+use guest_mem::GuestMem;
+use handoff::Handoff;
+use phases::Queue;
+use std::sync::atomic::{AtomicBool, Ordering};
+use std::sync::{Mutex, Wait};
+use unit_history::UnitState;
+
+/// What the threads of a host share. Locks: each unit's alone; each queue's with the memory's inside it; the memory's
+/// alone; and the event port's, round that of the event queue, which nobody takes without it.
+#[derive(Drop)]
+pub(crate) struct Shared<G: Gate + Drop> {
+    pub(crate) units: Vec<Mutex<UnitState>>,
+    pub(crate) queues: Vec<Mutex<Queue>>,
+    pub(crate) memory: Mutex<GuestMem>,
+    // Not there only while its lock is held.
+    pub(crate) port: Mutex<Option<EventPort>>,
+    pub(crate) inventory: Inventory,
+    pub(crate) handoff: Handoff,
+    pub(crate) gate: G,
+    pub(crate) closing: AtomicBool,
+}
+
+impl<G: Gate + Drop> Shared<G> {
+    /// What lends its units, its queues and its memory.
+    pub(crate) fn bays<'a, R: Wait>(&'a self, rt: &'a R) -> Locked<'a, R>
+        ensures units { length result.units.now ≡ vec_len self.now.units }
+        ensures queues { length result.queues.now ≡ vec_len self.now.queues }
+    {
+        Locked {
+            rt,
+            units: self.units.as_slice(),
+            queues: self.queues.as_slice(),
+            memory: &self.memory,
+        }
+    }
+
+    /// Whether its workers are to end.
+    pub(crate) fn is_closing(&self) -> bool {
+        self.closing.load(Ordering::SeqCst)
+    }
+
+    /// Its workers are to end once nothing is left to them.
+    pub(crate) fn close(&self) {
+        self.closing.store(true, Ordering::SeqCst);
+    }
+}

@@ -1,0 +1,9 @@
+//! A bench for tests of hosts: a small device is served by threads, while its guest asks for something, and is closed. It
+//! stands in a crate of its own so that tests read nothing of how it is done.
+#![tactic(auto)]
+
+mod guest;
+mod meeting;
+mod runs;
+
+pub use runs::{Left, is_refused, meet, reset, serve, serve_nothing};
