@@ -1,0 +1,265 @@
+/* A virtio SCSI device (OASIS VIRTIO 1.2, 5.6) as a library.
+ *
+ * The device is everything behind the virtqueues: it has a copy of guest memory, takes requests from its queues there,
+ * runs their commands on its units, whose blocks it keeps in its own memory, and writes what is answered. It has no
+ * thread, opens no file and waits for nothing: a call does its work and returns.
+ *
+ * Who owns what. `struct vscsi` is the caller's: it begins as zeros, and stays where it is while it has a device. Only
+ * this library looks at its fields. What the device needs is taken from malloc by vscsi_create, and goes back by
+ * vscsi_destroy, once, or never. Whatever else is passed to a call is looked at during that call alone.
+ *
+ * Which calls may run side by side. On one device none: the caller orders them, and hands a device to another thread
+ * as it would hand over any memory. Devices have nothing in common. No call is made from a signal handler, or by the
+ * child of a fork of a process with threads.
+ *
+ * What a call answers. One of `enum vscsi_answer`. Each call says below what else but VSCSI_DONE it may answer; then it
+ * changed nothing, the room that it would write included, but for what is said of vscsi_settle and of the fault that
+ * vscsi_create tells. No call ends the process. Of each call VSCSI_NULL is answered where a pointer is null (a run of no
+ * bytes, queues or units may be), and VSCSI_BAD_LENGTH where a length is more than memory can have.
+ *
+ * What can't be checked, and is the caller's: a `struct vscsi` that isn't zeros and that no call left; a pointer to room
+ * that is shorter than was said, or that another argument points into; two calls on one device at a time. Then anything
+ * may happen.
+ *
+ * Guest memory is one run of bytes that begins at guest address 0. The device has its own: what a guest wrote is copied
+ * in by vscsi_poke, what the device wrote is copied out by vscsi_peek. docs/EMBEDDING.md says which bytes, and when. */
+#ifndef VSCSI_H
+#define VSCSI_H
+
+#include <stdbool.h>
+#include <stddef.h>
+#include <stdint.h>
+
+#ifdef __cplusplus
+extern "C" {
+#endif
+
+/* A device, or none. Made of zeros: `struct vscsi device = {0};`. */
+struct vscsi {
+  void *at;
+  bool live;
+};
+
+enum vscsi_answer {
+  VSCSI_DONE = 0,
+  VSCSI_NO_MEMORY = 1,  /* malloc refused memory; the call may be made again */
+  VSCSI_BAD_CONFIG = 2, /* the device doesn't take the configuration: `struct vscsi_fault` says why */
+  VSCSI_NO_DEVICE = 3,  /* there is no device here: none was made, or it was destroyed */
+  VSCSI_IN_USE = 4,     /* there is a device here already */
+  VSCSI_OUTSIDE = 5,    /* a byte isn't in guest memory, or a block isn't on the unit */
+  VSCSI_NO_QUEUE = 6,   /* there is no such queue */
+  VSCSI_NO_UNIT = 7,    /* there is no such unit */
+  VSCSI_BAD_LENGTH = 8, /* the room isn't as long as what goes there */
+  VSCSI_NULL = 9        /* a pointer is null */
+};
+
+/* The features that the device offers. A driver has to agree to the first, and chooses by the second between split
+ * queues and packed ones (VIRTIO 1.2, 6). */
+#define VSCSI_F_VERSION_1 (UINT64_C(1) << 32)
+#define VSCSI_F_RING_PACKED (UINT64_C(1) << 34)
+#define VSCSI_FEATURES (VSCSI_F_VERSION_1 | VSCSI_F_RING_PACKED)
+
+#define VSCSI_PAGE 4096u
+#define VSCSI_BLOCK 512u
+
+/* Where the driver put a queue: its descriptors, its driver area and its device area, by guest addresses, and how many
+ * descriptors it has, 2 to 1,024. Of a split queue the driver area is the available ring, and the device area the used
+ * ring (VIRTIO 1.2, 2.7); a packed queue has an event suppression structure in each (2.8). */
+struct vscsi_queue {
+  uint64_t desc;
+  uint64_t driver;
+  uint64_t device;
+  uint16_t size;
+};
+
+/* A disk: a target of 0 to 255 and a LUN of 0 to 16,383, with 1 to 131,072 blocks of 512 zeros. Where `calm` is 0 its
+ * first command is told of the power on (29/00), as the standard has it. */
+struct vscsi_unit {
+  uint64_t blocks;
+  uint16_t lun;
+  uint8_t target;
+  uint8_t calm;
+};
+
+/* The device that is wanted: guest memory of 1 to 65,536 pages of 4,096 bytes; the features that the driver agreed to;
+ * its queues, of which 0 is the control queue, 1 the event queue, and the others, 1 to 16, request queues; 1 to 64 units
+ * in rising order of target and LUN, each target with LUN 0. All of it is known once the driver has set DRIVER_OK.
+ *
+ * Firmware that sets up queue 2 alone leaves queues 0 and 1 without areas. Give the device some pages more than the guest
+ * has, and let those queues lie there: an area of zeros is an empty ring, and nothing ever changes it. */
+struct vscsi_config {
+  uint64_t features;
+  const struct vscsi_queue *queues;
+  size_t queue_count;
+  const struct vscsi_unit *units;
+  size_t unit_count;
+  uint32_t pages;
+};
+
+/* Why a configuration isn't taken: the first of these, in this order, that is so. Of a queue or a unit `place` says
+ * which, from 0, and is the first of its kind. */
+enum vscsi_cause {
+  VSCSI_PAGES = 1,        /* no pages, or more than 65,536 */
+  VSCSI_BAD_FEATURES = 2, /* not VSCSI_F_VERSION_1, alone or with VSCSI_F_RING_PACKED */
+  VSCSI_QUEUE_COUNT = 3,  /* fewer than 3 queues, or more than 18 */
+  VSCSI_QUEUE_SIZE = 4,   /* a queue of fewer than 2 descriptors, or of more than 1,024 */
+  VSCSI_QUEUE_LAYOUT = 5, /* a queue can't lie so: `detail` is an `enum vscsi_layout` */
+  VSCSI_WORKERS = 6,      /* never: there is one */
+  VSCSI_HANDOFF = 7,      /* never: there is room for 64 */
+  VSCSI_UNIT_COUNT = 8,   /* no units, or more than 64 */
+  VSCSI_UNIT_LUN = 9,     /* a LUN above 16,383 */
+  VSCSI_UNIT_BLOCKS = 10, /* no blocks, or more than 131,072 */
+  VSCSI_UNIT_ORDER = 11,  /* a unit that doesn't stand above the one before it */
+  VSCSI_NO_LUN_0 = 12     /* a unit whose target has no LUN 0 */
+};
+
+enum vscsi_layout {
+  VSCSI_SIZE = 1,      /* of a split queue a size that isn't a power of two */
+  VSCSI_ALIGNMENT = 2, /* an area isn't aligned: a split queue's to 16, 2 and 4, a packed one's to 16, 4 and 4 */
+  VSCSI_AREA = 3       /* an area isn't in guest memory */
+};
+
+struct vscsi_fault {
+  uint64_t place;
+  uint32_t cause;
+  uint32_t detail;
+};
+
+/* What a guest did that broke a queue. */
+enum vscsi_broken {
+  VSCSI_WHOLE = 0,
+  VSCSI_INDEX_JUMP = 1,              /* the available index ran too far ahead */
+  VSCSI_HEAD_OUT_OF_RANGE = 2,       /* an available entry names no descriptor */
+  VSCSI_NEXT_OUT_OF_RANGE = 3,       /* a descriptor goes on with none that there is */
+  VSCSI_CHAIN_TOO_LONG = 4,          /* a chain goes round, or has over 2^32 bytes */
+  VSCSI_BUFFER_OUTSIDE = 5,          /* a buffer isn't in guest memory */
+  VSCSI_READABLE_AFTER_WRITABLE = 6, /* a readable buffer behind a writable one */
+  VSCSI_ALREADY_OUTSTANDING = 7,     /* a head or id that the device still has */
+  VSCSI_BAD_INDIRECT = 8,            /* an indirect table, which wasn't agreed */
+  VSCSI_RING_OVERRUN = 9             /* more descriptors than the ring has */
+};
+
+/* What the library exports. Callers use what stands below, which also tests for null and for lengths. */
+uint32_t vscsi_raw_create(struct vscsi *device, uint32_t pages, uint64_t features, const struct vscsi_queue *queues, size_t queue_count,
+                          const struct vscsi_unit *units, size_t unit_count, struct vscsi_fault *fault);
+uint32_t vscsi_raw_destroy(struct vscsi *device);
+uint32_t vscsi_raw_settle(struct vscsi *device, uint64_t *steps);
+uint32_t vscsi_raw_poke(struct vscsi *device, uint64_t addr, const uint8_t *bytes, size_t count);
+uint32_t vscsi_raw_peek(struct vscsi *device, uint64_t addr, uint8_t *into, size_t count);
+uint32_t vscsi_raw_owed(struct vscsi *device, uint32_t *queues);
+uint32_t vscsi_raw_status(struct vscsi *device, uint8_t *status);
+uint32_t vscsi_raw_broken(struct vscsi *device, uint16_t queue, uint32_t *fault);
+uint32_t vscsi_raw_progress(struct vscsi *device, uint16_t queue, uint64_t *accepted, uint64_t *used);
+uint32_t vscsi_raw_reset(struct vscsi *device, uint8_t target, uint16_t lun);
+uint32_t vscsi_raw_capacity(struct vscsi *device, uint8_t target, uint16_t lun, uint64_t *blocks);
+uint32_t vscsi_raw_blocks(struct vscsi *device, uint8_t target, uint16_t lun, uint64_t first, uint32_t count, uint8_t *into, size_t length);
+
+/* Whether so many items of a size are more than memory has room for. */
+static inline bool vscsi_is_long(size_t count, size_t size) { return count > PTRDIFF_MAX / size; }
+
+/* Makes the device of a configuration, with zeros for guest memory, of which nothing has happened yet. A guest that had
+ * written its queues already: copy guest memory in before the first vscsi_settle.
+ * VSCSI_IN_USE; VSCSI_BAD_CONFIG, and then `fault` says why; VSCSI_NO_MEMORY, also in the place of VSCSI_BAD_CONFIG. */
+static inline enum vscsi_answer vscsi_create(struct vscsi *device, const struct vscsi_config *config, struct vscsi_fault *fault) {
+  static const struct vscsi_queue no_queue = {0, 0, 0, 0};
+  static const struct vscsi_unit no_unit = {0, 0, 0, 0};
+  if (!device || !config || !fault || (!config->queues && config->queue_count) || (!config->units && config->unit_count)) return VSCSI_NULL;
+  if (vscsi_is_long(config->queue_count, sizeof no_queue) || vscsi_is_long(config->unit_count, sizeof no_unit)) return VSCSI_BAD_LENGTH;
+  return (enum vscsi_answer)vscsi_raw_create(device, config->pages, config->features, config->queues ? config->queues : &no_queue,
+                                             config->queue_count, config->units ? config->units : &no_unit, config->unit_count, fault);
+}
+
+/* Lets go of a device and of all its memory; then there is none here, and another may be made.
+ * VSCSI_NO_DEVICE. */
+static inline enum vscsi_answer vscsi_destroy(struct vscsi *device) {
+  return device ? (enum vscsi_answer)vscsi_raw_destroy(device) : VSCSI_NULL;
+}
+
+/* Serves all that the guest made available on all queues, until nothing is left to do, and counts the steps. Called when a
+ * driver notified a queue, or whenever; where there is nothing to do it costs a look at each queue. It ends whatever the
+ * guest wrote. The control and the request queues then have no chain outstanding; event buffers are held until an event
+ * wants them.
+ * VSCSI_NO_DEVICE; VSCSI_NO_MEMORY where malloc refused what was next: what was served before stands, its notifications
+ * are owed, and a later call goes on from there. */
+static inline enum vscsi_answer vscsi_settle(struct vscsi *device, uint64_t *steps) {
+  return device && steps ? (enum vscsi_answer)vscsi_raw_settle(device, steps) : VSCSI_NULL;
+}
+
+/* Copies bytes into guest memory at an address.
+ * VSCSI_NO_DEVICE; VSCSI_OUTSIDE where one would lie outside. */
+static inline enum vscsi_answer vscsi_poke(struct vscsi *device, uint64_t addr, const void *bytes, size_t count) {
+  static const uint8_t nothing = 0;
+  if (!device || (!bytes && count)) return VSCSI_NULL;
+  if (vscsi_is_long(count, 1)) return VSCSI_BAD_LENGTH;
+  return (enum vscsi_answer)vscsi_raw_poke(device, addr, bytes ? (const uint8_t *)bytes : &nothing, count);
+}
+
+/* Copies bytes of guest memory out.
+ * VSCSI_NO_DEVICE; VSCSI_OUTSIDE where one lies outside. */
+static inline enum vscsi_answer vscsi_peek(struct vscsi *device, uint64_t addr, void *into, size_t count) {
+  uint8_t nothing = 0;
+  if (!device || (!into && count)) return VSCSI_NULL;
+  if (vscsi_is_long(count, 1)) return VSCSI_BAD_LENGTH;
+  return (enum vscsi_answer)vscsi_raw_peek(device, addr, into ? (uint8_t *)into : &nothing, count);
+}
+
+/* Whose drivers are owed a notification since this was last asked: bit 0 is queue 0. Asked after each vscsi_settle, also
+ * after one that answered VSCSI_NO_MEMORY; the host then notifies the driver of each of these queues (VIRTIO 1.2, 2.3).
+ *
+ * The device decides by the driver's flag as its own copy has it. A host that copies memory therefore looks at the flag
+ * in the guest's memory once more, after it copied the used ring out there, and notifies where the driver has asked in
+ * the meantime; or it notifies of every queue whose count of used chains rose (vscsi_progress), which is always right.
+ * VSCSI_NO_DEVICE. */
+static inline enum vscsi_answer vscsi_owed(struct vscsi *device, uint32_t *queues) {
+  return device && queues ? (enum vscsi_answer)vscsi_raw_owed(device, queues) : VSCSI_NULL;
+}
+
+/* The device's status: 64, DEVICE_NEEDS_RESET (VIRTIO 1.2, 2.1), where a guest broke a queue, else 0. The host sets that
+ * bit in the status that the driver sees, and tells it by a configuration change notification.
+ * VSCSI_NO_DEVICE. */
+static inline enum vscsi_answer vscsi_status(struct vscsi *device, uint8_t *status) {
+  return device && status ? (enum vscsi_answer)vscsi_raw_status(device, status) : VSCSI_NULL;
+}
+
+/* What broke a queue: an `enum vscsi_broken`. A broken queue takes no more chains; other queues go on. Nothing mends it
+ * but a reset by the driver, for which the host destroys the device and makes another.
+ * VSCSI_NO_DEVICE; VSCSI_NO_QUEUE. */
+static inline enum vscsi_answer vscsi_broken(struct vscsi *device, uint16_t queue, uint32_t *fault) {
+  return device && fault ? (enum vscsi_answer)vscsi_raw_broken(device, queue, fault) : VSCSI_NULL;
+}
+
+/* How many chains a queue took, and how many of them it gave back. Modulo 2^16 these are a split queue's position in the
+ * available ring and its used index.
+ * VSCSI_NO_DEVICE; VSCSI_NO_QUEUE. */
+static inline enum vscsi_answer vscsi_progress(struct vscsi *device, uint16_t queue, uint64_t *accepted, uint64_t *used) {
+  return device && accepted && used ? (enum vscsi_answer)vscsi_raw_progress(device, queue, accepted, used) : VSCSI_NULL;
+}
+
+/* The operator's hard reset of a unit: its tasks end with response RESET, its next command is told (29/00), and an event
+ * goes to the event queue. vscsi_settle does what follows.
+ * VSCSI_NO_DEVICE; VSCSI_NO_UNIT; VSCSI_NO_MEMORY. */
+static inline enum vscsi_answer vscsi_reset(struct vscsi *device, uint8_t target, uint16_t lun) {
+  return device ? (enum vscsi_answer)vscsi_raw_reset(device, target, lun) : VSCSI_NULL;
+}
+
+/* How many blocks a unit has.
+ * VSCSI_NO_DEVICE; VSCSI_NO_UNIT. */
+static inline enum vscsi_answer vscsi_capacity(struct vscsi *device, uint8_t target, uint16_t lun, uint64_t *blocks) {
+  return device && blocks ? (enum vscsi_answer)vscsi_raw_capacity(device, target, lun, blocks) : VSCSI_NULL;
+}
+
+/* Copies blocks of a unit out, as its commands left them; `length` is `count` times 512.
+ * VSCSI_NO_DEVICE; VSCSI_BAD_LENGTH; VSCSI_NO_UNIT; VSCSI_OUTSIDE; VSCSI_NO_MEMORY. */
+static inline enum vscsi_answer vscsi_blocks(struct vscsi *device, uint8_t target, uint16_t lun, uint64_t first, uint32_t count, void *into,
+                                             size_t length) {
+  uint8_t nothing = 0;
+  if (!device || (!into && length)) return VSCSI_NULL;
+  if (vscsi_is_long(length, 1)) return VSCSI_BAD_LENGTH;
+  return (enum vscsi_answer)vscsi_raw_blocks(device, target, lun, first, count, into ? (uint8_t *)into : &nothing, length);
+}
+
+#ifdef __cplusplus
+}
+#endif
+
+#endif

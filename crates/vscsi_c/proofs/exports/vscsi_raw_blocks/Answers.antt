@@ -1,0 +1,4 @@
+use Rattle.vscsi_c.proofs.exports.vscsi_raw_blocks.Goals as goal
+
+pub returns : goal.returns
+returns c = record { answer = c.blocks-2.result; is = c.code.ensures; so = c.blocks-2.ensures }

@@ -1,0 +1,201 @@
+-- What the calls do: each what the device's own call of that name does, told by an answer.
+use Rattle.std.specs.Prelude.{ℕ, ◌≡◌, ◌≤◌, ◌<◌, ◌+◌, Bool, true, false, List, [], length, replicate, Option, Some, None, slice_get, Ok, Err}
+use Rattle.block_store.specs.Blocks.{run}
+use Rattle.block_store.specs.declared.NoMemory.{NoMemory}
+use Rattle.ring_core.specs.declared.fault.RingFault.{RingFault}
+use Rattle.ring_core.specs.declared.fault.RingFault.TheVariants as ring
+use Rattle.guest_mem.specs.Memory.{LiesIn, bytes_at}
+use Rattle.history.specs.Contents.{blocks_of, capacity_of}
+use Rattle.unit_history.specs.Unit.{PlainUnit}
+use Rattle.deeds.specs.World.{PlainQueue, PlainWorld, Opens}
+use Rattle.ring_core.specs.Writes.{Write}
+use Rattle.deeds.specs.Events.{Event}
+use Rattle.deeds.specs.Happens.{Reached, MayWant}
+use Rattle.deeds.specs.Turns.{Turns, IsStep}
+use Rattle.world.specs.Config.{is_config, IsOpening}
+use Rattle.world.specs.ConfigFault.{IsFault}
+use Rattle.world.specs.Settling.{ServesOrWants}
+use Rattle.world.specs.Promise.{SettlesAsPromised}
+use Rattle.world.specs.Views.{unit_at, IsPlaceOf, fault_of, device_status}
+use Rattle.world.specs.Notifications.{binary, owed_of, IsAsked}
+use Rattle.world.specs.declared.config.Config.{Config}
+use Rattle.world.specs.declared.config_fault.ConfigFault.{ConfigFault}
+use Rattle.world.specs.declared.config_fault.ConfigFault.TheVariants as config
+use Rattle.ring_core.specs.declared.layout.LayoutFault.{LayoutFault}
+use Rattle.ring_core.specs.declared.layout.LayoutFault.TheVariants as layout
+use Rattle.vscsi_c.specs.declared.wanted.Fault.{Fault}
+use Rattle.vscsi_c.specs.Wanted.{Asks}
+use Rattle.vscsi_c.specs.declared.answer.Answer.{Answer}
+use Rattle.vscsi_c.specs.declared.answer.Answer.TheVariants as answer
+use Rattle.vscsi_c.specs.declared.served.Served.{Served}
+use Rattle.vscsi_c.specs.declared.wanted.WantedQueue.{WantedQueue}
+use Rattle.vscsi_c.specs.declared.wanted.WantedUnit.{WantedUnit}
+
+-- where there is a device, this is done with it; else nothing is
+abbrev pub Serving : (Served → Answer → Served → Type 0) → Option Served → Answer → Option Served → Type 0
+Serving R None a after = (a ≡ answer.NoDevice) × (after ≡ None)
+Serving R (Some d) a after = (d' : Served) × (after ≡ Some d') × R d a d'
+
+-- as `World::settle`
+abbrev pub SettlesWorld : PlainWorld → ℕ → Answer → ℕ → PlainWorld → Type 0
+SettlesWorld w old answer.Done new w' = ServesOrWants w (Ok new) w' × SettlesAsPromised w (Ok new) w'
+SettlesWorld w old answer.NoMemory new w' =
+    (x : NoMemory) × ServesOrWants w (Err x) w' × SettlesAsPromised w (Err x) w' × (new ≡ old)
+SettlesWorld w old a new w' = ⊥
+
+abbrev pub Settles : ℕ → ℕ → Served → Answer → Served → Type 0
+Settles old new d a d' = SettlesWorld d.world old a new d'.world × (d'.told ≡ d.told)
+
+-- as `World::poke`
+abbrev pub PokesWorld : PlainWorld → Write → Answer → PlainWorld → Type 0
+PokesWorld w p answer.Done w' = Turns w (Event.Poke p) true w'
+PokesWorld w p answer.Outside w' = Turns w (Event.Poke p) false w'
+PokesWorld w p a w' = ⊥
+
+abbrev pub Pokes : Write → Served → Answer → Served → Type 0
+Pokes p d a d' = PokesWorld d.world p a d'.world × (d'.told ≡ d.told)
+
+-- as `GuestMem::read`
+abbrev pub PeeksAt : List ℕ → ℕ → List ℕ → Answer → List ℕ → Type 0
+PeeksAt m addr old answer.Done new = LiesIn (length m) addr (length old) × (new ≡ bytes_at m addr (length old))
+PeeksAt m addr old answer.Outside new = (LiesIn (length m) addr (length old) → ⊥) × (new ≡ old)
+PeeksAt m addr old a new = ⊥
+
+abbrev pub Peeks : ℕ → List ℕ → List ℕ → Served → Answer → Served → Type 0
+Peeks addr old new d a d' = PeeksAt d.world.memory addr old a new × (d' ≡ d)
+
+-- as `Notifications::owed`
+pub record Owes (bits : ℕ) (d : Served) (a : Answer) (d' : Served) : Type 0 where
+  pub done : a ≡ answer.Done
+  pub owed : bits ≡ binary (owed_of d.told d.world.queues)
+  pub asked : IsAsked d.told d.world.queues d'.told
+  pub same : d'.world ≡ d.world
+
+-- as `World::status`
+abbrev pub IsStatus : ℕ → Served → Answer → Served → Type 0
+IsStatus status d a d' = (a ≡ answer.Done) × (status ≡ device_status d.world) × (d' ≡ d)
+
+-- the number of a fault of a ring, and 0 for none
+abbrev pub number_of : Option RingFault → ℕ
+number_of None = 0
+number_of (Some ring.IndexJump) = 1
+number_of (Some ring.HeadOutOfRange) = 2
+number_of (Some ring.NextOutOfRange) = 3
+number_of (Some ring.ChainTooLong) = 4
+number_of (Some ring.BufferOutside) = 5
+number_of (Some ring.ReadableAfterWritable) = 6
+number_of (Some ring.AlreadyOutstanding) = 7
+number_of (Some ring.BadIndirect) = 8
+number_of (Some ring.RingOverrun) = 9
+number_of (Some ring.NoMemory) = 10
+
+-- as `World::broken`
+abbrev pub BrokenBy : List PlainQueue → ℕ → ℕ → Answer → ℕ → Type 0
+BrokenBy queues queue old answer.Done new = (queue < length queues) × (new ≡ number_of (fault_of (slice_get queues queue)))
+BrokenBy queues queue old answer.NoQueue new = (length queues ≤ queue) × (new ≡ old)
+BrokenBy queues queue old a new = ⊥
+
+abbrev pub Breaks : ℕ → ℕ → ℕ → Served → Answer → Served → Type 0
+Breaks queue old new d a d' = BrokenBy d.world.queues queue old a new × (d' ≡ d)
+
+-- as the counts of `World::log`
+abbrev pub StandsAt : Option PlainQueue → Answer → ℕ → ℕ → Type 0
+StandsAt (Some q) answer.Done accepted used = (accepted ≡ length q.ring.log.accepted) × (used ≡ length q.ring.log.used)
+StandsAt None answer.NoQueue accepted used = Unit {0}
+StandsAt q a accepted used = ⊥
+
+abbrev pub Stands : ℕ → ℕ → ℕ → Served → Answer → Served → Type 0
+Stands queue accepted used d a d' = StandsAt (slice_get d.world.queues queue) a accepted used × (d' ≡ d)
+
+-- as `World::step` of a hard reset of the unit of an address
+abbrev pub ResetsWorld : PlainWorld → ℕ → ℕ → Answer → PlainWorld → Type 0
+ResetsWorld w target lun answer.Done w' = (place : ℕ) × (changed : Bool) × IsPlaceOf w target lun (Some place) × IsStep w (Event.Hard place) changed w'
+ResetsWorld w target lun answer.NoMemory w' = (place : ℕ) × IsPlaceOf w target lun (Some place) × MayWant (Event.Hard place) w × (w' ≡ w)
+ResetsWorld w target lun answer.NoUnit w' = IsPlaceOf w target lun None × (w' ≡ w)
+ResetsWorld w target lun a w' = ⊥
+
+abbrev pub Resets : ℕ → ℕ → Served → Answer → Served → Type 0
+Resets target lun d a d' = ResetsWorld d.world target lun a d'.world × (d'.told ≡ d.told)
+
+-- as `World::capacity`
+abbrev pub HasCapacity : Option PlainUnit → Answer → ℕ → Type 0
+HasCapacity (Some u) answer.Done blocks = blocks ≡ capacity_of u.opening u.steps
+HasCapacity None answer.NoUnit blocks = Unit {0}
+HasCapacity u a blocks = ⊥
+
+abbrev pub Holds : ℕ → ℕ → ℕ → Served → Answer → Served → Type 0
+Holds target lun blocks d a d' = HasCapacity (unit_at d.world target lun) a blocks × (d' ≡ d)
+
+-- as `World::read_blocks`, into room of so many bytes
+abbrev pub GivesBlocks : Option PlainUnit → ℕ → ℕ → Answer → List ℕ → List ℕ → Type 0
+GivesBlocks (Some u) first count answer.Done old new =
+    (first + count ≤ capacity_of u.opening u.steps) × (new ≡ run (blocks_of u.steps) first count)
+GivesBlocks (Some u) first count answer.Outside old new = (capacity_of u.opening u.steps < first + count) × (new ≡ old)
+GivesBlocks None first count answer.NoUnit old new = new ≡ old
+GivesBlocks u first count answer.NoMemory old new = new ≡ old
+GivesBlocks u first count answer.BadLength old new = new ≡ old
+GivesBlocks u first count a old new = ⊥
+
+abbrev pub Gives : ℕ → ℕ → ℕ → ℕ → List ℕ → List ℕ → Served → Answer → Served → Type 0
+Gives target lun first count old new d a d' = GivesBlocks (unit_at d.world target lun) first count a old new × (d' ≡ d)
+
+-- the numbers of a cause: which, what it is of, and of a layout why
+pub record Cause : Type 0 where
+  pub cause : ℕ
+  pub place : ℕ
+  pub detail : ℕ
+
+abbrev pub layout_number : LayoutFault → ℕ
+layout_number layout.BadSize = 1
+layout_number layout.BadAlignment = 2
+layout_number layout.Outside = 3
+layout_number layout.NoMemory = 4
+
+abbrev pub cause_of : ConfigFault → Cause
+cause_of config.Pages = record { cause = 1; place = 0; detail = 0 }
+cause_of config.Features = record { cause = 2; place = 0; detail = 0 }
+cause_of config.QueueCount = record { cause = 3; place = 0; detail = 0 }
+cause_of (config.QueueSize k) = record { cause = 4; place = k; detail = 0 }
+cause_of (config.QueueLayout k why) = record { cause = 5; place = k; detail = layout_number why }
+cause_of config.Workers = record { cause = 6; place = 0; detail = 0 }
+cause_of config.Handoff = record { cause = 7; place = 0; detail = 0 }
+cause_of config.UnitCount = record { cause = 8; place = 0; detail = 0 }
+cause_of (config.UnitLun k) = record { cause = 9; place = k; detail = 0 }
+cause_of (config.UnitBlocks k) = record { cause = 10; place = k; detail = 0 }
+cause_of (config.UnitOrder k) = record { cause = 11; place = k; detail = 0 }
+cause_of (config.NoLun0 k) = record { cause = 12; place = k; detail = 0 }
+
+abbrev pub plain_cause : Fault → Cause
+plain_cause f = record { cause = f.cause; place = f.place; detail = f.detail }
+
+-- the device of a configuration that is taken, of which nobody was told anything
+pub record Makes (c : Config) (d : Served) : Type 0 where
+  pub taken : is_config c ≡ true
+  pub opening : IsOpening c d.world
+  pub opens : Opens d.world
+  pub reaches : Reached d.world [] d.world
+  pub told : d.told ≡ replicate 18 0
+
+-- why a configuration isn't taken
+pub record Refuses (c : Config) (told : Fault) : Type 0 where
+  pub refused : is_config c ≡ false
+  pub fault : ConfigFault
+  pub is : IsFault c fault
+  pub named : plain_cause told ≡ cause_of fault
+
+-- as `World::new`
+abbrev pub CreatesOf : ℕ → ℕ → List WantedQueue → List WantedUnit → Answer → Fault → Option Served → Type 0
+CreatesOf pages features queues units answer.Done told after =
+    (c : Config) × (d : Served) × Asks pages features queues units c × Makes c d × (after ≡ Some d)
+CreatesOf pages features queues units answer.BadConfig told after =
+    (c : Config) × Asks pages features queues units c × Refuses c told × (after ≡ None)
+CreatesOf pages features queues units answer.NoMemory told after = after ≡ None
+CreatesOf pages features queues units a told after = ⊥
+
+abbrev pub Creates : ℕ → ℕ → List WantedQueue → List WantedUnit → Fault → Option Served → Answer → Option Served → Type 0
+Creates pages features queues units told None a after = CreatesOf pages features queues units a told after
+Creates pages features queues units told (Some d) a after = (a ≡ answer.InUse) × (after ≡ Some d)
+
+abbrev pub Destroys : Option Served → Answer → Option Served → Type 0
+Destroys None a after = (a ≡ answer.NoDevice) × (after ≡ None)
+Destroys (Some d) a after = (a ≡ answer.Done) × (after ≡ None)

@@ -1,0 +1,5 @@
+pub mod Held
+pub mod Answers
+pub mod Wanted
+pub mod Calls
+pub mod Kept

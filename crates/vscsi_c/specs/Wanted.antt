@@ -1,0 +1,22 @@
+-- The configuration that C asks for.
+use Rattle.std.specs.Prelude.{ℕ, ◌≡◌, ◌==◌, not, List, map}
+use Rattle.ring_core.specs.declared.layout.Layout.{Layout}
+use Rattle.decisions.specs.declared.inventory.UnitSpec.{UnitSpec}
+use Rattle.world.specs.declared.config.Config.{Config}
+use Rattle.vscsi_c.specs.declared.wanted.WantedQueue.{WantedQueue}
+use Rattle.vscsi_c.specs.declared.wanted.WantedUnit.{WantedUnit}
+
+abbrev pub layout_of : WantedQueue → Layout
+layout_of q = record { size = q.size; desc = q.desc; driver = q.driver; device = q.device }
+
+abbrev pub unit_of : WantedUnit → UnitSpec
+unit_of u = record { target = u.target; lun = u.lun; blocks = u.blocks; calm = not (u.calm == 0) }
+
+-- one worker, with room for 64 jobs
+pub record Asks (pages features : ℕ) (queues : List WantedQueue) (units : List WantedUnit) (c : Config) : Type 0 where
+  pub pages_are : c.pages ≡ pages
+  pub features_are : c.features ≡ features
+  pub queues_are : c.queues.items ≡ map layout_of queues
+  pub workers : c.workers ≡ 1
+  pub handoff : c.handoff ≡ 64
+  pub units_are : c.units.items ≡ map unit_of units

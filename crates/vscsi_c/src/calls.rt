@@ -1,0 +1,209 @@
+//! The calls: each takes the device out of where C keeps it, does one thing with it, and puts it back.
+
+ghost use Rattle.std.specs.Prelude.{◌≡◌};
+ghost use Rattle.vscsi_c.specs.Kept.{kept_in};
+ghost use Rattle.vscsi_c.specs.Calls.{Serving, Settles, Pokes, Peeks, Owes, IsStatus, Breaks, Stands, Resets, Holds, Gives, Creates, Destroys};
+
+use crate::answer::Answer;
+use crate::device::Device;
+use crate::served::Served;
+use crate::wanted::{Fault, WantedQueue, WantedUnit, config_of, fault_of};
+use std::alloc::Global;
+use world::{Notifications, World};
+
+/// Makes a device where there is none.
+pub(crate) fn create(
+    device: &mut Device,
+    alloc: Global,
+    pages: u32,
+    features: u64,
+    queues: &[WantedQueue],
+    units: &[WantedUnit],
+    fault: &mut Fault,
+) -> Answer
+    ensures { Creates pages features queues.now units.now fault.new (kept_in device.old) result (kept_in device.new) }
+{
+    if let Some(served) = device.take(alloc) {
+        device.put(served);
+        return Answer::InUse;
+    }
+    let Ok(config) = config_of(alloc, pages, features, queues, units) else {
+        return Answer::NoMemory;
+    };
+    if let Some(cause) = config.fault() {
+        *fault = fault_of(cause);
+        return Answer::BadConfig;
+    }
+    let Ok(world) = World::new(alloc, &config) else {
+        return Answer::NoMemory;
+    };
+    let told = Notifications::new();
+    let Ok(served) = Box::new(alloc, Served { world, told }) else {
+        return Answer::NoMemory;
+    };
+    device.put(served);
+    Answer::Done
+}
+
+/// Lets go of a device and of all its memory.
+pub(crate) fn destroy(device: &mut Device, alloc: Global) -> Answer
+    ensures { Destroys (kept_in device.old) result (kept_in device.new) }
+{
+    match device.take(alloc) {
+        Some(served) => {
+            drop(served);
+            Answer::Done
+        }
+        None => Answer::NoDevice,
+    }
+}
+
+/// Serves what there is, and says in how many steps.
+#[tactic(auto, using(crate::proofs::Serve::serving, crate::proofs::Serve::without))]
+pub(crate) fn settle(device: &mut Device, alloc: Global, steps: &mut u64) -> Answer
+    ensures { Serving (Settles steps.old steps.new) (kept_in device.old) result (kept_in device.new) }
+{
+    let Some(mut served) = device.take(alloc) else {
+        return Answer::NoDevice;
+    };
+    let answer = served.settle(steps);
+    device.put(served);
+    answer
+}
+
+/// The guest's write.
+#[tactic(auto, using(crate::proofs::Serve::serving, crate::proofs::Serve::without))]
+pub(crate) fn poke(device: &mut Device, alloc: Global, addr: u64, bytes: &[u8]) -> Answer
+    ensures { Serving (Pokes (record { addr = addr; bytes = bytes.now })) (kept_in device.old) result (kept_in device.new) }
+{
+    let Some(mut served) = device.take(alloc) else {
+        return Answer::NoDevice;
+    };
+    let answer = served.poke(addr, bytes);
+    device.put(served);
+    answer
+}
+
+/// Reads guest memory.
+#[tactic(auto, using(crate::proofs::Serve::serving, crate::proofs::Serve::without))]
+pub(crate) fn peek(device: &mut Device, alloc: Global, addr: u64, into: &mut [u8]) -> Answer
+    ensures { Serving (Peeks addr into.old into.new) (kept_in device.old) result (kept_in device.new) }
+{
+    let Some(mut served) = device.take(alloc) else {
+        return Answer::NoDevice;
+    };
+    let answer = served.peek(addr, into);
+    device.put(served);
+    answer
+}
+
+/// Whose drivers are owed a notification since this was last asked.
+#[tactic(auto, using(crate::proofs::Serve::serving, crate::proofs::Serve::without))]
+pub(crate) fn owed(device: &mut Device, alloc: Global, queues: &mut u32) -> Answer
+    ensures { Serving (Owes queues.new) (kept_in device.old) result (kept_in device.new) }
+{
+    let Some(mut served) = device.take(alloc) else {
+        return Answer::NoDevice;
+    };
+    let answer = served.owed(queues);
+    device.put(served);
+    answer
+}
+
+/// The device's status.
+#[tactic(auto, using(crate::proofs::Serve::serving, crate::proofs::Serve::without))]
+pub(crate) fn status(device: &mut Device, alloc: Global, status: &mut u8) -> Answer
+    ensures { Serving (IsStatus status.new) (kept_in device.old) result (kept_in device.new) }
+{
+    let Some(mut served) = device.take(alloc) else {
+        return Answer::NoDevice;
+    };
+    let answer = served.status(status);
+    device.put(served);
+    answer
+}
+
+/// What broke a queue.
+#[tactic(auto, using(crate::proofs::Serve::serving, crate::proofs::Serve::without))]
+pub(crate) fn broken(device: &mut Device, alloc: Global, queue: u16, fault: &mut u32) -> Answer
+    ensures { Serving (Breaks queue fault.old fault.new) (kept_in device.old) result (kept_in device.new) }
+{
+    let Some(mut served) = device.take(alloc) else {
+        return Answer::NoDevice;
+    };
+    let answer = served.broken(queue, fault);
+    device.put(served);
+    answer
+}
+
+/// How many chains a queue accepted, and how many of them were used.
+#[tactic(auto, using(crate::proofs::Serve::serving, crate::proofs::Serve::without))]
+pub(crate) fn progress(
+    device: &mut Device,
+    alloc: Global,
+    queue: u16,
+    accepted: &mut u64,
+    used: &mut u64,
+) -> Answer
+    ensures { Serving (Stands queue accepted.new used.new) (kept_in device.old) result (kept_in device.new) }
+{
+    let Some(mut served) = device.take(alloc) else {
+        return Answer::NoDevice;
+    };
+    let answer = served.progress(queue, accepted, used);
+    device.put(served);
+    answer
+}
+
+/// The operator's hard reset of a unit.
+#[tactic(auto, using(crate::proofs::Serve::serving, crate::proofs::Serve::without))]
+pub(crate) fn reset(device: &mut Device, alloc: Global, target: u8, lun: u16) -> Answer
+    ensures { Serving (Resets target lun) (kept_in device.old) result (kept_in device.new) }
+{
+    let Some(mut served) = device.take(alloc) else {
+        return Answer::NoDevice;
+    };
+    let answer = served.reset(target, lun);
+    device.put(served);
+    answer
+}
+
+/// How many blocks a unit has.
+#[tactic(auto, using(crate::proofs::Serve::serving, crate::proofs::Serve::without))]
+pub(crate) fn capacity(
+    device: &mut Device,
+    alloc: Global,
+    target: u8,
+    lun: u16,
+    blocks: &mut u64,
+) -> Answer
+    ensures { Serving (Holds target lun blocks.new) (kept_in device.old) result (kept_in device.new) }
+{
+    let Some(mut served) = device.take(alloc) else {
+        return Answer::NoDevice;
+    };
+    let answer = served.capacity(target, lun, blocks);
+    device.put(served);
+    answer
+}
+
+/// Reads blocks of a unit, as its commands left them.
+#[tactic(auto, using(crate::proofs::Serve::serving, crate::proofs::Serve::without))]
+pub(crate) fn blocks(
+    device: &mut Device,
+    alloc: Global,
+    target: u8,
+    lun: u16,
+    first: u64,
+    count: u32,
+    into: &mut [u8],
+) -> Answer
+    ensures { Serving (Gives target lun first count into.old into.new) (kept_in device.old) result (kept_in device.new) }
+{
+    let Some(mut served) = device.take(alloc) else {
+        return Answer::NoDevice;
+    };
+    let answer = served.blocks(alloc, target, lun, first, count, into);
+    device.put(served);
+    answer
+}

@@ -1,0 +1,145 @@
+//! What C calls: each export is one call, and its answer's number. The header says what C owes for each: a `Device` that C
+//! made of zeros or that a call left, and room where a call writes.
+
+ghost use Rattle.vscsi_c.specs.Answers.{Tells};
+ghost use Rattle.vscsi_c.specs.Kept.{kept_in};
+ghost use Rattle.vscsi_c.specs.Calls.{Serving, Settles, Pokes, Peeks, Owes, IsStatus, Breaks, Stands, Resets, Holds, Gives, Creates, Destroys};
+
+use crate::calls;
+use crate::device::Device;
+use crate::wanted::{Fault, WantedQueue, WantedUnit};
+use std::alloc::Global;
+
+/// Makes a device where there is none.
+#[unsafe(no_mangle)]
+pub extern "C" fn vscsi_raw_create(
+    device: &mut Device,
+    alloc: Global,
+    pages: u32,
+    features: u64,
+    queues: &[WantedQueue],
+    units: &[WantedUnit],
+    fault: &mut Fault,
+) -> u32
+    ensures { Tells result (λ a. Creates pages features queues.now units.now fault.new (kept_in device.old) a (kept_in device.new)) }
+{
+    calls::create(device, alloc, pages, features, queues, units, fault).code()
+}
+
+/// Lets go of a device and of all its memory.
+#[unsafe(no_mangle)]
+pub extern "C" fn vscsi_raw_destroy(device: &mut Device, alloc: Global) -> u32
+    ensures { Tells result (λ a. Destroys (kept_in device.old) a (kept_in device.new)) }
+{
+    calls::destroy(device, alloc).code()
+}
+
+/// Serves what there is, and says in how many steps.
+#[unsafe(no_mangle)]
+pub extern "C" fn vscsi_raw_settle(device: &mut Device, alloc: Global, steps: &mut u64) -> u32
+    ensures { Tells result (λ a. Serving (Settles steps.old steps.new) (kept_in device.old) a (kept_in device.new)) }
+{
+    calls::settle(device, alloc, steps).code()
+}
+
+/// The guest's write.
+#[unsafe(no_mangle)]
+pub extern "C" fn vscsi_raw_poke(device: &mut Device, alloc: Global, addr: u64, bytes: &[u8]) -> u32
+    ensures { Tells result (λ a. Serving (Pokes (record { addr = addr; bytes = bytes.now })) (kept_in device.old) a (kept_in device.new)) }
+{
+    calls::poke(device, alloc, addr, bytes).code()
+}
+
+/// Reads guest memory.
+#[unsafe(no_mangle)]
+pub extern "C" fn vscsi_raw_peek(
+    device: &mut Device,
+    alloc: Global,
+    addr: u64,
+    into: &mut [u8],
+) -> u32
+    ensures { Tells result (λ a. Serving (Peeks addr into.old into.new) (kept_in device.old) a (kept_in device.new)) }
+{
+    calls::peek(device, alloc, addr, into).code()
+}
+
+/// Whose drivers are owed a notification since this was last asked.
+#[unsafe(no_mangle)]
+pub extern "C" fn vscsi_raw_owed(device: &mut Device, alloc: Global, queues: &mut u32) -> u32
+    ensures { Tells result (λ a. Serving (Owes queues.new) (kept_in device.old) a (kept_in device.new)) }
+{
+    calls::owed(device, alloc, queues).code()
+}
+
+/// The device's status.
+#[unsafe(no_mangle)]
+pub extern "C" fn vscsi_raw_status(device: &mut Device, alloc: Global, status: &mut u8) -> u32
+    ensures { Tells result (λ a. Serving (IsStatus status.new) (kept_in device.old) a (kept_in device.new)) }
+{
+    calls::status(device, alloc, status).code()
+}
+
+/// What broke a queue.
+#[unsafe(no_mangle)]
+pub extern "C" fn vscsi_raw_broken(
+    device: &mut Device,
+    alloc: Global,
+    queue: u16,
+    fault: &mut u32,
+) -> u32
+    ensures { Tells result (λ a. Serving (Breaks queue fault.old fault.new) (kept_in device.old) a (kept_in device.new)) }
+{
+    calls::broken(device, alloc, queue, fault).code()
+}
+
+/// How many chains a queue accepted, and how many of them were used.
+#[unsafe(no_mangle)]
+pub extern "C" fn vscsi_raw_progress(
+    device: &mut Device,
+    alloc: Global,
+    queue: u16,
+    accepted: &mut u64,
+    used: &mut u64,
+) -> u32
+    ensures { Tells result (λ a. Serving (Stands queue accepted.new used.new) (kept_in device.old) a (kept_in device.new)) }
+{
+    calls::progress(device, alloc, queue, accepted, used).code()
+}
+
+/// The operator's hard reset of a unit.
+#[unsafe(no_mangle)]
+pub extern "C" fn vscsi_raw_reset(device: &mut Device, alloc: Global, target: u8, lun: u16) -> u32
+    ensures { Tells result (λ a. Serving (Resets target lun) (kept_in device.old) a (kept_in device.new)) }
+{
+    calls::reset(device, alloc, target, lun).code()
+}
+
+/// How many blocks a unit has.
+#[unsafe(no_mangle)]
+pub extern "C" fn vscsi_raw_capacity(
+    device: &mut Device,
+    alloc: Global,
+    target: u8,
+    lun: u16,
+    blocks: &mut u64,
+) -> u32
+    ensures { Tells result (λ a. Serving (Holds target lun blocks.new) (kept_in device.old) a (kept_in device.new)) }
+{
+    calls::capacity(device, alloc, target, lun, blocks).code()
+}
+
+/// Reads blocks of a unit, as its commands left them.
+#[unsafe(no_mangle)]
+pub extern "C" fn vscsi_raw_blocks(
+    device: &mut Device,
+    alloc: Global,
+    target: u8,
+    lun: u16,
+    first: u64,
+    count: u32,
+    into: &mut [u8],
+) -> u32
+    ensures { Tells result (λ a. Serving (Gives target lun first count into.old into.new) (kept_in device.old) a (kept_in device.new)) }
+{
+    calls::blocks(device, alloc, target, lun, first, count, into).code()
+}

@@ -1,0 +1,173 @@
+//! What each call does with a device.
+
+ghost use Rattle.std.specs.Prelude.{◌≡◌};
+ghost use Rattle.vscsi_c.specs.Calls.{Settles, Pokes, Peeks, Owes, IsStatus, Breaks, Stands, Resets, Holds, Gives, number_of};
+
+use crate::answer::Answer;
+use deeds::Event;
+use std::alloc::Global;
+use world::{Notifications, RingFault, World};
+
+/// A device, and what its host was told of it.
+#[derive(Drop)]
+pub(crate) struct Served {
+    pub(crate) world: World,
+    pub(crate) told: Notifications,
+}
+
+/// The number of what broke a queue; 0 for nothing.
+fn number_of_fault(fault: Option<RingFault>) -> u32
+    ensures { result ≡ number_of fault }
+{
+    match fault {
+        None => 0,
+        Some(RingFault::IndexJump) => 1,
+        Some(RingFault::HeadOutOfRange) => 2,
+        Some(RingFault::NextOutOfRange) => 3,
+        Some(RingFault::ChainTooLong) => 4,
+        Some(RingFault::BufferOutside) => 5,
+        Some(RingFault::ReadableAfterWritable) => 6,
+        Some(RingFault::AlreadyOutstanding) => 7,
+        Some(RingFault::BadIndirect) => 8,
+        Some(RingFault::RingOverrun) => 9,
+        Some(RingFault::NoMemory) => 10,
+    }
+}
+
+impl Served {
+    /// Serves what there is, and says in how many steps.
+    pub(crate) fn settle(&mut self, steps: &mut u64) -> Answer
+        ensures { Settles steps.old steps.new self.old result self.new }
+    {
+        match self.world.settle() {
+            Ok(count) => {
+                *steps = count;
+                Answer::Done
+            }
+            Err(_) => Answer::NoMemory,
+        }
+    }
+
+    /// The guest's write.
+    pub(crate) fn poke(&mut self, addr: u64, bytes: &[u8]) -> Answer
+        ensures { Pokes (record { addr = addr; bytes = bytes.now }) self.old result self.new }
+    {
+        if self.world.poke(addr, bytes) {
+            Answer::Done
+        } else {
+            Answer::Outside
+        }
+    }
+
+    /// Reads guest memory.
+    pub(crate) fn peek(&mut self, addr: u64, into: &mut [u8]) -> Answer
+        ensures { Peeks addr into.old into.new self.old result self.new }
+    {
+        match self.world.memory().read(addr, into) {
+            Ok(()) => Answer::Done,
+            Err(_) => Answer::Outside,
+        }
+    }
+
+    /// Whose drivers are owed a notification since this was last asked.
+    pub(crate) fn owed(&mut self, queues: &mut u32) -> Answer
+        ensures { Owes queues.new self.old result self.new }
+    {
+        *queues = self.told.owed(&self.world);
+        Answer::Done
+    }
+
+    /// The device's status.
+    pub(crate) fn status(&mut self, status: &mut u8) -> Answer
+        ensures { IsStatus status.new self.old result self.new }
+    {
+        *status = self.world.status();
+        Answer::Done
+    }
+
+    /// What broke a queue.
+    pub(crate) fn broken(&mut self, queue: u16, fault: &mut u32) -> Answer
+        ensures { Breaks queue fault.old fault.new self.old result self.new }
+    {
+        if queue as usize >= self.world.queues() {
+            return Answer::NoQueue;
+        }
+        *fault = number_of_fault(self.world.broken(queue));
+        Answer::Done
+    }
+
+    /// How many chains a queue accepted, and how many of them were used.
+    pub(crate) fn progress(&mut self, queue: u16, accepted: &mut u64, used: &mut u64) -> Answer
+        ensures { Stands queue accepted.new used.new self.old result self.new }
+    {
+        match self.world.log(queue) {
+            Some(log) => {
+                *accepted = log.accepted();
+                *used = log.used();
+                Answer::Done
+            }
+            None => Answer::NoQueue,
+        }
+    }
+
+    /// The operator's hard reset of a unit.
+    pub(crate) fn reset(&mut self, target: u8, lun: u16) -> Answer
+        ensures { Resets target lun self.old result self.new }
+    {
+        let Some(place) = self.world.place(target, lun) else {
+            return Answer::NoUnit;
+        };
+        match self.world.step(Event::Hard(place)) {
+            Ok(_) => Answer::Done,
+            Err(_) => Answer::NoMemory,
+        }
+    }
+
+    /// How many blocks a unit has.
+    pub(crate) fn capacity(&mut self, target: u8, lun: u16, blocks: &mut u64) -> Answer
+        ensures { Holds target lun blocks.new self.old result self.new }
+    {
+        match self.world.capacity(target, lun) {
+            Some(capacity) => {
+                *blocks = capacity;
+                Answer::Done
+            }
+            None => Answer::NoUnit,
+        }
+    }
+
+    /// Reads blocks of a unit, as its commands left them.
+    pub(crate) fn blocks(
+        &mut self,
+        alloc: Global,
+        target: u8,
+        lun: u16,
+        first: u64,
+        count: u32,
+        into: &mut [u8],
+    ) -> Answer
+        ensures { Gives target lun first count into.old into.new self.old result self.new }
+    {
+        if into.len() as u64 != count as u64 * 512 {
+            return Answer::BadLength;
+        }
+        if self.world.capacity(target, lun).is_none() {
+            return Answer::NoUnit;
+        }
+        let mut bytes = Vec::new(alloc);
+        match self
+            .world
+            .read_blocks(target, lun, first, count, &mut bytes)
+        {
+            Ok(true) => {
+                if bytes.len() != into.len() {
+                    return Answer::BadLength;
+                }
+                into.copy_from_slice(bytes.as_slice());
+                Answer::Done
+            }
+            Ok(false) => Answer::Outside,
+            Err(_) => Answer::NoMemory,
+        }
+    }
+}

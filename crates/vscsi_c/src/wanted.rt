@@ -1,0 +1,152 @@
+//! The device that C wants.
+
+ghost use Rattle.std.specs.Prelude.{◌≡◌, map, IfOk};
+ghost use Rattle.vscsi_c.specs.Wanted.{layout_of, unit_of, Asks};
+ghost use Rattle.vscsi_c.specs.Calls.{layout_number as number_of_layout, cause_of, plain_cause};
+
+use decisions::UnitSpec;
+use std::alloc::{AllocError, Global};
+use world::{Config, ConfigFault, Layout, LayoutFault};
+
+/// One thread serves, so there is one worker.
+const WORKERS: u16 = 1;
+
+/// How many jobs stand between a seat and the worker.
+const HANDOFF: u16 = 64;
+
+/// Where a queue lies: the header's `struct vscsi_queue`.
+#[repr(C)]
+#[derive(Clone, Copy)]
+pub struct WantedQueue {
+    pub desc: u64,
+    pub driver: u64,
+    pub device: u64,
+    pub size: u16,
+}
+
+impl WantedQueue {
+    /// As a layout.
+    fn layout(&self) -> Layout
+        ensures { result ≡ layout_of self.now }
+    {
+        Layout {
+            size: self.size,
+            desc: self.desc,
+            driver: self.driver,
+            device: self.device,
+        }
+    }
+}
+
+/// A unit that is wanted: the header's `struct vscsi_unit`.
+#[repr(C)]
+#[derive(Clone, Copy)]
+pub struct WantedUnit {
+    pub blocks: u64,
+    pub lun: u16,
+    pub target: u8,
+    /// 0: the unit begins with POWER ON, RESET, OR BUS DEVICE RESET OCCURRED pending.
+    pub calm: u8,
+}
+
+impl WantedUnit {
+    /// As a specification.
+    fn spec(&self) -> UnitSpec
+        ensures { result ≡ unit_of self.now }
+    {
+        UnitSpec {
+            target: self.target,
+            lun: self.lun,
+            blocks: self.blocks,
+            calm: self.calm != 0,
+        }
+    }
+}
+
+/// Why a configuration isn't taken: the header's `struct vscsi_fault`.
+#[repr(C)]
+#[derive(Clone, Copy)]
+pub struct Fault {
+    pub place: u64,
+    pub cause: u32,
+    pub detail: u32,
+}
+
+/// The number of what a ring says of a layout.
+fn layout_number(fault: LayoutFault) -> u32
+    ensures { result ≡ number_of_layout fault }
+{
+    match fault {
+        LayoutFault::BadSize => 1,
+        LayoutFault::BadAlignment => 2,
+        LayoutFault::Outside => 3,
+        LayoutFault::NoMemory => 4,
+    }
+}
+
+/// A cause in numbers.
+fn cause(cause: u32, place: usize, detail: u32) -> Fault
+    ensures { plain_cause result ≡ record { cause = cause; place = place; detail = detail } }
+{
+    Fault {
+        place: place as u64,
+        cause,
+        detail,
+    }
+}
+
+/// Why a configuration isn't taken, in numbers.
+pub(crate) fn fault_of(fault: ConfigFault) -> Fault
+    ensures { plain_cause result ≡ cause_of fault }
+{
+    match fault {
+        ConfigFault::Pages => cause(1, 0, 0),
+        ConfigFault::Features => cause(2, 0, 0),
+        ConfigFault::QueueCount => cause(3, 0, 0),
+        ConfigFault::QueueSize(place) => cause(4, place, 0),
+        ConfigFault::QueueLayout(place, why) => cause(5, place, layout_number(why)),
+        ConfigFault::Workers => cause(6, 0, 0),
+        ConfigFault::Handoff => cause(7, 0, 0),
+        ConfigFault::UnitCount => cause(8, 0, 0),
+        ConfigFault::UnitLun(place) => cause(9, place, 0),
+        ConfigFault::UnitBlocks(place) => cause(10, place, 0),
+        ConfigFault::UnitOrder(place) => cause(11, place, 0),
+        ConfigFault::NoLun0(place) => cause(12, place, 0),
+    }
+}
+
+/// The layouts of queues.
+fn layouts_of(alloc: Global, queues: &[WantedQueue]) -> Result<Vec<Layout>, AllocError>
+    ensures { IfOk result (λ layouts. layouts.items ≡ map layout_of queues.now) }
+{
+    queues.iter().map(|queue| queue.layout()).collect(alloc)
+}
+
+/// The specifications of units.
+fn specs_of(alloc: Global, units: &[WantedUnit]) -> Result<Vec<UnitSpec>, AllocError>
+    ensures { IfOk result (λ specs. specs.items ≡ map unit_of units.now) }
+{
+    units.iter().map(|unit| unit.spec()).collect(alloc)
+}
+
+/// The configuration that is asked for.
+pub(crate) fn config_of(
+    alloc: Global,
+    pages: u32,
+    features: u64,
+    queues: &[WantedQueue],
+    units: &[WantedUnit],
+) -> Result<Config, AllocError>
+    ensures { IfOk result (λ c. Asks pages features queues.now units.now c) }
+{
+    let layouts = layouts_of(alloc, queues)?;
+    let specs = specs_of(alloc, units)?;
+    Ok(Config {
+        pages,
+        features,
+        queues: layouts,
+        workers: WORKERS,
+        handoff: HANDOFF,
+        units: specs,
+    })
+}

@@ -1,0 +1,231 @@
+// What each call answers where it can't do what it was asked for, and that it then left the rest alone.
+#include <stdio.h>
+#include <stdlib.h>
+#include <string.h>
+
+#include "vscsi.h"
+
+enum { QUEUES = 3, SIZE = 8, PAGES = 16 };
+
+static unsigned tests;
+
+// One test, by its line.
+#define IS(found, wanted) check(__LINE__, (long long)(found), (long long)(wanted))
+
+static void check(int line, long long found, long long wanted) {
+  tests++;
+  if (found == wanted) return;
+  fprintf(stderr, "errors.c:%d: %lld, not %lld\n", line, found, wanted);
+  exit(1);
+}
+
+static struct vscsi_queue queues[QUEUES];
+static struct vscsi_unit units[2];
+static struct vscsi_config config;
+
+static uint64_t area(unsigned queue) { return 0x1000 * (queue + 1); }
+
+// A configuration that the device takes.
+static void begin(void) {
+  for (unsigned q = 0; q < QUEUES; q++)
+    queues[q] = (struct vscsi_queue){.desc = area(q), .driver = area(q) + 0x400, .device = area(q) + 0x800, .size = SIZE};
+  units[0] = (struct vscsi_unit){.blocks = 1000, .calm = 1};
+  units[1] = (struct vscsi_unit){.blocks = 1, .target = 4};
+  config = (struct vscsi_config){
+      .features = VSCSI_F_VERSION_1, .queues = queues, .queue_count = QUEUES, .units = units, .unit_count = 2, .pages = PAGES};
+}
+
+// That the configuration as it is now is refused for this cause.
+static void refused(int line, uint32_t cause, uint64_t place, uint32_t detail) {
+  struct vscsi device = {0};
+  struct vscsi_fault fault = {77, 77, 77};
+  check(line, vscsi_create(&device, &config, &fault), VSCSI_BAD_CONFIG);
+  check(line, fault.cause, cause);
+  check(line, (long long)fault.place, (long long)place);
+  check(line, fault.detail, detail);
+  check(line, vscsi_destroy(&device), VSCSI_NO_DEVICE);
+  begin();
+}
+
+static void causes(void) {
+  begin();
+  config.pages = 0, refused(__LINE__, VSCSI_PAGES, 0, 0);
+  config.pages = 65537, refused(__LINE__, VSCSI_PAGES, 0, 0);
+  config.features = VSCSI_F_RING_PACKED, refused(__LINE__, VSCSI_BAD_FEATURES, 0, 0);
+  config.features = VSCSI_FEATURES | 1, refused(__LINE__, VSCSI_BAD_FEATURES, 0, 0);
+  config.queue_count = 2, refused(__LINE__, VSCSI_QUEUE_COUNT, 0, 0);
+  config.queues = 0, config.queue_count = 0, refused(__LINE__, VSCSI_QUEUE_COUNT, 0, 0);
+  queues[1].size = 1, queues[2].size = 1, refused(__LINE__, VSCSI_QUEUE_SIZE, 1, 0);
+  queues[2].size = 2048, refused(__LINE__, VSCSI_QUEUE_SIZE, 2, 0);
+  queues[0].size = 6, refused(__LINE__, VSCSI_QUEUE_LAYOUT, 0, VSCSI_SIZE);
+  queues[1].desc += 8, refused(__LINE__, VSCSI_QUEUE_LAYOUT, 1, VSCSI_ALIGNMENT);
+  queues[2].device = PAGES * VSCSI_PAGE - 64, refused(__LINE__, VSCSI_QUEUE_LAYOUT, 2, VSCSI_AREA);
+  config.unit_count = 0, refused(__LINE__, VSCSI_UNIT_COUNT, 0, 0);
+  units[1].lun = 16384, refused(__LINE__, VSCSI_UNIT_LUN, 1, 0);
+  units[0].blocks = 0, units[1].blocks = 0, refused(__LINE__, VSCSI_UNIT_BLOCKS, 0, 0);
+  units[1].blocks = 131073, refused(__LINE__, VSCSI_UNIT_BLOCKS, 1, 0);
+  units[1].target = 0, refused(__LINE__, VSCSI_UNIT_ORDER, 1, 0);
+  units[1].lun = 1, refused(__LINE__, VSCSI_NO_LUN_0, 1, 0);
+}
+
+static void nulls(void) {
+  struct vscsi device = {0};
+  struct vscsi_fault fault;
+  uint64_t n = 5;
+  uint32_t bits = 5;
+  uint8_t byte = 5;
+  begin();
+  IS(vscsi_create(0, &config, &fault), VSCSI_NULL);
+  IS(vscsi_create(&device, 0, &fault), VSCSI_NULL);
+  IS(vscsi_create(&device, &config, 0), VSCSI_NULL);
+  config.queues = 0, IS(vscsi_create(&device, &config, &fault), VSCSI_NULL);
+  begin(), config.units = 0, IS(vscsi_create(&device, &config, &fault), VSCSI_NULL);
+  begin(), config.unit_count = (size_t)-1, IS(vscsi_create(&device, &config, &fault), VSCSI_BAD_LENGTH);
+  IS(vscsi_destroy(0), VSCSI_NULL);
+  IS(vscsi_settle(0, &n), VSCSI_NULL);
+  IS(vscsi_settle(&device, 0), VSCSI_NULL);
+  IS(vscsi_poke(0, 0, &byte, 1), VSCSI_NULL);
+  IS(vscsi_poke(&device, 0, 0, 1), VSCSI_NULL);
+  IS(vscsi_peek(0, 0, &byte, 1), VSCSI_NULL);
+  IS(vscsi_peek(&device, 0, 0, 1), VSCSI_NULL);
+  IS(vscsi_owed(0, &bits), VSCSI_NULL);
+  IS(vscsi_owed(&device, 0), VSCSI_NULL);
+  IS(vscsi_status(0, &byte), VSCSI_NULL);
+  IS(vscsi_status(&device, 0), VSCSI_NULL);
+  IS(vscsi_broken(0, 0, &bits), VSCSI_NULL);
+  IS(vscsi_broken(&device, 0, 0), VSCSI_NULL);
+  IS(vscsi_progress(0, 0, &n, &n), VSCSI_NULL);
+  IS(vscsi_progress(&device, 0, 0, &n), VSCSI_NULL);
+  IS(vscsi_progress(&device, 0, &n, 0), VSCSI_NULL);
+  IS(vscsi_reset(0, 0, 0), VSCSI_NULL);
+  IS(vscsi_capacity(0, 0, 0, &n), VSCSI_NULL);
+  IS(vscsi_capacity(&device, 0, 0, 0), VSCSI_NULL);
+  IS(vscsi_blocks(0, 0, 0, 0, 0, &byte, 0), VSCSI_NULL);
+  IS(vscsi_blocks(&device, 0, 0, 0, 1, 0, 512), VSCSI_NULL);
+  IS(n, 5);
+  IS(bits, 5);
+  IS(byte, 5);
+}
+
+static void no_device(void) {
+  struct vscsi device = {0};
+  uint64_t n = 5;
+  uint32_t bits = 5;
+  uint8_t bytes[512] = {5};
+  IS(vscsi_destroy(&device), VSCSI_NO_DEVICE);
+  IS(vscsi_settle(&device, &n), VSCSI_NO_DEVICE);
+  IS(vscsi_poke(&device, 0, bytes, 1), VSCSI_NO_DEVICE);
+  IS(vscsi_peek(&device, 0, bytes, 1), VSCSI_NO_DEVICE);
+  IS(vscsi_owed(&device, &bits), VSCSI_NO_DEVICE);
+  IS(vscsi_status(&device, bytes), VSCSI_NO_DEVICE);
+  IS(vscsi_broken(&device, 0, &bits), VSCSI_NO_DEVICE);
+  IS(vscsi_progress(&device, 0, &n, &n), VSCSI_NO_DEVICE);
+  IS(vscsi_reset(&device, 0, 0), VSCSI_NO_DEVICE);
+  IS(vscsi_capacity(&device, 0, 0, &n), VSCSI_NO_DEVICE);
+  IS(vscsi_blocks(&device, 0, 0, 0, 1, bytes, 512), VSCSI_NO_DEVICE);
+  IS(n, 5);
+  IS(bits, 5);
+  IS(bytes[0], 5);
+}
+
+static void calls(struct vscsi *device) {
+  static uint8_t whole[PAGES * VSCSI_PAGE + 1];
+  struct vscsi_fault fault;
+  uint64_t n = 5, used = 5;
+  uint32_t bits = 5;
+  uint8_t bytes[1024] = {5}, byte = 5;
+  IS(vscsi_create(device, &config, &fault), VSCSI_IN_USE);
+  // memory: up to its end, no further, and nowhere near the end of addresses
+  IS(vscsi_poke(device, PAGES * VSCSI_PAGE - 1, "x", 1), VSCSI_DONE);
+  IS(vscsi_poke(device, PAGES * VSCSI_PAGE - 1, "yz", 2), VSCSI_OUTSIDE);
+  IS(vscsi_poke(device, PAGES * VSCSI_PAGE, "y", 1), VSCSI_OUTSIDE);
+  IS(vscsi_poke(device, UINT64_MAX, "y", 1), VSCSI_OUTSIDE);
+  IS(vscsi_poke(device, PAGES * VSCSI_PAGE, 0, 0), VSCSI_DONE);
+  IS(vscsi_poke(device, 0, bytes, (size_t)-1), VSCSI_BAD_LENGTH);
+  IS(vscsi_peek(device, PAGES * VSCSI_PAGE - 1, &byte, 1), VSCSI_DONE);
+  IS(byte, 'x');
+  IS(vscsi_peek(device, 0, whole, sizeof whole), VSCSI_OUTSIDE);
+  IS(whole[0], 0);
+  IS(vscsi_peek(device, UINT64_MAX, &byte, 1), VSCSI_OUTSIDE);
+  IS(vscsi_peek(device, 0, 0, 0), VSCSI_DONE);
+  IS(byte, 'x');
+  // queues
+  IS(vscsi_broken(device, QUEUES, &bits), VSCSI_NO_QUEUE);
+  IS(vscsi_broken(device, 65535, &bits), VSCSI_NO_QUEUE);
+  IS(bits, 5);
+  IS(vscsi_progress(device, QUEUES, &n, &used), VSCSI_NO_QUEUE);
+  IS(n, 5);
+  IS(vscsi_progress(device, 2, &n, &used), VSCSI_DONE);
+  IS(n, 0);
+  IS(used, 0);
+  // units
+  IS(vscsi_capacity(device, 4, 0, &n), VSCSI_DONE);
+  IS(n, 1);
+  IS(vscsi_capacity(device, 4, 1, &n), VSCSI_NO_UNIT);
+  IS(vscsi_capacity(device, 255, 65535, &n), VSCSI_NO_UNIT);
+  IS(n, 1);
+  IS(vscsi_reset(device, 4, 1), VSCSI_NO_UNIT);
+  IS(vscsi_reset(device, 4, 0), VSCSI_DONE);
+  IS(vscsi_blocks(device, 4, 0, 0, 1, bytes, 512), VSCSI_DONE);
+  IS(bytes[0], 0);
+  IS(vscsi_blocks(device, 4, 0, 1, 0, 0, 0), VSCSI_DONE);
+  bytes[0] = 5;
+  IS(vscsi_blocks(device, 4, 0, 0, 2, bytes, 1024), VSCSI_OUTSIDE);
+  IS(vscsi_blocks(device, 4, 0, UINT64_MAX, 1, bytes, 512), VSCSI_OUTSIDE);
+  IS(vscsi_blocks(device, 4, 0, 0, 1, bytes, 511), VSCSI_BAD_LENGTH);
+  IS(vscsi_blocks(device, 4, 0, 0, UINT32_MAX, bytes, 512), VSCSI_BAD_LENGTH);
+  IS(vscsi_blocks(device, 3, 0, 0, 1, bytes, 512), VSCSI_NO_UNIT);
+  IS(bytes[0], 5);
+}
+
+// A guest breaks a queue, and the others go on.
+static void broken(struct vscsi *device) {
+  static const uint8_t nine[2] = {9, 0}, one[2] = {1, 0};
+  uint64_t steps, accepted, used;
+  uint32_t fault = 5, owed;
+  uint8_t status = 5;
+  IS(vscsi_settle(device, &steps), VSCSI_DONE);
+  IS(vscsi_status(device, &status), VSCSI_DONE);
+  IS(status, 0);
+  IS(vscsi_broken(device, 2, &fault), VSCSI_DONE);
+  IS(fault, VSCSI_WHOLE);
+  // nine entries of eight
+  IS(vscsi_poke(device, area(2) + 0x402, nine, 2), VSCSI_DONE);
+  IS(vscsi_settle(device, &steps), VSCSI_DONE);
+  IS(vscsi_status(device, &status), VSCSI_DONE);
+  IS(status, 64);
+  IS(vscsi_broken(device, 2, &fault), VSCSI_DONE);
+  IS(fault, VSCSI_INDEX_JUMP);
+  IS(vscsi_broken(device, 1, &fault), VSCSI_DONE);
+  IS(fault, VSCSI_WHOLE);
+  IS(vscsi_owed(device, &owed), VSCSI_DONE);
+  IS(owed, 0);
+  // an event buffer of no bytes is taken and given back at once, and its driver is owed one notification
+  IS(vscsi_poke(device, area(1) + 0x402, one, 2), VSCSI_DONE);
+  IS(vscsi_settle(device, &steps), VSCSI_DONE);
+  IS(vscsi_progress(device, 1, &accepted, &used), VSCSI_DONE);
+  IS(accepted, 1);
+  IS(used, 1);
+  IS(vscsi_owed(device, &owed), VSCSI_DONE);
+  IS(owed, 2);
+  IS(vscsi_owed(device, &owed), VSCSI_DONE);
+  IS(owed, 0);
+}
+
+int main(void) {
+  struct vscsi device = {0};
+  struct vscsi_fault fault;
+  causes();
+  nulls();
+  no_device();
+  for (int round = 0; round < 2; round++) {
+    begin();
+    IS(vscsi_create(&device, &config, &fault), VSCSI_DONE);
+    calls(&device);
+    broken(&device);
+    IS(vscsi_destroy(&device), VSCSI_DONE);
+    IS(vscsi_destroy(&device), VSCSI_NO_DEVICE);
+  }
+  printf("errors: %u as they should be\n", tests);
+  return 0;
+}
