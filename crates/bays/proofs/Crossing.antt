@@ -96,7 +96,7 @@ lasts_sends = struct_send (shape lasts_type) (search (crosses, option.the_send) 
 
 unit_fields : IsSend unit.the_row
 unit_fields = recorded_send unit.the_field.row _ _ unit.the_type.to_one
-    (struct_send (shape unit.the_type) (search sendable, (facts_sends, (search sendable, (attentions.the_send, (store.the_send, (set_sends, (steps_sends, (lasts_sends, tt)))))))))
+    (struct_send (shape unit.the_type) (search sendable, (facts_sends, (search sendable, (attentions.the_send, (store.the_send, (set_sends, (steps_sends, (lasts_sends, (search crosses depth 30, tt))))))))))
 
 pub unit_sends : IsSend unit_row
 unit_sends = search (sendable, unit_fields)

@@ -33,9 +33,11 @@ use std::alloc::Global;
 /// returns it as data.
 ///
 /// Refuses only where memory can't be had, of the data to the driver or of the store; the blocks are
-/// then as before.
+/// then as before. The data of a READ take the room that is given, whatever stands there, in place of memory.
+#[inline(always)]
 pub fn exec<S: Store>(
     alloc: Global,
+    room: &mut Vec<u8>,
     store: &mut S,
     command: &Command,
     out: &[u8],
@@ -55,7 +57,7 @@ pub fn exec<S: Store>(
         return Ok(Reply::refusal(alloc, attention));
     }
     let bytes = &out[..need(command).out as usize];
-    let answer = run(alloc, store, command, bytes, facts);
+    let answer = run(alloc, room, store, command, bytes, facts);
     replied(alloc, command, answer)
 }
 
@@ -63,6 +65,7 @@ pub fn exec<S: Store>(
 /// is changed.
 fn run<S: Store>(
     alloc: Global,
+    room: &mut Vec<u8>,
     store: &mut S,
     command: &Command,
     bytes: &[u8],
@@ -84,7 +87,7 @@ fn run<S: Store>(
             let sense = facts.pending.unwrap_or(Sense::NO_SENSE);
             Ok(cut(alloc, &sense.to_fixed(), allocation)?)
         }
-        Command::Read { lba, blocks } => read(alloc, store, lba, blocks),
+        Command::Read { lba, blocks } => read(room, store, lba, blocks),
         Command::Write { lba, blocks } => without_data(alloc, write(store, lba, blocks, bytes)),
         Command::Inquiry { what, allocation } => {
             Ok(inquiry(alloc, what, facts.target, facts.lun, allocation)?)

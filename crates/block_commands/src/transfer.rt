@@ -10,11 +10,11 @@ use crate::capacity::is_in_range;
 use crate::failure::Failure;
 use block_store::{BLOCK_BYTES, Store};
 use sense::Sense;
-use std::alloc::Global;
+use std::mem;
 
-/// The bytes of the blocks (SBC-3 §5.11).
+/// The bytes of the blocks (SBC-3 §5.11), in the room that is given, which grows where it is too small.
 pub(crate) fn read<S: Store>(
-    alloc: Global,
+    room: &mut Vec<u8>,
     store: &S,
     lba: u64,
     blocks: u16,
@@ -27,7 +27,10 @@ pub(crate) fn read<S: Store>(
     if !is_in_range(store.capacity(), lba, u32::from(blocks)) {
         return Err(Failure::Refused(Sense::LBA_OUT_OF_RANGE));
     }
-    let mut data = Vec::with_capacity(alloc, BLOCK_BYTES * usize::from(blocks))?;
+    let none = Vec::new(*room.allocator());
+    let mut data = mem::replace(room, none);
+    data.clear();
+    data.reserve(BLOCK_BYTES * usize::from(blocks))?;
     store.read_blocks(lba, u32::from(blocks), &mut data);
     Ok(data)
 }

@@ -31,7 +31,7 @@ answers_plainly : (x : PlainJob) (o : Outcome) (q : Lent) (m : List ℕ)
 answers_plainly x o q m = (λ k inventory s. record { asks = λ missed. refl; queue = refl; memory = refl }, refl)
 
 -- a job that ended so is answered by its ending
-answered_so : (x : PlainJob) (e : Ending) (q q' : Lent) (m n m' : List ℕ) (len : ℕ) (c : PlainChain) (place : ℕ)
+pub answered_so : (x : PlainJob) (e : Ending) (q q' : Lent) (m n m' : List ℕ) (len : ℕ) (c : PlainChain) (place : ℕ)
     (t : Ticket) → WritesWhole x e m len n → place ≡ x.unit → c ≡ x.chain → t ≡ c.ticket
     → m' ≡ all_written n (used_writes q.ring c.id len) → q' ≡ completing m' c q
     → Answers (Hand.Done x (Outcome.Ended e)) q m true q' m' (Hand.Answered place t)

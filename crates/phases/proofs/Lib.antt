@@ -6,4 +6,5 @@ pub mod Enters
 pub mod Opening
 pub mod Reading
 pub mod Refusing
+pub mod AtOnce
 pub mod Taking

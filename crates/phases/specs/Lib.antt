@@ -11,3 +11,4 @@ pub mod Units
 pub mod Answering
 pub mod EventQueue
 pub mod Resetting
+pub mod Serving

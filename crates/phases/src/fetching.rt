@@ -1,28 +1,28 @@
 //! The steps that take a chain from a queue.
 
-ghost use Rattle.std.specs.Prelude.{◌≡◌, ◌+◌, ◌≤◌, ◌^◌, length, min};
-ghost use Rattle.ring_core.specs.Parts.{PartsFit, readable_total, writable_total};
+ghost use Rattle.std.specs.Prelude.{◌≡◌, ◌+◌, ◌≤◌, ◌^◌, length};
+ghost use Rattle.ring_core.specs.Parts.{PartsFit, writable_total};
 ghost use Rattle.task_mgmt.specs.Control.{Suits};
 ghost use Rattle.deeds.specs.Happens.{DecidesControl};
 ghost use Rattle.deeds.specs.Parts.{lengths_of};
 ghost use Rattle.phases.specs.Queue.{with_slot};
 ghost use Rattle.phases.specs.Parts.{slot_of};
-ghost use Rattle.phases.specs.Fetching.{FetchesRequest, FetchesControl, Arrives, IsDecided};
+ghost use Rattle.phases.specs.Fetching.{FetchesRequest, FetchesControl, IsDecided};
 
 use crate::function::OpenFunction;
 use crate::queue::{Fetch, Queue};
 use crate::ready::Ready;
+use crate::serving::{Taken, take_request};
 use crate::slot::Slot;
 use block_store::NoMemory;
-use decisions::{ChainLengths, Decision, DirectAnswer, Inventory, decide};
+use decisions::{ChainLengths, DirectAnswer, Inventory};
 use guest_mem::GuestMem;
 use ring_core::{Chain, Fetched};
 use scsi_codec::one_control;
 use task_mgmt::{ControlDecision, decide_control};
-use unit_history::Arrival;
 
 /// The lengths of a chain.
-fn lengths_of_chain(chain: &Chain) -> ChainLengths
+pub(crate) fn lengths_of_chain(chain: &Chain) -> ChainLengths
     ensures lengths { result ≡ lengths_of chain.now }
     ensures sum { result.readable + result.writable ≤ 2 ^ 32 }
     ensures fit { PartsFit chain.now.memory chain.now.parts }
@@ -31,28 +31,6 @@ fn lengths_of_chain(chain: &Chain) -> ChainLengths
     ChainLengths {
         readable: chain.readable_len(),
         writable: chain.writable_len(),
-    }
-}
-
-/// What stands in the slot of a request queue once this chain was taken.
-fn decided_slot(inventory: &Inventory, fetched: Fetched) -> Slot
-    requires { length fetched.bytes.items ≡ min 1048627 (readable_total fetched.chain.parts) }
-    ensures { Arrives inventory.now fetched.chain fetched.bytes.items (slot_of result) }
-{
-    let Fetched {
-        mut chain,
-        mut bytes,
-    } = fetched;
-    let lengths = lengths_of_chain(&chain);
-    match decide(inventory, &mut bytes, &lengths) {
-        Decision::Direct(answer) => {
-            chain.keep_room(bytes);
-            Slot::Ready(Ready::told(chain, answer))
-        }
-        Decision::Enter(unit, request) => {
-            chain.keep_room(bytes);
-            Slot::Arrived(Arrival::new(unit, chain, request))
-        }
     }
 }
 
@@ -69,16 +47,12 @@ pub fn phase_fetch(
     ensures { FetchesRequest inventory.now memory.now
         (with_slot (slot_of slot.old) queue.old) result (with_slot (slot_of slot.new) queue.new) }
 {
-    if queue.number() < 2 || !slot.is_empty() || !queue.fits(memory) {
-        return Ok(false);
-    }
-    match queue.fetch(memory) {
+    match take_request(queue, slot, memory, inventory) {
         Err(NoMemory) => Err(NoMemory),
-        Ok(Fetch::Idle) => Ok(false),
-        Ok(Fetch::Broke) => Ok(true),
-        Ok(Fetch::Got(fetched)) => {
-            let _parts = fetched.chain.parts();
-            *slot = decided_slot(inventory, fetched);
+        Ok(Taken::Nothing) => Ok(false),
+        Ok(Taken::Other) => Ok(true),
+        Ok(Taken::Arrived(arrival)) => {
+            *slot = Slot::Arrived(arrival);
             Ok(true)
         }
     }

@@ -18,6 +18,7 @@ mod raising;
 mod ready;
 mod refusal;
 mod resetting;
+mod serving;
 mod slot;
 
 pub use answering::{phase_answer, phase_answer_tmf, phase_direct};
@@ -35,4 +36,5 @@ pub use raising::{phase_fetch_event, phase_raise};
 pub use ready::Ready;
 pub use refusal::Refusal;
 pub use resetting::phase_hard;
+pub use serving::{Taken, serve_request, take_request};
 pub use slot::Slot;

@@ -199,6 +199,7 @@ impl RingBase {
 
     /// A chain that was found is accepted. Refused where the table of outstanding chains can't grow, or
     /// the log can count no more.
+    #[inline(always)]
     pub fn accept(&mut self, id: u16, slots: u16, draft: Draft) -> Result<Chain, AllocError>
         requires free { under self.old id ≡ None }
         requires in_range { id < length self.old.outstanding }
@@ -246,6 +247,7 @@ impl RingBase {
     }
 
     /// Keeps the room of a chain that is over for the next, where none is kept yet.
+    #[inline(always)]
     fn keep(&mut self, chain: Chain)
         ensures { self.new ≡ self.old }
     {

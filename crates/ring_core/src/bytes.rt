@@ -39,6 +39,7 @@ fn append_part(
 }
 
 /// The first readable bytes of a chain that was found, at most `most` of them. For rings.
+#[inline(always)]
 pub fn gather(memory: &GuestMem, draft: &mut Draft, most: usize) -> Result<Vec<u8>, AllocError>
     requires fit { PartsFit (length memory.now) draft.old }
     requires most { most < 2 ^ 32 }

@@ -54,6 +54,25 @@ pub enum Outcome {
     Unknown,
 }
 
+impl Outcome {
+    /// The data of its reply, if it has one, to be let go.
+    pub(crate) fn into_data(self) -> Option<Vec<u8>> {
+        match self {
+            Outcome::Reply(receipt) => {
+                let Receipt { reply, .. } = receipt;
+                match reply {
+                    Some(reply) => {
+                        let Reply { payload, .. } = reply;
+                        Some(payload)
+                    }
+                    None => None,
+                }
+            }
+            Outcome::Aborted(_) | Outcome::Busy | Outcome::Unknown => None,
+        }
+    }
+}
+
 /// That a command ran whole, and with which reply. `UnitState::commit` alone makes one.
 #[derive(Debug, Drop)]
 pub struct Receipt {

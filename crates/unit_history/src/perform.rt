@@ -94,6 +94,7 @@ pub(crate) struct Performed {
 #[inline(always)]
 pub(crate) fn perform<S: Store>(
     alloc: Global,
+    room: &mut Vec<u8>,
     facts: &mut UnitFacts,
     attentions: &mut Attentions,
     store: &mut S,
@@ -109,13 +110,13 @@ pub(crate) fn perform<S: Store>(
     tell_oldest(facts, attentions);
     let command = task.command();
     if !keeps_replies {
-        let reply = exec(alloc, store, &command, task.data(), facts).ok()?;
+        let reply = exec(alloc, room, store, &command, task.data(), facts).ok()?;
         clear_oldest(attentions, &command);
         return Some(Performed { reply, kept: None });
     }
-    let room = room_for(alloc, &command).ok()?;
-    let reply = exec(alloc, store, &command, task.data(), facts).ok()?;
+    let kept_room = room_for(alloc, &command).ok()?;
+    let reply = exec(alloc, room, store, &command, task.data(), facts).ok()?;
     clear_oldest(attentions, &command);
-    let kept = Some(again(&reply, room));
+    let kept = Some(again(&reply, kept_room));
     Some(Performed { reply, kept })
 }

@@ -32,6 +32,9 @@ pub type Place = u64;
 /// and two more for the task that it may bring.
 const STEPS_AHEAD: usize = 131;
 
+/// Of how many bytes room is kept from one command for the next, at most.
+const MOST_ROOM: usize = 4096;
+
 /// A logical unit: its history, which proofs alone see whole, and what follows from it.
 #[derive(Drop)]
 pub struct UnitState {
@@ -44,6 +47,8 @@ pub struct UnitState {
     tasks: TaskSet,
     log: StepLog,
     lasts: Lasts,
+    // Room for the data of the next command that returns some.
+    room: Vec<u8>,
 }
 
 impl Model for UnitState {
@@ -141,6 +146,7 @@ impl UnitState {
             tasks: TaskSet::new(),
             log: StepLog::new(alloc, keeps_replies),
             lasts: Lasts::new(alloc),
+            room: Vec::new(alloc),
         })
     }
 
@@ -203,6 +209,7 @@ impl UnitState {
                 if self.log.keeps_replies() {
                     let performed = perform(
                         self.alloc,
+                        &mut self.room,
                         &mut self.facts,
                         &mut self.attentions,
                         &mut self.store,
@@ -213,6 +220,7 @@ impl UnitState {
                 } else {
                     let performed = perform(
                         self.alloc,
+                        &mut self.room,
                         &mut self.facts,
                         &mut self.attentions,
                         &mut self.store,
@@ -221,6 +229,18 @@ impl UnitState {
                     );
                     record_run(&mut self.log, &mut self.tasks, unit, ticket, performed)
                 }
+            }
+        }
+    }
+
+    /// Keeps the room of a reply's data for a later command of the unit, where it isn't much. Whoever has answered by
+    /// what came of a commit, and needs it no more, gives it back so.
+    pub fn keep_room(&mut self, outcome: Outcome)
+        ensures { self.new ≡ self.old }
+    {
+        if let Some(data) = outcome.into_data() {
+            if data.capacity() > self.room.capacity() && data.capacity() <= MOST_ROOM {
+                self.room = data;
             }
         }
     }

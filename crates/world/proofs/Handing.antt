@@ -24,7 +24,7 @@ pub is_empty : {X : Type 0} (xs : List X) → slice_get xs 0 ≡ None → xs ≡
 is_empty [] e = refl
 is_empty (y ∷ xs) e = absurd (nothing (sym e))
 
-no_item : {X : Type 0} {x : X} {xs : List X} → [] ≡ x ∷ xs → ⊥
+pub no_item : {X : Type 0} {x : X} {xs : List X} → [] ≡ x ∷ xs → ⊥
 no_item e = cc
 
 module _ (w : PlainWorld) (kept : List KeptSeat) (seats : w.seats ≡ map seat_of kept) (k : ℕ) (s t : KeptSeat)

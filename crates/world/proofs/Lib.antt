@@ -26,3 +26,4 @@ pub mod Buffering
 pub mod Resetting
 pub mod Raising
 pub mod Promising
+pub mod AtOnce

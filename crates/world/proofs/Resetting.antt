@@ -1,5 +1,5 @@
 -- The operator resets a unit.
-use Rattle.std.proofs.Common.{◌≡◌, ◌≤◌, ◌<◌, ◌+◌, ◌*◌, ◌++◌, ℕ, Bool, true, false, List, [], ◌∷◌, length, Option, Some, Result, Ok, Err, refl, sym, ap, ◌∙◌, arith}
+use Rattle.std.proofs.Common.{◌≡◌, ◌≤◌, ◌<◌, ◌+◌, ◌*◌, ◌++◌, ℕ, Bool, true, false, List, length, Option, Some, Result, Ok, Err, refl, sym, ap, ◌∙◌, arith}
 use Rattle.std.specs.Prelude.{slice_get, slice_set, map}
 use Rattle.std.proofs.lemmas.List.{length-map}
 use Rattle.block_store.specs.declared.NoMemory.{NoMemory}
@@ -7,16 +7,15 @@ use Rattle.scsi_codec.specs.declared.event_queue.Event.{Event as Report}
 use Rattle.history.specs.Steps.{Step}
 use Rattle.task_set.specs.Jobs.{Jobs}
 use Rattle.unit_history.specs.Unit.{PlainUnit, after as stepped}
-use Rattle.deeds.specs.World.{Seat, PlainWorld, change}
+use Rattle.deeds.specs.World.{Seat, PlainWorld}
 use Rattle.deeds.specs.Events.{Event}
 use Rattle.deeds.specs.Deeds.{Deed}
-use Rattle.deeds.specs.After.{hard_code, hard_report, reports_of, with_jobs}
+use Rattle.deeds.specs.After.{hard_code, reports_of}
 use Rattle.deeds.specs.Happens.{handed_out}
 use Rattle.deeds.specs.Standing.{HaveRoom}
 use Rattle.deeds.proofs.Joining.{joins}
-use Rattle.phases.specs.Doing.{with_more}
 use Rattle.phases.specs.Units.{mark_at}
-use Rattle.phases.specs.Resetting.{Resets, StaysReset}
+use Rattle.phases.specs.Resetting.{Resets}
 use Rattle.world.specs.Kept.{KeptSeat, seat_of}
 use Rattle.world.specs.Steps.{TurnsOrWants}
 use Rattle.world.specs.Sound.{AreFew, lun_of}

@@ -1,9 +1,9 @@
 -- Runs of the device by a list of events, and by settling.
-use Rattle.std.proofs.Common.{◌≡◌, ℕ, zero, suc, ◌+◌, Bool, true, false, if◌then◌else◌, List, [], ◌∷◌, ◌++◌, map, take, length, Some, Ok, refl, sym, ap, true≢false, subst, ◌∙◌, arith}
-use Rattle.std.specs.Prelude.{◌<◌, slice_get, get_or, reverse}
-use Rattle.std.proofs.lemmas.List.{map-append, reverse-append}
+use Rattle.std.proofs.Common.{◌≡◌, ℕ, zero, suc, ◌+◌, Bool, true, false, if◌then◌else◌, List, [], ◌∷◌, ◌++◌, map, take, length, Some, refl, sym, ap, true≢false, subst, ◌∙◌, arith}
+use Rattle.std.specs.Prelude.{◌<◌, ◌≤◌, slice_get, get_or, reverse}
+use Rattle.std.proofs.lemmas.List.{map-append, reverse-append, length-append}
 use Rattle.deeds.specs.World.{PlainWorld}
-use Rattle.deeds.specs.Events.{Event, plain_event}
+use Rattle.deeds.specs.Events.{plain_event}
 use Rattle.deeds.specs.declared.event.Event as declared
 use Rattle.deeds.specs.Deeds.{Deed, event_of}
 use Rattle.deeds.specs.After.{after}
@@ -11,11 +11,15 @@ use Rattle.deeds.specs.Happens.{Happens, world_of}
 use Rattle.deeds.specs.Turns.{IsStep, count_changes}
 use Rattle.deeds.proofs.Lists.{nothing, same}
 use Rattle.settling.specs.Order.{IsNext, IsQuiet, IsAtRest}
+use Rattle.settling.specs.Settling.{Settles}
 use Rattle.settling.proofs.Runs.{settles_to_rest}
 use Rattle.settling.proofs.Bounds.{settles_short}
 use Rattle.world.specs.Sound.{IsReached}
 use Rattle.world.specs.Steps.{IsRun, events_of}
 use Rattle.world.specs.Settling.{ServesBy, ServesAll}
+use Rattle.world.specs.Cursors.{StepsNext, ServesNext}
+use Rattle.world.specs.declared.service.Cursor.{Cursor}
+use Rattle.world.specs.declared.service.Served.{Served}
 
 -- one item more
 take_suc : {X : Type 0} (n : ℕ) (xs : List X) (x : X) → slice_get xs n ≡ Some x → take (suc n) xs ≡ take n xs ++ x ∷ []
@@ -63,6 +67,11 @@ run_on w v xs n e b u r s =
 pub run_none : (w : PlainWorld) → IsRun w [] 0 w
 run_none w = record { trace = []; runs = refl; told = refl; counted = refl }
 
+-- where more deeds lead to
+world_on : (w : PlainWorld) (ds es : List Deed) → world_of (world_of w ds) es ≡ world_of w (es ++ ds)
+world_on w ds [] = refl
+world_on w ds (e ∷ es) = ap (λ z. after e z) (world_on w ds es)
+
 -- one deed more that was first
 pub serves_on : (w v : PlainWorld) (n : ℕ) (u : PlainWorld) (d : Deed) → ServesBy w n v → Happens d v
     → IsNext v (event_of d) → u ≡ after d v → ServesBy w (n + 1) u
@@ -78,9 +87,45 @@ serves_on w v n u d r h next is =
       counted = next_length (length r.deeds) n r.counted;
     }
 
+-- more deeds behind those that settled
+settles_on : (w : PlainWorld) (ds es : List Deed) → Settles w ds → Settles (world_of w ds) es → Settles w (es ++ ds)
+settles_on w ds [] h k = h
+settles_on w ds (e ∷ es) h k = (
+  settles_on w ds es h k.0,
+  subst (λ z. Happens e z) (world_on w ds es) k.1,
+  subst (λ z. IsNext z (event_of e)) (world_on w ds es) k.2,
+)
+
+-- what was served, and more that was
+pub serves_more : (w v u : PlainWorld) (n m : ℕ) → ServesBy w n v → ServesBy v m u → ServesBy w (n + m) u
+serves_more w v u n m r s =
+    let settled : Settles (world_of w r.deeds) s.deeds = subst (λ z. Settles z s.deeds) r.is s.settles in
+    record {
+      deeds = s.deeds ++ r.deeds;
+      settles = settles_on w r.deeds s.deeds r.settles settled;
+      is = s.is ∙ ap (λ z. world_of z s.deeds) r.is ∙ world_on w r.deeds s.deeds;
+      counted = omega (arith, length-append s.deeds r.deeds, r.counted, s.counted);
+    }
+
 -- nothing was served yet
 pub serves_none : (w : PlainWorld) → ServesBy w 0 w
 serves_none w = record { deeds = []; settles = tt; is = refl; counted = refl }
+
+-- one deed
+pub serves_one : (w : PlainWorld) (c : Cursor) (u : PlainWorld) → StepsNext w c u → ServesBy w 1 u
+serves_one w c u t = serves_on w w 0 u t.0 (serves_none w) t.1 t.2 t.3
+
+-- one deed more
+pub serves_next : (w v : PlainWorld) (n : ℕ) (c : Cursor) (u : PlainWorld) → ServesBy w n v → StepsNext v c u
+    → ServesBy w (n + 1) u
+serves_next w v n c u r t = serves_on w v n u t.0 r t.1 t.2 t.3
+
+-- it was one event of the order
+pub next_one : (most : ℕ) (w : PlainWorld) (c : Cursor) (s : Served) (w' : PlainWorld) → 1 ≤ most → s ≡ record { next = c; steps = 1 }
+    → StepsNext w c w' → ServesNext most w s w'
+next_one most w c s w' few is t =
+    subst (λ z. ServesNext most w z w') (sym is)
+    (record { some = omega arith; few = few; serves = serves_one w c w' t; before = t.4 })
 
 -- served whole
 pub serves_all : (w : PlainWorld) (n : ℕ) (v : PlainWorld) → IsReached w → ServesBy w n v → IsQuiet v → ServesAll w n v

@@ -1,8 +1,7 @@
 -- What a deed wakes, by its event alone; and so where to look next.
-use Rattle.std.proofs.Common.{◌≡◌, inl, inr, ℕ, ◌<◌, Bool, true, List, [], ◌∷◌, length, Some, None, is_some, Ok, Err, refl, sym, subst, ap, ◌∙◌, arith}
+use Rattle.std.proofs.Common.{◌≡◌, inl, inr, ℕ, ◌<◌, Bool, true, List, [], ◌∷◌, length, None, is_some, refl, sym, subst, ap, ◌∙◌, arith}
 use Rattle.std.specs.Prelude.{◌≤◌, ⊤}
 use Rattle.std.specs.List.{AllByRecursion}
-use Rattle.block_store.specs.declared.NoMemory.{NoMemory}
 use Rattle.ring_core.specs.State.{PlainChain}
 use Rattle.task_set.specs.Jobs.{PlainJob}
 use Rattle.deeds.specs.Parts.{Slot, Outcome}
@@ -18,11 +17,12 @@ use Rattle.deeds.specs.Turns.{Turns}
 use Rattle.deeds.proofs.Applying.{applies}
 use Rattle.deeds.proofs.Lists.{same}
 use Rattle.deeds.proofs.Staying.{deed_stays}
-use Rattle.settling.specs.Order.{of_seat, order_of, IsFirstOf, IsNext, NoneApplies}
+use Rattle.settling.specs.Order.{of_seat, order_of, IsFirstOf, IsNext, IsQuiet, NoneApplies}
 use Rattle.settling.specs.Waking.{IsAmong, IsFetch, IsTake, IsOwn, Wakes}
 use Rattle.phases.specs.Parts.{arrived_unit}
 use Rattle.settling.proofs.Waking.{wakes}
-use Rattle.world.specs.Cursors.{TurnsFirst, of_function, NoStart, NoDirectBelow, NoDirect, NoSeatBelow, NoSeat, NoEnterBelow, NoFetchBelow, NoneBefore, NoneBeforeFetch, LeavesNext, EntersNext, FetchesNext, TurnsNext, direct_from, seat_from, enter_from}
+use Rattle.world.specs.Cursors.{TurnsFirst, of_function, NoStart, NoDirectBelow, NoDirect, NoSeatBelow, NoSeat, NoEnterBelow, NoFetchBelow, NoneBefore, NoneBeforeFetch, LeavesNext, EntersNext, FetchesNext, StepsNext, direct_from, seat_from, enter_from}
+use Rattle.world.specs.Settling.{MayWantFirst}
 use Rattle.world.specs.declared.service.Cursor.{Cursor}
 use Rattle.world.specs.declared.service.Cursor.TheVariants as cursor
 use Rattle.world.proofs.Choosing.{none_open}
@@ -257,7 +257,7 @@ after_fetch w d i y is m none lt closed arrived =
 
 -- an event of the function
 pub function_next : (w w' : PlainWorld) (b : Bool) → b ≡ true → TurnsFirst of_function w b w'
-    → TurnsNext w (Ok (Some cursor.Start)) w'
+    → StepsNext w cursor.Start w'
 function_next w w' b on t =
     let u : TurnsFirst of_function w true w' = rw on at t in
     let e = event_of u.0 in
@@ -275,7 +275,7 @@ next_by w d e is m f =
 
 -- the oldest event that waits
 pub raise_next : (w v w' : PlainWorld) (b : Bool) → b ≡ true → v ≡ w → NoneApplies w of_function
-    → Turns v Event.Raise b w' → TurnsNext w (Ok (Some cursor.Start)) w'
+    → Turns v Event.Raise b w' → StepsNext w cursor.Start w'
 raise_next w v w' b on same none t =
     let u = turned w v w' Event.Raise b on same t in
     let next = next_by w u.0 Event.Raise u.1 u.2
@@ -284,7 +284,7 @@ raise_next w v w' b on same none t =
 
 -- the answer that is ready on a queue
 pub direct_next : (w v w' : PlainWorld) (i : ℕ) (b : Bool) → b ≡ true → v ≡ w → NoStart w → NoDirectBelow i w
-    → i < length w.queues → Turns v (Event.Direct i) b w' → TurnsNext w (Ok (Some (cursor.Direct i))) w'
+    → i < length w.queues → Turns v (Event.Direct i) b w' → StepsNext w (cursor.Direct i) w'
 direct_next w v w' i b on same s below lt t =
     let e = Event.Direct i in
     let u = turned w v w' e b on same t in
@@ -301,7 +301,7 @@ at_other w v c x e f h = subst (λ z. NoneBefore z v) (sym e) (subst (λ z. None
 -- an event of a seat
 pub seat_next : (w v w' : PlainWorld) (k : ℕ) (b : Bool) (c : Cursor) → b ≡ true → v ≡ w → NoStart w → NoDirect w
     → NoSeatBelow k w → k < length w.seats → TurnsFirst (of_seat k) v b w' → LeavesNext w' c
-    → TurnsNext w (Ok (Some c)) w'
+    → StepsNext w c w'
 seat_next w v w' k b c on same s direct below lt t leaves =
     let u : TurnsFirst (of_seat k) w true w' = subst (λ z. TurnsFirst (of_seat k) z true w') same (rw on at t) in
     let e = event_of u.0 in
@@ -318,7 +318,7 @@ seat_next w v w' k b c on same s direct below lt t leaves =
 -- a request that arrived
 pub enter_next : (w v w' : PlainWorld) (i : ℕ) (b : Bool) (c : Cursor) → b ≡ true → v ≡ w → NoStart w → NoDirect w
     → NoSeat w → NoEnterBelow i w → i < length w.queues → Turns v (Event.Enter i) b w' → EntersNext i w' c
-    → TurnsNext w (Ok (Some c)) w'
+    → StepsNext w c w'
 enter_next w v w' i b c on same s direct seat below lt t enters =
     let e = Event.Enter i in
     let u = turned w v w' e b on same t in
@@ -335,7 +335,7 @@ enter_next w v w' i b c on same s direct seat below lt t enters =
 -- a queue's next chain
 pub fetch_next : (w v w' : PlainWorld) (i : ℕ) (b : Bool) (c : Cursor) → b ≡ true → v ≡ w → NoneBeforeFetch w
     → NoFetchBelow i w → i < length w.queues → Turns v (Event.Fetch i) b w' → FetchesNext i w' c
-    → TurnsNext w (Ok (Some c)) w'
+    → StepsNext w c w'
 fetch_next w v w' i b c on same none below lt t fetches =
     let e = Event.Fetch i in
     let u = turned w v w' e b on same t in
@@ -352,15 +352,15 @@ fetch_next w v w' i b c on same none below lt t fetches =
     (u.0, u.2, next, u.3, before)
 
 -- memory was refused for a queue's next chain
-pub fetch_wants : (w v w' : PlainWorld) (i : ℕ) (x : NoMemory) → v ≡ w → NoneBeforeFetch w → NoFetchBelow i w
-    → i < length w.queues → MayWant (Event.Fetch i) v × (w' ≡ v) → TurnsNext w (Err x) w'
-fetch_wants w v w' i x same none below lt t =
-    let want : MayWant (Event.Fetch i) w = subst (λ z. MayWant (Event.Fetch i) z) same t.0 in
-    (t.1 ∙ same, wants_first w (order_of w) (first_fetch (Wants w) w i none below lt want))
+pub queue_wants : (w v w' : PlainWorld) (i : ℕ) → v ≡ w → NoneBeforeFetch w → NoFetchBelow i w
+    → i < length w.queues → (w' ≡ v) × MayWant (Event.Fetch i) v → (w' ≡ w) × MayWantFirst w (order_of w)
+queue_wants w v w' i same none below lt t =
+    let want : MayWant (Event.Fetch i) w = subst (λ z. MayWant (Event.Fetch i) z) same t.1 in
+    (t.0 ∙ same, wants_first w (order_of w) (first_fetch (Wants w) w i none below lt want))
 
 -- nothing was left
 pub nothing_next : (w v : PlainWorld) → v ≡ w → NoneBeforeFetch w → NoFetchBelow (length w.queues) w
-    → TurnsNext w (Ok None) v
+    → (v ≡ w) × IsQuiet w
 nothing_next w v same none below = (same, none_left w none below)
 
 -- a slot with a unit has a request that arrived
@@ -377,6 +377,7 @@ past_start w cursor.Start other before = absurd (other refl)
 past_start w (cursor.Direct n) other before = before.0
 past_start w cursor.Seats other before = before.0
 past_start w (cursor.Enter n) other before = before.0
+past_start w cursor.Fetch other before = before.0
 
 -- nothing is below 0
 none_below : (P : ℕ → Type 0) (i : ℕ) → i < 0 → P i
@@ -387,18 +388,21 @@ directs_from w cursor.Start before = none_below (λ i. Never w (Event.Direct i))
 directs_from w (cursor.Direct n) before = before.1
 directs_from w cursor.Seats before = before.1
 directs_from w (cursor.Enter n) before = before.1
+directs_from w cursor.Fetch before = before.1
 
 pub seats_from : (w : PlainWorld) (c : Cursor) → NoneBefore c w → NoSeatBelow (seat_from c (length w.seats)) w
 seats_from w cursor.Start before = none_below (λ k. NoneApplies w (of_seat k))
 seats_from w (cursor.Direct n) before = none_below (λ k. NoneApplies w (of_seat k))
 seats_from w cursor.Seats before = none_below (λ k. NoneApplies w (of_seat k))
 seats_from w (cursor.Enter n) before = before.2
+seats_from w cursor.Fetch before = before.2
 
-pub enters_from : (w : PlainWorld) (c : Cursor) → NoneBefore c w → NoEnterBelow (enter_from c) w
+pub enters_from : (w : PlainWorld) (c : Cursor) → NoneBefore c w → NoEnterBelow (enter_from c (length w.queues)) w
 enters_from w cursor.Start before = none_below (λ i. Never w (Event.Enter i))
 enters_from w (cursor.Direct n) before = none_below (λ i. Never w (Event.Enter i))
 enters_from w cursor.Seats before = none_below (λ i. Never w (Event.Enter i))
 enters_from w (cursor.Enter n) before = before.3
+enters_from w cursor.Fetch before = before.3
 
 -- Past the last of a kind
 

@@ -1,17 +1,18 @@
 -- How far along the order nothing applies. Only private functions cite it: no promise stands on it.
-use Rattle.std.specs.Prelude.{ℕ, ◌≡◌, ◌<◌, ◌⊎◌, Bool, true, false, List, [], ◌∷◌, length, Option, Some, None, Result, Ok, Err, ⊤}
+use Rattle.std.specs.Prelude.{ℕ, zero, suc, ◌≡◌, ◌<◌, ◌≤◌, ◌⊎◌, Bool, true, false, List, [], ◌∷◌, length, Option, Some, None, Result, Ok, Err, ⊤}
 use Rattle.block_store.specs.declared.NoMemory.{NoMemory}
 use Rattle.task_set.specs.Jobs.{PlainJob}
-use Rattle.deeds.specs.Parts.{Slot}
-use Rattle.deeds.specs.World.{PlainWorld}
+use Rattle.deeds.specs.Parts.{Slot, Hand}
+use Rattle.deeds.specs.World.{PlainWorld, owner}
 use Rattle.deeds.specs.Events.{Event}
 use Rattle.deeds.specs.Deeds.{Deed, event_of}
 use Rattle.deeds.specs.After.{after}
-use Rattle.deeds.specs.Happens.{Happens}
+use Rattle.deeds.specs.Happens.{Happens, MayWant, SeatIs}
 use Rattle.deeds.specs.Applies.{Applies}
 use Rattle.deeds.specs.Phases.{SlotIs}
 use Rattle.settling.specs.Order.{of_seat, order_of, IsFirstOf, IsNext, NoneApplies, IsQuiet}
-use Rattle.world.specs.Settling.{MayWantFirst}
+use Rattle.world.specs.Settling.{ServesBy, MayWantFirst}
+use Rattle.world.specs.declared.service.Served.{Served}
 use Rattle.world.specs.declared.service.Cursor.{Cursor}
 use Rattle.world.specs.declared.service.Cursor.TheVariants as cursor
 
@@ -56,6 +57,7 @@ NoneBefore cursor.Start w = ⊤
 NoneBefore (cursor.Direct n) w = NoStart w × NoDirectBelow n w
 NoneBefore cursor.Seats w = NoStart w × NoDirect w
 NoneBefore (cursor.Enter n) w = NoStart w × NoDirect w × NoSeat w × NoEnterBelow n w
+NoneBefore cursor.Fetch w = NoStart w × NoDirect w × NoSeat w × NoEnter w
 
 -- the first of so many queues whose answer may be ready, where none before the cursor applies; of so many seats, the first
 -- that may have a step; and the first queue on which a request may have arrived
@@ -64,18 +66,21 @@ direct_from cursor.Start queues = 0
 direct_from (cursor.Direct n) queues = n
 direct_from cursor.Seats queues = queues
 direct_from (cursor.Enter n) queues = queues
+direct_from cursor.Fetch queues = queues
 
 abbrev pub seat_from : Cursor → ℕ → ℕ
 seat_from cursor.Start seats = 0
 seat_from (cursor.Direct n) seats = 0
 seat_from cursor.Seats seats = 0
 seat_from (cursor.Enter n) seats = seats
+seat_from cursor.Fetch seats = seats
 
-abbrev pub enter_from : Cursor → ℕ
-enter_from cursor.Start = 0
-enter_from (cursor.Direct n) = 0
-enter_from cursor.Seats = 0
-enter_from (cursor.Enter n) = n
+abbrev pub enter_from : Cursor → ℕ → ℕ
+enter_from cursor.Start queues = 0
+enter_from (cursor.Direct n) queues = 0
+enter_from cursor.Seats queues = 0
+enter_from (cursor.Enter n) queues = n
+enter_from cursor.Fetch queues = queues
 
 -- nor one before the first fetch
 abbrev pub NoneBeforeFetch : PlainWorld → Type 0
@@ -94,10 +99,41 @@ FetchesNext n w c =
     (c ≡ cursor.Start)
     ⊎ ((c ≡ cursor.Enter n) × (w.function ≡ None) × ((x : PlainJob) × SlotIs w n (Slot.Arrived x)))
 
--- what is first was done, and before a place none applies then; or none applies at all; or memory was refused for what
--- is first
-abbrev pub TurnsNext : PlainWorld → Result (Option Cursor) NoMemory → PlainWorld → Type 0
-TurnsNext w (Ok (Some c)) w' =
-    (d : Deed) × Happens d w × IsNext w (event_of d) × (w' ≡ after d w) × NoneBefore c w'
-TurnsNext w (Ok None) w' = (w' ≡ w) × IsQuiet w
-TurnsNext w (Err x) w' = (w' ≡ w) × MayWantFirst w (order_of w)
+-- what is first was done, and before a place none applies then
+abbrev pub StepsNext : PlainWorld → Cursor → PlainWorld → Type 0
+StepsNext w c w' = (d : Deed) × Happens d w × IsNext w (event_of d) × (w' ≡ after d w) × NoneBefore c w'
+
+-- so many deeds were done, each of the first event that applied, and before a place none applies then
+pub record ServesNext (most : ℕ) (w : PlainWorld) (s : Served) (w' : PlainWorld) : Type 0 where
+  pub some : 1 ≤ s.steps
+  pub few : s.steps ≤ most
+  pub serves : ServesBy w s.steps w'
+  pub before : NoneBefore s.next w'
+
+-- at least one was done; or none applies at all; or memory was refused for what is first
+abbrev pub TurnsNext : ℕ → PlainWorld → Result (Option Served) NoMemory → PlainWorld → Type 0
+TurnsNext most w (Ok (Some s)) w' = ServesNext most w s w'
+TurnsNext most w (Ok None) w' = (w' ≡ w) × IsQuiet w
+TurnsNext most w (Err x) w' = (w' ≡ w) × MayWantFirst w (order_of w)
+
+-- the same of a queue's next chain, and what follows it; or there is none
+abbrev pub FetchesOn : ℕ → ℕ → PlainWorld → Result (Option Served) NoMemory → PlainWorld → Type 0
+FetchesOn most i w (Ok (Some s)) w' = ServesNext most w s w'
+FetchesOn most i w (Ok None) w' = (w' ≡ w) × (Applies w (Event.Fetch i) → ⊥)
+FetchesOn most i w (Err x) w' = (w' ≡ w) × MayWant (Event.Fetch i) w
+
+-- the first seat serves the requests of the queue, has nothing in hand and no job to hand off, and the hand-off is empty
+pub record MayServe (i : ℕ) (w : PlainWorld) : Type 0 where
+  pub request : 2 ≤ i
+  pub there : i < length w.queues
+  pub closed : w.function ≡ None
+  pub own : owner w.workers i ≡ 0
+  pub seat : SeatIs w 0 Hand.Free []
+  pub handed_off : w.handed_off ≡ []
+  pub room : 0 < w.limit
+
+-- what was done of a request at once, and where to look then: it only entered, or was served to its end
+abbrev pub served_of : Option Bool → ℕ → Served
+served_of None jobs = record { next = cursor.Start; steps = 2 }
+served_of (Some left) zero = record { next = cursor.Fetch; steps = 7 }
+served_of (Some left) (suc jobs) = record { next = cursor.Seats; steps = 7 }

@@ -43,3 +43,7 @@ pub record AreFew (w : PlainWorld) : Type 0 where
 pub record IsWhole (w : PlainWorld) : Type 0 where
   pub reached : IsReached w
   pub few : AreFew w
+
+-- of every device that some trace reached
+abbrev pub AreSound : Type 0
+AreSound = (w : PlainWorld) → IsReached w → IsSound w

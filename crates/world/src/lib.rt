@@ -8,6 +8,7 @@ mod device;
 mod notifications;
 mod seat;
 mod service;
+mod sound;
 mod steps;
 mod world;
 

@@ -1,17 +1,20 @@
 //! The order in which a device serves what is there: the first event of it that applies, one after another. What a
 //! step can't have woken isn't looked at again.
 
-ghost use Rattle.std.specs.Prelude.{◌≡◌, ◌↔◌, IsTrue, Some, slice_get};
+ghost use Rattle.std.specs.Prelude.{◌≡◌, ◌≤◌, ◌<◌, ◌↔◌, IsTrue, Some, slice_get, length};
 ghost use Rattle.settling.specs.Order.{of_seat};
 ghost use Rattle.deeds.specs.Parts.{Hand};
 ghost use Rattle.deeds.specs.Phases.{HasHand};
-ghost use Rattle.world.specs.Cursors.{TurnsFirst, of_function, TurnsNext, NoneBefore, NoneBeforeFetch, EntersNext, FetchesNext, LeavesNext};
+ghost use Rattle.world.specs.Cursors.{TurnsFirst, of_function, TurnsNext, FetchesOn, MayServe, served_of, NoneBefore, NoneBeforeFetch, NoFetchBelow, EntersNext, FetchesNext, LeavesNext};
 ghost use Rattle.world.specs.Cursors.{NoStart, NoDirect, NoSeat, direct_from, seat_from, enter_from};
-ghost use Rattle.world.specs.Sound.{AreFew, IsSound};
+ghost use Rattle.world.specs.Sound.{AreFew, IsSound, IsWhole};
 
 use crate::device::Device;
 use crate::seat::Stage;
+use crate::sound::all_are_sound;
+use crate::steps::owner;
 use block_store::NoMemory;
+use phases::{Slot, Taken, serve_request, take_request};
 
 /// A place in the order before which no event applies.
 #[derive(Clone, Copy, Debug, PartialEq, Eq)]
@@ -24,6 +27,48 @@ pub(crate) enum Cursor {
     Seats,
     /// The request that arrived on a queue.
     Enter(u16),
+    /// The first queue's next chain.
+    Fetch,
+}
+
+/// What was served, and from where on to look then.
+#[derive(Clone, Copy, Debug, PartialEq, Eq)]
+pub(crate) struct Served {
+    /// From where on to look.
+    pub(crate) next: Cursor,
+    /// How many events it was.
+    pub(crate) steps: u64,
+}
+
+/// How many events a request is that is served at once.
+const AT_ONCE: u64 = 7;
+
+/// One event was served.
+fn one(next: Cursor) -> Served
+    ensures { result ≡ record { next = next; steps = 1 } }
+{
+    Served { next, steps: 1 }
+}
+
+/// What was done of a request at once, where the first seat has so many jobs to hand off then.
+fn served_so(done: Option<bool>, jobs: usize) -> Served
+    ensures { result ≡ served_of done jobs }
+{
+    if done.is_none() {
+        return Served {
+            next: Cursor::Start,
+            steps: 2,
+        };
+    }
+    let next = if jobs == 0 {
+        Cursor::Fetch
+    } else {
+        Cursor::Seats
+    };
+    Served {
+        next,
+        steps: AT_ONCE,
+    }
 }
 
 /// Whether it is the beginning.
@@ -32,7 +77,7 @@ fn is_start(cursor: Cursor) -> bool
 {
     match cursor {
         Cursor::Start => true,
-        Cursor::Direct(_) | Cursor::Seats | Cursor::Enter(_) => false,
+        Cursor::Direct(_) | Cursor::Seats | Cursor::Enter(_) | Cursor::Fetch => false,
     }
 }
 
@@ -43,7 +88,7 @@ fn first_direct(cursor: Cursor, queues: usize) -> usize
     match cursor {
         Cursor::Start => 0,
         Cursor::Direct(number) => number as usize,
-        Cursor::Seats | Cursor::Enter(_) => queues,
+        Cursor::Seats | Cursor::Enter(_) | Cursor::Fetch => queues,
     }
 }
 
@@ -53,17 +98,18 @@ fn first_seat(cursor: Cursor, seats: usize) -> usize
 {
     match cursor {
         Cursor::Start | Cursor::Direct(_) | Cursor::Seats => 0,
-        Cursor::Enter(_) => seats,
+        Cursor::Enter(_) | Cursor::Fetch => seats,
     }
 }
 
-/// The first queue on which a request may have arrived.
-fn first_enter(cursor: Cursor) -> usize
-    ensures { result ≡ enter_from cursor }
+/// The first queue on which a request may have arrived, of so many.
+fn first_enter(cursor: Cursor, queues: usize) -> usize
+    ensures { result ≡ enter_from cursor queues }
 {
     match cursor {
         Cursor::Start | Cursor::Direct(_) | Cursor::Seats => 0,
         Cursor::Enter(number) => number as usize,
+        Cursor::Fetch => queues,
     }
 }
 
@@ -117,93 +163,179 @@ impl Device {
     /// The first event of the order that applies, from a place on; and from where on to look then. `None` where none
     /// applies.
     #[inline(always)]
-    pub(crate) fn turn(&mut self, cursor: Cursor) -> Result<Option<Cursor>, NoMemory>
+    pub(crate) fn turn(&mut self, cursor: Cursor, most: u64) -> Result<Option<Served>, NoMemory>
+        requires most { 1 ≤ most }
+        requires whole { IsWhole self.old }
         requires sound { IsSound self.old }
         requires few { AreFew self.old }
         requires before { NoneBefore cursor self.old }
-        ensures { TurnsNext self.old result self.new }
+        ensures { TurnsNext most self.old result self.new }
     {
         if is_start(cursor) {
             if self.turn_function() {
-                return Ok(Some(Cursor::Start));
+                return Ok(Some(one(Cursor::Start)));
             }
             if self.raise() {
-                return Ok(Some(Cursor::Start));
+                return Ok(Some(one(Cursor::Start)));
             }
         }
-        self.from_direct(cursor)
+        self.from_direct(cursor, most)
     }
 
     /// From the answers that are ready on, where the cursor isn't past them.
     #[inline(always)]
-    fn from_direct(&mut self, cursor: Cursor) -> Result<Option<Cursor>, NoMemory>
+    fn from_direct(&mut self, cursor: Cursor, most: u64) -> Result<Option<Served>, NoMemory>
+        requires most { 1 ≤ most }
+        requires whole { IsWhole self.old }
         requires sound { IsSound self.old }
         requires few { AreFew self.old }
         requires start { NoStart self.old }
         requires before { NoneBefore cursor self.old }
-        ensures { TurnsNext self.old result self.new }
+        ensures { TurnsNext most self.old result self.new }
     {
         for number in first_direct(cursor, self.bays.len())..self.bays.len() {
             if self.direct(number as u16) {
-                return Ok(Some(Cursor::Direct(number as u16)));
+                return Ok(Some(one(Cursor::Direct(number as u16))));
             }
         }
-        self.from_seats(cursor)
+        self.from_seats(cursor, most)
     }
 
     /// From the seats on, where the cursor isn't past them.
     #[inline(always)]
-    fn from_seats(&mut self, cursor: Cursor) -> Result<Option<Cursor>, NoMemory>
+    fn from_seats(&mut self, cursor: Cursor, most: u64) -> Result<Option<Served>, NoMemory>
+        requires most { 1 ≤ most }
+        requires whole { IsWhole self.old }
         requires sound { IsSound self.old }
         requires few { AreFew self.old }
         requires start { NoStart self.old }
         requires direct { NoDirect self.old }
         requires before { NoneBefore cursor self.old }
-        ensures { TurnsNext self.old result self.new }
+        ensures { TurnsNext most self.old result self.new }
     {
         for number in first_seat(cursor, self.seats.len())..self.seats.len() {
             if self.turn_seat(number as u16) {
-                return Ok(Some(self.after_seat()));
+                return Ok(Some(one(self.after_seat())));
             }
         }
-        self.from_enter(cursor)
+        self.from_enter(cursor, most)
     }
 
     /// From the requests that arrived on, where the cursor isn't past them.
     #[inline(always)]
-    fn from_enter(&mut self, cursor: Cursor) -> Result<Option<Cursor>, NoMemory>
+    fn from_enter(&mut self, cursor: Cursor, most: u64) -> Result<Option<Served>, NoMemory>
+        requires most { 1 ≤ most }
+        requires whole { IsWhole self.old }
         requires sound { IsSound self.old }
         requires few { AreFew self.old }
         requires start { NoStart self.old }
         requires direct { NoDirect self.old }
         requires seat { NoSeat self.old }
         requires before { NoneBefore cursor self.old }
-        ensures { TurnsNext self.old result self.new }
+        ensures { TurnsNext most self.old result self.new }
     {
-        for number in first_enter(cursor)..self.bays.len() {
+        for number in first_enter(cursor, self.bays.len())..self.bays.len() {
             if self.enter(number as u16) {
-                return Ok(Some(self.after_enter(number as u16)));
+                return Ok(Some(one(self.after_enter(number as u16))));
             }
         }
-        self.from_fetch()
+        self.from_fetch(most)
     }
 
     /// From the first queue's next chain on.
     #[inline(always)]
-    fn from_fetch(&mut self) -> Result<Option<Cursor>, NoMemory>
+    fn from_fetch(&mut self, most: u64) -> Result<Option<Served>, NoMemory>
+        requires most { 1 ≤ most }
+        requires whole { IsWhole self.old }
         requires sound { IsSound self.old }
         requires few { AreFew self.old }
         requires before { NoneBeforeFetch self.old }
-        ensures { TurnsNext self.old result self.new }
+        ensures { TurnsNext most self.old result self.new }
     {
         for number in 0..self.bays.len() {
-            match self.fetch(number as u16) {
-                Ok(false) => {}
-                Ok(true) => return Ok(Some(self.after_fetch(number as u16))),
+            match self.serve_queue(number as u16, most) {
+                Ok(None) => {}
+                Ok(Some(served)) => return Ok(Some(served)),
                 Err(NoMemory) => return Err(NoMemory),
             }
         }
         Ok(None)
+    }
+
+    /// A queue's next chain, and what may be done of it at once, where no event before it applies.
+    #[inline(always)]
+    fn serve_queue(&mut self, number: u16, most: u64) -> Result<Option<Served>, NoMemory>
+        requires most { 1 ≤ most }
+        requires whole { IsWhole self.old }
+        requires sound { IsSound self.old }
+        requires few { AreFew self.old }
+        requires before { NoneBeforeFetch self.old }
+        requires below { NoFetchBelow number self.old }
+        requires there { number < length self.old.queues }
+        ensures { FetchesOn most number self.old result self.new }
+    {
+        if self.is_silent(number) {
+            return Ok(None);
+        }
+        if most >= AT_ONCE && self.serves_at_once(number) {
+            return self.serve(number, most);
+        }
+        match self.fetch(number) {
+            Ok(false) => Ok(None),
+            Ok(true) => Ok(Some(one(self.after_fetch(number)))),
+            Err(NoMemory) => Err(NoMemory),
+        }
+    }
+
+    /// Whether a request of a queue is served by the first seat and nothing stands between.
+    fn serves_at_once(&self, number: u16) -> bool
+        requires sound { IsSound self.now }
+        ensures { IsTrue result → MayServe number self.now }
+    {
+        let at = number as usize;
+        number >= 2
+            && at < self.bays.len()
+            && self.function.is_none()
+            && owner(self.workers, number) == 0
+            && !self.seats.is_empty()
+            && self.seats[0].is_idle()
+            && self.handed_off.len() == 0
+            && self.handed_off.limit() > 0
+    }
+
+    /// A request queue's next chain is taken, and its request, if it is one that nothing blocks, is served to its end.
+    #[inline(always)]
+    fn serve(&mut self, number: u16, most: u64) -> Result<Option<Served>, NoMemory>
+        requires most { AT_ONCE ≤ most }
+        requires whole { IsWhole self.old }
+        requires before { NoneBeforeFetch self.old }
+        requires below { NoFetchBelow number self.old }
+        requires at_once { MayServe number self.old }
+        ensures { FetchesOn most number self.old result self.new }
+    {
+        all_are_sound();
+        let bay = &mut self.bays[number as usize];
+        match take_request(&mut bay.queue, &mut bay.slot, &self.memory, &self.inventory) {
+            Err(NoMemory) => Err(NoMemory),
+            Ok(Taken::Nothing) => Ok(None),
+            Ok(Taken::Other) => Ok(Some(one(Cursor::Start))),
+            Ok(Taken::Arrived(arrival)) => {
+                let place = arrival.unit();
+                if place >= self.units.len() {
+                    bay.slot = Slot::Arrived(arrival);
+                    return Ok(Some(one(Cursor::Start)));
+                }
+                let done = serve_request(
+                    &mut self.units[place],
+                    &mut bay.queue,
+                    &mut self.memory,
+                    &mut bay.slot,
+                    arrival,
+                    &mut self.seats[0].out,
+                );
+                Ok(Some(served_so(done, self.seats[0].out.len())))
+            }
+        }
     }
 
     /// Where to look once a seat took a step: a function may find its mark clear.

@@ -17,7 +17,7 @@ use phases::{
 };
 
 /// The seat that serves a request queue.
-fn owner(workers: u16, queue: u16) -> usize
+pub(crate) fn owner(workers: u16, queue: u16) -> usize
     requires some { 1 ≤ workers }
     requires request { 2 ≤ queue }
     ensures { result ≡ owner workers queue }
@@ -34,7 +34,7 @@ impl Device {
     }
 
     /// Whether a queue has nothing to take, by which little more than its index is looked at.
-    fn is_silent(&self, number: u16) -> bool
+    pub(crate) fn is_silent(&self, number: u16) -> bool
         requires sound { IsSound self.now }
         ensures { IsTrue result → Applies self.now (AnEvent.Fetch number) → ⊥ }
     {

@@ -9,14 +9,12 @@ use crate::bay::Bay;
 use crate::config::{Config, StartFault, form};
 use crate::device::Device;
 use crate::seat::Seat;
-use crate::service::Cursor;
+use crate::service::{Cursor, Served};
+use crate::sound::all_are_sound;
 use block_store::NoMemory;
 use decisions::{Inventory, UnitSpec};
 use deeds::Event;
-use deeds::laws::{
-    every_run_goes_on, functions_find_their_units, held_buffers_are_outstanding, lists_have_room,
-    logs_are_numbered, parts_stay, tasks_are_at_work, tickets_rise, what_stands_is_owned,
-};
+use deeds::laws::every_run_goes_on;
 use event_queue::{EventPort, WaitingEvents};
 use guest_mem::GuestMem;
 use interleavings::laws::the_promise_is_kept;
@@ -206,14 +204,7 @@ impl World {
         ensures sound { IsSound self.now }
         ensures few { AreFew self.now }
     {
-        what_stands_is_owned();
-        tasks_are_at_work();
-        tickets_rise();
-        lists_have_room();
-        functions_find_their_units();
-        logs_are_numbered();
-        held_buffers_are_outstanding();
-        parts_stay();
+        all_are_sound();
         let _ = &self.device.memory;
     }
 
@@ -293,9 +284,16 @@ impl World {
         the_promise_is_kept();
         self.is_reached();
         let mut cursor = Cursor::Start;
-        for count in 0..u64::MAX {
-            match self.turn(cursor) {
-                Ok(Some(next)) => cursor = next,
+        let mut count = 0;
+        for _turn in 0..u64::MAX {
+            if count == u64::MAX {
+                return Err(NoMemory);
+            }
+            match self.turn(cursor, u64::MAX - count) {
+                Ok(Some(served)) => {
+                    cursor = served.next;
+                    count += served.steps;
+                }
                 Ok(None) => return Ok(count),
                 Err(NoMemory) => return Err(NoMemory),
             }
@@ -303,14 +301,15 @@ impl World {
         Err(NoMemory)
     }
 
-    /// The first event of the order that applies, from a place on; and from where on to look then.
+    /// The first event of the order that applies, from a place on, or a request as a whole where that may be counted.
     #[inline(always)]
-    fn turn(&mut self, cursor: Cursor) -> Result<Option<Cursor>, NoMemory>
-        requires { NoneBefore cursor self.old }
-        ensures { TurnsNext self.old result self.new }
+    fn turn(&mut self, cursor: Cursor, most: u64) -> Result<Option<Served>, NoMemory>
+        requires most { 1 ≤ most }
+        requires before { NoneBefore cursor self.old }
+        ensures { TurnsNext most self.old result self.new }
     {
         self.is_sound();
-        self.device.turn(cursor)
+        self.device.turn(cursor, most)
     }
 
     /// The guest's write: puts bytes at an address. False, with nothing changed, where one of them would lie outside memory.

@@ -1,6 +1,4 @@
-use Rattle.std.proofs.Common.{true, sym, ◌∙◌}
-use Rattle.phases.specs.Parts.{hand_of, held_hand}
-use Rattle.phases.specs.Units.{Commits}
+use Rattle.std.proofs.Common.{sym, ◌∙◌}
 use Rattle.phases.proofs.Commits.{taken}
 use Rattle.phases.proofs.committing.phase_commit.Goals as goal
 

@@ -2,8 +2,9 @@ use Rattle.std.proofs.Common.{◌≡◌, ◌∙◌, refl, sym, ap, subst, length
 use Rattle.deeds.specs.Events.{Event}
 use Rattle.deeds.specs.Applies.{Applies}
 use Rattle.deeds.specs.World.{PlainWorld}
-use Rattle.world.specs.Cursors.{TurnsNext, NoEnterBelow}
+use Rattle.world.specs.Cursors.{TurnsNext, NoEnterBelow, enter_from}
 use Rattle.world.proofs.Choosing.{idle, and_next}
+use Rattle.world.proofs.Sequences.{next_one}
 use Rattle.world.proofs.Woken.{enters_from, enters_past, enter_next}
 use Rattle.world.proofs.device.Device.from_enter.Goals as goal
 
@@ -12,19 +13,22 @@ loop-number-init c =
     let d = c.self.inside in
     let w = c.args.self.now in
     let end : c.len-number-end.result ≡ length d.bays.items = omega (arith, d.bays.ok.0, c.len-number-end.ensures) in
+    let many : c.len.result ≡ length d.bays.items = omega (arith, d.bays.ok.0, c.len.ensures) in
     let same : length d.bays.items ≡ length w.queues = ap (λ (z : PlainWorld). length z.queues) c.self.view_is in
+    let first = c.first_enter-number.ensures ∙ ap (λ n. enter_from c.args.cursor n) (many ∙ same) in
     record {
       same = refl;
-      below = subst (λ n. NoEnterBelow n w) (sym c.first_enter-number.ensures)
+      below = subst (λ n. NoEnterBelow n w) (sym first)
           (enters_from w c.args.cursor c.requires.before);
       all = end ∙ same;
     }
 
 pub returns-then-enter : goal.returns-then-enter
 returns-then-enter c =
-    enter_next c.args.self.now c.loop-number.self c.enter.new.self c.loop-number.number c.enter.result
+    next_one c.args.most c.args.self.now c.after_enter.result c.one.result c.enter.new.self c.requires.most c.one.ensures
+    (enter_next c.args.self.now c.loop-number.self c.enter.new.self c.loop-number.number c.enter.result
     c.after_enter.result c.if-enter.true c.loop-number.invariant.same c.requires.start c.requires.direct c.requires.seat c.loop-number.invariant.below
-    (omega (arith, c.loop-number-test.true, c.loop-number.invariant.all)) c.enter.ensures c.after_enter.ensures
+    (omega (arith, c.loop-number-test.true, c.loop-number.invariant.all)) c.enter.ensures c.after_enter.ensures)
 
 pub loop-number-preserved : goal.loop-number-preserved
 loop-number-preserved c =
@@ -45,5 +49,5 @@ from_fetch-requires-clause-before c =
 
 pub returns : goal.returns
 returns c =
-    subst (λ w. TurnsNext w c.from_fetch.result c.from_fetch.new.self) c.loop-number.invariant.same
+    subst (λ w. TurnsNext c.args.most w c.from_fetch.result c.from_fetch.new.self) c.loop-number.invariant.same
     c.from_fetch.ensures

@@ -1,39 +1,50 @@
-use Rattle.std.proofs.Common.{sym, subst, arith}
+use Rattle.std.proofs.Common.{◌∙◌, sym, subst, ap, length, arith}
 use Rattle.deeds.specs.Events.{Event}
 use Rattle.deeds.specs.Applies.{Applies}
-use Rattle.world.specs.Sound.{AreFew, IsSound}
-use Rattle.world.proofs.Choosing.{idle, and_next}
-use Rattle.world.proofs.Woken.{fetch_next, fetch_wants, nothing_next}
+use Rattle.deeds.specs.World.{PlainWorld}
+use Rattle.world.specs.Cursors.{ServesNext, NoneBeforeFetch, NoFetchBelow}
+use Rattle.world.specs.Sound.{AreFew, IsSound, IsWhole}
+use Rattle.world.proofs.Choosing.{and_next}
+use Rattle.world.proofs.Woken.{queue_wants, nothing_next}
 use Rattle.world.proofs.device.Device.from_fetch.Goals as goal
 
-pub fetch-requires : goal.fetch-requires
-fetch-requires c =
+pub serve_queue-requires : goal.serve_queue-requires
+serve_queue-requires c =
+    let same = sym c.loop-number.invariant.same in
     record {
-      sound = subst IsSound (sym c.loop-number.invariant.same) c.requires.sound;
-      few = subst AreFew (sym c.loop-number.invariant.same) c.requires.few;
+      most = c.requires.most;
+      whole = subst IsWhole same c.requires.whole;
+      sound = subst IsSound same c.requires.sound;
+      few = subst AreFew same c.requires.few;
+      before = subst NoneBeforeFetch same c.requires.before;
+      below = subst (NoFetchBelow c.loop-number.number) same c.loop-number.invariant.below;
+      there = omega (
+        arith,
+        c.loop-number-test.true,
+        c.loop-number.invariant.all,
+        ap (λ (w : PlainWorld). length w.queues) c.loop-number.invariant.same,
+      );
     }
 
-pub returns-in-Ok-true : goal.returns-in-Ok-true
-returns-in-Ok-true c =
-    fetch_next c.args.self.now c.loop-number.self c.fetch.new.self c.loop-number.number c.in-Ok-true.field-0
-    c.after_fetch.result c.in-Ok-true.field-0-test c.loop-number.invariant.same c.requires.before
-    c.loop-number.invariant.below (omega (arith, c.loop-number-test.true, c.loop-number.invariant.all))
-    c.in-Ok-true.ensures c.after_fetch.ensures
+pub returns-in-Ok-Some : goal.returns-in-Ok-Some
+returns-in-Ok-Some c =
+    subst (λ w. ServesNext c.args.most w c.in-Ok-Some.served c.serve_queue.new.self) c.loop-number.invariant.same
+    (rw c.in-Ok-Some.field-0-is at c.in-Ok-Some.ensures)
 
 pub returns-in-Err : goal.returns-in-Err
 returns-in-Err c =
-    fetch_wants c.args.self.now c.loop-number.self c.fetch.new.self c.loop-number.number c.in-Err.field-0
+    queue_wants c.args.self.now c.loop-number.self c.serve_queue.new.self c.loop-number.number
     c.loop-number.invariant.same c.requires.before c.loop-number.invariant.below
     (omega (arith, c.loop-number-test.true, c.loop-number.invariant.all)) c.in-Err.ensures
 
 pub loop-number-preserved : goal.loop-number-preserved
 loop-number-preserved c =
     let n = c.loop-number.number in
-    let here = idle (Event.Fetch n) c.args.self.now c.loop-number.self c.fetch.new.self c.in-Ok-false.field-0
-    c.in-Ok-false.field-0-test c.loop-number.invariant.same c.in-Ok-false.ensures in
+    let t = rw c.in-Ok-None.field-0-is at c.in-Ok-None.ensures in
     record {
-      same = here.0;
-      below = and_next (λ i. Applies c.args.self.now (Event.Fetch i) → ⊥) n c.loop-number.invariant.below here.1;
+      same = t.0 ∙ c.loop-number.invariant.same;
+      below = and_next (λ i. Applies c.args.self.now (Event.Fetch i) → ⊥) n c.loop-number.invariant.below
+          (subst (λ w. Applies w (Event.Fetch n) → ⊥) c.loop-number.invariant.same t.1);
       all = c.loop-number.invariant.all;
     }
 

@@ -5,6 +5,7 @@ use Rattle.std.proofs.lemmas.List.{length-map}
 use Rattle.world.specs.Kept.{seat_of}
 use Rattle.world.specs.Cursors.{TurnsNext, NoStart, NoDirect, NoneBefore, NoSeatBelow, seat_from}
 use Rattle.world.proofs.Choosing.{none_of, and_next}
+use Rattle.world.proofs.Sequences.{next_one}
 use Rattle.world.proofs.Woken.{seats_from, seats_past, seat_next}
 use Rattle.world.proofs.device.Device.from_seats.Goals as goal
 
@@ -25,10 +26,11 @@ loop-number-init c =
 
 pub returns-then-turn_seat : goal.returns-then-turn_seat
 returns-then-turn_seat c =
-    seat_next c.args.self.now c.loop-number.self c.turn_seat.new.self c.loop-number.number c.turn_seat.result
+    next_one c.args.most c.args.self.now c.after_seat.result c.one.result c.turn_seat.new.self c.requires.most c.one.ensures
+    (seat_next c.args.self.now c.loop-number.self c.turn_seat.new.self c.loop-number.number c.turn_seat.result
     c.after_seat.result c.if-turn_seat.true c.loop-number.invariant.same c.requires.start c.requires.direct
     c.loop-number.invariant.below (omega (arith, c.loop-number-test.true, c.loop-number.invariant.all))
-    c.turn_seat.ensures c.after_seat.ensures
+    c.turn_seat.ensures c.after_seat.ensures)
 
 pub loop-number-preserved : goal.loop-number-preserved
 loop-number-preserved c =
@@ -58,5 +60,5 @@ from_enter-requires-clause-before c =
 
 pub returns : goal.returns
 returns c =
-    subst (λ w. TurnsNext w c.from_enter.result c.from_enter.new.self) c.loop-number.invariant.same
+    subst (λ w. TurnsNext c.args.most w c.from_enter.result c.from_enter.new.self) c.loop-number.invariant.same
     c.from_enter.ensures

@@ -1,13 +1,7 @@
-use Rattle.std.proofs.Common.{◌≡◌, ◌<◌, ◌+◌, ◌*◌, ◌≤◌, length, Some, refl, sym, ap, subst, ◌∙◌, arith}
+use Rattle.std.proofs.Common.{◌≡◌, ◌<◌, length, Some, refl, sym, ap, ◌∙◌}
 use Rattle.std.specs.Prelude.{slice_get}
-use Rattle.std.proofs.lemmas.List.{length-map}
 use Rattle.std.proofs.lemmas.Option.{slice_get_read}
-use Rattle.deeds.specs.World.{PlainWorld, Seat}
-use Rattle.deeds.specs.Events.{Event as PlainEvent}
-use Rattle.deeds.specs.Standing.{HaveRoom}
-use Rattle.world.specs.Kept.{KeptSeat, seat_of}
-use Rattle.world.specs.Sound.{AreFew}
-use Rattle.world.specs.Steps.{TurnsOrWants}
+use Rattle.world.specs.Kept.{KeptSeat}
 use Rattle.world.specs.contracts.device.Device as seen
 use Rattle.world.specs.contracts.seat.Seat as seat
 use Rattle.world.proofs.Setting.{list_of, listing, unit_kept}

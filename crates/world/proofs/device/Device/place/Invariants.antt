@@ -1,4 +1,4 @@
-use Rattle.std.proofs.Common.{◌≡◌, ◌≤◌, ◌<◌, ℕ, length, Some}
+use Rattle.std.proofs.Common.{◌≡◌, ◌<◌, ℕ, length, Some}
 use Rattle.std.specs.Prelude.{slice_get}
 use Rattle.unit_history.specs.Unit.{PlainUnit}
 use Rattle.world.proofs.device.Device.place.Given as goal

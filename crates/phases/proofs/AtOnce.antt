@@ -1,0 +1,60 @@
+-- What a request that is served at once is, by what the calls of its unit answer.
+use Rattle.std.proofs.Common.{◌≡◌, ℕ, Bool, true, List, ap, sym, subst}
+use Rattle.ring_core.specs.declared.log.Ticket.{Ticket}
+use Rattle.history.specs.Endings.{Ending}
+use Rattle.task_set.specs.Jobs.{PlainJob, Jobs}
+use Rattle.unit_history.specs.Unit.{PlainUnit}
+use Rattle.unit_history.specs.Calls as calls
+use Rattle.unit_history.specs.Endings.{ending_of}
+use Rattle.unit_history.specs.declared.answers.Outcome as answers
+use Rattle.unit_history.specs.declared.answers.Entered.TheVariants as entered
+use Rattle.deeds.specs.Parts.{Outcome, Hand}
+use Rattle.phases.specs.Queue.{Lent}
+use Rattle.phases.specs.Units.{Commits, Leaves}
+use Rattle.phases.specs.Answering.{Answers}
+use Rattle.phases.specs.Serving.{ServesAtOnce}
+use Rattle.phases.proofs.Commits.{committed}
+use Rattle.phases.proofs.Enters.{runs}
+
+-- what came of the commit
+abbrev came : answers.Outcome → Outcome
+came what = Outcome.Ended (ending_of what)
+
+-- a job that was handed out is committed, whatever the seat
+commits : (x : PlainJob) (u v : PlainUnit) (what : answers.Outcome) → calls.Commits u x what v
+    → Commits (Hand.Taken x) u true v (Hand.Done x (came what))
+commits x u v what c =
+    λ k.
+    let (d, of, does, ends) = committed k x u v what c in
+    (d, of, does, ap (λ (e : Ending). Hand.Done x (Outcome.Ended e)) ends)
+
+-- all of it
+all : (x : PlainJob) (u v z u' : PlainUnit) (q q' : Lent) (m m' : List ℕ) (out out' : Jobs) (left : Bool)
+    (what : answers.Outcome) → calls.Enters u x (entered.Run x) v → calls.Commits v x what z
+    → Answers (Hand.Done x (came what)) q m true q' m' (Hand.Answered x.unit x.chain.ticket)
+    → Leaves (Hand.Answered x.unit x.chain.ticket) z out left u' Hand.Free out'
+    → ServesAtOnce x u q m out left u' q' m' out'
+all x u v z u' q q' m m' out out' left what enters ran answered leaves =
+    record {
+      entered = v;
+      committed = z;
+      outcome = came what;
+      enters = λ list. runs x u v list x enters;
+      commits = commits x v z what ran;
+      answers = answered;
+      leaves = leaves;
+    }
+
+-- the same of the job that the unit handed out, which is the request's, and of the ticket that was used
+pub served : (x y : PlainJob) (t : Ticket) (u v z u' : PlainUnit) (q q' : Lent) (m m' : List ℕ) (out out' : Jobs)
+    (left : Bool) (what : answers.Outcome) → calls.Enters u x (entered.Run y) v → calls.Commits v y what z
+    → t ≡ y.chain.ticket
+    → Answers (Hand.Done y (came what)) q m true q' m' (Hand.Answered y.unit y.chain.ticket)
+    → ((place : ℕ) → Leaves (Hand.Answered place t) z out left u' Hand.Free out')
+    → ServesAtOnce x u q m out left u' q' m' out'
+served x y t u v z u' q q' m m' out out' left what enters ran used answered leaves =
+    let is : y ≡ x = enters.0 in
+    let enters_y = subst (λ j. calls.Enters u j (entered.Run y) v) (sym is) enters in
+    let leaves_y = subst (λ k. Leaves (Hand.Answered y.unit k) z out left u' Hand.Free out') used (leaves y.unit) in
+    subst (λ j. ServesAtOnce j u q m out left u' q' m' out') is
+    (all y u v z u' q q' m m' out out' left what enters_y ran answered leaves_y)

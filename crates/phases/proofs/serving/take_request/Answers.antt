@@ -1,0 +1,70 @@
+use Rattle.std.proofs.Common.{◌≤◌, ap, arith, refl, sym, subst, ◌∙◌}
+use Rattle.ring_core.specs.State.{RingState, Owns}
+use Rattle.phases.specs.Parts.{slot_of}
+use Rattle.phases.proofs.Reading.{read_of_taken}
+use Rattle.phases.proofs.Taking.{request_taken, broken}
+use Rattle.deeds.specs.Deeds.{Deed}
+use Rattle.deeds.specs.Parts.{Slot}
+use Rattle.phases.proofs.serving.take_request.Goals as goal
+
+pub decided-requires : goal.decided-requires
+decided-requires c =
+    let looked = rw c.in-Ok-Got.field-0-is at c.in-Ok-Got.ensures in
+    let fetched = c.in-Ok-Got.fetched in
+    read_of_taken c.args.queue.now.ring c.fetch.new.self.ring c.args.memory.now fetched.chain fetched.bytes.items
+    (c.if-not-fits.ensures.0 refl) c.parts-parts.ensures.fit looked.0
+
+pub returns-in-Ok-Broke : goal.returns-in-Ok-Broke
+returns-in-Ok-Broke c =
+    let looked = rw c.in-Ok-Broke.field-0-is at c.in-Ok-Broke.ensures in
+    let old = c.args.queue.now in
+    record {
+      takes = (
+        omega (arith, c.number.ensures, c.if-number-lt2.false),
+        record { empty = c.if-not-is_empty.ensures.0 refl; fits = c.if-not-fits.ensures.0 refl },
+        (
+          Deed.Break old.ring.queue looked.fault,
+          refl,
+          broken c.args.inventory.now old c.fetch.new.self c.args.memory.now (slot_of c.args.slot.now) looked,
+        ),
+      );
+      owned = tt;
+    }
+
+pub returns-in-Some : goal.returns-in-Some
+returns-in-Some c =
+    let looked = rw c.in-Ok-Got.field-0-is at c.in-Ok-Got.ensures in
+    let fetched = c.in-Ok-Got.fetched in
+    let decides = c.in-Some.ensures in
+    let two : 2 ≤ c.args.queue.now.ring.queue = omega (arith, c.number.ensures, c.if-number-lt2.false) in
+    record {
+      takes = (
+        (
+          two,
+          record { empty = c.if-not-is_empty.ensures.0 refl; fits = c.if-not-fits.ensures.0 refl },
+          request_taken c.args.inventory.now c.args.queue.now c.fetch.new.self c.args.memory.now fetched.chain
+              fetched.bytes.items (slot_of c.args.slot.now) looked.0 looked.1 (Slot.Arrived c.in-Some.arrival) two decides.0,
+        ),
+        decides.1,
+      );
+      owned = (
+        c.if-not-fits.ensures.0 refl ∙ sym (ap (λ (r : RingState). r.memory) looked.0.after),
+        subst (λ x. Owns c.fetch.new.self.ring x) (sym decides.0.0) looked.0.owned,
+      );
+    }
+
+pub returns-in-None : goal.returns-in-None
+returns-in-None c =
+    let looked = rw c.in-Ok-Got.field-0-is at c.in-Ok-Got.ensures in
+    let fetched = c.in-Ok-Got.fetched in
+    let decides = c.in-None.ensures in
+    let two : 2 ≤ c.args.queue.now.ring.queue = omega (arith, c.number.ensures, c.if-number-lt2.false) in
+    record {
+      takes = (
+        two,
+        record { empty = c.if-not-is_empty.ensures.0 refl; fits = c.if-not-fits.ensures.0 refl },
+        request_taken c.args.inventory.now c.args.queue.now c.fetch.new.self c.args.memory.now fetched.chain
+            fetched.bytes.items (slot_of c.args.slot.now) looked.0 looked.1 (slot_of c.decided.new.slot) two decides,
+      );
+      owned = tt;
+    }

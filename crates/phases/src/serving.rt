@@ -1,0 +1,175 @@
+//! A request served at once: what the phases do of it one after another, with nothing put down between them.
+
+ghost use Rattle.std.specs.Prelude.{◌≡◌, ◌+◌, ◌≤◌, ◌^◌, length, min, true, is_some};
+ghost use Rattle.ring_core.specs.Parts.{readable_total};
+ghost use Rattle.ring_core.specs.State.{Owns};
+ghost use Rattle.deeds.specs.Parts as plain;
+ghost use Rattle.phases.specs.Queue.{with_slot, completing};
+ghost use Rattle.phases.specs.Doing.{HasPlaces};
+ghost use Rattle.phases.specs.Parts.{slot_of};
+ghost use Rattle.phases.specs.Units.{Leaves};
+ghost use Rattle.phases.specs.Answering.{Answers};
+ghost use Rattle.phases.specs.Outcomes.{WritesWhole};
+ghost use Rattle.phases.specs.Serving.{Decides, TakesRequest, IsOutstanding, Serves};
+ghost use Rattle.unit_history.specs.Endings.{ending_of, FitsNeed};
+ghost use Rattle.cdb.specs.Need.{need_of};
+
+use crate::answer::write_outcome;
+use crate::fetching::lengths_of_chain;
+use crate::queue::{Fetch, Queue};
+use crate::ready::Ready;
+use crate::refusal::Refusal;
+use crate::slot::Slot;
+use block_store::NoMemory;
+use decisions::{Decision, Inventory, decide};
+use guest_mem::GuestMem;
+use ring_core::{Answered, Fetched};
+use unit_history::{Arrival, Entered, Job, JobList, Outcome, UnitState, Unknown};
+
+/// What was taken from a request queue.
+#[derive(Debug, Drop)]
+pub enum Taken {
+    /// Nothing.
+    Nothing,
+    /// A chain whose answer stands in the slot now, or the first fault.
+    Other,
+    /// A request.
+    Arrived(Arrival),
+}
+
+/// What is decided of a chain that was taken: the request, or nothing where its answer stands in the slot.
+#[inline(always)]
+fn decided(inventory: &Inventory, fetched: Fetched, slot: &mut Slot) -> Option<Arrival>
+    requires { length fetched.bytes.items ≡ min 1048627 (readable_total fetched.chain.parts) }
+    ensures { Decides inventory.now fetched.chain fetched.bytes.items (slot_of slot.old) result (slot_of slot.new) }
+{
+    let Fetched {
+        mut chain,
+        mut bytes,
+    } = fetched;
+    let lengths = lengths_of_chain(&chain);
+    match decide(inventory, &mut bytes, &lengths) {
+        Decision::Direct(answer) => {
+            chain.keep_room(bytes);
+            *slot = Slot::Ready(Ready::told(chain, answer));
+            None
+        }
+        Decision::Enter(unit, request) => {
+            chain.keep_room(bytes);
+            Some(Arrival::new(unit, chain, request))
+        }
+    }
+}
+
+/// Takes the next chain of a request queue as [`phase_fetch`](crate::phase_fetch) does, but for a request that arrives:
+/// that one is given to whoever calls, who puts it into the slot or serves it. Its chain is outstanding at the queue.
+#[inline(always)]
+pub fn take_request(
+    queue: &mut Queue,
+    slot: &mut Slot,
+    memory: &GuestMem,
+    inventory: &Inventory,
+) -> Result<Taken, NoMemory>
+    ensures takes { TakesRequest inventory.now memory.now (slot_of slot.old) queue.old result (slot_of slot.new) queue.new }
+    ensures owned { IsOutstanding memory.now result queue.new }
+{
+    if queue.number() < 2 || !slot.is_empty() || !queue.fits(memory) {
+        return Ok(Taken::Nothing);
+    }
+    match queue.fetch(memory) {
+        Err(NoMemory) => Err(NoMemory),
+        Ok(Fetch::Idle) => Ok(Taken::Nothing),
+        Ok(Fetch::Broke) => Ok(Taken::Other),
+        Ok(Fetch::Got(fetched)) => {
+            let _parts = fetched.chain.parts();
+            match decided(inventory, fetched, slot) {
+                Some(arrival) => Ok(Taken::Arrived(arrival)),
+                None => Ok(Taken::Other),
+            }
+        }
+    }
+}
+
+/// Writes what answers a job over the writable parts of its chain, by what came of its commit.
+#[inline(always)]
+fn write_job(memory: &mut GuestMem, job: &Job, outcome: &Outcome) -> u32
+    requires fits { length memory.old ≡ job.now.chain.memory }
+    requires payload { FitsNeed (need_of job.now.entry.command).into outcome.now }
+    ensures written { WritesWhole job.now (ending_of outcome.now) memory.old result memory.new }
+    ensures size { length memory.new ≡ length memory.old }
+{
+    write_outcome(memory, job.chain(), &job.lengths(), outcome)
+}
+
+/// Answers a job by what came of its commit, and uses its chain.
+#[inline(always)]
+fn answer_job(queue: &mut Queue, memory: &mut GuestMem, job: Job, outcome: &Outcome) -> Answered
+    requires fits { length memory.old ≡ queue.old.ring.memory }
+    requires owned { Owns queue.old.ring job.chain }
+    requires payload { FitsNeed (need_of job.entry.command).into outcome.now }
+    ensures ticket { result ≡ job.chain.ticket }
+    ensures answers { Answers (plain.Hand.Done job (plain.Outcome.Ended (ending_of outcome.now))) queue.old memory.old true
+        queue.new memory.new (plain.Hand.Answered job.unit job.chain.ticket) }
+    ensures size { length memory.new ≡ length memory.old }
+{
+    let len = write_job(memory, &job, outcome);
+    queue.complete(memory, job.into_chain(), len)
+}
+
+/// The task of a chain that was completed leaves. Whether the unit knew it.
+#[inline(always)]
+fn leave(unit: &mut UnitState, answered: Answered, out: &mut JobList) -> bool
+    requires { HasPlaces out.old }
+    ensures { (place : _) → Leaves (plain.Hand.Answered place answered) unit.old out.old result unit.new plain.Hand.Free out.new }
+{
+    match unit.leave(answered, out) {
+        Ok(()) => true,
+        Err(Unknown) => false,
+    }
+}
+
+/// A request comes to its unit. Where nothing blocks its task its command runs whole, it is answered by what came of that,
+/// its chain is used, and the task leaves: as by [`phase_enter`](crate::phase_enter), [`phase_commit`](crate::phase_commit),
+/// [`phase_answer`](crate::phase_answer) and [`phase_leave`](crate::phase_leave) one after another, with its job in no
+/// list and no hand between them. Then it answers whether the unit knew the task when it left. Else `None`: the
+/// task waits at its unit, or what refuses the request stands in the slot. The queue owns the chain, and the list has
+/// 64 places free, which the caller sees to.
+#[inline(always)]
+pub fn serve_request(
+    unit: &mut UnitState,
+    queue: &mut Queue,
+    memory: &mut GuestMem,
+    slot: &mut Slot,
+    arrival: Arrival,
+    out: &mut JobList,
+) -> Option<bool>
+    requires fits { length memory.old ≡ queue.old.ring.memory }
+    requires owned { Owns queue.old.ring arrival.chain }
+    requires places { HasPlaces out.old }
+    requires empty { slot_of slot.old ≡ plain.Slot.Empty }
+    ensures serves { Serves arrival unit.old queue.old memory.old (slot_of slot.old) out.old result
+        unit.new queue.new memory.new (slot_of slot.new) out.new }
+    ensures size { length memory.new ≡ length memory.old }
+{
+    match unit.enter(arrival) {
+        Entered::Run(job) => {
+            let outcome = unit.commit(&job);
+            let answered = answer_job(queue, memory, job, &outcome);
+            unit.keep_room(outcome);
+            Some(leave(unit, answered, out))
+        }
+        Entered::Parked => None,
+        Entered::Full(job) => {
+            *slot = Slot::Ready(Ready::refused(job, Refusal::Full));
+            None
+        }
+        Entered::Busy(job) => {
+            *slot = Slot::Ready(Ready::refused(job, Refusal::Busy));
+            None
+        }
+        Entered::Stale(job) => {
+            *slot = Slot::Ready(Ready::refused(job, Refusal::Stale));
+            None
+        }
+    }
+}

@@ -1,0 +1,22 @@
+//! What every device is that some trace reached.
+
+ghost use Rattle.world.specs.Sound.{AreSound};
+
+use deeds::laws::{
+    functions_find_their_units, held_buffers_are_outstanding, lists_have_room, logs_are_numbered,
+    parts_stay, tasks_are_at_work, tickets_rise, what_stands_is_owned,
+};
+
+/// What each step rests on holds of every device that some trace reached.
+pub(crate) fn all_are_sound()
+    ensures { AreSound }
+{
+    what_stands_is_owned();
+    tasks_are_at_work();
+    tickets_rise();
+    lists_have_room();
+    functions_find_their_units();
+    logs_are_numbered();
+    held_buffers_are_outstanding();
+    parts_stay();
+}
