@@ -2,7 +2,7 @@
 
 use crate::meeting::Meeting;
 use crate::parts::Parts;
-use crate::serving::{self, Asked, FIRST, SECOND};
+use crate::serving::{self, Asked, FIRST, SAME_UNIT, SECOND};
 use bays::{Bays, Locked, Open, Plain};
 use decisions::Inventory;
 use guest_mem::GuestMem;
@@ -12,6 +12,11 @@ use std::sync::{Mutex, Wait};
 use std::thread;
 use std::thread::Threads;
 use unit_history::UnitState;
+
+/// For how many turns a thread waits for one that comes, and for one that can't come.
+const LONG: u32 = 10_000_000;
+
+const SHORT: u32 = 100_000;
 
 /// Whether a request of each kind is served, each once.
 fn serves_all<B: Bays>(alloc: Global, bays: &mut B, inventory: &Inventory) -> bool {
@@ -62,15 +67,16 @@ struct Shared {
 }
 
 impl Shared {
-    /// A device of which nothing was asked; `None` where memory was refused.
-    fn new(alloc: Global) -> Option<Shared> {
+    /// A device of which nothing was asked, at whose gate a thread waits for so many turns; `None` where memory was
+    /// refused.
+    fn new(alloc: Global, turns: u32) -> Option<Shared> {
         let parts = Parts::new(alloc)?;
         Some(Shared {
             units: under_locks(alloc, parts.units)?,
             queues: under_locks(alloc, parts.queues)?,
             memory: Mutex::new(parts.memory),
             inventory: parts.inventory,
-            gate: Meeting::new(),
+            gate: Meeting::new(turns),
         })
     }
 
@@ -87,7 +93,7 @@ impl Shared {
 
 /// Whether all is served by parts under locks; `None` where memory was refused.
 pub fn serves_locked<R: Wait>(rt: &R, alloc: Global) -> Option<bool> {
-    let shared = Shared::new(alloc)?;
+    let shared = Shared::new(alloc, LONG)?;
     Some(serves_all(alloc, &mut shared.bays(rt), &shared.inventory))
 }
 
@@ -110,18 +116,35 @@ fn serve_both<R: Threads + Wait + Sync, S: Serves + Sync>(
     rt: &R,
     alloc: Global,
     shared: &S,
+    second: Asked,
 ) -> (bool, bool) {
     thread::join(
         rt,
         move || shared.serves(rt, alloc, FIRST),
-        move || shared.serves(rt, alloc, SECOND),
+        move || shared.serves(rt, alloc, second),
     )
+}
+
+/// Whether each of two threads serves what it asks for, and whether both held a unit's lock at once, of which each
+/// waits for so many turns; `None` where memory was refused.
+fn hold<R: Threads + Wait + Sync>(
+    rt: &R,
+    alloc: Global,
+    second: Asked,
+    turns: u32,
+) -> Option<(bool, bool, bool)> {
+    let shared = Shared::new(alloc, turns)?;
+    let (first, second) = serve_both(rt, alloc, &shared, second);
+    Some((first, second, shared.gate.has_met()))
 }
 
 /// Whether each of two threads serves what it asks for, and whether they hold the locks of two units at once; `None`
 /// where memory was refused.
 pub fn hold_two<R: Threads + Wait + Sync>(rt: &R, alloc: Global) -> Option<(bool, bool, bool)> {
-    let shared = Shared::new(alloc)?;
-    let (first, second) = serve_both(rt, alloc, &shared);
-    Some((first, second, shared.gate.has_met()))
+    hold(rt, alloc, SECOND, LONG)
+}
+
+/// The same of one unit, which both ask for.
+pub fn hold_one<R: Threads + Wait + Sync>(rt: &R, alloc: Global) -> Option<(bool, bool, bool)> {
+    hold(rt, alloc, SAME_UNIT, SHORT)
 }

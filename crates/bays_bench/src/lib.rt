@@ -8,4 +8,4 @@ mod meeting;
 mod parts;
 mod serving;
 
-pub use lending::{hold_two, refuses_plain, serves_locked, serves_plain};
+pub use lending::{hold_one, hold_two, refuses_plain, serves_locked, serves_plain};

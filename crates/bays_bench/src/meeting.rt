@@ -5,20 +5,19 @@ use ring_core::Ticket;
 use std::sync::atomic::{AtomicU64, Ordering};
 use std::thread;
 
-/// For how many turns a thread waits for the other.
-const TURNS: u32 = 10_000_000;
-
-/// A gate that holds a thread up where it has its unit's lock, until another came there too.
+/// A gate that holds a thread up where it has its unit's lock, until another came there too, or for so many turns.
 #[derive(Drop)]
 pub struct Meeting {
+    turns: u32,
     came: AtomicU64,
     missed: AtomicU64,
 }
 
 impl Meeting {
-    /// A gate to which no thread came.
-    pub(crate) fn new() -> Meeting {
+    /// A gate to which no thread came, with as many turns.
+    pub(crate) fn new(turns: u32) -> Meeting {
         Meeting {
+            turns,
             came: AtomicU64::new(0),
             missed: AtomicU64::new(0),
         }
@@ -36,7 +35,7 @@ impl Gate for Meeting {
             return;
         }
         self.came.fetch_add(1, Ordering::SeqCst);
-        for _ in 0..TURNS {
+        for _ in 0..self.turns {
             if self.came.load(Ordering::SeqCst) >= 2 {
                 return;
             }

@@ -33,6 +33,9 @@ pub const SECOND: Asked = Asked {
     lun: 1,
 };
 
+/// One of the first unit, on the other request queue.
+pub const SAME_UNIT: Asked = Asked { queue: 3, ..FIRST };
+
 /// One of a target that isn't there.
 pub const ABSENT: Asked = Asked { target: 7, ..FIRST };
 

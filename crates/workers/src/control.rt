@@ -99,8 +99,10 @@ fn fetch_control<R: Wait, G: Gate + Drop>(
         None,
         &shared.inventory,
     );
-    // A control chain has no receipt, and its note says nothing that its log doesn't.
-    let (_note, _slot) = direct_on(&mut bays, CONTROL, slot);
+    if !slot.is_empty() {
+        // A control chain has no receipt, and its note says nothing that its log doesn't.
+        let (_note, _slot) = direct_on(&mut bays, CONTROL, slot);
+    }
     (fetched == Ok(false), function)
 }
 
@@ -109,18 +111,25 @@ fn fetch_control<R: Wait, G: Gate + Drop>(
 pub(crate) fn manage<R: Wait, G: Gate + Drop>(
     rt: &R,
     shared: &Shared<G>,
-    function: Option<OpenFunction>,
+    function: &mut Option<OpenFunction>,
     post: Post,
-) -> (bool, Option<OpenFunction>, Post)
-    ensures seat { result.2.seat ≡ post.seat }
+) -> (bool, Post)
+    ensures seat { result.1.seat ≡ post.seat }
 {
-    match function {
-        Some(function) => go_on(rt, shared, function, post),
-        None => {
-            let (idle, function) = fetch_control(rt, shared);
-            (idle, function, post)
+    // A function is large, so it moves only where there is one.
+    if function.is_none() {
+        let (idle, opened) = fetch_control(rt, shared);
+        if opened.is_some() {
+            *function = opened;
         }
+        return (idle, post);
     }
+    let Some(open) = function.take() else {
+        return (true, post);
+    };
+    let (idle, open, post) = go_on(rt, shared, open, post);
+    *function = open;
+    (idle, post)
 }
 
 /// The event queue's next chain is taken. Whether there was nothing to do: not where memory was refused.

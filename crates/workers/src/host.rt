@@ -11,7 +11,7 @@ use crate::control::raise;
 use crate::crew::{dismiss, hire_all, join_all};
 use crate::hired::{Hired, Works};
 use crate::opening::open;
-use crate::post::{Post, clear};
+use crate::post::{Post, clear, finish};
 use crate::shared::Shared;
 use crate::worker::{Worked, Worker, work};
 use bays::{Gate, hard_on};
@@ -43,7 +43,6 @@ impl<G: Gate + Drop> Works<Post> for Shared<G> {
     fn work<R: Wait>(&self, rt: &R, post: Post, number: usize, workers: usize) -> Worked {
         let worker = Worker {
             post,
-            function: None,
             number,
             workers,
         };
@@ -188,16 +187,16 @@ impl<G: Gate + Drop> Host<G> {
         }
     }
 
-    /// The guest writes bytes, beside the workers, in one hold of the memory. `Outside`, with nothing changed, exactly
-    /// where one of them lies behind the end.
+    /// The guest writes bytes, beside the workers, in one hold of the memory. `Outside`, with nothing changed, where one of
+    /// them lies behind the end.
     pub fn poke<R: Wait>(&self, rt: &R, addr: u64, bytes: &[u8]) -> Result<(), MemFault>
         ensures { IfErr result (λ fault. fault ≡ MemFault.Outside) }
     {
         self.shared.memory.lock(rt).write(addr, bytes)
     }
 
-    /// The guest reads bytes, beside the workers, in one hold of the memory. `Outside`, with nothing read, exactly where
-    /// one of them lies behind the end.
+    /// The guest reads bytes, beside the workers, in one hold of the memory. `Outside`, with nothing read, where one of them
+    /// lies behind the end.
     pub fn peek<R: Wait>(&self, rt: &R, addr: u64, out: &mut [u8]) -> Result<(), MemFault>
         ensures fault { IfErr result (λ fault. fault ≡ MemFault.Outside) }
         ensures unchanged { OnErr result (out.new ≡ out.old) }
@@ -236,7 +235,7 @@ impl<G: Gate + Drop> Host<G> {
             waiting: _,
         } = self;
         let Some(post) = post else { unreachable!() };
-        let Post { seat, kept, .. } = clear(rt, &*shared, post);
+        let Post { seat, kept, .. } = finish(rt, &*shared, post);
         Shared::close(&*shared);
         let room = crew.len() + 1;
         let (Ok(seats), Ok(all)) = (

@@ -13,6 +13,7 @@ use phases::Hand;
 use ring_core::Ticket;
 use std::alloc::{AllocError, Global};
 use std::sync::Wait;
+use std::thread;
 use unit_history::{Job, JobList};
 
 /// What a seat has: its place at the hand-off, the jobs that may run, the job in its hand, and what it kept of those that
@@ -200,6 +201,23 @@ pub(crate) fn clear<R: Wait, G: Gate + Drop>(rt: &R, shared: &Shared<G>, post: P
         if !did {
             return post;
         }
+    }
+    unreachable!()
+}
+
+/// What this seat has is served or handed off until it has nothing: what memory was refused to is tried again, once other
+/// threads had their turn.
+pub(crate) fn finish<R: Wait, G: Gate + Drop>(rt: &R, shared: &Shared<G>, post: Post) -> Post
+    requires seat { IsSeatOf shared.now.handoff post.seat }
+    ensures seat { IsSameSeat post.seat result.seat }
+{
+    let mut post = clear(rt, shared, post);
+    for _ in rt.forever() {
+        if post.is_free() {
+            return post;
+        }
+        thread::yield_now();
+        post = clear(rt, shared, post);
     }
     unreachable!()
 }

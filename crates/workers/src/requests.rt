@@ -67,6 +67,9 @@ fn direct<R: Wait, G: Gate + Drop>(
     requires room { HasRoom post.kept }
     ensures seat { result.seat ≡ post.seat }
 {
+    if slot.is_empty() {
+        return post;
+    }
     let (note, _slot) = direct_on(&mut shared.bays(rt), at, slot);
     if let Some(note) = note {
         let ticket = note.ticket();

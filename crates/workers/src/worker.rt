@@ -17,12 +17,13 @@ use std::thread;
 /// The number of the first request queue (VIRTIO 1.2 §5.6.2).
 const FIRST_REQUEST_QUEUE: usize = 2;
 
-/// A worker: what its seat has, the function that is open, which only the first worker has, and which worker it is, of
-/// how many.
+/// In how many rounds that found something the first worker looks once at the queues that have no requests.
+const LOOKS_EVERY: u8 = 16;
+
+/// A worker: what its seat has, and which worker it is, of how many.
 #[derive(Drop)]
 pub(crate) struct Worker {
     pub(crate) post: Post,
-    pub(crate) function: Option<OpenFunction>,
     pub(crate) number: usize,
     pub(crate) workers: usize,
 }
@@ -34,49 +35,26 @@ pub(crate) struct Worked {
     pub(crate) kept: Kept,
 }
 
-impl Worker {
-    /// Whether it has no job, and no function is open.
-    fn is_free(&self) -> bool {
-        self.function.is_none() && self.post.is_free()
-    }
-
-    /// What it brings back.
-    fn ends(self) -> Worked
-        ensures { result.seat ≡ self.post.seat }
-    {
-        let Worker { post, .. } = self;
-        let Post { seat, kept, .. } = post;
-        Worked { seat, kept }
-    }
+/// What a seat brings back.
+fn ends(post: Post) -> Worked
+    ensures { result.seat ≡ post.seat }
+{
+    let Post { seat, kept, .. } = post;
+    Worked { seat, kept }
 }
 
 /// The queues of the first worker that have no requests are served a step. Whether there was nothing to do.
 fn serve_others<R: Wait, G: Gate + Drop>(
     rt: &R,
     shared: &Shared<G>,
-    worker: Worker,
-) -> (bool, Worker)
-    ensures seat { result.1.post.seat ≡ worker.post.seat }
-    ensures workers { result.1.workers ≡ worker.workers }
+    function: &mut Option<OpenFunction>,
+    post: Post,
+) -> (bool, Post)
+    ensures seat { result.1.seat ≡ post.seat }
 {
-    if worker.number != 0 {
-        return (true, worker);
-    }
-    let Worker {
-        post,
-        function,
-        number,
-        workers,
-    } = worker;
-    let (idle, function, post) = manage(rt, shared, function, post);
+    let (idle, post) = manage(rt, shared, function, post);
     let no_event = fetch_event(rt, shared);
-    let worker = Worker {
-        post,
-        function,
-        number,
-        workers,
-    };
-    (idle && no_event, worker)
+    (idle && no_event, post)
 }
 
 /// The request queues that a worker owns are served, each by one request at most. Whether there was nothing to do.
@@ -105,46 +83,57 @@ fn serve_own<R: Wait, G: Gate + Drop>(
 
 /// One round: what the seat has, then each queue that the worker owns, then a job of the hand-off. Whether there was
 /// nothing to do, and no memory was refused.
-fn round<R: Wait, G: Gate + Drop>(rt: &R, shared: &Shared<G>, worker: Worker) -> (bool, Worker)
-    requires some { 0 < worker.workers }
-    requires seat { IsSeatOf shared.now.handoff worker.post.seat }
-    ensures seat { IsSameSeat worker.post.seat result.1.post.seat }
-    ensures workers { result.1.workers ≡ worker.workers }
+fn round<R: Wait, G: Gate + Drop>(
+    rt: &R,
+    shared: &Shared<G>,
+    number: usize,
+    workers: usize,
+    post: Post,
+) -> (bool, Post)
+    requires some { 0 < workers }
+    requires seat { IsSeatOf shared.now.handoff post.seat }
+    ensures seat { IsSameSeat post.seat result.1.seat }
 {
-    let (no_other, worker) = serve_others(rt, shared, worker);
-    let Worker {
-        post,
-        function,
-        number,
-        workers,
-    } = worker;
     let post = clear(rt, shared, post);
     let (no_request, post) = serve_own(rt, shared, number, workers, post);
     let (no_job, post) = take(rt, shared, post);
-    let worker = Worker {
-        post,
-        function,
-        number,
-        workers,
-    };
-    (no_other && no_request && no_job, worker)
+    (no_request && no_job, post)
 }
 
-/// Works until the host closes, and a round then found nothing to do and left the worker nothing.
+/// Works until the host closes, and a round then looked at all queues, found nothing to do and left the worker nothing.
 pub(crate) fn work<R: Wait, G: Gate + Drop>(rt: &R, shared: &Shared<G>, worker: Worker) -> Worked
     requires some { 0 < worker.workers }
     requires seat { IsSeatOf shared.now.handoff worker.post.seat }
     ensures seat { IsSameSeat worker.post.seat result.seat }
 {
-    let mut worker = worker;
+    let Worker {
+        post,
+        number,
+        workers,
+    } = worker;
+    let mut post = post;
+    let mut function = None;
+    let mut rounds: u8 = 0;
     for _ in rt.forever() {
         let is_closing = shared.is_closing();
-        let (is_idle, next) = round(rt, shared, worker);
-        worker = next;
-        if is_idle && is_closing && worker.is_free() {
-            return worker.ends();
+        let looks = number != 0 || rounds == 0 || function.is_some();
+        let mut no_other = true;
+        if looks && number == 0 {
+            let (idle, next) = serve_others(rt, shared, &mut function, post);
+            post = next;
+            no_other = idle;
         }
-        if is_idle {
+        let (is_idle, next) = round(rt, shared, number, workers, post);
+        post = next;
+        rounds = if is_idle {
+            0
+        } else {
+            rounds.wrapping_add(1) % LOOKS_EVERY
+        };
+        if is_idle && no_other && looks {
+            if is_closing && function.is_none() && post.is_free() {
+                return ends(post);
+            }
             thread::yield_now();
         }
     }

@@ -1,5 +1,7 @@
 //! The guest of a small device, beside its workers.
 
+ghost use Rattle.std.specs.Prelude.{◌<◌, ◌^◌};
+
 use ring_core::Layout;
 use std::alloc::Global;
 use std::sync::Wait;
@@ -7,15 +9,22 @@ use std::thread;
 use workers::{Gate, Host};
 
 /// The control queue, the event queue, and three request queues, each in a page of its own.
-pub(crate) const QUEUES: u16 = 5;
+const QUEUES: u16 = 5;
+
+/// The pages of its memory.
+pub(crate) const PAGES: u32 = 16;
 
 /// The bytes of a page.
 const PAGE: u64 = 4096;
 
-/// Where a queue's request stands in its page, and where its response.
-const REQUEST: u64 = 3072;
+/// Where the buffers of the first queue lie: each queue has 8,192 bytes there, each chain 2,048 of them.
+const BUFFERS: u64 = 20480;
 
-const RESPONSE: u64 = 3584;
+/// How far behind what the device reads of a chain it writes.
+const RESPONSE: u64 = 1024;
+
+/// The bytes of a request before its data (VIRTIO 1.2 §5.6.6.1).
+const DATA: u64 = 51;
 
 /// VIRTQ_DESC_F_NEXT and VIRTQ_DESC_F_WRITE (VIRTIO 1.2, 2.7.5).
 const NEXT: u16 = 1;
@@ -25,12 +34,16 @@ const WRITE: u16 = 2;
 /// How often the guest looks for an answer.
 const LOOKS: u32 = 1_000_000;
 
-/// TEST UNIT READY for a unit, asked on a queue.
+/// A chain: its queue, which of that queue's chains it is, from 0 to 3, what the device reads of it, with a block of
+/// equal bytes behind the 51 of a request, how many bytes it reads, and how many it may write.
 #[derive(Clone, Copy, Debug)]
 pub(crate) struct Asked {
     pub(crate) queue: u16,
-    pub(crate) target: u8,
-    pub(crate) lun: u8,
+    pub(crate) number: u8,
+    pub(crate) bytes: &'static [u8],
+    pub(crate) data: u8,
+    pub(crate) readable: u32,
+    pub(crate) writable: u32,
 }
 
 /// The layouts of the queues.
@@ -49,47 +62,65 @@ pub(crate) fn layouts(alloc: Global) -> Option<Vec<Layout>> {
     Some(layouts)
 }
 
-/// The guest writes a descriptor.
-fn put_descriptor<R: Wait, G: Gate + Drop>(
-    rt: &R,
-    host: &Host<G>,
-    at: u64,
-    addr: u64,
-    len: u32,
-    flags: u16,
-) {
+/// The guest's write. It has no contract, so that what `poke` promises is read once.
+fn poke<R: Wait, G: Gate + Drop>(rt: &R, host: &Host<G>, addr: u64, bytes: &[u8]) {
+    let _ = host.poke(rt, addr, bytes);
+}
+
+/// Where the bytes of a queue's chain lie.
+fn place_of(queue: u16, number: u8) -> u64
+    ensures { result < 2 ^ 32 }
+{
+    BUFFERS + 8192 * u64::from(queue) + 2048 * u64::from(number)
+}
+
+/// A descriptor whose chain goes on, where it does, with the odd one of its pair.
+fn descriptor(addr: u64, len: u32, flags: u16, slot: u8) -> [u8; 16] {
     let mut bytes = [0; 16];
     bytes[..8].copy_from_slice(&addr.to_le_bytes());
     bytes[8..12].copy_from_slice(&len.to_le_bytes());
     bytes[12..14].copy_from_slice(&flags.to_le_bytes());
-    bytes[14] = 1;
-    let _ = host.poke(rt, at, &bytes);
+    bytes[14] = slot | 1;
+    bytes
 }
 
-/// The guest makes the first request of a queue available.
+/// The guest makes a chain available. It takes the pair of descriptors of its number, and of these the second alone
+/// where the device reads nothing of it.
 pub(crate) fn ask<R: Wait, G: Gate + Drop>(rt: &R, host: &Host<G>, asked: Asked) {
     let page = PAGE * u64::from(asked.queue);
-    let mut request = [0; 51];
-    request[0] = 1;
-    request[1] = asked.target;
-    request[3] = asked.lun;
-    let _ = host.poke(rt, page + REQUEST, &request);
-    put_descriptor(rt, host, page, page + REQUEST, 51, NEXT);
-    put_descriptor(rt, host, page + 16, page + RESPONSE, 108, WRITE);
-    let _ = host.poke(rt, page + 1026, &[1]);
+    let place = place_of(asked.queue, asked.number);
+    let slot = 2 * (asked.number % 4);
+    let head = if asked.readable == 0 { slot + 1 } else { slot };
+    let read = descriptor(place, asked.readable, NEXT, slot);
+    let written = descriptor(place + RESPONSE, asked.writable, WRITE, slot);
+    poke(rt, host, place, asked.bytes);
+    poke(rt, host, place + DATA, &[asked.data; 512]);
+    poke(rt, host, page + 16 * u64::from(slot), &read);
+    poke(rt, host, page + 16 * u64::from(slot) + 16, &written);
+    poke(rt, host, page + 1028 + u64::from(slot), &[head]);
+    poke(rt, host, page + 1026, &[slot / 2 + 1]);
 }
 
-/// The byte at an address; `None` where none is there.
-fn byte<R: Wait, G: Gate + Drop>(rt: &R, host: &Host<G>, addr: u64) -> Option<u8> {
-    let mut bytes = [0];
+/// So many bytes from an address on; `None` where they aren't all there.
+fn bytes<R: Wait, G: Gate + Drop, const N: usize>(
+    rt: &R,
+    host: &Host<G>,
+    addr: u64,
+) -> Option<[u8; N]> {
+    let mut bytes = [0; N];
     host.peek(rt, addr, &mut bytes).ok()?;
-    Some(bytes[0])
+    Some(bytes)
 }
 
-/// Whether the first request of a queue is answered, once the guest looked often enough.
-pub(crate) fn is_answered<R: Wait, G: Gate + Drop>(rt: &R, host: &Host<G>, queue: u16) -> bool {
+/// Whether so many chains of a queue are answered, once the guest looked often enough.
+pub(crate) fn are_answered<R: Wait, G: Gate + Drop>(
+    rt: &R,
+    host: &Host<G>,
+    queue: u16,
+    count: u8,
+) -> bool {
     for _ in 0..LOOKS {
-        if byte(rt, host, PAGE * u64::from(queue) + 2050) == Some(1) {
+        if bytes(rt, host, PAGE * u64::from(queue) + 2050) == Some([count]) {
             return true;
         }
         thread::yield_now();
@@ -97,16 +128,12 @@ pub(crate) fn is_answered<R: Wait, G: Gate + Drop>(rt: &R, host: &Host<G>, queue
     false
 }
 
-/// The status of the answer to a queue's first request, and the key and code of its sense (VIRTIO 1.2 §5.6.6.1, SPC-4
-/// §4.5.3).
-pub(crate) fn answer<R: Wait, G: Gate + Drop>(
+/// What a device wrote first into a chain.
+pub(crate) fn written<R: Wait, G: Gate + Drop, const N: usize>(
     rt: &R,
     host: &Host<G>,
     queue: u16,
-) -> Option<(u8, u8, u8)> {
-    let response = PAGE * u64::from(queue) + RESPONSE;
-    let status = byte(rt, host, response + 10)?;
-    let key = byte(rt, host, response + 14)?;
-    let code = byte(rt, host, response + 24)?;
-    Some((status, key, code))
+    number: u8,
+) -> Option<[u8; N]> {
+    bytes(rt, host, place_of(queue, number) + RESPONSE)
 }

@@ -4,6 +4,10 @@
 
 mod guest;
 mod meeting;
+mod resetting;
 mod runs;
+mod together;
 
-pub use runs::{Left, is_refused, meet, reset, serve, serve_nothing};
+pub use resetting::{Told, reset};
+pub use runs::{Left, is_refused, serve, serve_nothing};
+pub use together::{Together, meet, serve_together};

@@ -9,42 +9,68 @@ use workers::{Gate, Point};
 /// For how many turns a thread waits for the other.
 const TURNS: u32 = 10_000_000;
 
-/// What came to a gate.
+/// How many threads came to each point of a gate, and how often one went on without the other.
 #[derive(Drop)]
 pub(crate) struct Seen {
-    came: AtomicU64,
+    entered: AtomicU64,
+    taken: AtomicU64,
+    locked: AtomicU64,
+    committed: AtomicU64,
+    answered: AtomicU64,
     missed: AtomicU64,
 }
 
 impl Seen {
-    /// Nothing yet.
+    /// None yet.
     pub(crate) fn new() -> Seen {
         Seen {
-            came: AtomicU64::new(0),
+            entered: AtomicU64::new(0),
+            taken: AtomicU64::new(0),
+            locked: AtomicU64::new(0),
+            committed: AtomicU64::new(0),
+            answered: AtomicU64::new(0),
             missed: AtomicU64::new(0),
         }
     }
 
-    /// Whether two came, and neither went on without the other.
-    pub(crate) fn has_met(&self) -> bool {
-        self.came.load(Ordering::SeqCst) == 2 && self.missed.load(Ordering::SeqCst) == 0
+    /// How many came to a point.
+    fn came(&self, point: Point) -> &AtomicU64 {
+        match point {
+            Point::Entered => &self.entered,
+            Point::Taken => &self.taken,
+            Point::Locked => &self.locked,
+            Point::Committed => &self.committed,
+            Point::Answered => &self.answered,
+        }
+    }
+
+    /// Whether two came to each of these points, and neither went on without the other.
+    pub(crate) fn have_met(&self, points: &[Point]) -> bool {
+        for point in points {
+            if self.came(*point).load(Ordering::SeqCst) != 2 {
+                return false;
+            }
+        }
+        self.missed.load(Ordering::SeqCst) == 0
     }
 }
 
-/// A gate that holds a thread up where it has its unit's lock, until another came there too.
+/// A gate that holds the first request of each queue up at these points, until that of another queue came there too.
 #[derive(Drop)]
 pub(crate) struct Meeting {
     pub(crate) seen: Arc<Seen>,
+    pub(crate) points: &'static [Point],
 }
 
 impl Gate for Meeting {
-    fn pass(&self, point: Point, _ticket: Ticket) {
-        if point != Point::Locked {
+    fn pass(&self, point: Point, ticket: Ticket) {
+        if ticket.number != 0 || !self.points.contains(&point) {
             return;
         }
-        self.seen.came.fetch_add(1, Ordering::SeqCst);
+        let came = self.seen.came(point);
+        came.fetch_add(1, Ordering::SeqCst);
         for _ in 0..TURNS {
-            if self.seen.came.load(Ordering::SeqCst) >= 2 {
+            if came.load(Ordering::SeqCst) >= 2 {
                 return;
             }
             thread::yield_now();

@@ -1,9 +1,8 @@
 //! Hosts from start to close.
 
-use crate::guest::{Asked, answer, ask, is_answered, layouts};
-use crate::meeting::{Meeting, Seen};
+use crate::guest::{Asked, PAGES, are_answered, ask, layouts};
 use std::alloc::Global;
-use std::sync::{Arc, Wait};
+use std::sync::Wait;
 use std::thread::Threads;
 use workers::{CloseFault, Config, Gate, Host, Open, Report, StartFault};
 use world::{UnitSpec, VERSION_1};
@@ -18,22 +17,25 @@ pub struct Left {
 }
 
 /// TEST UNIT READY for each of two units, and for a target that isn't there, each on a queue of its own.
-const FIRST: Asked = Asked {
+pub(crate) const FIRST: Asked = Asked {
     queue: 2,
-    target: 0,
-    lun: 0,
+    number: 0,
+    bytes: &[1],
+    data: 0,
+    readable: 51,
+    writable: 108,
 };
 
 const SECOND: Asked = Asked {
     queue: 3,
-    target: 0,
-    lun: 1,
+    bytes: &[1, 0, 0, 1],
+    ..FIRST
 };
 
 const ABSENT: Asked = Asked {
     queue: 4,
-    target: 7,
-    lun: 0,
+    bytes: &[1, 7],
+    ..FIRST
 };
 
 /// The unit of a LUN.
@@ -46,23 +48,23 @@ fn unit(lun: u16) -> UnitSpec {
     }
 }
 
-/// A small device; `None` where memory was refused.
-fn config(alloc: Global) -> Option<Config> {
+/// A small device, whose hand-off takes so many jobs; `None` where memory was refused.
+fn config(alloc: Global, handoff: u16) -> Option<Config> {
     let mut units = Vec::new(alloc);
     units.push(unit(0)).ok()?;
     units.push(unit(1)).ok()?;
     Some(Config {
-        pages: 8,
+        pages: PAGES,
         features: VERSION_1,
         queues: layouts(alloc)?,
         workers: 1,
-        handoff: 1,
+        handoff,
         units,
     })
 }
 
 /// What a closed host left, where it adds up.
-fn summed(closed: Result<Report, CloseFault>) -> Option<Left> {
+pub(crate) fn summed(closed: Result<Report, CloseFault>) -> Option<Left> {
     match closed {
         Ok(report) => Some(Left {
             receipts: report.receipts.len(),
@@ -78,7 +80,7 @@ pub fn is_refused<R: Threads + Wait + Copy + Send + 'static>(
     alloc: Global,
     workers: u16,
 ) -> Option<bool> {
-    match Host::start(rt, alloc, config(alloc)?, Open, workers) {
+    match Host::start(rt, alloc, config(alloc, 1)?, Open, workers) {
         Err(StartFault::BadConfig) => Some(true),
         Err(StartFault::NoMemory) => None,
         Ok(host) => {
@@ -88,14 +90,12 @@ pub fn is_refused<R: Threads + Wait + Copy + Send + 'static>(
     }
 }
 
-/// A host of so many workers, with a gate.
-fn start<R: Threads + Wait + Copy + Send + 'static, G: Gate + Drop + Send + Sync + 'static>(
-    rt: R,
-    alloc: Global,
-    gate: G,
-    workers: u16,
-) -> Option<Host<G>> {
-    Host::start(rt, alloc, config(alloc)?, gate, workers).ok()
+/// A host of so many workers, with a hand-off of so many jobs, and a gate.
+pub(crate) fn start<
+    R: Threads + Wait + Copy + Send + 'static,
+    G: Gate + Drop + Send + Sync + 'static,
+>(rt: R, alloc: Global, gate: G, workers: u16, handoff: u16) -> Option<Host<G>> {
+    Host::start(rt, alloc, config(alloc, handoff)?, gate, workers).ok()
 }
 
 /// What a host of so many workers leaves of which nothing was asked.
@@ -104,7 +104,7 @@ pub fn serve_nothing<R: Threads + Wait + Copy + Send + 'static>(
     alloc: Global,
     workers: u16,
 ) -> Option<Left> {
-    let host = start(rt, alloc, Open, workers)?;
+    let host = start(rt, alloc, Open, workers, 1)?;
     summed(host.close(&rt))
 }
 
@@ -114,48 +114,12 @@ pub fn serve<R: Threads + Wait + Copy + Send + 'static>(
     alloc: Global,
     workers: u16,
 ) -> Option<(bool, Option<Left>)> {
-    let host = start(rt, alloc, Open, workers)?;
+    let host = start(rt, alloc, Open, workers, 1)?;
     ask(&rt, &host, FIRST);
     ask(&rt, &host, SECOND);
     ask(&rt, &host, ABSENT);
-    let first = is_answered(&rt, &host, FIRST.queue);
-    let second = is_answered(&rt, &host, SECOND.queue);
-    let absent = is_answered(&rt, &host, ABSENT.queue);
+    let first = are_answered(&rt, &host, FIRST.queue, 1);
+    let second = are_answered(&rt, &host, SECOND.queue, 1);
+    let absent = are_answered(&rt, &host, ABSENT.queue, 1);
     Some((first && second && absent, summed(host.close(&rt))))
-}
-
-/// Status, sense key and code of the answer to a request for a unit that the operator reset, and what the host left.
-pub fn reset<R: Threads + Wait + Copy + Send + 'static>(
-    rt: R,
-    alloc: Global,
-    workers: u16,
-) -> Option<(Option<(u8, u8, u8)>, Option<Left>)> {
-    let mut host = start(rt, alloc, Open, workers)?;
-    let done = host.operator(&rt, 0);
-    ask(&rt, &host, FIRST);
-    let came = is_answered(&rt, &host, FIRST.queue);
-    let told = answer(&rt, &host, FIRST.queue);
-    let left = summed(host.close(&rt));
-    if done.is_err() || !came {
-        return None;
-    }
-    Some((told, left))
-}
-
-/// Whether two threads held the locks of two units at once, and what the host left.
-pub fn meet<R: Threads + Wait + Copy + Send + 'static>(
-    rt: R,
-    alloc: Global,
-) -> Option<(bool, Option<Left>)> {
-    let seen = Arc::new(alloc, Seen::new()).ok()?;
-    let gate = Meeting {
-        seen: Arc::try_clone(&seen).ok()?,
-    };
-    let host = start(rt, alloc, gate, 2)?;
-    ask(&rt, &host, FIRST);
-    ask(&rt, &host, SECOND);
-    let first = is_answered(&rt, &host, FIRST.queue);
-    let second = is_answered(&rt, &host, SECOND.queue);
-    let left = summed(host.close(&rt));
-    Some((first && second && seen.has_met(), left))
 }

@@ -1,6 +1,8 @@
 //! Hosts from start to close.
 
-use workers_bench::{Left, is_refused, meet, reset, serve, serve_nothing};
+use workers_bench::{
+    Left, Together, Told, is_refused, meet, reset, serve, serve_nothing, serve_together,
+};
 
 /// What is left of two requests that ran, and of one that needed no unit.
 const ALL: Left = Left {
@@ -32,21 +34,51 @@ fn a_host_is_closed_of_which_nothing_was_asked(rt: HostRuntime) {
 
 #[test]
 fn the_operator_resets_a_unit(rt: HostRuntime) {
+    // Events were missed, of no unit (VIRTIO 1.2 §5.6.6.3).
+    let mut event = [0; 16];
+    event[3] = 0x80;
+    // CHECK CONDITION, unit attention: power on or reset (SPC-4 §4.5.3).
+    let mut answer = [0; 26];
+    answer[0] = 18;
+    answer[10] = 2;
+    answer[12] = 0x70;
+    answer[14] = 6;
+    answer[19] = 10;
+    answer[24] = 0x29;
     let one = Left {
         receipts: 1,
         notes: 0,
     };
-    assert_eq!(rt;
-        reset(rt, rt.alloc(), 2),
-        Some((Some((2, 6, 0x29)), Some(one)))
-    );
+    let told = Told { event, answer };
+    assert_eq!(rt; reset(rt, rt.alloc(), 2), Some((told, Some(one))));
+}
+
+#[test]
+fn two_workers_serve_at_once(rt: HostRuntime) {
+    let five = Together {
+        met: true,
+        answered: true,
+        left: Left {
+            receipts: 5,
+            notes: 0,
+        },
+        commits: (3, 2),
+        written: true,
+    };
+    assert_eq!(rt; serve_together(rt, rt.alloc()), Some(five));
 }
 
 #[test]
 fn two_units_are_held_at_once(rt: HostRuntime) {
-    let two = Left {
-        receipts: 2,
-        notes: 0,
+    let two = Together {
+        met: true,
+        answered: true,
+        left: Left {
+            receipts: 2,
+            notes: 0,
+        },
+        commits: (1, 1),
+        written: false,
     };
-    assert_eq!(rt; meet(rt, rt.alloc()), Some((true, Some(two))));
+    assert_eq!(rt; meet(rt, rt.alloc()), Some(two));
 }

@@ -16,5 +16,5 @@ gather-requires g c =
     subst (λ (o : Option Post). IfSome o (λ p. IsWhole hub crew.items p.seat)) c.in-Some.is c.self.invariant.3 in
     let count : length joined.result.0.items ≡ length crew.items = sym joined.result.0.ok.0 ∙ joined.ensures.count.0 ∙ crew.ok.0 in
     subst (λ (h : Hub). AreAllSeats h c.push_reserved.new.self.items) (sym (ap (λ s. s.handoff) c.unshared-shared.ensures))
-    (all_back hub crew.items c.in-Some.post.seat c.clear-seat.result.seat joined.result.0.items _ whole c.clear-seat.ensures.seat
+    (all_back hub crew.items c.in-Some.post.seat c.finish-seat.result.seat joined.result.0.items _ whole c.finish-seat.ensures.seat
     (joined.ensures.seats hub whole.hired) count c.push_reserved.ensures.items)

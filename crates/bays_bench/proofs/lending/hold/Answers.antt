@@ -6,10 +6,10 @@ use Rattle.decisions.proofs.inventory.Inventory.TheSendSync as inventory
 use Rattle.bays.proofs.Crossing.{unit_sends, queue_sends}
 use Rattle.bays_bench.specs.contracts.lending.Shared.{the_row as shared_row, the_type as shared_type}
 use Rattle.bays_bench.specs.contracts.meeting.Meeting.{the_row as meeting_row, the_type as meeting_type}
-use Rattle.bays_bench.proofs.lending.hold_two.Goals as goal
+use Rattle.bays_bench.proofs.lending.hold.Goals as goal
 
 meeting_syncs : IsSync meeting_row
-meeting_syncs = declared_sync meeting_type (search crosses, (search crosses, tt))
+meeting_syncs = declared_sync meeting_type (search sendable, (search crosses, (search crosses, tt)))
 
 -- threads may share a device whose parts stand under locks
 shared_syncs : IsSync shared_row

@@ -1,0 +1,49 @@
+//! `bench_threads KIND RING DEPTH ROUNDS WORKERS` has a guest make DEPTH requests available at once on each of two
+//! queues, those of each for a unit of its own, ROUNDS times, and a host of so many workers serve them; with 0 of them
+//! the device of one thread. It prints how many there were, what one took, and how many were served in a second.
+//! Without words two workers serve a few rounds of each kind on each ring, and it prints how many requests ended well.
+#![tactic(auto)]
+
+mod device;
+mod failure;
+mod guest;
+mod telling;
+mod words;
+mod work;
+
+use std::env;
+use std::process::ExitCode;
+use std::rt::{Clock, Env};
+use std::sync::Wait;
+use std::thread::Threads;
+use telling::{tell, tell_all};
+use words::work_of;
+
+/// Does what the words name. Ends with status 0, or 1 where a request wasn't answered well, 2 where the words name
+/// no work, 3 for want of memory, 4 where there is no clock or standard output fails.
+fn main(rt: HostRuntime) -> ExitCode {
+    ExitCode::from(status(&rt))
+}
+
+/// The exit status.
+fn status<R: Env + Clock + Threads + Wait + Print + AllocGlobal + Copy + Send + 'static>(
+    rt: &R,
+) -> u8 {
+    let Ok(words) = env::args(rt) else {
+        return 2;
+    };
+    let words: Vec<String> = match words.collect(rt.alloc()) {
+        Ok(words) => words,
+        Err(_) => return 3,
+    };
+    match words.as_slice() {
+        [_] => tell_all(rt),
+        [_, kind, form, depth, rounds, workers] => {
+            match work_of([kind, form, depth, rounds, workers]) {
+                Some(work) => tell(rt, &work),
+                None => 2,
+            }
+        }
+        _ => 2,
+    }
+}

@@ -1,0 +1,47 @@
+//! What the words of the command line name.
+
+use crate::work::{KINDS, Kind, Work};
+use ring_core::Form;
+
+/// How many requests may be made available at once.
+const DEPTHS: [u16; 9] = [1, 2, 4, 8, 16, 32, 64, 128, 256];
+
+/// The most workers.
+const MOST_WORKERS: u16 = 8;
+
+/// What a word names as a kind of request.
+fn kind_of(word: &str) -> Option<Kind> {
+    for kind in KINDS {
+        if kind.word() == word {
+            return Some(kind);
+        }
+    }
+    None
+}
+
+/// What a word names as a form of queue.
+fn form_of(word: &str) -> Option<Form> {
+    match word {
+        "split" => Some(Form::Split),
+        "packed" => Some(Form::Packed),
+        _ => None,
+    }
+}
+
+/// The work that five words name: a kind, a form, a depth that is a power of two, rounds, and workers.
+pub(crate) fn work_of(words: [&str; 5]) -> Option<Work> {
+    let [kind, form, depth, rounds, workers] = words;
+    let depth = depth.parse::<u16>().ok()?;
+    let rounds = rounds.parse::<u64>().ok()?;
+    let workers = workers.parse::<u16>().ok()?;
+    if !DEPTHS.contains(&depth) || workers > MOST_WORKERS {
+        return None;
+    }
+    Some(Work {
+        kind: kind_of(kind)?,
+        form: form_of(form)?,
+        depth,
+        rounds,
+        workers,
+    })
+}

@@ -1,0 +1,51 @@
+//! A host whose operator resets a unit.
+
+use crate::guest::{Asked, are_answered, ask, written};
+use crate::runs::{FIRST, Left, start, summed};
+use std::alloc::Global;
+use std::sync::Wait;
+use std::thread::Threads;
+use workers::Open;
+
+/// An event buffer.
+const BUFFER: Asked = Asked {
+    queue: 1,
+    bytes: &[],
+    readable: 0,
+    writable: 16,
+    ..FIRST
+};
+
+/// What a guest was told of a reset.
+#[derive(Clone, Copy, Debug, PartialEq, Eq)]
+pub struct Told {
+    /// The event that its buffer got.
+    pub event: [u8; 16],
+    /// What the answer to a request for the unit begins with: as far as the additional sense code qualifier.
+    pub answer: [u8; 26],
+}
+
+/// What a guest is told of which the operator resets a unit before it gave an event buffer, and what the host left.
+pub fn reset<R: Threads + Wait + Copy + Send + 'static>(
+    rt: R,
+    alloc: Global,
+    workers: u16,
+) -> Option<(Told, Option<Left>)> {
+    let mut host = start(rt, alloc, Open, workers, 1)?;
+    let done = host.operator(&rt, 0);
+    ask(&rt, &host, BUFFER);
+    ask(&rt, &host, FIRST);
+    let came = are_answered(&rt, &host, BUFFER.queue, 1)
+        && are_answered(&rt, &host, FIRST.queue, 1);
+    let event = written(&rt, &host, BUFFER.queue, 0);
+    let answer = written(&rt, &host, FIRST.queue, 0);
+    let left = summed(host.close(&rt));
+    if done.is_err() || !came {
+        return None;
+    }
+    let told = Told {
+        event: event?,
+        answer: answer?,
+    };
+    Some((told, left))
+}

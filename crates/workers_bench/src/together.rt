@@ -1,0 +1,167 @@
+//! Two workers that serve at once.
+
+use crate::guest::{Asked, are_answered, ask};
+use crate::meeting::{Meeting, Seen};
+use crate::runs::{FIRST, Left, start};
+use std::alloc::Global;
+use std::sync::{Arc, Wait};
+use std::thread::Threads;
+use workers::{Host, Point, Report};
+use world::{StepKind, UnitState};
+
+/// The byte of which the block is that is written.
+const WRITTEN: u8 = 0xab;
+
+/// The block that is written.
+const BLOCK: u64 = 3;
+
+/// WRITE (10) of block 3 of LUN 0.
+const WRITE: Asked = Asked {
+    bytes: &[
+        1, 0, 0, 0, 0, 0, 0, 0, 0, 0, 0, 0, 0, 0, 0, 0, 0, 0, 0, 0x2a, 0, 0, 0, 0, 3, 0, 0, 1,
+    ],
+    data: WRITTEN,
+    readable: 563,
+    ..FIRST
+};
+
+/// READ (10) of block 5 of LUN 0.
+const READ: Asked = Asked {
+    bytes: &[
+        1, 0, 0, 0, 0, 0, 0, 0, 0, 0, 0, 0, 0, 0, 0, 0, 0, 0, 0, 0x28, 0, 0, 0, 0, 5, 0, 0, 1,
+    ],
+    writable: 620,
+    ..FIRST
+};
+
+/// The same of LUN 1.
+const OTHER_READ: Asked = Asked {
+    bytes: &[
+        1, 0, 0, 1, 0, 0, 0, 0, 0, 0, 0, 0, 0, 0, 0, 0, 0, 0, 0, 0x28, 0, 0, 0, 0, 5, 0, 0, 1,
+    ],
+    ..READ
+};
+
+/// Three requests on a queue, and two on another, for two units.
+const FIVE: [Asked; 5] = [
+    WRITE,
+    Asked { number: 1, ..READ },
+    Asked {
+        number: 2,
+        ..OTHER_READ
+    },
+    Asked { queue: 3, ..READ },
+    Asked {
+        queue: 3,
+        number: 1,
+        ..OTHER_READ
+    },
+];
+
+/// A request for each unit, each on a queue of its own.
+const TWO: [Asked; 2] = [
+    READ,
+    Asked {
+        queue: 3,
+        ..OTHER_READ
+    },
+];
+
+/// How two workers served.
+#[derive(Clone, Copy, Debug, PartialEq, Eq)]
+pub struct Together {
+    /// Whether the first requests of both queues came to each point at once.
+    pub met: bool,
+    /// Whether the guest saw that all were answered.
+    pub answered: bool,
+    /// What the closed host left.
+    pub left: Left,
+    /// How many commands ran on each unit, by their histories.
+    pub commits: (u64, u64),
+    /// Whether the block that was to be written on the first unit has the WRITE's bytes.
+    pub written: bool,
+}
+
+/// How many commands ran on a unit, by its history.
+fn commits(unit: &UnitState) -> u64 {
+    let mut count: u64 = 0;
+    for place in 0..unit.steps() {
+        if let Some(StepKind::Commit(_)) = unit.step(place) {
+            count = count.wrapping_add(1);
+        }
+    }
+    count
+}
+
+/// Whether the block of a unit that was to be written has the WRITE's bytes; `None` where memory was refused.
+fn is_written(alloc: Global, unit: &UnitState) -> Option<bool> {
+    if unit.capacity() <= BLOCK {
+        return None;
+    }
+    let mut bytes = Vec::new(alloc);
+    unit.read_blocks(BLOCK, 1, &mut bytes).ok()?;
+    Some(bytes.as_slice() == [WRITTEN; 512].as_slice())
+}
+
+/// How a closed host served.
+fn told(alloc: Global, report: &Report, met: bool, answered: bool) -> Option<Together> {
+    let (Some(first), Some(second)) = (report.units.get(0), report.units.get(1)) else {
+        return None;
+    };
+    Some(Together {
+        met,
+        answered,
+        left: Left {
+            receipts: report.receipts.len(),
+            notes: report.notes.len(),
+        },
+        commits: (commits(first), commits(second)),
+        written: is_written(alloc, first)?,
+    })
+}
+
+/// The guest asks for all, and looks whether so many of two queues are answered.
+fn ask_all<R: Wait>(rt: &R, host: &Host<Meeting>, all: &[Asked], counts: (u8, u8)) -> bool {
+    for asked in all {
+        ask(rt, host, *asked);
+    }
+    are_answered(rt, host, 2, counts.0) && are_answered(rt, host, 3, counts.1)
+}
+
+/// How two workers serve what a guest asks for on two queues, so many on each, of which the first requests are held up
+/// at these points; `None` where memory was refused, or the closed host doesn't add up.
+fn serve_all<R: Threads + Wait + Copy + Send + 'static>(
+    rt: R,
+    alloc: Global,
+    all: &[Asked],
+    counts: (u8, u8),
+    points: &'static [Point],
+) -> Option<Together> {
+    let seen = Arc::new(alloc, Seen::new()).ok()?;
+    let gate = Meeting {
+        seen: Arc::try_clone(&seen).ok()?,
+        points,
+    };
+    let host = start(rt, alloc, gate, 2, 8)?;
+    let answered = ask_all(&rt, &host, all, counts);
+    match host.close(&rt) {
+        Ok(report) => told(alloc, &report, seen.have_met(points), answered),
+        Err(_) => None,
+    }
+}
+
+/// How two workers serve five requests for two units, where each of the first two is held up once it entered, once it
+/// was taken, and once it ran, until the other has come there.
+pub fn serve_together<R: Threads + Wait + Copy + Send + 'static>(
+    rt: R,
+    alloc: Global,
+) -> Option<Together> {
+    let points = &[Point::Entered, Point::Taken, Point::Committed];
+    serve_all(rt, alloc, &FIVE, (3, 2), points)
+}
+
+/// How two workers serve a request for each of two units, where each is held up once it entered, and with its unit's
+/// lock held, until the other has come there.
+pub fn meet<R: Threads + Wait + Copy + Send + 'static>(rt: R, alloc: Global) -> Option<Together> {
+    serve_all(rt, alloc, &TWO, (1, 1), &[Point::Entered, Point::Locked])
+}
