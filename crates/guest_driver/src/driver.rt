@@ -1,10 +1,12 @@
 //! The guest's driver: it sends requests and functions, and finds what was used by reading guest memory alone.
 
+ghost use Rattle.std.specs.Prelude.{◌≤◌, ◌^◌};
+
 use crate::guest::{Buffer, put, put_bytes};
+use crate::memory::GuestMemory;
 use crate::packed_queue::PackedQueue;
 use crate::requests::{Buffers, FUNCTION_BYTES, Space, Used, function_request, request_head};
 use crate::split_queue::SplitQueue;
-use guest_mem::GuestMem;
 use ring_core::Form;
 use script_lines::{LineFault, Send, Stop, TaskManagement};
 use scsi_codec::{EVENT_BYTES, REQUEST_BYTES, RESPONSE_BYTES};
@@ -12,7 +14,6 @@ use slab::Slab;
 use std::alloc::{AllocError, Global};
 use std::collections::BTreeMap;
 use std::num::NonZeroU16;
-use world::World;
 
 /// The control queue (VIRTIO 1.2, 5.6.2).
 const CONTROL_QUEUE: u16 = 0;
@@ -48,15 +49,20 @@ impl Ring {
     }
 
     /// Makes a chain available.
-    fn offer(&mut self, world: &mut World, buffers: Buffers, key: usize) -> Result<(), Stop> {
+    fn offer<M: GuestMemory>(
+        &mut self,
+        memory: &mut M,
+        buffers: Buffers,
+        key: usize,
+    ) -> Result<(), Stop> {
         match self {
-            Ring::Split(ring) => ring.offer(world, buffers, key),
-            Ring::Packed(ring) => ring.offer(world, buffers, key),
+            Ring::Split(ring) => ring.offer(memory, buffers, key),
+            Ring::Packed(ring) => ring.offer(memory, buffers, key),
         }
     }
 
     /// Adds what was used since the last look.
-    fn look(&mut self, memory: &GuestMem, used: &mut Vec<Used>) -> Result<(), AllocError> {
+    fn look<M: GuestMemory>(&mut self, memory: &M, used: &mut Vec<Used>) -> Result<(), AllocError> {
         match self {
             Ring::Split(ring) => ring.look(memory, used),
             Ring::Packed(ring) => ring.look(memory, used),
@@ -96,6 +102,8 @@ pub enum Asks {
 pub struct Sent {
     /// Which of the two it is.
     pub asks: Asks,
+    /// The queue that it went to.
+    pub queue: u16,
     /// Where its response lies.
     pub response: u64,
     /// How many bytes the device says that it wrote, once it was used.
@@ -145,16 +153,18 @@ impl Driver {
         })
     }
 
-    /// Places the buffers of a chain that goes to a queue under a name: so many bytes to read, and so
-    /// many to write. The faults are those of `send`.
+    /// Places the buffers of a chain that goes to a queue under a name, in a memory of that size: so many bytes to
+    /// read, and so many to write. The faults are those of `send`.
     fn place(
         &mut self,
-        memory: &GuestMem,
+        memory: u64,
         queue: u16,
         name: &str,
         readable: u64,
         writable: u64,
-    ) -> Result<(Buffer, Buffer), Stop> {
+    ) -> Result<(Buffer, Buffer), Stop>
+        requires { memory ≤ 2 ^ 44 }
+    {
         let Some(queue) = self.queues.get(queue as usize) else {
             return Err(Stop::Fault(LineFault::BadValue));
         };
@@ -164,21 +174,21 @@ impl Driver {
         if queue.ring.is_full(false) {
             return Err(Stop::Fault(LineFault::QueueFull));
         }
-        let readable = self.space.place(readable, memory.size())?;
-        let writable = self.space.place(writable, memory.size())?;
+        let readable = self.space.place(readable, memory)?;
+        let writable = self.space.place(writable, memory)?;
         Ok((readable, writable))
     }
 
     /// Makes the chain of buffers that were written available under a name.
-    fn offer(
+    fn offer<M: GuestMemory>(
         &mut self,
-        world: &mut World,
+        memory: &mut M,
         queue: u16,
         name: &str,
         (readable, writable): (Buffer, Buffer),
         asks: Asks,
     ) -> Result<(), Stop> {
-        let Some(queue) = self.queues.get_mut(queue as usize) else {
+        let Some(chains) = self.queues.get_mut(queue as usize) else {
             return Err(Stop::Fault(LineFault::BadValue));
         };
         let key = self
@@ -188,10 +198,11 @@ impl Driver {
             readable: Some(readable),
             writable,
         };
-        queue.ring.offer(world, buffers, key)?;
-        queue.offered.push(String::from_str(self.alloc, name)?)?;
+        chains.ring.offer(memory, buffers, key)?;
+        chains.offered.push(String::from_str(self.alloc, name)?)?;
         let sent = Sent {
             asks,
+            queue,
             response: writable.at,
             used: None,
         };
@@ -203,70 +214,86 @@ impl Driver {
     /// there is no such queue, `NameTaken` where anything of that name was sent, `QueueFull` where the
     /// queue has no room for a chain, `NoGuestMemory` where a buffer doesn't fit; of several the first
     /// in this order. `NoMemory` where memory runs out.
-    pub fn send(&mut self, world: &mut World, send: &Send<'_>) -> Result<(), Stop> {
+    pub fn send<M: GuestMemory>(&mut self, memory: &mut M, send: &Send<'_>) -> Result<(), Stop> {
         let readable = send.out.length().saturating_add(REQUEST_BYTES as u64);
         let writable = u64::from(send.room) + RESPONSE_BYTES as u64;
-        let buffers = self.place(world.memory(), send.queue, send.name, readable, writable)?;
+        let buffers = self.place(memory.size(), send.queue, send.name, readable, writable)?;
         let at = buffers.0.at;
-        put(world, at, request_head(self.alloc, send)?.as_slice())?;
+        put(memory, at, request_head(self.alloc, send)?.as_slice())?;
         let data = at.saturating_add(REQUEST_BYTES as u64);
-        put_bytes(self.alloc, world, data, &send.out)?;
-        self.offer(world, send.queue, send.name, buffers, Asks::Command)
+        put_bytes(self.alloc, memory, data, &send.out)?;
+        self.offer(memory, send.queue, send.name, buffers, Asks::Command)
     }
 
     /// Sends a task management function on the control queue, as `send` does a request, and with its faults.
-    pub fn send_function(
+    pub fn send_function<M: GuestMemory>(
         &mut self,
-        world: &mut World,
+        memory: &mut M,
         function: &TaskManagement<'_>,
     ) -> Result<(), Stop> {
         let buffers = self.place(
-            world.memory(),
+            memory.size(),
             CONTROL_QUEUE,
             function.name,
             FUNCTION_BYTES as u64,
             FUNCTION_RESPONSE_BYTES,
         )?;
-        put(world, buffers.0.at, &function_request(function))?;
-        self.offer(world, CONTROL_QUEUE, function.name, buffers, Asks::Function)
+        put(memory, buffers.0.at, &function_request(function))?;
+        self.offer(
+            memory,
+            CONTROL_QUEUE,
+            function.name,
+            buffers,
+            Asks::Function,
+        )
     }
 
     /// Makes an event buffer available: one writable buffer of the bytes of an event. `QueueFull` where the event
     /// queue has no room for it, `NoGuestMemory` where it doesn't fit; of both the first. `NoMemory` where memory
     /// runs out.
-    pub fn send_event_buffer(&mut self, world: &mut World) -> Result<(), Stop> {
+    pub fn send_event_buffer<M: GuestMemory>(&mut self, memory: &mut M) -> Result<(), Stop> {
         let Some(queue) = self.queues.get_mut(EVENT_QUEUE as usize) else {
             return Err(Stop::Fault(LineFault::BadValue));
         };
         if queue.ring.is_full(true) {
             return Err(Stop::Fault(LineFault::QueueFull));
         }
-        let writable = self.space.place(EVENT_BYTES as u64, world.memory().size())?;
+        let writable = self.space.place(EVENT_BYTES as u64, memory.size())?;
         let key = self.open.insert(Open::EventBuffer(writable.at))?;
         let buffers = Buffers {
             readable: None,
             writable,
         };
-        queue.ring.offer(world, buffers, key)
+        queue.ring.offer(memory, buffers, key)
     }
 
     /// Finds what was used since the last look, by reading guest memory alone. What was used is free
     /// from here on. It fails where memory runs out.
-    pub fn look(&mut self, memory: &GuestMem) -> Result<(), AllocError> {
-        for queue in self.queues.iter_mut() {
-            let mut used = Vec::new(self.alloc);
-            queue.ring.look(memory, &mut used)?;
-            for Used { key, len } in used.iter() {
-                match self.open.try_remove(*key) {
-                    Some(Open::Named(name)) => {
-                        if let Some(sent) = self.sent.get_mut(name.as_str()) {
-                            sent.used = Some(*len);
-                        }
-                        queue.used.push(name)?;
+    pub fn look<M: GuestMemory>(&mut self, memory: &M) -> Result<(), AllocError> {
+        for queue in 0..self.queues.len() {
+            self.look_at(memory, queue)?;
+        }
+        Ok(())
+    }
+
+    /// Finds what one queue used since the last look, as `look` does of all. Where there is no such queue it finds
+    /// nothing.
+    pub fn look_at<M: GuestMemory>(&mut self, memory: &M, queue: usize) -> Result<(), AllocError> {
+        let Some(queue) = self.queues.get_mut(queue) else {
+            return Ok(());
+        };
+        let mut used = Vec::new(self.alloc);
+        queue.ring.look(memory, &mut used)?;
+        for Used { key, len } in used.iter() {
+            match self.open.try_remove(*key) {
+                Some(Open::Named(name)) => {
+                    if let Some(sent) = self.sent.get_mut(name.as_str()) {
+                        sent.used = Some(*len);
                     }
-                    Some(Open::EventBuffer(at)) => self.events.push(at)?,
-                    None => {}
+                    queue.used.push(name)?;
                 }
+                Some(Open::EventBuffer(at)) => self.events.push(at)?,
+                None => {}
             }
         }
         Ok(())
@@ -277,8 +304,8 @@ impl Driver {
         self.sent.get(name).copied()
     }
 
-    /// The name of the request or function whose chain was the one of this number, from 0, that the queue made available; `None`
-    /// where there was none.
+    /// The name of the request or function whose chain was the one of this number, from 0, that the queue made
+    /// available; `None` where there was none.
     pub fn offered(&self, queue: u16, number: u64) -> Option<&str> {
         let queue = self.queues.get(queue as usize)?;
         let name = queue.offered.get(usize::try_from(number).ok()?)?;

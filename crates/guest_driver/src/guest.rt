@@ -1,14 +1,12 @@
 //! What the guest writes into its memory, and what it reads there.
 
-ghost use Rattle.std.specs.Prelude.{◌≡◌, length, IsOk, OnOk, OnErr, IfErr, ◌↔◌};
+ghost use Rattle.std.specs.Prelude.{◌≡◌, ◌⊎◌, List, ℕ, length, OnOk, OnErr, IfErr};
 ghost use Rattle.std.specs.Int.{w16, w32, from_le_bytes};
-ghost use Rattle.guest_mem.specs.Memory.{bytes_at, with_bytes, LiesIn};
 ghost use Rattle.guest_driver.specs.Guest.{IsDescriptor};
 
-use guest_mem::GuestMem;
+use crate::memory::GuestMemory;
 use script_lines::{Bytes, Item, LineFault, Stop};
 use std::alloc::{AllocError, Global};
-use world::World;
 
 /// The most bytes that are written at once, but for a longer item.
 const BLOCK_BYTES: usize = 4096;
@@ -34,10 +32,10 @@ pub fn descriptor(buffer: Buffer, third: u16, last: u16) -> [u8; 16]
     bytes
 }
 
-/// Two bytes as a number; 0 where they lie outside memory.
-pub fn u16_at(memory: &GuestMem, at: u64) -> u16
-    ensures inside { LiesIn (length memory.now) at 2 → result ≡ from_le_bytes w16 (bytes_at memory.now at 2) }
-    ensures outside { ¬ LiesIn (length memory.now) at 2 → result ≡ 0 }
+/// Two bytes as a number; 0 where the memory refuses them.
+pub fn u16_at<M: GuestMemory>(memory: &M, at: u64) -> u16
+    ensures { ((bytes : List ℕ) × (length bytes ≡ 2) × M.finds memory.now at bytes × (result ≡ from_le_bytes w16 bytes))
+        ⊎ (M.refuses memory.now at 2 × (result ≡ 0)) }
 {
     let mut bytes = [0; 2];
     match memory.read(at, &mut bytes) {
@@ -46,10 +44,10 @@ pub fn u16_at(memory: &GuestMem, at: u64) -> u16
     }
 }
 
-/// Four bytes as a number; 0 where they lie outside memory.
-pub fn u32_at(memory: &GuestMem, at: u64) -> u32
-    ensures inside { LiesIn (length memory.now) at 4 → result ≡ from_le_bytes w32 (bytes_at memory.now at 4) }
-    ensures outside { ¬ LiesIn (length memory.now) at 4 → result ≡ 0 }
+/// Four bytes as a number; 0 where the memory refuses them.
+pub fn u32_at<M: GuestMemory>(memory: &M, at: u64) -> u32
+    ensures { ((bytes : List ℕ) × (length bytes ≡ 4) × M.finds memory.now at bytes × (result ≡ from_le_bytes w32 bytes))
+        ⊎ (M.refuses memory.now at 4 × (result ≡ 0)) }
 {
     let mut bytes = [0; 4];
     match memory.read(at, &mut bytes) {
@@ -58,18 +56,17 @@ pub fn u32_at(memory: &GuestMem, at: u64) -> u32
     }
 }
 
-/// Writes bytes that are there. `NoGuestMemory`, with nothing changed, exactly where one of them would
-/// lie outside memory.
-pub fn put(world: &mut World, at: u64, bytes: &[u8]) -> Result<(), LineFault>
-    ensures inside { IsOk result ↔ LiesIn (length world.old.memory) at (length bytes.now) }
-    ensures written { OnOk result (world.new ≡ record world.old { memory = with_bytes world.old.memory at bytes.now }) }
+/// Writes bytes that are there. `NoGuestMemory`, with nothing changed, where the memory refuses them: that of a
+/// device of one thread exactly where one of them would lie outside.
+pub fn put<M: GuestMemory>(memory: &mut M, at: u64, bytes: &[u8]) -> Result<(), LineFault>
+    ensures written { OnOk result (M.takes memory.old at bytes.now memory.new) }
+    ensures refused { OnErr result (M.refuses memory.old at (length bytes.now)) }
     ensures fault { IfErr result (λ fault. fault ≡ LineFault.NoGuestMemory) }
-    ensures unchanged { OnErr result (world.new ≡ world.old) }
+    ensures unchanged { OnErr result (memory.new ≡ memory.old) }
 {
-    if world.poke(at, bytes) {
-        Ok(())
-    } else {
-        Err(LineFault::NoGuestMemory)
+    match memory.write(at, bytes) {
+        Ok(()) => Ok(()),
+        Err(_) => Err(LineFault::NoGuestMemory),
     }
 }
 
@@ -81,27 +78,37 @@ fn copies_of(alloc: Global, item: &Item, copies: u32) -> Result<Vec<u8>, AllocEr
 }
 
 /// Writes an item, a block of whole copies after the other.
-fn put_item(alloc: Global, world: &mut World, start: u64, item: &Item) -> Result<(), Stop> {
+fn put_item<M: GuestMemory>(
+    alloc: Global,
+    memory: &mut M,
+    start: u64,
+    item: &Item,
+) -> Result<(), Stop> {
     let fit = BLOCK_BYTES / item.bytes.len().max(1);
     let copies = item.repeat.min(fit.max(1) as u32).max(1);
     let block = copies_of(alloc, item, copies)?;
     let mut at = start;
     for _ in 0..item.repeat / copies {
-        put(world, at, block.as_slice())?;
+        put(memory, at, block.as_slice())?;
         at = at.saturating_add(block.len() as u64);
     }
     let rest = copies_of(alloc, item, item.repeat % copies)?;
-    put(world, at, rest.as_slice())?;
+    put(memory, at, rest.as_slice())?;
     Ok(())
 }
 
 /// Writes the bytes of a line from an address on, where the caller has found them to fit. No more than
 /// a block of them is built at a time. `NoGuestMemory` where they don't fit, `NoMemory` where memory
 /// runs out; what was written before stands.
-pub fn put_bytes(alloc: Global, world: &mut World, start: u64, bytes: &Bytes) -> Result<(), Stop> {
+pub fn put_bytes<M: GuestMemory>(
+    alloc: Global,
+    memory: &mut M,
+    start: u64,
+    bytes: &Bytes,
+) -> Result<(), Stop> {
     let mut at = start;
     for item in bytes.items() {
-        put_item(alloc, world, at, item)?;
+        put_item(alloc, memory, at, item)?;
         at = at.saturating_add(item.length());
     }
     Ok(())

@@ -5,6 +5,7 @@
 mod areas;
 mod driver;
 mod guest;
+mod memory;
 mod packed_queue;
 mod requests;
 mod split_queue;
@@ -12,3 +13,4 @@ mod split_queue;
 pub use areas::layout_of;
 pub use driver::{Asks, Driver, Sent};
 pub use guest::put_bytes;
+pub use memory::GuestMemory;

@@ -6,13 +6,12 @@ ghost use Rattle.guest_driver.specs.Places.{HasPassed, avail_flag, used_flag};
 
 use crate::areas::layout_of;
 use crate::guest::{descriptor, put, u16_at, u32_at};
+use crate::memory::GuestMemory;
 use crate::requests::{Buffers, Used};
-use guest_mem::GuestMem;
 use script_lines::{LineFault, Stop};
 use std::alloc::{AllocError, Global};
 use std::collections::BTreeSet;
 use std::num::NonZeroU16;
-use world::World;
 
 /// VIRTQ_DESC_F_NEXT: the chain goes on in the next slot.
 const NEXT: u16 = 1;
@@ -130,7 +129,12 @@ impl PackedQueue {
 
     /// Makes a chain of its buffers available, under a key. The flags of the first descriptor are
     /// written last.
-    pub fn offer(&mut self, world: &mut World, buffers: Buffers, key: usize) -> Result<(), Stop> {
+    pub fn offer<M: GuestMemory>(
+        &mut self,
+        memory: &mut M,
+        buffers: Buffers,
+        key: usize,
+    ) -> Result<(), Stop> {
         let slots = if buffers.readable.is_some() {
             CHAIN_SLOTS
         } else {
@@ -154,14 +158,14 @@ impl PackedQueue {
                 let second = first.next(self.size);
                 let flags = WRITE | second.available();
                 let at = layout.desc + 16 * u64::from(second.slot);
-                put(world, at, &descriptor(buffers.writable, id, flags))?;
+                put(memory, at, &descriptor(buffers.writable, id, flags))?;
                 (readable, NEXT, second)
             }
             None => (buffers.writable, WRITE, first),
         };
         let flags = flags | first.available();
-        put(world, at, &descriptor(buffer, id, 0)[..14])?;
-        put(world, at + 14, &flags.to_le_bytes())?;
+        put(memory, at, &descriptor(buffer, id, 0)[..14])?;
+        put(memory, at + 14, &flags.to_le_bytes())?;
         self.next = last.next(self.size);
         self.free_slots = free_slots;
         Ok(())
@@ -169,7 +173,11 @@ impl PackedQueue {
 
     /// Reads the ring from its own position on while descriptors are used, and adds what they say.
     /// It stops at an id that isn't open.
-    pub fn look(&mut self, memory: &GuestMem, used: &mut Vec<Used>) -> Result<(), AllocError> {
+    pub fn look<M: GuestMemory>(
+        &mut self,
+        memory: &M,
+        used: &mut Vec<Used>,
+    ) -> Result<(), AllocError> {
         let layout = layout_of(self.queue, self.size.get());
         for _ in 0..self.size.get() {
             let at = layout.desc + 16 * u64::from(self.seen.slot);

@@ -77,7 +77,7 @@ impl Space {
     /// Places a buffer, each at a multiple of 16, in a memory of that size. `NoGuestMemory`, with
     /// nothing changed, exactly where it doesn't fit there or into a descriptor's length.
     pub fn place(&mut self, len: u64, memory: u64) -> Result<Buffer, LineFault>
-        requires { memory ≤ 2 ^ 32 }
+        requires { memory ≤ 2 ^ 44 }
         ensures inside { IsOk result ↔ (LiesIn memory self.old len × (len < 2 ^ 32)) }
         ensures placed { IfOk result (λ buffer. buffer ≡ record { at = self.old; len = len }) }
         ensures next { OnOk result (IsNextPlace (self.old + len) self.new) }

@@ -4,13 +4,12 @@ ghost use Rattle.std.specs.Prelude.{◌≡◌, [], IsTrue, ◌↔◌};
 
 use crate::areas::layout_of;
 use crate::guest::{descriptor, put, u16_at, u32_at};
+use crate::memory::GuestMemory;
 use crate::requests::{Buffers, Used};
-use guest_mem::GuestMem;
 use script_lines::{LineFault, Stop};
 use std::alloc::{AllocError, Global};
 use std::collections::BTreeSet;
 use std::num::NonZeroU16;
-use world::World;
 
 /// VIRTQ_DESC_F_NEXT: the chain goes on at `next`.
 const NEXT: u16 = 1;
@@ -59,7 +58,12 @@ impl SplitQueue {
     }
 
     /// Makes a chain of its buffers available, under a key. The index is written last.
-    pub fn offer(&mut self, world: &mut World, buffers: Buffers, key: usize) -> Result<(), Stop> {
+    pub fn offer<M: GuestMemory>(
+        &mut self,
+        memory: &mut M,
+        buffers: Buffers,
+        key: usize,
+    ) -> Result<(), Stop> {
         let Some(head) = self.free.pop_first() else {
             return Err(Stop::Fault(LineFault::QueueFull));
         };
@@ -71,25 +75,29 @@ impl SplitQueue {
         let last = match buffers.readable {
             Some(readable) => {
                 let at = layout.desc + 16 * u64::from(head);
-                put(world, at, &descriptor(readable, NEXT, head | 1))?;
+                put(memory, at, &descriptor(readable, NEXT, head | 1))?;
                 head | 1
             }
             None => head,
         };
         let at = layout.desc + 16 * u64::from(last);
-        put(world, at, &descriptor(buffers.writable, WRITE, 0))?;
+        put(memory, at, &descriptor(buffers.writable, WRITE, 0))?;
         let slot = self.available % self.size.get();
         let at = layout.driver + 4 + 2 * u64::from(slot);
-        put(world, at, &head.to_le_bytes())?;
+        put(memory, at, &head.to_le_bytes())?;
         self.available = self.available.wrapping_add(1);
-        put(world, layout.driver + 2, &self.available.to_le_bytes())?;
+        put(memory, layout.driver + 2, &self.available.to_le_bytes())?;
         Ok(())
     }
 
     /// Reads the used ring up to its index, and adds what was used. An id that isn't open is
     /// skipped. Where the index is more than a ring ahead, the entries are those of one round: a
     /// further round would read the same ids, which are no longer open.
-    pub fn look(&mut self, memory: &GuestMem, used: &mut Vec<Used>) -> Result<(), AllocError> {
+    pub fn look<M: GuestMemory>(
+        &mut self,
+        memory: &M,
+        used: &mut Vec<Used>,
+    ) -> Result<(), AllocError> {
         let layout = layout_of(self.queue, self.size.get());
         let index = u16_at(memory, layout.device + 2);
         let entries = index.wrapping_sub(self.seen).min(self.size.get());

@@ -1,11 +1,12 @@
-//! The header of a script, and the device that it asks for.
+//! The header of a script, and what it asks for.
 
-use guest_driver::{Driver, layout_of};
+use crate::known::Known;
+use guest_driver::layout_of;
 use ring_core::{Form, Layout};
 use script_lines::{Disk, HeaderLine, LineFault, LineText, Queues, Stop, text_of};
 use std::alloc::{AllocError, Global};
 use std::num::NonZeroU16;
-use world::{Config, RING_PACKED, StartFault, UnitSpec, VERSION_1, World};
+use world::{Config, RING_PACKED, StartFault, UnitSpec, VERSION_1};
 
 /// Sets what may be set once.
 fn set_once<T: Drop>(place: &mut Option<T>, value: T) -> Result<(), LineFault> {
@@ -73,9 +74,8 @@ impl Header {
         Ok(())
     }
 
-    /// Starts the device that the header asks for, and the guest's driver beside it. `BadConfig`
-    /// where a line lacks, or where the device refuses.
-    pub(crate) fn start(self, alloc: Global) -> Result<(World, Driver), Stop> {
+    /// What the header asks for. `BadConfig` where a line lacks.
+    pub(crate) fn wanted(self, alloc: Global) -> Result<Wanted, Stop> {
         let (Some(pages), Some(form), Some(queues)) = (self.pages, self.form, self.queues) else {
             return Err(Stop::Fault(LineFault::BadConfig));
         };
@@ -85,6 +85,10 @@ impl Header {
         let Some(size) = NonZeroU16::new(queues.size) else {
             return Err(Stop::Fault(LineFault::BadConfig));
         };
+        let known = Known {
+            queues: queues.count,
+            units: self.units.iter().copied().collect(alloc)?,
+        };
         let config = Config {
             pages,
             features: features_of(form),
@@ -93,11 +97,33 @@ impl Header {
             handoff,
             units: self.units,
         };
-        match World::new(alloc, &config) {
-            Ok(world) => Ok((world, Driver::new(alloc, form, queues.count, size)?)),
-            Err(StartFault::BadConfig) => Err(Stop::Fault(LineFault::BadConfig)),
-            Err(StartFault::NoMemory) => Err(Stop::NoMemory),
-        }
+        Ok(Wanted {
+            config,
+            known,
+            form,
+            size,
+        })
+    }
+}
+
+/// What a header asks for, of which no line lacks.
+#[derive(Drop)]
+pub(crate) struct Wanted {
+    /// The device. Whether it takes this isn't known here.
+    pub(crate) config: Config,
+    /// What lines may name.
+    pub(crate) known: Known,
+    /// The form of the queues.
+    pub(crate) form: Form,
+    /// How many descriptors each queue has.
+    pub(crate) size: NonZeroU16,
+}
+
+/// Why a script ends whose device wasn't had.
+pub(crate) fn stop_of(fault: StartFault) -> Stop {
+    match fault {
+        StartFault::BadConfig => Stop::Fault(LineFault::BadConfig),
+        StartFault::NoMemory => Stop::NoMemory,
     }
 }
 

@@ -18,7 +18,8 @@ pub enum LineFault {
     /// A word that its place doesn't take, or too few or too many words.
     #[error("bad value")]
     BadValue,
-    /// A header line behind the header, or for the second time.
+    /// A header line behind the header, or for the second time; a line that the command doesn't take, or not on this
+    /// side of `close`; a second `close`.
     #[error("out of place")]
     OutOfPlace,
     /// A request of that name was sent before.
@@ -59,6 +60,22 @@ pub enum ScriptFault {
     /// The writer refused a printed line.
     #[error("cannot write")]
     CannotWrite,
+    /// The device was closed, and a receipt isn't confirmed: the first ticket of one.
+    #[error("close: unconfirmed {queue}/{number}")]
+    Unconfirmed {
+        /// The queue of its request.
+        queue: u16,
+        /// How many chains that queue had accepted before it.
+        number: u64,
+    },
+    /// The device was closed, and a chain is outstanding, or a request isn't settled: the first ticket of one.
+    #[error("close: outstanding {queue}/{number}")]
+    Outstanding {
+        /// The queue of the chain.
+        queue: u16,
+        /// How many chains that queue had accepted before it.
+        number: u64,
+    },
 }
 
 /// Why a line ends the script, before it is known which line it is.

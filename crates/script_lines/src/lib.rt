@@ -4,16 +4,20 @@
 
 mod command;
 mod fault;
+mod guest_line;
 mod header;
 mod lines;
+mod print_line;
 mod send;
 mod step;
 mod values;
 
 pub use command::Command;
 pub use fault::{LineFault, ScriptFault, Stop};
+pub use guest_line::GuestLine;
 pub use header::{Disk, HeaderLine, Queues};
 pub use lines::{LineText, lines_of, text_of};
+pub use print_line::PrintLine;
 pub use send::{Send, TaskManagement};
 pub use step::Step;
 pub use values::{Bytes, Item};

@@ -128,8 +128,22 @@ fn a_writer_that_fails(rt: HostRuntime) {
 }
 
 #[test]
-fn a_writer_that_fails_is_named(rt: HostRuntime) -> Result<(), Fail> {
-    let text = format!(in rt.alloc(); "{}", ScriptFault::CannotWrite)?;
-    assert_eq!(rt; text.as_str(), "cannot write");
+fn faults_without_a_line_are_named(rt: HostRuntime) -> Result<(), Fail> {
+    let unconfirmed = ScriptFault::Unconfirmed {
+        queue: 3,
+        number: 17,
+    };
+    let outstanding = ScriptFault::Outstanding {
+        queue: 0,
+        number: 4294967296,
+    };
+    let text = format!(in rt.alloc();
+        "{}, {unconfirmed}, {outstanding}",
+        ScriptFault::CannotWrite
+    )?;
+    assert_eq!(rt;
+        text.as_str(),
+        "cannot write, close: unconfirmed 3/17, close: outstanding 0/4294967296"
+    );
     Ok(())
 }

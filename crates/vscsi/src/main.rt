@@ -6,11 +6,13 @@ mod output;
 mod words;
 
 use ending::Ending;
-use guest_script::{LineFault, ScriptFault, play};
+use guest_script::{LineFault, ScriptFault, play, serve};
 use output::Output;
 use std::io::{BufWriter, ErrorKind, Read, Write};
 use std::process::ExitCode;
 use std::rt::{Env, Files};
+use std::sync::Wait;
+use std::thread::Threads;
 use std::{env, fs, io};
 use words::{Asked, requested};
 
@@ -22,7 +24,10 @@ fn main(rt: HostRuntime) -> ExitCode {
 }
 
 /// Does what the words of the command line ask for.
-fn run<R: Env + Files + Input + Print + AllocGlobal>(rt: &R) -> Ending {
+fn run<R>(rt: &R) -> Ending
+where
+    R: Env + Files + Input + Print + AllocGlobal + Threads + Wait + Copy + Send + 'static,
+{
     let words: Vec<String> = match env::args(rt) {
         Ok(words) => match words.collect(rt.alloc()) {
             Ok(words) => words,
@@ -33,20 +38,28 @@ fn run<R: Env + Files + Input + Print + AllocGlobal>(rt: &R) -> Ending {
     };
     match requested(rt.alloc(), words.as_slice()) {
         Asked::Play("-") => play_from(rt, &mut rt.reader()),
-        Asked::Play(path) => play_file(rt, path),
+        Asked::Play(path) => match opened(rt, path) {
+            Ok(mut file) => play_from(rt, &mut file),
+            Err(ending) => ending,
+        },
+        Asked::Serve("-", workers) => serve_from(rt, &mut rt.reader(), workers),
+        Asked::Serve(path, workers) => match opened(rt, path) {
+            Ok(mut file) => serve_from(rt, &mut file, workers),
+            Err(ending) => ending,
+        },
         Asked::Other(ending) => ending,
     }
 }
 
-/// Plays the script in a file.
-fn play_file<R: Files + Print + AllocGlobal>(rt: &R, path: &str) -> Ending {
+/// Opens the file of a script.
+fn opened<R: Files>(rt: &R, path: &str) -> Result<R::File, Ending> {
     match fs::open(rt, path) {
-        Ok(mut file) => play_from(rt, &mut file),
-        Err(error) if error.kind() == ErrorKind::OutOfMemory => Ending::NoMemory,
-        Err(_) => Ending::Fault(ScriptFault::Line {
+        Ok(file) => Ok(file),
+        Err(error) if error.kind() == ErrorKind::OutOfMemory => Err(Ending::NoMemory),
+        Err(_) => Err(Ending::Fault(ScriptFault::Line {
             line: 0,
             fault: LineFault::CannotRead,
-        }),
+        })),
     }
 }
 
@@ -56,7 +69,25 @@ fn play_from<R: Print + AllocGlobal, S: Read>(rt: &R, script: &mut S) -> Ending 
         return Ending::NoMemory;
     };
     let outcome = play(rt.alloc(), script, &mut out);
-    if out.flush().is_err() {
+    ended(outcome, out.flush())
+}
+
+/// Plays the script that a reader gives on a device that so many workers serve, to standard output.
+fn serve_from<R, S>(rt: &R, script: &mut S, workers: u16) -> Ending
+where
+    R: Print + AllocGlobal + Threads + Wait + Copy + Send + 'static,
+    S: Read,
+{
+    let Ok(mut out) = BufWriter::new(rt.alloc(), Output::new(io::writer(rt))) else {
+        return Ending::NoMemory;
+    };
+    let outcome = serve(*rt, rt.alloc(), script, &mut out, workers);
+    ended(outcome, out.flush())
+}
+
+/// Why the program ends behind a script, whose output was flushed.
+fn ended(outcome: Result<(), ScriptFault>, flushed: io::Result<()>) -> Ending {
+    if flushed.is_err() {
         return Ending::CannotWrite;
     }
     match outcome {

@@ -10,6 +10,8 @@ use std::alloc::{AllocError, Global};
 pub enum Asked<'a> {
     /// To play the script in a file, or on standard input where it is `-`.
     Play(&'a str),
+    /// To play such a script on a device that so many workers serve.
+    Serve(&'a str, u16),
     /// To end.
     Other(Ending),
 }
@@ -30,28 +32,55 @@ SCSI requests, let the device run, and print what became of them:
   settle
   show R
 
+Where threads serve the device, `wait R` stands in the place of `settle`, and
+`close` before the first line that prints.
+
 docs/SCRIPT.md describes each line, and examples/ has scripts to begin with.
 
 Exit status: 0 done; 1 a fault of the script, named with its line on standard
-error, or a standard output that fails; 2 words that are refused, or ask for
-help; 3 no memory.
+error, a closed device that doesn't add up, or a standard output that fails;
+2 words that are refused, or ask for help; 3 no memory.
 ";
+
+/// The word that names a script.
+fn file<'a>(alloc: Global) -> Arg<'a> {
+    Arg::new(alloc, "FILE")
+        .required(true)
+        .help("The script; - for standard input")
+}
+
+/// `play`.
+fn play<'a>(alloc: Global) -> Result<Command<'a>, AllocError> {
+    Command::new(alloc, "play")
+        .about("Plays a script, line by line, and prints what it asks for")
+        .after_help(ABOUT_SCRIPTS)
+        .arg(file(alloc))
+}
+
+/// `serve`.
+fn serve<'a>(alloc: Global) -> Result<Command<'a>, AllocError> {
+    let workers = Arg::new(alloc, "workers")
+        .long("workers")
+        .value_name("N")
+        .required(true)
+        .value_parser(clap::value_parser!(u16).range(1..=8))
+        .help("How many threads serve the device, 1 to 8");
+    Command::new(alloc, "serve")
+        .about("Plays a script on a device that threads serve meanwhile")
+        .after_help(ABOUT_SCRIPTS)
+        .arg(file(alloc))?
+        .arg(workers)
+}
 
 /// The command line.
 fn command<'a>(alloc: Global) -> Result<Command<'a>, AllocError> {
-    let file = Arg::new(alloc, "FILE")
-        .required(true)
-        .help("The script; - for standard input");
-    let play = Command::new(alloc, "play")
-        .about("Plays a script, line by line, and prints what it asks for")
-        .after_help(ABOUT_SCRIPTS)
-        .arg(file)?;
     Command::new(alloc, "vscsi")
         .version("0.1.0")
         .about("A virtio SCSI host device, run over a guest that a script plays")
         .after_help(ABOUT_SCRIPTS)
         .subcommand_required(true)
-        .subcommand(play)
+        .subcommand(play(alloc)?)?
+        .subcommand(serve(alloc)?)
 }
 
 /// Parses the words.
@@ -61,19 +90,18 @@ fn parsed<'a>(alloc: Global, words: &'a [String]) -> Result<ArgMatches<'a>, Erro
 
 /// What the words ask for.
 pub fn requested<'a>(alloc: Global, words: &'a [String]) -> Asked<'a> {
-    let matches = match parsed(alloc, words) {
-        Ok(matches) => matches,
-        Err(error) if error.kind() == ErrorKind::OutOfMemory => {
-            return Asked::Other(Ending::NoMemory);
-        }
-        Err(error) => return Asked::Other(Ending::Refused(error)),
-    };
-    let file = match matches.subcommand_matches("play") {
-        Some(play) => play.get_str("FILE"),
-        None => None,
-    };
-    match file {
-        Some(file) => Asked::Play(file),
-        None => Asked::Other(Ending::Done),
+    match parsed(alloc, words) {
+        Ok(matches) => asked_of(&matches).unwrap_or(Asked::Other(Ending::Done)),
+        Err(error) if error.kind() == ErrorKind::OutOfMemory => Asked::Other(Ending::NoMemory),
+        Err(error) => Asked::Other(Ending::Refused(error)),
     }
+}
+
+/// What words that were parsed ask for.
+fn asked_of<'a>(matches: &ArgMatches<'a>) -> Option<Asked<'a>> {
+    if let Some(play) = matches.subcommand_matches("play") {
+        return Some(Asked::Play(play.get_str("FILE")?));
+    }
+    let serve = matches.subcommand_matches("serve")?;
+    Some(Asked::Serve(serve.get_str("FILE")?, serve.get_one::<u16>("workers")?))
 }

@@ -1,0 +1,60 @@
+//! What a script prints, as lines ask for it.
+
+use crate::fault::LineFault;
+use crate::header::only;
+use crate::values::{name, number, unit_pair};
+use scsi_codec::Address;
+
+/// A line that prints. Which queues, units and blocks there are isn't known here.
+#[derive(Clone, Copy, Debug, PartialEq, Eq)]
+pub enum PrintLine<'a> {
+    /// What became of a request or a function.
+    Show(&'a str),
+    /// Which requests or functions of a queue were used, in order.
+    Order(u16),
+    /// What stands in the blocks of a unit, from one on, so many of them.
+    Blocks(Address, u64, u64),
+    /// The steps of a unit.
+    History(Address),
+    /// What the used event buffers tell.
+    Events,
+    /// The status of the device.
+    Status,
+    /// How many notices a queue gave.
+    Notices(u16),
+}
+
+impl<'a> PrintLine<'a> {
+    /// Reads a line by its first word and the others; `None` where the first is no word of a line that prints.
+    /// `BadValue` where the others aren't what it takes.
+    pub fn read(keyword: &str, values: &[&'a str]) -> Result<Option<PrintLine<'a>>, LineFault> {
+        let line = match keyword {
+            "show" => PrintLine::Show(name(only(values)?)?),
+            "order" => PrintLine::Order(number(only(values)?)?),
+            "blocks" => blocks(values)?,
+            "history" => PrintLine::History(unit_pair(only(values)?)?),
+            "events" => alone(values, PrintLine::Events)?,
+            "status" => alone(values, PrintLine::Status)?,
+            "notices" => PrintLine::Notices(number(only(values)?)?),
+            _ => return Ok(None),
+        };
+        Ok(Some(line))
+    }
+}
+
+/// A line that has no values.
+fn alone<'a>(values: &[&str], line: PrintLine<'a>) -> Result<PrintLine<'a>, LineFault> {
+    if values.is_empty() {
+        Ok(line)
+    } else {
+        Err(LineFault::BadValue)
+    }
+}
+
+/// Reads the values of `blocks`.
+fn blocks<'a>(values: &[&str]) -> Result<PrintLine<'a>, LineFault> {
+    let [unit, first, count] = values else {
+        return Err(LineFault::BadValue);
+    };
+    Ok(PrintLine::Blocks(unit_pair(unit)?, number(first)?, number(count)?))
+}
