@@ -26,7 +26,8 @@ absent_inquiry _ allocation = Err invalid_field_in_cdb
 -- a refused CDB
 abbrev pub absent_bad : ℕ → Sense
 absent_bad opcode =
-    if list_any (λ known. known == opcode) answered_when_absent then invalid_field_in_cdb else logical_unit_not_supported
+    if list_any (λ known. known == opcode) answered_when_absent then invalid_field_in_cdb else
+    logical_unit_not_supported
 
 abbrev pub absent_answer : Command → Answer
 absent_answer (RequestSense allocation) = Ok (take allocation (fixed logical_unit_not_supported))

@@ -45,7 +45,8 @@ pub fn exec<S: Store>(
 ) -> Result<Reply, NoMemory>
     requires { (need_of command.now).out ≤ length out.now }
     ensures reply { IfOk result (λ reply. plain_of reply
-        ≡ reply_of (facts_of facts.now (S.size store.old)) command.now (data_of command.now out.now) (S.block_at store.old)) }
+        ≡ reply_of (facts_of facts.now (S.size store.old)) command.now (data_of command.now out.now)
+        (S.block_at store.old)) }
     ensures blocks { IfOk result (λ reply. (b : ℕ) → S.block_at store.new b
         ≡ block_after command.now (data_of command.now out.now) reply.status (S.block_at store.old) b) }
     ensures room { IfOk result (λ reply. vec_len reply.payload ≤ (need_of command.now).into) }

@@ -80,7 +80,8 @@ pub fn compared_first()
         run blocks lba count ≡ to_compare count bytes →
         reply_of facts (Command.CompareAndWrite lba count) bytes blocks
         ≡ success (Command.CompareAndWrite lba count) [] }
-    ensures unequal { (facts : Facts) (lba count : ℕ) (bytes : List ℕ) (blocks : Blocks) (k : ℕ) → facts.pending ≡ None →
+    ensures unequal { (facts : Facts) (lba count : ℕ) (bytes : List ℕ) (blocks : Blocks) (k : ℕ)
+        → facts.pending ≡ None →
         IsTrue (is_in_range facts.capacity lba count) →
         k < length (to_compare count bytes) → k < length (run blocks lba count) →
         ((j : ℕ) → j < k → slice_index (to_compare count bytes) j ≡ slice_index (run blocks lba count) j) →
@@ -124,20 +125,24 @@ pub fn large_capacities_are_told()
         (reply_of (record facts { pending = None; capacity = 0xffff_ffff }) Command.ReadCapacity10 bytes blocks).payload
         ≡ 0xff ∷ 0xff ∷ 0xff ∷ 0xfe ∷ 0 ∷ 0 ∷ 2 ∷ 0 ∷ [] }
     ensures largest { (facts : Facts) (bytes : List ℕ) (blocks : Blocks) →
-        (reply_of (record facts { pending = None; capacity = 0x1_0000_0000 }) Command.ReadCapacity10 bytes blocks).payload
+        (reply_of (record facts { pending = None; capacity = 0x1_0000_0000 }) Command.ReadCapacity10 bytes
+        blocks).payload
         ≡ 0xff ∷ 0xff ∷ 0xff ∷ 0xff ∷ 0 ∷ 0 ∷ 2 ∷ 0 ∷ [] }
     ensures larger { (facts : Facts) (bytes : List ℕ) (blocks : Blocks) →
-        (reply_of (record facts { pending = None; capacity = 0x1_0000_0001 }) Command.ReadCapacity10 bytes blocks).payload
+        (reply_of (record facts { pending = None; capacity = 0x1_0000_0001 }) Command.ReadCapacity10 bytes
+        blocks).payload
         ≡ 0xff ∷ 0xff ∷ 0xff ∷ 0xff ∷ 0 ∷ 0 ∷ 2 ∷ 0 ∷ [] }
     ensures sixteen { (facts : Facts) (bytes : List ℕ) (blocks : Blocks) →
-        (reply_of (record facts { pending = None; capacity = 0x1_0000_0001 }) (Command.ReadCapacity16 12) bytes blocks).payload
+        (reply_of (record facts { pending = None; capacity = 0x1_0000_0001 })
+        (Command.ReadCapacity16 12) bytes blocks).payload
         ≡ 0 ∷ 0 ∷ 0 ∷ 1 ∷ 0 ∷ 0 ∷ 0 ∷ 0 ∷ 0 ∷ 0 ∷ 2 ∷ 0 ∷ [] }
 {}
 
 /// INQUIRY and REPORT LUNS leave an attention, and are answered as if there were none.
 pub fn attention_is_left()
     ensures inquiry { (what : InquiryData) (allocation : ℕ) → IsFalse (takes (Command.Inquiry what allocation)) }
-    ensures report_luns { (select : SelectReport) (allocation : ℕ) → IsFalse (takes (Command.ReportLuns select allocation)) }
+    ensures report_luns { (select : SelectReport) (allocation : ℕ)
+        → IsFalse (takes (Command.ReportLuns select allocation)) }
     ensures same { (facts : Facts) (command : Command) (bytes : List ℕ) (blocks : Blocks) (attention : Sense) →
         IsFalse (takes command) →
         reply_of (record facts { pending = Some attention }) command bytes blocks

@@ -5,4 +5,5 @@ use Rattle.block_store.specs.Blocks.{block_count, nth_block}
 
 -- block b has 512 bytes where the run has it
 pub length-nth_block : (bytes : List ℕ) (b : ℕ) → b < block_count bytes → length (nth_block bytes b) ≡ 512
-length-nth_block bytes b below = length-take-le 512 (drop (512 * b) bytes) (rw (length-drop (512 * b) bytes) (omega arith))
+length-nth_block bytes b below =
+    length-take-le 512 (drop (512 * b) bytes) (rw (length-drop (512 * b) bytes) (omega arith))

@@ -31,6 +31,7 @@ const NACA: u8 = 2;
 /// that asks for NACA, is `Bad`, and an opcode that the profile lacks is `Unknown`. None needs more than
 /// 1,048,576 bytes from the driver.
 #[tactic(auto, using(crate::proofs::Rows::by_none))]
+#[inline(never)]
 pub fn decode(cdb: &[u8; CDB_BYTES]) -> Command
     ensures meaning { result ≡ command cdb.now }
     ensures data_out { (need_of result).out ≤ 1048576 }

@@ -21,7 +21,8 @@ residual_of n moved = (n.readable - 51) + (n.writable - 108) - moved
 -- response OK, with the status of a command
 abbrev pub ok_bytes : ChainLengths → ℕ → Option Sense → ℕ → List ℕ
 ok_bytes n status sense moved =
-    response_bytes (record { code = code.Ok; status = status; residual = residual_of n moved; sense = option_map fixed sense })
+    response_bytes
+    (record { code = code.Ok; status = status; residual = residual_of n moved; sense = option_map fixed sense })
 
 -- response OK with a reply, and its data behind it
 abbrev pub answer_of_reply : ChainLengths → PlainReply → List ℕ

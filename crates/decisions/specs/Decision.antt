@@ -67,13 +67,15 @@ decide_reading (Err ShortRequest) units n bytes = fails code.Failure
 decide_reading (Err BadAddress) units n bytes = if goes_both_ways n then fails code.Failure else fails code.BadTarget
 decide_reading (Ok r) units n bytes =
     if goes_both_ways n then fails code.Failure
-    else (if has_target units r.address.target then decide_command units n bytes r (command r.cdb) else fails code.BadTarget)
+    else (if has_target units r.address.target then decide_command units n bytes r (command r.cdb)
+    else fails code.BadTarget)
 
 -- what is decided of the first bytes of a chain with these lengths, where these units are there
 abbrev pub decided : List Address → List ℕ → ChainLengths → Decision
 decided units bytes n = decide_reading (reading bytes n.writable) units n bytes
 
--- the answer fits into the chain; the unit is there, the data that the command takes are, and there is room for those that it gives
+-- the answer fits into the chain; the unit is there, the data that the command takes are, and there is room for those
+-- that it gives
 abbrev pub Suits : ℕ → ChainLengths → Decision → Type 0
 Suits units n (Direct answer) = length answer ≤ n.writable
 Suits units n (Enter place r) =

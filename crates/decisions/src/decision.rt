@@ -69,16 +69,16 @@ fn decide_by_command(
         Some(place) => {
             Decision::Enter(
                 place,
-                UnitRequest::new(request.id, attribute, command, bytes),
+                UnitRequest::new(request.id, attribute, command, need.out, bytes),
             )
         }
     }
 }
 
-/// What is decided of a request, by the first bytes of its chain, 1,048,627 at most: the first cause that
-/// holds of those that answer it directly, else that it goes to its unit. A worker calls it once a chain,
-/// in the hold of the queue in which it was fetched. It takes no memory. Bytes in which data stand that the command takes are
-/// moved into the request; all others are left to whoever calls.
+/// What is decided of a request, by the first bytes of its chain, 1,048,627 at most: the first cause that holds of
+/// those that answer it directly, else that it goes to its unit. A worker calls it once a chain, in the hold of the
+/// queue in which it was fetched. It takes no memory. Bytes in which data stand that the command takes are moved into
+/// the request; all others are left to whoever calls.
 pub fn decide(inventory: &Inventory, bytes: &mut Vec<u8>, lengths: &ChainLengths) -> Decision
     requires fetched { length bytes.old.items ≡ min 1048627 lengths.now.readable }
     requires sum { lengths.now.readable + lengths.now.writable ≤ 2 ^ 32 }

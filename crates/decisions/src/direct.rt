@@ -40,8 +40,8 @@ pub(crate) enum Told {
     Other(ArrayVec<u8, MOST_OTHER_BYTES>),
 }
 
-/// An answer that needs no unit: its bytes are 0, or 108 and the data behind them, or those of another table. It is small,
-/// and its bytes are made where they are written, so that neither takes memory.
+/// An answer that needs no unit: its bytes are 0, or 108 and the data behind them, or those of another table. It is
+/// small, and its bytes are made where they are written, so that neither takes memory.
 #[derive(Debug, Drop)]
 pub struct DirectAnswer {
     lengths: ChainLengths,

@@ -40,14 +40,17 @@ impl Model for UnitRequest {
 }
 
 impl UnitRequest {
-    /// The request in the first bytes of a chain, decoded. It takes the bytes where the command takes data from them.
+    /// The request in the first bytes of a chain, decoded, whose command takes so many bytes of data. It takes the
+    /// bytes where these are some.
     pub(crate) fn new(
         id: u64,
         attribute: TaskAttribute,
         command: Command,
+        out: u32,
         bytes: &mut Vec<u8>,
     ) -> UnitRequest
-        requires { REQUEST_BYTES + (need_of command).out ≤ length bytes.old.items }
+        requires out { out ≡ (need_of command).out }
+        requires bytes { REQUEST_BYTES + (need_of command).out ≤ length bytes.old.items }
         ensures { result ≡ record {
           id = id;
           attribute = attribute;
@@ -56,7 +59,7 @@ impl UnitRequest {
         } }
     {
         let mut own = Vec::new(*bytes.allocator());
-        if need(&command).out > 0 {
+        if out > 0 {
             mem::swap(bytes, &mut own);
         }
         UnitRequest {

@@ -93,7 +93,8 @@ completed c xs w = change (completing (all_written w.memory xs) c) c.ticket.queu
 
 abbrev pub after : Deed → PlainWorld → PlainWorld
 after (Deed.Poke x) w = record w { memory = all_written w.memory (x ∷ []) }
-after (Deed.Arrive f x) w = record w { queues = change (arriving f.chain (Slot.Arrived x)) f.chain.ticket.queue w.queues }
+after (Deed.Arrive f x) w =
+    record w { queues = change (arriving f.chain (Slot.Arrived x)) f.chain.ticket.queue w.queues }
 after (Deed.Refuse f a) w =
     record w { queues = change (arriving f.chain (Slot.Ready f.chain (Outcome.Told a))) f.chain.ticket.queue w.queues }
 after (Deed.Open f g) w =
@@ -127,9 +128,13 @@ after (Deed.Full x) w =
       units = change (stepped (Step.Full x.entry.ticket)) x.unit w.units;
     }
 after (Deed.Shed x) w =
-    record w { queues = change (slotted (Slot.Ready x.chain (Outcome.Ended Ending.Busy))) x.chain.ticket.queue w.queues }
+    record w {
+      queues = change (slotted (Slot.Ready x.chain (Outcome.Ended Ending.Busy))) x.chain.ticket.queue w.queues;
+    }
 after (Deed.Stall x) w =
-    record w { queues = change (slotted (Slot.Ready x.chain (Outcome.Ended Ending.Lost))) x.chain.ticket.queue w.queues }
+    record w {
+      queues = change (slotted (Slot.Ready x.chain (Outcome.Ended Ending.Lost))) x.chain.ticket.queue w.queues;
+    }
 after (Deed.Direct c o xs) w =
     record w {
       queues = change (directing (all_written w.memory xs) c) c.ticket.queue w.queues;

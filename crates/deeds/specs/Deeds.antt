@@ -18,8 +18,8 @@ use Rattle.deeds.specs.Events.{Event}
 
 pub data Deed : Type 0 where
   Poke : Write → Deed
-  -- Fetch: a request for a unit; a direct answer, of queue 0 or of a request queue; a function; a buffer that is held, or
-  -- used at once; a fault
+  -- Fetch: a request for a unit; a direct answer, of queue 0 or of a request queue; a function; a buffer that is
+  -- held, or used at once; a fault
   Arrive : PlainFetch → PlainJob → Deed
   Refuse : PlainFetch → List ℕ → Deed
   Open : PlainFetch → PlainFunction → Deed

@@ -3,7 +3,7 @@ use Rattle.std.specs.Prelude.{ℕ, zero, suc, ◌≡◌, ◌<◌, ◌≤◌, ◌
 use Rattle.guest_mem.specs.Memory.{LiesIn}
 use Rattle.scsi_codec.specs.declared.lun.Address.{Address}
 use Rattle.scsi_codec.specs.declared.event_queue.Event.{Event as Report}
-use Rattle.scsi_codec.specs.EventQueue.{event_bytes, events_missed}
+use Rattle.scsi_codec.specs.EventQueue.{event_bytes, missed_event}
 use Rattle.scsi_codec.specs.ControlQueue.{IsControl, function_bytes}
 use Rattle.scsi_codec.specs.declared.control_queue.Control.{Control}
 use Rattle.scsi_codec.specs.declared.control_queue.FunctionResponse.{FunctionResponse}
@@ -109,13 +109,9 @@ pub record Keeps (w : PlainWorld) (f : PlainFetch) : Type 0 where
   pub event : f.chain.ticket.queue ≡ 1
   pub decided : (is_short f.chain || w.missed) ≡ false
 
--- VIRTIO_SCSI_T_EVENTS_MISSED with NO_EVENT (VIRTIO 1.2 §5.6.6.3)
-abbrev pub missed_report : Report
-missed_report = record { event = events_missed; address = None; reason = 0 }
-
 -- own: a short buffer is used with no byte, another with what was missed
 abbrev pub spent_bytes : PlainChain → List ℕ
-spent_bytes c = if is_short c then [] else event_bytes missed_report
+spent_bytes c = if is_short c then [] else event_bytes missed_event
 
 -- the buffer is used at once
 pub record Spends (w : PlainWorld) (f : PlainFetch) (xs : List Write) : Type 0 where

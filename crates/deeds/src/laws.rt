@@ -189,8 +189,8 @@ pub fn lists_have_room()
     ensures { (old : PlainWorld) (trace : List Occurrence) (w : PlainWorld) → Reached old trace w → HaveRoom w }
 {}
 
-/// In every world that is reached the units that the open function has left to mark, and those of the marks that it waits
-/// for, are there.
+/// In every world that is reached the units that the open function has left to mark, and those of the marks that it
+/// waits for, are there.
 pub fn functions_find_their_units()
     ensures { (old : PlainWorld) (trace : List Occurrence) (w : PlainWorld) → Reached old trace w →
         FunctionIsThere (length w.units) w.function }

@@ -6,8 +6,9 @@ use Rattle.std.specs.List.{zip}
 use Rattle.scsi_codec.specs.declared.event_queue.Event.{Event}
 use Rattle.scsi_codec.specs.EventQueue.{event_bytes}
 use Rattle.ring_core.specs.State.{PlainChain}
-use Rattle.event_queue.specs.Port.{PlainPort, Happening, Gift, missed_event, gives_to, raised_to}
-use Rattle.event_queue.specs.Told.{came, Told, raising, coming, told, port_after, gifts_with, gifts_after}
+use Rattle.event_queue.specs.Port.{PlainPort, Happening, Gift, gives_to, raised_to}
+use Rattle.scsi_codec.specs.EventQueue.{missed_event}
+use Rattle.event_queue.specs.Told.{came, Told, raising, coming, told, port_since, gifts_with, gifts_since}
 
 first_of : {K : Type 0} {a b : K} {ks ls : List K} → a ∷ ks ≡ b ∷ ls → a ≡ b
 first_of e = cc
@@ -122,11 +123,11 @@ came_one c cs t p gs h true false pm tm = let e = sym pm ∙ h.missed ∙ tm in 
 came_one c cs t p gs h false true pm tm = let e = sym pm ∙ h.missed ∙ tm in absurd (cc)
 
 pub agree : (limit : ℕ) (past : List Happening)
-    → Agrees (came past) (told past) (port_after limit past) (gifts_after limit past)
+    → Agrees (came past) (told past) (port_since limit past) (gifts_since limit past)
 agree limit [] = record { few = omega arith; none = λ m. refl; held = refl; missed = refl; given = refl }
 agree limit (Happening.Raised e ∷ past) =
-    raised e (came past) (told past) (port_after limit past) (gifts_after limit past) (agree limit past)
-    (nat_lt (length (told past).events) (length (came past))) refl (port_after limit past).buffers refl
+    raised e (came past) (told past) (port_since limit past) (gifts_since limit past) (agree limit past)
+    (nat_lt (length (told past).events) (length (came past))) refl (port_since limit past).buffers refl
 agree limit (Happening.Came c ∷ past) =
-    came_one c (came past) (told past) (port_after limit past) (gifts_after limit past) (agree limit past)
-    (port_after limit past).missed (told past).missed refl refl
+    came_one c (came past) (told past) (port_since limit past) (gifts_since limit past) (agree limit past)
+    (port_since limit past).missed (told past).missed refl refl

@@ -2,11 +2,12 @@
 use Rattle.std.specs.Prelude.{ℕ, ◌≤◌, ◌<◌, Bool, true, false, if◌then◌else◌, List, [], ◌∷◌, ◌++◌, Option, Some, None}
 use Rattle.std.specs.Option.{ForSome}
 use Rattle.scsi_codec.specs.declared.event_queue.Event.{Event}
-use Rattle.scsi_codec.specs.EventQueue.{event_bytes, events_missed}
+use Rattle.scsi_codec.specs.EventQueue.{event_bytes, missed_event}
 use Rattle.ring_core.specs.Parts.{writable_total}
 use Rattle.ring_core.specs.State.{PlainChain}
 
--- the buffers that are held, oldest first, whether an event was missed since a buffer last came, and how many may be held
+-- the buffers that are held, oldest first, whether an event was missed since a buffer last came, and how many may be
+-- held
 pub record PlainPort : Type 0 where
   pub buffers : List PlainChain
   pub missed : Bool
@@ -19,10 +20,6 @@ opening_port limit = record { buffers = []; missed = false; limit = limit }
 pub data Happening : Type 0 where
   Raised : Event → Happening
   Came : PlainChain → Happening
-
--- VIRTIO_SCSI_T_EVENTS_MISSED with NO_EVENT
-abbrev pub missed_event : Event
-missed_event = record { event = events_missed; address = None; reason = 0 }
 
 -- a buffer, and the bytes that it gets
 abbrev pub Gift : Type 0

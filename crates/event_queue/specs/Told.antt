@@ -4,7 +4,8 @@ use Rattle.std.specs.List.{zip}
 use Rattle.scsi_codec.specs.declared.event_queue.Event.{Event}
 use Rattle.ring_core.specs.State.{PlainChain}
 use Rattle.scsi_codec.specs.EventQueue.{event_bytes}
-use Rattle.event_queue.specs.Port.{PlainPort, Happening, Gift, missed_event, opening_port, gives, after}
+use Rattle.event_queue.specs.Port.{PlainPort, Happening, Gift, opening_port, gives, after}
+use Rattle.scsi_codec.specs.EventQueue.{missed_event}
 
 -- the buffers that came, oldest first
 abbrev pub came : List Happening → List PlainChain
@@ -46,14 +47,14 @@ missed_of past = (told past).missed
 -- The port, call by call
 
 -- the port behind these calls, and what they gave, oldest first
-abbrev pub port_after : ℕ → List Happening → PlainPort
-port_after limit [] = opening_port limit
-port_after limit (h ∷ past) = after h (port_after limit past)
+abbrev pub port_since : ℕ → List Happening → PlainPort
+port_since limit [] = opening_port limit
+port_since limit (h ∷ past) = after h (port_since limit past)
 
 abbrev pub gifts_with : List Gift → Option Gift → List Gift
 gifts_with gifts None = gifts
 gifts_with gifts (Some g) = gifts ++ g ∷ []
 
-abbrev pub gifts_after : ℕ → List Happening → List Gift
-gifts_after limit [] = []
-gifts_after limit (h ∷ past) = gifts_with (gifts_after limit past) (gives h (port_after limit past))
+abbrev pub gifts_since : ℕ → List Happening → List Gift
+gifts_since limit [] = []
+gifts_since limit (h ∷ past) = gifts_with (gifts_since limit past) (gives h (port_since limit past))

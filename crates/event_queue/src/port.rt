@@ -30,7 +30,7 @@ impl Model for EventPort {
 
 ghost use Rattle.std.specs.Prelude.{◌≡◌};
 ghost use Rattle.scsi_codec.specs.EventQueue.{event_bytes};
-ghost use Rattle.event_queue.specs.Port.{missed_event};
+ghost use Rattle.scsi_codec.specs.EventQueue.{missed_event};
 
 /// The bytes that tell that events were missed (VIRTIO 1.2 §5.6.6.3).
 fn missed_bytes() -> [u8; EVENT_BYTES]

@@ -78,8 +78,18 @@ impl GuestMem {
         if addr > size || len as u64 > size - addr {
             return Err(MemFault::Outside);
         }
+        Ok(self.range(addr, len))
+    }
+
+    /// The `len` bytes from `addr` on, where they stand: for whoever knows that they lie inside.
+    #[inline(always)]
+    pub fn range(&self, addr: u64, len: usize) -> &[u8]
+        requires inside { LiesIn (length self.now) addr len }
+        ensures bytes { result.now ≡ bytes_at self.now addr len }
+        ensures len { length result.now ≡ len }
+    {
         let start = addr as usize;
-        Ok(&self.bytes[start..start + len])
+        &self.bytes[start..start + len]
     }
 
     /// Copies the bytes from `addr` on into `out`, as many as it holds. It takes no memory.
@@ -112,8 +122,18 @@ impl GuestMem {
         if addr > size || bytes.len() as u64 > size - addr {
             return Err(MemFault::Outside);
         }
+        self.put(addr, bytes);
+        Ok(())
+    }
+
+    /// Puts `bytes` at `addr`, and changes nothing else: for whoever knows that they lie inside. It takes no memory.
+    #[inline(always)]
+    pub fn put(&mut self, addr: u64, bytes: &[u8])
+        requires inside { LiesIn (length self.old) addr (length bytes.now) }
+        ensures bytes { self.new ≡ with_bytes self.old addr bytes.now }
+        ensures size { length self.new ≡ length self.old }
+    {
         let start = addr as usize;
         self.bytes[start..start + bytes.len()].copy_from_slice(bytes);
-        Ok(())
     }
 }

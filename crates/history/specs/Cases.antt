@@ -19,7 +19,8 @@ nth n = record { queue = 2; number = n }
 
 -- a TEST UNIT READY in that chain, with one more as its identifier
 abbrev pub test_unit_ready : ℕ → TaskAttribute → Entry
-test_unit_ready n attribute = record { ticket = nth n; id = n + 1; attribute = attribute; command = TestUnitReady; data_out = [] }
+test_unit_ready n attribute =
+    record { ticket = nth n; id = n + 1; attribute = attribute; command = TestUnitReady; data_out = [] }
 
 -- it ends with GOOD and moves nothing
 abbrev pub good_reply : PlainReply
@@ -27,7 +28,9 @@ good_reply = success TestUnitReady []
 
 -- A is SIMPLE, B of this attribute, C SIMPLE, and they enter in this order
 abbrev pub three_enter : TaskAttribute → List Step
-three_enter b = Step.Enter (test_unit_ready 2 Simple) ∷ Step.Enter (test_unit_ready 1 b) ∷ Step.Enter (test_unit_ready 0 Simple) ∷ []
+three_enter b =
+    Step.Enter (test_unit_ready 2 Simple) ∷ Step.Enter (test_unit_ready 1 b)
+    ∷ Step.Enter (test_unit_ready 0 Simple) ∷ []
 
 -- the command of that chain runs; it leaves
 abbrev pub runs : ℕ → Step

@@ -64,7 +64,13 @@ oldest (c ∷ later) = Some (unit_attention c.asc c.ascq)
 -- own: what the next command is told of the unit
 abbrev pub facts_after : Opening → List Step → Facts
 facts_after o h =
-    record { target = o.target; lun = o.lun; luns = o.luns; capacity = capacity_of o h; pending = oldest (pending_of o h) }
+    record {
+      target = o.target;
+      lun = o.lun;
+      luns = o.luns;
+      capacity = capacity_of o h;
+      pending = oldest (pending_of o h);
+    }
 
 -- the reply to a task whose command runs next (SBC-3 §5, SPC-4 §6)
 abbrev pub reply_after : Opening → Entry → List Step → PlainReply

@@ -18,7 +18,8 @@ is_parked h e = not (enabled e h) && not (marked e.ticket h)
 -- own: the tasks that the Leave of a ticket enables, by order of entry: alive and unmarked, and not enabled before
 abbrev pub newly_enabled : Ticket → List Step → List Entry
 newly_enabled t past =
-    filter (λ e. not (marked e.ticket past) && (not (enabled e past) && enabled e (Step.Leave t ∷ past))) (alive (Step.Leave t ∷ past))
+    filter (λ e. not (marked e.ticket past) && (not (enabled e past) && enabled e (Step.Leave t ∷ past)))
+    (alive (Step.Leave t ∷ past))
 
 -- own: the tasks that an Abort or a Reset marks first and that were never enabled, by order of entry
 abbrev pub newly_marked : Step → List Step → List Entry

@@ -22,8 +22,8 @@ abbrev pub first_mark : Option Reason → Bool → Reason → Option Reason
 first_mark (Some earlier) struck now = Some earlier
 first_mark None struck now = if struck then Some now else None
 
--- the reason of the first Abort (SAM-5 §7.2, §7.3, §7.5) or Reset (SAM-5 §7.6, §7.7) that met the task where it was alive
--- and not done
+-- the reason of the first Abort (SAM-5 §7.2, §7.3, §7.5) or Reset (SAM-5 §7.6, §7.7) that met the task where it was
+-- alive and not done
 abbrev pub mark_of : Ticket → List Step → Option Reason
 mark_of t [] = None
 mark_of t (Step.Abort rule ∷ past) = first_mark (mark_of t past) (strikes rule t past) reason.Aborted

@@ -58,7 +58,8 @@ waits s = not s.enabled && not (is_some s.mark)
 
 -- own: a task that enters at a place; with it these are alive
 abbrev pub joined : ℕ → List Entry → Entry → Seen
-joined place tasks e = record { entry = e; enabled = not (is_blocked e tasks); done = false; mark = None; place = place }
+joined place tasks e =
+    record { entry = e; enabled = not (is_blocked e tasks); done = false; mark = None; place = place }
 
 -- own: a task after the Commit or Busy of a ticket
 abbrev pub finished : Ticket → Seen → Seen

@@ -35,8 +35,8 @@ pub record IsEntered (inventory : List Address) (ds : List Deed) (place : ℕ) (
   pub entry : job.entry ≡ e
   pub sent : IsSent inventory ds job
 
--- each accepted ticket has one Fetch, and no other ticket has one; this takes what its queue offers, with the bytes that
--- stand in memory then; it enters at most once, in one unit, as what was decided of these bytes
+-- each accepted ticket has one Fetch, and no other ticket has one; this takes what its queue offers, with the bytes
+-- that stand in memory then; it enters at most once, in one unit, as what was decided of these bytes
 pub record AreEntered (old : PlainWorld) (ds : List Deed) (w : PlainWorld) : Type 0 where
   pub accepted : (p : Ticket → ℕ) → accepted_worth p w ≡ sum_by (fetches p) ds
   pub fetched : (t : Ticket) → sum_by (fetches (only t)) ds ≡ was_accepted t w

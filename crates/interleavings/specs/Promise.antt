@@ -37,7 +37,8 @@ pub record IsKept (old : PlainWorld) (trace : List Occurrence) (w : PlainWorld) 
   pub deeds : AreDeeds old trace w ds
   -- the history of each unit is lawful, and is the one that the deeds tell
   pub histories : AreHistories old ds w
-  -- each accepted chain is fetched once, and enters at most once, as what was decided of the bytes that stood there then
+  -- each accepted chain is fetched once, and enters at most once, as what was decided of the bytes that stood there
+  -- then
   pub entered : AreEntered old ds w
   -- each used chain of a request queue has one answer, and it tells what is so
   pub answers : AreAnswered old ds w

@@ -32,8 +32,8 @@ pub fn none_is_lost()
 {}
 
 /// Each accepted chain was fetched once, as its queue offered it, with the bytes that stood in memory then. Its task
-/// enters at most once, in one unit, and its unit, identifier, attribute, command and data are what was decided of these
-/// bytes: so only where they had no direct answer, and whatever the guest wrote later.
+/// enters at most once, in one unit, and its unit, identifier, attribute, command and data are what was decided of
+/// these bytes: so only where they had no direct answer, and whatever the guest wrote later.
 pub fn tasks_enter_once()
     ensures { (old : PlainWorld) (trace : List Occurrence) (w : PlainWorld) (r : Reached old trace w) →
         AreEntered old (deeds_of old trace w r.runs) w }

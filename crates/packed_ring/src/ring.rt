@@ -125,6 +125,23 @@ impl PackedRing {
         }
     }
 
+    /// Takes the next chain, where there is one: apart so that a look that finds none is put into its callers.
+    fn fetch_some(&mut self, memory: &GuestMem) -> Result<Option<Fetched>, RingFault>
+        requires fits { length memory.now ≡ self.old.memory }
+        requires unbroken { self.old.broken ≡ None }
+        requires some { is_available_in self.old memory.now ≡ true }
+        ensures { Fetches self.old memory.now result self.new }
+    {
+        match self.next(memory) {
+            Ok(run) => self.take(memory, run),
+            Err(RingFault::NoMemory) => Err(RingFault::NoMemory),
+            Err(fault) => {
+                self.base.break_with(fault);
+                Err(fault)
+            }
+        }
+    }
+
     /// Accepts the chain that was found, and reads its first bytes.
     fn take(&mut self, memory: &GuestMem, run: Run) -> Result<Option<Fetched>, RingFault>
         requires fits { length memory.now ≡ self.old.memory }
@@ -151,6 +168,7 @@ impl PackedRing {
 impl Ring for PackedRing {
     ghost state = { λ r. r };
 
+    #[inline(always)]
     fn fetch(&mut self, memory: &GuestMem) -> Result<Option<Fetched>, RingFault> {
         if let Some(fault) = self.base.broken() {
             return Err(fault);
@@ -158,16 +176,10 @@ impl Ring for PackedRing {
         if !self.has_next(memory) {
             return Ok(None);
         }
-        match self.next(memory) {
-            Ok(run) => self.take(memory, run),
-            Err(RingFault::NoMemory) => Err(RingFault::NoMemory),
-            Err(fault) => {
-                self.base.break_with(fault);
-                Err(fault)
-            }
-        }
+        self.fetch_some(memory)
     }
 
+    #[inline(always)]
     fn is_idle(&self, memory: &GuestMem) -> bool {
         !self.base.is_broken() && !self.has_next(memory)
     }

@@ -23,9 +23,7 @@ pub(crate) fn number_at(memory: &GuestMem, addr: u64) -> u16
     requires { addr + 2 ≤ length memory.now }
     ensures { result ≡ little_number 2 (bytes_at memory.now addr 2) }
 {
-    let mut bytes = [0; 2];
-    let _ = memory.read(addr, &mut bytes);
-    LittleEndian::read_u16(&bytes)
+    LittleEndian::read_u16(memory.range(addr, 2))
 }
 
 /// The slot that is reached once so many slots were passed. Counts below 2^64 are divided as such,
@@ -70,10 +68,9 @@ pub(crate) fn descriptor_at(memory: &GuestMem, layout: &Layout, passed: u128) ->
     requires small { length memory.now ≤ 2 ^ 28 }
     ensures { result ≡ slot_at layout.now memory.now passed }
 {
-    let mut bytes = [0; 16];
-    let _ = memory.read(place_of(layout, passed), &mut bytes);
+    let bytes = memory.range(place_of(layout, passed), 16);
     Descriptor {
-        addr: LittleEndian::read_u64(&bytes),
+        addr: LittleEndian::read_u64(bytes),
         len: LittleEndian::read_u32(&bytes[8..]),
         flags: LittleEndian::read_u16(&bytes[14..]),
         next_or_id: LittleEndian::read_u16(&bytes[12..]),
@@ -109,5 +106,5 @@ pub(crate) fn put_used(memory: &mut GuestMem, addr: u64, len: u32, id: u16, flag
     LittleEndian::write_u32(&mut bytes, len);
     LittleEndian::write_u16(&mut bytes[4..], id);
     LittleEndian::write_u16(&mut bytes[6..], flags);
-    let _ = memory.write(addr, &bytes);
+    memory.put(addr, &bytes);
 }

@@ -1,5 +1,5 @@
--- The chains of either form as properties of the descriptors in memory: no order of tests, and nothing that is counted on
--- the way.
+-- The chains of either form as properties of the descriptors in memory: no order of tests, and nothing that is
+-- counted on the way.
 use Rattle.std.specs.Prelude.{ℕ, ◌≡◌, ◌+◌, ◌<◌, ◌≤◌, true, false, List, length, map, Some, slice_get}
 use Rattle.ring_core.specs.Walk.{goes_on, is_indirect, part_of}
 use Rattle.ring_core.specs.Split.{in_table}
@@ -26,8 +26,8 @@ SplitChainProperties m table size head parts =
     (numbers : List ℕ) × IsPath m table size head numbers
     × (parts ≡ map (λ i. part_of (in_table m table i)) numbers) × IsRightChain (length m) parts
 
--- so many slots, at most as many as the ring has, from where t slots were passed to the first descriptor without NEXT; none of
--- them names a table (2.8.6)
+-- so many slots, at most as many as the ring has, from where t slots were passed to the first descriptor without
+-- NEXT; none of them names a table (2.8.6)
 pub record IsRunOfSlots (m : List ℕ) (l : Layout) (t slots : ℕ) : Type 0 where
   pub most : slots ≤ l.size
   pub onward : (k : ℕ) → k + 1 < slots → goes_on (slots_from l m t k) ≡ true

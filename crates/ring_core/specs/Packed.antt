@@ -51,7 +51,7 @@ is_available s m =
     (not (avail_bit d) && used_bit d)
 
 -- what is wrong with a descriptor of the run in the ring, in a memory and a ring of these sizes. INDIRECT is a fault
--- whatever features were agreed, since no queue can agree them yet.
+-- whatever features were agreed, since the device offers none of them.
 abbrev pub packed_wrong : Features → ℕ → ℕ → Before → Descriptor → Option RingFault
 packed_wrong features memory size before d =
     first_of (
@@ -71,9 +71,7 @@ id_of [] = 0
 id_of (d ∷ []) = d.next_or_id
 id_of (d ∷ e ∷ ds) = id_of (e ∷ ds)
 
--- the chain in the slots from t on has the id and the slots of its run in the ring, and its parts. (A last descriptor that
--- names a table, where that was agreed, will have a second run in its place, of all the table's entries, behind what stood
--- before it: id and slots stay those of the run in the ring.)
+-- the chain in the slots from t on has the id and the slots of its run in the ring, and its parts
 abbrev pub PackedChain : Features → List ℕ → Layout → ℕ → ℕ → ℕ → List Part → Type 0
 PackedChain features m l t id slots parts =
     (chain : List Descriptor) × IsPackedRun features m l t chain

@@ -36,8 +36,8 @@ number_on m table head (suc k) = (in_table m table (number_on m table head k)).n
 abbrev pub path : List ℕ → ℕ → ℕ → ℕ → Descriptor
 path m table head k = in_table m table (number_on m table head k)
 
--- what is wrong with a descriptor of a run, in a memory of this size, where the run has at most so many and their numbers
--- are below that. INDIRECT is a fault whatever features were agreed, since no queue can agree them yet.
+-- what is wrong with a descriptor of a run, in a memory of this size, where the run has at most so many and their
+-- numbers are below that. INDIRECT is a fault whatever features were agreed, since the device offers none of them.
 abbrev pub split_wrong : Features → ℕ → ℕ → Before → Descriptor → Option RingFault
 split_wrong features memory size before d =
     first_of (
@@ -47,8 +47,8 @@ split_wrong features memory size before d =
     ∷ (goes_on d && nat_le size (before.count + 1), ChainTooLong)
     ∷ [])
 
--- a run from a head of a table of so many descriptors, behind what stood before it: those on its path to the first without
--- NEXT, each of them right
+-- a run from a head of a table of so many descriptors, behind what stood before it: those on its path to the first
+-- without NEXT, each of them right
 abbrev pub IsSplitRun : Features → Before → List ℕ → ℕ → ℕ → ℕ → List Descriptor → Type 0
 IsSplitRun features first m table size head run =
     IsChain first by_next (split_wrong features (length m) size) (path m table head) run
@@ -58,9 +58,7 @@ abbrev pub SplitRunFails : Features → Before → List ℕ → ℕ → ℕ → 
 SplitRunFails features first m table size head f =
     IsFault first by_next (split_wrong features (length m) size) (path m table head) f
 
--- the chain at a head has these parts: those of its run in the queue's table. (A last descriptor that names a table, where
--- that was agreed, will have a second run in its place, of the table's entries from the first on, behind what stood before
--- it.)
+-- the chain at a head has these parts: those of its run in the queue's table
 abbrev pub SplitChain : Features → List ℕ → ℕ → ℕ → ℕ → List Part → Type 0
 SplitChain features m table size head parts =
     (chain : List Descriptor) × IsSplitRun features nothing_before m table size head chain × (parts ≡ map part_of chain)
@@ -77,7 +75,8 @@ ahead s m = (little_number 2 (bytes_at m (s.layout.driver + 2) 2) + 65536 - leng
 
 -- the head that the next entry names
 abbrev pub next_head : RingState → List ℕ → ℕ
-next_head s m = little_number 2 (bytes_at m (s.layout.driver + 4 + 2 * (length s.log.accepted % 65536 % s.layout.size)) 2)
+next_head s m =
+    little_number 2 (bytes_at m (s.layout.driver + 4 + 2 * (length s.log.accepted % 65536 % s.layout.size)) 2)
 
 -- what is wrong with the next entry
 abbrev pub entry_wrong : RingState → List ℕ → Option RingFault

@@ -105,5 +105,6 @@ tickets queue (suc n) = tickets queue n ++ record { queue = queue; number = n } 
 pub record IsLawful (queue : ℕ) (log : Log) : Type 0 where
   -- the accepted numbers are 0, 1, 2 and so on
   pub numbered : log.accepted ≡ tickets queue (length log.accepted)
-  pub used_accepted : (k : ℕ) (t : Ticket) → slice_get log.used k ≡ Some t → (t.queue ≡ queue) × (t.number < length log.accepted)
+  pub used_accepted : (k : ℕ) (t : Ticket) → slice_get log.used k ≡ Some t → (t.queue ≡ queue)
+      × (t.number < length log.accepted)
   pub used_once : (j k : ℕ) (t : Ticket) → slice_get log.used j ≡ Some t → slice_get log.used k ≡ Some t → j ≡ k

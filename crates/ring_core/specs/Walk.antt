@@ -32,7 +32,8 @@ first_of (test ∷ tests) = cond test.0 (Some test.1) (first_of tests)
 abbrev pub nothing_before : Before
 nothing_before = record { count = 0; total = 0; writable = false }
 
--- what some descriptors of a run amount to, behind what stood before the run: they alone count, total and writable go on
+-- what some descriptors of a run amount to, behind what stood before the run: they alone count, total and writable go
+-- on
 abbrev pub amount : Before → List Descriptor → Before
 amount first ds =
     record {
@@ -54,8 +55,8 @@ unfoldable pub front : (ℕ → Descriptor) → ℕ → List Descriptor
 front at zero = []
 front at (suc n) = front at n ++ at n ∷ []
 
--- A run along a sequence of descriptors, behind what `first` says stands before it. `on` says whether the run goes on past
--- one, `wrong` what is wrong with one, each behind all that stands before it:
+-- A run along a sequence of descriptors, behind what `first` says stands before it. `on` says whether the run goes on
+-- past one, `wrong` what is wrong with one, each behind all that stands before it:
 module _ (first : Before) (on : Before → Descriptor → Bool) (wrong : Before → Descriptor → Option RingFault)
     (at : ℕ → Descriptor) where
   -- the first n are right, and the run goes on past each of them

@@ -32,10 +32,7 @@ fn append_part(
         return Ok(());
     }
     let len = (part.len as usize).min(most - bytes.len());
-    match memory.slice(part.addr, len) {
-        Ok(here) => bytes.extend_from_slice(here),
-        Err(_) => unreachable!(),
-    }
+    bytes.extend_from_slice(memory.range(part.addr, len))
 }
 
 /// The first readable bytes of a chain that was found, at most `most` of them. For rings.
@@ -66,7 +63,7 @@ fn fill_part(memory: &mut GuestMem, part: &Part, skip: u64, bytes: &[u8]) -> usi
 {
     let _size = memory.size();
     let here = bytes.len().min((part.len as u64 - skip) as usize);
-    let _ = memory.write(part.addr + skip, &bytes[..here]);
+    memory.put(part.addr + skip, &bytes[..here]);
     here
 }
 

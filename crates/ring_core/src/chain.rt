@@ -104,22 +104,8 @@ impl Model for Chain {
         × PartsFit c.body.value.memory c.body.value.parts.items };
 }
 
-ghost use Rattle.std.specs.Prelude.{◌≡◌, ◌≤◌, ◌%◌, ◌^◌, ◌∷◌, ◌++◌, [], cond, IfOk, OnOk, OnErr};
+ghost use Rattle.std.specs.Prelude.{◌≡◌, ◌≤◌, ◌%◌, ◌^◌, ◌∷◌, ◌++◌, [], IfOk, OnOk, OnErr};
 ghost use Rattle.ring_core.specs.Parts.{readable_total, writable_total, PartsFit};
-
-/// How many bytes of a part can be read.
-fn readable_in(part: &Part) -> u64
-    ensures { result ≡ cond part.now.writable 0 part.now.len }
-{
-    if part.writable { 0 } else { part.len as u64 }
-}
-
-/// How many bytes of a part can be written.
-fn writable_in(part: &Part) -> u64
-    ensures { result ≡ cond part.now.writable part.now.len 0 }
-{
-    if part.writable { part.len as u64 } else { 0 }
-}
 
 impl Draft {
     /// No parts yet. It takes the chain's memory: as long as the parts are few, nothing more is taken.
@@ -150,16 +136,16 @@ impl Draft {
         ensures ok { OnOk result (self.new ≡ self.old ++ part ∷ []) }
         ensures err { OnErr result (self.new ≡ self.old) }
     {
-        let readable = readable_in(&part);
-        let writable = writable_in(&part);
-        match self.body.parts.push(part) {
-            Ok(()) => {
-                self.body.readable_len = self.body.readable_len.wrapping_add(readable);
-                self.body.writable_len = self.body.writable_len.wrapping_add(writable);
-                Ok(())
-            }
-            Err(_) => Err(AllocError),
+        if self.body.parts.push(part).is_err() {
+            return Err(AllocError);
         }
+        let len = part.len as u64;
+        if part.writable {
+            self.body.writable_len = self.body.writable_len.wrapping_add(len);
+            return Ok(());
+        }
+        self.body.readable_len = self.body.readable_len.wrapping_add(len);
+        Ok(())
     }
 
     /// Room for the first bytes, with whatever stands there.
@@ -199,8 +185,8 @@ impl Chain {
         Chain { body }
     }
 
-    /// Keeps these bytes' room for a later chain of its queue, where it isn't much. Whoever has read its first bytes and
-    /// needs them no more gives them back so.
+    /// Keeps these bytes' room for a later chain of its queue, where it isn't much. Whoever has read its first bytes
+    /// and needs them no more gives them back so.
     pub fn keep_room(&mut self, bytes: Vec<u8>)
         ensures { self.new ≡ self.old }
     {

@@ -44,6 +44,7 @@ fn chain_at(
 }
 
 /// Puts a chain under an id.
+#[inline(never)]
 fn put_chain(
     chains: &mut BTreeMap<u16, OutstandingChain>,
     id: u16,
@@ -61,6 +62,7 @@ fn put_chain(
 }
 
 /// Takes the chain from under an id.
+#[inline(never)]
 fn remove_chain(chains: &mut BTreeMap<u16, OutstandingChain>, id: u16)
     ensures { (ids : ℕ) → id < ids
         → tabulated (get nat_cmp chains.new) ids ≡ slice_set (tabulated (get nat_cmp chains.old) ids) id None }
@@ -169,6 +171,7 @@ impl OutstandingTable {
     }
 
     /// Puts a chain under a head or id.
+    #[inline(always)]
     pub(crate) fn put(&mut self, id: u16, chain: OutstandingChain) -> Result<(), AllocError>
         requires { id < length self.old }
         ensures ok { OnOk result (self.new ≡ slice_set self.old id (Some chain)) }

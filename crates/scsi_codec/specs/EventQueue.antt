@@ -28,6 +28,10 @@ lun_area (Some a) = written_address a
 abbrev pub event_bytes : Event → List ℕ
 event_bytes e = little_bytes 4 e.event ++ lun_area e.address ++ little_bytes 4 e.reason
 
+-- VIRTIO_SCSI_T_EVENTS_MISSED with NO_EVENT, about no unit: what tells the driver that an event was missed
+abbrev pub missed_event : Event
+missed_event = record { event = events_missed; address = None; reason = 0 }
+
 -- the values that an event has
 pub record IsEvent (e : Event) : Type 0 where
   pub event : e.event < 2 ^ 32

@@ -25,7 +25,8 @@ ReadsAddress bytes None = (a : Address) → ¬ IsAddress bytes a
 abbrev pub is_single_level : List ℕ → Bool
 is_single_level bytes =
     (slice_index bytes 0 == 0x01)
-    && (slice_index bytes 4 == 0) && (slice_index bytes 5 == 0) && (slice_index bytes 6 == 0) && (slice_index bytes 7 == 0)
+    && (slice_index bytes 4 == 0) && (slice_index bytes 5 == 0) && (slice_index bytes 6 == 0)
+    && (slice_index bytes 7 == 0)
 
 -- the unit that eight bytes name, by the method that byte 2 gives, if any
 abbrev pub address_in : List ℕ → Option Address

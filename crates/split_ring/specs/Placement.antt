@@ -13,8 +13,8 @@ size_is_right size = nat_lt 0 size && nat_le size 32768 && is_power_of_two size
 abbrev pub is_aligned : Layout → Bool
 is_aligned l = (l.desc % 16 == 0) && (l.driver % 2 == 0) && (l.device % 4 == 0)
 
--- 16 bytes a descriptor; flags, idx, an entry of 2 bytes a descriptor and used_event; flags, idx, an element of 8 bytes a
--- descriptor and avail_event
+-- 16 bytes a descriptor; flags, idx, an entry of 2 bytes a descriptor and used_event; flags, idx, an element of 8
+-- bytes a descriptor and avail_event
 abbrev pub lies_in_memory : ℕ → Layout → Bool
 lies_in_memory memory l =
     nat_le (l.desc + 16 * l.size) memory

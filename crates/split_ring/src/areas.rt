@@ -14,9 +14,7 @@ pub(crate) fn number_at(memory: &GuestMem, addr: u64) -> u16
     requires { addr + 2 ≤ length memory.now }
     ensures { result ≡ little_number 2 (bytes_at memory.now addr 2) }
 {
-    let mut bytes = [0; 2];
-    let _ = memory.read(addr, &mut bytes);
-    LittleEndian::read_u16(&bytes)
+    LittleEndian::read_u16(memory.range(addr, 2))
 }
 
 /// The descriptor with this number in the table at an address.
@@ -25,10 +23,9 @@ pub(crate) fn descriptor_at(memory: &GuestMem, table: u64, number: u16) -> Descr
     requires small { length memory.now ≤ 2 ^ 28 }
     ensures { result ≡ in_table memory.now table number }
 {
-    let mut bytes = [0; 16];
-    let _ = memory.read(table + 16 * number as u64, &mut bytes);
+    let bytes = memory.range(table + 16 * number as u64, 16);
     Descriptor {
-        addr: LittleEndian::read_u64(&bytes),
+        addr: LittleEndian::read_u64(bytes),
         len: LittleEndian::read_u32(&bytes[8..]),
         flags: LittleEndian::read_u16(&bytes[12..]),
         next_or_id: LittleEndian::read_u16(&bytes[14..]),
@@ -43,7 +40,7 @@ pub(crate) fn put_number(memory: &mut GuestMem, addr: u64, number: u16)
 {
     let mut bytes = [0; 2];
     LittleEndian::write_u16(&mut bytes, number);
-    let _ = memory.write(addr, &bytes);
+    memory.put(addr, &bytes);
 }
 
 /// Puts a used element at an address: a head and a length, in four bytes each.
@@ -55,5 +52,5 @@ pub(crate) fn put_element(memory: &mut GuestMem, addr: u64, head: u32, len: u32)
     let mut bytes = [0; 8];
     LittleEndian::write_u32(&mut bytes, head);
     LittleEndian::write_u32(&mut bytes[4..], len);
-    let _ = memory.write(addr, &bytes);
+    memory.put(addr, &bytes);
 }

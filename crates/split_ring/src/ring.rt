@@ -140,8 +140,29 @@ impl SplitRing {
 
 impl SplitRing {
     ghost use Rattle.std.specs.Prelude.{◌≡◌, length, None};
+    ghost use Rattle.std.specs.Prelude.{◌≢◌};
+    ghost use Rattle.ring_core.specs.Split.{ahead as ahead_of};
     ghost use Rattle.ring_core.specs.Offer.{SplitOffers, Found};
     ghost use Rattle.ring_core.specs.Fetch.{Fetches};
+
+    /// Takes the next chain, where so many weren't accepted yet: apart so that a look that finds none is put into its
+    /// callers.
+    fn fetch_some(&mut self, memory: &GuestMem, ahead: u16) -> Result<Option<Fetched>, RingFault>
+        requires fits { length memory.now ≡ self.old.memory }
+        requires unbroken { self.old.broken ≡ None }
+        requires is { ahead ≡ ahead_of self.old memory.now }
+        requires some { ahead ≢ 0 }
+        ensures { Fetches self.old memory.now result self.new }
+    {
+        match self.next(memory, ahead) {
+            Ok(candidate) => self.take(memory, candidate),
+            Err(RingFault::NoMemory) => Err(RingFault::NoMemory),
+            Err(fault) => {
+                self.base.break_with(fault);
+                Err(fault)
+            }
+        }
+    }
 
     /// Accepts the chain that was found, and reads its first bytes.
     fn take(
@@ -169,6 +190,7 @@ impl SplitRing {
 impl Ring for SplitRing {
     ghost state = { λ r. r };
 
+    #[inline(always)]
     fn fetch(&mut self, memory: &GuestMem) -> Result<Option<Fetched>, RingFault> {
         if let Some(fault) = self.base.broken() {
             return Err(fault);
@@ -177,16 +199,10 @@ impl Ring for SplitRing {
         if ahead == 0 {
             return Ok(None);
         }
-        match self.next(memory, ahead) {
-            Ok(candidate) => self.take(memory, candidate),
-            Err(RingFault::NoMemory) => Err(RingFault::NoMemory),
-            Err(fault) => {
-                self.base.break_with(fault);
-                Err(fault)
-            }
-        }
+        self.fetch_some(memory, ahead)
     }
 
+    #[inline(always)]
     fn is_idle(&self, memory: &GuestMem) -> bool {
         !self.base.is_broken() && self.ahead(memory) == 0
     }

@@ -21,7 +21,8 @@ decided_of_function (Err response) = Direct (function_bytes response)
 -- with room for the answer. No events are offered: a notification reports none. What is malformed is answered that it
 -- failed, which is own.
 abbrev pub decided_with_room : List Address → Control → ControlDecision
-decided_with_room units (TaskManagement subtype address id) = decided_of_function (begun (demanded units subtype address id))
+decided_with_room units (TaskManagement subtype address id) =
+    decided_of_function (begun (demanded units subtype address id))
 decided_with_room units AsynchronousNotification = Direct (notification_bytes 0 code.Ok)
 decided_with_room units MalformedFunction = Direct (function_bytes function.Failure)
 decided_with_room units MalformedNotification = Direct (notification_bytes 0 code.Failure)
