@@ -24,7 +24,8 @@ const SMALL_AREA: u64 = 0x1000;
 
 const LARGE_AREA: u64 = 0x1_1000;
 
-/// The steps of a request that nothing blocks: it is fetched, enters, is put, taken, committed and answered, and leaves.
+/// The steps of a request that nothing blocks: it is fetched, enters, is put, taken, committed and answered, and
+/// leaves.
 const STEPS: u64 = 7;
 
 /// Descriptor flags (VIRTIO 1.2, 2.7.5 and 2.8.1).

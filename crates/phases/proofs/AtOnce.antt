@@ -1,9 +1,12 @@
 -- What a request that is served at once is, by what the calls of its unit answer.
-use Rattle.std.proofs.Common.{◌≡◌, ℕ, Bool, true, List, ap, sym, subst}
+use Rattle.std.proofs.Common.{◌≡◌, ℕ, Bool, true, List, [], refl, ap, sym, ◌∙◌, subst}
 use Rattle.ring_core.specs.declared.log.Ticket.{Ticket}
 use Rattle.history.specs.Endings.{Ending}
-use Rattle.task_set.specs.Jobs.{PlainJob, Jobs}
-use Rattle.unit_history.specs.Unit.{PlainUnit}
+use Rattle.history.specs.Steps.{Step}
+use Rattle.history.specs.Released.{released}
+use Rattle.task_set.specs.Jobs.{PlainJob, Jobs, of_tasks}
+use Rattle.unit_history.specs.Serving.{ServesAlone}
+use Rattle.unit_history.specs.Unit.{PlainUnit, Steps}
 use Rattle.unit_history.specs.Calls as calls
 use Rattle.unit_history.specs.Endings.{ending_of}
 use Rattle.unit_history.specs.declared.answers.Outcome as answers
@@ -12,9 +15,10 @@ use Rattle.deeds.specs.Parts.{Outcome, Hand}
 use Rattle.phases.specs.Queue.{Lent}
 use Rattle.phases.specs.Units.{Commits, Leaves}
 use Rattle.phases.specs.Answering.{Answers}
+use Rattle.phases.specs.Doing.{with_more}
 use Rattle.phases.specs.Serving.{ServesAtOnce}
 use Rattle.phases.proofs.Commits.{committed}
-use Rattle.phases.proofs.Enters.{runs}
+use Rattle.phases.proofs.Enters.{runs, with_none}
 
 -- what came of the commit
 abbrev came : answers.Outcome → Outcome
@@ -58,3 +62,24 @@ served x y t u v z u' q q' m m' out out' left what enters ran used answered leav
     let leaves_y = subst (λ k. Leaves (Hand.Answered y.unit k) z out left u' Hand.Free out') used (leaves y.unit) in
     subst (λ j. ServesAtOnce j u q m out left u' q' m' out') is
     (all y u v z u' q q' m m' out out' left what enters_y ran answered leaves_y)
+
+-- a job leaves its unit, where no other waits
+left_alone : (u u' : PlainUnit) (place : ℕ) (t : Ticket) (out : Jobs) → u.parked ≡ [] → Steps u (Step.Leave t) u'
+    → Leaves (Hand.Answered place t) u out true u' Hand.Free out
+left_alone u u' place t out none step =
+    λ k. (
+      record { asks = (step.may, refl); is = step.is },
+      refl,
+      with_none out ∙ ap (λ (jobs : List PlainJob). with_more (of_tasks (released (Step.Leave t) u.steps) jobs) out) (sym none),
+    )
+
+-- all of it in one call of the unit
+pub served_alone : (x : PlainJob) (u u' : PlainUnit) (q q' r : Lent) (m m' n : List ℕ) (out : Jobs) (A B C : Type 0)
+    → ServesAlone (λ e. A × B × C
+    × Answers (Hand.Done x (Outcome.Ended e)) q m true q' m' (Hand.Answered x.unit x.chain.ticket)) u x u'
+    → r ≡ q' → n ≡ m' → ServesAtOnce x u q m out true u' r n out
+served_alone x u u' q q' r m m' n out A B C s same same_bytes =
+    subst (λ (k : Lent). ServesAtOnce x u q m out true u' k n out) (sym same)
+    (subst (λ (k : List ℕ). ServesAtOnce x u q m out true u' q' k out) (sym same_bytes)
+    (all x u s.once_entered s.once_run u' q q' m m' out out true s.outcome s.enters s.commits s.answered.3
+    (left_alone s.once_run u' x.unit x.chain.ticket out s.alone s.leaves)))

@@ -8,3 +8,4 @@ pub mod Reading
 pub mod Refusing
 pub mod AtOnce
 pub mod Taking
+pub mod FirstPart

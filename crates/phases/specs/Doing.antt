@@ -16,14 +16,16 @@ pub record DoesUnit (d : Deed) (u u' : PlainUnit) : Type 0 where
   pub is : u' ≡ unit_after d u
 
 -- a deed on a queue with memory, where these units are
-pub record DoesQueue (inventory : List Address) (d : Deed) (q : PlainQueue) (m : List ℕ) (q' : PlainQueue) (m' : List ℕ) : Type 0 where
+pub record DoesQueue (inventory : List Address) (d : Deed) (q : PlainQueue) (m : List ℕ) (q' : PlainQueue)
+    (m' : List ℕ) : Type 0 where
   pub asks : (missed : Bool) → AsksQueue inventory missed d q m
   pub queue : q' ≡ queue_after d m q
   pub memory : m' ≡ bytes_after d m
 
 -- a deed on a queue with memory, whatever units there are and whatever stands in the queue's slot
 abbrev pub AtQueue : Deed → Lent → List ℕ → Lent → List ℕ → Type 0
-AtQueue d q m q' m' = (inventory : List Address) (s : Slot) → DoesQueue inventory d (with_slot s q) m (with_slot s q') m'
+AtQueue d q m q' m' = (inventory : List Address) (s : Slot)
+    → DoesQueue inventory d (with_slot s q) m (with_slot s q') m'
 
 -- the memory is the queue's, and the queue owns the chain
 pub record MayComplete (q : Lent) (m : List ℕ) (c : PlainChain) : Type 0 where

@@ -36,7 +36,8 @@ port_after (Deed.Miss e) p = record p { missed = true }
 port_after d p = p
 
 -- a deed on the queue with memory and the port, which says whether an event was missed, whatever units there are
-pub record DoesAtPort (d : Deed) (q : PlainQueue) (m : List ℕ) (p : PlainPort) (q' : PlainQueue) (m' : List ℕ) (p' : PlainPort) : Type 0 where
+pub record DoesAtPort (d : Deed) (q : PlainQueue) (m : List ℕ) (p : PlainPort) (q' : PlainQueue) (m' : List ℕ)
+    (p' : PlainPort) : Type 0 where
   pub asks : (inventory : List Address) → AsksQueue inventory p.missed d q m
   pub queue : q' ≡ queue_after d m q
   pub memory : m' ≡ bytes_after d m
@@ -47,13 +48,15 @@ abbrev pub MayHold : PlainPort → Type 0
 MayHold p = length p.buffers < p.limit
 
 -- nothing changed
-pub record StaysAtPort (q : PlainQueue) (m : List ℕ) (p : PlainPort) (q' : PlainQueue) (m' : List ℕ) (p' : PlainPort) : Type 0 where
+pub record StaysAtPort (q : PlainQueue) (m : List ℕ) (p : PlainPort) (q' : PlainQueue) (m' : List ℕ)
+    (p' : PlainPort) : Type 0 where
   pub queue : q' ≡ q
   pub memory : m' ≡ m
   pub port : p' ≡ p
 
 -- a buffer is held, or was used at once, or a fault broke the queue; nothing was there; or memory was refused
-abbrev pub FetchesEvent : PlainQueue → List ℕ → PlainPort → Result Bool NoMemory → PlainQueue → List ℕ → PlainPort → Type 0
+abbrev pub FetchesEvent : PlainQueue → List ℕ → PlainPort → Result Bool NoMemory → PlainQueue → List ℕ → PlainPort
+    → Type 0
 FetchesEvent q m p (Ok true) q' m' p' =
     (q.ring.queue ≡ 1) × IsFree q m × ((d : Deed) × IsEventFetch d × DoesAtPort d q m p q' m' p')
 FetchesEvent q m p (Ok false) q' m' p' =
@@ -64,14 +67,16 @@ FetchesEvent q m p (Err e) q' m' p' =
 -- Raise
 
 -- nothing changed
-pub record StaysRaised (q : Lent) (m : List ℕ) (p : PlainPort) (w : List Report) (q' : Lent) (m' : List ℕ) (p' : PlainPort) (w' : List Report) : Type 0 where
+pub record StaysRaised (q : Lent) (m : List ℕ) (p : PlainPort) (w : List Report) (q' : Lent) (m' : List ℕ)
+    (p' : PlainPort) (w' : List Report) : Type 0 where
   pub at_queue : StaysQueue q q' m m'
   pub port : p' ≡ p
   pub waiting : w' ≡ w
 
 -- the event goes to the oldest buffer, or is missed; where the memory isn't the queue's, or the queue doesn't own the
 -- buffer, nothing is changed
-abbrev pub RaisesTo : List PlainChain → Report → List Report → Lent → List ℕ → PlainPort → Bool → Lent → List ℕ → PlainPort
+abbrev pub RaisesTo : List PlainChain → Report → List Report → Lent → List ℕ → PlainPort → Bool → Lent → List ℕ
+    → PlainPort
     → List Report → Type 0
 RaisesTo (c ∷ more) e later q m p true q' m' p' w' =
     AtQueue (Deed.Give e c (answer_writes q.ring c (event_bytes e))) q m q' m'
@@ -81,7 +86,8 @@ RaisesTo (c ∷ more) e later q m p false q' m' p' w' =
 RaisesTo [] e later q m p true q' m' p' w' = StaysQueue q q' m m' × (p' ≡ port_after (Deed.Miss e) p) × (w' ≡ later)
 RaisesTo [] e later q m p false q' m' p' w' = ⊥
 
-abbrev pub RaisesNext : List Report → Lent → List ℕ → PlainPort → Bool → Lent → List ℕ → PlainPort → List Report → Type 0
+abbrev pub RaisesNext : List Report → Lent → List ℕ → PlainPort → Bool → Lent → List ℕ → PlainPort → List Report
+    → Type 0
 RaisesNext (e ∷ later) q m p result q' m' p' w' = RaisesTo p.buffers e later q m p result q' m' p' w'
 RaisesNext [] q m p true q' m' p' w' = ⊥
 RaisesNext [] q m p false q' m' p' w' = StaysRaised q m p [] q' m' p' w'

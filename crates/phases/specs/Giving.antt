@@ -45,5 +45,6 @@ given_in (hand.Answered place t) = None
 -- own: the job in the hand was committed, and the hand has what the unit answered
 abbrev pub KeepsOutcome : Hand → PlainUnit → PlainUnit → Hand → Type 0
 KeepsOutcome hand.Free u v h' = ⊤
-KeepsOutcome (hand.Held h) u v h' = (o : answers.Outcome) × Commits u h.job o v × (h' ≡ hand.Held (record h { outcome = Some o }))
+KeepsOutcome (hand.Held h) u v h' = (o : answers.Outcome) × Commits u h.job o v
+    × (h' ≡ hand.Held (record h { outcome = Some o }))
 KeepsOutcome (hand.Answered place t) u v h' = ⊤

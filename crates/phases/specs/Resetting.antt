@@ -12,7 +12,8 @@ use Rattle.phases.specs.Doing.{DoesUnit, HasPlaces, with_more}
 use Rattle.phases.specs.Units.{mark_at}
 
 -- nothing changed
-pub record StaysReset (u : PlainUnit) (out : Jobs) (w : List Report) (u' : PlainUnit) (out' : Jobs) (w' : List Report) : Type 0 where
+pub record StaysReset (u : PlainUnit) (out : Jobs) (w : List Report) (u' : PlainUnit) (out' : Jobs)
+    (w' : List Report) : Type 0 where
   pub unit : u' ≡ u
   pub jobs : out' ≡ out
   pub waiting : w' ≡ w

@@ -19,6 +19,12 @@ abbrev pub Decides : List Address → PlainChain → List ℕ → Slot → Optio
 Decides inventory c bytes s (Some x) s' = Arrives inventory c bytes (Slot.Arrived x) × (s' ≡ s)
 Decides inventory c bytes s None s' = Arrives inventory c bytes s'
 
+-- so, as it was taken
+abbrev pub IsTakenAs : List Address → PlainChain → List ℕ → Slot → Taken → Slot → Type 0
+IsTakenAs inventory c bytes s taken.Nothing s' = ⊥
+IsTakenAs inventory c bytes s taken.Other s' = Decides inventory c bytes s None s'
+IsTakenAs inventory c bytes s (taken.Arrived x) s' = Decides inventory c bytes s (Some x) s'
+
 -- the queue is fetched from; a request that arrived is in hand, and would stand in the slot
 abbrev pub TakesRequest : List Address → List ℕ → Slot → Lent → Result Taken NoMemory → Slot → Lent → Type 0
 TakesRequest inventory m s q (Ok taken.Nothing) s' q' =

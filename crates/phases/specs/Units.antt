@@ -116,7 +116,8 @@ mark_at place u = record { unit = place; place = length u.steps }
 abbrev pub MarksUnit : Opened → ℕ → Kind → PlainUnit → Jobs → PlainUnit → Opened → Jobs → Type 0
 MarksUnit f place (Marking m) u out u' f' out' =
     (DoesUnit (Deed.Mark f.chain.ticket (mark_at place u) m (handed_out u (step_by m))) u u'
-    × (f' ≡ record f { function = marking (mark_at place u) f.function }) × (out' ≡ with_more (handed_out u (step_by m)) out))
+    × (f' ≡ record f { function = marking (mark_at place u) f.function })
+    × (out' ≡ with_more (handed_out u (step_by m)) out))
     ⊎ ((u' ≡ u) × (f' ≡ record f { function = failing f.function }) × (out' ≡ out))
 MarksUnit f place (Asking rule) u out u' f' out' =
     DoesUnit (Deed.Ask f.chain.ticket place rule (any_met rule (alive u.steps))) u u'

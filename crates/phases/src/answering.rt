@@ -46,11 +46,12 @@ fn answer_chain(
     queue.complete(memory, chain, len)
 }
 
-/// The chain that is ready in the slot is answered and used. A note of why it got no receipt; `None` where none is ready,
-/// or where the memory isn't the queue's, or the queue doesn't own the chain, which never happens in one device: the chain
-/// is let go then.
+/// The chain that is ready in the slot is answered and used. A note of why it got no receipt; `None` where none is
+/// ready, or where the memory isn't the queue's, or the queue doesn't own the chain, which never happens in one
+/// device: the chain is let go then.
 pub fn phase_direct(queue: &mut Queue, slot: &mut Slot, memory: &mut GuestMem) -> Option<Note>
-    ensures directs { Directs (slot_of slot.old) queue.old memory.old (is_some result) queue.new memory.new (slot_of slot.new) }
+    ensures directs { Directs (slot_of slot.old) queue.old memory.old (is_some result) queue.new memory.new
+        (slot_of slot.new) }
     ensures note { IfSome result (λ note. note_in (slot_of slot.old) ≡ Some note) }
     ensures size { length memory.new ≡ length memory.old }
 {
@@ -74,7 +75,8 @@ pub fn phase_direct(queue: &mut Queue, slot: &mut Slot, memory: &mut GuestMem) -
 /// the queue doesn't own the chain.
 fn write_held(queue: &Queue, memory: &mut GuestMem, held: &Held) -> Option<u32>
     requires over { is_some held.now.outcome ≡ true }
-    ensures owned { MatchOption result ((MayComplete queue.now memory.old held.now.job.chain → ⊥) × (memory.new ≡ memory.old))
+    ensures owned { MatchOption result ((MayComplete queue.now memory.old held.now.job.chain → ⊥)
+        × (memory.new ≡ memory.old))
         (λ len. MayComplete queue.now memory.old held.now.job.chain × WritesEnding held.now memory.old len memory.new) }
     ensures size { length memory.new ≡ length memory.old }
 {
@@ -115,11 +117,12 @@ fn given(ticket: Ticket, outcome: Outcome) -> Given
     }
 }
 
-/// The job in the hand whose commit is over is answered by what came of it, and its chain used; its task is then to leave.
-/// Its receipt, or a note of why it got none; `None` where no such job is in the hand, or where the memory isn't the
-/// queue's, or the queue doesn't own the chain, which never happens in one device: the job is let go then.
+/// The job in the hand whose commit is over is answered by what came of it, and its chain used; its task is then to
+/// leave. Its receipt, or a note of why it got none; `None` where no such job is in the hand, or where the memory
+/// isn't the queue's, or the queue doesn't own the chain, which never happens in one device: the job is let go then.
 pub fn phase_answer(queue: &mut Queue, memory: &mut GuestMem, hand: &mut Hand) -> Option<Given>
-    ensures answers { Answers (hand_of hand.old) queue.old memory.old (is_some result) queue.new memory.new (hand_of hand.new) }
+    ensures answers { Answers (hand_of hand.old) queue.old memory.old (is_some result) queue.new memory.new
+        (hand_of hand.new) }
     ensures gives { IfSome result (λ given. given_in hand.old ≡ Some given) }
     ensures size { length memory.new ≡ length memory.old }
 {
@@ -144,9 +147,9 @@ pub fn phase_answer(queue: &mut Queue, memory: &mut GuestMem, hand: &mut Hand) -
     }
 }
 
-/// The open function is answered, where every unit was visited and every mark is clear, and its chain used. Whether it was.
-/// Where the memory isn't the queue's, or the queue doesn't own the chain, which never happens in one device, the function
-/// is let go.
+/// The open function is answered, where every unit was visited and every mark is clear, and its chain used. Whether
+/// it was. Where the memory isn't the queue's, or the queue doesn't own the chain, which never happens in one device,
+/// the function is let go.
 pub fn phase_answer_tmf(
     queue: &mut Queue,
     memory: &mut GuestMem,

@@ -19,6 +19,7 @@ impl Ring for AnyRing {
 
     ghost state = { ring_state };
 
+    #[inline(always)]
     fn fetch(&mut self, memory: &GuestMem) -> Result<Option<Fetched>, RingFault> {
         match self {
             AnyRing::Split(ring) => ring.fetch(memory),
@@ -26,6 +27,7 @@ impl Ring for AnyRing {
         }
     }
 
+    #[inline(always)]
     fn is_idle(&self, memory: &GuestMem) -> bool {
         match self {
             AnyRing::Split(ring) => ring.is_idle(memory),

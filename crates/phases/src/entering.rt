@@ -10,16 +10,14 @@ use crate::ready::Ready;
 use crate::refusal::Refusal;
 use crate::slot::Slot;
 use std::mem;
+use task_set::MOST_TASKS;
 use unit_history::{Arrival, Entered, JobList, UnitState};
-
-/// How many jobs a unit hands out at most in one call: one for each task of its task set.
-pub(crate) const TASKS: usize = 64;
 
 /// Whether there is room for all that a unit may hand out.
 pub(crate) fn has_places(out: &JobList) -> bool
     ensures { IsTrue result ↔ HasPlaces out.now }
 {
-    out.len() <= out.limit() && out.limit() - out.len() >= TASKS
+    out.len() <= out.limit() && out.limit() - out.len() >= MOST_TASKS
 }
 
 /// A request comes to its unit, out of a slot that is empty now: the slot is written only where it was refused.
@@ -38,8 +36,8 @@ fn enter(unit: &mut UnitState, arrival: Arrival, slot: &mut Slot, out: &mut JobL
 }
 
 /// The request that arrived comes to its unit, which whoever calls has found by the slot: it enters, and its job is
-/// appended to the list where nothing blocks it; or it stands in the slot to be answered TASK SET FULL, BUSY or FAILURE.
-/// Whether something changed: not where no request arrived, or where the list has fewer than 64 free places.
+/// appended to the list where nothing blocks it; or it stands in the slot to be answered TASK SET FULL, BUSY or
+/// FAILURE. Whether something changed: not where no request arrived, or where the list has fewer than 64 free places.
 pub fn phase_enter(unit: &mut UnitState, slot: &mut Slot, out: &mut JobList) -> bool
     ensures { Enters (slot_of slot.old) unit.old out.old result unit.new (slot_of slot.new) out.new }
 {

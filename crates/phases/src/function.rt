@@ -56,7 +56,8 @@ impl OpenFunction {
     /// That the next unit was marked, and so many steps stand before the mark.
     pub(crate) fn marked(&mut self, place: u64)
         requires { 0 < length self.old.function.left }
-        ensures { self.new ≡ record self.old { function = marking (next_mark place self.old.function) self.old.function } }
+        ensures { self.new
+            ≡ record self.old { function = marking (next_mark place self.old.function) self.old.function } }
     {
         self.function.marked(place);
     }

@@ -63,7 +63,8 @@ impl Held {
         self.outcome = Some(unit.commit(&self.job));
     }
 
-    /// Writes what answers the job over the writable parts of its chain, where its commit is over: how many bytes it has.
+    /// Writes what answers the job over the writable parts of its chain, where its commit is over: how many bytes it
+    /// has.
     pub(crate) fn write(&self, memory: &mut GuestMem) -> u32
         requires fits { length memory.old ≡ self.now.job.chain.memory }
         requires over { is_some self.now.outcome ≡ true }

@@ -22,9 +22,10 @@ fn strike(unit: &mut UnitState, strike: Strike, out: &mut JobList) -> Result<Pla
     }
 }
 
-/// The open function marks its next unit, which whoever calls has found by `next_unit`, or looks at it; jobs of tasks that
-/// wait there and are marked are appended to the list. Where memory is refused the function fails, and leaves its other
-/// units. Whether something changed: not where no unit is left, or where the list has fewer than 64 free places.
+/// The open function marks its next unit, which whoever calls has found by `next_unit`, or looks at it; jobs of tasks
+/// that wait there and are marked are appended to the list. Where memory is refused the function fails, and leaves
+/// its other units. Whether something changed: not where no unit is left, or where the list has fewer than 64 free
+/// places.
 pub fn phase_mark(unit: &mut UnitState, function: &mut OpenFunction, out: &mut JobList) -> bool
     ensures { Marks function.old unit.old out.old result unit.new function.new out.new }
 {

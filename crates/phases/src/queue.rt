@@ -174,8 +174,8 @@ impl Queue {
         self.ring.fits(memory) && self.ring.owns(chain)
     }
 
-    /// Whether a fetch would find nothing to do: it is broken, or nothing is available. Called with a memory of the size
-    /// that it was made with.
+    /// Whether a fetch would find nothing to do: it is broken, or nothing is available. Called with a memory of the
+    /// size that it was made with.
     pub fn is_silent(&self, memory: &GuestMem) -> bool
         requires { length memory.now ≡ self.now.ring.memory }
         ensures { IsTrue result ↔ IsIdle self.now.ring memory.now }
@@ -184,6 +184,7 @@ impl Queue {
     }
 
     /// Looks for the next chain.
+    #[inline(always)]
     pub(crate) fn fetch(&mut self, memory: &GuestMem) -> Result<Fetch, NoMemory>
         requires { length memory.now ≡ self.old.ring.memory }
         ensures { Looks self.old memory.now result self.new }
@@ -250,7 +251,8 @@ impl Queue {
         self.ring.log()
     }
 
-    /// The least number of an accepted chain that wasn't used, if there is one: asked once the queue is no longer served.
+    /// The least number of an accepted chain that wasn't used, if there is one: asked once the queue is no longer
+    /// served.
     pub fn least_outstanding(&self) -> Option<u64>
         ensures { IsLeastOutstanding self.now.ring result }
     {

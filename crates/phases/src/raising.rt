@@ -54,10 +54,10 @@ fn take_buffer(queue: &mut Queue, memory: &mut GuestMem, port: &mut EventPort, c
     }
 }
 
-/// Takes the next chain of the event queue, where its slot is empty, the memory is the queue's and the port may hold one
-/// more: the port holds it, or it is used at once, with no byte where it is shorter than an event, and else, where an event
-/// was missed, with what tells so. A fault of the guest breaks the queue. Whether something changed; `NoMemory` as of a
-/// request queue.
+/// Takes the next chain of the event queue, where its slot is empty, the memory is the queue's and the port may hold
+/// one more: the port holds it, or it is used at once, with no byte where it is shorter than an event, and else,
+/// where an event was missed, with what tells so. A fault of the guest breaks the queue. Whether something changed;
+/// `NoMemory` as of a request queue.
 pub fn phase_fetch_event(
     queue: &mut Queue,
     slot: &Slot,
@@ -97,8 +97,8 @@ fn may_raise(queue: &Queue, memory: &GuestMem, port: &EventPort) -> bool
 }
 
 /// The oldest event that waits goes to the oldest buffer, which is used, or is missed where none is held. Whether
-/// something changed: not where no event waits. Where the memory isn't the queue's, or the queue doesn't own the buffer,
-/// which never happens in one device, nothing is changed.
+/// something changed: not where no event waits. Where the memory isn't the queue's, or the queue doesn't own the
+/// buffer, which never happens in one device, nothing is changed.
 pub fn phase_raise(
     queue: &mut Queue,
     memory: &mut GuestMem,

@@ -28,9 +28,9 @@ fn reset_event(unit: &UnitState) -> Event
     }
 }
 
-/// The operator resets a unit, wherever it stands: jobs of tasks that wait there are appended to the list, and the event of
-/// the reset waits. Whether something changed: not where the list has fewer than 64 free places, or no event can name the
-/// unit's LUN. `NoMemory`, with nothing changed, where the event or the step was refused memory.
+/// The operator resets a unit, wherever it stands: jobs of tasks that wait there are appended to the list, and the
+/// event of the reset waits. Whether something changed: not where the list has fewer than 64 free places, or no event
+/// can name the unit's LUN. `NoMemory`, with nothing changed, where the event or the step was refused memory.
 pub fn phase_hard(
     unit: &mut UnitState,
     out: &mut JobList,

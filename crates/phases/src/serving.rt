@@ -1,6 +1,6 @@
 //! A request served at once: what the phases do of it one after another, with nothing put down between them.
 
-ghost use Rattle.std.specs.Prelude.{◌≡◌, ◌+◌, ◌≤◌, ◌^◌, length, min, true, is_some};
+ghost use Rattle.std.specs.Prelude.{◌≡◌, ◌+◌, ◌≤◌, ◌^◌, length, min, true, is_some, IfOk, IfErr, OnOk, OnErr};
 ghost use Rattle.ring_core.specs.Parts.{readable_total};
 ghost use Rattle.ring_core.specs.State.{Owns};
 ghost use Rattle.deeds.specs.Parts as plain;
@@ -10,21 +10,23 @@ ghost use Rattle.phases.specs.Parts.{slot_of};
 ghost use Rattle.phases.specs.Units.{Leaves};
 ghost use Rattle.phases.specs.Answering.{Answers};
 ghost use Rattle.phases.specs.Outcomes.{WritesWhole};
-ghost use Rattle.phases.specs.Serving.{Decides, TakesRequest, IsOutstanding, Serves};
-ghost use Rattle.unit_history.specs.Endings.{ending_of, FitsNeed};
+ghost use Rattle.phases.specs.Serving.{IsTakenAs, TakesRequest, IsOutstanding, Serves, ServesAtOnce};
+ghost use Rattle.unit_history.specs.Endings.{ending_of, ending_of_run, FitsNeed};
 ghost use Rattle.cdb.specs.Need.{need_of};
+ghost use Rattle.task_set.specs.Jobs.{Jobs};
 
-use crate::answer::write_outcome;
+use crate::answer::{write_outcome, write_run};
 use crate::fetching::lengths_of_chain;
 use crate::queue::{Fetch, Queue};
 use crate::ready::Ready;
 use crate::refusal::Refusal;
 use crate::slot::Slot;
+use block_commands::Reply;
 use block_store::NoMemory;
 use decisions::{Decision, Inventory, decide};
 use guest_mem::GuestMem;
 use ring_core::{Answered, Fetched};
-use unit_history::{Arrival, Entered, Job, JobList, Outcome, UnitState, Unknown};
+use unit_history::{Answering, Arrival, Entered, Job, JobList, Outcome, UnitState, Unknown};
 
 /// What was taken from a request queue.
 #[derive(Debug, Drop)]
@@ -37,11 +39,11 @@ pub enum Taken {
     Arrived(Arrival),
 }
 
-/// What is decided of a chain that was taken: the request, or nothing where its answer stands in the slot.
+/// What is decided of a chain that was taken: the request, unless its answer stands in the slot.
 #[inline(always)]
-fn decided(inventory: &Inventory, fetched: Fetched, slot: &mut Slot) -> Option<Arrival>
+fn decided(inventory: &Inventory, fetched: Fetched, slot: &mut Slot) -> Taken
     requires { length fetched.bytes.items ≡ min 1048627 (readable_total fetched.chain.parts) }
-    ensures { Decides inventory.now fetched.chain fetched.bytes.items (slot_of slot.old) result (slot_of slot.new) }
+    ensures { IsTakenAs inventory.now fetched.chain fetched.bytes.items (slot_of slot.old) result (slot_of slot.new) }
 {
     let Fetched {
         mut chain,
@@ -52,11 +54,11 @@ fn decided(inventory: &Inventory, fetched: Fetched, slot: &mut Slot) -> Option<A
         Decision::Direct(answer) => {
             chain.keep_room(bytes);
             *slot = Slot::Ready(Ready::told(chain, answer));
-            None
+            Taken::Other
         }
         Decision::Enter(unit, request) => {
             chain.keep_room(bytes);
-            Some(Arrival::new(unit, chain, request))
+            Taken::Arrived(Arrival::new(unit, chain, request))
         }
     }
 }
@@ -70,7 +72,8 @@ pub fn take_request(
     memory: &GuestMem,
     inventory: &Inventory,
 ) -> Result<Taken, NoMemory>
-    ensures takes { TakesRequest inventory.now memory.now (slot_of slot.old) queue.old result (slot_of slot.new) queue.new }
+    ensures takes { TakesRequest inventory.now memory.now (slot_of slot.old) queue.old
+        result (slot_of slot.new) queue.new }
     ensures owned { IsOutstanding memory.now result queue.new }
 {
     if queue.number() < 2 || !slot.is_empty() || !queue.fits(memory) {
@@ -82,10 +85,7 @@ pub fn take_request(
         Ok(Fetch::Broke) => Ok(Taken::Other),
         Ok(Fetch::Got(fetched)) => {
             let _parts = fetched.chain.parts();
-            match decided(inventory, fetched, slot) {
-                Some(arrival) => Ok(Taken::Arrived(arrival)),
-                None => Ok(Taken::Other),
-            }
+            Ok(decided(inventory, fetched, slot))
         }
     }
 }
@@ -108,7 +108,8 @@ fn answer_job(queue: &mut Queue, memory: &mut GuestMem, job: Job, outcome: &Outc
     requires owned { Owns queue.old.ring job.chain }
     requires payload { FitsNeed (need_of job.entry.command).into outcome.now }
     ensures ticket { result ≡ job.chain.ticket }
-    ensures answers { Answers (plain.Hand.Done job (plain.Outcome.Ended (ending_of outcome.now))) queue.old memory.old true
+    ensures answers { Answers (plain.Hand.Done job (plain.Outcome.Ended (ending_of outcome.now)))
+        queue.old memory.old true
         queue.new memory.new (plain.Hand.Answered job.unit job.chain.ticket) }
     ensures size { length memory.new ≡ length memory.old }
 {
@@ -116,11 +117,45 @@ fn answer_job(queue: &mut Queue, memory: &mut GuestMem, job: Job, outcome: &Outc
     queue.complete(memory, job.into_chain(), len)
 }
 
+/// Writes what answers a request over the writable parts of its chain, by what came of its command.
+#[inline(always)]
+fn write_arrival(memory: &mut GuestMem, arrival: &Arrival, ran: &Result<Reply, NoMemory>) -> u32
+    requires fits { length memory.old ≡ arrival.now.chain.memory }
+    requires payload { IfOk ran.now (λ r. length r.payload.items ≤ (need_of arrival.now.entry.command).into) }
+    ensures written { WritesWhole arrival.now (ending_of_run ran.now) memory.old result memory.new }
+    ensures size { length memory.new ≡ length memory.old }
+{
+    write_run(memory, arrival.chain(), &arrival.lengths(), ran)
+}
+
+/// A queue with the memory, where requests of its chains are answered.
+#[derive(Drop)]
+struct Answer<'a> {
+    queue: &'a mut Queue,
+    memory: &'a mut GuestMem,
+}
+
+impl<'a> Answering for Answer<'a> {
+    ghost may_answer = { λ s x. (length s.memory.now ≡ s.queue.now.ring.memory) × Owns s.queue.now.ring x.chain };
+
+    // It has the same queue and memory afterwards.
+    ghost answers = { λ s x e t. (t.queue.ghost_name ≡ s.queue.ghost_name) × (t.memory.ghost_name ≡ s.memory.ghost_name)
+        × (length t.memory.now ≡ length s.memory.now) × Answers (plain.Hand.Done x (plain.Outcome.Ended e))
+        s.queue.now s.memory.now true t.queue.now t.memory.now (plain.Hand.Answered x.unit x.chain.ticket) };
+
+    #[inline(always)]
+    fn answer(&mut self, arrival: Arrival, ran: &Result<Reply, NoMemory>) -> Answered {
+        let len = write_arrival(self.memory, &arrival, ran);
+        self.queue.complete(self.memory, arrival.into_chain(), len)
+    }
+}
+
 /// The task of a chain that was completed leaves. Whether the unit knew it.
 #[inline(always)]
 fn leave(unit: &mut UnitState, answered: Answered, out: &mut JobList) -> bool
     requires { HasPlaces out.old }
-    ensures { (place : _) → Leaves (plain.Hand.Answered place answered) unit.old out.old result unit.new plain.Hand.Free out.new }
+    ensures { (place : _) → Leaves (plain.Hand.Answered place answered) unit.old out.old result
+        unit.new plain.Hand.Free out.new }
 {
     match unit.leave(answered, out) {
         Ok(()) => true,
@@ -128,14 +163,32 @@ fn leave(unit: &mut UnitState, answered: Answered, out: &mut JobList) -> bool
     }
 }
 
-/// A request comes to its unit. Where nothing blocks its task its command runs whole, it is answered by what came of that,
-/// its chain is used, and the task leaves: as by [`phase_enter`](crate::phase_enter), [`phase_commit`](crate::phase_commit),
-/// [`phase_answer`](crate::phase_answer) and [`phase_leave`](crate::phase_leave) one after another, with its job in no
-/// list and no hand between them. Then it answers whether the unit knew the task when it left. Else `None`: the
-/// task waits at its unit, or what refuses the request stands in the slot. The queue owns the chain, and the list has
-/// 64 places free, which the caller sees to.
+/// Serves a request in one call of its unit, where that may be; else it is given back, with nothing changed.
 #[inline(always)]
-pub fn serve_request(
+fn serve_alone(
+    unit: &mut UnitState,
+    queue: &mut Queue,
+    memory: &mut GuestMem,
+    arrival: Arrival,
+) -> Result<(), Arrival>
+    requires fits { length memory.old ≡ queue.old.ring.memory }
+    requires owned { Owns queue.old.ring arrival.chain }
+    ensures serves { OnOk result ((out : Jobs) → ServesAtOnce arrival unit.old queue.old memory.old out true
+        unit.new queue.new memory.new out) }
+    ensures size { OnOk result (length memory.new ≡ length memory.old) }
+    ensures same { OnErr result ((unit.new ≡ unit.old) × (queue.new ≡ queue.old) × (memory.new ≡ memory.old)) }
+    ensures back { IfErr result (λ back. back ≡ arrival) }
+{
+    let mut answer = Answer { queue, memory };
+    match unit.serve_alone(arrival, &mut answer) {
+        Ok(()) => Ok(()),
+        Err(arrival) => Err(arrival),
+    }
+}
+
+/// Serves a request as [`serve_request`] does, by one call of its unit for each step.
+#[inline(never)]
+fn serve_by_steps(
     unit: &mut UnitState,
     queue: &mut Queue,
     memory: &mut GuestMem,
@@ -171,5 +224,34 @@ pub fn serve_request(
             *slot = Slot::Ready(Ready::refused(job, Refusal::Stale));
             None
         }
+    }
+}
+
+/// A request comes to its unit. Where nothing blocks its task its command runs whole, it is answered by what came of
+/// that, its chain is used, and the task leaves: as by [`phase_enter`](crate::phase_enter),
+/// [`phase_commit`](crate::phase_commit), [`phase_answer`](crate::phase_answer) and
+/// [`phase_leave`](crate::phase_leave) one after another, with its job in no list and no hand between them. Then it
+/// answers whether the unit knew the task when it left. Else `None`: the task waits at its unit, or what refuses the
+/// request stands in the slot. The queue owns the chain, and the list has 64 places free, which the caller sees to.
+#[inline(always)]
+pub fn serve_request(
+    unit: &mut UnitState,
+    queue: &mut Queue,
+    memory: &mut GuestMem,
+    slot: &mut Slot,
+    arrival: Arrival,
+    out: &mut JobList,
+) -> Option<bool>
+    requires fits { length memory.old ≡ queue.old.ring.memory }
+    requires owned { Owns queue.old.ring arrival.chain }
+    requires places { HasPlaces out.old }
+    requires empty { slot_of slot.old ≡ plain.Slot.Empty }
+    ensures serves { Serves arrival unit.old queue.old memory.old (slot_of slot.old) out.old result
+        unit.new queue.new memory.new (slot_of slot.new) out.new }
+    ensures size { length memory.new ≡ length memory.old }
+{
+    match serve_alone(unit, queue, memory, arrival) {
+        Ok(()) => Some(true),
+        Err(arrival) => serve_by_steps(unit, queue, memory, slot, arrival, out),
     }
 }

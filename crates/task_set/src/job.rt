@@ -2,6 +2,7 @@
 
 ghost use Rattle.std.specs.Prelude.{◌≡◌, ◌<◌, [], ◌∷◌, ◌++◌, length, IfOk, drop, slice_get};
 ghost use Rattle.std.specs.Prelude.{◌+◌, ◌≤◌, ◌^◌};
+ghost use Rattle.cdb.specs.Need.{need_of};
 ghost use Rattle.ring_core.specs.Parts.{readable_total, writable_total};
 ghost use Rattle.history.specs.Tasks.{entry_of};
 ghost use Rattle.task_set.specs.Jobs.{HasRoom};
@@ -68,6 +69,51 @@ impl Arrival {
         ensures { self.now.entry ≡ entry_of self.now.chain.ticket result.now }
     {
         &self.request
+    }
+
+    /// The command.
+    pub fn command(&self) -> Command
+        ensures { result ≡ self.now.entry.command }
+    {
+        self.request.command()
+    }
+
+    /// The data that the command takes from the driver: exactly as many bytes as it needs.
+    pub fn data(&self) -> &[u8]
+        ensures data { result.now ≡ self.now.entry.data_out }
+        ensures len { length result.now ≡ (need_of self.now.entry.command).out }
+    {
+        self.request.data()
+    }
+
+    /// Its chain.
+    pub fn chain(&self) -> &Chain
+        ensures { result.now ≡ self.now.chain }
+    {
+        &self.chain
+    }
+
+    /// How many bytes of its chain may be read, and how many written: there is room for the answer.
+    pub fn lengths(&self) -> ChainLengths
+        ensures readable { result.readable ≡ readable_total self.now.chain.parts }
+        ensures writable { result.writable ≡ writable_total self.now.chain.parts }
+        ensures sum { result.readable + result.writable ≤ 2 ^ 32 }
+        ensures room { HasRoom self.now.chain self.now.entry.command }
+    {
+        let _parts = self.chain.parts();
+        ChainLengths {
+            readable: self.chain.readable_len(),
+            writable: self.chain.writable_len(),
+        }
+    }
+
+    /// Its chain, to be completed. What it asked for is let go.
+    #[inline(always)]
+    pub fn into_chain(self) -> Chain
+        ensures { result ≡ self.chain }
+    {
+        let Arrival { chain, .. } = self;
+        chain
     }
 
     /// The job, and the request, whose data the task keeps from here on.

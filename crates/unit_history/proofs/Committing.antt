@@ -55,7 +55,7 @@ module _ {o : Opening} {past : List Step} {block_at : Blocks} {pending : List Co
 
   -- the parts once a command ran, or was refused memory
   pub keep_run : (t : Ticket) (e : Entry) (keeps : Bool) (facts : Facts) (p : Option Performed) (block_at' : Blocks) (pending' : List Code) (room' : ℕ)
-      → IsReady t e past → facts ≡ facts_after o past → Performs keeps facts e p block_at block_at' pending pending' → room ≤ room' + 1
+      → IsReady t e past → facts ≡ facts_after o past → Performs keeps facts e.command e.data_out p block_at block_at' pending pending' → room ≤ room' + 1
       → AreKept o (step_for t p ∷ past) block_at' pending' (map (moved (finished t)) tasks) lasts room'
   keep_run t e keeps facts None block_at' pending' room' ready as_told short reserve = keep_busy k t e block_at' pending' room' ready short.stored short.pends reserve
   keep_run t e keeps facts (Some p) block_at' pending' room' ready as_told ran reserve =
@@ -65,7 +65,7 @@ module _ {o : Opening} {past : List Step} {block_at : Blocks} {pending : List Co
 
   -- and what is answered
   pub commits_run : (j : PlainJob) (e : Entry) (keeps : Bool) (facts : Facts) (p : Option Performed) (block_at' : Blocks) (pending' : List Code)
-      → IsOf j e past → IsReady j.entry.ticket e past → facts ≡ facts_after o past → Performs keeps facts e p block_at block_at' pending pending'
+      → IsOf j e past → IsReady j.entry.ticket e past → facts ≡ facts_after o past → Performs keeps facts e.command e.data_out p block_at block_at' pending pending'
       → Commits (record { opening = o; steps = past; parked = parked_of tasks; keeps_replies = keeps }) j
       (outcome_for (unit_of o) (length past) j.entry.ticket p)
       (record { opening = o; steps = step_for j.entry.ticket p ∷ past; parked = parked_of (map (moved (finished j.entry.ticket)) tasks); keeps_replies = keeps })

@@ -29,13 +29,17 @@ entered_of None = entered.Parked
 -- isn't above the last of its queue give it back
 abbrev pub Enters : PlainUnit → PlainJob → Entered → PlainUnit → Type 0
 Enters old j (entered.Run job) new =
-    (job ≡ j) × (is_blocked j.entry (alive (Step.Enter j.entry ∷ old.steps)) ≡ false) × Steps old (Step.Enter j.entry) new
+    (job ≡ j) × (is_blocked j.entry (alive (Step.Enter j.entry ∷ old.steps)) ≡ false)
+    × Steps old (Step.Enter j.entry) new
 Enters old j entered.Parked new =
-    (is_blocked j.entry (alive (Step.Enter j.entry ∷ old.steps)) ≡ true) × May old.opening (Step.Enter j.entry) old.steps
+    (is_blocked j.entry (alive (Step.Enter j.entry ∷ old.steps)) ≡ true)
+    × May old.opening (Step.Enter j.entry) old.steps
     × (new ≡ parking j old)
 Enters old j (entered.Full job) new = (job ≡ j) × Steps old (Step.Full j.entry.ticket) new
-Enters old j (entered.Busy job) new = (job ≡ j) × (floor j.entry.ticket.queue old.steps ≤ j.entry.ticket.number) × (new ≡ old)
-Enters old j (entered.Stale job) new = (job ≡ j) × (j.entry.ticket.number < floor j.entry.ticket.queue old.steps) × (new ≡ old)
+Enters old j (entered.Busy job) new = (job ≡ j) × (floor j.entry.ticket.queue old.steps ≤ j.entry.ticket.number)
+    × (new ≡ old)
+Enters old j (entered.Stale job) new = (job ≡ j) × (j.entry.ticket.number < floor j.entry.ticket.queue old.steps)
+    × (new ≡ old)
 
 -- own: what a job says of its request: all but the data that its command takes
 pub record Asked : Type 0 where

@@ -1,6 +1,8 @@
 -- How a request ends, by what its unit's calls answered.
-use Rattle.std.specs.Prelude.{ℕ, ◌≤◌, length, Option, Some, None, IfSome, ⊤}
-use Rattle.block_commands.specs.PlainReply.{PlainReply}
+use Rattle.std.specs.Prelude.{ℕ, ◌≤◌, length, Option, Some, None, Result, Ok, Err, IfSome, ⊤}
+use Rattle.block_store.specs.declared.NoMemory.{NoMemory}
+use Rattle.block_commands.specs.PlainReply.{PlainReply, plain_of}
+use Rattle.block_commands.specs.declared.reply.Reply.{Reply}
 use Rattle.history.specs.Endings.{Ending}
 use Rattle.unit_history.specs.declared.answers.Outcome.{Outcome}
 use Rattle.unit_history.specs.declared.answers.Outcome.TheVariants as outcome
@@ -15,6 +17,11 @@ ending_of (outcome.Reply receipt) = ending_of_reply receipt.reply
 ending_of (outcome.Aborted why) = Ending.Aborted why
 ending_of outcome.Busy = Ending.Busy
 ending_of outcome.Unknown = Ending.Lost
+
+-- own: by what came of its command, which ran or was refused memory
+abbrev pub ending_of_run : Result Reply NoMemory → Ending
+ending_of_run (Ok r) = Ending.Replied (plain_of r)
+ending_of_run (Err e) = Ending.Busy
 
 -- own: the data of a reply are as many bytes as the command needs room for, or fewer
 abbrev pub FitsNeed : ℕ → Outcome → Type 0

@@ -7,4 +7,5 @@ pub mod Parts
 pub mod Turns
 pub mod Performing
 pub mod Endings
+pub mod Serving
 pub mod Fields

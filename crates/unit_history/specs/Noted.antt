@@ -42,7 +42,8 @@ replies_noted true items = map (λ (s : NotedStep). reply_kept true (step_noted 
 replies_noted false items = []
 
 -- what is kept of the steps
-pub record AreNoted (keeps : Bool) (kinds : List StepKind) (replies : List (Option Reply)) (items : List NotedStep) : Type 0 where
+pub record AreNoted (keeps : Bool) (kinds : List StepKind) (replies : List (Option Reply))
+    (items : List NotedStep) : Type 0 where
   pub kinds_are : kinds ≡ kinds_noted items
   pub replies_are : map (option_map plain_of) replies ≡ replies_noted keeps items
 

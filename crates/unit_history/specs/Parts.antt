@@ -15,7 +15,8 @@ use Rattle.unit_history.specs.Lasts.{floor_kept}
 abbrev pub AreFit : List PlainTask → Type 0
 AreFit [] = ⊤
 AreFit (t ∷ tasks) =
-    (option_map (λ (j : PlainJob). j.entry) t.parked ≡ (if waits t.seen then Some t.seen.entry else None)) × AreFit tasks
+    (option_map (λ (j : PlainJob). j.entry) t.parked ≡ (if waits t.seen then Some t.seen.entry else None))
+    × AreFit tasks
 
 -- the parts of a unit are what its history says
 pub record AreKept (o : Opening) (steps : List Step) (block_at : Blocks) (pending : List Code) (tasks : List PlainTask)

@@ -1,8 +1,9 @@
 -- What running a command leaves. Only private functions cite it: no promise stands on it.
-use Rattle.std.specs.Prelude.{ℕ, ◌≡◌, Bool, IsTrue, List, Option, Some, None, if◌then◌else◌, ⊤}
+use Rattle.std.specs.Prelude.{ℕ, ◌≡◌, Bool, IsTrue, List, Option, Some, None, Result, Ok, Err, if◌then◌else◌, ⊤}
 use Rattle.std.specs.Option.{option_map}
 use Rattle.cdb.specs.declared.commands.Command.{Command}
 use Rattle.block_store.specs.Blocks.{Blocks}
+use Rattle.block_store.specs.declared.NoMemory.{NoMemory}
 use Rattle.block_commands.specs.Attention.{takes}
 use Rattle.block_commands.specs.declared.facts.UnitFacts.{UnitFacts}
 use Rattle.unit_attention.specs.Pending.{without_first}
@@ -11,9 +12,9 @@ use Rattle.block_commands.specs.Effects.{block_after}
 use Rattle.block_commands.specs.Facts.{Facts}
 use Rattle.block_commands.specs.PlainReply.{PlainReply, plain_of}
 use Rattle.block_commands.specs.Replies.{reply_of}
+use Rattle.block_commands.specs.declared.reply.Reply.{Reply}
 use Rattle.ring_core.specs.declared.log.Ticket.{Ticket}
 use Rattle.scsi_codec.specs.declared.lun.Address.{Address}
-use Rattle.history.specs.Tasks.{Entry}
 use Rattle.history.specs.Steps.{Step}
 use Rattle.unit_history.specs.declared.answers.Outcome.{Outcome}
 use Rattle.unit_history.specs.declared.answers.Outcome.TheVariants as outcome
@@ -34,22 +35,31 @@ abbrev pub kept_reply : Bool → PlainReply → Option PlainReply
 kept_reply keeps r = if keeps then Some r else None
 
 -- the command of a task ran: its reply, and what it leaves
-pub record Ran (keeps : Bool) (facts : Facts) (e : Entry) (p : Performed) (blocks blocks' : Blocks)
-    (pending pending' : List Code) : Type 0 where
-  pub reply : plain_of p.reply ≡ reply_of facts e.command e.data_out blocks
-  pub kept : option_map plain_of p.kept ≡ kept_reply keeps (reply_of facts e.command e.data_out blocks)
-  pub stored : (b : ℕ) → blocks' b ≡ block_after e.command e.data_out (reply_of facts e.command e.data_out blocks).status blocks b
-  pub pends : pending' ≡ taken e.command pending
+pub record Ran (keeps : Bool) (facts : Facts) (command : Command) (bytes : List ℕ) (p : Performed)
+    (blocks blocks' : Blocks) (pending pending' : List Code) : Type 0 where
+  pub reply : plain_of p.reply ≡ reply_of facts command bytes blocks
+  pub kept : option_map plain_of p.kept ≡ kept_reply keeps (reply_of facts command bytes blocks)
+  pub stored : (b : ℕ) → blocks' b ≡ block_after command bytes (reply_of facts command bytes blocks).status blocks b
+  pub pends : pending' ≡ taken command pending
 
 -- memory was refused, and nothing changed
-pub record RanShort (keeps : Bool) (facts : Facts) (e : Entry) (blocks blocks' : Blocks) (pending pending' : List Code) : Type 0 where
-  pub want : IsTrue (may_run_short keeps facts e.command)
+pub record RanShort (keeps : Bool) (facts : Facts) (command : Command) (blocks blocks' : Blocks)
+    (pending pending' : List Code) : Type 0 where
+  pub want : IsTrue (may_run_short keeps facts command)
   pub stored : (b : ℕ) → blocks' b ≡ blocks b
   pub pends : pending' ≡ pending
 
-abbrev pub Performs : Bool → Facts → Entry → Option Performed → Blocks → Blocks → List Code → List Code → Type 0
-Performs keeps facts e (Some p) blocks blocks' pending pending' = Ran keeps facts e p blocks blocks' pending pending'
-Performs keeps facts e None blocks blocks' pending pending' = RanShort keeps facts e blocks blocks' pending pending'
+abbrev pub Performs : Bool → Facts → Command → List ℕ → Option Performed → Blocks → Blocks → List Code → List Code
+    → Type 0
+Performs keeps facts command bytes (Some p) blocks blocks' pending pending' =
+    Ran keeps facts command bytes p blocks blocks' pending pending'
+Performs keeps facts command bytes None blocks blocks' pending pending' =
+    RanShort keeps facts command blocks blocks' pending pending'
+
+-- what came of a command whose reply isn't kept
+abbrev pub unkept : Result Reply NoMemory → Option Performed
+unkept (Ok r) = Some (record { reply = r; kept = None })
+unkept (Err e) = None
 
 -- the replies of what ran agree
 abbrev pub IsKeptReply : Bool → Option Performed → Type 0

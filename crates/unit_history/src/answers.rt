@@ -55,18 +55,12 @@ pub enum Outcome {
 }
 
 impl Outcome {
-    /// The data of its reply, if it has one, to be let go.
-    pub(crate) fn into_data(self) -> Option<Vec<u8>> {
+    /// Its reply, if it has one, to be let go.
+    pub(crate) fn into_reply(self) -> Option<Reply> {
         match self {
             Outcome::Reply(receipt) => {
                 let Receipt { reply, .. } = receipt;
-                match reply {
-                    Some(reply) => {
-                        let Reply { payload, .. } = reply;
-                        Some(payload)
-                    }
-                    None => None,
-                }
+                reply
             }
             Outcome::Aborted(_) | Outcome::Busy | Outcome::Unknown => None,
         }

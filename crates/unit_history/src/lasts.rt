@@ -23,6 +23,7 @@ impl Lasts {
     }
 
     /// Whether the ticket is not above the last of its queue.
+    #[inline(always)]
     pub(crate) fn is_stale(&self, ticket: Ticket) -> bool
         ensures { result ≡ nat_lt ticket.number (floor_kept self.now.numbers.items ticket.queue) }
     {
@@ -33,6 +34,7 @@ impl Lasts {
     }
 
     /// Makes a place for a queue, which takes memory the first time that the queue, or a higher one, comes.
+    #[inline(always)]
     pub(crate) fn reserve(&mut self, queue: u16) -> Result<(), AllocError>
         ensures same { (q : ℕ) → floor_kept self.new.numbers.items q ≡ floor_kept self.old.numbers.items q }
         ensures there { OnOk result (queue < length self.new.numbers.items) }
@@ -45,6 +47,7 @@ impl Lasts {
     }
 
     /// The ticket came.
+    #[inline(always)]
     pub(crate) fn came(&mut self, ticket: Ticket)
         requires { ticket.queue < length self.old.numbers.items }
         ensures { (q : ℕ) → floor_kept self.new.numbers.items q

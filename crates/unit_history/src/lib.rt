@@ -1,15 +1,18 @@
 //! The history of a logical unit with what follows from it: its blocks, what it has pending, and its task set.
 #![tactic(auto)]
 
+mod answering;
 mod answers;
 mod kind;
 mod lasts;
 mod log;
 mod noted;
 mod perform;
+mod serving;
 mod turn;
 mod unit;
 
+pub use answering::Answering;
 pub use answers::{Entered, Outcome, Receipt, Unknown};
 pub use kind::StepKind;
 pub use task_set::{Arrival, Job, JobList};

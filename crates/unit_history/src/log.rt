@@ -91,6 +91,7 @@ fn agrees_there(replies: &[Option<Reply>], place: u64, given: &Option<Reply>) ->
 }
 
 /// Makes room for more replies, where they are kept.
+#[inline(always)]
 fn reserve_where(
     keeps: bool,
     replies: &mut Vec<Option<Reply>>,
@@ -104,6 +105,7 @@ fn reserve_where(
 }
 
 /// One more reply, where they are kept.
+#[inline(always)]
 fn push_where(keeps: bool, replies: &mut Vec<Option<Reply>>, reply: Option<Reply>)
     requires { IsTrue keeps → 0 < spare replies.old }
     ensures items { replies.new.items ≡ (if keeps then replies.old.items ++ reply ∷ [] else replies.old.items) }
@@ -187,6 +189,7 @@ impl StepLog {
     }
 
     /// Makes room for more steps. The steps stay, whatever the result.
+    #[inline(always)]
     pub(crate) fn reserve(&mut self, room: usize) -> Result<(), AllocError>
         ensures steps { self.new.steps ≡ self.old.steps }
         ensures keeps { self.new.keeps ≡ self.old.keeps }

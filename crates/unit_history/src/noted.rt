@@ -28,6 +28,7 @@ pub(crate) struct NotedEntry {
 
 impl NotedEntry {
     /// The task that an arrival becomes.
+    #[inline(always)]
     pub(crate) fn of(arrival: &Arrival) -> NotedEntry
         ensures { entry_noted result ≡ arrival.now.entry }
     {
@@ -53,6 +54,7 @@ pub(crate) struct NotedReply {
 
 impl NotedReply {
     /// What was replied.
+    #[inline(always)]
     pub(crate) fn of(reply: &Reply) -> NotedReply
         ensures { reply_noted result ≡ plain_of reply.now }
     {

@@ -1,6 +1,6 @@
 //! Running the command of a task, whole.
 
-ghost use Rattle.std.specs.Prelude.{◌≡◌, ◌≤◌, ◌<◌, [], ℕ, IfSome, IsTrue, if◌then◌else◌, length, vec_capacity, IfOk, OnErr, nat_lt};
+ghost use Rattle.std.specs.Prelude.{◌≡◌, ◌≤◌, ◌<◌, ℕ, IfSome, IsTrue, if◌then◌else◌, length, IfOk, OnErr, nat_lt};
 ghost use Rattle.std.specs.Option.{option_map};
 ghost use Rattle.cdb.specs.Need.{need_of};
 ghost use Rattle.block_commands.specs.Facts.{facts_of};
@@ -11,7 +11,7 @@ ghost use Rattle.unit_history.specs.Performing.{Performs, kept_reply, told, take
 
 use block_commands::{Reply, UnitFacts, exec, takes_attention};
 use block_store::{NoMemory, Store};
-use cdb::{Command, need};
+use cdb::Command;
 use sense::Sense;
 use std::alloc::{AllocError, Global};
 use task_set::Task;
@@ -36,7 +36,8 @@ fn sense_of(code: Code) -> Sense
 }
 
 /// Puts what is pending first among the facts.
-fn tell_oldest(facts: &mut UnitFacts, attentions: &Attentions)
+#[inline(always)]
+pub(crate) fn tell_oldest(facts: &mut UnitFacts, attentions: &Attentions)
     ensures { facts.new ≡ told facts.old attentions.now }
 {
     facts.pending = match attentions.peek() {
@@ -46,7 +47,8 @@ fn tell_oldest(facts: &mut UnitFacts, attentions: &Attentions)
 }
 
 /// Clears what is pending first, where the command takes it.
-fn clear_oldest(attentions: &mut Attentions, command: &Command)
+#[inline(always)]
+pub(crate) fn clear_oldest(attentions: &mut Attentions, command: &Command)
     ensures { attentions.new ≡ taken command.now attentions.old }
 {
     if takes_attention(command) {
@@ -54,32 +56,22 @@ fn clear_oldest(attentions: &mut Attentions, command: &Command)
     }
 }
 
-/// Room for the data of a reply that is kept.
-fn room_for(alloc: Global, command: &Command) -> Result<Vec<u8>, AllocError>
-    ensures room { IfOk result (λ v. (v.items ≡ []) × ((need_of command.now).into ≤ vec_capacity v)) }
-    ensures want { OnErr result (0 < (need_of command.now).into) }
+/// The reply again, to be kept: only one with data takes memory, as much as these are.
+fn again(alloc: Global, reply: &Reply) -> Result<Reply, AllocError>
+    ensures same { IfOk result (λ kept. plain_of kept ≡ plain_of reply.now) }
+    ensures want { OnErr result (0 < length reply.now.payload.items) }
 {
-    let into = need(command).into as usize;
-    if into == 0 {
-        return Ok(Vec::new(alloc));
-    }
-    Vec::with_capacity(alloc, into)
-}
-
-/// The reply again, to be kept.
-fn again(reply: &Reply, mut payload: Vec<u8>) -> Reply
-    requires empty { payload.items ≡ [] }
-    requires room { length reply.now.payload.items ≤ vec_capacity payload }
-    ensures { plain_of result ≡ plain_of reply.now }
-{
-    // The list has room, so nothing is refused.
-    let _ = payload.extend_from_slice(reply.payload.as_slice());
-    Reply {
+    let payload = if reply.payload.is_empty() {
+        Vec::new(alloc)
+    } else {
+        Vec::from_slice(alloc, reply.payload.as_slice())?
+    };
+    Ok(Reply {
         status: reply.status,
         sense: reply.sense,
         payload,
         moved: reply.moved,
-    }
+    })
 }
 
 /// The reply to a command that ran, and the same again where replies are kept.
@@ -102,7 +94,8 @@ pub(crate) fn perform<S: Store>(
     keeps_replies: bool,
 ) -> Option<Performed>
     ensures performed { Performs keeps_replies (facts_of (told facts.old attentions.old) (S.size store.old))
-        task.now.seen.entry result (S.block_at store.old) (S.block_at store.new) attentions.old attentions.new }
+        task.now.seen.entry.command task.now.seen.entry.data_out result
+        (S.block_at store.old) (S.block_at store.new) attentions.old attentions.new }
     ensures facts { facts.new ≡ told facts.old attentions.old }
     ensures size { S.size store.new ≡ S.size store.old }
     ensures fits { IfSome result (λ p. length p.reply.payload.items ≤ (need_of task.now.seen.entry.command).into) }
@@ -114,9 +107,12 @@ pub(crate) fn perform<S: Store>(
         clear_oldest(attentions, &command);
         return Some(Performed { reply, kept: None });
     }
-    let kept_room = room_for(alloc, &command).ok()?;
     let reply = exec(alloc, room, store, &command, task.data(), facts).ok()?;
+    // A reply with data is that of a command that changes no block.
+    let kept = again(alloc, &reply).ok()?;
     clear_oldest(attentions, &command);
-    let kept = Some(again(&reply, kept_room));
-    Some(Performed { reply, kept })
+    Some(Performed {
+        reply,
+        kept: Some(kept),
+    })
 }

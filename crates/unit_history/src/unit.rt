@@ -14,7 +14,7 @@ use crate::log::StepLog;
 use crate::noted::{NotedEntry, NotedReply, NotedStep};
 use crate::perform::{Performed, attentions_at_start, perform};
 use crate::turn::{Turn, is_ended, turn_of};
-use block_commands::UnitFacts;
+use block_commands::{Reply, UnitFacts};
 use block_store::{FlatStore, NoMemory, Store};
 use decisions::UnitSpec;
 use history::{Reason, Rule};
@@ -30,7 +30,7 @@ pub type Place = u64;
 
 /// For how many steps room is made before one is taken: two for each of 64 tasks that are alive, this one,
 /// and two more for the task that it may bring.
-const STEPS_AHEAD: usize = 131;
+pub(crate) const STEPS_AHEAD: usize = 131;
 
 /// Of how many bytes room is kept from one command for the next, at most.
 const MOST_ROOM: usize = 4096;
@@ -38,17 +38,17 @@ const MOST_ROOM: usize = 4096;
 /// A logical unit: its history, which proofs alone see whole, and what follows from it.
 #[derive(Drop)]
 pub struct UnitState {
-    alloc: Global,
+    pub(crate) alloc: Global,
     // What is pending is set before each command.
-    facts: UnitFacts,
-    calm: bool,
-    attentions: Attentions,
-    store: FlatStore,
-    tasks: TaskSet,
-    log: StepLog,
-    lasts: Lasts,
+    pub(crate) facts: UnitFacts,
+    pub(crate) calm: bool,
+    pub(crate) attentions: Attentions,
+    pub(crate) store: FlatStore,
+    pub(crate) tasks: TaskSet,
+    pub(crate) log: StepLog,
+    pub(crate) lasts: Lasts,
     // Room for the data of the next command that returns some.
-    room: Vec<u8>,
+    pub(crate) room: Vec<u8>,
 }
 
 impl Model for UnitState {
@@ -238,9 +238,17 @@ impl UnitState {
     pub fn keep_room(&mut self, outcome: Outcome)
         ensures { self.new ≡ self.old }
     {
-        if let Some(data) = outcome.into_data() {
-            if data.capacity() > self.room.capacity() && data.capacity() <= MOST_ROOM {
-                self.room = data;
+        self.keep_data(outcome.into_reply());
+    }
+
+    /// Keeps the room of a reply's data, where it isn't much.
+    #[inline(always)]
+    pub(crate) fn keep_data(&mut self, reply: Option<Reply>)
+        ensures { self.new ≡ self.old }
+    {
+        if let Some(Reply { payload, .. }) = reply {
+            if payload.capacity() > self.room.capacity() && payload.capacity() <= MOST_ROOM {
+                self.room = payload;
             }
         }
     }
@@ -304,8 +312,8 @@ impl UnitState {
         Ok(())
     }
 
-    /// Whether all tasks that were alive at the step of this place and met by it, done or not, have left. A step that is
-    /// no Abort and no Reset met none. It takes no memory.
+    /// Whether all tasks that were alive at the step of this place and met by it, done or not, have left. A step that
+    /// is no Abort and no Reset met none. It takes no memory.
     pub fn clear_of(&self, place: Place) -> bool
         ensures { result ≡ is_clear place self.now.steps }
     {

@@ -1,7 +1,5 @@
-use Rattle.std.proofs.Common.{◌≡◌, ◌∙◌, ◌+◌, ◌++◌, ap, length, arith, List, ℕ}
-use Rattle.ring_core.specs.Parts.{PartsFit}
+use Rattle.std.proofs.Common.{◌∙◌, ◌++◌, ap, List, ℕ}
 use Rattle.ring_core.specs.Writes.{all_written, scatter_writes}
-use Rattle.ring_core.proofs.Scattering.{scatter_in_two_lem}
 use Rattle.phases.proofs.answer.write_reply.Goals as goal
 
 pub returns-clause-memory : goal.returns-clause-memory
@@ -9,14 +7,6 @@ returns-clause-memory c =
     let m = c.args.memory.now in
     let parts = c.args.chain.now.parts in
     let head = c.response_ok-head.result in
-    let payload = c.args.reply.now.payload.items in
-    let fit : PartsFit (length m) parts = rw c.requires.fits c.parts-parts.ensures.fit in
-    let first : c.scatter-first.result ≡ 0 + length head = omega (arith, c.scatter-first.ensures.written) in
-    let given = c.as_slice.result.now in
-    c.scatter.ensures.memory
-    ∙ ap (λ (k : List ℕ). all_written k (scatter_writes parts c.scatter-first.result given)) c.scatter-first.ensures.memory
-    ∙ ap (λ (n : ℕ). all_written (all_written m (scatter_writes parts 0 head)) (scatter_writes parts n given)) first
-    ∙ ap (λ (p : List ℕ). all_written (all_written m (scatter_writes parts 0 head)) (scatter_writes parts (0 + length head) p))
-    c.as_slice.ensures.value
-    ∙ scatter_in_two_lem m parts 0 head payload fit
-    ∙ ap (λ (h : List ℕ). all_written m (scatter_writes parts 0 (h ++ payload))) c.response_ok-head.ensures
+    c.write_response.ensures.memory
+    ∙ ap (λ (p : List ℕ). all_written m (scatter_writes parts 0 (head ++ p))) c.as_slice.ensures.value
+    ∙ ap (λ (h : List ℕ). all_written m (scatter_writes parts 0 (h ++ c.args.reply.now.payload.items))) c.response_ok-head.ensures

@@ -1,7 +1,7 @@
 use Rattle.std.proofs.Common.{refl}
 use Rattle.phases.proofs.AtOnce.{served}
 use Rattle.phases.proofs.Enters.{parks, overflows, sheds, stalls}
-use Rattle.phases.proofs.serving.serve_request.Goals as goal
+use Rattle.phases.proofs.serving.serve_by_steps.Goals as goal
 
 pub returns-in-Run-clause-serves : goal.returns-in-Run-clause-serves
 returns-in-Run-clause-serves c = (

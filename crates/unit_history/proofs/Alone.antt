@@ -1,0 +1,187 @@
+-- A request that is served where no task is alive: what its unit is then.
+use Rattle.std.proofs.Common.{◌≡◌, ℕ, ◌+◌, ◌≤◌, Bool, true, false, not, ◌||◌, cond, List, [], ◌∷◌, map, length, Option, Some, None, Result, Ok, Err, refl, sym, ◌∙◌, ap, subst, arith}
+use Rattle.ring_core.specs.declared.log.Ticket.{Ticket}
+use Rattle.block_store.specs.Blocks.{Blocks}
+use Rattle.block_store.specs.declared.NoMemory.{NoMemory}
+use Rattle.unit_attention.specs.declared.code.Code.{Code}
+use Rattle.block_commands.specs.Facts.{Facts}
+use Rattle.block_commands.specs.declared.reply.Reply.{Reply}
+use Rattle.decisions.specs.declared.attribute.TaskAttribute.{TaskAttribute}
+use Rattle.decisions.specs.declared.attribute.TaskAttribute.TheVariants.{Simple, Ordered, HeadOfQueue}
+use Rattle.history.specs.Tasks.{Entry, blocks, is_blocked}
+use Rattle.history.specs.Steps.{Step, floor}
+use Rattle.history.specs.Seen.{finished, freed}
+use Rattle.history.specs.Contents.{Opening, facts_after}
+use Rattle.history.specs.Lawful.{IsReady}
+use Rattle.history.specs.Endings.{Ending}
+use Rattle.history.specs.Receipts.{unit_of}
+use Rattle.history.proofs.Tickets.{itself}
+use Rattle.scsi_codec.specs.declared.lun.Address.{Address}
+use Rattle.task_set.specs.Jobs.{PlainJob}
+use Rattle.task_set.specs.Tasks.{PlainTask, entries_of, parked_of, moved, without, task_at, entering, run_at_once}
+use Rattle.task_set.proofs.Entering.{blocked_last}
+use Rattle.unit_history.specs.Calls.{Enters}
+use Rattle.unit_history.specs.Endings.{ending_of, ending_of_run}
+use Rattle.unit_history.specs.Parts.{AreKept}
+use Rattle.unit_history.specs.Performing.{Performs, step_for, outcome_for, unkept}
+use Rattle.unit_history.specs.Serving.{ServesAlone}
+use Rattle.unit_history.specs.Unit.{Steps}
+use Rattle.unit_history.specs.declared.answers.Entered.TheVariants as entered
+use Rattle.unit_history.specs.declared.perform.Performed.{Performed}
+use Rattle.unit_history.proofs.Committing.{is_of, keep_run, commits_run}
+use Rattle.unit_history.proofs.Entering.{enters_task}
+use Rattle.unit_history.proofs.Keeping.{CameTo, is_ready, may_leave, keep_enter, keep_leave}
+use Rattle.unit_history.proofs.Stepping.{unit_with, steps_is}
+
+-- nothing is a list of no length
+pub no_tasks : (tasks : List PlainTask) → length tasks ≤ 0 → tasks ≡ []
+no_tasks [] none = refl
+no_tasks (x ∷ tasks) none = absurd (let k = none in omega (arith, k))
+
+-- how a request ended, by its outcome
+pub ends_as : (unit : Address) (place : ℕ) (t : Ticket) (ran : Result Reply NoMemory)
+    → ending_of_run ran ≡ ending_of (outcome_for unit place t (unkept ran))
+ends_as unit place t (Ok r) = refl
+ends_as unit place t (Err e) = refl
+
+by_none : (a : TaskAttribute) → blocks a [] [] ≡ false
+by_none Simple = refl
+by_none Ordered = refl
+by_none HeadOfQueue = refl
+
+-- a task that is alive alone isn't blocked
+unblocked : (e : Entry) → is_blocked e (e ∷ []) ≡ false
+unblocked e = blocked_last e [] refl ∙ by_none e.attribute
+
+-- the task of a job, blocked or not, and done or not
+abbrev task_of_job : ℕ → PlainJob → Bool → Bool → PlainTask
+task_of_job place j blocked done =
+    record {
+      seen = record { entry = j.entry; enabled = not blocked; done = done; mark = None; place = place };
+      parked = cond blocked (Some j) None;
+    }
+
+enters_so : (place : ℕ) (j : PlainJob) → entering place [] j ≡ task_of_job place j false false
+enters_so place j = ap (λ b. task_of_job place j b false) (unblocked j.entry)
+
+ends_so : (place : ℕ) (j : PlainJob)
+    → map (moved (finished j.entry.ticket)) (task_of_job place j false false ∷ []) ≡ task_of_job place j false true ∷ []
+ends_so place j = ap (λ b. task_of_job place j false (b || false) ∷ []) (itself j.entry.ticket)
+
+is_found : (place : ℕ) (j : PlainJob) (done : Bool)
+    → task_at j.entry.ticket (task_of_job place j false done ∷ []) ≡ Some (task_of_job place j false done)
+is_found place j done = ap (λ b. cond b (Some (task_of_job place j false done)) None) (itself j.entry.ticket)
+
+is_gone : (place : ℕ) (j : PlainJob) → without j.entry.ticket (task_of_job place j false true ∷ []) ≡ []
+is_gone place j = ap (λ b. cond b [] (task_of_job place j false true ∷ [])) (itself j.entry.ticket)
+
+module _ (o : Opening) (past : List Step) (block_at : Blocks) (pending : List Code) (lasts : List (Option ℕ)) (room : ℕ)
+    (k : AreKept o past block_at pending [] lasts room) (j : PlainJob) (lasts' : List (Option ℕ))
+    (le : floor j.entry.ticket.queue past ≤ j.entry.ticket.number) (came : CameTo j.entry.ticket lasts lasts') where
+  -- its task entered
+  pub kept_entered : (room' : ℕ) → 130 ≤ room'
+      → AreKept o (Step.Enter j.entry ∷ past) block_at pending (task_of_job (length past) j false false ∷ []) lasts' room'
+  kept_entered room' reserve =
+      subst (λ x. AreKept o (Step.Enter j.entry ∷ past) block_at pending (x ∷ []) lasts' room') (enters_so (length past) j)
+      (keep_enter k j lasts' room' (omega arith) le came reserve)
+
+  module _ (room1 : ℕ) (reserve : 130 ≤ room1) (facts : Facts) (p : Option Performed) (block_at' : Blocks) (pending' : List Code)
+      (as_told : facts ≡ facts_after o (Step.Enter j.entry ∷ past))
+      (ran : Performs false facts j.entry.command j.entry.data_out p block_at block_at' pending pending') where
+    ready : IsReady j.entry.ticket j.entry (Step.Enter j.entry ∷ past)
+    ready = is_ready (kept_entered room1 reserve) j.entry.ticket (task_of_job (length past) j false false)
+        (is_found (length past) j false) refl refl refl
+
+    -- its command ran
+    kept_ran : (room2 : ℕ) → room1 ≤ room2 + 1
+        → AreKept o (step_for j.entry.ticket p ∷ Step.Enter j.entry ∷ past) block_at' pending'
+        (task_of_job (length past) j false true ∷ []) lasts' room2
+    kept_ran room2 less =
+        subst (λ ts. AreKept o (step_for j.entry.ticket p ∷ Step.Enter j.entry ∷ past) block_at' pending' ts lasts' room2)
+        (ends_so (length past) j)
+        (keep_run (kept_entered room1 reserve) j.entry.ticket j.entry false facts p block_at' pending' room2 ready as_told ran less)
+
+    -- it left
+    pub kept_left : (room2 room3 : ℕ) → room1 ≤ room2 + 1 → room2 ≤ room3 + 1
+        → AreKept o (Step.Leave j.entry.ticket ∷ step_for j.entry.ticket p ∷ Step.Enter j.entry ∷ past) block_at' pending' [] lasts' room3
+    kept_left room2 room3 less fewer =
+        subst (λ ts. AreKept o (Step.Leave j.entry.ticket ∷ step_for j.entry.ticket p ∷ Step.Enter j.entry ∷ past) block_at' pending'
+        (map (moved (freed (entries_of ts))) ts) lasts' room3) (is_gone (length past) j)
+        (keep_leave (kept_ran room2 less) j.entry.ticket (task_of_job (length past) j false true) room3
+        (is_found (length past) j true) refl fewer)
+
+    enters : Enters (unit_with o past [] false) j (entered.Run j) (unit_with o (Step.Enter j.entry ∷ past) [] false)
+    enters =
+        let run : Some j ≡ run_at_once [] j = sym (ap (λ b. cond b None (Some j)) (unblocked j.entry)) in
+        subst (λ x. Enters (unit_with o past [] false) j (entered.Run j)
+        (unit_with o (Step.Enter j.entry ∷ past) (parked_of (x ∷ [])) false)) (enters_so (length past) j)
+        (enters_task k j (Some j) (length past) (Step.Enter j.entry ∷ past) false false (omega arith) le run refl refl)
+
+    leaves : Steps (unit_with o (step_for j.entry.ticket p ∷ Step.Enter j.entry ∷ past) [] false) (Step.Leave j.entry.ticket)
+        (unit_with o (Step.Leave j.entry.ticket ∷ step_for j.entry.ticket p ∷ Step.Enter j.entry ∷ past) [] false)
+    leaves =
+        steps_is o (Step.Leave j.entry.ticket) (step_for j.entry.ticket p ∷ Step.Enter j.entry ∷ past) _ [] [] false false
+        (may_leave (kept_ran room1 (omega arith)) j.entry.ticket (task_of_job (length past) j false true)
+        (is_found (length past) j true) refl) refl refl refl
+
+    -- all of it
+    pub serves : (answers : Ending → Type 0)
+        → answers (ending_of (outcome_for (unit_of o) (length (Step.Enter j.entry ∷ past)) j.entry.ticket p))
+        → j.chain.ticket ≡ j.entry.ticket
+        → ServesAlone answers (unit_with o past [] false) j
+        (unit_with o (Step.Leave j.entry.ticket ∷ step_for j.entry.ticket p ∷ Step.Enter j.entry ∷ past) [] false)
+    serves answers answered own =
+        record {
+          once_entered = unit_with o (Step.Enter j.entry ∷ past) [] false;
+          once_run = unit_with o (step_for j.entry.ticket p ∷ Step.Enter j.entry ∷ past) [] false;
+          outcome = outcome_for (unit_of o) (length (Step.Enter j.entry ∷ past)) j.entry.ticket p;
+          enters = enters;
+          commits = commits_run (kept_entered room1 reserve) j j.entry false facts p block_at' pending'
+              (is_of (kept_entered room1 reserve) j (task_of_job (length past) j false false) (is_found (length past) j false) refl)
+              ready as_told ran;
+          answered = answered;
+          leaves = subst (λ t. Steps (unit_with o (step_for j.entry.ticket p ∷ Step.Enter j.entry ∷ past) [] false) (Step.Leave t)
+              (unit_with o (Step.Leave j.entry.ticket ∷ step_for j.entry.ticket p ∷ Step.Enter j.entry ∷ past) [] false))
+              (sym own) leaves;
+          alone = refl;
+        }
+
+-- the steps of all of it
+pub all_steps : (t t1 t2 : Ticket) (e e1 : Entry) (p : Option Performed) (s0 s1 s2 s3 s4 : List Step) → s1 ≡ s0
+    → s2 ≡ Step.Enter e1 ∷ s1 → e1 ≡ e → s3 ≡ step_for t1 p ∷ s2 → t1 ≡ t → s4 ≡ Step.Leave t2 ∷ s3 → t2 ≡ t
+    → s4 ≡ Step.Leave t ∷ step_for t p ∷ Step.Enter e ∷ s0
+all_steps t t1 t2 e e1 p s0 s1 s2 s3 s4 a b c d f g h =
+    g ∙ ap (λ n. Step.Leave n ∷ s3) h
+    ∙ ap (λ w. Step.Leave t ∷ w) (d ∙ ap (λ n. step_for n p ∷ s2) f)
+    ∙ ap (λ w. Step.Leave t ∷ step_for t p ∷ w) (b ∙ ap (λ n. Step.Enter n ∷ s1) c ∙ ap (λ w. Step.Enter e ∷ w) a)
+
+-- the same of a unit with its tasks, of which there are none
+module _ (o : Opening) (past : List Step) (block_at : Blocks) (pending : List Code) (tasks : List PlainTask)
+    (lasts : List (Option ℕ)) (room : ℕ) (k : AreKept o past block_at pending tasks lasts room) (none : tasks ≡ [])
+    (j : PlainJob) (lasts' : List (Option ℕ)) (le : floor j.entry.ticket.queue past ≤ j.entry.ticket.number)
+    (came : CameTo j.entry.ticket lasts lasts') (room1 : ℕ) (reserve : 130 ≤ room1) (facts : Facts) (p : Option Performed)
+    (block_at' : Blocks) (pending' : List Code) (as_told : facts ≡ facts_after o (Step.Enter j.entry ∷ past))
+    (ran : Performs false facts j.entry.command j.entry.data_out p block_at block_at' pending pending') (steps' : List Step)
+    (is : steps' ≡ Step.Leave j.entry.ticket ∷ step_for j.entry.ticket p ∷ Step.Enter j.entry ∷ past) where
+  kept_none : AreKept o past block_at pending [] lasts room
+  kept_none = subst (λ ts. AreKept o past block_at pending ts lasts room) none k
+
+  pub kept_served : (room2 room3 : ℕ) → room1 ≤ room2 + 1 → room2 ≤ room3 + 1
+      → AreKept o steps' block_at' pending' tasks lasts' room3
+  kept_served room2 room3 less fewer =
+      subst (λ ts. AreKept o steps' block_at' pending' ts lasts' room3) (sym none)
+      (subst (λ ss. AreKept o ss block_at' pending' [] lasts' room3) (sym is)
+      (kept_left o past block_at pending lasts room kept_none j lasts' le came room1 reserve facts p block_at' pending' as_told ran
+      room2 room3 less fewer))
+
+  pub serves_alone : (answers : Ending → Type 0) (keeps keeps' : Bool) → keeps ≡ false → keeps' ≡ false
+      → answers (ending_of (outcome_for (unit_of o) (length (Step.Enter j.entry ∷ past)) j.entry.ticket p))
+      → j.chain.ticket ≡ j.entry.ticket
+      → ServesAlone answers (unit_with o past (parked_of tasks) keeps) j (unit_with o steps' (parked_of tasks) keeps')
+  serves_alone answers keeps keeps' a b answered own =
+      subst (λ x. ServesAlone answers (unit_with o past (parked_of tasks) x) j (unit_with o steps' (parked_of tasks) keeps')) (sym a)
+      (subst (λ x. ServesAlone answers (unit_with o past (parked_of tasks) false) j (unit_with o steps' (parked_of tasks) x)) (sym b)
+      (subst (λ ts. ServesAlone answers (unit_with o past (parked_of ts) false) j (unit_with o steps' (parked_of ts) false)) (sym none)
+      (subst (λ ss. ServesAlone answers (unit_with o past [] false) j (unit_with o ss [] false)) (sym is)
+      (serves o past block_at pending lasts room kept_none j lasts' le came room1 reserve facts p block_at' pending' as_told ran
+      answers answered own))))

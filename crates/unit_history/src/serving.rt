@@ -1,0 +1,112 @@
+//! A request that is served to its end in one call, where no other task is alive.
+
+ghost use Rattle.std.specs.Prelude.{◌≡◌, ◌+◌, ◌<◌, ◌≤◌, ◌∷◌, false, length, IfOk, IfErr, OnOk, OnErr};
+ghost use Rattle.block_commands.specs.Facts.{facts_of};
+ghost use Rattle.cdb.specs.Need.{need_of};
+ghost use Rattle.unit_history.specs.Performing.{Performs, step_for, told, unkept};
+ghost use Rattle.unit_history.specs.Serving.{ServesAlone};
+
+use crate::answering::Answering;
+use crate::log::StepLog;
+use crate::noted::{NotedEntry, NotedReply, NotedStep};
+use crate::perform::{clear_oldest, tell_oldest};
+use crate::unit::{STEPS_AHEAD, UnitState};
+use block_commands::{Reply, UnitFacts, exec};
+use block_store::{NoMemory, Store};
+use cdb::Command;
+use ring_core::Ticket;
+use std::alloc::Global;
+use task_set::Arrival;
+use unit_attention::Attentions;
+
+/// Runs a command on the blocks of its unit, with what is pending; its reply is kept nowhere.
+#[inline(always)]
+fn run<S: Store>(
+    alloc: Global,
+    room: &mut Vec<u8>,
+    facts: &mut UnitFacts,
+    attentions: &mut Attentions,
+    store: &mut S,
+    command: &Command,
+    bytes: &[u8],
+) -> Result<Reply, NoMemory>
+    requires data { length bytes.now ≡ (need_of command.now).out }
+    ensures performed { Performs false (facts_of (told facts.old attentions.old) (S.size store.old))
+        command.now bytes.now (unkept result)
+        (S.block_at store.old) (S.block_at store.new) attentions.old attentions.new }
+    ensures facts { facts.new ≡ told facts.old attentions.old }
+    ensures size { S.size store.new ≡ S.size store.old }
+    ensures fits { IfOk result (λ r. length r.payload.items ≤ (need_of command.now).into) }
+{
+    tell_oldest(facts, attentions);
+    let reply = exec(alloc, room, store, command, bytes, facts)?;
+    clear_oldest(attentions, command);
+    Ok(reply)
+}
+
+/// Records what came of a command.
+#[inline(always)]
+fn record_run(log: &mut StepLog, ticket: Ticket, ran: &Result<Reply, NoMemory>)
+    requires room { 0 < log.old.room }
+    requires keeps { log.old.keeps ≡ false }
+    ensures steps { log.new.steps ≡ step_for ticket (unkept ran.now) ∷ log.old.steps }
+    ensures keeps { log.new.keeps ≡ log.old.keeps }
+    ensures room { log.old.room ≤ log.new.room + 1 }
+{
+    match ran {
+        Ok(reply) => log.push(NotedStep::Commit(ticket, NotedReply::of(reply)), None),
+        Err(NoMemory) => log.push(NotedStep::Busy(ticket), None),
+    }
+}
+
+impl UnitState {
+    /// Serves a request to its end: its task enters, its command runs, it is answered by what came of that, and its
+    /// task leaves. So it may be where no task is alive, no replies are kept, its ticket is above the last of its
+    /// queue, and room for its steps was made; else it is given back, with nothing changed.
+    #[inline(always)]
+    pub fn serve_alone<A: Answering>(
+        &mut self,
+        arrival: Arrival,
+        answering: &mut A,
+    ) -> Result<(), Arrival>
+        requires may { A.may_answer answering.old arrival }
+        ensures serves { OnOk result
+            (ServesAlone (λ ending. A.answers answering.old arrival ending answering.new) self.old arrival self.new) }
+        ensures same { OnErr result ((self.new ≡ self.old) × (answering.new ≡ answering.old)) }
+        ensures back { IfErr result (λ back. back ≡ arrival) }
+    {
+        let ticket = arrival.ticket();
+        if self.tasks.len() > 0 {
+            return Err(arrival);
+        }
+        if self.log.keeps_replies() {
+            return Err(arrival);
+        }
+        if self.lasts.is_stale(ticket) {
+            return Err(arrival);
+        }
+        let Ok(()) = self.lasts.reserve(ticket.queue) else {
+            return Err(arrival);
+        };
+        let Ok(()) = self.log.reserve(STEPS_AHEAD) else {
+            return Err(arrival);
+        };
+        self.lasts.came(ticket);
+        self.log
+            .push(NotedStep::Enter(NotedEntry::of(&arrival)), None);
+        let ran = run(
+            self.alloc,
+            &mut self.room,
+            &mut self.facts,
+            &mut self.attentions,
+            &mut self.store,
+            &arrival.command(),
+            arrival.data(),
+        );
+        record_run(&mut self.log, ticket, &ran);
+        let answered = answering.answer(arrival, &ran);
+        self.log.push(NotedStep::Leave(answered.ticket()), None);
+        self.keep_data(ran.ok());
+        Ok(())
+    }
+}
