@@ -7,7 +7,7 @@ use ring_core::Ticket;
 pub enum Point {
     /// It entered its unit. No lock is held.
     Entered,
-    /// A worker took its job from the hand-off. No lock is held.
+    /// Its job came into the hand of the seat that serves it. No lock is held.
     Taken,
     /// Its unit's lock is held, and no other, for its commit, of which nothing is done yet.
     Locked,

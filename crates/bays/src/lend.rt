@@ -4,7 +4,7 @@ ghost use Rattle.std.specs.Prelude.{◌≡◌, ◌<◌, List, ℕ};
 ghost use Rattle.std.specs.Fn.{FnOnceReturnsAtMut};
 ghost use Rattle.unit_history.specs.Unit.{PlainUnit};
 ghost use Rattle.phases.specs.Queue.{Lent};
-ghost use Rattle.bays.specs.Lending.{OnceAtTwo};
+ghost use Rattle.bays.specs.Lending.{OnceAtThree, OnceAtFour};
 
 use guest_mem::GuestMem;
 use phases::Queue;
@@ -46,21 +46,36 @@ pub trait Bays {
     fn queue_count(&self) -> usize
         ensures { result ≡ queues self.now };
 
-    /// Runs a phase on the unit at a place.
-    fn unit<T, F: FnOnce(&mut UnitState) -> T>(&mut self, at: usize, phase: F) -> T
+    /// Runs a phase on the unit at a place, and on two values of whoever calls, which stay where they are.
+    fn unit<T, X, Y, F: FnOnce(&mut UnitState, &mut X, &mut Y) -> T>(
+        &mut self,
+        at: usize,
+        one: &mut X,
+        other: &mut Y,
+        phase: F,
+    ) -> T
         requires there { at < units self.old }
         requires phase { F.IsAlwaysCallable phase }
         ensures did { (u : PlainUnit) × (v : PlainUnit) × lends_unit self.old at u
-            × FnOnceReturnsAtMut F.FnOnce phase u result v × keeps_unit self.old at v self.new }
+            × OnceAtThree F.FnOnce phase u one.old other.old result v one.new other.new
+            × keeps_unit self.old at v self.new }
         ensures units { units self.new ≡ units self.old }
         ensures queues { queues self.new ≡ queues self.old };
 
-    /// Runs a phase on the queue of a number, with the memory.
-    fn queue<T, F: FnOnce(&mut Queue, &mut GuestMem) -> T>(&mut self, at: usize, phase: F) -> T
+    /// Runs a phase on the queue of a number, with the memory, and on two values of whoever calls, which stay where
+    /// they are.
+    fn queue<T, X, Y, F: FnOnce(&mut Queue, &mut GuestMem, &mut X, &mut Y) -> T>(
+        &mut self,
+        at: usize,
+        one: &mut X,
+        other: &mut Y,
+        phase: F,
+    ) -> T
         requires there { at < queues self.old }
         requires phase { F.IsAlwaysCallable phase }
         ensures did { (q : Lent) × (m : List ℕ) × (r : Lent) × (n : List ℕ) × lends_queue self.old at q m
-            × OnceAtTwo F.FnOnce phase q m result r n × keeps_queue self.old at r n self.new }
+            × OnceAtFour F.FnOnce phase q m one.old other.old result r n one.new other.new
+            × keeps_queue self.old at r n self.new }
         ensures units { units self.new ≡ units self.old }
         ensures queues { queues self.new ≡ queues self.old };
 

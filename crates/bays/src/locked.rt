@@ -10,11 +10,11 @@ use phases::Queue;
 use std::sync::{Mutex, Wait};
 use unit_history::UnitState;
 
-/// The parts of a device that threads share, each under a lock of its own, which is held while one phase runs. A unit's
-/// lock is never held with another. A queue's lock has the memory's inside it, and the memory's is also held alone. So no
-/// thread waits for a lock that waits for one of its own. What a lock held at a moment can't be said; but whenever it is
-/// free, a unit's history is lawful, its blocks and what it has pending are those of that history, and a queue's log is
-/// lawful.
+/// The parts of a device that threads share, each under a lock of its own, which is held while one phase runs. A
+/// unit's lock is never held with another. A queue's lock has the memory's inside it, and the memory's is also held
+/// alone. So no thread waits for a lock that waits for one of its own. What a lock held at a moment can't be said;
+/// but whenever it is free, a unit's history is lawful, its blocks and what it has pending are those of that history,
+/// and a queue's log is lawful.
 #[derive(Drop)]
 pub struct Locked<'a, R: Wait> {
     /// What lets a thread wait.
@@ -52,22 +52,34 @@ impl<'a, R: Wait> Bays for Locked<'a, R> {
         self.queues.len()
     }
 
-    fn unit<T, F: FnOnce(&mut UnitState) -> T>(&mut self, at: usize, phase: F) -> T {
+    fn unit<T, X, Y, F: FnOnce(&mut UnitState, &mut X, &mut Y) -> T>(
+        &mut self,
+        at: usize,
+        one: &mut X,
+        other: &mut Y,
+        phase: F,
+    ) -> T {
         let mut held = self.units[at].lock(self.rt);
         let unit = &mut *held;
         unit.stands();
-        let answer = phase(unit);
+        let answer = phase(unit, one, other);
         unit.stands();
         answer
     }
 
-    fn queue<T, F: FnOnce(&mut Queue, &mut GuestMem) -> T>(&mut self, at: usize, phase: F) -> T {
+    fn queue<T, X, Y, F: FnOnce(&mut Queue, &mut GuestMem, &mut X, &mut Y) -> T>(
+        &mut self,
+        at: usize,
+        one: &mut X,
+        other: &mut Y,
+        phase: F,
+    ) -> T {
         let mut held = self.queues[at].lock(self.rt);
         let mut held_memory = self.memory.lock(self.rt);
         let queue = &mut *held;
         let memory = &mut *held_memory;
         let _before = queue.log();
-        let answer = phase(queue, memory);
+        let answer = phase(queue, memory, one, other);
         let _behind = queue.log();
         answer
     }

@@ -45,12 +45,24 @@ impl<'a> Bays for Plain<'a> {
         self.queues.len()
     }
 
-    fn unit<T, F: FnOnce(&mut UnitState) -> T>(&mut self, at: usize, phase: F) -> T {
-        phase(&mut self.units[at])
+    fn unit<T, X, Y, F: FnOnce(&mut UnitState, &mut X, &mut Y) -> T>(
+        &mut self,
+        at: usize,
+        one: &mut X,
+        other: &mut Y,
+        phase: F,
+    ) -> T {
+        phase(&mut self.units[at], one, other)
     }
 
-    fn queue<T, F: FnOnce(&mut Queue, &mut GuestMem) -> T>(&mut self, at: usize, phase: F) -> T {
-        phase(&mut self.queues[at], self.memory)
+    fn queue<T, X, Y, F: FnOnce(&mut Queue, &mut GuestMem, &mut X, &mut Y) -> T>(
+        &mut self,
+        at: usize,
+        one: &mut X,
+        other: &mut Y,
+        phase: F,
+    ) -> T {
+        phase(&mut self.queues[at], self.memory, one, other)
     }
 
     fn memory<T, F: FnOnce(&mut GuestMem) -> T>(&mut self, phase: F) -> T {

@@ -58,57 +58,57 @@ fn fetch<B: Bays>(bays: &mut B, at: usize, inventory: &Inventory) -> Option<Slot
     if at >= bays.queue_count() {
         return None;
     }
-    match fetch_on(bays, at, Slot::Empty, inventory) {
-        (Ok(true), slot) => Some(slot),
+    let mut slot = Slot::Empty;
+    match fetch_on(bays, at, &mut slot, inventory) {
+        Ok(true) => Some(slot),
         _ => None,
     }
 }
 
 /// The request that arrived enters.
-fn enter<B: Bays>(bays: &mut B, slot: Slot, out: JobList) -> Option<JobList> {
+fn enter<B: Bays>(bays: &mut B, mut slot: Slot, mut out: JobList) -> Option<JobList> {
     let place = slot.unit()?;
     if place >= bays.unit_count() {
         return None;
     }
-    match enter_on(bays, place, slot, out) {
-        (true, Slot::Empty, out) => Some(out),
-        _ => None,
+    if enter_on(bays, place, &mut slot, &mut out) && slot.is_empty() {
+        return Some(out);
     }
+    None
 }
 
 /// A job is committed.
 fn commit<B: Bays, G: Gate>(bays: &mut B, gate: &G, job: Job) -> Option<Hand> {
-    let hand = Hand::taken(job);
+    let mut hand = Hand::taken(job);
     let place = hand.committing_unit()?;
     if place >= bays.unit_count() {
         return None;
     }
-    match commit_on(bays, gate, place, hand) {
-        (true, hand) => Some(hand),
-        _ => None,
+    if commit_on(bays, gate, place, &mut hand) {
+        return Some(hand);
     }
+    None
 }
 
 /// The job in the hand is answered.
-fn answer<B: Bays>(bays: &mut B, hand: Hand) -> Option<Hand> {
+fn answer<B: Bays>(bays: &mut B, mut hand: Hand) -> Option<Hand> {
     let at = usize::from(hand.answering_queue()?);
     if at >= bays.queue_count() {
         return None;
     }
-    let (given, hand) = answer_on(bays, at, hand);
-    match given {
+    match answer_on(bays, at, &mut hand) {
         Some(Given::Receipt(_)) => Some(hand),
         _ => None,
     }
 }
 
 /// Whether the task in the hand leaves.
-fn leaves<B: Bays>(bays: &mut B, hand: Hand, out: JobList) -> Option<bool> {
+fn leaves<B: Bays>(bays: &mut B, mut hand: Hand, mut out: JobList) -> Option<bool> {
     let place = hand.leaving_unit()?;
     if place >= bays.unit_count() {
         return None;
     }
-    let (did, hand, _out) = leave_on(bays, place, hand, out);
+    let did = leave_on(bays, place, &mut hand, &mut out);
     Some(did && hand.is_free())
 }
 
@@ -133,11 +133,11 @@ pub(crate) fn serve<B: Bays, G: Gate>(
 pub(crate) fn refuse<B: Bays>(bays: &mut B, inventory: &Inventory) -> Option<u8> {
     let at = usize::from(ABSENT.queue);
     bays.memory(|memory| put(memory, ABSENT.queue, &request(&ABSENT), 108));
-    let slot = fetch(bays, at, inventory)?;
+    let mut slot = fetch(bays, at, inventory)?;
     if at >= bays.queue_count() {
         return None;
     }
-    let (note, slot) = direct_on(bays, at, slot);
+    let note = direct_on(bays, at, &mut slot);
     if !slot.is_empty() || note?.cause() != Cause::Direct {
         return None;
     }
@@ -149,34 +149,39 @@ fn open<B: Bays>(bays: &mut B, inventory: &Inventory) -> Option<OpenFunction> {
     if bays.queue_count() == 0 {
         return None;
     }
-    match fetch_control_on(bays, 0, Slot::Empty, None, inventory) {
-        (Ok(true), Slot::Empty, function) => function,
+    let (mut slot, mut function) = (Slot::Empty, None);
+    match fetch_control_on(bays, 0, &mut slot, &mut function, inventory) {
+        Ok(true) if slot.is_empty() => function,
         _ => None,
     }
 }
 
 /// The function marks its unit.
-fn mark<B: Bays>(bays: &mut B, function: OpenFunction, out: JobList) -> Option<OpenFunction> {
+fn mark<B: Bays>(
+    bays: &mut B,
+    mut function: OpenFunction,
+    mut out: JobList,
+) -> Option<OpenFunction> {
     let place = function.function().next_unit()?;
     if place >= bays.unit_count() {
         return None;
     }
-    match mark_on(bays, place, function, out) {
-        (true, function, _out) => Some(function),
-        _ => None,
+    if mark_on(bays, place, &mut function, &mut out) {
+        return Some(function);
     }
+    None
 }
 
 /// The function sees that its unit is clear.
-fn check<B: Bays>(bays: &mut B, function: OpenFunction) -> Option<OpenFunction> {
+fn check<B: Bays>(bays: &mut B, mut function: OpenFunction) -> Option<OpenFunction> {
     let place = function.function().waits_for()?.unit;
     if place >= bays.unit_count() {
         return None;
     }
-    match check_on(bays, place, function) {
-        (true, function) => Some(function),
-        _ => None,
+    if check_on(bays, place, &mut function) {
+        return Some(function);
     }
+    None
 }
 
 /// A LOGICAL UNIT RESET is served: how many chains of the control queue were used then.
@@ -188,25 +193,26 @@ pub(crate) fn reset<B: Bays>(alloc: Global, bays: &mut B, inventory: &Inventory)
     if bays.queue_count() == 0 {
         return None;
     }
-    match answer_tmf_on(bays, 0, Some(function)) {
-        (true, None) => bays.memory(|memory| used(memory, 0)),
-        _ => None,
+    let mut function = Some(function);
+    if answer_tmf_on(bays, 0, &mut function) && function.is_none() {
+        return bays.memory(|memory| used(memory, 0));
     }
+    None
 }
 
 /// The operator resets the first unit, and the event goes to the one buffer of the event queue: how many chains of that
 /// were used then.
 pub(crate) fn report<B: Bays>(alloc: Global, bays: &mut B) -> Option<u8> {
-    let (port, waiting) = (EventPort::new(alloc, 8).ok()?, WaitingEvents::new(alloc));
-    let out = JobList::with_limit(alloc, 64).ok()?;
+    let (mut port, mut waiting) = (EventPort::new(alloc, 8).ok()?, WaitingEvents::new(alloc));
+    let mut out = JobList::with_limit(alloc, 64).ok()?;
     bays.memory(|memory| put(memory, 1, &[0], 16));
     if bays.queue_count() <= 1 || bays.unit_count() == 0 {
         return None;
     }
-    let (_, port) = fetch_event_on(bays, 1, &Slot::Empty, port);
-    let (_, _out, waiting) = hard_on(bays, 0, out, waiting);
-    match raise_on(bays, 1, port, waiting) {
-        (true, _, _) => bays.memory(|memory| used(memory, 1)),
-        _ => None,
+    let _ = fetch_event_on(bays, 1, &Slot::Empty, &mut port);
+    let _ = hard_on(bays, 0, &mut out, &mut waiting);
+    if raise_on(bays, 1, &mut port, &mut waiting) {
+        return bays.memory(|memory| used(memory, 1));
     }
+    None
 }

@@ -90,7 +90,8 @@ IsEvenByTicket seats items =
 
 -- own: what the pass of a seat knows: the seat's account, and of the first one how many seats were made
 abbrev pub pass_view : PlainSeat → View
-pass_view s = record { accounts = account_of s ∷ []; is_chief = s.number == 0; made = if s.number == 0 then s.seats else 0 }
+pass_view s =
+    record { accounts = account_of s ∷ []; is_chief = s.number == 0; made = if s.number == 0 then s.seats else 0 }
 
 abbrev pub first_put : List Account → List PlainJob
 first_put [] = []

@@ -31,7 +31,8 @@ AreConfirmed units receipts = (k : ℕ) (c : Receipt) → slice_get receipts k �
 -- own: the ticket is that of a receipt that isn't confirmed, and the first such
 pub record IsFirstUnconfirmed (units : List PlainUnit) (receipts : List Receipt) (t : Ticket) : Type 0 where
   pub some : (k : ℕ) × (c : Receipt) × (slice_get receipts k ≡ Some c) × (c.ticket ≡ t) × (IsConfirmedBy units c → ⊥)
-  pub first : (k : ℕ) (c : Receipt) → slice_get receipts k ≡ Some c → is_before c.ticket t ≡ true → IsConfirmedBy units c
+  pub first : (k : ℕ) (c : Receipt) → slice_get receipts k ≡ Some c → is_before c.ticket t ≡ true
+      → IsConfirmedBy units c
 
 -- own: the chain of a request or control queue isn't used, or the request isn't settled; or what is no accepted request
 -- has a receipt or a note all the same
@@ -41,7 +42,8 @@ is_outstanding units queues receipts notes t =
     || ((is_request queues t && not (is_settled units receipts notes t))
     || (not (is_request queues t) && has_answer receipts notes t))
 
-pub record IsReport (units : List PlainUnit) (queues : List Lent) (receipts : List Receipt) (notes : List PlainNote) : Type 0 where
+pub record IsReport (units : List PlainUnit) (queues : List Lent) (receipts : List Receipt)
+    (notes : List PlainNote) : Type 0 where
   -- each history is lawful, and its unit is what it says
   pub units_stand : (k : ℕ) (u : PlainUnit) → slice_get units k ≡ Some u → IsUnit u
   -- each log is lawful
@@ -52,7 +54,8 @@ pub record IsReport (units : List PlainUnit) (queues : List Lent) (receipts : Li
   pub answered_once : (t : Ticket) → is_request queues t ≡ true → answers receipts notes t ≡ 1
   pub of_requests : (t : Ticket) → is_request queues t ≡ false → has_answer receipts notes t ≡ false
   -- no note is Stale or Unknown
-  pub known : (k : ℕ) (n : PlainNote) → slice_get notes k ≡ Some n → (n.cause ≡ cause.Stale → ⊥) × (n.cause ≡ cause.Unknown → ⊥)
+  pub known : (k : ℕ) (n : PlainNote) → slice_get notes k ≡ Some n → (n.cause ≡ cause.Stale → ⊥)
+      × (n.cause ≡ cause.Unknown → ⊥)
   -- each receipt's Commit stands at its place
   pub confirmed : AreConfirmed units receipts
   -- each request that entered has left there

@@ -8,7 +8,8 @@ use Rattle.report.specs.Closed.{IsConfirmedBy}
 
 pub record IsFirstTo (units : List PlainUnit) (receipts : List Receipt) (i : ℕ) (t : Ticket) : Type 0 where
   pub some : (k : ℕ) × (c : Receipt) × (slice_get receipts k ≡ Some c) × (c.ticket ≡ t) × (IsConfirmedBy units c → ⊥)
-  pub first : (k : ℕ) (c : Receipt) → k < i → slice_get receipts k ≡ Some c → is_before c.ticket t ≡ true → IsConfirmedBy units c
+  pub first : (k : ℕ) (c : Receipt) → k < i → slice_get receipts k ≡ Some c → is_before c.ticket t ≡ true
+      → IsConfirmedBy units c
 
 abbrev pub ConfirmsTo : List PlainUnit → List Receipt → ℕ → Option Ticket → Type 0
 ConfirmsTo units receipts i None = (k : ℕ) (c : Receipt) → k < i → slice_get receipts k ≡ Some c → IsConfirmedBy units c

@@ -29,7 +29,8 @@ uses (Some q) t = list_any (λ (u : Ticket). same_ticket u t) q.ring.log.used
 abbrev pub is_used : List Lent → Ticket → Bool
 is_used queues t = uses (slice_get queues t.queue) t
 
--- own: the chain is to be used: one of a request queue or of the control queue, and no buffer for events (VIRTIO 1.2, 5.6.2)
+-- own: the chain is to be used: one of a request queue or of the control queue, and no buffer for events (VIRTIO 1.2,
+-- 5.6.2)
 abbrev pub is_asked : List Lent → Ticket → Bool
 is_asked queues t = not (t.queue == 1) && is_accepted queues t
 
@@ -40,7 +41,8 @@ is_request queues t = nat_le 2 t.queue && is_accepted queues t
 -- own: how many receipts and notes a ticket has
 abbrev pub answers : List Receipt → List PlainNote → Ticket → ℕ
 answers receipts notes t =
-    count_by (λ (c : Receipt). same_ticket c.ticket t) receipts + count_by (λ (n : PlainNote). same_ticket n.ticket t) notes
+    count_by (λ (c : Receipt). same_ticket c.ticket t) receipts
+    + count_by (λ (n : PlainNote). same_ticket n.ticket t) notes
 
 -- own: the task has an Enter in some history; the request has a Full in some history
 abbrev pub any_entered : List PlainUnit → Ticket → Bool
@@ -62,7 +64,8 @@ is_of cause.Direct t h = false
 is_of cause.Stale t h = false
 is_of cause.Unknown t h = false
 
--- own: what a note of a cause has to have: an abort the Enter of its task, TASK SET FULL its Full; two causes never occur
+-- own: what a note of a cause has to have: an abort the Enter of its task, TASK SET FULL its Full; two causes never
+-- occur
 abbrev pub is_founded : List PlainUnit → Cause → Ticket → Bool
 is_founded units cause.Aborted t = any_entered units t
 is_founded units cause.Full t = any_full units t
@@ -86,4 +89,5 @@ is_settled units receipts notes t =
 -- own: a receipt or a note has this ticket
 abbrev pub has_answer : List Receipt → List PlainNote → Ticket → Bool
 has_answer receipts notes t =
-    list_any (λ (c : Receipt). same_ticket c.ticket t) receipts || list_any (λ (n : PlainNote). same_ticket n.ticket t) notes
+    list_any (λ (c : Receipt). same_ticket c.ticket t) receipts
+    || list_any (λ (n : PlainNote). same_ticket n.ticket t) notes

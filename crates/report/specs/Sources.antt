@@ -12,7 +12,8 @@ use Rattle.report.specs.declared.tally.Tally.{Tally}
 abbrev pub unused_in : ℕ → Lent → Ticket → Bool
 unused_in place q t =
     (t.queue == place)
-    && (nat_lt t.number (length q.ring.log.accepted) && not (list_any (λ (u : Ticket). same_ticket u t) q.ring.log.used))
+    && (nat_lt t.number (length q.ring.log.accepted)
+    && not (list_any (λ (u : Ticket). same_ticket u t) q.ring.log.used))
 
 -- a request of the queue at a place, of which these are the tallies, that is not settled
 abbrev pub unsettled_in : ℕ → ℕ → List (Vec Tally Global) → Ticket → Bool

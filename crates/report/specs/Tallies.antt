@@ -46,11 +46,20 @@ is_wrong answer.Several busy done = false
 
 abbrev pub fresh : Tally
 fresh =
-    record { answer = answer.Missing; entered = false; full = false; open_now = false; busy = false; done = false; amiss = false }
+    record {
+      answer = answer.Missing;
+      entered = false;
+      full = false;
+      open_now = false;
+      busy = false;
+      done = false;
+      amiss = false;
+    }
 
 abbrev pub after : Mark → Tally → Tally
 after (mark.Answered a) s = record s { answer = joined s.answer a }
-after mark.Enter s = record s { entered = true; open_now = true; busy = false; done = false; amiss = s.amiss || s.open_now }
+after mark.Enter s =
+    record s { entered = true; open_now = true; busy = false; done = false; amiss = s.amiss || s.open_now }
 after mark.Full s = record s { full = true }
 after mark.Commit s = record s { done = true }
 after mark.Busy s = record s { busy = true; done = true }
@@ -93,7 +102,8 @@ abbrev pub with_unit : Ticket → Tally → PlainUnit → Tally
 with_unit t s u = read t u.steps s
 
 abbrev pub tally_of : List PlainUnit → List Receipt → List PlainNote → Ticket → Tally
-tally_of units receipts notes t = fold (with_unit t) (fold (with_note t) (fold (with_receipt t) fresh receipts) notes) units
+tally_of units receipts notes t =
+    fold (with_unit t) (fold (with_note t) (fold (with_receipt t) fresh receipts) notes) units
 
 -- the test of a request at the end
 abbrev pub is_fine : Answer → Bool → Bool → Bool
@@ -120,7 +130,8 @@ tally_at tables t = tally_in (slice_get tables t.queue) t.number
 
 -- a tally of each request, and of nothing else
 abbrev pub AreTallies : List Lent → (Ticket → Tally) → List (Vec Tally Global) → Type 0
-AreTallies queues tally tables = (t : Ticket) → tally_at tables t ≡ (if is_request queues t then Some (tally t) else None)
+AreTallies queues tally tables = (t : Ticket)
+    → tally_at tables t ≡ (if is_request queues t then Some (tally t) else None)
 
 abbrev pub ends_amiss : Option Tally → Bool
 ends_amiss None = false

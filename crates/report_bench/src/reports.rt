@@ -7,7 +7,8 @@ use report::{CloseFault, Report, examine};
 use std::alloc::Global;
 use unit_history::Receipt;
 
-/// What is amiss in a report of a device whose queue 2 had a request that ran, and whose queue 3 had one that was refused.
+/// What is amiss in a report of a device whose queue 2 had a request that ran, and whose queue 3 had one that was
+/// refused.
 #[derive(Clone, Copy)]
 pub enum Amiss {
     /// Nothing.

@@ -92,12 +92,12 @@ shared_syncs G gate = declared_sync (shared_type G) (
     (
       search (crosses, memory.the_send),
       (
-        search (crosses, option.the_send, port.the_send),
+        search (crosses, port.the_send),
         (
           inventory.the_sync,
           (
             handoff_syncs,
-            (search (sendable, gate), (search (sendable, crosses) depth 20, tt)),
+            (search (sendable, gate), (search (sendable, crosses) depth 20, (search (sendable, crosses) depth 20, tt))),
           ),
         ),
       ),
@@ -114,12 +114,12 @@ shared_sends G gate = declared_send (shared_type G) (
     (
       search (crosses, memory.the_send),
       (
-        search (crosses, option.the_send, port.the_send),
+        search (crosses, port.the_send),
         (
           inventory.the_send,
           (
             handoff_sends,
-            (search (sendable, gate), (search (sendable, crosses) depth 20, tt)),
+            (search (sendable, gate), (search (sendable, crosses) depth 20, (search (sendable, crosses) depth 20, tt))),
           ),
         ),
       ),

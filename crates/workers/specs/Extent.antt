@@ -1,9 +1,9 @@
 -- How large a host is, and when one starts.
 use Rattle.std.specs.Prelude.{◌≡◌, ℕ, Bool, true, false, length, Result, Ok, Err}
-use Rattle.world.specs.declared.config.Config.{Config}
-use Rattle.world.specs.declared.config.StartFault.{StartFault}
-use Rattle.world.specs.declared.config.StartFault.TheVariants.{BadConfig, NoMemory}
-use Rattle.world.specs.Config.{is_config}
+use Rattle.config.specs.declared.config.Config.{Config}
+use Rattle.config.specs.declared.config.StartFault.{StartFault}
+use Rattle.config.specs.declared.config.StartFault.TheVariants.{BadConfig, NoMemory}
+use Rattle.config.specs.Config.{is_config}
 
 -- own: how many workers, units and queues it has
 pub record Extent : Type 0 where

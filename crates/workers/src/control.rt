@@ -16,94 +16,59 @@ const CONTROL: usize = 0;
 
 const EVENTS: usize = 1;
 
-/// The open function marks its next unit, or looks at it.
-fn mark<R: Wait, G: Gate + Drop>(
-    rt: &R,
-    shared: &Shared<G>,
-    at: usize,
-    function: OpenFunction,
-    post: Post,
-) -> (OpenFunction, Post)
-    ensures seat { result.1.seat ≡ post.seat }
-{
-    if at >= shared.units.len() {
-        return (function, post);
-    }
-    let Post {
-        seat,
-        out,
-        hand,
-        kept,
-    } = post;
-    let (_did, function, out) = mark_on(&mut shared.bays(rt), at, function, out);
-    let post = Post {
-        seat,
-        out,
-        hand,
-        kept,
-    };
-    (function, post)
-}
-
-/// The open function looks whether its first mark is clear. Whether it was.
-fn check<R: Wait, G: Gate + Drop>(
-    rt: &R,
-    shared: &Shared<G>,
-    at: usize,
-    function: OpenFunction,
-) -> (bool, OpenFunction) {
-    if at >= shared.units.len() {
-        return (false, function);
-    }
-    check_on(&mut shared.bays(rt), at, function)
-}
-
 /// The open function takes its next step. Whether there was nothing to do.
 fn go_on<R: Wait, G: Gate + Drop>(
     rt: &R,
     shared: &Shared<G>,
-    function: OpenFunction,
-    post: Post,
-) -> (bool, Option<OpenFunction>, Post)
-    ensures seat { result.2.seat ≡ post.seat }
+    function: &mut OpenFunction,
+    post: &mut Post,
+) -> Option<bool>
+    ensures seat { post.new.seat ≡ post.old.seat }
 {
     if let Some(at) = function.function().next_unit() {
-        let (function, post) = mark(rt, shared, at, function, post);
-        return (false, Some(function), post);
+        if at < shared.units.len() {
+            mark_on(&mut shared.bays(rt), at, function, &mut post.out);
+        }
+        return Some(false);
     }
-    if let Some(waits) = function.function().waits_for() {
-        let (did, function) = check(rt, shared, waits.unit, function);
-        return (!did, Some(function), post);
+    let waits = function.function().waits_for()?;
+    if waits.unit >= shared.units.len() {
+        return Some(true);
     }
-    if shared.queues.len() <= CONTROL {
-        return (true, Some(function), post);
-    }
-    let (did, function) = answer_tmf_on(&mut shared.bays(rt), CONTROL, Some(function));
-    (!did, function, post)
+    let did = check_on(&mut shared.bays(rt), waits.unit, function);
+    Some(!did)
 }
 
-/// The control queue's next chain is taken, and opens a function or is answered. Whether there was nothing to do: not where
-/// memory was refused.
+/// The open function is answered, where nothing is left for it to do. Whether there was nothing to do.
+fn answer<R: Wait, G: Gate + Drop>(
+    rt: &R,
+    shared: &Shared<G>,
+    function: &mut Option<OpenFunction>,
+) -> bool {
+    if shared.queues.len() <= CONTROL {
+        return true;
+    }
+    !answer_tmf_on(&mut shared.bays(rt), CONTROL, function)
+}
+
+/// The control queue's next chain is taken, and opens a function or is answered. Whether there was nothing to do: not
+/// where memory was refused.
 fn fetch_control<R: Wait, G: Gate + Drop>(
     rt: &R,
     shared: &Shared<G>,
-) -> (bool, Option<OpenFunction>) {
+    function: &mut Option<OpenFunction>,
+) -> bool {
     if shared.queues.len() <= CONTROL {
-        return (true, None);
+        return true;
     }
     let mut bays = shared.bays(rt);
-    let (fetched, slot, function) = fetch_control_on(
-        &mut bays,
-        CONTROL,
-        Slot::Empty,
-        None,
-        &shared.inventory,
-    );
+    let mut slot = Slot::Empty;
+    let fetched = fetch_control_on(&mut bays, CONTROL, &mut slot, function, &shared.inventory);
     if !slot.is_empty() {
         // A control chain has no receipt, and its note says nothing that its log doesn't.
-        let (_note, _slot) = direct_on(&mut bays, CONTROL, slot);
+        let _note = direct_on(&mut bays, CONTROL, &mut slot);
     }
-    (fetched == Ok(false), function)
+    fetched == Ok(false)
 }
 
 /// A step of the function that is open, or else of the control queue. Whether there was nothing to do: not where memory
@@ -112,24 +77,17 @@ pub(crate) fn manage<R: Wait, G: Gate + Drop>(
     rt: &R,
     shared: &Shared<G>,
     function: &mut Option<OpenFunction>,
-    post: Post,
-) -> (bool, Post)
-    ensures seat { result.1.seat ≡ post.seat }
+    post: &mut Post,
+) -> bool
+    ensures seat { post.new.seat ≡ post.old.seat }
 {
-    // A function is large, so it moves only where there is one.
-    if function.is_none() {
-        let (idle, opened) = fetch_control(rt, shared);
-        if opened.is_some() {
-            *function = opened;
-        }
-        return (idle, post);
-    }
-    let Some(open) = function.take() else {
-        return (true, post);
+    let Some(open) = function else {
+        return fetch_control(rt, shared, function);
     };
-    let (idle, open, post) = go_on(rt, shared, open, post);
-    *function = open;
-    (idle, post)
+    match go_on(rt, shared, open, post) {
+        Some(idle) => idle,
+        None => answer(rt, shared, function),
+    }
 }
 
 /// The event queue's next chain is taken. Whether there was nothing to do: not where memory was refused.
@@ -138,28 +96,18 @@ pub(crate) fn fetch_event<R: Wait, G: Gate + Drop>(rt: &R, shared: &Shared<G>) -
         return true;
     }
     let mut held = shared.port.lock(rt);
-    let Some(port) = held.take() else {
-        return true;
-    };
-    let (fetched, port) = fetch_event_on(&mut shared.bays(rt), EVENTS, &Slot::Empty, port);
-    *held = Some(port);
-    fetched == Ok(false)
+    fetch_event_on(&mut shared.bays(rt), EVENTS, &Slot::Empty, &mut held) == Ok(false)
 }
 
 /// The oldest event that waits goes to the guest, or is missed.
 pub(crate) fn raise<R: Wait, G: Gate + Drop>(
     rt: &R,
     shared: &Shared<G>,
-    waiting: WaitingEvents,
-) -> WaitingEvents {
+    waiting: &mut WaitingEvents,
+) {
     if shared.queues.len() <= EVENTS {
-        return waiting;
+        return;
     }
     let mut held = shared.port.lock(rt);
-    let Some(port) = held.take() else {
-        return waiting;
-    };
-    let (_did, port, waiting) = raise_on(&mut shared.bays(rt), EVENTS, port, waiting);
-    *held = Some(port);
-    waiting
+    raise_on(&mut shared.bays(rt), EVENTS, &mut held, waiting);
 }

@@ -3,7 +3,7 @@
 ghost use Rattle.std.specs.Prelude.{◌≡◌, ◌<◌, ◌≤◌, true, length, IfOk};
 ghost use Rattle.std.specs.Arc.{arc_value};
 ghost use Rattle.handoff.specs.Seats.{IsSeatOf, IsSameSeat};
-ghost use Rattle.world.specs.Config.{is_config};
+ghost use Rattle.config.specs.Config.{is_config};
 ghost use Rattle.workers.specs.Extent.{Starts, extent_of};
 
 use crate::closing::{report, unshared};
@@ -16,6 +16,7 @@ use crate::shared::Shared;
 use crate::worker::{Worked, Worker, work};
 use bays::{Gate, hard_on};
 use block_store::NoMemory;
+use config::{Config, StartFault};
 use event_queue::WaitingEvents;
 use guest_mem::MemFault;
 use handoff::Handoff;
@@ -24,10 +25,7 @@ use std::alloc::Global;
 use std::marker::Model;
 use std::sync::{Arc, Wait};
 use std::thread::Threads;
-use world::{Config, StartFault};
-
-/// How many jobs a unit hands out at most in one call: one for each task of its task set.
-const TASKS: usize = 64;
+use task_set::MOST_TASKS;
 
 impl<G: Gate + Drop> Works<Post> for Shared<G> {
     ghost hub = { λ s. s.handoff };
@@ -73,7 +71,7 @@ where
     let Some(last) = seats.pop() else {
         unreachable!()
     };
-    let limit = TASKS * config.units.len() + TASKS;
+    let limit = MOST_TASKS * config.units.len() + MOST_TASKS;
     let post = Post::new(alloc, last, limit)?;
     let shared = share(alloc, open(alloc, config, handoff, gate)?)?;
     let crew = hire_all(rt, alloc, &shared, seats, limit)?;
@@ -81,8 +79,8 @@ where
         alloc,
         shared,
         crew,
-        post: Some(post),
-        waiting: Some(WaitingEvents::new(alloc)),
+        post,
+        waiting: WaitingEvents::new(alloc),
     })
 }
 
@@ -91,39 +89,23 @@ fn reset<R: Wait, G: Gate + Drop>(
     rt: &R,
     shared: &Shared<G>,
     at: usize,
-    post: Post,
-    waiting: WaitingEvents,
-) -> (Result<(), NoMemory>, Post, WaitingEvents)
-    requires seat { IsSeatOf shared.now.handoff post.seat }
-    ensures seat { IsSameSeat post.seat result.1.seat }
+    post: &mut Post,
+    waiting: &mut WaitingEvents,
+) -> Result<(), NoMemory>
+    requires seat { IsSeatOf shared.now.handoff post.old.seat }
+    ensures seat { IsSameSeat post.old.seat post.new.seat }
 {
-    let post = clear(rt, shared, post);
+    clear(rt, shared, post, false);
     if at >= shared.units.len() {
-        return (Ok(()), post, waiting);
+        return Ok(());
     }
     if !post.is_free() {
-        return (Err(NoMemory), post, waiting);
+        return Err(NoMemory);
     }
-    let Post {
-        seat,
-        out,
-        hand,
-        kept,
-    } = post;
-    let (did, out, waiting) = hard_on(&mut shared.bays(rt), at, out, waiting);
-    let post = Post {
-        seat,
-        out,
-        hand,
-        kept,
-    };
-    match did {
-        Err(NoMemory) => (Err(NoMemory), post, waiting),
-        Ok(_) => {
-            let waiting = raise(rt, shared, waiting);
-            (Ok(()), clear(rt, shared, post), waiting)
-        }
-    }
+    hard_on(&mut shared.bays(rt), at, &mut post.out, waiting)?;
+    raise(rt, shared, waiting);
+    clear(rt, shared, post, false);
+    Ok(())
 }
 
 /// A device that threads serve. Clauses see how many workers, units and queues it has. It isn't `Drop`: who starts one
@@ -132,13 +114,13 @@ pub struct Host<G: Gate + Drop> {
     alloc: Global,
     shared: Arc<Shared<G>>,
     crew: Vec<Hired>,
-    // What the operator's seat has, and the events that wait: not there only within a call.
-    post: Option<Post>,
-    waiting: Option<WaitingEvents>,
+    // What the operator's seat has, and the events that wait.
+    post: Post,
+    waiting: WaitingEvents,
 }
 
 impl<G: Gate + Drop> Model for Host<G> {
-    ghost use Rattle.std.specs.Prelude.{◌≡◌, ◌≤◌, true, is_some, IfSome, vec_len};
+    ghost use Rattle.std.specs.Prelude.{◌≤◌, vec_len};
     ghost use Rattle.std.specs.Arc.{arc_value};
     ghost use Rattle.workers.specs.Crew.{IsWhole};
     ghost use Rattle.workers.specs.Extent.{Extent};
@@ -151,8 +133,8 @@ impl<G: Gate + Drop> Model for Host<G> {
       queues = vec_len (arc_value h.shared).queues;
     } };
 
-    ghost invariant = { λ h. (vec_len (arc_value h.shared).queues ≤ 18) × (is_some h.post ≡ true) × (is_some h.waiting ≡ true)
-        × IfSome h.post (λ p. IsWhole (arc_value h.shared).handoff h.crew.items p.seat) };
+    ghost invariant = { λ h. (vec_len (arc_value h.shared).queues ≤ 18)
+        × IsWhole (arc_value h.shared).handoff h.crew.items h.post.seat };
 }
 
 impl<G: Gate + Drop> Host<G> {
@@ -160,9 +142,9 @@ impl<G: Gate + Drop> Host<G> {
     ghost use Rattle.report.specs.Closed.{IsReport};
     ghost use Rattle.guest_mem.specs.declared.memory.MemFault.TheVariants as MemFault;
 
-    /// Starts `n` workers, 1 to 8, in place of the number that the configuration has. Who embeds the device calls it once.
-    /// `BadConfig` exactly where the device doesn't take such a configuration; else `NoMemory` where a growth was refused,
-    /// or a thread couldn't be made: those that were made are ended. It may wait for these.
+    /// Starts `n` workers, 1 to 8, in place of the number that the configuration has. Who embeds the device calls it
+    /// once. `BadConfig` exactly where the device doesn't take such a configuration; else `NoMemory` where a growth
+    /// was refused, or a thread couldn't be made: those that were made are ended. It may wait for these.
     pub fn start<R: Threads + Wait + Copy + Send + 'static>(
         rt: R,
         alloc: Global,
@@ -187,16 +169,16 @@ impl<G: Gate + Drop> Host<G> {
         }
     }
 
-    /// The guest writes bytes, beside the workers, in one hold of the memory. `Outside`, with nothing changed, where one of
-    /// them lies behind the end.
+    /// The guest writes bytes, beside the workers, in one hold of the memory. `Outside`, with nothing changed, where
+    /// one of them lies behind the end.
     pub fn poke<R: Wait>(&self, rt: &R, addr: u64, bytes: &[u8]) -> Result<(), MemFault>
         ensures { IfErr result (λ fault. fault ≡ MemFault.Outside) }
     {
         self.shared.memory.lock(rt).write(addr, bytes)
     }
 
-    /// The guest reads bytes, beside the workers, in one hold of the memory. `Outside`, with nothing read, where one of them
-    /// lies behind the end.
+    /// The guest reads bytes, beside the workers, in one hold of the memory. `Outside`, with nothing read, where one
+    /// of them lies behind the end.
     pub fn peek<R: Wait>(&self, rt: &R, addr: u64, out: &mut [u8]) -> Result<(), MemFault>
         ensures fault { IfErr result (λ fault. fault ≡ MemFault.Outside) }
         ensures unchanged { OnErr result (out.new ≡ out.old) }
@@ -204,24 +186,25 @@ impl<G: Gate + Drop> Host<G> {
         self.shared.memory.lock(rt).read(addr, out)
     }
 
-    /// The operator resets the unit at a place of the configuration, and the guest is told (TRANSPORT_RESET). A unit that
-    /// isn't there changes nothing. `NoMemory` where a growth was refused: the unit wasn't reset then.
+    /// The operator resets the unit at a place of the configuration, and the guest is told (TRANSPORT_RESET). A unit
+    /// that isn't there changes nothing. `NoMemory` where a growth was refused: the unit wasn't reset then.
     pub fn operator<R: Wait>(&mut self, rt: &R, place: u16) -> Result<(), NoMemory>
         ensures { self.new ≡ self.old }
     {
-        let (Some(post), Some(waiting)) = (self.post.take(), self.waiting.take()) else {
-            unreachable!()
-        };
-        let (did, post, waiting) = reset(rt, &*self.shared, place as usize, post, waiting);
-        self.post = Some(post);
-        self.waiting = Some(waiting);
-        did
+        reset(
+            rt,
+            &*self.shared,
+            place as usize,
+            &mut self.post,
+            &mut self.waiting,
+        )
     }
 
     /// Ends the workers once nothing is left to them, waits for that, and says what became of every chain that was
     /// accepted. `Unconfirmed`: the least ticket of a receipt whose Commit doesn't stand in its unit's history.
-    /// `Outstanding`: the least ticket of a chain of the control queue or of a request that wasn't answered, once and as
-    /// its unit's history says. `NoMemory` where a growth was refused. The host is gone afterwards, also at an `Err`.
+    /// `Outstanding`: the least ticket of a chain of the control queue or of a request that wasn't answered, once and
+    /// as its unit's history says. `NoMemory` where a growth was refused. The host is gone afterwards, also at an
+    /// `Err`.
     pub fn close<R: Threads + Wait>(self, rt: &R) -> Result<Report, CloseFault>
         ensures report { IfOk result (λ r. IsReport r.units.items r.queues.items r.receipts.items r.notes.items) }
         ensures units { IfOk result (λ r. vec_len r.units ≡ self.units) }
@@ -231,11 +214,11 @@ impl<G: Gate + Drop> Host<G> {
             alloc,
             shared,
             crew,
-            post,
+            mut post,
             waiting: _,
         } = self;
-        let Some(post) = post else { unreachable!() };
-        let Post { seat, kept, .. } = finish(rt, &*shared, post);
+        finish(rt, &*shared, &mut post);
+        let Post { seat, kept, .. } = post;
         Shared::close(&*shared);
         let room = crew.len() + 1;
         let (Ok(seats), Ok(all)) = (

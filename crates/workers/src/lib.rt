@@ -15,8 +15,8 @@ mod shared;
 mod worker;
 
 pub use bays::{Gate, Open, Point};
+pub use config::{Config, StartFault};
 pub use host::Host;
 pub use phases::{Cause, Note};
 pub use report::{CloseFault, Report};
 pub use unit_history::Receipt;
-pub use world::{Config, StartFault};

@@ -3,11 +3,12 @@
 ghost use Rattle.std.specs.Prelude.{◌≡◌, ◌<◌, ◌≤◌, true, length, map, vec_len, IfOk};
 ghost use Rattle.std.specs.List.{list_all};
 ghost use Rattle.decisions.specs.Inventory.{address_of};
-ghost use Rattle.world.specs.Config.{is_config, is_queue};
+ghost use Rattle.config.specs.Config.{is_config, is_queue};
 
 use crate::shared::Shared;
 use bays::Gate;
 use block_store::NoMemory;
+use config::{Config, MOST_DESCRIPTORS, form};
 use decisions::{Inventory, UnitSpec};
 use event_queue::EventPort;
 use guest_mem::GuestMem;
@@ -16,12 +17,8 @@ use phases::Queue;
 use ring_core::{Form, Layout};
 use std::alloc::Global;
 use std::sync::Mutex;
-use std::sync::atomic::AtomicBool;
+use std::sync::atomic::{AtomicBool, AtomicU64};
 use unit_history::UnitState;
-use world::{Config, form};
-
-/// The most descriptors that a queue has.
-const MAX_QUEUE_SIZE: usize = 1024;
 
 /// A unit among those of an inventory, which keeps the replies of its Commits for receipts to be compared with.
 fn open_unit(
@@ -91,17 +88,18 @@ pub(crate) fn open<G: Gate + Drop>(
     let inventory = Inventory::new(config.units.as_slice());
     let units = open_units(alloc, config.units.as_slice(), &inventory)?;
     // One place more than a queue may have chains outstanding, so that a full port keeps no fault from being found.
-    let Ok(port) = EventPort::new(alloc, MAX_QUEUE_SIZE + 1) else {
+    let Ok(port) = EventPort::new(alloc, MOST_DESCRIPTORS as usize + 1) else {
         return Err(NoMemory);
     };
     Ok(Shared {
         units,
         queues,
         memory: Mutex::new(memory),
-        port: Mutex::new(Some(port)),
+        port: Mutex::new(port),
         inventory,
         handoff,
         gate,
         closing: AtomicBool::new(false),
+        waiting: AtomicU64::new(0),
     })
 }

@@ -16,8 +16,8 @@ use std::sync::Wait;
 use std::thread;
 use unit_history::{Job, JobList};
 
-/// What a seat has: its place at the hand-off, the jobs that may run, the job in its hand, and what it kept of those that
-/// it answered.
+/// What a seat has: its place at the hand-off, the jobs that may run, the job in its hand, and what it kept of those
+/// that it answered.
 #[derive(Drop)]
 pub(crate) struct Post {
     pub(crate) seat: Seat,
@@ -47,86 +47,49 @@ fn pass<G: Gate>(gate: &G, point: Point, hand: &Hand) {
 }
 
 /// The job in the hand is committed, where one is that isn't.
-fn commit<R: Wait, G: Gate + Drop>(rt: &R, shared: &Shared<G>, post: Post) -> Post
-    ensures seat { result.seat ≡ post.seat }
-    ensures kept { result.kept ≡ post.kept }
+fn commit<R: Wait, G: Gate + Drop>(rt: &R, shared: &Shared<G>, post: &mut Post)
+    ensures seat { post.new.seat ≡ post.old.seat }
+    ensures kept { post.new.kept ≡ post.old.kept }
 {
     let Some(at) = post.hand.committing_unit() else {
-        return post;
+        return;
     };
     if at >= shared.units.len() {
-        return post;
+        return;
     }
-    let Post {
-        seat,
-        out,
-        hand,
-        kept,
-    } = post;
-    let (_did, hand) = commit_on(&mut shared.bays(rt), &shared.gate, at, hand);
-    pass(&shared.gate, Point::Committed, &hand);
-    Post {
-        seat,
-        out,
-        hand,
-        kept,
-    }
+    commit_on(&mut shared.bays(rt), &shared.gate, at, &mut post.hand);
+    pass(&shared.gate, Point::Committed, &post.hand);
 }
 
 /// The job in the hand whose commit is over is answered, where one is, and what it leaves is kept.
-fn answer<R: Wait, G: Gate + Drop>(rt: &R, shared: &Shared<G>, post: Post) -> Post
-    requires room { HasRoom post.kept }
-    ensures seat { result.seat ≡ post.seat }
+fn answer<R: Wait, G: Gate + Drop>(rt: &R, shared: &Shared<G>, post: &mut Post)
+    requires room { HasRoom post.old.kept }
+    ensures seat { post.new.seat ≡ post.old.seat }
 {
     let Some(queue) = post.hand.answering_queue() else {
-        return post;
+        return;
     };
     let at = usize::from(queue);
     if at >= shared.queues.len() {
-        return post;
+        return;
     }
-    let Post {
-        seat,
-        out,
-        hand,
-        mut kept,
-    } = post;
-    let (given, hand) = answer_on(&mut shared.bays(rt), at, hand);
-    if let Some(given) = given {
-        kept.keep(given);
+    if let Some(given) = answer_on(&mut shared.bays(rt), at, &mut post.hand) {
+        post.kept.keep(given);
     }
-    pass(&shared.gate, Point::Answered, &hand);
-    Post {
-        seat,
-        out,
-        hand,
-        kept,
-    }
+    pass(&shared.gate, Point::Answered, &post.hand);
 }
 
 /// The task in the hand leaves, where one is; the jobs that this lets go on are to be handed off.
-fn leave<R: Wait, G: Gate + Drop>(rt: &R, shared: &Shared<G>, post: Post) -> Post
-    ensures seat { result.seat ≡ post.seat }
+fn leave<R: Wait, G: Gate + Drop>(rt: &R, shared: &Shared<G>, post: &mut Post)
+    ensures seat { post.new.seat ≡ post.old.seat }
 {
     let Some(at) = post.hand.leaving_unit() else {
-        return post;
+        return;
     };
     if at >= shared.units.len() {
-        return post;
+        return;
     }
-    let Post {
-        seat,
-        out,
-        hand,
-        kept,
-    } = post;
-    let (_did, hand, out) = leave_on(&mut shared.bays(rt), at, hand, out);
-    Post {
-        seat,
-        out,
-        hand,
-        kept,
-    }
+    leave_on(&mut shared.bays(rt), at, &mut post.hand, &mut post.out);
 }
 
 impl Post {
@@ -148,96 +111,109 @@ impl Post {
     }
 }
 
-/// What is in the hand is committed, answered and leaves, as far as it has come. Room for what it leaves was made before.
-fn serve<R: Wait, G: Gate + Drop>(rt: &R, shared: &Shared<G>, post: Post) -> Post
-    requires room { HasRoom post.kept }
-    ensures seat { result.seat ≡ post.seat }
+/// What is in the hand is committed, answered and leaves, as far as it has come. Room for what it leaves was made
+/// before.
+fn serve<R: Wait, G: Gate + Drop>(rt: &R, shared: &Shared<G>, post: &mut Post)
+    requires room { HasRoom post.old.kept }
+    ensures seat { post.new.seat ≡ post.old.seat }
 {
-    let post = commit(rt, shared, post);
-    let post = answer(rt, shared, post);
-    leave(rt, shared, post)
+    commit(rt, shared, post);
+    answer(rt, shared, post);
+    leave(rt, shared, post);
 }
 
 /// What is in the hand is served, where there is room for what it leaves.
-fn serve_hand<R: Wait, G: Gate + Drop>(rt: &R, shared: &Shared<G>, mut post: Post) -> Post
-    ensures seat { result.seat ≡ post.seat }
+fn serve_hand<R: Wait, G: Gate + Drop>(rt: &R, shared: &Shared<G>, post: &mut Post)
+    ensures seat { post.new.seat ≡ post.old.seat }
 {
     if post.hand.is_free() || !post.kept.make_room() {
-        return post;
+        return;
     }
-    serve(rt, shared, post)
+    serve(rt, shared, post);
 }
 
-/// The next job that may run is handed off; where the hand-off is full, this seat serves it. Whether there was one, and
-/// the hand free for it.
-fn put<R: Wait, G: Gate + Drop>(rt: &R, shared: &Shared<G>, mut post: Post) -> (bool, Post)
-    requires seat { IsSeatOf shared.now.handoff post.seat }
-    ensures seat { IsSameSeat post.seat result.1.seat }
+/// A job that came into the hand is served, where there is room for what it leaves.
+fn serve_job<R: Wait, G: Gate + Drop>(rt: &R, shared: &Shared<G>, post: &mut Post, job: Job)
+    ensures seat { post.new.seat ≡ post.old.seat }
+{
+    shared.gate.pass(Point::Taken, job.ticket());
+    post.hand = Hand::taken(job);
+    serve_hand(rt, shared, post);
+}
+
+/// The next job that may run is handed off; this seat serves it where the hand-off is full, or where it is the only
+/// one, `keeps` is said, and no other worker waits for one. Whether there was one, and the hand free for it.
+fn put<R: Wait, G: Gate + Drop>(rt: &R, shared: &Shared<G>, post: &mut Post, keeps: bool) -> bool
+    requires seat { IsSeatOf shared.now.handoff post.old.seat }
+    ensures seat { IsSameSeat post.old.seat post.new.seat }
 {
     if !post.hand.is_free() {
-        return (false, post);
+        return false;
     }
     let Some(job) = post.out.next() else {
-        return (false, post);
+        return false;
     };
-    match shared.handoff.put(rt, &mut post.seat, job) {
-        Ok(()) => (true, post),
-        Err(job) => {
-            post.hand = Hand::taken(job);
-            (true, serve_hand(rt, shared, post))
-        }
+    if keeps && post.out.len() == 0 && !shared.is_awaited() {
+        serve_job(rt, shared, post, job);
+        return true;
     }
+    if let Err(job) = shared.handoff.put(rt, &mut post.seat, job) {
+        serve_job(rt, shared, post, job);
+    }
+    true
 }
 
-/// What this seat has is served or handed off, until it has nothing, or memory was refused to it.
-pub(crate) fn clear<R: Wait, G: Gate + Drop>(rt: &R, shared: &Shared<G>, post: Post) -> Post
-    requires seat { IsSeatOf shared.now.handoff post.seat }
-    ensures seat { IsSameSeat post.seat result.seat }
+/// What this seat has is served or handed off, until it has nothing, or memory was refused to it. Of its jobs it serves
+/// the last itself where `keeps` is said: where it found the hand-off empty.
+pub(crate) fn clear<R: Wait, G: Gate + Drop>(
+    rt: &R,
+    shared: &Shared<G>,
+    post: &mut Post,
+    keeps: bool,
+)
+    requires seat { IsSeatOf shared.now.handoff post.old.seat }
+    ensures seat { IsSameSeat post.old.seat post.new.seat }
 {
-    let mut post = serve_hand(rt, shared, post);
+    serve_hand(rt, shared, post);
     for _ in rt.forever() {
-        let (did, next) = put(rt, shared, post);
-        post = next;
-        if !did {
-            return post;
+        if !put(rt, shared, post, keeps) {
+            return;
         }
     }
     unreachable!()
 }
 
-/// What this seat has is served or handed off until it has nothing: what memory was refused to is tried again, once other
-/// threads had their turn.
-pub(crate) fn finish<R: Wait, G: Gate + Drop>(rt: &R, shared: &Shared<G>, post: Post) -> Post
-    requires seat { IsSeatOf shared.now.handoff post.seat }
-    ensures seat { IsSameSeat post.seat result.seat }
+/// What this seat has is served or handed off until it has nothing: what memory was refused to is tried again, once
+/// other threads had their turn.
+pub(crate) fn finish<R: Wait, G: Gate + Drop>(rt: &R, shared: &Shared<G>, post: &mut Post)
+    requires seat { IsSeatOf shared.now.handoff post.old.seat }
+    ensures seat { IsSameSeat post.old.seat post.new.seat }
 {
-    let mut post = clear(rt, shared, post);
+    clear(rt, shared, post, false);
     for _ in rt.forever() {
         if post.is_free() {
-            return post;
+            return;
         }
         thread::yield_now();
-        post = clear(rt, shared, post);
+        clear(rt, shared, post, false);
     }
     unreachable!()
 }
 
 /// A job is taken from the hand-off, and served. Whether there was nothing to do: not where memory was refused.
-pub(crate) fn take<R: Wait, G: Gate + Drop>(
-    rt: &R,
-    shared: &Shared<G>,
-    mut post: Post,
-) -> (bool, Post)
-    requires seat { IsSeatOf shared.now.handoff post.seat }
-    ensures seat { IsSameSeat post.seat result.1.seat }
+pub(crate) fn take<R: Wait, G: Gate + Drop>(rt: &R, shared: &Shared<G>, post: &mut Post) -> bool
+    requires seat { IsSeatOf shared.now.handoff post.old.seat }
+    ensures seat { IsSameSeat post.old.seat post.new.seat }
 {
     if !post.is_free() || !post.kept.make_room() {
-        return (false, post);
+        return false;
     }
     let Some(job) = shared.handoff.take(rt, &mut post.seat) else {
-        return (true, post);
+        return true;
     };
     shared.gate.pass(Point::Taken, job.ticket());
     post.hand = Hand::taken(job);
-    (false, clear(rt, shared, serve(rt, shared, post)))
+    serve(rt, shared, post);
+    clear(rt, shared, post, false);
+    false
 }

@@ -20,39 +20,21 @@ fn arrived(slot: &Slot) -> Option<Ticket> {
 }
 
 /// The request that arrived comes to its unit, where one did.
-fn enter<R: Wait, G: Gate + Drop>(
-    rt: &R,
-    shared: &Shared<G>,
-    slot: Slot,
-    post: Post,
-) -> (Slot, Post)
-    ensures seat { result.1.seat ≡ post.seat }
-    ensures kept { result.1.kept ≡ post.kept }
+fn enter<R: Wait, G: Gate + Drop>(rt: &R, shared: &Shared<G>, slot: &mut Slot, post: &mut Post)
+    ensures seat { post.new.seat ≡ post.old.seat }
+    ensures kept { post.new.kept ≡ post.old.kept }
 {
     let Some(at) = slot.unit() else {
-        return (slot, post);
+        return;
     };
     if at >= shared.units.len() {
-        return (slot, post);
+        return;
     }
-    let ticket = arrived(&slot);
-    let Post {
-        seat,
-        out,
-        hand,
-        kept,
-    } = post;
-    let (_did, slot, out) = enter_on(&mut shared.bays(rt), at, slot, out);
-    let post = Post {
-        seat,
-        out,
-        hand,
-        kept,
-    };
+    let ticket = arrived(slot);
+    enter_on(&mut shared.bays(rt), at, slot, &mut post.out);
     if let (Some(ticket), true) = (ticket, slot.is_empty()) {
         shared.gate.pass(Point::Entered, ticket);
     }
-    (slot, post)
 }
 
 /// The chain that is ready is answered, where one is, and why it got no receipt is kept.
@@ -60,49 +42,48 @@ fn direct<R: Wait, G: Gate + Drop>(
     rt: &R,
     shared: &Shared<G>,
     at: usize,
-    slot: Slot,
-    mut post: Post,
-) -> Post
+    slot: &mut Slot,
+    post: &mut Post,
+)
     requires at { at < vec_len shared.now.queues }
-    requires room { HasRoom post.kept }
-    ensures seat { result.seat ≡ post.seat }
+    requires room { HasRoom post.old.kept }
+    ensures seat { post.new.seat ≡ post.old.seat }
 {
     if slot.is_empty() {
-        return post;
+        return;
     }
-    let (note, _slot) = direct_on(&mut shared.bays(rt), at, slot);
-    if let Some(note) = note {
+    if let Some(note) = direct_on(&mut shared.bays(rt), at, slot) {
         let ticket = note.ticket();
         post.kept.keep(Given::Note(note));
         shared.gate.pass(Point::Answered, ticket);
     }
-    post
 }
 
-/// A request queue's next chain is taken, and comes to its unit or is answered. Whether there was nothing to do: not where
-/// memory was refused.
+/// A request queue's next chain is taken, and comes to its unit or is answered: whoever calls found the hand-off empty.
+/// Whether there was nothing to do: not where memory was refused.
 pub(crate) fn fetch<R: Wait, G: Gate + Drop>(
     rt: &R,
     shared: &Shared<G>,
     at: usize,
-    mut post: Post,
-) -> (bool, Post)
+    post: &mut Post,
+) -> bool
     requires at { at < vec_len shared.now.queues }
-    requires seat { IsSeatOf shared.now.handoff post.seat }
-    ensures seat { IsSameSeat post.seat result.1.seat }
+    requires seat { IsSeatOf shared.now.handoff post.old.seat }
+    ensures seat { IsSameSeat post.old.seat post.new.seat }
 {
     // Then its list has the places that an Enter asks for.
     if !post.is_free() || !post.kept.make_room() {
-        return (false, post);
+        return false;
     }
-    let (fetched, slot) = fetch_on(&mut shared.bays(rt), at, Slot::Empty, &shared.inventory);
-    match fetched {
-        Ok(false) => (true, post),
-        Err(_) => (false, post),
+    let mut slot = Slot::Empty;
+    match fetch_on(&mut shared.bays(rt), at, &mut slot, &shared.inventory) {
+        Ok(false) => true,
+        Err(_) => false,
         Ok(true) => {
-            let (slot, post) = enter(rt, shared, slot, post);
-            let post = direct(rt, shared, at, slot, post);
-            (false, clear(rt, shared, post))
+            enter(rt, shared, &mut slot, post);
+            direct(rt, shared, at, &mut slot, post);
+            clear(rt, shared, post, true);
+            false
         }
     }
 }

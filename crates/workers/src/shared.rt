@@ -8,7 +8,7 @@ use event_queue::EventPort;
 use guest_mem::GuestMem;
 use handoff::Handoff;
 use phases::Queue;
-use std::sync::atomic::{AtomicBool, Ordering};
+use std::sync::atomic::{AtomicBool, AtomicU64, Ordering};
 use std::sync::{Mutex, Wait};
 use unit_history::UnitState;
 
@@ -19,12 +19,13 @@ pub(crate) struct Shared<G: Gate + Drop> {
     pub(crate) units: Vec<Mutex<UnitState>>,
     pub(crate) queues: Vec<Mutex<Queue>>,
     pub(crate) memory: Mutex<GuestMem>,
-    // Not there only while its lock is held.
-    pub(crate) port: Mutex<Option<EventPort>>,
+    pub(crate) port: Mutex<EventPort>,
     pub(crate) inventory: Inventory,
     pub(crate) handoff: Handoff,
     pub(crate) gate: G,
     pub(crate) closing: AtomicBool,
+    // How many workers found nothing to do in their latest round.
+    pub(crate) waiting: AtomicU64,
 }
 
 impl<G: Gate + Drop> Shared<G> {
@@ -38,6 +39,20 @@ impl<G: Gate + Drop> Shared<G> {
             units: self.units.as_slice(),
             queues: self.queues.as_slice(),
             memory: &self.memory,
+        }
+    }
+
+    /// Whether a worker waits for a job.
+    pub(crate) fn is_awaited(&self) -> bool {
+        self.waiting.load(Ordering::SeqCst) != 0
+    }
+
+    /// A worker waits for a job from now on, or no longer.
+    pub(crate) fn wait_for_job(&self, waits: bool) {
+        if waits {
+            self.waiting.fetch_add(1, Ordering::SeqCst);
+        } else {
+            self.waiting.fetch_sub(1, Ordering::SeqCst);
         }
     }
 

@@ -48,13 +48,13 @@ fn serve_others<R: Wait, G: Gate + Drop>(
     rt: &R,
     shared: &Shared<G>,
     function: &mut Option<OpenFunction>,
-    post: Post,
-) -> (bool, Post)
-    ensures seat { result.1.seat ≡ post.seat }
+    post: &mut Post,
+) -> bool
+    ensures seat { post.new.seat ≡ post.old.seat }
 {
-    let (idle, post) = manage(rt, shared, function, post);
+    let idle = manage(rt, shared, function, post);
     let no_event = fetch_event(rt, shared);
-    (idle && no_event, post)
+    idle && no_event
 }
 
 /// The request queues that a worker owns are served, each by one request at most. Whether there was nothing to do.
@@ -63,41 +63,42 @@ fn serve_own<R: Wait, G: Gate + Drop>(
     shared: &Shared<G>,
     number: usize,
     workers: usize,
-    post: Post,
-) -> (bool, Post)
+    post: &mut Post,
+) -> bool
     requires some { 0 < workers }
-    requires seat { IsSeatOf shared.now.handoff post.seat }
-    ensures seat { IsSameSeat post.seat result.1.seat }
+    requires seat { IsSeatOf shared.now.handoff post.old.seat }
+    ensures seat { IsSameSeat post.old.seat post.new.seat }
 {
-    let mut post = post;
     let mut is_idle = true;
     for at in FIRST_REQUEST_QUEUE..shared.queues.len() {
         if (at - FIRST_REQUEST_QUEUE) % workers == number {
-            let (idle, next) = fetch(rt, shared, at, post);
-            post = next;
+            let idle = fetch(rt, shared, at, post);
             is_idle = is_idle && idle;
         }
     }
-    (is_idle, post)
+    is_idle
 }
 
-/// One round: what the seat has, then each queue that the worker owns, then a job of the hand-off. Whether there was
-/// nothing to do, and no memory was refused.
+/// One round: what the seat has, then a job of the hand-off or, where there is none, each queue that the worker owns.
+/// Whether there was nothing to do, and no memory was refused.
 fn round<R: Wait, G: Gate + Drop>(
     rt: &R,
     shared: &Shared<G>,
     number: usize,
     workers: usize,
-    post: Post,
-) -> (bool, Post)
+    post: &mut Post,
+) -> bool
     requires some { 0 < workers }
-    requires seat { IsSeatOf shared.now.handoff post.seat }
-    ensures seat { IsSameSeat post.seat result.1.seat }
+    requires seat { IsSeatOf shared.now.handoff post.old.seat }
+    ensures seat { IsSameSeat post.old.seat post.new.seat }
 {
-    let post = clear(rt, shared, post);
-    let (no_request, post) = serve_own(rt, shared, number, workers, post);
-    let (no_job, post) = take(rt, shared, post);
-    (no_request && no_job, post)
+    if !post.is_free() {
+        clear(rt, shared, post, false);
+    }
+    if !take(rt, shared, post) {
+        return false;
+    }
+    serve_own(rt, shared, number, workers, post)
 }
 
 /// Works until the host closes, and a round then looked at all queues, found nothing to do and left the worker nothing.
@@ -107,24 +108,25 @@ pub(crate) fn work<R: Wait, G: Gate + Drop>(rt: &R, shared: &Shared<G>, worker: 
     ensures seat { IsSameSeat worker.post.seat result.seat }
 {
     let Worker {
-        post,
+        mut post,
         number,
         workers,
     } = worker;
-    let mut post = post;
     let mut function = None;
     let mut rounds: u8 = 0;
+    let mut waits = false;
     for _ in rt.forever() {
         let is_closing = shared.is_closing();
         let looks = number != 0 || rounds == 0 || function.is_some();
         let mut no_other = true;
         if looks && number == 0 {
-            let (idle, next) = serve_others(rt, shared, &mut function, post);
-            post = next;
-            no_other = idle;
+            no_other = serve_others(rt, shared, &mut function, &mut post);
         }
-        let (is_idle, next) = round(rt, shared, number, workers, post);
-        post = next;
+        let is_idle = round(rt, shared, number, workers, &mut post);
+        if is_idle != waits {
+            shared.wait_for_job(is_idle);
+            waits = is_idle;
+        }
         rounds = if is_idle {
             0
         } else {

@@ -1,5 +1,5 @@
-//! A bench for tests of hosts: a small device is served by threads, while its guest asks for something, and is closed. It
-//! stands in a crate of its own so that tests read nothing of how it is done.
+//! A bench for tests of hosts: a small device is served by threads, while its guest asks for something, and is
+//! closed. It stands in a crate of its own so that tests read nothing of how it is done.
 #![tactic(auto)]
 
 mod guest;

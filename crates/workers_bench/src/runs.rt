@@ -1,11 +1,11 @@
 //! Hosts from start to close.
 
 use crate::guest::{Asked, PAGES, are_answered, ask, layouts};
+use config::{UnitSpec, VERSION_1};
 use std::alloc::Global;
 use std::sync::Wait;
 use std::thread::Threads;
 use workers::{CloseFault, Config, Gate, Host, Open, Report, StartFault};
-use world::{UnitSpec, VERSION_1};
 
 /// How many receipts and notes a closed host left.
 #[derive(Clone, Copy, Debug, PartialEq, Eq)]

@@ -6,8 +6,8 @@ use crate::runs::{FIRST, Left, start};
 use std::alloc::Global;
 use std::sync::{Arc, Wait};
 use std::thread::Threads;
+use unit_history::{StepKind, UnitState};
 use workers::{Host, Point, Report};
-use world::{StepKind, UnitState};
 
 /// The byte of which the block is that is written.
 const WRITTEN: u8 = 0xab;

@@ -31,7 +31,7 @@ invariant_of-result g c =
     let seat_is : c.in_ok-post.post.seat ≡ c.in-Some.last = c.in_ok-post.ensures in
     let few : vec_len (arc_value c.in_ok-shared.shared).queues ≤ 18 =
     subst (λ s. vec_len s.queues ≤ 18) (sym c.in_ok-shared.ensures) c.in_ok-open.ensures.few in
-    (few, refl, refl, subst (λ s. IsWhole (arc_value c.in_ok-shared.shared).handoff c.in_ok-crew.crew.items s) (sym seat_is) whole)
+    (few, subst (λ s. IsWhole (arc_value c.in_ok-shared.shared).handoff c.in_ok-crew.crew.items s) (sym seat_is) whole)
 
 pub hire_all-requires-send-W : goal.hire_all-requires-send-W
 hire_all-requires-send-W g c κs = λ within.
