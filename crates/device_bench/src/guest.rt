@@ -119,8 +119,8 @@ fn put_descriptor(
     )
 }
 
-/// Makes a chain available, the one of this number on its queue, from 0. It takes the pair of descriptors of that number,
-/// and of these the second alone where the device reads nothing of it.
+/// Makes a chain available, the one of this number on its queue, from 0. It takes the pair of descriptors of that
+/// number, and of these the second alone where the device reads nothing of it.
 pub(crate) fn send(world: &mut World, number: u8, sent: Sent) -> bool {
     let area = 4096 * u64::from(sent.queue);
     let place = u64::from(place_of(sent.queue, number));

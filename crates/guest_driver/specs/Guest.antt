@@ -8,5 +8,7 @@ use Rattle.guest_driver.specs.declared.guest.Buffer.{Buffer}
 -- le16 next in a split queue (VIRTIO 1.2, 2.7.5), le16 id and le16 flags in a packed one (2.8.13).
 pub record IsDescriptor (bytes : List ℕ) (buffer : Buffer) (third last : ℕ) : Type 0 where
   pub sixteen : length bytes ≡ 16
-  pub in_split : split_descriptor bytes ≡ record { addr = buffer.at; len = buffer.len; flags = third; next_or_id = last }
-  pub in_packed : packed_descriptor bytes ≡ record { addr = buffer.at; len = buffer.len; flags = last; next_or_id = third }
+  pub in_split : split_descriptor bytes
+      ≡ record { addr = buffer.at; len = buffer.len; flags = third; next_or_id = last }
+  pub in_packed : packed_descriptor bytes
+      ≡ record { addr = buffer.at; len = buffer.len; flags = last; next_or_id = third }

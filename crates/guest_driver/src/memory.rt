@@ -5,7 +5,6 @@ ghost use Rattle.guest_mem.specs.Memory.{bytes_at, with_bytes, LiesIn};
 ghost use Rattle.guest_mem.specs.declared.memory.MemFault.TheVariants as MemFault;
 
 use guest_mem::{GuestMem, MemFault};
-use world::World;
 
 /// The memory of a guest, as its driver writes and reads it: that of a device of one thread, or one that threads have
 /// behind a lock, of which less can be said.
@@ -61,33 +60,5 @@ impl GuestMemory for GuestMem {
 
     fn write(&mut self, at: u64, bytes: &[u8]) -> Result<(), MemFault> {
         GuestMem::write(self, at, bytes)
-    }
-}
-
-impl GuestMemory for World {
-    ghost extent = { λ w. length w.memory };
-
-    ghost finds = { λ w at bytes. LiesIn (length w.memory) at (length bytes)
-        × (bytes ≡ bytes_at w.memory at (length bytes)) };
-
-    ghost refuses = { λ w at n. ¬ LiesIn (length w.memory) at n };
-
-    ghost takes = { λ w at bytes v. LiesIn (length w.memory) at (length bytes)
-        × (v ≡ record w { memory = with_bytes w.memory at bytes }) };
-
-    fn size(&self) -> u64 {
-        self.memory().size()
-    }
-
-    fn read(&self, at: u64, into: &mut [u8]) -> Result<(), MemFault> {
-        self.memory().read(at, into)
-    }
-
-    fn write(&mut self, at: u64, bytes: &[u8]) -> Result<(), MemFault> {
-        if self.poke(at, bytes) {
-            Ok(())
-        } else {
-            Err(MemFault::Outside)
-        }
     }
 }

@@ -2,17 +2,10 @@
 //! is shown.
 #![tactic(auto)]
 
-mod device;
-mod guest;
-mod header;
 mod host_memory;
-mod known;
-mod print;
-mod runs;
-mod script;
+mod machine;
 mod service;
 mod session;
-mod show;
 
 pub use script_lines::{LineFault, ScriptFault};
 pub use service::serve;

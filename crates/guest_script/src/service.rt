@@ -1,12 +1,12 @@
 //! Plays a script on a device that threads serve.
 
-use crate::guest::run_guest_line;
-use crate::header::{Wanted, stop_of};
+ghost use Rattle.std.specs.Prelude.{◌≡◌, Ok, Err};
+
 use crate::host_memory::HostMemory;
-use crate::known::Known;
-use crate::print::print;
-use crate::script::{Script, command_of, line_number, read_whole};
 use guest_driver::Driver;
+use script_device::{
+    Known, Script, Wanted, command_of, line_number, print, read_whole, run_guest_line, stop_of,
+};
 use script_lines::{Command, LineFault, ScriptFault, Stop};
 use scsi_codec::Address;
 use std::alloc::Global;
@@ -48,8 +48,22 @@ where
     };
     let ended = service.run(&rt, &script);
     let closed = service.close(&rt);
-    let rest = ended?;
-    closed?.run(&script, rest, out)
+    let (rest, closed) = both(ended, closed)?;
+    closed.run(&script, rest, out)
+}
+
+/// What a script's lines and the closing of its device gave, where both went well; else the fault of a line, and where
+/// there is none what closing says.
+fn both<A: Drop, B: Drop, E: Drop>(lines: Result<A, E>, closing: Result<B, E>) -> Result<(A, B), E>
+    ensures line { (fault : E) → lines ≡ Err fault → result ≡ Err fault }
+    ensures closing { (value : A) (fault : E) → lines ≡ Ok value → closing ≡ Err fault → result ≡ Err fault }
+    ensures both { (value : A) (other : B) → lines ≡ Ok value → closing ≡ Ok other → result ≡ Ok (value, other) }
+{
+    match (lines, closing) {
+        (Err(fault), _) => Err(fault),
+        (Ok(_), Err(fault)) => Err(fault),
+        (Ok(value), Ok(other)) => Ok((value, other)),
+    }
 }
 
 /// The fault of a script whose device says this when it is closed.

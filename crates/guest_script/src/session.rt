@@ -1,11 +1,10 @@
 //! Plays a script on a device of one thread.
 
-use crate::guest::run_guest_line;
-use crate::header::{Wanted, stop_of};
-use crate::known::Known;
-use crate::print::print;
-use crate::script::{Script, command_of, line_number, read_whole};
+use crate::machine::Machine;
 use guest_driver::Driver;
+use script_device::{
+    Known, Script, Wanted, command_of, line_number, print, read_whole, run_guest_line, stop_of,
+};
 use script_lines::{Command, LineFault, ScriptFault, Step, Stop};
 use scsi_codec::Address;
 use std::alloc::Global;
@@ -59,7 +58,7 @@ fn event_of(step: Step) -> Event {
 #[derive(Drop)]
 struct Session {
     alloc: Global,
-    world: World,
+    machine: Machine,
     driver: Driver,
     known: Known,
 }
@@ -80,7 +79,7 @@ impl Session {
         let driver = Driver::new(alloc, form, known.queues, size)?;
         Ok(Session {
             alloc,
-            world,
+            machine: Machine { world },
             driver,
             known,
         })
@@ -92,7 +91,7 @@ impl Session {
             self.known.check(&command)?;
             self.run_command(command, out)?;
         }
-        self.driver.look(self.world.memory())?;
+        self.driver.look(self.machine.world.memory())?;
         Ok(())
     }
 
@@ -100,18 +99,18 @@ impl Session {
     fn run_command<W: Write>(&mut self, command: Command<'_>, out: &mut W) -> Result<(), Stop> {
         match command {
             Command::Guest(line) => {
-                run_guest_line(self.alloc, &mut self.driver, &mut self.world, &line)
+                run_guest_line(self.alloc, &mut self.driver, &mut self.machine, &line)
             }
             Command::Hard(unit) => self.hard(unit),
             Command::Settle => {
-                let _steps = self.world.settle()?;
+                let _steps = self.machine.world.settle()?;
                 Ok(())
             }
             Command::Step(step) => {
-                let _applies = self.world.step(event_of(step))?;
+                let _applies = self.machine.world.step(event_of(step))?;
                 Ok(())
             }
-            Command::Print(line) => print(self.alloc, out, &self.world, &self.driver, line),
+            Command::Print(line) => print(self.alloc, out, &self.machine, &self.driver, line),
             Command::Wait(_) | Command::Close => Err(Stop::Fault(LineFault::OutOfPlace)),
         }
     }
@@ -119,7 +118,7 @@ impl Session {
     /// The operator resets a unit; where it isn't there nothing happens.
     fn hard(&mut self, unit: Address) -> Result<(), Stop> {
         if let Some(place) = self.known.place(unit) {
-            let _applies = self.world.step(Event::Hard(place))?;
+            let _applies = self.machine.world.step(Event::Hard(place))?;
         }
         Ok(())
     }

@@ -48,7 +48,7 @@ fn poke<'a>(alloc: Global, values: &[&str]) -> Result<GuestLine<'a>, Stop> {
     Ok(GuestLine::Poke(addr, Bytes::read(alloc, bytes)?))
 }
 
-/// Reads a task attribute (SAM-5, 8.9).
+/// Reads a task attribute (SAM-5 §8.6).
 fn attribute(word: &str) -> Result<u8, LineFault> {
     match word {
         "simple" => Ok(0),

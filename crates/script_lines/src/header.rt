@@ -26,7 +26,7 @@ pub struct Disk {
     pub unit: Address,
     /// Its capacity in blocks of 512 bytes.
     pub blocks: u64,
-    /// Whether nothing is pending at the start; else POWER ON OCCURRED is.
+    /// Whether nothing is pending at the start; else POWER ON, RESET, OR BUS DEVICE RESET OCCURRED is.
     pub calm: bool,
 }
 

@@ -23,7 +23,8 @@ pub fn number<N: FromStr>(word: &str) -> Result<N, LineFault>
 where
     N::Err: Drop,
     ensures taken { IfOk result (λ number. (all_ascii_digits word.now ≡ true) × N.from_str_gives word.now (Ok number)) }
-    ensures refused { OnErr result ((all_ascii_digits word.now ≡ false) ⊎ ((error : N.Err) × N.from_str_gives word.now (Err error))) }
+    ensures refused { OnErr result
+        ((all_ascii_digits word.now ≡ false) ⊎ ((error : N.Err) × N.from_str_gives word.now (Err error))) }
     ensures fault { IfErr result (λ fault. fault ≡ LineFault.BadValue) }
 {
     if !word.bytes().all(|byte| byte.is_ascii_digit()) {

@@ -3,7 +3,8 @@ use Rattle.std.specs.Prelude.{ℕ}
 use Rattle.vscsi.specs.declared.ending.Ending.{Ending}
 use Rattle.vscsi.specs.declared.ending.Ending.TheVariants.{Done, Fault, CannotWrite, Refused, NoText, NoMemory}
 
--- 0 done; 1 a fault of the script, or a standard output that fails; 2 words that are refused or ask for help; 3 no memory
+-- 0 done; 1 a fault of the script, or a standard output that fails; 2 words that are refused or ask for help; 3 no
+-- memory
 abbrev pub status_of : Ending → ℕ
 status_of Done = 0
 status_of (Fault fault) = 1

@@ -72,8 +72,8 @@ struct vscsi_queue {
   uint16_t size;
 };
 
-/* A disk: a target of 0 to 255 and a LUN of 0 to 16,383, with 1 to 131,072 blocks of 512 zeros. Where `calm` is 0 its
- * first command is told of the power on (29/00), as the standard has it. */
+/* A disk: a target of 0 to 255 and a LUN of 0 to 16,383, with 1 to 131,072 blocks of 512 zeros. Where `calm` is 0
+ * the power on (29/00) is pending, which its first command meets that isn't INQUIRY, REPORT LUNS or REQUEST SENSE. */
 struct vscsi_unit {
   uint64_t blocks;
   uint16_t lun;
@@ -96,8 +96,8 @@ struct vscsi_config {
   uint32_t pages;
 };
 
-/* Why a configuration isn't taken: the first of these, in this order, that is so. Of a queue or a unit `place` says
- * which, from 0, and is the first of its kind. */
+/* Why a configuration isn't taken: the first of these, in this order, that is so; but queues are looked at one after the
+ * other for 4 and 5, and units for 9 and 10. Of a queue or a unit `place` says which, from 0. */
 enum vscsi_cause {
   VSCSI_PAGES = 1,        /* no pages, or more than 65,536 */
   VSCSI_BAD_FEATURES = 2, /* not VSCSI_F_VERSION_1, alone or with VSCSI_F_RING_PACKED */
@@ -235,8 +235,8 @@ static inline enum vscsi_answer vscsi_progress(struct vscsi *device, uint16_t qu
   return device && accepted && used ? (enum vscsi_answer)vscsi_raw_progress(device, queue, accepted, used) : VSCSI_NULL;
 }
 
-/* The operator's hard reset of a unit: its tasks end with response RESET, its next command is told (29/00), and an event
- * goes to the event queue. vscsi_settle does what follows.
+/* The operator's hard reset of a unit: its tasks that haven't run end with response RESET, its next command is told
+ * (29/00), and an event goes to the event queue. vscsi_settle does what follows.
  * VSCSI_NO_DEVICE; VSCSI_NO_UNIT; VSCSI_NO_MEMORY. */
 static inline enum vscsi_answer vscsi_reset(struct vscsi *device, uint8_t target, uint16_t lun) {
   return device ? (enum vscsi_answer)vscsi_raw_reset(device, target, lun) : VSCSI_NULL;

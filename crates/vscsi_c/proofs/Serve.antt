@@ -2,7 +2,7 @@
 use Rattle.std.proofs.Common.{◌≡◌, refl, sym, subst}
 use Rattle.std.specs.Prelude.{Option, Some, None}
 use Rattle.std.specs.Prelude.{ℕ, List}
-use Rattle.world.specs.declared.config.Config.{Config}
+use Rattle.config.specs.declared.config.Config.{Config}
 use Rattle.vscsi_c.specs.Wanted.{Asks}
 use Rattle.vscsi_c.specs.Calls.{Serving, Creates, Makes, Refuses}
 use Rattle.vscsi_c.specs.declared.answer.Answer.{Answer}

@@ -12,15 +12,16 @@ use Rattle.ring_core.specs.Writes.{Write}
 use Rattle.deeds.specs.Events.{Event}
 use Rattle.deeds.specs.Happens.{Reached, MayWant}
 use Rattle.deeds.specs.Turns.{Turns, IsStep}
-use Rattle.world.specs.Config.{is_config, IsOpening}
-use Rattle.world.specs.ConfigFault.{IsFault}
+use Rattle.config.specs.Config.{is_config}
+use Rattle.world.specs.Opening.{IsOpening}
+use Rattle.config.specs.ConfigFault.{IsFault}
 use Rattle.world.specs.Settling.{ServesOrWants}
 use Rattle.world.specs.Promise.{SettlesAsPromised}
 use Rattle.world.specs.Views.{unit_at, IsPlaceOf, fault_of, device_status}
 use Rattle.world.specs.Notifications.{binary, owed_of, IsAsked}
-use Rattle.world.specs.declared.config.Config.{Config}
-use Rattle.world.specs.declared.config_fault.ConfigFault.{ConfigFault}
-use Rattle.world.specs.declared.config_fault.ConfigFault.TheVariants as config
+use Rattle.config.specs.declared.config.Config.{Config}
+use Rattle.config.specs.declared.config_fault.ConfigFault.{ConfigFault}
+use Rattle.config.specs.declared.config_fault.ConfigFault.TheVariants as config
 use Rattle.ring_core.specs.declared.layout.LayoutFault.{LayoutFault}
 use Rattle.ring_core.specs.declared.layout.LayoutFault.TheVariants as layout
 use Rattle.vscsi_c.specs.declared.wanted.Fault.{Fault}
@@ -91,7 +92,8 @@ number_of (Some ring.NoMemory) = 10
 
 -- as `World::broken`
 abbrev pub BrokenBy : List PlainQueue → ℕ → ℕ → Answer → ℕ → Type 0
-BrokenBy queues queue old answer.Done new = (queue < length queues) × (new ≡ number_of (fault_of (slice_get queues queue)))
+BrokenBy queues queue old answer.Done new = (queue < length queues)
+    × (new ≡ number_of (fault_of (slice_get queues queue)))
 BrokenBy queues queue old answer.NoQueue new = (length queues ≤ queue) × (new ≡ old)
 BrokenBy queues queue old a new = ⊥
 
@@ -109,8 +111,10 @@ Stands queue accepted used d a d' = StandsAt (slice_get d.world.queues queue) a 
 
 -- as `World::step` of a hard reset of the unit of an address
 abbrev pub ResetsWorld : PlainWorld → ℕ → ℕ → Answer → PlainWorld → Type 0
-ResetsWorld w target lun answer.Done w' = (place : ℕ) × (changed : Bool) × IsPlaceOf w target lun (Some place) × IsStep w (Event.Hard place) changed w'
-ResetsWorld w target lun answer.NoMemory w' = (place : ℕ) × IsPlaceOf w target lun (Some place) × MayWant (Event.Hard place) w × (w' ≡ w)
+ResetsWorld w target lun answer.Done w' = (place : ℕ) × (changed : Bool) × IsPlaceOf w target lun (Some place)
+    × IsStep w (Event.Hard place) changed w'
+ResetsWorld w target lun answer.NoMemory w' = (place : ℕ) × IsPlaceOf w target lun (Some place)
+    × MayWant (Event.Hard place) w × (w' ≡ w)
 ResetsWorld w target lun answer.NoUnit w' = IsPlaceOf w target lun None × (w' ≡ w)
 ResetsWorld w target lun a w' = ⊥
 
@@ -192,7 +196,8 @@ CreatesOf pages features queues units answer.BadConfig told after =
 CreatesOf pages features queues units answer.NoMemory told after = after ≡ None
 CreatesOf pages features queues units a told after = ⊥
 
-abbrev pub Creates : ℕ → ℕ → List WantedQueue → List WantedUnit → Fault → Option Served → Answer → Option Served → Type 0
+abbrev pub Creates : ℕ → ℕ → List WantedQueue → List WantedUnit → Fault → Option Served → Answer → Option Served
+    → Type 0
 Creates pages features queues units told None a after = CreatesOf pages features queues units a told after
 Creates pages features queues units told (Some d) a after = (a ≡ answer.InUse) × (after ≡ Some d)
 

@@ -74,7 +74,8 @@ pub(crate) fn settle(device: &mut Device, alloc: Global, steps: &mut u64) -> Ans
 /// The guest's write.
 #[tactic(auto, using(crate::proofs::Serve::serving, crate::proofs::Serve::without))]
 pub(crate) fn poke(device: &mut Device, alloc: Global, addr: u64, bytes: &[u8]) -> Answer
-    ensures { Serving (Pokes (record { addr = addr; bytes = bytes.now })) (kept_in device.old) result (kept_in device.new) }
+    ensures { Serving (Pokes (record { addr = addr; bytes = bytes.now })) (kept_in device.old) result
+        (kept_in device.new) }
 {
     let Some(mut served) = device.take(alloc) else {
         return Answer::NoDevice;
@@ -198,7 +199,8 @@ pub(crate) fn blocks(
     count: u32,
     into: &mut [u8],
 ) -> Answer
-    ensures { Serving (Gives target lun first count into.old into.new) (kept_in device.old) result (kept_in device.new) }
+    ensures { Serving (Gives target lun first count into.old into.new) (kept_in device.old) result
+        (kept_in device.new) }
 {
     let Some(mut served) = device.take(alloc) else {
         return Answer::NoDevice;

@@ -1,5 +1,5 @@
-//! What C calls: each export is one call, and its answer's number. The header says what C owes for each: a `Device` that C
-//! made of zeros or that a call left, and room where a call writes.
+//! What C calls: each export is one call, and its answer's number. The header says what C owes for each: a `Device`
+//! that C made of zeros or that a call left, and room where a call writes.
 
 ghost use Rattle.vscsi_c.specs.Answers.{Tells};
 ghost use Rattle.vscsi_c.specs.Kept.{kept_in};
@@ -21,7 +21,8 @@ pub extern "C" fn vscsi_raw_create(
     units: &[WantedUnit],
     fault: &mut Fault,
 ) -> u32
-    ensures { Tells result (λ a. Creates pages features queues.now units.now fault.new (kept_in device.old) a (kept_in device.new)) }
+    ensures { Tells result (λ a. Creates pages features queues.now units.now fault.new (kept_in device.old) a
+        (kept_in device.new)) }
 {
     calls::create(device, alloc, pages, features, queues, units, fault).code()
 }
@@ -45,7 +46,8 @@ pub extern "C" fn vscsi_raw_settle(device: &mut Device, alloc: Global, steps: &m
 /// The guest's write.
 #[unsafe(no_mangle)]
 pub extern "C" fn vscsi_raw_poke(device: &mut Device, alloc: Global, addr: u64, bytes: &[u8]) -> u32
-    ensures { Tells result (λ a. Serving (Pokes (record { addr = addr; bytes = bytes.now })) (kept_in device.old) a (kept_in device.new)) }
+    ensures { Tells result (λ a. Serving (Pokes (record { addr = addr; bytes = bytes.now })) (kept_in device.old) a
+        (kept_in device.new)) }
 {
     calls::poke(device, alloc, addr, bytes).code()
 }
@@ -87,7 +89,8 @@ pub extern "C" fn vscsi_raw_broken(
     queue: u16,
     fault: &mut u32,
 ) -> u32
-    ensures { Tells result (λ a. Serving (Breaks queue fault.old fault.new) (kept_in device.old) a (kept_in device.new)) }
+    ensures { Tells result (λ a. Serving (Breaks queue fault.old fault.new) (kept_in device.old) a
+        (kept_in device.new)) }
 {
     calls::broken(device, alloc, queue, fault).code()
 }
@@ -101,7 +104,8 @@ pub extern "C" fn vscsi_raw_progress(
     accepted: &mut u64,
     used: &mut u64,
 ) -> u32
-    ensures { Tells result (λ a. Serving (Stands queue accepted.new used.new) (kept_in device.old) a (kept_in device.new)) }
+    ensures { Tells result (λ a. Serving (Stands queue accepted.new used.new) (kept_in device.old) a
+        (kept_in device.new)) }
 {
     calls::progress(device, alloc, queue, accepted, used).code()
 }
@@ -139,7 +143,8 @@ pub extern "C" fn vscsi_raw_blocks(
     count: u32,
     into: &mut [u8],
 ) -> u32
-    ensures { Tells result (λ a. Serving (Gives target lun first count into.old into.new) (kept_in device.old) a (kept_in device.new)) }
+    ensures { Tells result (λ a. Serving (Gives target lun first count into.old into.new) (kept_in device.old) a
+        (kept_in device.new)) }
 {
     calls::blocks(device, alloc, target, lun, first, count, into).code()
 }

@@ -9,8 +9,8 @@ use std::alloc::Global;
 use std::marker::Model;
 use std::ptr::null_mut;
 
-/// A pointer that C keeps, and that owns a device, or nothing. C sees no device behind it: the type says what it owns in
-/// proofs alone.
+/// A pointer that C keeps, and that owns a device, or nothing. C sees no device behind it: the type says what it owns
+/// in proofs alone.
 #[repr(C)]
 pub struct Owner {
     at: *mut u8,

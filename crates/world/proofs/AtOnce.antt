@@ -22,9 +22,9 @@ use Rattle.phases.specs.Serving.{ServesAtOnce, OnlyEnters, Serves}
 use Rattle.world.specs.Kept.{KeptSeat, seat_of}
 use Rattle.world.specs.Sound.{AreSound, IsSound, IsWhole}
 use Rattle.world.specs.Settling.{ServesBy}
-use Rattle.world.specs.declared.service.Served.{Served}
+use Rattle.world.specs.declared.cursor.Served.{Served}
 use Rattle.world.specs.Cursors.{MayServe, served_of, StepsNext, ServesNext, TurnsFirst, NoneBefore, NoneBeforeFetch, NoFetchBelow, NoSeat, NoEnter, NoSeatBelow}
-use Rattle.world.specs.declared.service.Cursor.TheVariants as cursor
+use Rattle.world.specs.declared.cursor.Cursor.TheVariants as cursor
 use Rattle.world.proofs.Placing.{everywhere_set}
 use Rattle.world.proofs.Setting.{set_length, listing}
 use Rattle.world.proofs.Seats.{with_unit_and_seat, with_queue_and_seat, shown}

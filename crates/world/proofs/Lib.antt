@@ -1,4 +1,3 @@
-pub mod Faults
 pub mod Setting
 pub mod Choosing
 pub mod Ordering
@@ -20,7 +19,7 @@ pub mod Leave
 pub mod Answer
 pub mod Direct
 pub mod Sequences
-pub mod Opening
+pub mod AtOpening
 pub mod Keeping
 pub mod Buffering
 pub mod Resetting

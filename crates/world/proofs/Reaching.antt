@@ -16,8 +16,8 @@ use Rattle.deeds.proofs.Turning.{step_of}
 use Rattle.world.specs.Sound.{AreFew, IsReached, IsWhole, size_of, lun_of}
 use Rattle.world.specs.Steps.{TurnsOrWants, Steps}
 use Rattle.world.specs.Cursors.{StepsNext, TurnsNext}
-use Rattle.world.specs.declared.service.Cursor.{Cursor}
-use Rattle.world.specs.declared.service.Served.{Served}
+use Rattle.world.specs.declared.cursor.Cursor.{Cursor}
+use Rattle.world.specs.declared.cursor.Served.{Served}
 use Rattle.world.proofs.Keeping.{sizes_stay, luns_stay}
 
 -- by a step

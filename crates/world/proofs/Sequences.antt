@@ -18,8 +18,8 @@ use Rattle.world.specs.Sound.{IsReached}
 use Rattle.world.specs.Steps.{IsRun, events_of}
 use Rattle.world.specs.Settling.{ServesBy, ServesAll}
 use Rattle.world.specs.Cursors.{StepsNext, ServesNext}
-use Rattle.world.specs.declared.service.Cursor.{Cursor}
-use Rattle.world.specs.declared.service.Served.{Served}
+use Rattle.world.specs.declared.cursor.Cursor.{Cursor}
+use Rattle.world.specs.declared.cursor.Served.{Served}
 
 -- one item more
 take_suc : {X : Type 0} (n : ℕ) (xs : List X) (x : X) → slice_get xs n ≡ Some x → take (suc n) xs ≡ take n xs ++ x ∷ []

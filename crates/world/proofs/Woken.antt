@@ -23,8 +23,8 @@ use Rattle.phases.specs.Parts.{arrived_unit}
 use Rattle.settling.proofs.Waking.{wakes}
 use Rattle.world.specs.Cursors.{TurnsFirst, of_function, NoStart, NoDirectBelow, NoDirect, NoSeatBelow, NoSeat, NoEnterBelow, NoFetchBelow, NoneBefore, NoneBeforeFetch, LeavesNext, EntersNext, FetchesNext, StepsNext, direct_from, seat_from, enter_from}
 use Rattle.world.specs.Settling.{MayWantFirst}
-use Rattle.world.specs.declared.service.Cursor.{Cursor}
-use Rattle.world.specs.declared.service.Cursor.TheVariants as cursor
+use Rattle.world.specs.declared.cursor.Cursor.{Cursor}
+use Rattle.world.specs.declared.cursor.Cursor.TheVariants as cursor
 use Rattle.world.proofs.Choosing.{none_open}
 use Rattle.world.proofs.Ordering.{Is, is_first, of_first, wants_first, Wants, first_function, first_raise, first_direct, first_seat, first_enter, first_fetch, none_left}
 

@@ -12,9 +12,9 @@ use Rattle.deeds.specs.Applies.{Applies}
 use Rattle.deeds.specs.Phases.{SlotIs}
 use Rattle.settling.specs.Order.{of_seat, order_of, IsFirstOf, IsNext, NoneApplies, IsQuiet}
 use Rattle.world.specs.Settling.{ServesBy, MayWantFirst}
-use Rattle.world.specs.declared.service.Served.{Served}
-use Rattle.world.specs.declared.service.Cursor.{Cursor}
-use Rattle.world.specs.declared.service.Cursor.TheVariants as cursor
+use Rattle.world.specs.declared.cursor.Served.{Served}
+use Rattle.world.specs.declared.cursor.Cursor.{Cursor}
+use Rattle.world.specs.declared.cursor.Cursor.TheVariants as cursor
 
 -- the first of these events that applies was done, or none of them applies
 abbrev pub TurnsFirst : List Event → PlainWorld → Bool → PlainWorld → Type 0
@@ -59,8 +59,8 @@ NoneBefore cursor.Seats w = NoStart w × NoDirect w
 NoneBefore (cursor.Enter n) w = NoStart w × NoDirect w × NoSeat w × NoEnterBelow n w
 NoneBefore cursor.Fetch w = NoStart w × NoDirect w × NoSeat w × NoEnter w
 
--- the first of so many queues whose answer may be ready, where none before the cursor applies; of so many seats, the first
--- that may have a step; and the first queue on which a request may have arrived
+-- the first of so many queues whose answer may be ready, where none before the cursor applies; of so many seats, the
+-- first that may have a step; and the first queue on which a request may have arrived
 abbrev pub direct_from : Cursor → ℕ → ℕ
 direct_from cursor.Start queues = 0
 direct_from (cursor.Direct n) queues = n
@@ -122,7 +122,8 @@ FetchesOn most i w (Ok (Some s)) w' = ServesNext most w s w'
 FetchesOn most i w (Ok None) w' = (w' ≡ w) × (Applies w (Event.Fetch i) → ⊥)
 FetchesOn most i w (Err x) w' = (w' ≡ w) × MayWant (Event.Fetch i) w
 
--- the first seat serves the requests of the queue, has nothing in hand and no job to hand off, and the hand-off is empty
+-- the first seat serves the requests of the queue, has nothing in hand and no job to hand off, and the hand-off is
+-- empty
 pub record MayServe (i : ℕ) (w : PlainWorld) : Type 0 where
   pub request : 2 ≤ i
   pub there : i < length w.queues

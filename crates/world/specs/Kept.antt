@@ -16,7 +16,8 @@ seat_of s = record { hand = s.hand; out = s.jobs }
 
 -- each ring was made with this memory, each seat's list has room for all tasks and 64 more, and the port for one
 -- buffer more than the largest queue has descriptors
-pub record HasLists (memory : List ℕ) (queues : List PlainQueue) (units : List PlainUnit) (seats : List KeptSeat) (room : ℕ) : Type 0 where
+pub record HasLists (memory : List ℕ) (queues : List PlainQueue) (units : List PlainUnit) (seats : List KeptSeat)
+    (room : ℕ) : Type 0 where
   pub fits : Everywhere (λ i (q : PlainQueue). q.ring.memory ≡ length memory) queues
   pub limits : Everywhere (λ k (s : KeptSeat). s.limit ≡ 64 * length units + 64) seats
   pub port : room ≡ 1025

@@ -4,8 +4,7 @@ pub mod Steps
 pub mod Settling
 pub mod Cursors
 pub mod Stages
-pub mod Config
-pub mod ConfigFault
+pub mod Opening
 pub mod Views
 pub mod Notifications
 pub mod Promise

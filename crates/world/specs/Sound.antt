@@ -30,7 +30,8 @@ size_of q = q.ring.layout.size
 abbrev pub lun_of : PlainUnit → ℕ
 lun_of u = u.opening.lun
 
--- a device has 3 to 18 queues, 9 seats and 64 units, its queues have at most 1,024 descriptors, and its units LUNs to 16,383
+-- a device has 3 to 18 queues, 9 seats and 64 units, its queues have at most 1,024 descriptors, and its units LUNs to
+-- 16,383
 pub record AreFew (w : PlainWorld) : Type 0 where
   pub several : 3 ≤ length w.queues
   pub queues : length w.queues ≤ 18

@@ -2,19 +2,20 @@
 #![tactic(auto)]
 
 mod bay;
-mod config;
-mod config_fault;
+mod cursor;
 mod device;
 mod notifications;
+mod opening;
 mod seat;
 mod service;
 mod sound;
 mod steps;
 mod world;
 
-pub use config::{Config, FEATURES, RING_PACKED, StartFault, VERSION_1, form};
-pub use config_fault::ConfigFault;
-pub use decisions::UnitSpec;
+pub use config::{
+    Config, ConfigFault, FEATURES, Layout, LayoutFault, RING_PACKED, StartFault, UnitSpec,
+    VERSION_1, form,
+};
 pub use deeds::Event;
 pub use notifications::Notifications;
 pub use phases::{
@@ -22,6 +23,6 @@ pub use phases::{
     phase_answer, phase_answer_tmf, phase_check, phase_commit, phase_direct, phase_enter,
     phase_fetch, phase_fetch_control, phase_leave, phase_mark,
 };
-pub use ring_core::{Layout, LayoutFault, RingFault};
+pub use ring_core::RingFault;
 pub use unit_history::{StepKind, UnitState};
 pub use world::World;

@@ -44,9 +44,9 @@ fn note(asked: &mut [u64], bays: &[Bay])
     }
 }
 
-/// How many notices each queue's driver had wanted when this was last asked. Whoever embeds a device makes one beside it,
-/// and asks it whenever drivers may be owed a notification: after each `settle`, also one that ended for want of memory,
-/// since what it answered before stands.
+/// How many notices each queue's driver had wanted when this was last asked. Whoever embeds a device makes one beside
+/// it, and asks it whenever drivers may be owed a notification: after each `settle`, also one that ended for want of
+/// memory, since what it answered before stands.
 #[derive(Drop)]
 pub struct Notifications {
     asked: [u64; MOST_QUEUES],
@@ -70,9 +70,9 @@ impl Notifications {
         }
     }
 
-    /// Whose drivers are owed a notification: bit 0 is queue 0's. A bit is set exactly where the queue has more notices than
-    /// when this was last asked. A driver that is notified looks at all that was used, so one notification is enough
-    /// for all of them (VIRTIO 1.2, 2.7.10 and 2.8.21.3).
+    /// Whose drivers are owed a notification: bit 0 is queue 0's. A bit is set exactly where the queue has more
+    /// notices than when this was last asked. A driver that is notified looks at all that was used, so one
+    /// notification is enough for all of them (VIRTIO 1.2, 2.7.10 and 2.8.21.3).
     pub fn owed(&mut self, world: &World) -> u32
         ensures owed { result ≡ binary (owed_of self.old world.now.queues) }
         ensures asked { IsAsked self.old world.now.queues self.new }

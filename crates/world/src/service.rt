@@ -1,117 +1,24 @@
 //! The order in which a device serves what is there: the first event of it that applies, one after another. What a
 //! step can't have woken isn't looked at again.
 
-ghost use Rattle.std.specs.Prelude.{◌≡◌, ◌≤◌, ◌<◌, ◌↔◌, IsTrue, Some, slice_get, length};
+ghost use Rattle.std.specs.Prelude.{◌≤◌, ◌<◌, IsTrue, Some, slice_get, length};
 ghost use Rattle.settling.specs.Order.{of_seat};
 ghost use Rattle.deeds.specs.Parts.{Hand};
 ghost use Rattle.deeds.specs.Phases.{HasHand};
-ghost use Rattle.world.specs.Cursors.{TurnsFirst, of_function, TurnsNext, FetchesOn, MayServe, served_of, NoneBefore, NoneBeforeFetch, NoFetchBelow, EntersNext, FetchesNext, LeavesNext};
-ghost use Rattle.world.specs.Cursors.{NoStart, NoDirect, NoSeat, direct_from, seat_from, enter_from};
+ghost use Rattle.world.specs.Cursors.{TurnsFirst, of_function, TurnsNext, FetchesOn, MayServe, NoneBefore, NoneBeforeFetch, NoFetchBelow, EntersNext, FetchesNext, LeavesNext};
+ghost use Rattle.world.specs.Cursors.{NoStart, NoDirect, NoSeat};
 ghost use Rattle.world.specs.Sound.{AreFew, IsSound, IsWhole};
 
+use crate::cursor::{
+    AT_ONCE, Cursor, Served, first_direct, first_enter, first_seat, is_fetch, is_start, one,
+    served_so,
+};
 use crate::device::Device;
 use crate::seat::Stage;
 use crate::sound::all_are_sound;
 use crate::steps::owner;
 use block_store::NoMemory;
 use phases::{Slot, Taken, serve_request, take_request};
-
-/// A place in the order before which no event applies.
-#[derive(Clone, Copy, Debug, PartialEq, Eq)]
-pub(crate) enum Cursor {
-    /// Its beginning.
-    Start,
-    /// The answer of the chain that is ready on a queue.
-    Direct(u16),
-    /// The first seat.
-    Seats,
-    /// The request that arrived on a queue.
-    Enter(u16),
-    /// The first queue's next chain.
-    Fetch,
-}
-
-/// What was served, and from where on to look then.
-#[derive(Clone, Copy, Debug, PartialEq, Eq)]
-pub(crate) struct Served {
-    /// From where on to look.
-    pub(crate) next: Cursor,
-    /// How many events it was.
-    pub(crate) steps: u64,
-}
-
-/// How many events a request is that is served at once.
-const AT_ONCE: u64 = 7;
-
-/// One event was served.
-fn one(next: Cursor) -> Served
-    ensures { result ≡ record { next = next; steps = 1 } }
-{
-    Served { next, steps: 1 }
-}
-
-/// What was done of a request at once, where the first seat has so many jobs to hand off then.
-fn served_so(done: Option<bool>, jobs: usize) -> Served
-    ensures { result ≡ served_of done jobs }
-{
-    if done.is_none() {
-        return Served {
-            next: Cursor::Start,
-            steps: 2,
-        };
-    }
-    let next = if jobs == 0 {
-        Cursor::Fetch
-    } else {
-        Cursor::Seats
-    };
-    Served {
-        next,
-        steps: AT_ONCE,
-    }
-}
-
-/// Whether it is the beginning.
-fn is_start(cursor: Cursor) -> bool
-    ensures { IsTrue result ↔ (cursor ≡ Cursor.Start) }
-{
-    match cursor {
-        Cursor::Start => true,
-        Cursor::Direct(_) | Cursor::Seats | Cursor::Enter(_) | Cursor::Fetch => false,
-    }
-}
-
-/// The first queue whose answer may be ready, of so many.
-fn first_direct(cursor: Cursor, queues: usize) -> usize
-    ensures { result ≡ direct_from cursor queues }
-{
-    match cursor {
-        Cursor::Start => 0,
-        Cursor::Direct(number) => number as usize,
-        Cursor::Seats | Cursor::Enter(_) | Cursor::Fetch => queues,
-    }
-}
-
-/// The first seat that may have a step to take, of so many.
-fn first_seat(cursor: Cursor, seats: usize) -> usize
-    ensures { result ≡ seat_from cursor seats }
-{
-    match cursor {
-        Cursor::Start | Cursor::Direct(_) | Cursor::Seats => 0,
-        Cursor::Enter(_) | Cursor::Fetch => seats,
-    }
-}
-
-/// The first queue on which a request may have arrived, of so many.
-fn first_enter(cursor: Cursor, queues: usize) -> usize
-    ensures { result ≡ enter_from cursor queues }
-{
-    match cursor {
-        Cursor::Start | Cursor::Direct(_) | Cursor::Seats => 0,
-        Cursor::Enter(number) => number as usize,
-        Cursor::Fetch => queues,
-    }
-}
 
 impl Device {
     /// A step of the open function.
@@ -164,6 +71,22 @@ impl Device {
     /// applies.
     #[inline(always)]
     pub(crate) fn turn(&mut self, cursor: Cursor, most: u64) -> Result<Option<Served>, NoMemory>
+        requires most { 1 ≤ most }
+        requires whole { IsWhole self.old }
+        requires sound { IsSound self.old }
+        requires few { AreFew self.old }
+        requires before { NoneBefore cursor self.old }
+        ensures { TurnsNext most self.old result self.new }
+    {
+        if is_fetch(cursor) {
+            return self.from_fetch(most);
+        }
+        self.from_start(cursor, most)
+    }
+
+    /// The same where more than the queues is to be looked at, apart so that requests served at once pass it by.
+    #[inline(never)]
+    fn from_start(&mut self, cursor: Cursor, most: u64) -> Result<Option<Served>, NoMemory>
         requires most { 1 ≤ most }
         requires whole { IsWhole self.old }
         requires sound { IsSound self.old }
@@ -252,7 +175,7 @@ impl Device {
         requires before { NoneBeforeFetch self.old }
         ensures { TurnsNext most self.old result self.new }
     {
-        for number in 0..self.bays.len() {
+        for number in self.first_fetch()..self.bays.len() {
             match self.serve_queue(number as u16, most) {
                 Ok(None) => {}
                 Ok(Some(served)) => return Ok(Some(served)),
@@ -260,6 +183,19 @@ impl Device {
             }
         }
         Ok(None)
+    }
+
+    /// The first queue that may have a chain, as far as the control queue and the event queue tell.
+    #[inline(always)]
+    fn first_fetch(&self) -> usize
+        requires sound { IsSound self.now }
+        ensures below { NoFetchBelow result self.now }
+    {
+        if self.bays.len() >= 2 && self.is_silent(0) && self.is_silent(1) {
+            2
+        } else {
+            0
+        }
     }
 
     /// A queue's next chain, and what may be done of it at once, where no event before it applies.

@@ -22,6 +22,9 @@ pub(crate) fn owner(workers: u16, queue: u16) -> usize
     requires request { 2 ≤ queue }
     ensures { result ≡ owner workers queue }
 {
+    if workers == 1 {
+        return 0;
+    }
     ((queue - 2) % workers) as usize
 }
 

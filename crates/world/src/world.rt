@@ -1,143 +1,29 @@
 //! The device.
 
-ghost use Rattle.std.specs.Prelude.{◌≡◌, ◌≤◌, [], length, map, IfOk, true, is_some};
-ghost use Rattle.decisions.specs.Inventory.{address_of};
-ghost use Rattle.std.specs.List.{list_all, list_any};
-ghost use Rattle.world.specs.Config.{AreOpening, AreFresh, AreSeats, IsOpening, is_config, is_queue, opening_unit};
+ghost use Rattle.std.specs.Prelude.{◌≡◌, ◌≤◌, [], length, IfOk, is_some};
+ghost use Rattle.std.specs.List.{list_any};
 
 use crate::bay::Bay;
-use crate::config::{Config, StartFault, form};
+use crate::cursor::{Cursor, Served};
 use crate::device::Device;
-use crate::seat::Seat;
-use crate::service::{Cursor, Served};
+use crate::opening::open_device;
 use crate::sound::all_are_sound;
 use block_store::NoMemory;
-use decisions::{Inventory, UnitSpec};
+use config::{Config, StartFault};
 use deeds::Event;
 use deeds::laws::every_run_goes_on;
-use event_queue::{EventPort, WaitingEvents};
 use guest_mem::GuestMem;
 use interleavings::laws::the_promise_is_kept;
-use phases::Queue;
-use ring_core::{Form, Layout, QueueLog, RingFault};
+use ring_core::{QueueLog, RingFault};
 use std::alloc::Global;
 use std::marker::Model;
-use unit_history::{JobList, UnitState};
-
-/// The most descriptors that a queue has.
-const MAX_QUEUE_SIZE: usize = 1024;
-
-/// How many jobs a unit hands out at most in one call: one for each task of its task set.
-const TASKS: usize = 64;
+use unit_history::UnitState;
 
 /// Whether a fault of the guest broke a queue.
 fn is_any_broken(bays: &[Bay]) -> bool
     ensures { result ≡ list_any (λ q. is_some q.ring.broken) bays.now }
 {
     bays.iter().any(|bay| bay.queue.is_broken())
-}
-
-/// The queues of these layouts, of which nothing was fetched yet.
-fn open_bays(
-    alloc: Global,
-    form: Form,
-    layouts: &[Layout],
-    memory: &GuestMem,
-) -> Result<Vec<Bay>, NoMemory>
-    requires few { length layouts.now ≤ 18 }
-    requires placed { list_all (is_queue form (length memory.now)) layouts.now ≡ true }
-    ensures { IfOk result (λ bays. AreOpening form (length memory.now) layouts.now bays.items) }
-{
-    let mut bays = Vec::new(alloc);
-    for number in 0..layouts.len() {
-        let queue = Queue::new(alloc, form, number as u16, layouts[number], memory)?;
-        if bays.push(Bay::new(queue)).is_err() {
-            return Err(NoMemory);
-        }
-    }
-    Ok(bays)
-}
-
-/// A unit among those of an inventory, of which no step was taken. `NoMemory` where its blocks or its target's
-/// LUNs were refused memory.
-fn open_unit(alloc: Global, spec: &UnitSpec, inventory: &Inventory) -> Result<UnitState, NoMemory>
-    ensures { IfOk result (λ unit. unit ≡ opening_unit inventory.now spec.now) }
-{
-    let luns = inventory.luns_of(alloc, spec.target)?;
-    // No receipt outlives the answer of its chain, so no reply is kept to be compared.
-    UnitState::new(alloc, spec, luns.as_slice(), false)
-}
-
-/// The units that are wanted, of which no step was taken.
-fn open_units(
-    alloc: Global,
-    wanted: &[UnitSpec],
-    inventory: &Inventory,
-) -> Result<Vec<UnitState>, NoMemory>
-    requires { inventory.now ≡ map address_of wanted.now }
-    ensures { IfOk result (λ units. AreFresh wanted.now units.items) }
-{
-    let mut units = Vec::new(alloc);
-    for number in 0..wanted.len() {
-        let unit = open_unit(alloc, &wanted[number], inventory)?;
-        if units.push(unit).is_err() {
-            return Err(NoMemory);
-        }
-    }
-    Ok(units)
-}
-
-/// Seats with nothing in hand, and room for so many jobs in each list.
-fn open_seats(alloc: Global, count: usize, limit: usize) -> Result<Vec<Seat>, NoMemory>
-    ensures { IfOk result (λ seats. AreSeats count limit seats.items) }
-{
-    let mut seats = Vec::new(alloc);
-    for _number in 0..count {
-        let out = JobList::with_limit(alloc, limit)?;
-        if seats.push(Seat::new(out)).is_err() {
-            return Err(NoMemory);
-        }
-    }
-    Ok(seats)
-}
-
-/// The parts of the device of a configuration that is valid.
-fn open_device(alloc: Global, config: &Config) -> Result<Device, NoMemory>
-    requires { is_config config.now ≡ true }
-    ensures { IfOk result (λ d. IsOpening config.now d) }
-{
-    let Some(form) = form(config.features) else {
-        unreachable!()
-    };
-    let Ok(memory) = GuestMem::new(alloc, config.pages) else {
-        return Err(NoMemory);
-    };
-    let bays = open_bays(alloc, form, config.queues.as_slice(), &memory)?;
-    let inventory = Inventory::new(config.units.as_slice());
-    let units = open_units(alloc, config.units.as_slice(), &inventory)?;
-    // The last seat is the operator's.
-    let seats = open_seats(
-        alloc,
-        config.workers as usize + 1,
-        TASKS * units.len() + TASKS,
-    )?;
-    let handed_off = JobList::with_limit(alloc, config.handoff as usize)?;
-    // One place more than a queue may have chains outstanding, so that a full port keeps no fault from being found.
-    let Ok(port) = EventPort::new(alloc, MAX_QUEUE_SIZE + 1) else {
-        return Err(NoMemory);
-    };
-    Ok(Device {
-        memory,
-        inventory,
-        bays,
-        units,
-        seats,
-        workers: config.workers,
-        handed_off,
-        function: None,
-        port,
-        waiting: WaitingEvents::new(alloc),
-    })
 }
 
 /// The device: guest memory, its queues, its units and the seats that serve them, between two steps.
@@ -164,7 +50,8 @@ impl World {
     ghost use Rattle.deeds.specs.Events.{Event as AnEvent, plain_event};
     ghost use Rattle.deeds.specs.World as plain;
     ghost use Rattle.history.specs.Contents.{capacity_of};
-    ghost use Rattle.world.specs.Config.{is_config, IsOpening, StartRefusedAs};
+    ghost use Rattle.config.specs.Config.{is_config, StartRefusedAs};
+    ghost use Rattle.world.specs.Opening.{IsOpening};
     ghost use Rattle.world.specs.Sound.{AreFew, IsReached, IsSound};
     ghost use Rattle.deeds.specs.Happens.{Reached};
     ghost use Rattle.deeds.specs.Turns.{Turns};
@@ -174,9 +61,9 @@ impl World {
     ghost use Rattle.world.specs.Cursors.{NoneBefore, TurnsNext};
     ghost use Rattle.world.specs.Views.{unit_at, IsPlaceOf, fault_of, device_status, GivesBlocks};
 
-    /// The device of a configuration, of which nothing has happened yet. Whoever sets it up calls it once. `BadConfig`
-    /// exactly where the configuration isn't valid; else `NoMemory` where a growth was refused. The empty trace leads from
-    /// the device to itself: here every trace begins.
+    /// The device of a configuration, of which nothing has happened yet. Whoever sets it up calls it once.
+    /// `BadConfig` exactly where the configuration isn't valid; else `NoMemory` where a growth was refused. The empty
+    /// trace leads from the device to itself: here every trace begins.
     pub fn new(alloc: Global, config: &Config) -> Result<World, StartFault>
         ensures opening { MatchResult result (λ w. (is_config config.now ≡ true) × IsOpening config.now w)
             (λ fault. StartRefusedAs config.now fault) }
@@ -231,8 +118,9 @@ impl World {
         }
     }
 
-    /// One event. Whether it changed something; one that doesn't apply changes nothing. Only a Fetch and a Hard can answer
-    /// `NoMemory`, and have changed nothing then. Behind every trace that led here from an opening, the promise is kept.
+    /// One event. Whether it changed something; one that doesn't apply changes nothing. Only a Fetch and a Hard can
+    /// answer `NoMemory`, and have changed nothing then. Behind every trace that led here from an opening, the
+    /// promise is kept.
     pub fn step(&mut self, event: Event) -> Result<bool, NoMemory>
         ensures steps { Steps self.old (plain_event event) result self.new }
         ensures promise { StepsAsPromised self.old (plain_event event) result self.new }
@@ -242,14 +130,14 @@ impl World {
         self.step_by(&event)
     }
 
-    /// One event after another. Answers how many changed something. After `NoMemory` those before the refused one ran, and it
-    /// changed nothing.
+    /// One event after another. Answers how many changed something. After `NoMemory` those before the refused one
+    /// ran, and it changed nothing.
     ///
-    /// Behind every trace that led here from an opening, a trace of these events leads to where the device is then, and
-    /// the promise is kept by both together: each unit's blocks, and each status, sense byte and data byte answered for
-    /// it, are those of one sequential disk running the commands of its history whole, one at a time, in an order lawful
-    /// for their task attributes; a command answered as aborted changed nothing, and each accepted chain is used at most
-    /// once (`IsPromised` in `interleavings/specs/Promise.antt`).
+    /// Behind every trace that led here from an opening, a trace of these events leads to where the device is then,
+    /// and the promise is kept by both together: each unit's blocks, and each status, sense byte and data byte
+    /// answered for it, are those of one sequential disk running the commands of its history whole, one at a time, in
+    /// an order lawful for their task attributes; a command answered as aborted changed nothing, and each accepted
+    /// chain is used at most once (`IsPromised` in `interleavings/specs/Promise.antt`).
     pub fn run(&mut self, events: &[Event]) -> Result<u64, NoMemory>
         ensures runs { RunsAll self.old events.now result self.new }
         ensures promise { RunsAsPromised self.old events.now result self.new }
@@ -273,9 +161,9 @@ impl World {
     /// for each unit that a function visits. It ends whatever the guest wrote, since each chain that it accepts
     /// lengthens a log.
     ///
-    /// `NoMemory` where what was first was refused memory, or is a chain of a queue that has accepted 2^64 - 1, or where
-    /// 2^64 - 1 events were counted: what was served before stands, and nothing else changed. The promise is kept as by
-    /// `run`.
+    /// `NoMemory` where what was first was refused memory, or is a chain of a queue that has accepted 2^64 - 1, or
+    /// where 2^64 - 1 events were counted: what was served before stands, and nothing else changed. The promise is
+    /// kept as by `run`.
     pub fn settle(&mut self) -> Result<u64, NoMemory>
         ensures serves { ServesOrWants self.old result self.new }
         ensures promise { SettlesAsPromised self.old result self.new }
@@ -312,7 +200,8 @@ impl World {
         self.device.turn(cursor, most)
     }
 
-    /// The guest's write: puts bytes at an address. False, with nothing changed, where one of them would lie outside memory.
+    /// The guest's write: puts bytes at an address. False, with nothing changed, where one of them would lie outside
+    /// memory.
     pub fn poke(&mut self, addr: u64, bytes: &[u8]) -> bool
         ensures { Turns self.old (AnEvent.Poke (record { addr = addr; bytes = bytes.now })) result self.new }
     {

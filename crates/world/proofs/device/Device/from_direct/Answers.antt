@@ -4,7 +4,7 @@ use Rattle.deeds.specs.Applies.{Applies}
 use Rattle.deeds.specs.World.{PlainWorld}
 use Rattle.world.specs.Cursors.{TurnsNext, NoStart, NoneBefore, NoDirectBelow, direct_from}
 use Rattle.world.proofs.Choosing.{idle, and_next}
-use Rattle.world.specs.declared.service.Cursor.TheVariants as cursor
+use Rattle.world.specs.declared.cursor.Cursor.TheVariants as cursor
 use Rattle.world.proofs.Sequences.{next_one}
 use Rattle.world.proofs.Woken.{directs_from, directs_past, direct_next}
 use Rattle.world.proofs.device.Device.from_direct.Goals as goal

@@ -9,7 +9,7 @@ use Rattle.phases.specs.Queue.{with_slot}
 use Rattle.world.specs.Kept.{KeptSeat, seat_of}
 use Rattle.task_set.specs.Jobs.{Jobs}
 use Rattle.phases.specs.Serving.{Serves}
-use Rattle.world.specs.declared.service.Served.{Served}
+use Rattle.world.specs.declared.cursor.Served.{Served}
 use Rattle.world.specs.Sound.{IsWhole}
 use Rattle.world.specs.Cursors.{MayServe, ServesNext, NoneBeforeFetch, NoFetchBelow, served_of}
 use Rattle.world.specs.contracts.device.Device.{the_view}

@@ -1,6 +1,6 @@
 use Rattle.std.proofs.Common.{◌≡◌, true, refl, sym, ◌∙◌}
-use Rattle.world.specs.Config.{is_config}
-use Rattle.world.proofs.Opening.{opens, opens_whole}
+use Rattle.config.specs.Config.{is_config}
+use Rattle.world.proofs.AtOpening.{opens, opens_whole}
 use Rattle.world.proofs.world.World.new.Goals as goal
 
 -- the configuration is taken

@@ -1,0 +1,53 @@
+-- Which configurations the device takes.
+use Rattle.std.specs.Prelude.{ℕ, ◌+◌, ◌*◌, ◌^◌, ◌≡◌, ◌==◌, ◌&&◌, nat_le, Bool, true, false, cond, List, length, map, Option, Some, None, is_none}
+use Rattle.std.specs.List.{list_all, list_any}
+use Rattle.ring_core.specs.declared.layout.Form.{Form}
+use Rattle.ring_core.specs.declared.layout.Form.TheVariants.{Split, Packed}
+use Rattle.ring_core.specs.declared.layout.Layout.{Layout}
+use Rattle.phases.specs.Queue.{placement_of}
+use Rattle.decisions.specs.Inventory.{address_of, is_rising}
+use Rattle.decisions.specs.declared.inventory.UnitSpec.{UnitSpec}
+use Rattle.config.specs.declared.config.Config.{Config}
+use Rattle.config.specs.declared.config.StartFault.{StartFault}
+use Rattle.config.specs.declared.config.StartFault.TheVariants.{BadConfig, NoMemory}
+
+-- VIRTIO_F_VERSION_1 alone, or with VIRTIO_F_RING_PACKED: bits 32 and 34 (VIRTIO 1.2, 6)
+abbrev pub form_of : ℕ → Option Form
+form_of features = cond (features == 2 ^ 32) (Some Split) (cond (features == 2 ^ 32 + 2 ^ 34) (Some Packed) None)
+
+-- a queue of 2 to 1,024 descriptors that its ring takes
+abbrev pub is_queue : Form → ℕ → Layout → Bool
+is_queue form memory l = nat_le 2 l.size && nat_le l.size 1024 && is_none (placement_of form memory l)
+
+-- a unit of a LUN to 16,383 and of 1 to 131,072 blocks
+abbrev pub is_unit : UnitSpec → Bool
+is_unit u = nat_le u.lun 16383 && nat_le 1 u.blocks && nat_le u.blocks 131072
+
+abbrev pub has_lun_0 : List UnitSpec → ℕ → Bool
+has_lun_0 units target = list_any (λ u. (u.target == target) && (u.lun == 0)) units
+
+-- 1 to 64 units in rising order, each target with LUN 0
+abbrev pub are_units : List UnitSpec → Bool
+are_units units =
+    nat_le 1 (length units) && nat_le (length units) 64 && list_all is_unit units
+    && is_rising (map address_of units) && list_all (λ u. has_lun_0 units u.target) units
+
+-- a control queue, an event queue and 1 to 16 request queues
+abbrev pub are_queues : Option Form → ℕ → List Layout → Bool
+are_queues None memory queues = false
+are_queues (Some form) memory queues =
+    nat_le 3 (length queues) && nat_le (length queues) 18 && list_all (is_queue form memory) queues
+
+abbrev pub size_of : Config → ℕ
+size_of c = c.pages * 4096
+
+abbrev pub is_config : Config → Bool
+is_config c =
+    nat_le 1 c.pages && nat_le c.pages 65536 && are_queues (form_of c.features) (size_of c) c.queues.items
+    && nat_le 1 c.workers && nat_le c.workers 8 && nat_le 1 c.handoff && nat_le c.handoff 4096
+    && are_units c.units.items
+
+-- a configuration is refused as such exactly where the device doesn't take it
+abbrev pub StartRefusedAs : Config → StartFault → Type 0
+StartRefusedAs c BadConfig = is_config c ≡ false
+StartRefusedAs c NoMemory = is_config c ≡ true

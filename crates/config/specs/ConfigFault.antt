@@ -1,0 +1,115 @@
+-- What is wrong with a configuration: the first cause that holds, and the first place that it is true of.
+use Rattle.std.specs.Prelude.{ℕ, ◌-◌, ◌<◌, ◌≡◌, ◌&&◌, not, nat_le, Bool, true, false, List, length, map, slice_get, Option, Some, None, position}
+use Rattle.std.specs.List.{list_all}
+use Rattle.ring_core.specs.declared.layout.Form.{Form}
+use Rattle.ring_core.specs.declared.layout.Layout.{Layout}
+use Rattle.phases.specs.Queue.{placement_of}
+use Rattle.decisions.specs.Inventory.{address_of, stands_before, is_rising}
+use Rattle.decisions.specs.declared.inventory.UnitSpec.{UnitSpec}
+use Rattle.config.specs.Config.{form_of, size_of, is_queue, is_unit, has_lun_0, are_queues}
+use Rattle.config.specs.declared.config.Config.{Config}
+use Rattle.config.specs.declared.config_fault.ConfigFault.{ConfigFault}
+use Rattle.config.specs.declared.config_fault.ConfigFault.TheVariants as fault
+
+abbrev pub is_within : ℕ → ℕ → ℕ → Bool
+is_within least most n = nat_le least n && nat_le n most
+
+-- a queue's size, or else what its ring says of its layout
+abbrev pub IsQueueFault : Form → ℕ → ℕ → Layout → ConfigFault → Type 0
+IsQueueFault form memory place l (fault.QueueSize k) = (k ≡ place) × (is_within 2 1024 l.size ≡ false)
+IsQueueFault form memory place l (fault.QueueLayout k cause) =
+    (k ≡ place) × (is_within 2 1024 l.size ≡ true) × (placement_of form memory l ≡ Some cause)
+IsQueueFault form memory place l f = ⊥
+
+-- the first queue that isn't taken has this fault
+pub record FirstQueue (form : Form) (memory : ℕ) (queues : List Layout) (place : ℕ) (f : ConfigFault) : Type 0 where
+  pub many : is_within 3 18 (length queues) ≡ true
+  pub first : position (λ l. not (is_queue form memory l)) queues ≡ Some place
+  pub layout : Layout
+  pub at : slice_get queues place ≡ Some layout
+  pub cause : IsQueueFault form memory place layout f
+
+abbrev pub IsQueuesFault : Form → ℕ → List Layout → ConfigFault → Type 0
+IsQueuesFault form memory queues fault.QueueCount = is_within 3 18 (length queues) ≡ false
+IsQueuesFault form memory queues (fault.QueueSize place) = FirstQueue form memory queues place (fault.QueueSize place)
+IsQueuesFault form memory queues (fault.QueueLayout place cause) =
+    FirstQueue form memory queues place (fault.QueueLayout place cause)
+IsQueuesFault form memory queues f = ⊥
+
+abbrev pub IsUnitFault : ℕ → UnitSpec → ConfigFault → Type 0
+IsUnitFault place u (fault.UnitLun k) = (k ≡ place) × (nat_le u.lun 16383 ≡ false)
+IsUnitFault place u (fault.UnitBlocks k) =
+    (k ≡ place) × (nat_le u.lun 16383 ≡ true) × (is_within 1 131072 u.blocks ≡ false)
+IsUnitFault place u f = ⊥
+
+-- the first unit whose numbers aren't taken has this fault
+pub record FirstUnit (units : List UnitSpec) (place : ℕ) (f : ConfigFault) : Type 0 where
+  pub many : is_within 1 64 (length units) ≡ true
+  pub first : position (λ u. not (is_unit u)) units ≡ Some place
+  pub unit : UnitSpec
+  pub at : slice_get units place ≡ Some unit
+  pub cause : IsUnitFault place unit f
+
+abbrev pub Rises : List UnitSpec → ℕ → Type 0
+Rises units place = (before here : UnitSpec) → slice_get units (place - 1) ≡ Some before
+    → slice_get units place ≡ Some here
+    → stands_before (address_of before) (address_of here) ≡ true
+
+-- the first unit that doesn't stand above the one before it
+pub record Falls (units : List UnitSpec) (place : ℕ) : Type 0 where
+  pub behind : 0 < place
+  pub earlier : (k : ℕ) → 0 < k → k < place → Rises units k
+  pub before : UnitSpec
+  pub here : UnitSpec
+  pub before_at : slice_get units (place - 1) ≡ Some before
+  pub here_at : slice_get units place ≡ Some here
+  pub falls : stands_before (address_of before) (address_of here) ≡ false
+
+-- so many units as there may be, each of numbers that are taken
+abbrev pub AreFit : List UnitSpec → Type 0
+AreFit units = (is_within 1 64 (length units) ≡ true) × (list_all is_unit units ≡ true)
+
+-- the first unit, by numbers, then by order, whose target has no LUN 0
+abbrev pub IsUnitsFault : List UnitSpec → ConfigFault → Type 0
+IsUnitsFault units fault.UnitCount = is_within 1 64 (length units) ≡ false
+IsUnitsFault units (fault.UnitLun place) = FirstUnit units place (fault.UnitLun place)
+IsUnitsFault units (fault.UnitBlocks place) = FirstUnit units place (fault.UnitBlocks place)
+IsUnitsFault units (fault.UnitOrder place) = AreFit units × Falls units place
+IsUnitsFault units (fault.NoLun0 place) =
+    AreFit units × (is_rising (map address_of units) ≡ true)
+    × (position (λ u. not (has_lun_0 units u.target)) units ≡ Some place)
+IsUnitsFault units f = ⊥
+
+-- of queues where the features name a form of them
+abbrev pub IsQueuesFaultOf : Option Form → ℕ → List Layout → ConfigFault → Type 0
+IsQueuesFaultOf None memory queues f = ⊥
+IsQueuesFaultOf (Some form) memory queues f = IsQueuesFault form memory queues f
+
+-- there are as many pages as there may be
+abbrev pub HasPages : Config → Type 0
+HasPages c = is_within 1 65536 c.pages ≡ true
+
+-- pages, features and queues are taken
+abbrev pub HasQueues : Config → Type 0
+HasQueues c = HasPages c × (are_queues (form_of c.features) (size_of c) c.queues.items ≡ true)
+
+-- and so are the workers; and the room of the hand-off
+abbrev pub HasWorkers : Config → Type 0
+HasWorkers c = HasQueues c × (is_within 1 8 c.workers ≡ true)
+
+abbrev pub HasHandoff : Config → Type 0
+HasHandoff c = HasWorkers c × (is_within 1 4096 c.handoff ≡ true)
+
+-- each cause where none of those before it holds: pages, features, queues, workers, the hand-off, units
+abbrev pub IsFault : Config → ConfigFault → Type 0
+IsFault c fault.Pages = is_within 1 65536 c.pages ≡ false
+IsFault c fault.Features = HasPages c × (form_of c.features ≡ None)
+IsFault c fault.QueueCount =
+    HasPages c × IsQueuesFaultOf (form_of c.features) (size_of c) c.queues.items fault.QueueCount
+IsFault c (fault.QueueSize place) =
+    HasPages c × IsQueuesFaultOf (form_of c.features) (size_of c) c.queues.items (fault.QueueSize place)
+IsFault c (fault.QueueLayout place cause) =
+    HasPages c × IsQueuesFaultOf (form_of c.features) (size_of c) c.queues.items (fault.QueueLayout place cause)
+IsFault c fault.Workers = HasQueues c × (is_within 1 8 c.workers ≡ false)
+IsFault c fault.Handoff = HasWorkers c × (is_within 1 4096 c.handoff ≡ false)
+IsFault c f = HasHandoff c × IsUnitsFault c.units.items f

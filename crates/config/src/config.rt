@@ -1,0 +1,113 @@
+//! Which device is wanted.
+
+ghost use Rattle.std.specs.Prelude.{◌≡◌, ◌&&◌, nat_le, is_none, IfSome};
+ghost use Rattle.config.specs.Config.{form_of, is_config};
+ghost use Rattle.config.specs.ConfigFault.{IsFault};
+
+use crate::config_fault::{ConfigFault, fault_of_queues, fault_of_units};
+use decisions::UnitSpec;
+use ring_core::{Form, Layout};
+use std::error::Error;
+use std::fmt;
+
+/// VIRTIO_F_VERSION_1, which has to be set (VIRTIO 1.2, 6).
+pub const VERSION_1: u64 = 1 << 32;
+
+/// VIRTIO_F_RING_PACKED: packed virtqueues in place of split ones.
+pub const RING_PACKED: u64 = 1 << 34;
+
+/// Every feature that the device offers. Of these a driver has to agree to `VERSION_1` (VIRTIO 1.2, 6.1).
+pub const FEATURES: u64 = VERSION_1 + RING_PACKED;
+
+/// A device that is wanted.
+#[derive(Debug, Drop)]
+pub struct Config {
+    /// Guest memory in pages of 4,096 bytes, 1 to 65,536.
+    pub pages: u32,
+    /// The features agreed: `VERSION_1`, alone or with `RING_PACKED`.
+    pub features: u64,
+    /// The control queue, the event queue, and 1 to 16 request queues, each of 2 to 1,024
+    /// descriptors.
+    pub queues: Vec<Layout>,
+    /// How many workers serve the request queues, 1 to 8.
+    pub workers: u16,
+    /// How many jobs stand between workers at most, 1 to 4,096.
+    pub handoff: u16,
+    /// 1 to 64 units in rising order of target and LUN, each target with LUN 0.
+    pub units: Vec<UnitSpec>,
+}
+
+/// Why a device doesn't start. `BadConfig` is tested first.
+#[derive(Clone, Copy, Debug, PartialEq, Eq)]
+pub enum StartFault {
+    /// The configuration lies outside the limits, or a ring refuses its layout.
+    BadConfig = 1,
+    /// A growth was refused.
+    NoMemory = 2,
+}
+
+impl fmt::Display for StartFault {
+    fn fmt<W: fmt::Write>(&self, f: &mut fmt::Formatter<W>) -> fmt::Result {
+        match self {
+            StartFault::BadConfig => write!(f, "bad configuration"),
+            StartFault::NoMemory => write!(f, "no memory"),
+        }
+    }
+}
+
+impl Error for StartFault {}
+
+/// The form of queue that features ask for; `None` where they are no set that the device takes.
+pub fn form(features: u64) -> Option<Form>
+    ensures { result ≡ form_of features }
+{
+    if features == VERSION_1 {
+        Some(Form::Split)
+    } else if features == VERSION_1 + RING_PACKED {
+        Some(Form::Packed)
+    } else {
+        None
+    }
+}
+
+/// Whether a number is at least the one and at most the other.
+fn lies_within(number: u64, least: u64, most: u64) -> bool
+    ensures { result ≡ (nat_le least number && nat_le number most) }
+{
+    number >= least && number <= most
+}
+
+impl Config {
+    /// Why the device doesn't take it; `None` exactly where it does. Whoever sets a device up asks it to say what
+    /// `World::new` answers `BadConfig` for. Pages are looked at first, then features, queues, workers, the hand-off
+    /// and units.
+    pub fn fault(&self) -> Option<ConfigFault>
+        ensures none { is_none result ≡ is_config self.now }
+        ensures cause { IfSome result (λ fault. IsFault self.now fault) }
+    {
+        if !lies_within(self.pages as u64, 1, 65536) {
+            return Some(ConfigFault::Pages);
+        }
+        let Some(form) = form(self.features) else {
+            return Some(ConfigFault::Features);
+        };
+        let memory = self.pages as u64 * 4096;
+        if let Some(fault) = fault_of_queues(form, memory, self.queues.as_slice()) {
+            return Some(fault);
+        }
+        if !lies_within(self.workers as u64, 1, 8) {
+            return Some(ConfigFault::Workers);
+        }
+        if !lies_within(self.handoff as u64, 1, 4096) {
+            return Some(ConfigFault::Handoff);
+        }
+        fault_of_units(self.units.as_slice())
+    }
+
+    /// Whether the device takes it.
+    pub fn is_valid(&self) -> bool
+        ensures { result ≡ is_config self.now }
+    {
+        self.fault().is_none()
+    }
+}

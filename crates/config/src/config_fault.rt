@@ -1,0 +1,193 @@
+//! Why a device isn't taken.
+
+ghost use Rattle.std.specs.Prelude.{◌≡◌, not, is_none, false, IfSome, map, position};
+ghost use Rattle.decisions.specs.Inventory.{address_of, stands_before, is_rising};
+ghost use Rattle.config.specs.Config.{is_queue, is_unit, has_lun_0, are_units, are_queues};
+ghost use Rattle.config.specs.ConfigFault.{IsQueueFault, IsQueuesFault, IsUnitFault, IsUnitsFault, Falls};
+
+use decisions::UnitSpec;
+use phases::placement;
+use ring_core::{Form, Layout, LayoutFault};
+use std::error::Error;
+use std::fmt;
+
+/// The most descriptors of a queue, in the profile of this device.
+pub const MOST_DESCRIPTORS: u16 = 1024;
+
+/// Why the device doesn't take a configuration. A place counts from 0, and is the first one that the cause is true of.
+#[derive(Clone, Copy, Debug, PartialEq, Eq)]
+pub enum ConfigFault {
+    /// There are no pages, or more than 65,536.
+    Pages,
+    /// The features aren't `VERSION_1`, alone or with `RING_PACKED`.
+    Features,
+    /// There are fewer than 3 queues, or more than 18.
+    QueueCount,
+    /// The queue of this number has fewer than 2 descriptors, or more than 1,024.
+    QueueSize(usize),
+    /// The ring of the queue of this number refuses its layout.
+    QueueLayout(usize, LayoutFault),
+    /// There are no workers, or more than 8.
+    Workers,
+    /// There is no room for a job between workers, or for more than 4,096.
+    Handoff,
+    /// There are no units, or more than 64.
+    UnitCount,
+    /// The unit at this place has a LUN above 16,383.
+    UnitLun(usize),
+    /// The unit at this place has no blocks, or more than 131,072.
+    UnitBlocks(usize),
+    /// The unit at this place doesn't stand above the one before it, by target and LUN.
+    UnitOrder(usize),
+    /// The target of the unit at this place has no LUN 0.
+    NoLun0(usize),
+}
+
+impl fmt::Display for ConfigFault {
+    fn fmt<W: fmt::Write>(&self, f: &mut fmt::Formatter<W>) -> fmt::Result {
+        match self {
+            ConfigFault::Pages => write!(f, "pages out of range"),
+            ConfigFault::Features => write!(f, "features aren't offered"),
+            ConfigFault::QueueCount => write!(f, "number of queues out of range"),
+            ConfigFault::QueueSize(place) => write!(f, "queue {place}: size out of range"),
+            ConfigFault::QueueLayout(place, fault) => write!(f, "queue {place}: {fault}"),
+            ConfigFault::Workers => write!(f, "number of workers out of range"),
+            ConfigFault::Handoff => write!(f, "room of the hand-off out of range"),
+            ConfigFault::UnitCount => write!(f, "number of units out of range"),
+            ConfigFault::UnitLun(place) => write!(f, "unit {place}: LUN out of range"),
+            ConfigFault::UnitBlocks(place) => write!(f, "unit {place}: capacity out of range"),
+            ConfigFault::UnitOrder(place) => write!(f, "unit {place}: not above the one before"),
+            ConfigFault::NoLun0(place) => write!(f, "unit {place}: target without LUN 0"),
+        }
+    }
+}
+
+impl Error for ConfigFault {}
+
+/// Whether a queue lies within the limits.
+fn check_queue(form: Form, memory: u64, layout: &Layout) -> bool
+    ensures { result ≡ is_queue form memory layout.now }
+{
+    layout.size >= 2 && layout.size <= MOST_DESCRIPTORS && placement(form, memory, layout).is_none()
+}
+
+/// Why a queue doesn't lie within the limits.
+fn fault_of_queue(form: Form, memory: u64, place: usize, layout: &Layout) -> ConfigFault
+    requires { is_queue form memory layout.now ≡ false }
+    ensures { IsQueueFault form memory place layout.now result }
+{
+    if layout.size < 2 || layout.size > MOST_DESCRIPTORS {
+        return ConfigFault::QueueSize(place);
+    }
+    match placement(form, memory, layout) {
+        Some(fault) => ConfigFault::QueueLayout(place, fault),
+        None => unreachable!(),
+    }
+}
+
+/// The first queue that doesn't lie within the limits.
+fn first_refused(form: Form, memory: u64, queues: &[Layout]) -> Option<usize>
+    ensures { result ≡ position (λ l. not (is_queue form memory l)) queues.now }
+{
+    queues
+        .iter()
+        .position(|layout| !check_queue(form, memory, layout))
+}
+
+/// Why there aren't queues of each kind, within the limits.
+pub(crate) fn fault_of_queues(form: Form, memory: u64, queues: &[Layout]) -> Option<ConfigFault>
+    ensures none { is_none result ≡ are_queues (Some form) memory queues.now }
+    ensures cause { IfSome result (λ fault. IsQueuesFault form memory queues.now fault) }
+{
+    if queues.len() < 3 || queues.len() > 18 {
+        return Some(ConfigFault::QueueCount);
+    }
+    match first_refused(form, memory, queues) {
+        Some(place) => Some(fault_of_queue(form, memory, place, &queues[place])),
+        None => None,
+    }
+}
+
+/// Whether a unit lies within the limits.
+fn check_unit(unit: &UnitSpec) -> bool
+    ensures { result ≡ is_unit unit.now }
+{
+    unit.lun <= 16383 && unit.blocks >= 1 && unit.blocks <= 131_072
+}
+
+/// Why a unit doesn't lie within the limits.
+fn fault_of_unit(place: usize, unit: &UnitSpec) -> ConfigFault
+    requires { is_unit unit.now ≡ false }
+    ensures { IsUnitFault place unit.now result }
+{
+    if unit.lun > 16383 {
+        ConfigFault::UnitLun(place)
+    } else {
+        ConfigFault::UnitBlocks(place)
+    }
+}
+
+/// Whether a target has LUN 0.
+fn check_lun_0(units: &[UnitSpec], target: u8) -> bool
+    ensures { result ≡ has_lun_0 units.now target }
+{
+    units
+        .iter()
+        .any(|unit| unit.target == target && unit.lun == 0)
+}
+
+/// The first unit that doesn't lie within the limits.
+fn first_unfit(units: &[UnitSpec]) -> Option<usize>
+    ensures { result ≡ position (λ u. not (is_unit u)) units.now }
+{
+    units.iter().position(|unit| !check_unit(unit))
+}
+
+/// The first unit whose target has no LUN 0.
+fn first_lacking(units: &[UnitSpec]) -> Option<usize>
+    ensures { result ≡ position (λ u. not (has_lun_0 units.now u.target)) units.now }
+{
+    units
+        .iter()
+        .position(|unit| !check_lun_0(units, unit.target))
+}
+
+/// Whether one unit stands above another.
+fn stands_above(before: &UnitSpec, unit: &UnitSpec) -> bool
+    ensures { result ≡ stands_before (address_of before.now) (address_of unit.now) }
+{
+    before.target < unit.target || (before.target == unit.target && before.lun < unit.lun)
+}
+
+/// The first unit that doesn't stand above the one before it.
+fn first_fall(units: &[UnitSpec]) -> Option<usize>
+    ensures none { is_none result ≡ is_rising (map address_of units.now) }
+    ensures cause { IfSome result (λ place. Falls units.now place) }
+{
+    for place in 1..units.len() {
+        if !stands_above(&units[place - 1], &units[place]) {
+            return Some(place);
+        }
+    }
+    None
+}
+
+/// Why the units don't lie within the limits.
+pub(crate) fn fault_of_units(units: &[UnitSpec]) -> Option<ConfigFault>
+    ensures none { is_none result ≡ are_units units.now }
+    ensures cause { IfSome result (λ fault. IsUnitsFault units.now fault) }
+{
+    if units.len() < 1 || units.len() > 64 {
+        return Some(ConfigFault::UnitCount);
+    }
+    if let Some(place) = first_unfit(units) {
+        return Some(fault_of_unit(place, &units[place]));
+    }
+    if let Some(place) = first_fall(units) {
+        return Some(ConfigFault::UnitOrder(place));
+    }
+    match first_lacking(units) {
+        Some(place) => Some(ConfigFault::NoLun0(place)),
+        None => None,
+    }
+}

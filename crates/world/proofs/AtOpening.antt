@@ -1,0 +1,283 @@
+-- The queues, the units and the seats of a device that opens.
+use Rattle.std.proofs.Common.{◌≡◌, ◌≤◌, ℕ, Bool, true, None, Some, Option, refl, List, [], ◌∷◌, ◌++◌, ◌+◌, ◌*◌, ◌<◌, ◌&&◌, length, zero, suc, arith, ap, sym, ◌∙◌, ◌⊎◌, inl, inr, subst, map}
+use Rattle.std.specs.Prelude.{slice_get, nat_le, is_none}
+use Rattle.std.specs.List.{list_all}
+use Rattle.std.proofs.lemmas.Bool.{and_parts}
+use Rattle.std.proofs.lemmas.Bool.Decides.{nat_tests}
+use Rattle.std.proofs.lemmas.List.{length-map}
+use Rattle.std.proofs.lemmas.Option.{slice_get_within}
+use Rattle.ring_core.specs.State.{opening}
+use Rattle.ring_core.specs.declared.layout.Form.{Form}
+use Rattle.ring_core.specs.declared.layout.Form.TheVariants.{Split, Packed}
+use Rattle.ring_core.specs.declared.layout.Layout.{Layout}
+use Rattle.decisions.specs.Inventory.{address_of, is_rising}
+use Rattle.decisions.specs.declared.inventory.UnitSpec.{UnitSpec}
+use Rattle.unit_history.specs.Unit.{PlainUnit}
+use Rattle.deeds.specs.Parts.{Slot}
+use Rattle.deeds.specs.World.{PlainQueue, PlainWorld, Seat, Everywhere, IsNewQueue, IsNewUnit, IsNewSeat, Opens}
+use Rattle.deeds.proofs.Lists.{nothing, same}
+use Rattle.phases.specs.Queue.{opening_ring, opening_queue, placement_of, with_slot}
+use Rattle.config.specs.declared.config.Config.{Config}
+use Rattle.config.specs.Config.{is_config, is_queue, is_unit, has_lun_0, are_queues, are_units, form_of, size_of}
+use Rattle.world.specs.Opening.{AreOpening, AreFresh, AreSeats, IsOpening, opening_unit}
+use Rattle.world.specs.Kept.{KeptSeat, seat_of, HasLists}
+use Rattle.world.specs.Sound.{IsWhole}
+use Rattle.world.specs.Sound as seen
+
+-- the item that was put at the end of a list
+pub at_end : {X : Type 0} (xs : List X) (y : X) → slice_get (xs ++ y ∷ []) (length xs) ≡ Some y
+at_end [] y = refl
+at_end (x ∷ xs) y = at_end xs y
+
+-- those before it
+pub before_end : {X : Type 0} (xs : List X) (y : X) (k : ℕ) (x : X) → slice_get xs k ≡ Some x
+    → slice_get (xs ++ y ∷ []) k ≡ Some x
+before_end [] y k z e = absurd (omega (arith, slice_get_within [] k z e))
+before_end (x ∷ xs) y zero z e = e
+before_end (x ∷ xs) y (suc k) z e = before_end xs y k z e
+
+at_or_below : (k n : ℕ) → k < n + 1 → (k < n) ⊎ (k ≡ n)
+at_or_below k n lt = grind arith
+
+-- Items that are made one after another, each of its number and of what a list has there; and one more of them:
+module _ {X Y : Type 0} (make : ℕ → X → Y) (wanted : List X) (made : List Y) (n : ℕ) (count : length made ≡ n)
+    (each : (k : ℕ) (x : X) → k < n → slice_get wanted k ≡ Some x → slice_get made k ≡ Some (make k x))
+    (y : Y) (is : (x : X) → slice_get wanted n ≡ Some x → y ≡ make n x) where
+  pub one_more : (k : ℕ) (x : X) → k < n + 1 → slice_get wanted k ≡ Some x
+      → slice_get (made ++ y ∷ []) k ≡ Some (make k x)
+  one_more k x lt there =
+      elim (at_or_below k n lt) [
+        | inl below ↦ before_end made y k (make k x) (each k x below there)
+        | inr here ↦
+            ap (λ (j : ℕ). slice_get (made ++ y ∷ []) j) (here ∙ sym count)
+            ∙ at_end made y
+            ∙ ap (λ (z : Y). Some z) (is x (subst (λ (j : ℕ). slice_get wanted j ≡ Some x) here there)
+            ∙ ap (λ (j : ℕ). make j x) (sym here))
+      ]
+
+-- what is true of each item is true of each of one more
+pub everywhere_more : {X : Type 0} (P : X → Type 0) (xs : List X) (y : X)
+    → ((i : ℕ) (x : X) → slice_get xs i ≡ Some x → P x) → P y
+    → (i : ℕ) (x : X) → slice_get (xs ++ y ∷ []) i ≡ Some x → P x
+everywhere_more P [] y all h zero x e = subst P (same e) h
+everywhere_more P [] y all h (suc i) x e = absurd (omega (arith, slice_get_within [] i x e))
+everywhere_more P (z ∷ xs) y all h zero x e = all zero x e
+everywhere_more P (z ∷ xs) y all h (suc i) x e = everywhere_more P xs y (λ j v at. all (suc j) v at) h i x e
+
+-- there is an item at each index below the length
+stands_at : {X : Type 0} (xs : List X) (k : ℕ) → k < length xs → (x : X) × (slice_get xs k ≡ Some x)
+stands_at [] k lt = absurd (omega (arith, lt))
+stands_at (x ∷ xs) zero lt = (x, refl)
+stands_at (x ∷ xs) (suc k) lt = stands_at xs k (omega (arith, lt))
+
+-- what is true of what is made of each item of a list is true everywhere
+each_made : {X Y : Type 0} (make : ℕ → X → Y) (P : ℕ → Y → Type 0) (wanted : List X) (made : List Y)
+    → length made ≡ length wanted
+    → ((k : ℕ) (x : X) → slice_get wanted k ≡ Some x → slice_get made k ≡ Some (make k x))
+    → ((k : ℕ) (x : X) → P k (make k x)) → Everywhere P made
+each_made make P wanted made count each is k y at =
+    let found = stands_at wanted k (omega (arith, slice_get_within made k y at, count)) in
+    subst (λ z. P k z) (same (sym (each k found.0 found.1) ∙ at)) (is k found.0)
+
+-- what stands in an image is the image of what stands there
+each_image : {X Y : Type 0} (f : X → Y) (P : Y → Type 0) (xs : List X)
+    → ((k : ℕ) (x : X) → slice_get xs k ≡ Some x → P (f x)) → (k : ℕ) (y : Y)
+    → slice_get (map f xs) k ≡ Some y → P y
+each_image f P [] is k y at = absurd (nothing at)
+each_image f P (x ∷ xs) is zero y at = subst P (same at) (is zero x refl)
+each_image f P (x ∷ xs) is (suc k) y at = each_image f P xs (λ j z e. is (suc j) z e) k y at
+
+-- a queue that opens is new
+opens_new : (form : Form) (memory number : ℕ) (l : Layout)
+    → IsNewQueue number (with_slot Slot.Empty (opening_queue form memory number l))
+unfolding opening
+opens_new Split memory number l =
+    record { numbered = refl; accepted = refl; used = refl; whole = refl; slot = refl; notices = refl }
+opens_new Packed memory number l =
+    record { numbered = refl; accepted = refl; used = refl; whole = refl; slot = refl; notices = refl }
+
+-- and it was made with the memory that it was given
+opens_in : (form : Form) (memory number : ℕ) (l : Layout) → (opening_ring form memory number l).memory ≡ memory
+unfolding opening
+opens_in Split memory number l = refl
+opens_in Packed memory number l = refl
+
+-- the lists of a device that opens
+pub lists_open : (form : Form) (m : List ℕ) (layouts : List Layout) (queues : List PlainQueue) (units : List PlainUnit)
+    (count : ℕ) (seats : List KeptSeat) → AreOpening form (length m) layouts queues
+    → AreSeats count (64 * length units + 64) seats → HasLists m queues units seats 1025
+lists_open form m layouts queues units count seats opening is =
+    record {
+      fits =
+          each_made (λ (k : ℕ) (l : Layout). with_slot Slot.Empty (opening_queue form (length m) k l))
+          (λ (k : ℕ) (q : PlainQueue). q.ring.memory ≡ length m) layouts queues opening.count opening.each
+          (λ k l. opens_in form (length m) k l);
+      limits = λ k s at. ap (λ (z : KeptSeat). z.limit) (is.each k s at);
+      port = refl;
+    }
+
+-- seats that open have nothing
+pub seats_idle : (count limit : ℕ) (seats : List KeptSeat) → AreSeats count limit seats
+    → Everywhere (λ (k : ℕ) (s : Seat). IsNewSeat s) (map seat_of seats)
+seats_idle count limit seats is =
+    each_image seat_of IsNewSeat seats (λ k s at. record {
+      hand = ap (λ (z : KeptSeat). z.hand) (is.each k s at);
+      out = ap (λ (z : KeptSeat). z.jobs) (is.each k s at);
+    })
+
+-- they are as many as were asked for
+pub seats_many : (count limit : ℕ) (seats : List KeptSeat) → AreSeats count limit seats
+    → length (map seat_of seats) ≡ count
+seats_many count limit seats is = rw length-map is.many
+
+below : (a b : ℕ) → nat_le a b ≡ true → a ≤ b
+below a b h = grind (arith, nat_tests)
+
+-- a device that is taken has at most 18 queues
+few_queues : (form : Option Form) (memory : ℕ) (layouts : List Layout) → are_queues form memory layouts ≡ true
+    → length layouts ≤ 18
+few_queues None memory layouts h = absurd (cc)
+few_queues (Some form) memory layouts h =
+    below (length layouts) 18
+    (and_parts (nat_le 3 (length layouts)) (nat_le (length layouts) 18)
+    (and_parts (nat_le 3 (length layouts) && nat_le (length layouts) 18) (list_all (is_queue form memory) layouts) h).0).1
+
+-- of eight tests that all hold, the third to the fifth
+three_of : (a b c d e f g h : Bool) → (a && b && c && d && e && f && g && h) ≡ true
+    → (c ≡ true) × (d ≡ true) × (e ≡ true)
+three_of a b c d e f g h is =
+    let p = and_parts (a && b && c && d && e && f && g) h is in
+    let q = and_parts (a && b && c && d && e && f) g p.0 in
+    let r = and_parts (a && b && c && d && e) f q.0 in
+    let s = and_parts (a && b && c && d) e r.0 in
+    let t = and_parts (a && b && c) d s.0 in
+    ((and_parts (a && b) c t.0).1, t.1, s.1)
+
+-- a configuration that is taken has few queues, and 1 to 8 workers
+config_few : (c : Config) → is_config c ≡ true
+    → (length c.queues.items ≤ 18) × (1 ≤ c.workers) × (c.workers ≤ 8)
+config_few c is =
+    let t = three_of (nat_le 1 c.pages) (nat_le c.pages 65536) (are_queues (form_of c.features) (size_of c) c.queues.items)
+    (nat_le 1 c.workers) (nat_le c.workers 8) (nat_le 1 c.handoff) (nat_le c.handoff 4096) (are_units c.units.items) is in
+    (few_queues (form_of c.features) (size_of c) c.queues.items t.0, below 1 c.workers t.1, below c.workers 8 t.2)
+
+-- in the device of a configuration that is taken nothing has happened yet
+pub opens : (c : Config) (w : PlainWorld) → is_config c ≡ true → IsOpening c w → Opens w
+opens c w is o =
+    let few = config_few c is in
+    record {
+      queues =
+          each_made (λ (k : ℕ) (l : Layout). with_slot Slot.Empty (opening_queue o.form (size_of c) k l))
+          IsNewQueue c.queues.items w.queues o.queues.count o.queues.each
+          (λ k l. opens_new o.form (size_of c) k l);
+      units =
+          each_made (λ (k : ℕ) (u : UnitSpec). opening_unit (map address_of c.units.items) u)
+          (λ (k : ℕ) (u : PlainUnit). IsNewUnit u) c.units.items w.units o.units.count o.units.each
+          (λ k u. record { steps = refl; parked = refl });
+      there = o.units.count ∙ (sym (rw length-map refl) ∙ ap length (sym o.inventory));
+      seats = o.idle;
+      working = subst (λ n. 1 ≤ n) (sym o.workers) few.1;
+      seated = o.seats ∙ ap (λ n. n + 1) (sym o.workers);
+      handed_off = o.handed_off;
+      function = o.function;
+      buffers = o.buffers;
+      missed = o.missed;
+      waiting = o.waiting;
+    }
+
+-- what a test says of every item it says of each
+each_passes : {X : Type 0} (p : X → Bool) (xs : List X) → list_all p xs ≡ true → (k : ℕ) (x : X)
+    → slice_get xs k ≡ Some x → p x ≡ true
+each_passes p [] h k x at = absurd (nothing at)
+each_passes p (y ∷ xs) h zero x at =
+    ap p (sym (same at)) ∙ (and_parts (p y) (list_all p xs) h).0
+each_passes p (y ∷ xs) h (suc k) x at = each_passes p xs (and_parts (p y) (list_all p xs) h).1 k x at
+
+-- and 3 queues or more
+some_queues : (form : Option Form) (memory : ℕ) (layouts : List Layout) → are_queues form memory layouts ≡ true
+    → 3 ≤ length layouts
+some_queues None memory layouts h = absurd (cc)
+some_queues (Some form) memory layouts h =
+    below 3 (length layouts)
+    (and_parts (nat_le 3 (length layouts)) (nat_le (length layouts) 18)
+    (and_parts (nat_le 3 (length layouts) && nat_le (length layouts) 18) (list_all (is_queue form memory) layouts) h).0).0
+
+-- a queue that opens lies where it was placed
+opens_at : (form : Form) (memory number : ℕ) (l : Layout) → (opening_ring form memory number l).layout ≡ l
+unfolding opening
+opens_at Split memory number l = refl
+opens_at Packed memory number l = refl
+
+-- each of the queues that are taken has at most 1,024 descriptors
+layouts_small : (form : Option Form) (memory : ℕ) (layouts : List Layout) → are_queues form memory layouts ≡ true
+    → (k : ℕ) (l : Layout) → slice_get layouts k ≡ Some l → l.size ≤ 1024
+layouts_small None memory layouts h k l at = absurd (cc)
+layouts_small (Some form) memory layouts h k l at =
+    let all = (and_parts (nat_le 3 (length layouts) && nat_le (length layouts) 18) (list_all (is_queue form memory) layouts) h).1 in
+    let one = each_passes (is_queue form memory) layouts all k l at in
+    let two = (and_parts (nat_le 2 l.size && nat_le l.size 1024) (is_none (placement_of form memory l)) one).0 in
+    below l.size 1024 (and_parts (nat_le 2 l.size) (nat_le l.size 1024) two).1
+
+sizes_open : (form : Form) (memory : ℕ) (layouts : List Layout) (queues : List PlainQueue)
+    → AreOpening form memory layouts queues
+    → ((k : ℕ) (l : Layout) → slice_get layouts k ≡ Some l → l.size ≤ 1024)
+    → Everywhere (λ i (n : ℕ). n ≤ 1024) (map seen.size_of queues)
+sizes_open form memory layouts queues is small =
+    each_image seen.size_of (λ n. n ≤ 1024) queues (λ k q at.
+    let found = stands_at layouts k (omega (arith, slice_get_within queues k q at, is.count)) in
+    subst (λ (z : PlainQueue). seen.size_of z ≤ 1024) (same (sym (is.each k found.0 found.1) ∙ at))
+    (subst (λ (l : Layout). l.size ≤ 1024) (sym (opens_at form memory k found.0)) (small k found.0 found.1)))
+
+-- each of the units that are taken has a LUN up to 16,383, and they are at most 64
+units_named : (units : List UnitSpec) → are_units units ≡ true
+    → (length units ≤ 64) × ((k : ℕ) (u : UnitSpec) → slice_get units k ≡ Some u → u.lun ≤ 16383)
+units_named units h =
+    let a = (and_parts (nat_le 1 (length units) && nat_le (length units) 64 && list_all is_unit units
+    && is_rising (map address_of units)) (list_all (λ u. has_lun_0 units u.target) units) h).0 in
+    let b = (and_parts (nat_le 1 (length units) && nat_le (length units) 64 && list_all is_unit units)
+    (is_rising (map address_of units)) a).0 in
+    let c = and_parts (nat_le 1 (length units) && nat_le (length units) 64) (list_all is_unit units) b in (
+      below (length units) 64 (and_parts (nat_le 1 (length units)) (nat_le (length units) 64) c.0).1,
+      λ k u at.
+          let one = each_passes is_unit units c.1 k u at in
+          let two = (and_parts (nat_le u.lun 16383 && nat_le 1 u.blocks) (nat_le u.blocks 131072) one).0 in
+          below u.lun 16383 (and_parts (nat_le u.lun 16383) (nat_le 1 u.blocks) two).0,
+    )
+
+luns_open : (wanted : List UnitSpec) (units : List PlainUnit) → AreFresh wanted units
+    → ((k : ℕ) (u : UnitSpec) → slice_get wanted k ≡ Some u → u.lun ≤ 16383)
+    → Everywhere (λ k (n : ℕ). n ≤ 16383) (map seen.lun_of units)
+luns_open wanted units is named =
+    each_image seen.lun_of (λ n. n ≤ 16383) units (λ k u at.
+    let found = stands_at wanted k (omega (arith, slice_get_within units k u at, is.count)) in
+    subst (λ (z : PlainUnit). seen.lun_of z ≤ 16383) (same (sym (is.each k found.0 found.1) ∙ at))
+    (named k found.0 found.1))
+
+-- the tests of the queues and of the units of a configuration that is taken
+config_tests : (c : Config) → is_config c ≡ true
+    → (are_queues (form_of c.features) (size_of c) c.queues.items ≡ true) × (are_units c.units.items ≡ true)
+config_tests c is =
+    let last = and_parts (nat_le 1 c.pages && nat_le c.pages 65536 && are_queues (form_of c.features) (size_of c) c.queues.items
+    && nat_le 1 c.workers && nat_le c.workers 8 && nat_le 1 c.handoff && nat_le c.handoff 4096) (are_units c.units.items) is in
+    let t = three_of (nat_le 1 c.pages) (nat_le c.pages 65536) (are_queues (form_of c.features) (size_of c) c.queues.items)
+    (nat_le 1 c.workers) (nat_le c.workers 8) (nat_le 1 c.handoff) (nat_le c.handoff 4096) (are_units c.units.items) is in
+    (t.0, last.1)
+
+-- and so it is whole
+pub opens_whole : (c : Config) (w : PlainWorld) → is_config c ≡ true → IsOpening c w → IsWhole w
+opens_whole c w is o =
+    let few = config_few c is in
+    let tests = config_tests c is in
+    let units = units_named c.units.items tests.1 in
+    record {
+      reached = record { old = w; trace = []; reached = record { opens = opens c w is o; runs = refl } };
+      few = record {
+        several = omega (arith, some_queues (form_of c.features) (size_of c) c.queues.items tests.0, o.queues.count);
+        queues = omega (arith, few.0, o.queues.count);
+        seats = omega (arith, few.2, o.seats);
+        units = omega (arith, units.0, o.units.count);
+        sizes = sizes_open o.form (size_of c) c.queues.items w.queues o.queues
+            (layouts_small (form_of c.features) (size_of c) c.queues.items tests.0);
+        luns = luns_open c.units.items w.units o.units units.1;
+      };
+    }

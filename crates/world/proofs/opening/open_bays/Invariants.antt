@@ -1,0 +1,14 @@
+use Rattle.std.proofs.Common.{◌≡◌, ◌<◌, ℕ, length, Some}
+use Rattle.std.specs.Prelude.{slice_get}
+use Rattle.ring_core.specs.declared.layout.Layout.{Layout}
+use Rattle.deeds.specs.Parts.{Slot}
+use Rattle.phases.specs.Queue.{opening_queue, with_slot}
+use Rattle.world.proofs.opening.open_bays.Given as goal
+
+abbrev pub invariant-loop-number : goal.invariant-loop-number
+invariant-loop-number l =
+    record {
+      count : length l.bays.items ≡ l.number;
+      each : (k : ℕ) (p : Layout) → k < l.number → slice_get l.layouts k ≡ Some p
+          → slice_get l.bays.items k ≡ Some (with_slot Slot.Empty (opening_queue l.form (length l.memory) k p));
+    }

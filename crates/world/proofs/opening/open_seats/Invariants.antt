@@ -1,0 +1,14 @@
+use Rattle.std.proofs.Common.{◌≡◌, ℕ, [], length}
+use Rattle.deeds.specs.Parts.{Hand}
+use Rattle.deeds.specs.World.{Everywhere}
+use Rattle.world.specs.Kept.{KeptSeat}
+use Rattle.world.proofs.opening.open_seats.Given as goal
+
+abbrev pub invariant-loop-number : goal.invariant-loop-number
+invariant-loop-number l =
+    record {
+      count : length l.seats.items ≡ l._number;
+      each :
+          Everywhere (λ (k : ℕ) (s : KeptSeat). s ≡ record { hand = Hand.Free; jobs = []; limit = l.limit })
+          l.seats.items;
+    }

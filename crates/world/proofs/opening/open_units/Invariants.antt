@@ -1,0 +1,13 @@
+use Rattle.std.proofs.Common.{◌≡◌, ◌<◌, ℕ, length, Some}
+use Rattle.std.specs.Prelude.{slice_get}
+use Rattle.decisions.specs.declared.inventory.UnitSpec.{UnitSpec}
+use Rattle.world.specs.Opening.{opening_unit}
+use Rattle.world.proofs.opening.open_units.Given as goal
+
+abbrev pub invariant-loop-number : goal.invariant-loop-number
+invariant-loop-number l =
+    record {
+      count : length l.units.items ≡ l.number;
+      each : (k : ℕ) (u : UnitSpec) → k < l.number → slice_get l.wanted k ≡ Some u
+          → slice_get l.units.items k ≡ Some (opening_unit l.inventory u);
+    }

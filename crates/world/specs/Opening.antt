@@ -1,0 +1,66 @@
+-- The device that a configuration opens as.
+use Rattle.std.specs.Prelude.{ℕ, ◌+◌, ◌≡◌, false, List, [], length, replicate, map, slice_get, Some, None}
+use Rattle.ring_core.specs.declared.layout.Form.{Form}
+use Rattle.ring_core.specs.declared.layout.Layout.{Layout}
+use Rattle.phases.specs.Queue.{opening_queue, with_slot}
+use Rattle.deeds.specs.Parts.{Slot, Hand}
+use Rattle.deeds.specs.World.{PlainQueue, PlainWorld, IsNewSeat, Everywhere}
+use Rattle.world.specs.Kept.{KeptSeat}
+use Rattle.history.specs.Contents.{Opening}
+use Rattle.unit_history.specs.Unit.{PlainUnit}
+use Rattle.unit_history.specs.Unit as unit
+use Rattle.scsi_codec.specs.declared.lun.Address.{Address}
+use Rattle.decisions.specs.Inventory.{address_of, luns_of}
+use Rattle.decisions.specs.declared.inventory.UnitSpec.{UnitSpec}
+use Rattle.config.specs.Config.{form_of, size_of}
+use Rattle.config.specs.declared.config.Config.{Config}
+
+-- what a unit opens with
+abbrev pub opening_of : List Address → UnitSpec → Opening
+opening_of inventory u =
+    record {
+      target = u.target;
+      lun = u.lun;
+      luns = luns_of inventory u.target;
+      blocks = u.blocks;
+      calm = u.calm;
+    }
+
+-- a unit of which no step was taken. It keeps no replies, since no receipt outlives a chain's service
+abbrev pub opening_unit : List Address → UnitSpec → PlainUnit
+opening_unit inventory u = unit.opening_unit (opening_of inventory u) false
+
+-- the queues of these layouts, of which nothing was fetched yet
+pub record AreOpening (form : Form) (memory : ℕ) (layouts : List Layout) (queues : List PlainQueue) : Type 0 where
+  pub count : length queues ≡ length layouts
+  pub each : (k : ℕ) (l : Layout) → slice_get layouts k ≡ Some l → slice_get queues k
+      ≡ Some (with_slot Slot.Empty (opening_queue form memory k l))
+
+-- the units, of which no step was taken
+pub record AreFresh (wanted : List UnitSpec) (units : List PlainUnit) : Type 0 where
+  pub count : length units ≡ length wanted
+  pub each : (k : ℕ) (u : UnitSpec) → slice_get wanted k ≡ Some u → slice_get units k
+      ≡ Some (opening_unit (map address_of wanted) u)
+
+-- so many seats, with nothing in hand and room for so many jobs
+pub record AreSeats (count limit : ℕ) (seats : List KeptSeat) : Type 0 where
+  pub many : length seats ≡ count
+  pub each : Everywhere (λ (k : ℕ) (s : KeptSeat). s ≡ record { hand = Hand.Free; jobs = []; limit = limit }) seats
+
+-- memory is zeros, of each queue nothing was fetched, of each unit no step was taken, and no seat has anything
+pub record IsOpening (c : Config) (w : PlainWorld) : Type 0 where
+  pub form : Form
+  pub agreed : form_of c.features ≡ Some form
+  pub memory : w.memory ≡ replicate (size_of c) 0
+  pub inventory : w.inventory ≡ map address_of c.units.items
+  pub queues : AreOpening form (size_of c) c.queues.items w.queues
+  pub units : AreFresh c.units.items w.units
+  pub workers : w.workers ≡ c.workers
+  pub limit : w.limit ≡ c.handoff
+  pub seats : length w.seats ≡ c.workers + 1
+  pub idle : Everywhere (λ (k : ℕ) (s : _). IsNewSeat s) w.seats
+  pub handed_off : w.handed_off ≡ []
+  pub function : w.function ≡ None
+  pub buffers : w.buffers ≡ []
+  pub missed : w.missed ≡ false
+  pub waiting : w.waiting ≡ []

@@ -1,0 +1,111 @@
+//! Where in the order of service to look next.
+
+ghost use Rattle.std.specs.Prelude.{◌≡◌, ◌↔◌, IsTrue};
+ghost use Rattle.world.specs.Cursors.{served_of, direct_from, seat_from, enter_from};
+
+/// A place in the order before which no event applies.
+#[derive(Clone, Copy, Debug, PartialEq, Eq)]
+pub(crate) enum Cursor {
+    /// Its beginning.
+    Start,
+    /// The answer of the chain that is ready on a queue.
+    Direct(u16),
+    /// The first seat.
+    Seats,
+    /// The request that arrived on a queue.
+    Enter(u16),
+    /// The first queue's next chain.
+    Fetch,
+}
+
+/// What was served, and from where on to look then.
+#[derive(Clone, Copy, Debug, PartialEq, Eq)]
+pub(crate) struct Served {
+    /// From where on to look.
+    pub(crate) next: Cursor,
+    /// How many events it was.
+    pub(crate) steps: u64,
+}
+
+/// How many events a request is that is served at once.
+pub(crate) const AT_ONCE: u64 = 7;
+
+/// One event was served.
+pub(crate) fn one(next: Cursor) -> Served
+    ensures { result ≡ record { next = next; steps = 1 } }
+{
+    Served { next, steps: 1 }
+}
+
+/// What was done of a request at once, where the first seat has so many jobs to hand off then.
+pub(crate) fn served_so(done: Option<bool>, jobs: usize) -> Served
+    ensures { result ≡ served_of done jobs }
+{
+    if done.is_none() {
+        return Served {
+            next: Cursor::Start,
+            steps: 2,
+        };
+    }
+    let next = if jobs == 0 {
+        Cursor::Fetch
+    } else {
+        Cursor::Seats
+    };
+    Served {
+        next,
+        steps: AT_ONCE,
+    }
+}
+
+/// Whether it is the beginning.
+pub(crate) fn is_start(cursor: Cursor) -> bool
+    ensures { IsTrue result ↔ (cursor ≡ Cursor.Start) }
+{
+    match cursor {
+        Cursor::Start => true,
+        Cursor::Direct(_) | Cursor::Seats | Cursor::Enter(_) | Cursor::Fetch => false,
+    }
+}
+
+/// Whether it is the first queue's next chain.
+pub(crate) fn is_fetch(cursor: Cursor) -> bool
+    ensures { IsTrue result ↔ (cursor ≡ Cursor.Fetch) }
+{
+    match cursor {
+        Cursor::Fetch => true,
+        Cursor::Start | Cursor::Direct(_) | Cursor::Seats | Cursor::Enter(_) => false,
+    }
+}
+
+/// The first queue whose answer may be ready, of so many.
+pub(crate) fn first_direct(cursor: Cursor, queues: usize) -> usize
+    ensures { result ≡ direct_from cursor queues }
+{
+    match cursor {
+        Cursor::Start => 0,
+        Cursor::Direct(number) => number as usize,
+        Cursor::Seats | Cursor::Enter(_) | Cursor::Fetch => queues,
+    }
+}
+
+/// The first seat that may have a step to take, of so many.
+pub(crate) fn first_seat(cursor: Cursor, seats: usize) -> usize
+    ensures { result ≡ seat_from cursor seats }
+{
+    match cursor {
+        Cursor::Start | Cursor::Direct(_) | Cursor::Seats => 0,
+        Cursor::Enter(_) | Cursor::Fetch => seats,
+    }
+}
+
+/// The first queue on which a request may have arrived, of so many.
+pub(crate) fn first_enter(cursor: Cursor, queues: usize) -> usize
+    ensures { result ≡ enter_from cursor queues }
+{
+    match cursor {
+        Cursor::Start | Cursor::Direct(_) | Cursor::Seats => 0,
+        Cursor::Enter(number) => number as usize,
+        Cursor::Fetch => queues,
+    }
+}

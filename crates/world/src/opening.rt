@@ -1,0 +1,124 @@
+//! How the device opens.
+
+ghost use Rattle.std.specs.Prelude.{◌≡◌, ◌≤◌, length, map, IfOk, true};
+ghost use Rattle.decisions.specs.Inventory.{address_of};
+ghost use Rattle.std.specs.List.{list_all};
+ghost use Rattle.config.specs.Config.{is_config, is_queue};
+ghost use Rattle.world.specs.Opening.{AreOpening, AreFresh, AreSeats, IsOpening, opening_unit};
+
+use crate::bay::Bay;
+use crate::device::Device;
+use crate::seat::Seat;
+use block_store::NoMemory;
+use config::{Config, MOST_DESCRIPTORS, form};
+use decisions::{Inventory, UnitSpec};
+use event_queue::{EventPort, WaitingEvents};
+use guest_mem::GuestMem;
+use phases::Queue;
+use ring_core::{Form, Layout};
+use std::alloc::Global;
+use task_set::MOST_TASKS;
+use unit_history::{JobList, UnitState};
+
+/// The queues of these layouts, of which nothing was fetched yet.
+fn open_bays(
+    alloc: Global,
+    form: Form,
+    layouts: &[Layout],
+    memory: &GuestMem,
+) -> Result<Vec<Bay>, NoMemory>
+    requires few { length layouts.now ≤ 18 }
+    requires placed { list_all (is_queue form (length memory.now)) layouts.now ≡ true }
+    ensures { IfOk result (λ bays. AreOpening form (length memory.now) layouts.now bays.items) }
+{
+    let mut bays = Vec::new(alloc);
+    for number in 0..layouts.len() {
+        let queue = Queue::new(alloc, form, number as u16, layouts[number], memory)?;
+        if bays.push(Bay::new(queue)).is_err() {
+            return Err(NoMemory);
+        }
+    }
+    Ok(bays)
+}
+
+/// A unit among those of an inventory, of which no step was taken. `NoMemory` where its blocks or its target's
+/// LUNs were refused memory.
+fn open_unit(alloc: Global, spec: &UnitSpec, inventory: &Inventory) -> Result<UnitState, NoMemory>
+    ensures { IfOk result (λ unit. unit ≡ opening_unit inventory.now spec.now) }
+{
+    let luns = inventory.luns_of(alloc, spec.target)?;
+    // No receipt outlives the answer of its chain, so no reply is kept to be compared.
+    UnitState::new(alloc, spec, luns.as_slice(), false)
+}
+
+/// The units that are wanted, of which no step was taken.
+fn open_units(
+    alloc: Global,
+    wanted: &[UnitSpec],
+    inventory: &Inventory,
+) -> Result<Vec<UnitState>, NoMemory>
+    requires { inventory.now ≡ map address_of wanted.now }
+    ensures { IfOk result (λ units. AreFresh wanted.now units.items) }
+{
+    let mut units = Vec::new(alloc);
+    for number in 0..wanted.len() {
+        let unit = open_unit(alloc, &wanted[number], inventory)?;
+        if units.push(unit).is_err() {
+            return Err(NoMemory);
+        }
+    }
+    Ok(units)
+}
+
+/// Seats with nothing in hand, and room for so many jobs in each list.
+fn open_seats(alloc: Global, count: usize, limit: usize) -> Result<Vec<Seat>, NoMemory>
+    ensures { IfOk result (λ seats. AreSeats count limit seats.items) }
+{
+    let mut seats = Vec::new(alloc);
+    for _number in 0..count {
+        let out = JobList::with_limit(alloc, limit)?;
+        if seats.push(Seat::new(out)).is_err() {
+            return Err(NoMemory);
+        }
+    }
+    Ok(seats)
+}
+
+/// The parts of the device of a configuration that is valid.
+pub(crate) fn open_device(alloc: Global, config: &Config) -> Result<Device, NoMemory>
+    requires { is_config config.now ≡ true }
+    ensures { IfOk result (λ d. IsOpening config.now d) }
+{
+    let Some(form) = form(config.features) else {
+        unreachable!()
+    };
+    let Ok(memory) = GuestMem::new(alloc, config.pages) else {
+        return Err(NoMemory);
+    };
+    let bays = open_bays(alloc, form, config.queues.as_slice(), &memory)?;
+    let inventory = Inventory::new(config.units.as_slice());
+    let units = open_units(alloc, config.units.as_slice(), &inventory)?;
+    // The last seat is the operator's.
+    let seats = open_seats(
+        alloc,
+        config.workers as usize + 1,
+        MOST_TASKS * units.len() + MOST_TASKS,
+    )?;
+    let handed_off = JobList::with_limit(alloc, config.handoff as usize)?;
+    // One place more than a queue may have chains outstanding, so that a full port keeps no fault from being found.
+    let Ok(port) = EventPort::new(alloc, MOST_DESCRIPTORS as usize + 1) else {
+        return Err(NoMemory);
+    };
+    Ok(Device {
+        memory,
+        inventory,
+        bays,
+        units,
+        seats,
+        workers: config.workers,
+        handed_off,
+        function: None,
+        port,
+        waiting: WaitingEvents::new(alloc),
+    })
+}
