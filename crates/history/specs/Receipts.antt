@@ -1,5 +1,5 @@
 -- What was handed out for a commit, and when the history confirms it.
-use Rattle.std.specs.Prelude.{ℕ, ◌≡◌, Bool, true, false, List, [], ◌∷◌, length, Option, Some, None, ◌==◌, if◌then◌else◌, ⊤}
+use Rattle.std.specs.Prelude.{ℕ, ◌≡◌, ◌+◌, Bool, true, false, ◌&&◌, nat_le, List, [], ◌∷◌, length, Option, Some, None, ◌==◌, if◌then◌else◌, ⊤}
 use Rattle.scsi_codec.specs.declared.lun.Address.{Address}
 use Rattle.block_commands.specs.PlainReply.{PlainReply}
 use Rattle.ring_core.specs.declared.log.Ticket.{Ticket}
@@ -26,13 +26,26 @@ abbrev pub step_at : ℕ → List Step → Option Step
 step_at n [] = None
 step_at n (step ∷ past) = if length past == n then Some step else step_at n past
 
--- a reply is compared where both have one: the receipt, and the unit, where it keeps replies
+-- own: a unit that keeps replies keeps those of its latest steps alone, each with at most so many bytes of data
+abbrev pub latest_kept : ℕ
+latest_kept = 256
+
+abbrev pub longest_kept : ℕ
+longest_kept = 4096
+
+-- own: whether a unit of so many steps still has this reply, of the Commit at a place
+abbrev pub is_kept : Bool → ℕ → ℕ → PlainReply → Bool
+is_kept keeps steps place r = keeps && (nat_le steps (place + latest_kept) && nat_le (length r.payload) longest_kept)
+
+-- a reply is compared where both have one: the receipt, and the unit, where it still has it
 abbrev pub Agrees : Bool → Option PlainReply → PlainReply → Type 0
 Agrees keeps None r = ⊤
 Agrees false (Some kept) r = ⊤
 Agrees true (Some kept) r = kept ≡ r
 
--- own: the Commit of the receipt stands at its place in the history of this unit, which keeps replies or doesn't
+-- own: the Commit of the receipt stands at its place in the history of this unit, which keeps replies or doesn't, and
+-- with the reply of the receipt where the unit still has it
 pub record IsConfirmed (o : Opening) (keeps : Bool) (h : List Step) (c : Receipt) : Type 0 where
   pub of_unit : c.unit ≡ unit_of o
-  pub stands : (r : PlainReply) × (step_at c.place h ≡ Some (Step.Commit c.ticket r)) × Agrees keeps c.reply r
+  pub stands : (r : PlainReply) × (step_at c.place h ≡ Some (Step.Commit c.ticket r))
+      × Agrees (is_kept keeps (length h) c.place r) c.reply r

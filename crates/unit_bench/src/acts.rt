@@ -122,6 +122,8 @@ pub enum Act {
     LeaveUnknown(u64),
     /// An abort: its place, and which jobs it hands out.
     Abort(Rule, Place, &'static [u64]),
+    /// So many aborts of all tasks of the first unit, which hand out nothing.
+    Aborts(u64),
     /// A reset with BUS DEVICE RESET FUNCTION OCCURRED: its place, and which jobs it hands out.
     Reset(Place, &'static [u64]),
     /// Whether what was alive at a place and met there has left.

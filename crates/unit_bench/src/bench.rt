@@ -114,6 +114,7 @@ impl Bench {
             Act::Leave(name, names) => Ok(self.leaves(name, true, names)),
             Act::LeaveUnknown(name) => Ok(self.leaves(name, false, &[])),
             Act::Abort(rule, place, names) => self.aborts(rule, place, names),
+            Act::Aborts(count) => self.aborts_all(count),
             Act::Reset(place, names) => self.resets(place, names),
             Act::Block(number, byte) => self.has_block(number, byte),
             Act::TakeReply(number) => Ok(self.hand.take_reply(number)),
@@ -240,6 +241,20 @@ impl Bench {
             }
             None => Ok(false),
         }
+    }
+
+    /// Whether so many aborts of all tasks of the first unit take the next places, and nothing is handed out.
+    fn aborts_all(&mut self, count: u64) -> Result<bool, NoMemory> {
+        for _ in 0..count {
+            let Some(unit) = self.units.first() else {
+                return Ok(false);
+            };
+            let place = unit.steps();
+            if !self.aborts(Rule::All, place, &[])? {
+                return Ok(false);
+            }
+        }
+        Ok(true)
     }
 
     /// Whether a reset of the first unit takes this place, and these are handed out.

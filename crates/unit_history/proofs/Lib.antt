@@ -1,4 +1,5 @@
 pub mod Places
+pub mod Latest
 pub mod Confirming
 pub mod KeepingSet
 pub mod Keeping

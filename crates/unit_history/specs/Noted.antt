@@ -1,5 +1,7 @@
 -- The steps as proofs see them. Only private functions and models cite this: no promise stands on it.
-use Rattle.std.specs.Prelude.{ℕ, ◌≡◌, ◌-◌, Bool, true, false, List, [], map, min, reverse, vec_capacity, vec_len, Vec, Option, Some, None, ⊤}
+use Rattle.std.specs.Prelude.{ℕ, ◌≡◌, ◌-◌, Bool, true, false, nat_lt, List, [], map, min, length, reverse, slice_get, vec_capacity, vec_len, Vec, Option, Some, None, if◌then◌else◌, ⊤}
+use Rattle.std.specs.declared.collections.VecDeque.{VecDeque}
+use Rattle.std.specs.VecDeque.{deque_capacity, deque_len}
 use Rattle.std.specs.Option.{option_map}
 use Rattle.block_commands.specs.PlainReply.{PlainReply, plain_of}
 use Rattle.block_commands.specs.declared.reply.Reply.{Reply}
@@ -10,7 +12,7 @@ use Rattle.unit_history.specs.declared.noted.NotedEntry.{NotedEntry}
 use Rattle.unit_history.specs.declared.noted.NotedReply.{NotedReply}
 use Rattle.unit_history.specs.declared.noted.NotedStep.{NotedStep}
 use Rattle.unit_history.specs.declared.noted.NotedStep.TheVariants as noted
-use Rattle.unit_history.specs.Kept.{kind_of, reply_kept}
+use Rattle.unit_history.specs.Kept.{kind_of, reply_kept, latest}
 
 abbrev pub entry_noted : NotedEntry → Entry
 entry_noted e =
@@ -36,7 +38,7 @@ steps_noted items = map step_noted (reverse items)
 abbrev pub kinds_noted : List NotedStep → List StepKind
 kinds_noted items = map (λ (s : NotedStep). kind_of (step_noted s)) items
 
--- the replies of steps by place, where replies are kept, and else none
+-- the replies of steps by place, as far as they are short enough to be kept, where replies are kept; and else none
 abbrev pub replies_noted : Bool → List NotedStep → List (Option PlainReply)
 replies_noted true items = map (λ (s : NotedStep). reply_kept true (step_noted s)) items
 replies_noted false items = []
@@ -45,16 +47,24 @@ replies_noted false items = []
 pub record AreNoted (keeps : Bool) (kinds : List StepKind) (replies : List (Option Reply))
     (items : List NotedStep) : Type 0 where
   pub kinds_are : kinds ≡ kinds_noted items
-  pub replies_are : map (option_map plain_of) replies ≡ replies_noted keeps items
+  pub replies_are : map (option_map plain_of) replies ≡ latest (replies_noted keeps items)
 
 -- for how many more there is room in a list
 abbrev pub spare : {T Z : Type 0} → Vec T Z → ℕ
 spare v = vec_capacity v - vec_len v
 
+abbrev pub spare_of_deque : {T Z : Type 0} → VecDeque T Z → ℕ
+spare_of_deque q = deque_capacity q - deque_len q
+
 -- for how many more steps there is room, by that for kinds and that for replies
 abbrev pub room_left : Bool → ℕ → ℕ → ℕ
 room_left true kinds replies = min kinds replies
 room_left false kinds replies = kinds
+
+-- what is kept of the step at a place, where items are kept of as many of the latest steps as there are items
+abbrev pub kept_there : {X : Type 0} → ℕ → ℕ → List X → Option X
+kept_there steps place items =
+    if nat_lt place (steps - length items) then None else slice_get items (place - (steps - length items))
 
 -- the reply at a place, if there is one
 abbrev pub reply_of_place : Option (Option Reply) → Option PlainReply

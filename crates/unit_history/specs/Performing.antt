@@ -10,7 +10,7 @@ use Rattle.unit_attention.specs.Pending.{without_first}
 use Rattle.unit_attention.specs.declared.code.Code.{Code}
 use Rattle.block_commands.specs.Effects.{block_after}
 use Rattle.block_commands.specs.Facts.{Facts}
-use Rattle.block_commands.specs.PlainReply.{PlainReply, plain_of}
+use Rattle.block_commands.specs.PlainReply.{plain_of}
 use Rattle.block_commands.specs.Replies.{reply_of}
 use Rattle.block_commands.specs.declared.reply.Reply.{Reply}
 use Rattle.ring_core.specs.declared.log.Ticket.{Ticket}
@@ -20,6 +20,7 @@ use Rattle.unit_history.specs.declared.answers.Outcome.{Outcome}
 use Rattle.unit_history.specs.declared.answers.Outcome.TheVariants as outcome
 use Rattle.history.specs.Contents.{oldest}
 use Rattle.unit_history.specs.Calls.{may_run_short}
+use Rattle.unit_history.specs.Kept.{kept_reply}
 use Rattle.unit_history.specs.declared.perform.Performed.{Performed}
 
 -- the facts with what is pending first
@@ -29,10 +30,6 @@ told facts pending = record facts { pending = oldest pending }
 -- what is pending once a command took what it takes
 abbrev pub taken : Command → List Code → List Code
 taken command pending = if takes command then without_first pending else pending
-
--- the reply that is kept, if replies are
-abbrev pub kept_reply : Bool → PlainReply → Option PlainReply
-kept_reply keeps r = if keeps then Some r else None
 
 -- the command of a task ran: its reply, and what it leaves
 pub record Ran (keeps : Bool) (facts : Facts) (command : Command) (bytes : List ℕ) (p : Performed)

@@ -15,5 +15,6 @@ mod unit;
 pub use answering::Answering;
 pub use answers::{Entered, Outcome, Receipt, Unknown};
 pub use kind::StepKind;
+pub use log::{LATEST_KEPT, LONGEST_KEPT};
 pub use task_set::{Arrival, Job, JobList};
 pub use unit::{Place, UnitState};

@@ -4,10 +4,10 @@ ghost use Rattle.std.specs.Prelude.{◌≡◌, ◌+◌, ◌<◌, ◌≤◌, [], 
 ghost use Rattle.std.specs.Option.{option_map};
 ghost use Rattle.block_commands.specs.PlainReply.{PlainReply, plain_of};
 ghost use Rattle.history.specs.Clearing.{rule_at};
-ghost use Rattle.history.specs.Receipts.{step_at, Agrees};
+ghost use Rattle.history.specs.Receipts.{step_at, latest_kept, is_kept, Agrees};
 ghost use Rattle.history.specs.Steps.{Step};
-ghost use Rattle.unit_history.specs.Kept.{kind_of, reply_kept, met_kind, commit_kind};
-ghost use Rattle.unit_history.specs.Noted.{step_noted, spare, reply_of_place, AreAlike};
+ghost use Rattle.unit_history.specs.Kept.{kind_of, latest, reply_kept, met_kind, commit_kind};
+ghost use Rattle.unit_history.specs.Noted.{step_noted, spare_of_deque, kept_there, reply_of_place, AreAlike};
 
 use crate::kind::StepKind;
 use crate::noted::NotedStep;
@@ -16,28 +16,36 @@ use history::Rule;
 use record::Record;
 use ring_core::Ticket;
 use std::alloc::{AllocError, Global};
+use std::collections::VecDeque;
 use std::marker::Model;
 
+/// Of how many of its latest steps a unit that keeps replies has them.
+pub const LATEST_KEPT: usize = 256;
+
+/// How many bytes of data a reply has at most that is kept.
+pub const LONGEST_KEPT: usize = 4096;
+
 /// The steps of a history, seen with the newest first. The steps themselves only proofs see; of each its kind
-/// is kept, and of a Commit its reply, where replies are kept.
+/// is kept, and of a Commit its reply, where replies are kept and it isn't long, as long as it is among the latest.
 #[derive(Drop)]
 pub(crate) struct StepLog {
     keeps_replies: bool,
     kinds: Vec<StepKind>,
-    // By place, and none at all where replies aren't kept: a step then costs its kind alone.
-    replies: Vec<Option<Reply>>,
+    // Those of the latest steps, the oldest first, and none at all where replies aren't kept: a step then costs its
+    // kind alone.
+    replies: VecDeque<Option<Reply>>,
     noted: Record<NotedStep>,
 }
 
 impl Model for StepLog {
-    ghost use Rattle.unit_history.specs.Noted.{Logged, AreNoted, spare, room_left, steps_noted};
+    ghost use Rattle.unit_history.specs.Noted.{Logged, AreNoted, spare, spare_of_deque, room_left, steps_noted};
 
     ghost Value = { Logged };
 
     ghost view = { λ l. record {
       steps = steps_noted l.noted.items;
       keeps = l.keeps_replies;
-      room = room_left l.keeps_replies (spare l.kinds) (spare l.replies);
+      room = room_left l.keeps_replies (spare l.kinds) (spare_of_deque l.replies);
     } };
 
     ghost invariant = { λ l. AreNoted l.keeps_replies l.kinds.items l.replies.items l.noted.items };
@@ -80,11 +88,22 @@ fn is_commit_of(kind: StepKind, ticket: Ticket) -> bool
     kind == StepKind::Commit(ticket)
 }
 
-/// Whether the reply that is kept at a place, if one is, agrees.
-fn agrees_there(replies: &[Option<Reply>], place: u64, given: &Option<Reply>) -> bool
-    ensures { IsTrue result ↔ AreAlike (reply_of_place (slice_get replies.now place)) (option_map plain_of given.now) }
+/// Whether the reply that is kept of the step at a place, if one is, agrees, where so many steps came.
+fn agrees_there(
+    replies: &VecDeque<Option<Reply>>,
+    steps: u64,
+    place: u64,
+    given: &Option<Reply>,
+) -> bool
+    requires { length replies.now.items ≤ steps }
+    ensures { IsTrue result
+        ↔ AreAlike (reply_of_place (kept_there steps place replies.now.items)) (option_map plain_of given.now) }
 {
-    match replies.get(place as usize) {
+    let first = steps - replies.len() as u64;
+    if place < first {
+        return true;
+    }
+    match replies.get((place - first) as usize) {
         None => true,
         Some(kept) => are_alike(kept, given),
     }
@@ -94,28 +113,30 @@ fn agrees_there(replies: &[Option<Reply>], place: u64, given: &Option<Reply>) ->
 #[inline(always)]
 fn reserve_where(
     keeps: bool,
-    replies: &mut Vec<Option<Reply>>,
+    replies: &mut VecDeque<Option<Reply>>,
     room: usize,
 ) -> Result<(), AllocError>
     ensures items { replies.new.items ≡ replies.old.items }
-    ensures kept { spare replies.old ≤ spare replies.new }
-    ensures room { OnOk result (IsTrue keeps → room ≤ spare replies.new) }
+    ensures kept { spare_of_deque replies.old ≤ spare_of_deque replies.new }
+    ensures room { OnOk result (IsTrue keeps → room ≤ spare_of_deque replies.new) }
 {
     if keeps { replies.reserve(room) } else { Ok(()) }
 }
 
-/// One more reply, where they are kept.
+/// One more reply, where they are kept, for which the oldest goes where they are as many as are kept.
 #[inline(always)]
-fn push_where(keeps: bool, replies: &mut Vec<Option<Reply>>, reply: Option<Reply>)
-    requires { IsTrue keeps → 0 < spare replies.old }
-    ensures items { replies.new.items ≡ (if keeps then replies.old.items ++ reply ∷ [] else replies.old.items) }
-    ensures room { spare replies.old ≤ spare replies.new + 1 }
+fn push_where(keeps: bool, replies: &mut VecDeque<Option<Reply>>, reply: Option<Reply>)
+    requires room { IsTrue keeps → 0 < spare_of_deque replies.old }
+    requires few { length replies.old.items ≤ latest_kept }
+    ensures items { replies.new.items
+        ≡ (if keeps then latest (replies.old.items ++ reply ∷ []) else replies.old.items) }
+    ensures room { spare_of_deque replies.old ≤ spare_of_deque replies.new + 1 }
 {
     if keeps {
-        match replies.push(reply) {
-            Ok(()) => {}
-            Err(_) => unreachable!(),
+        if replies.len() == LATEST_KEPT {
+            let _ = replies.pop_front();
         }
+        replies.push_back_reserved(reply);
     }
 }
 
@@ -140,7 +161,7 @@ impl StepLog {
         StepLog {
             keeps_replies,
             kinds: Vec::new(alloc),
-            replies: Vec::new(alloc),
+            replies: VecDeque::new(alloc),
             noted: Record::new(),
         }
     }
@@ -176,15 +197,16 @@ impl StepLog {
         }
     }
 
-    /// Whether the Commit of a ticket stands at a place, with this reply where both have one.
+    /// Whether the Commit of a ticket stands at a place, with this reply where both have one: the log, where it still
+    /// keeps it.
     pub(crate) fn has_commit(&self, place: u64, ticket: Ticket, reply: &Option<Reply>) -> bool
         ensures { IsTrue result ↔ ((r : PlainReply) × (step_at place self.now.steps ≡ Some (Step.Commit ticket r))
-            × Agrees self.now.keeps (option_map plain_of reply.now) r) }
+            × Agrees (is_kept self.now.keeps (length self.now.steps) place r) (option_map plain_of reply.now) r) }
     {
         match self.kind_at(place) {
             None => false,
             Some(kind) => is_commit_of(kind, ticket)
-                && agrees_there(self.replies.as_slice(), place, reply),
+                && agrees_there(&self.replies, self.len(), place, reply),
         }
     }
 

@@ -1,14 +1,16 @@
 //! Running the command of a task, whole.
 
-ghost use Rattle.std.specs.Prelude.{◌≡◌, ◌≤◌, ◌<◌, ℕ, IfSome, IsTrue, if◌then◌else◌, length, IfOk, OnErr, nat_lt};
+ghost use Rattle.std.specs.Prelude.{◌≡◌, ◌≤◌, ◌<◌, ℕ, IfSome, IsTrue, if◌then◌else◌, length, true, IfOk, OnErr, nat_lt};
 ghost use Rattle.std.specs.Option.{option_map};
 ghost use Rattle.cdb.specs.Need.{need_of};
 ghost use Rattle.block_commands.specs.Facts.{facts_of};
 ghost use Rattle.block_commands.specs.PlainReply.{plain_of};
 ghost use Rattle.sense.specs.Conditions.{unit_attention};
 ghost use Rattle.history.specs.Contents.{oldest, pending_at_start};
-ghost use Rattle.unit_history.specs.Performing.{Performs, kept_reply, told, taken};
+ghost use Rattle.unit_history.specs.Kept.{kept_reply};
+ghost use Rattle.unit_history.specs.Performing.{Performs, told, taken};
 
+use crate::log::LONGEST_KEPT;
 use block_commands::{Reply, UnitFacts, exec, takes_attention};
 use block_store::{NoMemory, Store};
 use cdb::Command;
@@ -74,7 +76,18 @@ fn again(alloc: Global, reply: &Reply) -> Result<Reply, AllocError>
     })
 }
 
-/// The reply to a command that ran, and the same again where replies are kept.
+/// The reply again, where it isn't too long to be kept.
+fn kept_of(alloc: Global, reply: &Reply) -> Result<Option<Reply>, AllocError>
+    ensures same { IfOk result (λ kept. option_map plain_of kept ≡ kept_reply true (plain_of reply.now)) }
+    ensures want { OnErr result (0 < length reply.now.payload.items) }
+{
+    if reply.payload.len() > LONGEST_KEPT {
+        return Ok(None);
+    }
+    Ok(Some(again(alloc, reply)?))
+}
+
+/// The reply to a command that ran, and the same again where replies are kept and it isn't too long.
 #[derive(Drop)]
 pub(crate) struct Performed {
     pub(crate) reply: Reply,
@@ -109,10 +122,7 @@ pub(crate) fn perform<S: Store>(
     }
     let reply = exec(alloc, room, store, &command, task.data(), facts).ok()?;
     // A reply with data is that of a command that changes no block.
-    let kept = again(alloc, &reply).ok()?;
+    let kept = kept_of(alloc, &reply).ok()?;
     clear_oldest(attentions, &command);
-    Some(Performed {
-        reply,
-        kept: Some(kept),
-    })
+    Some(Performed { reply, kept })
 }

@@ -96,7 +96,7 @@ fn record_run(
 }
 
 impl UnitState {
-    ghost use Rattle.std.specs.Prelude.{◌≡◌, ◌+◌, ◌<◌, ◌≤◌, ◌++◌, length, IfOk, OnOk, OnErr, IsTrue, ◌↔◌};
+    ghost use Rattle.std.specs.Prelude.{◌≡◌, ◌+◌, ◌*◌, ◌<◌, ◌≤◌, ◌++◌, length, IfOk, OnOk, OnErr, IsTrue, ◌↔◌};
     ghost use Rattle.std.specs.Option.{option_map};
     ghost use Rattle.block_store.specs.Blocks.{run};
     ghost use Rattle.unit_attention.specs.Code.{IsKnown};
@@ -114,7 +114,8 @@ impl UnitState {
 
     /// A unit as it is specified, with the LUNs of its target by rising number, of which no step was taken. Whoever
     /// sets the device up calls it, and says whether the replies of its Commits are kept, for receipts to be compared
-    /// with. `NoMemory` where its blocks or the LUNs were refused memory.
+    /// with: those of its latest [`LATEST_KEPT`] steps that have at most [`LONGEST_KEPT`] bytes of data. `NoMemory`
+    /// where its blocks or the LUNs were refused memory.
     pub fn new(
         alloc: Global,
         spec: &UnitSpec,
@@ -189,7 +190,7 @@ impl UnitState {
 
     /// Runs the command of a job's task whole, in one hold of the unit's lock. Tested first to last: `Unknown`; the
     /// mark, which answers `Aborted`; `Busy`, where memory was refused to the command itself or, where replies are
-    /// kept, to the copy of its reply.
+    /// kept, to the copy of its reply, which is made where its data are short enough to be kept.
     pub fn commit(&mut self, job: &Job) -> Outcome
         ensures step { Commits self.old job.now result self.new }
         ensures fits { FitsNeed (need_of job.now.entry.command).into result }
@@ -324,7 +325,7 @@ impl UnitState {
     }
 
     /// Whether the Commit of a receipt stands at its place in this unit's history, with its reply where both have
-    /// one. It takes no memory.
+    /// one: the receipt, and the unit where it still keeps it. It takes no memory.
     pub fn confirm(&self, receipt: &Receipt) -> bool
         ensures { IsTrue result ↔ IsConfirmed self.now.opening self.now.keeps_replies self.now.steps receipt.now }
     {
@@ -383,6 +384,7 @@ impl UnitState {
     pub fn read_blocks(&self, first: u64, count: u32, into: &mut Vec<u8>) -> Result<(), NoMemory>
         requires { first + count ≤ capacity_of self.now.opening self.now.steps }
         ensures ok { OnOk result (into.new.items ≡ into.old.items ++ run (blocks_of self.now.steps) first count) }
+        ensures len { OnOk result (length into.new.items ≡ length into.old.items + 512 * count) }
         ensures err { OnErr result (into.new.items ≡ into.old.items) }
         ensures want { OnErr result (0 < count) }
     {

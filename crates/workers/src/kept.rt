@@ -1,17 +1,53 @@
 //! What a seat keeps of the requests that it answered.
 
+ghost use Rattle.std.specs.Prelude.{◌≡◌, ◌<◌, vec_len};
 ghost use Rattle.std.specs.Bool.{OnTrue};
+ghost use Rattle.std.specs.Vec.{vec_capacity};
+ghost use Rattle.workers.specs.Keeping.{has_long, shortened, KeepsReceipt, KeepsGiven};
 ghost use Rattle.workers.specs.Rooms.{HasRoom};
 
 use phases::{Given, Note};
 use std::alloc::Global;
-use unit_history::Receipt;
+use unit_history::{LATEST_KEPT, LONGEST_KEPT, Receipt};
 
-/// The receipts and notes of the requests that a seat answered, in order.
+/// The receipts and notes of the requests that a seat answered, in order. Replies are kept of its latest receipts
+/// alone, as many as a unit has of its latest steps, and of these those alone that are short enough for a unit.
 #[derive(Debug, Drop)]
 pub(crate) struct Kept {
     pub(crate) receipts: Vec<Receipt>,
     pub(crate) notes: Vec<Note>,
+}
+
+/// Whether a receipt has a reply with longer data than what a unit keeps.
+fn is_long(receipt: &Receipt) -> bool
+    ensures { result ≡ has_long receipt.now.reply }
+{
+    match receipt.reply() {
+        Some(reply) => reply.payload.len() > LONGEST_KEPT,
+        None => false,
+    }
+}
+
+/// Lets the reply of a receipt go where a unit doesn't keep it.
+fn shorten(receipt: &mut Receipt)
+    ensures { receipt.new ≡ shortened receipt.old }
+{
+    if is_long(receipt) {
+        let _ = receipt.take_reply();
+    }
+}
+
+/// Keeps a receipt, for which there is room, and lets the replies go that are kept no more.
+fn keep_receipt(receipts: &mut Vec<Receipt>, mut receipt: Receipt)
+    requires { vec_len receipts.old < vec_capacity receipts.old }
+    ensures { KeepsReceipt receipts.old.items receipt receipts.new.items }
+{
+    let before = receipts.len();
+    shorten(&mut receipt);
+    receipts.push_reserved(receipt);
+    if before >= LATEST_KEPT {
+        let _ = receipts[before - LATEST_KEPT].take_reply();
+    }
 }
 
 impl Kept {
@@ -39,9 +75,10 @@ impl Kept {
     /// Keeps what a request left, for which there is room.
     pub(crate) fn keep(&mut self, given: Given)
         requires { HasRoom self.old }
+        ensures { KeepsGiven self.old given self.new }
     {
         match given {
-            Given::Receipt(receipt) => self.receipts.push_reserved(receipt),
+            Given::Receipt(receipt) => keep_receipt(&mut self.receipts, receipt),
             Given::Note(note) => self.notes.push_reserved(note),
         }
     }

@@ -1,6 +1,6 @@
 //! Which receipts a unit confirms.
 
-use unit_bench::{Act, Comes, DATA, Ends, OTHER, READ, Row, SIMPLE, Sent, WRITE};
+use unit_bench::{Act, Asked, Comes, DATA, Ends, OTHER, READ, Row, SIMPLE, Sent, WRITE};
 
 /// The numbers of the chains.
 const A: u64 = 0;
@@ -33,7 +33,27 @@ const READS: Sent = Sent {
     ..SIMPLE
 };
 
-pub(crate) static ROWS: [Row; 5] = [
+/// READ (10) of 8 blocks, whose data are as long as what is kept (SBC-3 §5.11).
+const READS_8: Sent = Sent {
+    asked: Asked {
+        cdb: [0x28, 0, 0, 0, 0, 3, 0, 0, 8, 0],
+        out: 0,
+        into: 4096,
+    },
+    ..SIMPLE
+};
+
+/// READ (10) of 9 blocks.
+const READS_9: Sent = Sent {
+    asked: Asked {
+        cdb: [0x28, 0, 0, 0, 0, 3, 0, 0, 9, 0],
+        out: 0,
+        into: 4608,
+    },
+    ..SIMPLE
+};
+
+pub(crate) static ROWS: [Row; 8] = [
     Row {
         shows: "a receipt is of its address",
         keeps_replies: false,
@@ -104,6 +124,47 @@ pub(crate) static ROWS: [Row; 5] = [
             Act::Confirms(0, 0, true),
             Act::Confirms(0, 1, false),
             Act::TakeReply(1),
+            Act::Confirms(0, 1, true),
+        ],
+    },
+    Row {
+        shows: "another reply is confirmed once 256 steps followed",
+        keeps_replies: true,
+        acts: &[
+            Act::Enter(A, SIMPLE, Comes::Run),
+            Act::CommitAt(0, A, Ends::Good(0)),
+            Act::Enter(OTHER_A, TO_TWIN, Comes::Run),
+            Act::CommitAt(2, OTHER_A, Ends::Sense(0x06, 0x29, 0x00)),
+            Act::Aborts(255),
+            Act::Confirms(0, 0, true),
+            Act::Confirms(0, 1, false),
+            Act::Aborts(1),
+            Act::Steps(0, 258),
+            Act::Confirms(0, 0, true),
+            Act::Confirms(0, 1, true),
+        ],
+    },
+    Row {
+        shows: "another reply isn't confirmed where the one that is kept is as long as may be",
+        keeps_replies: true,
+        acts: &[
+            Act::Enter(A, READS_8, Comes::Run),
+            Act::CommitAt(0, A, Ends::Good(4096)),
+            Act::Enter(OTHER_A, TO_TWIN, Comes::Run),
+            Act::CommitAt(2, OTHER_A, Ends::Sense(0x06, 0x29, 0x00)),
+            Act::Confirms(0, 0, true),
+            Act::Confirms(0, 1, false),
+        ],
+    },
+    Row {
+        shows: "another reply is confirmed where the Commit's was too long to be kept",
+        keeps_replies: true,
+        acts: &[
+            Act::Enter(A, READS_9, Comes::Run),
+            Act::CommitAt(0, A, Ends::Good(4608)),
+            Act::Enter(OTHER_A, TO_TWIN, Comes::Run),
+            Act::CommitAt(2, OTHER_A, Ends::Sense(0x06, 0x29, 0x00)),
+            Act::Confirms(0, 0, true),
             Act::Confirms(0, 1, true),
         ],
     },
