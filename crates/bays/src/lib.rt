@@ -4,6 +4,7 @@
 mod at_queues;
 mod at_units;
 mod gate;
+mod holding;
 mod lend;
 mod locked;
 mod plain;
@@ -13,6 +14,7 @@ pub use at_queues::{
 };
 pub use at_units::{check_on, commit_on, enter_on, hard_on, leave_on, mark_on};
 pub use gate::{Gate, Open, Point};
+pub use holding::hold;
 pub use lend::Bays;
 pub use locked::Locked;
 pub use plain::Plain;

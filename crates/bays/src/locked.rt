@@ -4,6 +4,7 @@ ghost use Rattle.std.specs.Prelude.{◌≡◌, ⊤, length};
 ghost use Rattle.unit_history.specs.Unit.{IsUnit};
 ghost use Rattle.bays.specs.Lending.{IsQueue};
 
+use crate::holding::hold;
 use crate::lend::Bays;
 use guest_mem::GuestMem;
 use phases::Queue;
@@ -59,7 +60,7 @@ impl<'a, R: Wait> Bays for Locked<'a, R> {
         other: &mut Y,
         phase: F,
     ) -> T {
-        let mut held = self.units[at].lock(self.rt);
+        let mut held = hold(self.rt, &self.units[at]);
         let unit = &mut *held;
         unit.stands();
         let answer = phase(unit, one, other);
@@ -74,8 +75,8 @@ impl<'a, R: Wait> Bays for Locked<'a, R> {
         other: &mut Y,
         phase: F,
     ) -> T {
-        let mut held = self.queues[at].lock(self.rt);
-        let mut held_memory = self.memory.lock(self.rt);
+        let mut held = hold(self.rt, &self.queues[at]);
+        let mut held_memory = hold(self.rt, self.memory);
         let queue = &mut *held;
         let memory = &mut *held_memory;
         let _before = queue.log();
@@ -85,7 +86,7 @@ impl<'a, R: Wait> Bays for Locked<'a, R> {
     }
 
     fn memory<T, F: FnOnce(&mut GuestMem) -> T>(&mut self, phase: F) -> T {
-        let mut held = self.memory.lock(self.rt);
+        let mut held = hold(self.rt, self.memory);
         let memory = &mut *held;
         phase(memory)
     }

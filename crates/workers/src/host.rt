@@ -14,7 +14,7 @@ use crate::opening::open;
 use crate::post::{Post, clear, finish};
 use crate::shared::Shared;
 use crate::worker::{Worked, Worker, work};
-use bays::{Gate, hard_on};
+use bays::{Gate, hard_on, hold};
 use block_store::NoMemory;
 use config::{Config, StartFault};
 use event_queue::WaitingEvents;
@@ -174,7 +174,7 @@ impl<G: Gate + Drop> Host<G> {
     pub fn poke<R: Wait>(&self, rt: &R, addr: u64, bytes: &[u8]) -> Result<(), MemFault>
         ensures { IfErr result (λ fault. fault ≡ MemFault.Outside) }
     {
-        self.shared.memory.lock(rt).write(addr, bytes)
+        hold(rt, &self.shared.memory).write(addr, bytes)
     }
 
     /// The guest reads bytes, beside the workers, in one hold of the memory. `Outside`, with nothing read, where one
@@ -183,7 +183,7 @@ impl<G: Gate + Drop> Host<G> {
         ensures fault { IfErr result (λ fault. fault ≡ MemFault.Outside) }
         ensures unchanged { OnErr result (out.new ≡ out.old) }
     {
-        self.shared.memory.lock(rt).read(addr, out)
+        hold(rt, &self.shared.memory).read(addr, out)
     }
 
     /// The operator resets the unit at a place of the configuration, and the guest is told (TRANSPORT_RESET). A unit
