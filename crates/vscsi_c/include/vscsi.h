@@ -249,7 +249,8 @@ static inline enum vscsi_answer vscsi_capacity(struct vscsi *device, uint8_t tar
 }
 
 /* Copies blocks of a unit out, as its commands left them; `length` is `count` times 512.
- * VSCSI_NO_DEVICE; VSCSI_BAD_LENGTH; VSCSI_NO_UNIT; VSCSI_OUTSIDE; VSCSI_NO_MEMORY. */
+ * The first of these, in this order, that is so: VSCSI_NO_DEVICE; VSCSI_BAD_LENGTH; VSCSI_NO_UNIT; VSCSI_OUTSIDE;
+ * VSCSI_NO_MEMORY, never where `count` is 0. */
 static inline enum vscsi_answer vscsi_blocks(struct vscsi *device, uint8_t target, uint16_t lun, uint64_t first, uint32_t count, void *into,
                                              size_t length) {
   uint8_t nothing = 0;

@@ -12,16 +12,17 @@ use Rattle.vscsi_c.specs.declared.wanted.Fault.{Fault}
 use Rattle.vscsi_c.specs.declared.wanted.WantedQueue.{WantedQueue}
 use Rattle.vscsi_c.specs.declared.wanted.WantedUnit.{WantedUnit}
 
-pub serving : (R : Served → Answer → Served → Type 0) (old : Option Served) (a : Answer) (after : Option Served) (d d' : Served)
-    → old ≡ Some d → after ≡ Some d' → R d a d' → Serving R old a after
-serving R old a after d d' e f r = subst (λ (o : Option Served). Serving R o a after) (sym e) (d', f, r)
+pub serving : (R : Served → Answer → Served → Type 0) (Same : Type 0) (old : Option Served) (a : Answer) (after : Option Served) (d d' : Served)
+    → old ≡ Some d → after ≡ Some d' → R d a d' → Serving R Same old a after
+serving R Same old a after d d' e f r = subst (λ (o : Option Served). Serving R Same o a after) (sym e) (d', f, r)
 
-pub without : (R : Served → Answer → Served → Type 0) (old after : Option Served) → old ≡ None → after ≡ None → Serving R old answer.NoDevice after
-without R old after e f = subst (λ (o : Option Served). Serving R o answer.NoDevice after) (sym e) (refl, f)
+pub without : (R : Served → Answer → Served → Type 0) (Same : Type 0) (old after : Option Served) → old ≡ None → after ≡ None → Same
+    → Serving R Same old answer.NoDevice after
+without R Same old after e f s = subst (λ (o : Option Served). Serving R Same o answer.NoDevice after) (sym e) (refl, f, s)
 
-module _ (pages features : ℕ) (queues : List WantedQueue) (units : List WantedUnit) (told : Fault) (old after : Option Served) (c : Config) (none : old ≡ None) (asks : Asks pages features queues units c) where
-  pub made : (d : Served) → Makes c d → after ≡ Some d → Creates pages features queues units told old answer.Done after
-  made d makes e = subst (λ (o : Option Served). Creates pages features queues units told o answer.Done after) (sym none) (c, d, asks, makes, e)
+module _ (pages features : ℕ) (queues : List WantedQueue) (units : List WantedUnit) (fault told : Fault) (old after : Option Served) (c : Config) (none : old ≡ None) (asks : Asks pages features queues units c) where
+  pub made : (d : Served) → Makes c d → after ≡ Some d → told ≡ fault → Creates pages features queues units fault told old answer.Done after
+  made d makes e s = subst (λ (o : Option Served). Creates pages features queues units fault told o answer.Done after) (sym none) (c, d, asks, makes, e, s)
 
-  pub refused : Refuses c told → after ≡ None → Creates pages features queues units told old answer.BadConfig after
-  refused r e = subst (λ (o : Option Served). Creates pages features queues units told o answer.BadConfig after) (sym none) (c, asks, r, e)
+  pub refused : Refuses c told → after ≡ None → Creates pages features queues units fault told old answer.BadConfig after
+  refused r e = subst (λ (o : Option Served). Creates pages features queues units fault told o answer.BadConfig after) (sym none) (c, asks, r, e)

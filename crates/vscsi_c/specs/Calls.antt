@@ -1,5 +1,5 @@
 -- What the calls do: each what the device's own call of that name does, told by an answer.
-use Rattle.std.specs.Prelude.{ℕ, ◌≡◌, ◌≤◌, ◌<◌, ◌+◌, Bool, true, false, List, [], length, replicate, Option, Some, None, slice_get, Ok, Err}
+use Rattle.std.specs.Prelude.{ℕ, ◌≡◌, ◌≢◌, ◌≤◌, ◌<◌, ◌+◌, ◌*◌, Bool, true, false, List, [], length, replicate, Option, Some, None, slice_get, Ok, Err}
 use Rattle.block_store.specs.Blocks.{run}
 use Rattle.block_store.specs.declared.NoMemory.{NoMemory}
 use Rattle.ring_core.specs.declared.fault.RingFault.{RingFault}
@@ -32,10 +32,10 @@ use Rattle.vscsi_c.specs.declared.served.Served.{Served}
 use Rattle.vscsi_c.specs.declared.wanted.WantedQueue.{WantedQueue}
 use Rattle.vscsi_c.specs.declared.wanted.WantedUnit.{WantedUnit}
 
--- where there is a device, this is done with it; else nothing is
-abbrev pub Serving : (Served → Answer → Served → Type 0) → Option Served → Answer → Option Served → Type 0
-Serving R None a after = (a ≡ answer.NoDevice) × (after ≡ None)
-Serving R (Some d) a after = (d' : Served) × (after ≡ Some d') × R d a d'
+-- where there is a device, this is done with it; else nothing is, and what the caller lent is as it was
+abbrev pub Serving : (Served → Answer → Served → Type 0) → Type 0 → Option Served → Answer → Option Served → Type 0
+Serving R Same None a after = (a ≡ answer.NoDevice) × (after ≡ None) × Same
+Serving R Same (Some d) a after = (d' : Served) × (after ≡ Some d') × R d a d'
 
 -- as `World::settle`
 abbrev pub SettlesWorld : PlainWorld → ℕ → Answer → ℕ → PlainWorld → Type 0
@@ -101,13 +101,15 @@ abbrev pub Breaks : ℕ → ℕ → ℕ → Served → Answer → Served → Typ
 Breaks queue old new d a d' = BrokenBy d.world.queues queue old a new × (d' ≡ d)
 
 -- as the counts of `World::log`
-abbrev pub StandsAt : Option PlainQueue → Answer → ℕ → ℕ → Type 0
-StandsAt (Some q) answer.Done accepted used = (accepted ≡ length q.ring.log.accepted) × (used ≡ length q.ring.log.used)
-StandsAt None answer.NoQueue accepted used = Unit {0}
-StandsAt q a accepted used = ⊥
+abbrev pub StandsAt : Option PlainQueue → ℕ → ℕ → Answer → ℕ → ℕ → Type 0
+StandsAt (Some q) accepted used answer.Done accepted' used' = (accepted' ≡ length q.ring.log.accepted)
+    × (used' ≡ length q.ring.log.used)
+StandsAt None accepted used answer.NoQueue accepted' used' = (accepted' ≡ accepted) × (used' ≡ used)
+StandsAt q accepted used a accepted' used' = ⊥
 
-abbrev pub Stands : ℕ → ℕ → ℕ → Served → Answer → Served → Type 0
-Stands queue accepted used d a d' = StandsAt (slice_get d.world.queues queue) a accepted used × (d' ≡ d)
+abbrev pub Stands : ℕ → ℕ → ℕ → ℕ → ℕ → Served → Answer → Served → Type 0
+Stands queue accepted used accepted' used' d a d' =
+    StandsAt (slice_get d.world.queues queue) accepted used a accepted' used' × (d' ≡ d)
 
 -- as `World::step` of a hard reset of the unit of an address
 abbrev pub ResetsWorld : PlainWorld → ℕ → ℕ → Answer → PlainWorld → Type 0
@@ -122,26 +124,31 @@ abbrev pub Resets : ℕ → ℕ → Served → Answer → Served → Type 0
 Resets target lun d a d' = ResetsWorld d.world target lun a d'.world × (d'.told ≡ d.told)
 
 -- as `World::capacity`
-abbrev pub HasCapacity : Option PlainUnit → Answer → ℕ → Type 0
-HasCapacity (Some u) answer.Done blocks = blocks ≡ capacity_of u.opening u.steps
-HasCapacity None answer.NoUnit blocks = Unit {0}
-HasCapacity u a blocks = ⊥
+abbrev pub HasCapacity : Option PlainUnit → ℕ → Answer → ℕ → Type 0
+HasCapacity (Some u) old answer.Done new = new ≡ capacity_of u.opening u.steps
+HasCapacity None old answer.NoUnit new = new ≡ old
+HasCapacity u old a new = ⊥
 
-abbrev pub Holds : ℕ → ℕ → ℕ → Served → Answer → Served → Type 0
-Holds target lun blocks d a d' = HasCapacity (unit_at d.world target lun) a blocks × (d' ≡ d)
+abbrev pub Holds : ℕ → ℕ → ℕ → ℕ → Served → Answer → Served → Type 0
+Holds target lun old new d a d' = HasCapacity (unit_at d.world target lun) old a new × (d' ≡ d)
 
--- as `World::read_blocks`, into room of so many bytes
-abbrev pub GivesBlocks : Option PlainUnit → ℕ → ℕ → Answer → List ℕ → List ℕ → Type 0
-GivesBlocks (Some u) first count answer.Done old new =
-    (first + count ≤ capacity_of u.opening u.steps) × (new ≡ run (blocks_of u.steps) first count)
-GivesBlocks (Some u) first count answer.Outside old new = (capacity_of u.opening u.steps < first + count) × (new ≡ old)
-GivesBlocks None first count answer.NoUnit old new = new ≡ old
-GivesBlocks u first count answer.NoMemory old new = new ≡ old
-GivesBlocks u first count answer.BadLength old new = new ≡ old
-GivesBlocks u first count a old new = ⊥
+-- as `World::read_blocks`, from a unit into room that is as long as the blocks; only for a block is memory wanted
+abbrev pub GivesFrom : Option PlainUnit → ℕ → ℕ → List ℕ → Answer → List ℕ → Type 0
+GivesFrom None first count old answer.NoUnit new = new ≡ old
+GivesFrom (Some u) first count old answer.Outside new = (capacity_of u.opening u.steps < first + count) × (new ≡ old)
+GivesFrom (Some u) first count old answer.NoMemory new = (first + count ≤ capacity_of u.opening u.steps)
+    × (0 < count) × (new ≡ old)
+GivesFrom (Some u) first count old answer.Done new = (first + count ≤ capacity_of u.opening u.steps)
+    × (new ≡ run (blocks_of u.steps) first count)
+GivesFrom u first count old a new = ⊥
+
+-- before all else the room is measured
+abbrev pub GivesBlocks : Option PlainUnit → ℕ → ℕ → List ℕ → Answer → List ℕ → Type 0
+GivesBlocks u first count old answer.BadLength new = (length old ≢ 512 * count) × (new ≡ old)
+GivesBlocks u first count old a new = (length old ≡ 512 * count) × GivesFrom u first count old a new
 
 abbrev pub Gives : ℕ → ℕ → ℕ → ℕ → List ℕ → List ℕ → Served → Answer → Served → Type 0
-Gives target lun first count old new d a d' = GivesBlocks (unit_at d.world target lun) first count a old new × (d' ≡ d)
+Gives target lun first count old new d a d' = GivesBlocks (unit_at d.world target lun) first count old a new × (d' ≡ d)
 
 -- the numbers of a cause: which, what it is of, and of a layout why
 pub record Cause : Type 0 where
@@ -187,19 +194,19 @@ pub record Refuses (c : Config) (told : Fault) : Type 0 where
   pub is : IsFault c fault
   pub named : plain_cause told ≡ cause_of fault
 
--- as `World::new`
-abbrev pub CreatesOf : ℕ → ℕ → List WantedQueue → List WantedUnit → Answer → Fault → Option Served → Type 0
-CreatesOf pages features queues units answer.Done told after =
-    (c : Config) × (d : Served) × Asks pages features queues units c × Makes c d × (after ≡ Some d)
-CreatesOf pages features queues units answer.BadConfig told after =
+-- as `World::new`; only why a configuration isn't taken is told
+abbrev pub CreatesOf : ℕ → ℕ → List WantedQueue → List WantedUnit → Fault → Answer → Fault → Option Served → Type 0
+CreatesOf pages features queues units old answer.Done told after =
+    (c : Config) × (d : Served) × Asks pages features queues units c × Makes c d × (after ≡ Some d) × (told ≡ old)
+CreatesOf pages features queues units old answer.BadConfig told after =
     (c : Config) × Asks pages features queues units c × Refuses c told × (after ≡ None)
-CreatesOf pages features queues units answer.NoMemory told after = after ≡ None
-CreatesOf pages features queues units a told after = ⊥
+CreatesOf pages features queues units old answer.NoMemory told after = (after ≡ None) × (told ≡ old)
+CreatesOf pages features queues units old a told after = ⊥
 
-abbrev pub Creates : ℕ → ℕ → List WantedQueue → List WantedUnit → Fault → Option Served → Answer → Option Served
-    → Type 0
-Creates pages features queues units told None a after = CreatesOf pages features queues units a told after
-Creates pages features queues units told (Some d) a after = (a ≡ answer.InUse) × (after ≡ Some d)
+abbrev pub Creates : ℕ → ℕ → List WantedQueue → List WantedUnit → Fault → Fault → Option Served → Answer
+    → Option Served → Type 0
+Creates pages features queues units old told None a after = CreatesOf pages features queues units old a told after
+Creates pages features queues units old told (Some d) a after = (a ≡ answer.InUse) × (after ≡ Some d) × (told ≡ old)
 
 abbrev pub Destroys : Option Served → Answer → Option Served → Type 0
 Destroys None a after = (a ≡ answer.NoDevice) × (after ≡ None)

@@ -21,7 +21,8 @@ pub(crate) fn create(
     units: &[WantedUnit],
     fault: &mut Fault,
 ) -> Answer
-    ensures { Creates pages features queues.now units.now fault.new (kept_in device.old) result (kept_in device.new) }
+    ensures { Creates pages features queues.now units.now fault.old fault.new (kept_in device.old) result
+        (kept_in device.new) }
 {
     if let Some(served) = device.take(alloc) {
         device.put(served);
@@ -61,7 +62,8 @@ pub(crate) fn destroy(device: &mut Device, alloc: Global) -> Answer
 /// Serves what there is, and says in how many steps.
 #[tactic(auto, using(crate::proofs::Serve::serving, crate::proofs::Serve::without))]
 pub(crate) fn settle(device: &mut Device, alloc: Global, steps: &mut u64) -> Answer
-    ensures { Serving (Settles steps.old steps.new) (kept_in device.old) result (kept_in device.new) }
+    ensures { Serving (Settles steps.old steps.new) (steps.new ≡ steps.old) (kept_in device.old) result
+        (kept_in device.new) }
 {
     let Some(mut served) = device.take(alloc) else {
         return Answer::NoDevice;
@@ -74,7 +76,7 @@ pub(crate) fn settle(device: &mut Device, alloc: Global, steps: &mut u64) -> Ans
 /// The guest's write.
 #[tactic(auto, using(crate::proofs::Serve::serving, crate::proofs::Serve::without))]
 pub(crate) fn poke(device: &mut Device, alloc: Global, addr: u64, bytes: &[u8]) -> Answer
-    ensures { Serving (Pokes (record { addr = addr; bytes = bytes.now })) (kept_in device.old) result
+    ensures { Serving (Pokes (record { addr = addr; bytes = bytes.now })) (Unit {0}) (kept_in device.old) result
         (kept_in device.new) }
 {
     let Some(mut served) = device.take(alloc) else {
@@ -88,7 +90,8 @@ pub(crate) fn poke(device: &mut Device, alloc: Global, addr: u64, bytes: &[u8]) 
 /// Reads guest memory.
 #[tactic(auto, using(crate::proofs::Serve::serving, crate::proofs::Serve::without))]
 pub(crate) fn peek(device: &mut Device, alloc: Global, addr: u64, into: &mut [u8]) -> Answer
-    ensures { Serving (Peeks addr into.old into.new) (kept_in device.old) result (kept_in device.new) }
+    ensures { Serving (Peeks addr into.old into.new) (into.new ≡ into.old) (kept_in device.old) result
+        (kept_in device.new) }
 {
     let Some(mut served) = device.take(alloc) else {
         return Answer::NoDevice;
@@ -101,7 +104,7 @@ pub(crate) fn peek(device: &mut Device, alloc: Global, addr: u64, into: &mut [u8
 /// Whose drivers are owed a notification since this was last asked.
 #[tactic(auto, using(crate::proofs::Serve::serving, crate::proofs::Serve::without))]
 pub(crate) fn owed(device: &mut Device, alloc: Global, queues: &mut u32) -> Answer
-    ensures { Serving (Owes queues.new) (kept_in device.old) result (kept_in device.new) }
+    ensures { Serving (Owes queues.new) (queues.new ≡ queues.old) (kept_in device.old) result (kept_in device.new) }
 {
     let Some(mut served) = device.take(alloc) else {
         return Answer::NoDevice;
@@ -114,7 +117,7 @@ pub(crate) fn owed(device: &mut Device, alloc: Global, queues: &mut u32) -> Answ
 /// The device's status.
 #[tactic(auto, using(crate::proofs::Serve::serving, crate::proofs::Serve::without))]
 pub(crate) fn status(device: &mut Device, alloc: Global, status: &mut u8) -> Answer
-    ensures { Serving (IsStatus status.new) (kept_in device.old) result (kept_in device.new) }
+    ensures { Serving (IsStatus status.new) (status.new ≡ status.old) (kept_in device.old) result (kept_in device.new) }
 {
     let Some(mut served) = device.take(alloc) else {
         return Answer::NoDevice;
@@ -127,7 +130,8 @@ pub(crate) fn status(device: &mut Device, alloc: Global, status: &mut u8) -> Ans
 /// What broke a queue.
 #[tactic(auto, using(crate::proofs::Serve::serving, crate::proofs::Serve::without))]
 pub(crate) fn broken(device: &mut Device, alloc: Global, queue: u16, fault: &mut u32) -> Answer
-    ensures { Serving (Breaks queue fault.old fault.new) (kept_in device.old) result (kept_in device.new) }
+    ensures { Serving (Breaks queue fault.old fault.new) (fault.new ≡ fault.old) (kept_in device.old) result
+        (kept_in device.new) }
 {
     let Some(mut served) = device.take(alloc) else {
         return Answer::NoDevice;
@@ -146,7 +150,8 @@ pub(crate) fn progress(
     accepted: &mut u64,
     used: &mut u64,
 ) -> Answer
-    ensures { Serving (Stands queue accepted.new used.new) (kept_in device.old) result (kept_in device.new) }
+    ensures { Serving (Stands queue accepted.old used.old accepted.new used.new)
+        ((accepted.new ≡ accepted.old) × (used.new ≡ used.old)) (kept_in device.old) result (kept_in device.new) }
 {
     let Some(mut served) = device.take(alloc) else {
         return Answer::NoDevice;
@@ -159,7 +164,7 @@ pub(crate) fn progress(
 /// The operator's hard reset of a unit.
 #[tactic(auto, using(crate::proofs::Serve::serving, crate::proofs::Serve::without))]
 pub(crate) fn reset(device: &mut Device, alloc: Global, target: u8, lun: u16) -> Answer
-    ensures { Serving (Resets target lun) (kept_in device.old) result (kept_in device.new) }
+    ensures { Serving (Resets target lun) (Unit {0}) (kept_in device.old) result (kept_in device.new) }
 {
     let Some(mut served) = device.take(alloc) else {
         return Answer::NoDevice;
@@ -178,7 +183,8 @@ pub(crate) fn capacity(
     lun: u16,
     blocks: &mut u64,
 ) -> Answer
-    ensures { Serving (Holds target lun blocks.new) (kept_in device.old) result (kept_in device.new) }
+    ensures { Serving (Holds target lun blocks.old blocks.new) (blocks.new ≡ blocks.old) (kept_in device.old) result
+        (kept_in device.new) }
 {
     let Some(mut served) = device.take(alloc) else {
         return Answer::NoDevice;
@@ -199,7 +205,7 @@ pub(crate) fn blocks(
     count: u32,
     into: &mut [u8],
 ) -> Answer
-    ensures { Serving (Gives target lun first count into.old into.new) (kept_in device.old) result
+    ensures { Serving (Gives target lun first count into.old into.new) (into.new ≡ into.old) (kept_in device.old) result
         (kept_in device.new) }
 {
     let Some(mut served) = device.take(alloc) else {

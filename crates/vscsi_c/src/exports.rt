@@ -1,6 +1,7 @@
 //! What C calls: each export is one call, and its answer's number. The header says what C owes for each: a `Device`
 //! that C made of zeros or that a call left, and room where a call writes.
 
+ghost use Rattle.std.specs.Prelude.{◌≡◌};
 ghost use Rattle.vscsi_c.specs.Answers.{Tells};
 ghost use Rattle.vscsi_c.specs.Kept.{kept_in};
 ghost use Rattle.vscsi_c.specs.Calls.{Serving, Settles, Pokes, Peeks, Owes, IsStatus, Breaks, Stands, Resets, Holds, Gives, Creates, Destroys};
@@ -21,8 +22,8 @@ pub extern "C" fn vscsi_raw_create(
     units: &[WantedUnit],
     fault: &mut Fault,
 ) -> u32
-    ensures { Tells result (λ a. Creates pages features queues.now units.now fault.new (kept_in device.old) a
-        (kept_in device.new)) }
+    ensures { Tells result (λ a. Creates pages features queues.now units.now fault.old fault.new (kept_in device.old)
+        a (kept_in device.new)) }
 {
     calls::create(device, alloc, pages, features, queues, units, fault).code()
 }
@@ -38,7 +39,8 @@ pub extern "C" fn vscsi_raw_destroy(device: &mut Device, alloc: Global) -> u32
 /// Serves what there is, and says in how many steps.
 #[unsafe(no_mangle)]
 pub extern "C" fn vscsi_raw_settle(device: &mut Device, alloc: Global, steps: &mut u64) -> u32
-    ensures { Tells result (λ a. Serving (Settles steps.old steps.new) (kept_in device.old) a (kept_in device.new)) }
+    ensures { Tells result (λ a. Serving (Settles steps.old steps.new) (steps.new ≡ steps.old) (kept_in device.old) a
+        (kept_in device.new)) }
 {
     calls::settle(device, alloc, steps).code()
 }
@@ -46,8 +48,8 @@ pub extern "C" fn vscsi_raw_settle(device: &mut Device, alloc: Global, steps: &m
 /// The guest's write.
 #[unsafe(no_mangle)]
 pub extern "C" fn vscsi_raw_poke(device: &mut Device, alloc: Global, addr: u64, bytes: &[u8]) -> u32
-    ensures { Tells result (λ a. Serving (Pokes (record { addr = addr; bytes = bytes.now })) (kept_in device.old) a
-        (kept_in device.new)) }
+    ensures { Tells result (λ a. Serving (Pokes (record { addr = addr; bytes = bytes.now })) (Unit {0})
+        (kept_in device.old) a (kept_in device.new)) }
 {
     calls::poke(device, alloc, addr, bytes).code()
 }
@@ -60,7 +62,8 @@ pub extern "C" fn vscsi_raw_peek(
     addr: u64,
     into: &mut [u8],
 ) -> u32
-    ensures { Tells result (λ a. Serving (Peeks addr into.old into.new) (kept_in device.old) a (kept_in device.new)) }
+    ensures { Tells result (λ a. Serving (Peeks addr into.old into.new) (into.new ≡ into.old) (kept_in device.old) a
+        (kept_in device.new)) }
 {
     calls::peek(device, alloc, addr, into).code()
 }
@@ -68,7 +71,8 @@ pub extern "C" fn vscsi_raw_peek(
 /// Whose drivers are owed a notification since this was last asked.
 #[unsafe(no_mangle)]
 pub extern "C" fn vscsi_raw_owed(device: &mut Device, alloc: Global, queues: &mut u32) -> u32
-    ensures { Tells result (λ a. Serving (Owes queues.new) (kept_in device.old) a (kept_in device.new)) }
+    ensures { Tells result (λ a. Serving (Owes queues.new) (queues.new ≡ queues.old) (kept_in device.old) a
+        (kept_in device.new)) }
 {
     calls::owed(device, alloc, queues).code()
 }
@@ -76,7 +80,8 @@ pub extern "C" fn vscsi_raw_owed(device: &mut Device, alloc: Global, queues: &mu
 /// The device's status.
 #[unsafe(no_mangle)]
 pub extern "C" fn vscsi_raw_status(device: &mut Device, alloc: Global, status: &mut u8) -> u32
-    ensures { Tells result (λ a. Serving (IsStatus status.new) (kept_in device.old) a (kept_in device.new)) }
+    ensures { Tells result (λ a. Serving (IsStatus status.new) (status.new ≡ status.old) (kept_in device.old) a
+        (kept_in device.new)) }
 {
     calls::status(device, alloc, status).code()
 }
@@ -89,8 +94,8 @@ pub extern "C" fn vscsi_raw_broken(
     queue: u16,
     fault: &mut u32,
 ) -> u32
-    ensures { Tells result (λ a. Serving (Breaks queue fault.old fault.new) (kept_in device.old) a
-        (kept_in device.new)) }
+    ensures { Tells result (λ a. Serving (Breaks queue fault.old fault.new) (fault.new ≡ fault.old)
+        (kept_in device.old) a (kept_in device.new)) }
 {
     calls::broken(device, alloc, queue, fault).code()
 }
@@ -104,8 +109,8 @@ pub extern "C" fn vscsi_raw_progress(
     accepted: &mut u64,
     used: &mut u64,
 ) -> u32
-    ensures { Tells result (λ a. Serving (Stands queue accepted.new used.new) (kept_in device.old) a
-        (kept_in device.new)) }
+    ensures { Tells result (λ a. Serving (Stands queue accepted.old used.old accepted.new used.new)
+        ((accepted.new ≡ accepted.old) × (used.new ≡ used.old)) (kept_in device.old) a (kept_in device.new)) }
 {
     calls::progress(device, alloc, queue, accepted, used).code()
 }
@@ -113,7 +118,7 @@ pub extern "C" fn vscsi_raw_progress(
 /// The operator's hard reset of a unit.
 #[unsafe(no_mangle)]
 pub extern "C" fn vscsi_raw_reset(device: &mut Device, alloc: Global, target: u8, lun: u16) -> u32
-    ensures { Tells result (λ a. Serving (Resets target lun) (kept_in device.old) a (kept_in device.new)) }
+    ensures { Tells result (λ a. Serving (Resets target lun) (Unit {0}) (kept_in device.old) a (kept_in device.new)) }
 {
     calls::reset(device, alloc, target, lun).code()
 }
@@ -127,7 +132,8 @@ pub extern "C" fn vscsi_raw_capacity(
     lun: u16,
     blocks: &mut u64,
 ) -> u32
-    ensures { Tells result (λ a. Serving (Holds target lun blocks.new) (kept_in device.old) a (kept_in device.new)) }
+    ensures { Tells result (λ a. Serving (Holds target lun blocks.old blocks.new) (blocks.new ≡ blocks.old)
+        (kept_in device.old) a (kept_in device.new)) }
 {
     calls::capacity(device, alloc, target, lun, blocks).code()
 }
@@ -143,8 +149,8 @@ pub extern "C" fn vscsi_raw_blocks(
     count: u32,
     into: &mut [u8],
 ) -> u32
-    ensures { Tells result (λ a. Serving (Gives target lun first count into.old into.new) (kept_in device.old) a
-        (kept_in device.new)) }
+    ensures { Tells result (λ a. Serving (Gives target lun first count into.old into.new) (into.new ≡ into.old)
+        (kept_in device.old) a (kept_in device.new)) }
 {
     calls::blocks(device, alloc, target, lun, first, count, into).code()
 }

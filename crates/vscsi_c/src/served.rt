@@ -98,7 +98,7 @@ impl Served {
 
     /// How many chains a queue accepted, and how many of them were used.
     pub(crate) fn progress(&mut self, queue: u16, accepted: &mut u64, used: &mut u64) -> Answer
-        ensures { Stands queue accepted.new used.new self.old result self.new }
+        ensures { Stands queue accepted.old used.old accepted.new used.new self.old result self.new }
     {
         match self.world.log(queue) {
             Some(log) => {
@@ -125,7 +125,7 @@ impl Served {
 
     /// How many blocks a unit has.
     pub(crate) fn capacity(&mut self, target: u8, lun: u16, blocks: &mut u64) -> Answer
-        ensures { Holds target lun blocks.new self.old result self.new }
+        ensures { Holds target lun blocks.old blocks.new self.old result self.new }
     {
         match self.world.capacity(target, lun) {
             Some(capacity) => {
@@ -160,9 +160,6 @@ impl Served {
             .read_blocks(target, lun, first, count, &mut bytes)
         {
             Ok(true) => {
-                if bytes.len() != into.len() {
-                    return Answer::BadLength;
-                }
                 into.copy_from_slice(bytes.as_slice());
                 Answer::Done
             }

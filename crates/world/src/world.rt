@@ -44,7 +44,7 @@ impl Model for World {
 }
 
 impl World {
-    ghost use Rattle.std.specs.Prelude.{true, [], IfSome, slice_get, MatchResult};
+    ghost use Rattle.std.specs.Prelude.{◌+◌, ◌*◌, true, [], IfSome, slice_get, MatchResult};
     ghost use Rattle.std.specs.Option.{option_copied, option_map};
     ghost use Rattle.ring_core.specs.State.{IsLawful};
     ghost use Rattle.deeds.specs.Events.{Event as AnEvent, plain_event};
@@ -314,7 +314,8 @@ impl World {
         count: u32,
         into: &mut Vec<u8>,
     ) -> Result<bool, NoMemory>
-        ensures { GivesBlocks (unit_at self.now target lun) first count into.old.items result into.new.items }
+        ensures gives { GivesBlocks (unit_at self.now target lun) first count into.old.items result into.new.items }
+        ensures len { IfOk result (λ gave. gave ≡ true → length into.new.items ≡ length into.old.items + 512 * count) }
     {
         match self.unit(target, lun) {
             Some(unit) => {

@@ -1,15 +1,15 @@
-use Rattle.std.proofs.Common.{sym, ap, ◌∙◌}
+use Rattle.std.proofs.Common.{refl, sym, ap, ◌∙◌}
 use Rattle.std.specs.Prelude.{Some}
 use Rattle.vscsi_c.proofs.Serve.{made, refused}
 use Rattle.vscsi_c.proofs.calls.create.Goals as goal
 
 pub returns-in-Some-fault : goal.returns-in-Some-fault
-returns-in-Some-fault c = refused _ _ _ _ _ _ _ c.in-Ok.config c.in_default.ensures.taken c.in-Ok.ensures
+returns-in-Some-fault c = refused _ _ _ _ _ _ _ _ c.in-Ok.config c.in_default.ensures.taken c.in-Ok.ensures
     (record { refused = sym c.in-Some-fault.ensures.none; fault = c.in-Some-fault.cause; is = c.in-Some-fault.ensures.cause; named = c.fault_of.ensures })
     c.in_default.ensures.after
 
 pub returns : goal.returns
-returns c = made _ _ _ _ _ _ _ c.in-Ok.config c.in_default.ensures.taken c.in-Ok.ensures
+returns c = made _ _ _ _ _ _ _ _ c.in-Ok.config c.in_default.ensures.taken c.in-Ok.ensures
     (record { world = c.in-Ok-new.world; told = c.new-told.result })
     (record {
       taken = c.in-Ok-new.ensures.opening.0;
@@ -19,3 +19,4 @@ returns c = made _ _ _ _ _ _ _ c.in-Ok.config c.in_default.ensures.taken c.in-Ok
       told = c.new-told.ensures;
     })
     (c.put-2.ensures ∙ ap (λ d. Some d) c.in-Ok-new-2.ensures.ok)
+    refl
