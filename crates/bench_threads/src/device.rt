@@ -12,9 +12,9 @@ use workers::{Gate, Host, Point};
 use world::{Config, RING_PACKED, UnitSpec, VERSION_1, World};
 
 /// Where the areas of a request queue lie in what is its own.
-pub(crate) const DRIVER: u64 = 0x2000;
+pub(crate) const DRIVER: u64 = 0x4000;
 
-const DEVICE: u64 = 0x4000;
+const DEVICE: u64 = 0x5000;
 
 /// The bytes that a request queue has for its areas.
 pub(crate) const QUEUE: u64 = 0x8000;
@@ -33,8 +33,8 @@ pub(crate) trait Device {
     /// The guest's write.
     fn poke(&mut self, addr: u64, bytes: &[u8]);
 
-    /// The bytes that begin a response.
-    fn peek(&mut self, addr: u64) -> [u8; 12];
+    /// The guest's read.
+    fn peek(&mut self, addr: u64, out: &mut [u8]);
 
     /// Waits until so many requests of a unit are answered. Whether they are.
     fn serves(&mut self, lun: u8, count: u64) -> Result<bool, Failure>;
@@ -60,10 +60,8 @@ impl Device for Alone {
         self.world.poke(addr, bytes);
     }
 
-    fn peek(&mut self, addr: u64) -> [u8; 12] {
-        let mut head = [255; 12];
-        let _ = self.world.memory().read(addr, &mut head);
-        head
+    fn peek(&mut self, addr: u64, out: &mut [u8]) {
+        let _ = self.world.memory().read(addr, out);
     }
 
     fn serves(&mut self, _lun: u8, _count: u64) -> Result<bool, Failure> {
@@ -144,10 +142,8 @@ impl<'a, R: Wait> Device for Hosted<'a, R> {
         let _ = self.host.poke(self.rt, addr, bytes);
     }
 
-    fn peek(&mut self, addr: u64) -> [u8; 12] {
-        let mut head = [255; 12];
-        let _ = self.host.peek(self.rt, addr, &mut head);
-        head
+    fn peek(&mut self, addr: u64, out: &mut [u8]) {
+        let _ = self.host.peek(self.rt, addr, out);
     }
 
     fn serves(&mut self, lun: u8, count: u64) -> Result<bool, Failure> {
@@ -185,7 +181,7 @@ fn small_queue(at: u32) -> Layout {
 fn request_queue(work: &Work, lun: u8) -> Layout {
     let desc = QUEUE * u64::from(lun);
     Layout {
-        size: work.depth.wrapping_mul(2),
+        size: work.slots(),
         desc,
         driver: desc + DRIVER,
         device: desc + DEVICE,

@@ -3,7 +3,9 @@
 
 use crate::device::{DRIVER, Device, QUEUE};
 use crate::failure::Failure;
-use crate::work::{Work, request_at, request_of, response_at};
+use crate::work::{
+    Data, REQUEST_BYTES, RESPONSE_BYTES, Work, data_at, request_at, request_of, response_at,
+};
 use ring_core::Form;
 use std::alloc::{AllocError, Global};
 
@@ -19,6 +21,9 @@ const AVAILABLE: u16 = 0x80;
 
 const USED: u16 = 0x8000;
 
+/// How many descriptors of a split queue there are for each chain.
+const CHAIN: u16 = 4;
+
 /// The bytes of a descriptor of either form: in a split one the last two numbers are flags and next, in a packed
 /// one id and flags.
 fn descriptor(addr: u64, len: u32, pair: [u16; 2]) -> [u8; 16] {
@@ -31,6 +36,51 @@ fn descriptor(addr: u64, len: u32, pair: [u16; 2]) -> [u8; 16] {
     bytes
 }
 
+/// A part of a chain: where it lies, its bytes, and the flag of those that the device writes.
+#[derive(Clone, Copy)]
+struct Part {
+    addr: u64,
+    len: u32,
+    flag: u16,
+}
+
+/// The part at a place of a request's chain: the request, the response, and the data, which stand before the response
+/// where the device reads them, and else behind it.
+fn part_at(work: &Work, lun: u8, number: u16, place: u16) -> Part {
+    let data = data_at(work, lun, number);
+    match (place, work.kind.data()) {
+        (0, _) => Part {
+            addr: request_at(work, lun, number),
+            len: REQUEST_BYTES,
+            flag: 0,
+        },
+        (1, Data::Out(len)) => Part {
+            addr: data,
+            len,
+            flag: 0,
+        },
+        (2, Data::In(len)) => Part {
+            addr: data,
+            len,
+            flag: WRITE,
+        },
+        _ => Part {
+            addr: response_at(work, lun, number),
+            len: RESPONSE_BYTES,
+            flag: WRITE,
+        },
+    }
+}
+
+/// The flags of the part at a place, but for those of a round.
+fn flags_at(work: &Work, part: Part, place: u16) -> u16 {
+    if place.wrapping_add(1) < work.kind.parts() {
+        part.flag | NEXT
+    } else {
+        part.flag
+    }
+}
+
 /// What a guest has to make the requests of a unit available again.
 #[derive(Drop)]
 pub(crate) struct Guest {
@@ -38,6 +88,10 @@ pub(crate) struct Guest {
     // Descriptors of packed queues, as the driver writes them in rounds with an even and with an odd number.
     even: [Vec<u8>; 2],
     odd: [Vec<u8>; 2],
+    // The responses of a unit's requests before they are answered, once they are well, and as they were found.
+    open: Vec<u8>,
+    well: Vec<u8>,
+    found: Vec<u8>,
     good: u64,
 }
 
@@ -45,32 +99,38 @@ pub(crate) struct Guest {
 fn packed(alloc: Global, work: &Work, lun: u8, wrap: u16) -> Result<Vec<u8>, AllocError> {
     let mut slots = Vec::new(alloc);
     for number in 0..work.depth {
-        let (request, response) = (
-            request_at(work, lun, number),
-            response_at(work, lun, number),
-        );
-        let (readable, writable) = (work.kind.readable(), work.kind.writable());
-        slots.extend_from_slice(&descriptor(request, readable, [number, NEXT | wrap]))?;
-        slots.extend_from_slice(&descriptor(response, writable, [number, WRITE | wrap]))?;
+        for place in 0..work.kind.parts() {
+            let part = part_at(work, lun, number, place);
+            let flags = flags_at(work, part, place) | wrap;
+            slots.extend_from_slice(&descriptor(part.addr, part.len, [number, flags]))?;
+        }
     }
     Ok(slots)
+}
+
+/// So many bytes of one value as the responses of a unit have.
+fn responses(alloc: Global, work: &Work, value: u8) -> Result<Vec<u8>, AllocError> {
+    let mut bytes = Vec::new(alloc);
+    for _ in 0..work.depth {
+        bytes.extend_from_slice(&[value; RESPONSE_BYTES as usize])?;
+    }
+    Ok(bytes)
 }
 
 /// Puts the chain of a request into the table of a split queue, and into its available ring.
 fn put_split<D: Device>(device: &mut D, work: &Work, lun: u8, number: u16) {
     let queue = QUEUE * u64::from(lun);
-    let head = number.wrapping_mul(2);
-    let at = queue + 16 * u64::from(head);
-    let (request, response) = (
-        request_at(work, lun, number),
-        response_at(work, lun, number),
-    );
-    let first = descriptor(request, work.kind.readable(), [NEXT, head.wrapping_add(1)]);
-    let second = descriptor(response, work.kind.writable(), [WRITE, 0]);
-    device.poke(at, first.as_slice());
-    device.poke(at + 16, second.as_slice());
-    // The ring has twice as many entries as there are requests.
-    for entry in [number, number.wrapping_add(work.depth)] {
+    let head = number.wrapping_mul(CHAIN);
+    for place in 0..work.kind.parts() {
+        let at = head.wrapping_add(place);
+        let part = part_at(work, lun, number, place);
+        let pair = [flags_at(work, part, place), at.wrapping_add(1)];
+        let bytes = descriptor(part.addr, part.len, pair);
+        device.poke(queue + 16 * u64::from(at), bytes.as_slice());
+    }
+    // The ring has an entry for each descriptor.
+    for round in 0..CHAIN {
+        let entry = number.wrapping_add(round.wrapping_mul(work.depth));
         let place = queue + DRIVER + 4 + 2 * u64::from(entry);
         device.poke(place, head.to_le_bytes().as_slice());
     }
@@ -106,6 +166,9 @@ impl Guest {
             work: *work,
             even,
             odd,
+            open: responses(alloc, work, 255)?,
+            well: responses(alloc, work, 0)?,
+            found: responses(alloc, work, 255)?,
             good: 0,
         })
     }
@@ -113,9 +176,7 @@ impl Guest {
     /// Clears the responses of a unit's requests, and makes all of them available, the first time with an index of 0.
     fn send<D: Device>(&self, device: &mut D, lun: u8, round: u64) {
         let work = self.work;
-        for number in 0..work.depth {
-            device.poke(response_at(&work, lun, number), &[255; 12]);
-        }
+        device.poke(response_at(&work, lun, 0), self.open.as_slice());
         let queue = QUEUE * u64::from(lun);
         let place = (lun % 2) as usize;
         match self.work.form {
@@ -138,12 +199,11 @@ impl Guest {
         if !device.serves(lun, round.wrapping_add(1).wrapping_mul(depth))? {
             return Err(Failure::NotServed);
         }
-        for number in 0..work.depth {
-            if device.peek(response_at(&work, lun, number)) != [0; 12] {
-                return Err(Failure::NotServed);
-            }
-            self.good = self.good.wrapping_add(1);
+        device.peek(response_at(&work, lun, 0), self.found.as_mut_slice());
+        if self.found != self.well {
+            return Err(Failure::NotServed);
         }
+        self.good = self.good.wrapping_add(depth);
         Ok(())
     }
 

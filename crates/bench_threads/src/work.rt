@@ -5,18 +5,33 @@ ghost use Rattle.std.specs.Prelude.{◌<◌, ◌^◌};
 use ring_core::Form;
 
 /// The bytes of a request before its data, and of a response before its data (VIRTIO 1.2, 5.6.6.1).
-const REQUEST_BYTES: u32 = 51;
+pub(crate) const REQUEST_BYTES: u32 = 51;
 
-const RESPONSE_BYTES: u32 = 108;
+pub(crate) const RESPONSE_BYTES: u32 = 108;
 
 /// The blocks of 64 KiB.
 const LARGE: u16 = 128;
 
-/// Where the requests and responses lie, each pair in an area of its own.
-const AREAS: u64 = 0x2_0000;
+/// Where the responses lie, one behind the other.
+const RESPONSES: u64 = 0x2_0000;
 
-/// The bytes of an area.
+/// Where the requests lie, each with its data in an area of its own.
+const AREAS: u64 = 0x3_0000;
+
+/// The bytes of an area, and where the data begin in it.
 const AREA: u64 = 0x1_1000;
+
+const DATA: u64 = 0x1000;
+
+/// The data of a request, with their bytes.
+#[derive(Clone, Copy)]
+pub(crate) enum Data {
+    Absent,
+    /// Those that the device reads.
+    Out(u32),
+    /// Those that the device writes.
+    In(u32),
+}
 
 /// What each request does.
 #[derive(Clone, Copy, Debug, PartialEq, Eq)]
@@ -72,19 +87,21 @@ impl Kind {
         }
     }
 
-    /// How many bytes the device reads of a request.
-    pub(crate) fn readable(self) -> u32 {
+    /// Its data.
+    pub(crate) fn data(self) -> Data {
+        let bytes = 512 * u32::from(self.blocks());
         match self {
-            Kind::Write512 | Kind::Write64k => REQUEST_BYTES + 512 * u32::from(self.blocks()),
-            _ => REQUEST_BYTES,
+            Kind::Ready => Data::Absent,
+            Kind::Write512 | Kind::Write64k => Data::Out(bytes),
+            Kind::Read512 | Kind::Read64k => Data::In(bytes),
         }
     }
 
-    /// How many bytes it may write.
-    pub(crate) fn writable(self) -> u32 {
-        match self {
-            Kind::Read512 | Kind::Read64k => RESPONSE_BYTES + 512 * u32::from(self.blocks()),
-            _ => RESPONSE_BYTES,
+    /// How many descriptors its chain has.
+    pub(crate) fn parts(self) -> u16 {
+        match self.data() {
+            Data::Absent => 2,
+            Data::Out(_) | Data::In(_) => 3,
         }
     }
 }
@@ -104,6 +121,17 @@ pub struct Work {
     pub workers: u16,
 }
 
+impl Work {
+    /// How many descriptors a queue has: of a split one a power of two, and of a packed one as many as one round takes.
+    pub(crate) fn slots(&self) -> u16 {
+        let of_each = match self.form {
+            Form::Split => 4,
+            Form::Packed => self.kind.parts(),
+        };
+        self.depth.wrapping_mul(of_each)
+    }
+}
+
 /// Where the request lies that has this number among those of a unit.
 pub(crate) fn request_at(work: &Work, lun: u8, number: u16) -> u64
     ensures { result < 2 ^ 42 }
@@ -112,9 +140,15 @@ pub(crate) fn request_at(work: &Work, lun: u8, number: u16) -> u64
     AREAS + before * AREA
 }
 
-/// Where its response goes: behind it, at a multiple of 64.
+/// Where its data lie, or go.
+pub(crate) fn data_at(work: &Work, lun: u8, number: u16) -> u64 {
+    request_at(work, lun, number) + DATA
+}
+
+/// Where its response goes: behind those before it.
 pub(crate) fn response_at(work: &Work, lun: u8, number: u16) -> u64 {
-    request_at(work, lun, number) + (u64::from(work.kind.readable()) / 64 + 1) * 64
+    let before = u64::from(lun) * u64::from(work.depth) + u64::from(number);
+    RESPONSES + before * u64::from(RESPONSE_BYTES)
 }
 
 /// Its bytes, before its data: SIMPLE, and on blocks of its own.
