@@ -1,5 +1,5 @@
 -- What a worker begins with and brings back may go to another thread. The search alone finds it of small types only.
-use denote.Param.Send.{IsSend, IsSync, sendable, recorded_send, recorded_sync, struct_send, struct_sync, enum_send}
+use denote.Param.Send.{IsSend, IsSync, sendable, recorded_send, struct_send, enum_send}
 use denote.Param.SendFields.{declared_send, declared_sync}
 use denote.RattleType.{RattleType}
 use denote.Struct.Declared.{shape}
@@ -22,16 +22,11 @@ use Rattle.guest_mem.proofs.memory.GuestMem.TheSendSync as memory
 use Rattle.event_queue.proofs.port.EventPort.TheSendSync as port
 use Rattle.decisions.proofs.inventory.Inventory.TheSendSync as inventory
 use Rattle.std.proofs.option.Option.TheSendSync as option
-use denote.Struct.Field.{unit-field}
 use denote.Exit.{yes}
 use denote.Param.{param, arg}
 use denote.Param.Send.{given_send}
 use mir.Syntax.{Ty}
 use Prim.Native.Nat.{ℕ}
-use Rattle.atomic_table.specs.declared.shared.TableRule as rule
-use Rattle.std.specs.contracts.alloc.Global.{the_row as heap_row}
-use Rattle.std.specs.contracts.impls.GlobalAllocator.TheImpl.{ghosts}
-use Rattle.crossbeam_queue.specs.contracts.array_queue.Slotted.{the_field as slotted_field}
 use Rattle.crossbeam_queue.proofs.array_queue.Slotted.TheSendSync as slotted
 use Rattle.handoff.specs.contracts.queue.Handoff.{the_row as handoff_row}
 use Rattle.handoff.specs.contracts.queue.Handoff.TheInside as handoff
@@ -90,14 +85,23 @@ shared_syncs G gate = declared_sync (shared_type G) (
   (
     search (crosses, queue_sends),
     (
-      search (crosses, memory.the_send),
+      search (crosses, port.the_send),
       (
-        search (crosses, port.the_send),
+        inventory.the_sync,
         (
-          inventory.the_sync,
+          handoff_syncs,
           (
-            handoff_syncs,
-            (search (sendable, gate), (search (sendable, crosses) depth 20, (search (sendable, crosses) depth 20, tt))),
+            search (sendable, gate),
+            (
+              search (sendable, crosses) depth 20,
+              (
+                search (sendable, crosses) depth 20,
+                (
+                  search (sendable, crosses) depth 20,
+                  (search (crosses, memory.the_send), (search (sendable, crosses) depth 20, tt)),
+                ),
+              ),
+            ),
           ),
         ),
       ),
@@ -112,14 +116,23 @@ shared_sends G gate = declared_send (shared_type G) (
   (
     search (crosses, queue_sends),
     (
-      search (crosses, memory.the_send),
+      search (crosses, port.the_send),
       (
-        search (crosses, port.the_send),
+        inventory.the_send,
         (
-          inventory.the_send,
+          handoff_sends,
           (
-            handoff_sends,
-            (search (sendable, gate), (search (sendable, crosses) depth 20, (search (sendable, crosses) depth 20, tt))),
+            search (sendable, gate),
+            (
+              search (sendable, crosses) depth 20,
+              (
+                search (sendable, crosses) depth 20,
+                (
+                  search (sendable, crosses) depth 20,
+                  (search (crosses, memory.the_send), (search (sendable, crosses) depth 20, tt)),
+                ),
+              ),
+            ),
           ),
         ),
       ),

@@ -1,5 +1,5 @@
 -- How large a host is, and when one starts.
-use Rattle.std.specs.Prelude.{◌≡◌, ℕ, Bool, true, false, length, Result, Ok, Err}
+use Rattle.std.specs.Prelude.{◌≡◌, ℕ, true, false, length, Result, Ok, Err}
 use Rattle.config.specs.declared.config.Config.{Config}
 use Rattle.config.specs.declared.config.StartFault.{StartFault}
 use Rattle.config.specs.declared.config.StartFault.TheVariants.{BadConfig, NoMemory}

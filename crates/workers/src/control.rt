@@ -5,7 +5,8 @@ ghost use Rattle.std.specs.Prelude.{◌≡◌};
 use crate::post::Post;
 use crate::shared::Shared;
 use bays::{
-    Gate, answer_tmf_on, check_on, direct_on, fetch_control_on, fetch_event_on, mark_on, raise_on,
+    Gate, answer_tmf_on, check_on, direct_on, fetch_control_on, fetch_event_on, hold, mark_on,
+    raise_on,
 };
 use event_queue::WaitingEvents;
 use phases::{OpenFunction, Slot};
@@ -95,7 +96,7 @@ pub(crate) fn fetch_event<R: Wait, G: Gate + Drop>(rt: &R, shared: &Shared<G>) -
     if shared.queues.len() <= EVENTS {
         return true;
     }
-    let mut held = shared.port.lock(rt);
+    let mut held = hold(rt, &shared.port);
     fetch_event_on(&mut shared.bays(rt), EVENTS, &Slot::Empty, &mut held) == Ok(false)
 }
 
@@ -108,6 +109,6 @@ pub(crate) fn raise<R: Wait, G: Gate + Drop>(
     if shared.queues.len() <= EVENTS {
         return;
     }
-    let mut held = shared.port.lock(rt);
+    let mut held = hold(rt, &shared.port);
     raise_on(&mut shared.bays(rt), EVENTS, &mut held, waiting);
 }

@@ -95,7 +95,7 @@ fn reset<R: Wait, G: Gate + Drop>(
     requires seat { IsSeatOf shared.now.handoff post.old.seat }
     ensures seat { IsSameSeat post.old.seat post.new.seat }
 {
-    clear(rt, shared, post, false);
+    clear(rt, shared, post);
     if at >= shared.units.len() {
         return Ok(());
     }
@@ -104,7 +104,7 @@ fn reset<R: Wait, G: Gate + Drop>(
     }
     hard_on(&mut shared.bays(rt), at, &mut post.out, waiting)?;
     raise(rt, shared, waiting);
-    clear(rt, shared, post, false);
+    clear(rt, shared, post);
     Ok(())
 }
 

@@ -59,14 +59,15 @@ impl Kept {
         }
     }
 
-    /// Whether there is room for what one more request leaves: not where a growth was refused.
-    pub(crate) fn make_room(&mut self) -> bool
+    /// Whether there is room for what so many more requests leave: not where a growth was refused.
+    pub(crate) fn make_room(&mut self, requests: usize) -> bool
+        requires some { 0 < requests }
         ensures { OnTrue result (HasRoom self.new) }
     {
-        let Ok(()) = self.receipts.reserve(1) else {
+        let Ok(()) = self.receipts.reserve(requests) else {
             return false;
         };
-        let Ok(()) = self.notes.reserve(1) else {
+        let Ok(()) = self.notes.reserve(requests) else {
             return false;
         };
         true

@@ -94,12 +94,14 @@ pub(crate) fn open<G: Gate + Drop>(
     Ok(Shared {
         units,
         queues,
-        memory: Mutex::new(memory),
         port: Mutex::new(port),
         inventory,
         handoff,
         gate,
         closing: AtomicBool::new(false),
         waiting: AtomicU64::new(0),
+        _before: [0; 16],
+        memory: Mutex::new(memory),
+        _behind: [0; 16],
     })
 }

@@ -2,6 +2,7 @@
 
 ghost use Rattle.std.specs.Prelude.{◌≡◌, IfOk};
 ghost use Rattle.handoff.specs.Seats.{IsSeatOf, IsSameSeat};
+ghost use Rattle.std.specs.Bool.{OnTrue};
 ghost use Rattle.workers.specs.Rooms.{HasRoom};
 
 use crate::hired::Begins;
@@ -15,6 +16,9 @@ use std::alloc::{AllocError, Global};
 use std::sync::Wait;
 use std::thread;
 use unit_history::{Job, JobList};
+
+/// The bytes that a chain has room for where its answer may be long: to copy as many takes longer than to take a chain.
+const LONG: u64 = 16_384;
 
 /// What a seat has: its place at the hand-off, the jobs that may run, the job in its hand, and what it kept of those
 /// that it answered.
@@ -46,8 +50,16 @@ fn pass<G: Gate>(gate: &G, point: Point, hand: &Hand) {
     }
 }
 
+/// Whether what is in a hand may have a long answer.
+pub(crate) fn is_long(hand: &Hand) -> bool {
+    match hand {
+        Hand::Held(held) => held.job().lengths().writable >= LONG,
+        Hand::Free | Hand::Answered(_, _) => false,
+    }
+}
+
 /// The job in the hand is committed, where one is that isn't.
-fn commit<R: Wait, G: Gate + Drop>(rt: &R, shared: &Shared<G>, post: &mut Post)
+pub(crate) fn commit<R: Wait, G: Gate + Drop>(rt: &R, shared: &Shared<G>, post: &mut Post)
     ensures seat { post.new.seat ≡ post.old.seat }
     ensures kept { post.new.kept ≡ post.old.kept }
 {
@@ -109,6 +121,15 @@ impl Post {
     pub(crate) fn is_free(&self) -> bool {
         self.hand.is_free() && self.out.len() == 0
     }
+
+    /// Whether there is room for what the jobs in its list and in its hand leave, and one more request: not where a growth
+    /// was refused.
+    pub(crate) fn make_room(&mut self) -> bool
+        ensures room { OnTrue result (HasRoom self.new.kept) }
+        ensures seat { self.new.seat ≡ self.old.seat }
+    {
+        self.kept.make_room(self.out.len().saturating_add(2))
+    }
 }
 
 /// What is in the hand is committed, answered and leaves, as far as it has come. Room for what it leaves was made
@@ -123,10 +144,10 @@ fn serve<R: Wait, G: Gate + Drop>(rt: &R, shared: &Shared<G>, post: &mut Post)
 }
 
 /// What is in the hand is served, where there is room for what it leaves.
-fn serve_hand<R: Wait, G: Gate + Drop>(rt: &R, shared: &Shared<G>, post: &mut Post)
+pub(crate) fn serve_hand<R: Wait, G: Gate + Drop>(rt: &R, shared: &Shared<G>, post: &mut Post)
     ensures seat { post.new.seat ≡ post.old.seat }
 {
-    if post.hand.is_free() || !post.kept.make_room() {
+    if post.hand.is_free() || !post.make_room() {
         return;
     }
     serve(rt, shared, post);
@@ -141,9 +162,24 @@ fn serve_job<R: Wait, G: Gate + Drop>(rt: &R, shared: &Shared<G>, post: &mut Pos
     serve_hand(rt, shared, post);
 }
 
-/// The next job that may run is handed off; this seat serves it where the hand-off is full, or where it is the only
-/// one, `keeps` is said, and no other worker waits for one. Whether there was one, and the hand free for it.
-fn put<R: Wait, G: Gate + Drop>(rt: &R, shared: &Shared<G>, post: &mut Post, keeps: bool) -> bool
+/// The only job that may run comes into the hand, where that is free and no other worker waits for one. Whether one did.
+pub(crate) fn take_own<G: Gate + Drop>(shared: &Shared<G>, post: &mut Post) -> bool
+    ensures seat { post.new.seat ≡ post.old.seat }
+{
+    if !post.hand.is_free() || post.out.len() != 1 || shared.is_awaited() {
+        return false;
+    }
+    let Some(job) = post.out.next() else {
+        return false;
+    };
+    shared.gate.pass(Point::Taken, job.ticket());
+    post.hand = Hand::taken(job);
+    true
+}
+
+/// The next job that may run is handed off; this seat serves it where the hand-off is full. Whether there was one, and
+/// the hand free for it.
+fn put<R: Wait, G: Gate + Drop>(rt: &R, shared: &Shared<G>, post: &mut Post) -> bool
     requires seat { IsSeatOf shared.now.handoff post.old.seat }
     ensures seat { IsSameSeat post.old.seat post.new.seat }
 {
@@ -153,30 +189,20 @@ fn put<R: Wait, G: Gate + Drop>(rt: &R, shared: &Shared<G>, post: &mut Post, kee
     let Some(job) = post.out.next() else {
         return false;
     };
-    if keeps && post.out.len() == 0 && !shared.is_awaited() {
-        serve_job(rt, shared, post, job);
-        return true;
-    }
     if let Err(job) = shared.handoff.put(rt, &mut post.seat, job) {
         serve_job(rt, shared, post, job);
     }
     true
 }
 
-/// What this seat has is served or handed off, until it has nothing, or memory was refused to it. Of its jobs it serves
-/// the last itself where `keeps` is said: where it found the hand-off empty.
-pub(crate) fn clear<R: Wait, G: Gate + Drop>(
-    rt: &R,
-    shared: &Shared<G>,
-    post: &mut Post,
-    keeps: bool,
-)
+/// What this seat has is served or handed off, until it has nothing, or memory was refused to it.
+pub(crate) fn clear<R: Wait, G: Gate + Drop>(rt: &R, shared: &Shared<G>, post: &mut Post)
     requires seat { IsSeatOf shared.now.handoff post.old.seat }
     ensures seat { IsSameSeat post.old.seat post.new.seat }
 {
     serve_hand(rt, shared, post);
     for _ in rt.forever() {
-        if !put(rt, shared, post, keeps) {
+        if !put(rt, shared, post) {
             return;
         }
     }
@@ -189,13 +215,13 @@ pub(crate) fn finish<R: Wait, G: Gate + Drop>(rt: &R, shared: &Shared<G>, post: 
     requires seat { IsSeatOf shared.now.handoff post.old.seat }
     ensures seat { IsSameSeat post.old.seat post.new.seat }
 {
-    clear(rt, shared, post, false);
+    clear(rt, shared, post);
     for _ in rt.forever() {
         if post.is_free() {
             return;
         }
         thread::yield_now();
-        clear(rt, shared, post, false);
+        clear(rt, shared, post);
     }
     unreachable!()
 }
@@ -205,7 +231,7 @@ pub(crate) fn take<R: Wait, G: Gate + Drop>(rt: &R, shared: &Shared<G>, post: &m
     requires seat { IsSeatOf shared.now.handoff post.old.seat }
     ensures seat { IsSameSeat post.old.seat post.new.seat }
 {
-    if !post.is_free() || !post.kept.make_room() {
+    if !post.is_free() || !post.make_room() {
         return false;
     }
     let Some(job) = shared.handoff.take(rt, &mut post.seat) else {
@@ -214,6 +240,6 @@ pub(crate) fn take<R: Wait, G: Gate + Drop>(rt: &R, shared: &Shared<G>, post: &m
     shared.gate.pass(Point::Taken, job.ticket());
     post.hand = Hand::taken(job);
     serve(rt, shared, post);
-    clear(rt, shared, post, false);
+    clear(rt, shared, post);
     false
 }

@@ -4,12 +4,15 @@ ghost use Rattle.std.specs.Prelude.{◌≡◌, ◌<◌, vec_len};
 ghost use Rattle.handoff.specs.Seats.{IsSeatOf, IsSameSeat};
 ghost use Rattle.workers.specs.Rooms.{HasRoom};
 
-use crate::post::{Post, clear};
+use crate::post::{Post, clear, commit, is_long, serve_hand, take_own};
 use crate::shared::Shared;
 use bays::{Gate, Point, direct_on, enter_on, fetch_on};
 use phases::{Given, Slot};
 use ring_core::Ticket;
 use std::sync::Wait;
+
+/// How many jobs of a queue a worker serves in a row.
+const IN_A_ROW: usize = 16;
 
 /// The ticket of a request that arrived.
 fn arrived(slot: &Slot) -> Option<Ticket> {
@@ -59,8 +62,31 @@ fn direct<R: Wait, G: Gate + Drop>(
     }
 }
 
+/// A request queue's next chain is taken, and comes to its unit or is answered. Whether there was one: `None` where memory
+/// was refused.
+fn fetch_next<R: Wait, G: Gate + Drop>(
+    rt: &R,
+    shared: &Shared<G>,
+    at: usize,
+    post: &mut Post,
+) -> Option<bool>
+    requires at { at < vec_len shared.now.queues }
+    ensures seat { post.new.seat ≡ post.old.seat }
+{
+    if !post.make_room() {
+        return None;
+    }
+    let mut slot = Slot::Empty;
+    let is_some = fetch_on(&mut shared.bays(rt), at, &mut slot, &shared.inventory).ok()?;
+    enter(rt, shared, &mut slot, post);
+    direct(rt, shared, at, &mut slot, post);
+    Some(is_some)
+}
+
 /// A request queue's next chain is taken, and comes to its unit or is answered: whoever calls found the hand-off empty.
-/// Whether there was nothing to do: not where memory was refused.
+/// The job that it gives is served, where no other worker waits for one. Before a long answer, for which the memory is
+/// held, the next chain is taken, so that there is work while others hold it. Whether there was nothing to do: not
+/// where memory was refused.
 pub(crate) fn fetch<R: Wait, G: Gate + Drop>(
     rt: &R,
     shared: &Shared<G>,
@@ -72,18 +98,20 @@ pub(crate) fn fetch<R: Wait, G: Gate + Drop>(
     ensures seat { IsSameSeat post.old.seat post.new.seat }
 {
     // Then its list has the places that an Enter asks for.
-    if !post.is_free() || !post.kept.make_room() {
+    if !post.is_free() {
         return false;
     }
-    let mut slot = Slot::Empty;
-    match fetch_on(&mut shared.bays(rt), at, &mut slot, &shared.inventory) {
-        Ok(false) => true,
-        Err(_) => false,
-        Ok(true) => {
-            enter(rt, shared, &mut slot, post);
-            direct(rt, shared, at, &mut slot, post);
-            clear(rt, shared, post, true);
-            false
+    let fetched = fetch_next(rt, shared, at, post);
+    for _ in 0..IN_A_ROW {
+        if !take_own(shared, post) {
+            break;
         }
+        if is_long(&post.hand) {
+            commit(rt, shared, post);
+            let _ = fetch_next(rt, shared, at, post);
+        }
+        serve_hand(rt, shared, post);
     }
+    clear(rt, shared, post);
+    fetched == Some(false)
 }

@@ -18,7 +18,6 @@ use unit_history::UnitState;
 pub(crate) struct Shared<G: Gate + Drop> {
     pub(crate) units: Vec<Mutex<UnitState>>,
     pub(crate) queues: Vec<Mutex<Queue>>,
-    pub(crate) memory: Mutex<GuestMem>,
     pub(crate) port: Mutex<EventPort>,
     pub(crate) inventory: Inventory,
     pub(crate) handoff: Handoff,
@@ -26,6 +25,10 @@ pub(crate) struct Shared<G: Gate + Drop> {
     pub(crate) closing: AtomicBool,
     // How many workers found nothing to do in their latest round.
     pub(crate) waiting: AtomicU64,
+    // What all threads try for stands in cache lines of its own, so that what stands beside it stays with whoever reads it.
+    pub(crate) _before: [u64; 16],
+    pub(crate) memory: Mutex<GuestMem>,
+    pub(crate) _behind: [u64; 16],
 }
 
 impl<G: Gate + Drop> Shared<G> {

@@ -93,7 +93,7 @@ fn round<R: Wait, G: Gate + Drop>(
     ensures seat { IsSameSeat post.old.seat post.new.seat }
 {
     if !post.is_free() {
-        clear(rt, shared, post, false);
+        clear(rt, shared, post);
     }
     if !take(rt, shared, post) {
         return false;

@@ -1,9 +1,8 @@
 use denote.Param.{param}
-use denote.Param.Send.{IsSend, IsSync, Quiet-if, sendable}
+use denote.Param.Send.{IsSend, Quiet-if, sendable}
 use denote.Exit.{no, unseen}
 use mir.Syntax.{of_param}
-use denote.Param.SendFields.{declared_sync}
-use Rattle.std.proofs.Common.{◌≡◌, ◌≤◌, vec_len, ℕ, ◌+◌, ◌∙◌, sym, ap, subst, refl, length}
+use Rattle.std.proofs.Common.{◌≡◌, ◌≤◌, vec_len, ℕ, ◌+◌, ◌∙◌, sym, ap, subst, length}
 use Rattle.std.specs.Arc.{arc_value}
 use Rattle.handoff.specs.Seats.{Hub, IsSeatOf, AreSeatsFrom}
 use Rattle.workers.specs.Crew.{IsWhole}
