@@ -4,6 +4,7 @@ use crate::failure::Failure;
 use crate::work::{Kind, Work, request_at};
 use ring_core::{Form, Layout, Ticket};
 use std::alloc::{AllocError, Global};
+use std::hint::spin_loop;
 use std::sync::atomic::{AtomicU64, Ordering};
 use std::sync::{Arc, Wait};
 use std::thread;
@@ -27,6 +28,11 @@ const FIRST_QUEUE: u16 = 2;
 
 /// How often a guest looks whether the workers have answered.
 const LOOKS: u64 = 10_000_000_000;
+
+/// How long it rests between two looks, and after how many it lets other threads run.
+const RESTS: u32 = 20;
+
+const YIELDS: u64 = 16;
 
 /// What serves a guest.
 pub(crate) trait Device {
@@ -70,19 +76,25 @@ impl Device for Alone {
     }
 }
 
-/// How many requests of each unit were answered.
+/// How many requests of each unit were answered. Two workers count these, so they stand in cache lines of their own.
 #[derive(Drop)]
 pub(crate) struct Answered {
+    _before: [u64; 16],
     first: AtomicU64,
+    _between: [u64; 16],
     second: AtomicU64,
+    _behind: [u64; 16],
 }
 
 impl Answered {
     /// None yet.
     pub(crate) fn new() -> Answered {
         Answered {
+            _before: [0; 16],
             first: AtomicU64::new(0),
+            _between: [0; 16],
             second: AtomicU64::new(0),
+            _behind: [0; 16],
         }
     }
 
@@ -148,11 +160,17 @@ impl<'a, R: Wait> Device for Hosted<'a, R> {
 
     fn serves(&mut self, lun: u8, count: u64) -> Result<bool, Failure> {
         let answered = self.answered.of(lun);
-        for _ in 0..LOOKS {
+        for look in 0..LOOKS {
             if answered.load(Ordering::SeqCst) >= count {
                 return Ok(true);
             }
-            thread::yield_now();
+            // A count that is read all the time is slow to count on.
+            for _ in 0..RESTS {
+                spin_loop();
+            }
+            if look % YIELDS == 0 {
+                thread::yield_now();
+            }
         }
         Ok(false)
     }

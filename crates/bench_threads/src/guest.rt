@@ -1,5 +1,6 @@
-//! A guest that makes so many requests available at once on each of two queues, over and over, from the same places in
-//! its memory, each queue's for a unit of its own.
+//! A guest that keeps so many requests available on each of two queues, over and over, from the same places in its
+//! memory, each queue's for a unit of its own. Those of a queue are two sets, of which it looks at one and makes it
+//! available again while the device has the other, so that a queue doesn't stand empty meanwhile.
 
 use crate::device::{DRIVER, Device, QUEUE};
 use crate::failure::Failure;
@@ -8,6 +9,7 @@ use crate::work::{
 };
 use ring_core::Form;
 use std::alloc::{AllocError, Global};
+use std::thread;
 
 /// The units.
 const LUNS: [u8; 2] = [0, 1];
@@ -23,6 +25,14 @@ const USED: u16 = 0x8000;
 
 /// How many descriptors of a split queue there are for each chain.
 const CHAIN: u16 = 4;
+
+/// The value of each byte of a response before it is answered, and, as GOOD has it, once it is (VIRTIO 1.2, 5.6.6.1).
+const OPEN: u8 = 255;
+
+const WELL: u8 = 0;
+
+/// How often a guest looks for the answers of a set of which as many were given.
+const LOOKS: u64 = 10_000_000_000;
 
 /// The bytes of a descriptor of either form: in a split one the last two numbers are flags and next, in a packed
 /// one id and flags.
@@ -85,20 +95,26 @@ fn flags_at(work: &Work, part: Part, place: u16) -> u16 {
 #[derive(Drop)]
 pub(crate) struct Guest {
     work: Work,
-    // Descriptors of packed queues, as the driver writes them in rounds with an even and with an odd number.
-    even: [Vec<u8>; 2],
-    odd: [Vec<u8>; 2],
-    // The responses of a unit's requests before they are answered, once they are well, and as they were found.
+    // Descriptors of the sets of each unit's packed queue, as the driver writes them in rounds with an even and with an
+    // odd number.
+    even: [Vec<u8>; 4],
+    odd: [Vec<u8>; 4],
+    // The responses of a set before they are answered, and as they were found.
     open: Vec<u8>,
-    well: Vec<u8>,
     found: Vec<u8>,
     good: u64,
 }
 
-/// Appends the descriptors of a unit's requests on a packed queue.
-fn packed(alloc: Global, work: &Work, lun: u8, wrap: u16) -> Result<Vec<u8>, AllocError> {
+/// The descriptors of a set of a unit's requests on a packed queue.
+fn packed_set(
+    alloc: Global,
+    work: &Work,
+    lun: u8,
+    set: u16,
+    wrap: u16,
+) -> Result<Vec<u8>, AllocError> {
     let mut slots = Vec::new(alloc);
-    for number in 0..work.depth {
+    for number in work.first_of(set)..work.first_of(set.wrapping_add(1)) {
         for place in 0..work.kind.parts() {
             let part = part_at(work, lun, number, place);
             let flags = flags_at(work, part, place) | wrap;
@@ -108,13 +124,36 @@ fn packed(alloc: Global, work: &Work, lun: u8, wrap: u16) -> Result<Vec<u8>, All
     Ok(slots)
 }
 
-/// So many bytes of one value as the responses of a unit have.
-fn responses(alloc: Global, work: &Work, value: u8) -> Result<Vec<u8>, AllocError> {
+/// Those of the sets of the first unit, then of the second's.
+fn packed(alloc: Global, work: &Work, wrap: u16) -> Result<[Vec<u8>; 4], AllocError> {
+    Ok([
+        packed_set(alloc, work, 0, 0, wrap)?,
+        packed_set(alloc, work, 0, 1, wrap)?,
+        packed_set(alloc, work, 1, 0, wrap)?,
+        packed_set(alloc, work, 1, 1, wrap)?,
+    ])
+}
+
+/// The responses of a set before they are answered.
+fn responses(alloc: Global, work: &Work) -> Result<Vec<u8>, AllocError> {
     let mut bytes = Vec::new(alloc);
-    for _ in 0..work.depth {
-        bytes.extend_from_slice(&[value; RESPONSE_BYTES as usize])?;
+    for _ in 0..work.of_set() {
+        bytes.extend_from_slice(&[OPEN; RESPONSE_BYTES as usize])?;
     }
     Ok(bytes)
+}
+
+/// Whether responses are all there and well: none where one isn't well.
+fn are_well(found: &[u8]) -> Option<bool> {
+    let mut are_there = true;
+    for response in found.chunks(RESPONSE_BYTES as usize) {
+        if response == [OPEN; RESPONSE_BYTES as usize].as_slice() {
+            are_there = false;
+        } else if response != [WELL; RESPONSE_BYTES as usize].as_slice() {
+            return None;
+        }
+    }
+    Some(are_there)
 }
 
 /// Puts the chain of a request into the table of a split queue, and into its available ring.
@@ -156,72 +195,88 @@ impl Guest {
         device: &mut D,
         work: &Work,
     ) -> Result<Guest, AllocError> {
-        let even = [
-            packed(alloc, work, 0, AVAILABLE)?,
-            packed(alloc, work, 1, AVAILABLE)?,
-        ];
-        let odd = [packed(alloc, work, 0, USED)?, packed(alloc, work, 1, USED)?];
         put_all(device, work);
         Ok(Guest {
             work: *work,
-            even,
-            odd,
-            open: responses(alloc, work, 255)?,
-            well: responses(alloc, work, 0)?,
-            found: responses(alloc, work, 255)?,
+            even: packed(alloc, work, AVAILABLE)?,
+            odd: packed(alloc, work, USED)?,
+            open: responses(alloc, work)?,
+            found: responses(alloc, work)?,
             good: 0,
         })
     }
 
-    /// Clears the responses of a unit's requests, and makes all of them available, the first time with an index of 0.
-    fn send<D: Device>(&self, device: &mut D, lun: u8, round: u64) {
+    /// How many requests of a unit are made available up to a set of a round.
+    fn sent(&self, round: u64, set: u16) -> u64 {
+        round
+            .wrapping_mul(u64::from(self.work.depth))
+            .wrapping_add(u64::from(self.work.first_of(set.wrapping_add(1))))
+    }
+
+    /// Clears the responses of a set of a unit's requests, and makes it available, the first time with an index of 0.
+    fn send<D: Device>(&self, device: &mut D, lun: u8, set: u16, round: u64) {
         let work = self.work;
-        device.poke(response_at(&work, lun, 0), self.open.as_slice());
+        let first = work.first_of(set);
+        device.poke(response_at(&work, lun, first), self.open.as_slice());
         let queue = QUEUE * u64::from(lun);
-        let place = (lun % 2) as usize;
-        match self.work.form {
+        let slots = queue + 16 * u64::from(first) * u64::from(work.kind.parts());
+        let of = (lun % 2) as usize * 2 + (set % 2) as usize;
+        match work.form {
             Form::Split => {
-                let sent = round
-                    .wrapping_add(1)
-                    .wrapping_mul(u64::from(self.work.depth));
-                let index = (sent % 65536) as u16;
+                let index = (self.sent(round, set) % 65536) as u16;
                 device.poke(queue + DRIVER + 2, index.to_le_bytes().as_slice());
             }
-            Form::Packed if round % 2 == 0 => device.poke(queue, self.even[place].as_slice()),
-            Form::Packed => device.poke(queue, self.odd[place].as_slice()),
+            Form::Packed if round % 2 == 0 => device.poke(slots, self.even[of].as_slice()),
+            Form::Packed => device.poke(slots, self.odd[of].as_slice()),
         }
     }
 
-    /// Waits until a round of a unit's requests is answered, and counts those that ended with GOOD.
-    fn take<D: Device>(&mut self, device: &mut D, lun: u8, round: u64) -> Result<(), Failure> {
+    /// Waits until a set of a unit's requests is answered, and counts those that ended with GOOD. As many as were sent up
+    /// to it may have been answered before it is, where those of the other set came first.
+    fn take<D: Device>(
+        &mut self,
+        device: &mut D,
+        lun: u8,
+        set: u16,
+        round: u64,
+    ) -> Result<(), Failure> {
         let work = self.work;
-        let depth = u64::from(work.depth);
-        if !device.serves(lun, round.wrapping_add(1).wrapping_mul(depth))? {
+        if !device.serves(lun, self.sent(round, set))? {
             return Err(Failure::NotServed);
         }
-        device.peek(response_at(&work, lun, 0), self.found.as_mut_slice());
-        if self.found != self.well {
-            return Err(Failure::NotServed);
+        for _ in 0..LOOKS {
+            let at = response_at(&work, lun, work.first_of(set));
+            device.peek(at, self.found.as_mut_slice());
+            match are_well(self.found.as_slice()) {
+                Some(true) => {
+                    self.good = self.good.wrapping_add(u64::from(work.of_set()));
+                    return Ok(());
+                }
+                Some(false) => thread::yield_now(),
+                None => break,
+            }
         }
-        self.good = self.good.wrapping_add(depth);
-        Ok(())
+        Err(Failure::NotServed)
     }
 
-    /// Has all rounds served, and makes the requests of each queue available again once those before are answered.
-    /// How many ended with GOOD.
+    /// Has all rounds served, and makes each set available again once it is answered. How many ended with GOOD.
     pub(crate) fn serve<D: Device>(mut self, device: &mut D) -> Result<u64, Failure> {
         let rounds = self.work.rounds;
         for round in 0..rounds {
-            for lun in LUNS {
-                if round > 0 {
-                    self.take(device, lun, round - 1)?;
+            for set in 0..self.work.sets() {
+                for lun in LUNS {
+                    if round > 0 {
+                        self.take(device, lun, set, round - 1)?;
+                    }
+                    self.send(device, lun, set, round);
                 }
-                self.send(device, lun, round);
             }
         }
         if rounds > 0 {
-            for lun in LUNS {
-                self.take(device, lun, rounds - 1)?;
+            for set in 0..self.work.sets() {
+                for lun in LUNS {
+                    self.take(device, lun, set, rounds - 1)?;
+                }
             }
         }
         Ok(self.good)

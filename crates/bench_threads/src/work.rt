@@ -122,6 +122,25 @@ pub struct Work {
 }
 
 impl Work {
+    /// In how many sets its requests are made available again: two, where there are two.
+    pub(crate) fn sets(&self) -> u16 {
+        if self.depth > 1 { 2 } else { 1 }
+    }
+
+    /// The requests of a set.
+    pub(crate) fn of_set(&self) -> u16 {
+        if self.depth > 1 {
+            self.depth / 2
+        } else {
+            self.depth
+        }
+    }
+
+    /// The number of the first request of a set among those of a unit, and of the one behind its last.
+    pub(crate) fn first_of(&self, set: u16) -> u16 {
+        self.of_set().wrapping_mul(set)
+    }
+
     /// How many descriptors a queue has: of a split one a power of two, and of a packed one as many as one round takes.
     pub(crate) fn slots(&self) -> u16 {
         let of_each = match self.form {
