@@ -10,7 +10,7 @@ use Rattle.ring_core.specs.Offer.{wants_notice}
 use Rattle.ring_core.specs.declared.fault.RingFault.{RingFault}
 use Rattle.history.specs.Steps.{Step}
 use Rattle.history.specs.Endings.{Ending}
-use Rattle.history.specs.Receipts.{unit_of}
+use Rattle.history.specs.Receipts.{unit_address}
 use Rattle.task_set.specs.Jobs.{PlainJob}
 use Rattle.unit_history.specs.Unit.{PlainUnit, after as stepped, parking}
 use Rattle.task_mgmt.specs.Functions.{PlainFunction, marking, asking, failing, checking, step_by}
@@ -80,7 +80,7 @@ hard_code = code 0x29 0x00
 
 -- a transport reset of the unit, with reason 0 (VIRTIO 1.2 §5.6.6.3)
 abbrev pub hard_report : PlainUnit → Report
-hard_report u = record { event = transport_reset; address = Some (unit_of u.opening); reason = 0 }
+hard_report u = record { event = transport_reset; address = Some (unit_address u.opening); reason = 0 }
 
 -- of the unit at a place, if there is one
 abbrev pub reports_of : Option PlainUnit → List Report

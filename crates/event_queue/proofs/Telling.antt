@@ -8,7 +8,7 @@ use Rattle.scsi_codec.specs.EventQueue.{event_bytes}
 use Rattle.ring_core.specs.State.{PlainChain}
 use Rattle.event_queue.specs.Port.{PlainPort, Happening, Gift, gives_to, raised_to}
 use Rattle.scsi_codec.specs.EventQueue.{missed_event}
-use Rattle.event_queue.specs.Told.{came, Told, raising, coming, told, port_since, gifts_with, gifts_since}
+use Rattle.event_queue.specs.Reported.{came, Reported, raising, coming, reported, port_since, gifts_with, gifts_since}
 
 first_of : {K : Type 0} {a b : K} {ks ls : List K} → a ∷ ks ≡ b ∷ ls → a ≡ b
 first_of e = cc
@@ -31,7 +31,7 @@ zip_more (l ∷ ls) [] k few = refl
 zip_more (l ∷ ls) (x ∷ xs) k few = ap (λ z. (l, x) ∷ z) (zip_more ls xs k (omega (arith, few)))
 
 -- what a port has and has given, beside what came and what was told
-pub record Agrees (cs : List PlainChain) (t : Told) (p : PlainPort) (gs : List Gift) : Type 0 where
+pub record Agrees (cs : List PlainChain) (t : Reported) (p : PlainPort) (gs : List Gift) : Type 0 where
   pub few : length t.events ≤ length cs
   pub none : t.missed ≡ true → length t.events ≡ length cs
   pub held : p.buffers ≡ drop (length t.events) cs
@@ -51,7 +51,7 @@ next_given cs later c es e gs left given =
     ∙ sym (zip_one cs later (bytes_of_all es) c (event_bytes e) (left ∙ ap (λ n. drop n cs) (sym long)))
     ∙ ap (λ (xs : List (List ℕ)). zip cs xs) (sym (map-append (λ (x : Event). event_bytes x) es (e ∷ [])))
 
-raised : (e : Event) (cs : List PlainChain) (t : Told) (p : PlainPort) (gs : List Gift) → Agrees cs t p gs
+raised : (e : Event) (cs : List PlainChain) (t : Reported) (p : PlainPort) (gs : List Gift) → Agrees cs t p gs
     → (b : Bool) → nat_lt (length t.events) (length cs) ≡ b → (bs : List PlainChain) → p.buffers ≡ bs
     → Agrees cs (raising b e t.events t.missed) (raised_to bs p) (gifts_with gs (gives_to e bs))
 raised e cs t p gs h true lt (c ∷ later) is =
@@ -82,7 +82,7 @@ raised e cs t p gs h false lt [] is =
       given = h.given;
     }
 
-came_one : (c : PlainChain) (cs : List PlainChain) (t : Told) (p : PlainPort) (gs : List Gift) → Agrees cs t p gs
+came_one : (c : PlainChain) (cs : List PlainChain) (t : Reported) (p : PlainPort) (gs : List Gift) → Agrees cs t p gs
     → (b d : Bool) → p.missed ≡ b → t.missed ≡ d
     → Agrees (cs ++ c ∷ []) (coming d t.events)
     (if b then record p { missed = false } else record p { buffers = p.buffers ++ c ∷ [] })
@@ -123,11 +123,11 @@ came_one c cs t p gs h true false pm tm = let e = sym pm ∙ h.missed ∙ tm in 
 came_one c cs t p gs h false true pm tm = let e = sym pm ∙ h.missed ∙ tm in absurd (cc)
 
 pub agree : (limit : ℕ) (past : List Happening)
-    → Agrees (came past) (told past) (port_since limit past) (gifts_since limit past)
+    → Agrees (came past) (reported past) (port_since limit past) (gifts_since limit past)
 agree limit [] = record { few = omega arith; none = λ m. refl; held = refl; missed = refl; given = refl }
 agree limit (Happening.Raised e ∷ past) =
-    raised e (came past) (told past) (port_since limit past) (gifts_since limit past) (agree limit past)
-    (nat_lt (length (told past).events) (length (came past))) refl (port_since limit past).buffers refl
+    raised e (came past) (reported past) (port_since limit past) (gifts_since limit past) (agree limit past)
+    (nat_lt (length (reported past).events) (length (came past))) refl (port_since limit past).buffers refl
 agree limit (Happening.Came c ∷ past) =
-    came_one c (came past) (told past) (port_since limit past) (gifts_since limit past) (agree limit past)
-    (port_since limit past).missed (told past).missed refl refl
+    came_one c (came past) (reported past) (port_since limit past) (gifts_since limit past) (agree limit past)
+    (port_since limit past).missed (reported past).missed refl refl

@@ -1,2 +1,2 @@
 pub mod Port
-pub mod Told
+pub mod Reported

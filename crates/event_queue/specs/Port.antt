@@ -46,8 +46,8 @@ after (Happening.Came c) p =
     if p.missed then record p { missed = false } else record p { buffers = p.buffers ++ c ∷ [] }
 
 -- the least room for an event
-abbrev pub HasRoom : PlainChain → Type 0
-HasRoom c = 16 ≤ writable_total c.parts
+abbrev pub HoldsEvent : PlainChain → Type 0
+HoldsEvent c = 16 ≤ writable_total c.parts
 
 -- an event is about no unit, or about one of a LUN that can be written
 abbrev pub HasAddress : Event → Type 0

@@ -2,7 +2,7 @@
 
 ghost use Rattle.std.specs.Prelude.{ℕ, ◌≡◌, List};
 ghost use Rattle.event_queue.specs.Port.{Happening};
-ghost use Rattle.event_queue.specs.Told.{given_of, held_of, missed_of, port_since, gifts_since};
+ghost use Rattle.event_queue.specs.Reported.{given_of, held_of, missed_of, port_since, gifts_since};
 
 /// A port that took these calls one after another, newest first, has given the buffers in the order in which they came,
 /// each with the next event that the driver was to be told: one that was raised while a buffer was left, or that events

@@ -18,14 +18,14 @@ impl Model for EventPort {
     ghost use Rattle.std.specs.Prelude.{◌≤◌};
     ghost use Rattle.std.specs.List.{All};
     ghost use Rattle.std.specs.VecDeque.{deque_capacity, deque_len};
-    ghost use Rattle.event_queue.specs.Port.{PlainPort, HasRoom};
+    ghost use Rattle.event_queue.specs.Port.{PlainPort, HoldsEvent};
 
     ghost Value = { PlainPort };
 
     ghost view = { λ p. record { buffers = p.buffers.items; missed = p.missed; limit = p.limit } };
 
     ghost invariant = { λ p. (deque_len p.buffers ≤ p.limit) × (p.limit ≤ deque_capacity p.buffers)
-        × All (λ c. HasRoom c) p.buffers.items };
+        × All (λ c. HoldsEvent c) p.buffers.items };
 }
 
 ghost use Rattle.std.specs.Prelude.{◌≡◌};
@@ -46,7 +46,7 @@ fn missed_bytes() -> [u8; EVENT_BYTES]
 impl EventPort {
     ghost use Rattle.std.specs.Prelude.{◌≡◌, ◌<◌, ◌↔◌, [], length, None, Some, IfOk, IfSome, IsTrue, slice_get};
     ghost use Rattle.std.specs.Option.{ForSome};
-    ghost use Rattle.event_queue.specs.Port.{Happening, HasRoom, opening_port, gives, after};
+    ghost use Rattle.event_queue.specs.Port.{Happening, HoldsEvent, opening_port, gives, after};
 
     /// A port that holds no buffer, with room for `size`. Only this call takes memory.
     pub fn new(alloc: Global, size: usize) -> Result<EventPort, AllocError>
@@ -84,7 +84,7 @@ impl EventPort {
     pub fn oldest(&self) -> Option<&Chain>
         ensures some { IfSome result (λ c. slice_get self.now.buffers 0 ≡ Some c.now) }
         ensures none { result ≡ None → self.now.buffers ≡ [] }
-        ensures room { IfSome result (λ c. HasRoom c.now) }
+        ensures room { IfSome result (λ c. HoldsEvent c.now) }
     {
         self.buffers.front()
     }
@@ -94,7 +94,7 @@ impl EventPort {
         requires { ForSome event.now.address (λ a. a.lun < 16384) }
         ensures gives { result ≡ gives (Happening.Raised event.now) self.old }
         ensures port { self.new ≡ after (Happening.Raised event.now) self.old }
-        ensures room { IfSome result (λ given. HasRoom given.0) }
+        ensures room { IfSome result (λ given. HoldsEvent given.0) }
     {
         match self.buffers.pop_front() {
             Some(chain) => Some((chain, write_event(event))),
@@ -109,7 +109,7 @@ impl EventPort {
     /// missed since a buffer last came, and else is held. There is room for it, which the caller sees to.
     pub fn buffer(&mut self, chain: Chain) -> Option<(Chain, [u8; EVENT_BYTES])>
         requires room { length self.old.buffers < self.old.limit }
-        requires fits { HasRoom chain }
+        requires fits { HoldsEvent chain }
         ensures gives { result ≡ gives (Happening.Came chain) self.old }
         ensures port { self.new ≡ after (Happening.Came chain) self.old }
     {

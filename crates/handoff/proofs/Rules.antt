@@ -8,9 +8,9 @@ use Rattle.crossbeam_queue.proofs.Lists.{at_set}
 use Rattle.task_set.specs.Jobs.{PlainJob}
 use Rattle.handoff.specs.declared.rule.Account.{Account}
 use Rattle.handoff.specs.declared.rule.View.{View}
-use Rattle.handoff.specs.Moves.{Move, move, Moves, jobs_of, jobs_by, IsInOrder, IsBelow, AreBelow, account, Fits, AllFit, Stands, HandedOver}
+use Rattle.handoff.specs.Moves.{Move, move, Moves, jobs_of, jobs_by, IsInOrder, IsBelow, AreBelow, account, Fits, AllFit, Balances, HandedOver}
 use Rattle.handoff.specs.Rule.{AreWith, IsRight, Agree, opening, one_more, newcomer, joined, spent, after_put, after_take}
-use Rattle.handoff.specs.Seats.{PlainSeat, pass_view, StandsFor}
+use Rattle.handoff.specs.Seats.{PlainSeat, pass_view, BalancesFor}
 use Rattle.handoff.proofs.Moves.{jobs_of_append, jobs_by_append, jobs_by_own, jobs_by_other, jobs_by_none, below_append, all_below_more, front, at_end}
 
 abbrev EachView : (ℕ → View → Type 0) → List View → Type 0
@@ -161,12 +161,12 @@ takes pass v a is job items views k at =
       refl,
     )
 
-pub learns : (pass : ℕ) (v : View) → Learns Agree pass v (λ items. Stands v.accounts items)
+pub learns : (pass : ℕ) (v : View) → Learns Agree pass v (λ items. Balances v.accounts items)
 learns pass v items views k at = record { all = k.all; order = k.order; each = (k.right pass v at).2 }
 
 -- the same, of a seat
-pub stands_for : (v : View) (s : PlainSeat) (items : List PlainJob) → v ≡ pass_view s → Stands v.accounts items → StandsFor s items
-stands_for v s items is k = subst (λ (w : View). Stands w.accounts items) is k
+pub stands_for : (v : View) (s : PlainSeat) (items : List PlainJob) → v ≡ pass_view s → Balances v.accounts items → BalancesFor s items
+stands_for v s items is k = subst (λ (w : View). Balances w.accounts items) is k
 
 pub begins : Agree [] (opening ∷ [])
 begins =

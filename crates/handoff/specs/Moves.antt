@@ -59,7 +59,7 @@ AllFit all [] = ⊤
 AllFit all (a ∷ accounts) = Fits all a × AllFit all accounts
 
 -- own: what some seats put and took stands in such an order, and the queue holds what is left of it
-pub record Stands (accounts : List Account) (items : List PlainJob) : Type 0 where
+pub record Balances (accounts : List Account) (items : List PlainJob) : Type 0 where
   pub all : Moves
   pub order : IsInOrder all items
   pub each : AllFit all accounts

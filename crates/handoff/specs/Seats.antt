@@ -7,7 +7,7 @@ use Rattle.history.specs.Tasks.{same_ticket}
 use Rattle.task_set.specs.Jobs.{PlainJob}
 use Rattle.handoff.specs.declared.rule.Account.{Account}
 use Rattle.handoff.specs.declared.rule.View.{View}
-use Rattle.handoff.specs.Moves.{account, Stands}
+use Rattle.handoff.specs.Moves.{account, Balances}
 
 -- own: which queue, how many jobs it holds at most, and how many seats there are
 pub record Hub : Type 0 where
@@ -63,8 +63,8 @@ abbrev pub accounts_of : List PlainSeat → List Account
 accounts_of seats = map account_of seats
 
 -- own: what one seat knows of the queue: of its puts a beginning is gone, and the rest stand there, in order
-abbrev pub StandsFor : PlainSeat → List PlainJob → Type 0
-StandsFor s items = Stands (account_of s ∷ []) items
+abbrev pub BalancesFor : PlainSeat → List PlainJob → Type 0
+BalancesFor s items = Balances (account_of s ∷ []) items
 
 -- own: the jobs that some seats put, and those that they took
 abbrev pub all_put : List PlainSeat → List PlainJob

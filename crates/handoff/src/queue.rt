@@ -35,7 +35,7 @@ impl Handoff {
     ghost use Rattle.crossbeam_queue.specs.Fifo.{Held};
     ghost use Rattle.task_set.specs.Jobs.{PlainJob};
     ghost use Rattle.handoff.specs.Moves.{HandedOver};
-    ghost use Rattle.handoff.specs.Seats.{IsSeatOf, IsSameSeat, AreAllSeats, AreNew, putting, taking, StandsFor, accounts_of, IsEven, IsEvenByTicket};
+    ghost use Rattle.handoff.specs.Seats.{IsSeatOf, IsSameSeat, AreAllSeats, AreNew, putting, taking, BalancesFor, accounts_of, IsEven, IsEvenByTicket};
 
     /// An empty hand-off that holds at most `capacity` jobs, 1 to 4,096, and all its seats, 2 to 9, in order: seat 0
     /// stands first. Who starts the device calls it once; only this call takes memory, and `NoMemory` says that some
@@ -81,7 +81,7 @@ impl Handoff {
         ensures put { OnOk result (seat.new ≡ putting seat.old job) }
         ensures back { IfErr result (λ back. back ≡ job) }
         ensures unchanged { OnErr result (seat.new ≡ seat.old) }
-        ensures full { OnErr result (Held self.now.capacity (StandsFor seat.old)) }
+        ensures full { OnErr result (Held self.now.capacity (BalancesFor seat.old)) }
     {
         self.queue.push_as::<Puts, R>(rt, &mut seat.pass, job)
     }
@@ -94,7 +94,7 @@ impl Handoff {
         ensures seat { IsSameSeat seat.old seat.new }
         ensures taken { IfSome result (λ job. seat.new ≡ taking seat.old job) }
         ensures unchanged { IfNone result (seat.new ≡ seat.old) }
-        ensures empty { IfNone result (Held 0 (StandsFor seat.old)) }
+        ensures empty { IfNone result (Held 0 (BalancesFor seat.old)) }
     {
         self.queue.pop_as::<Takes, R>(rt, &mut seat.pass)
     }

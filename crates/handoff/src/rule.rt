@@ -60,9 +60,9 @@ impl Outcome<Job, View> for Puts {
 }
 
 impl Lesson<Job, View> for Puts {
-    ghost use Rattle.handoff.specs.Moves.{Stands};
+    ghost use Rattle.handoff.specs.Moves.{Balances};
 
-    ghost fact = { λ v items. Stands v.accounts items };
+    ghost fact = { λ v items. Balances v.accounts items };
 }
 
 /// A job comes out: the other kind of step.
@@ -76,9 +76,9 @@ impl Outcome<Job, View> for Takes {
 }
 
 impl Lesson<Job, View> for Takes {
-    ghost use Rattle.handoff.specs.Moves.{Stands};
+    ghost use Rattle.handoff.specs.Moves.{Balances};
 
-    ghost fact = { λ v items. Stands v.accounts items };
+    ghost fact = { λ v items. Balances v.accounts items };
 }
 
 /// All accounts are with one pass.

@@ -14,12 +14,12 @@ pub record Receipt : Type 0 where
   pub reply : Option PlainReply
 
 -- own: the address of the unit
-abbrev pub unit_of : Opening → Address
-unit_of o = record { target = o.target; lun = o.lun }
+abbrev pub unit_address : Opening → Address
+unit_address o = record { target = o.target; lun = o.lun }
 
 -- own: the receipt of a Commit that stands behind this past
 abbrev pub receipt_of : Opening → List Step → Ticket → Option PlainReply → Receipt
-receipt_of o past t kept = record { unit = unit_of o; place = length past; ticket = t; reply = kept }
+receipt_of o past t kept = record { unit = unit_address o; place = length past; ticket = t; reply = kept }
 
 -- own: the step at a place, before which so many stand
 abbrev pub step_at : ℕ → List Step → Option Step
@@ -46,6 +46,6 @@ Agrees true (Some kept) r = kept ≡ r
 -- own: the Commit of the receipt stands at its place in the history of this unit, which keeps replies or doesn't, and
 -- with the reply of the receipt where the unit still has it
 pub record IsConfirmed (o : Opening) (keeps : Bool) (h : List Step) (c : Receipt) : Type 0 where
-  pub of_unit : c.unit ≡ unit_of o
+  pub of_unit : c.unit ≡ unit_address o
   pub stands : (r : PlainReply) × (step_at c.place h ≡ Some (Step.Commit c.ticket r))
       × Agrees (is_kept keeps (length h) c.place r) c.reply r

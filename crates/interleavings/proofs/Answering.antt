@@ -23,7 +23,7 @@ use Rattle.deeds.specs.Places.{only}
 use Rattle.deeds.specs.Worths.{directs, ends, answers}
 use Rattle.deeds.proofs.Lists.{same}
 use Rattle.deeds.proofs.Working.{all_work}
-use Rattle.interleavings.specs.Told.{Told, IsBeginning, IsFetch, IsCommit, IsAbort, IsAnswer}
+use Rattle.interleavings.specs.Happened.{Happened, IsBeginning, IsFetch, IsCommit, IsAbort, IsAnswer}
 use Rattle.interleavings.specs.Histories.{step_of, pushed, history_of}
 use Rattle.interleavings.specs.Entering.{IsSent}
 use Rattle.interleavings.specs.Answering.{HasEnded, IsTrue, IsAnsweredSo, NeverRan, AreAnswered}
@@ -114,7 +114,7 @@ aborts old x why d ds o l e = absurd e
 
 -- what is so once a deed was done is so from then on
 from_then : (old : PlainWorld) (x : PlainJob) (e : Ending) (P : Deed → Type 0) (ds : List Deed) → Leads old ds
-    → ((d : Deed) (past : List Deed) → Leads old (d ∷ past) → P d → HasEnded old x e (d ∷ past)) → Told P ds
+    → ((d : Deed) (past : List Deed) → Leads old (d ∷ past) → P d → HasEnded old x e (d ∷ past)) → Happened P ds
     → HasEnded old x e ds
 from_then old x e P ds l f h =
     let q = told_at P ds h in
@@ -138,7 +138,7 @@ hand_true old x (Outcome.Told a) ds o l sent h = absurd h
 
 -- an outcome is true of the Fetch of a chain
 abbrev IsTrueOf : PlainWorld → PlainChain → Outcome → List Deed → Type 0
-IsTrueOf old c out ds = (f : PlainFetch) × Told (IsFetch f) ds × (f.chain ≡ c) × IsTrue old f out ds
+IsTrueOf old c out ds = (f : PlainFetch) × Happened (IsFetch f) ds × (f.chain ≡ c) × IsTrue old f out ds
 
 -- and so is that in a slot
 slot_true : (old : PlainWorld) (c : PlainChain) (out : Outcome) (ds : List Deed) → IsRefused old.inventory c out ds
@@ -228,7 +228,7 @@ runs_by old d ds place t r o l e =
     record { job = x.0; chain = sym (commit_named old d ds x.0 r o l x.3) ∙ x.2; commit = x.3 }
 
 never_ran : (old : PlainWorld) (x : PlainJob) (why : Reason) (ds : List Deed) → Opens old → Leads old ds
-    → Told (IsAbort x why) ds → NeverRan x.chain.ticket ds
+    → Happened (IsAbort x why) ds → NeverRan x.chain.ticket ds
 never_ran old x why ds o l a place r h =
     let t = x.chain.ticket in
     let q = done_at place (Step.Commit t r) ds h in
@@ -264,9 +264,9 @@ answer_is t (Deed.Answer k x out xs) h = one_is t x.chain.ticket (omega (arith, 
 answer_is t d h = absurd (omega (arith, h))
 
 some_answer : (t : Ticket) (ds : List Deed) → 1 ≤ sum_by (directs (only t)) ds + sum_by (answers (only t)) ds
-    → Told (IsAnswer t) ds
+    → Happened (IsAnswer t) ds
 some_answer t ds h =
-    (elim (sum_by (directs (only t)) ds) as (λ n. sum_by (directs (only t)) ds ≡ n → Told (IsAnswer t) ds) [
+    (elim (sum_by (directs (only t)) ds) as (λ n. sum_by (directs (only t)) ds ≡ n → Happened (IsAnswer t) ds) [
       | zero ↦ λ e. counted_told (answers (only t)) (IsAnswer t) (answer_is t) ds (omega (arith, e, h))
       | suc n ↦ λ e. counted_told (directs (only t)) (IsAnswer t) (direct_is t) ds (omega (arith, e))
     ]) refl

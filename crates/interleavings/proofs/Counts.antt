@@ -16,7 +16,7 @@ use Rattle.deeds.specs.Standing.{AreOwned, FunctionOwns, IsOwned}
 use Rattle.deeds.specs.Worths.{fetches, uses, enters, directs, ends, answers, leaves, IsFlowing}
 use Rattle.deeds.proofs.Owning.{owned}
 use Rattle.deeds.proofs.Flowing.{run_flows, tallies, fetched_once}
-use Rattle.interleavings.specs.Told.{Told, IsBeginning}
+use Rattle.interleavings.specs.Happened.{Happened, IsBeginning}
 use Rattle.interleavings.proofs.Traces.{leads_run, run_deeds}
 
 pub flows_at : (old : PlainWorld) (ds : List Deed) → Opens old → Leads old ds → IsFlowing ds (world_of old ds)
@@ -75,7 +75,7 @@ few_at old ds t o l =
 
 -- What was told counts
 
-pub told_counts : (P : Deed → Type 0) (f : Deed → ℕ) → ((d : Deed) → P d → 1 ≤ f d) → (ds : List Deed) → Told P ds
+pub told_counts : (P : Deed → Type 0) (f : Deed → ℕ) → ((d : Deed) → P d → 1 ≤ f d) → (ds : List Deed) → Happened P ds
     → 1 ≤ sum_by f ds
 told_counts P f one [] h = absurd h
 told_counts P f one (d ∷ ds) (inl p) = let q = one d p in let c = sum_by-cons f d ds in omega (arith, q, c)
@@ -86,7 +86,7 @@ told_counts P f one (d ∷ ds) (inr h) =
 
 -- two deeds of different kinds count twice
 pub told_two : (P Q : Deed → Type 0) (f : Deed → ℕ) → ((d : Deed) → P d → 1 ≤ f d) → ((d : Deed) → Q d → 1 ≤ f d)
-    → ((d : Deed) → P d → Q d → ⊥) → (ds : List Deed) → Told P ds → Told Q ds → 2 ≤ sum_by f ds
+    → ((d : Deed) → P d → Q d → ⊥) → (ds : List Deed) → Happened P ds → Happened Q ds → 2 ≤ sum_by f ds
 told_two P Q f a b apart [] h k = absurd h
 told_two P Q f a b apart (d ∷ ds) (inl p) (inl q) = absurd (apart d p q)
 told_two P Q f a b apart (d ∷ ds) (inl p) (inr k) =
@@ -106,11 +106,11 @@ told_two P Q f a b apart (d ∷ ds) (inr h) (inr k) =
 
 -- and what counts was told
 pub counted_told : (f : Deed → ℕ) (P : Deed → Type 0) → ((d : Deed) → 1 ≤ f d → P d) → (ds : List Deed)
-    → 1 ≤ sum_by f ds → Told P ds
+    → 1 ≤ sum_by f ds → Happened P ds
 counted_told f P is [] h = absurd (omega arith)
 counted_told f P is (d ∷ ds) h =
     let c = sum_by-cons f d ds in
-    (elim (f d) as (λ n. f d ≡ n → P d ⊎ Told P ds) [
+    (elim (f d) as (λ n. f d ≡ n → P d ⊎ Happened P ds) [
       | zero ↦ λ e. inr (counted_told f P is ds (omega (arith, e, c, h)))
       | suc n ↦ λ e. inl (is d (omega (arith, e)))
     ]) refl

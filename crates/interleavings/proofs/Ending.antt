@@ -23,7 +23,7 @@ use Rattle.deeds.specs.Deeds.{Deed}
 use Rattle.deeds.specs.Happens.{IsMarking as IsMarkingNow, Leads, world_of}
 use Rattle.deeds.specs.Places.{only}
 use Rattle.deeds.specs.Worths.{answers, leaves}
-use Rattle.interleavings.specs.Told.{Told, IsBeginning, IsAnswer}
+use Rattle.interleavings.specs.Happened.{Happened, IsBeginning, IsAnswer}
 use Rattle.interleavings.specs.Histories.{step_of, pushed, history_of}
 use Rattle.interleavings.specs.Functions.{Among, IsFor, IsMarkedSo, IsClear, IsResponse, IsOver, AreOver}
 use Rattle.interleavings.proofs.Traces.{leads_beginning, keeps_on, told_there}
@@ -41,7 +41,7 @@ leave_one t (Deed.Leave k place u jobs) e = let n = only_one t u e in omega (ari
 leave_one t d e = absurd e
 
 left_answered : (old : PlainWorld) (ds : List Deed) (place : ℕ) (t : Ticket) → Opens old → Leads old ds
-    → has_left t (history_of place ds) ≡ true → Told (IsAnswer t) ds
+    → has_left t (history_of place ds) ≡ true → Happened (IsAnswer t) ds
 left_answered old ds place t o l h =
     let q = done_at place (Step.Leave t) ds (left_stands t (history_of place ds) h) in
     let told = told_there (IsLeave t) q.0 q.1 ds q.2 (leave_of q.0 place t q.3) in
@@ -53,7 +53,7 @@ clear_of : (old : PlainWorld) (ds : List Deed) (p : Place) → Opens old → Lea
     → AreGone p.place (history_of p.unit ds) → IsClear p ds
 clear_of old ds p o l h =
     let hist = history_of p.unit ds in
-    each_map (λ e. has_left e.ticket hist ≡ true) (λ e. (has_left e.ticket hist ≡ true) × Told (IsAnswer e.ticket) ds)
+    each_map (λ e. has_left e.ticket hist ≡ true) (λ e. (has_left e.ticket hist ≡ true) × Happened (IsAnswer e.ticket) ds)
     (met_at p.place hist) (λ e q. (q, left_answered old ds p.unit e.ticket o l q)) h
 
 -- What it responds

@@ -7,7 +7,7 @@ use Rattle.deeds.specs.World.{PlainWorld, Opens}
 use Rattle.deeds.specs.Deeds.{Deed}
 use Rattle.deeds.specs.Happens.{May, Finds, world_of, Leads}
 use Rattle.deeds.specs.Places.{only}
-use Rattle.interleavings.specs.Told.{IsFetch, IsEnter}
+use Rattle.interleavings.specs.Happened.{IsFetch, IsEnter}
 use Rattle.interleavings.specs.Histories.{history_of, Stands}
 use Rattle.interleavings.specs.Entering.{IsEntered, AreEntered}
 use Rattle.interleavings.proofs.Traces.{leads_beginning, told_there}

@@ -5,7 +5,7 @@ use Rattle.std.proofs.lemmas.List.{append_assoc, append-nil}
 use Rattle.ring_core.specs.State.{PlainChain}
 use Rattle.scsi_codec.specs.declared.event_queue.Event.{Event as Report}
 use Rattle.scsi_codec.specs.EventQueue.{transport_reset}
-use Rattle.history.specs.Receipts.{unit_of}
+use Rattle.history.specs.Receipts.{unit_address}
 use Rattle.unit_history.specs.Unit.{PlainUnit}
 use Rattle.deeds.specs.Parts.{is_short}
 use Rattle.deeds.specs.World.{PlainWorld, Opens}
@@ -46,7 +46,7 @@ first_gone g h a e more k is =
 -- a unit's report is that of its opening
 same_report : (u v : PlainUnit) → u.opening ≡ v.opening → hard_report u ∷ [] ≡ hard_report v ∷ []
 same_report u v e =
-    ap (λ o. record { event = transport_reset; address = Some (unit_of o); reason = 0 } ∷ []) e
+    ap (λ o. record { event = transport_reset; address = Some (unit_address o); reason = 0 } ∷ []) e
 
 turn_deed : (old : PlainWorld) (d : Deed) (ds : List Deed) (w : PlainWorld) → Says old ds w → InTurn old ds w → May d w
     → InTurn old (d ∷ ds) (after d w)

@@ -22,7 +22,7 @@ use Rattle.deeds.specs.After.{on_function, after}
 use Rattle.deeds.specs.Happens.{Marks, Asks, Fails, Checks, DecidesControl, Leads, world_of}
 use Rattle.deeds.specs.Places.{only}
 use Rattle.deeds.specs.Worths.{fetches}
-use Rattle.interleavings.specs.Told.{Told, IsFetch, IsMark, IsFound, IsFail, IsVisit}
+use Rattle.interleavings.specs.Happened.{Happened, IsFetch, IsMark, IsFound, IsFail, IsVisit}
 use Rattle.interleavings.specs.Histories.{step_of, pushed, history_of}
 use Rattle.interleavings.specs.Functions.{Among, IsBegun}
 use Rattle.interleavings.proofs.Steps.{at_own, length_on}
@@ -52,11 +52,11 @@ pub record IsUnderWay (old : PlainWorld) (ds : List Deed) (x : Opened) : Type 0 
   pub kind : begun.function.kind ≡ x.function.kind
   pub among : (place : ℕ) → Among place x.function.left → Among place begun.function.left
   pub visits : (place : ℕ) → Among place begun.function.left
-      → Among place x.function.left ⊎ (Told (IsVisit x.chain.ticket place) ds ⊎ Told (IsFail x.chain.ticket) ds)
-  pub waits : (p : Place) → Told (IsMark x.chain.ticket p) ds
+      → Among place x.function.left ⊎ (Happened (IsVisit x.chain.ticket place) ds ⊎ Happened (IsFail x.chain.ticket) ds)
+  pub waits : (p : Place) → Happened (IsMark x.chain.ticket p) ds
       → Listed p x.function.waits ⊎ AreGone p.place (history_of p.unit ds)
-  pub found : (x.function.found ≡ true) ↔ Told (IsFound x.chain.ticket) ds
-  pub failed : (x.function.refused ≡ true) ↔ Told (IsFail x.chain.ticket) ds
+  pub found : (x.function.found ≡ true) ↔ Happened (IsFound x.chain.ticket) ds
+  pub failed : (x.function.refused ≡ true) ↔ Happened (IsFail x.chain.ticket) ds
   pub asks : x.function.found ≡ true → IsAsking x.function.kind
   pub strikes : x.function.refused ≡ true → IsMarking x.function.kind
 
@@ -70,10 +70,10 @@ WasFetched t ds = 1 ≤ sum_by (fetches (only t)) ds
 
 pub record FunctionsSay (old : PlainWorld) (ds : List Deed) (now : Option Opened) : Type 0 where
   pub function : FunctionSays old ds now
-  pub marks : (t : Ticket) (p : Place) → Told (IsMark t p) ds
+  pub marks : (t : Ticket) (p : Place) → Happened (IsMark t p) ds
       → WasFetched t ds × (p.place < length (history_of p.unit ds))
-  pub finds : (t : Ticket) → Told (IsFound t) ds → WasFetched t ds
-  pub fails : (t : Ticket) → Told (IsFail t) ds → WasFetched t ds
+  pub finds : (t : Ticket) → Happened (IsFound t) ds → WasFetched t ds
+  pub fails : (t : Ticket) → Happened (IsFail t) ds → WasFetched t ds
 
 -- What stays so
 
@@ -91,10 +91,10 @@ IsNoFail d = (t : Ticket) → IsFail t d → ⊥
 
 abbrev ArePlaced : List Deed → Type 0
 ArePlaced ds =
-    (t : Ticket) (p : Place) → Told (IsMark t p) ds → WasFetched t ds × (p.place < length (history_of p.unit ds))
+    (t : Ticket) (p : Place) → Happened (IsMark t p) ds → WasFetched t ds × (p.place < length (history_of p.unit ds))
 
 abbrev AreFetched : (Ticket → Deed → Type 0) → List Deed → Type 0
-AreFetched P ds = (t : Ticket) → Told (P t) ds → WasFetched t ds
+AreFetched P ds = (t : Ticket) → Happened (P t) ds → WasFetched t ds
 
 placed_on : (d : Deed) (ds : List Deed) → IsNoMark d → ArePlaced ds → ArePlaced (d ∷ ds)
 placed_on d ds other h t p (inl e) = absurd (other t p e)
@@ -109,8 +109,8 @@ told_fetched_on : (P : Ticket → Deed → Type 0) (d : Deed) (ds : List Deed) �
 told_fetched_on P d ds other h t (inl e) = absurd (other t e)
 told_fetched_on P d ds other h t (inr k) = fetched_on t d ds (h t k)
 
-told_same : (P : Deed → Type 0) (d : Deed) (ds : List Deed) (b : Bool) → (P d → ⊥) → ((b ≡ true) ↔ Told P ds)
-    → (b ≡ true) ↔ Told P (d ∷ ds)
+told_same : (P : Deed → Type 0) (d : Deed) (ds : List Deed) (b : Bool) → (P d → ⊥) → ((b ≡ true) ↔ Happened P ds)
+    → (b ≡ true) ↔ Happened P (d ∷ ds)
 told_same P d ds b other h = (λ e. inr (h.0 e), λ told. elim told [ inl q ↦ absurd (other q) | inr q ↦ h.1 q ])
 
 abbrev Waits : List Deed → List Place → Place → Type 0
@@ -127,7 +127,7 @@ begun_on old t d ds h =
     record { fetch = h.fetch; fetched = inr h.fetched; ticket = h.ticket; function = h.function; decided = h.decided }
 
 abbrev AreVisited : Ticket → List ℕ → (ℕ → Type 0) → List Deed → Type 0
-AreVisited t units P ds = (place : ℕ) → Among place units → P place ⊎ (Told (IsVisit t place) ds ⊎ Told (IsFail t) ds)
+AreVisited t units P ds = (place : ℕ) → Among place units → P place ⊎ (Happened (IsVisit t place) ds ⊎ Happened (IsFail t) ds)
 
 -- one unit less is left, and it was visited
 visits_on : (t : Ticket) (units : List ℕ) (P Q : ℕ → Type 0) (d : Deed) (ds : List Deed)
@@ -265,7 +265,7 @@ among_next place k later left e h =
     ]
 
 found_now : (t u : Ticket) (place : ℕ) (rule : Rule) (b found : Bool) (ds : List Deed) → u ≡ t
-    → ((found ≡ true) ↔ Told (IsFound t) ds) → ((b || found) ≡ true) ↔ Told (IsFound t) (Deed.Ask u place rule b ∷ ds)
+    → ((found ≡ true) ↔ Happened (IsFound t) ds) → ((b || found) ≡ true) ↔ Happened (IsFound t) (Deed.Ask u place rule b ∷ ds)
 found_now t u place rule true found ds e h = (λ q. inl (e, refl), λ told. refl)
 found_now t u place rule false found ds e h =
     (λ q. inr (h.0 q), λ told. elim told [ inl q ↦ let k = q.1 in absurd (cc) | inr q ↦ h.1 q ])

@@ -21,7 +21,7 @@ use Rattle.deeds.proofs.Lists.{nothing, same}
 use Rattle.deeds.proofs.Staying.{run_keeps, run_stays, units_listed}
 use Rattle.deeds.proofs.Floors.{AreOrdered, new_ordered, deed_orders, all_behind}
 use Rattle.deeds.proofs.Working.{Works, run_works, all_work}
-use Rattle.interleavings.specs.Told.{Told, IsFetch, IsEnter, IsLoss, NoneIsLost}
+use Rattle.interleavings.specs.Happened.{Happened, IsFetch, IsEnter, IsLoss, NoneIsLost}
 use Rattle.interleavings.specs.Histories.{history_of, Stands, AreHistories}
 use Rattle.interleavings.specs.Entering.{IsSent}
 use Rattle.interleavings.proofs.Traces.{leads_run, leads_beginning, told_at, beginning_tail, told_on}
@@ -167,7 +167,7 @@ entering old (Deed.Park y) ds x o l e =
 entering old d ds x o l e = absurd e
 
 -- a job that entered is that of a Fetch
-pub entered_sent : (old : PlainWorld) (ds : List Deed) (x : PlainJob) → Opens old → Leads old ds → Told (IsEnter x) ds
+pub entered_sent : (old : PlainWorld) (ds : List Deed) (x : PlainJob) → Opens old → Leads old ds → Happened (IsEnter x) ds
     → IsSent old.inventory ds x
 entered_sent old ds x o l h =
     let q = told_at (IsEnter x) ds h in

@@ -11,7 +11,7 @@ use Rattle.deeds.specs.Deeds.{Deed}
 use Rattle.deeds.specs.Happens.{Leads}
 use Rattle.deeds.specs.Places.{only}
 use Rattle.deeds.specs.Worths.{fetches, directs, ends, answers}
-use Rattle.interleavings.specs.Told.{Told, IsFetch, IsAnswer, IsCommit}
+use Rattle.interleavings.specs.Happened.{Happened, IsFetch, IsAnswer, IsCommit}
 use Rattle.interleavings.specs.Histories.{step_of, history_of, Stands}
 use Rattle.interleavings.specs.Ordering.{AreInOrder}
 use Rattle.interleavings.proofs.Traces.{leads_beginning, beginning_tail, told_on, told_there}
@@ -20,7 +20,7 @@ use Rattle.interleavings.proofs.Counts.{few_at, only_one, told_counts}
 use Rattle.interleavings.proofs.Answering.{one_commit, runs_by}
 
 -- what was answered counts
-pub answered_counts : (t : Ticket) (ds : List Deed) → Told (IsAnswer t) ds
+pub answered_counts : (t : Ticket) (ds : List Deed) → Happened (IsAnswer t) ds
     → 1 ≤ sum_by (directs (only t)) ds + sum_by (answers (only t)) ds
 answered_counts t [] h = absurd h
 answered_counts t (Deed.Direct c o xs ∷ ds) (inl e) =
@@ -91,10 +91,10 @@ run_counts old ds place t r o l h =
 
 -- who was answered before another is fetched is another
 others : (old : PlainWorld) (first : Ticket) (f : PlainFetch) (d : Deed) (ds : List Deed) → Opens old
-    → Leads old (d ∷ ds) → IsFetch f d → Told (IsAnswer first) ds → first ≡ f.chain.ticket → ⊥
+    → Leads old (d ∷ ds) → IsFetch f d → Happened (IsAnswer first) ds → first ≡ f.chain.ticket → ⊥
 others old first f d ds o l e a is =
     let t = f.chain.ticket in
-    let told = subst (λ z. Told (IsAnswer z) ds) is a in
+    let told = subst (λ z. Happened (IsAnswer z) ds) is a in
     let n = answered_counts t ds told in
     let then = few_at old ds t o l.0 in
     let now = few_at old (d ∷ ds) t o l in
@@ -106,7 +106,7 @@ others old first f d ds o l e a is =
 
 -- who was answered doesn't commit again
 answered_ran : (old : PlainWorld) (first : Ticket) (place : ℕ) (r : PlainReply) (d : Deed) (ds : List Deed) → Opens old
-    → Leads old (d ∷ ds) → Told (IsAnswer first) ds → step_of place d ≡ Some (Step.Commit first r) → ⊥
+    → Leads old (d ∷ ds) → Happened (IsAnswer first) ds → step_of place d ≡ Some (Step.Commit first r) → ⊥
 answered_ran old first place r d ds o l a e =
     let n = answered_counts first ds a in
     let run = runs_by old d ds place first r o l e in

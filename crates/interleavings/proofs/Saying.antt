@@ -20,7 +20,7 @@ use Rattle.deeds.specs.Happens.{May, DecidesRequest, IsDirect, handed_out}
 use Rattle.deeds.proofs.Lists.{at_other}
 use Rattle.deeds.proofs.Staying.{everywhere}
 use Rattle.deeds.proofs.Named.{all_filter, all_push}
-use Rattle.interleavings.specs.Told.{Told, IsFetch, IsEnter, IsFull, IsShed, IsCommit, IsBusy, IsAbort, IsLoss}
+use Rattle.interleavings.specs.Happened.{Happened, IsFetch, IsEnter, IsFull, IsShed, IsCommit, IsBusy, IsAbort, IsLoss}
 use Rattle.interleavings.specs.Histories.{at_place, pushed, history_of, IsToldOf}
 use Rattle.interleavings.specs.Entering.{IsJobOf, IsSent}
 
@@ -39,20 +39,20 @@ each_rest P (x ∷ xs) h = h.1
 -- or was refused memory
 abbrev pub IsRefused : List Address → PlainChain → Outcome → List Deed → Type 0
 IsRefused units c (Outcome.Told a) ds =
-    (f : PlainFetch) × Told (IsFetch f) ds × (f.chain ≡ c) × IsDirect units f.chain.ticket.queue f a
+    (f : PlainFetch) × Happened (IsFetch f) ds × (f.chain ≡ c) × IsDirect units f.chain.ticket.queue f a
 IsRefused units c (Outcome.Ended Ending.Full) ds =
-    (x : PlainJob) × (x.chain ≡ c) × IsSent units ds x × Told (IsFull x) ds
+    (x : PlainJob) × (x.chain ≡ c) × IsSent units ds x × Happened (IsFull x) ds
 IsRefused units c (Outcome.Ended Ending.Busy) ds =
-    (x : PlainJob) × (x.chain ≡ c) × IsSent units ds x × Told (IsShed x) ds
+    (x : PlainJob) × (x.chain ≡ c) × IsSent units ds x × Happened (IsShed x) ds
 IsRefused units c (Outcome.Ended (Ending.Replied r)) ds = ⊥
 IsRefused units c (Outcome.Ended (Ending.Aborted why)) ds = ⊥
 IsRefused units c (Outcome.Ended Ending.Lost) ds = ⊥
 
 -- the outcome in a hand: how the job's Commit ended
 abbrev pub IsEndedBy : PlainJob → Outcome → List Deed → Type 0
-IsEndedBy x (Outcome.Ended (Ending.Replied r)) ds = Told (IsCommit x r) ds
-IsEndedBy x (Outcome.Ended Ending.Busy) ds = Told (IsBusy x) ds
-IsEndedBy x (Outcome.Ended (Ending.Aborted why)) ds = Told (IsAbort x why) ds
+IsEndedBy x (Outcome.Ended (Ending.Replied r)) ds = Happened (IsCommit x r) ds
+IsEndedBy x (Outcome.Ended Ending.Busy) ds = Happened (IsBusy x) ds
+IsEndedBy x (Outcome.Ended (Ending.Aborted why)) ds = Happened (IsAbort x why) ds
 IsEndedBy x (Outcome.Ended Ending.Full) ds = ⊥
 IsEndedBy x (Outcome.Ended Ending.Lost) ds = ⊥
 IsEndedBy x (Outcome.Told a) ds = ⊥
@@ -63,7 +63,7 @@ SlotSays units ds (Slot.Arrived x) = IsSent units ds x
 SlotSays units ds (Slot.Ready c o) = IsRefused units c o ds
 
 abbrev pub JobSays : List Deed → PlainJob → Type 0
-JobSays ds x = Told (IsEnter x) ds
+JobSays ds x = Happened (IsEnter x) ds
 
 abbrev pub HandSays : List Deed → Hand → Type 0
 HandSays ds Hand.Free = ⊤

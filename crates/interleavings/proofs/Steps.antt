@@ -10,7 +10,7 @@ use Rattle.task_set.specs.Jobs.{PlainJob}
 use Rattle.task_mgmt.specs.declared.kind.Strike.TheVariants.{Abort, Reset}
 use Rattle.deeds.specs.Deeds.{Deed}
 use Rattle.deeds.specs.After.{hard_code}
-use Rattle.interleavings.specs.Told.{Told, IsBeginning, IsEnter, IsFull, IsCommit, IsBusy}
+use Rattle.interleavings.specs.Happened.{Happened, IsBeginning, IsEnter, IsFull, IsCommit, IsBusy}
 use Rattle.interleavings.specs.Histories.{at_place, step_of, pushed, history_of, StandsOn, Stands}
 
 some_is : {X : Type 0} {x y : X} → Some x ≡ Some y → x ≡ y
@@ -145,7 +145,7 @@ done_at place s (d ∷ ds) h =
 
 -- and so it was told
 pub stands_told : (P : Deed → Type 0) (place : ℕ) (s : Step) → ((d : Deed) → step_of place d ≡ Some s → P d)
-    → (ds : List Deed) → Stands s (history_of place ds) → Told P ds
+    → (ds : List Deed) → Stands s (history_of place ds) → Happened P ds
 stands_told P place s is [] h = absurd h
 stands_told P place s is (d ∷ ds) h =
     elim (stands_pushed (step_of place d) s (history_of place ds) h) [
@@ -155,7 +155,7 @@ stands_told P place s is (d ∷ ds) h =
 
 -- what was told stands in the history
 pub told_stands : (P : Deed → Type 0) (place : ℕ) (s : Step) → ((d : Deed) → P d → step_of place d ≡ Some s)
-    → (ds : List Deed) → Told P ds → Stands s (history_of place ds)
+    → (ds : List Deed) → Happened P ds → Stands s (history_of place ds)
 told_stands P place s is [] h = absurd h
 told_stands P place s is (d ∷ ds) (inl p) = stands_new (step_of place d) s (history_of place ds) (is d p)
 told_stands P place s is (d ∷ ds) (inr h) =
@@ -170,7 +170,7 @@ enter_new x (Deed.Park y) e =
     (at_own y.unit y.unit (Step.Enter y.entry) refl)
 enter_new x d e = absurd e
 
-pub enter_stands : (x : PlainJob) (ds : List Deed) → Told (IsEnter x) ds
+pub enter_stands : (x : PlainJob) (ds : List Deed) → Happened (IsEnter x) ds
     → Stands (Step.Enter x.entry) (history_of x.unit ds)
 enter_stands x ds h = told_stands (IsEnter x) x.unit (Step.Enter x.entry) (enter_new x) ds h
 
@@ -180,7 +180,7 @@ busy_new x (Deed.Busy k y) e =
     (at_own y.unit y.unit (Step.Busy y.entry.ticket) refl)
 busy_new x d e = absurd e
 
-pub busy_stands : (x : PlainJob) (ds : List Deed) → Told (IsBusy x) ds
+pub busy_stands : (x : PlainJob) (ds : List Deed) → Happened (IsBusy x) ds
     → Stands (Step.Busy x.entry.ticket) (history_of x.unit ds)
 busy_stands x ds h = told_stands (IsBusy x) x.unit (Step.Busy x.entry.ticket) (busy_new x) ds h
 
@@ -190,7 +190,7 @@ full_new x (Deed.Full y) e =
     (at_own y.unit y.unit (Step.Full y.entry.ticket) refl)
 full_new x d e = absurd e
 
-pub full_stands : (x : PlainJob) (ds : List Deed) → Told (IsFull x) ds
+pub full_stands : (x : PlainJob) (ds : List Deed) → Happened (IsFull x) ds
     → Stands (Step.Full x.entry.ticket) (history_of x.unit ds)
 full_stands x ds h = told_stands (IsFull x) x.unit (Step.Full x.entry.ticket) (full_new x) ds h
 

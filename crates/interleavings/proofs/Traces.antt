@@ -4,7 +4,7 @@ use Rattle.deeds.specs.World.{PlainWorld}
 use Rattle.deeds.specs.Deeds.{Deed}
 use Rattle.deeds.specs.Happens.{Occurrence, May, Runs, deeds_of, occurrence_of, world_of, Leads}
 use Rattle.deeds.proofs.Running.{run_world, run_leads}
-use Rattle.interleavings.specs.Told.{Told, IsBeginning}
+use Rattle.interleavings.specs.Happened.{Happened, IsBeginning}
 
 -- deeds that lead somewhere are a run
 pub leads_run : (old : PlainWorld) (ds : List Deed) → Leads old ds → Runs old (map occurrence_of ds) (world_of old ds)
@@ -66,15 +66,15 @@ keeps_on P on past [] b h = subst P b h
 keeps_on P on past (d ∷ ds) (inl e) h = subst P e h
 keeps_on P on past (d ∷ ds) (inr b) h = on d ds (keeps_on P on past ds b h)
 
-pub told_on : (P : Deed → Type 0) (past ds : List Deed) → IsBeginning past ds → Told P past → Told P ds
-told_on P past ds b h = keeps_on (λ z. Told P z) (λ d z q. inr q) past ds b h
+pub told_on : (P : Deed → Type 0) (past ds : List Deed) → IsBeginning past ds → Happened P past → Happened P ds
+told_on P past ds b h = keeps_on (λ z. Happened P z) (λ d z q. inr q) past ds b h
 
 -- what was told was told at a moment
-pub told_at : (P : Deed → Type 0) (ds : List Deed) → Told P ds
+pub told_at : (P : Deed → Type 0) (ds : List Deed) → Happened P ds
     → (d : Deed) × (past : List Deed) × IsBeginning (d ∷ past) ds × P d
 told_at P [] h = absurd h
 told_at P (d ∷ ds) (inl p) = (d, ds, inl refl, p)
 told_at P (d ∷ ds) (inr h) = let q = told_at P ds h in (q.0, q.1, inr q.2, q.3)
 
-pub told_there : (P : Deed → Type 0) (d : Deed) (past ds : List Deed) → IsBeginning (d ∷ past) ds → P d → Told P ds
+pub told_there : (P : Deed → Type 0) (d : Deed) (past ds : List Deed) → IsBeginning (d ∷ past) ds → P d → Happened P ds
 told_there P d past ds b p = told_on P (d ∷ past) ds b (inl p)

@@ -20,7 +20,7 @@ use Rattle.deeds.specs.Deeds.{Deed}
 use Rattle.deeds.specs.Happens.{QueueIs, UnitIs, IsDirect, world_of}
 use Rattle.deeds.specs.Places.{used_worth, only}
 use Rattle.deeds.specs.Worths.{uses, directs, answers}
-use Rattle.interleavings.specs.Told.{Told, IsBeginning, IsFetch, IsShed, IsAnswer}
+use Rattle.interleavings.specs.Happened.{Happened, IsBeginning, IsFetch, IsShed, IsAnswer}
 use Rattle.interleavings.specs.Histories.{Stands, StandsOn, history_of}
 use Rattle.interleavings.specs.Entering.{IsJobOf}
 
@@ -36,7 +36,7 @@ HasEnded old x (Ending.Replied r) ds =
 HasEnded old x (Ending.Aborted why) ds =
     Stands (Step.Enter x.entry) (history_of x.unit ds) × (mark_of x.entry.ticket (history_of x.unit ds) ≡ Some why)
 HasEnded old x Ending.Full ds = Stands (Step.Full x.entry.ticket) (history_of x.unit ds)
-HasEnded old x Ending.Busy ds = Stands (Step.Busy x.entry.ticket) (history_of x.unit ds) ⊎ Told (IsShed x) ds
+HasEnded old x Ending.Busy ds = Stands (Step.Busy x.entry.ticket) (history_of x.unit ds) ⊎ Happened (IsShed x) ds
 HasEnded old x Ending.Lost ds = ⊥
 
 -- what an outcome tells of the fetched chain is so: its bytes are the direct answer, or its job's request ended so
@@ -49,7 +49,7 @@ IsTrue old f (Outcome.Ended ending) ds = (x : PlainJob) × IsJobOf old.inventory
 pub record IsAnsweredSo (old : PlainWorld) (past : List Deed) (c : PlainChain) (o : Outcome) (xs : List Write)
     : Type 0 where
   pub fetch : PlainFetch
-  pub fetched : Told (IsFetch fetch) past
+  pub fetched : Happened (IsFetch fetch) past
   pub chain : fetch.chain ≡ c
   pub queue : PlainQueue
   pub there : QueueIs (world_of old past) c.ticket.queue queue
@@ -67,7 +67,7 @@ pub record AreAnswered (old : PlainWorld) (ds : List Deed) (w : PlainWorld) : Ty
   pub request : (t : Ticket) → 2 ≤ t.queue
       → used_worth (only t) w ≡ sum_by (directs (only t)) ds + sum_by (answers (only t)) ds
   pub once : (t : Ticket) → sum_by (directs (only t)) ds + sum_by (answers (only t)) ds ≤ 1
-  pub told : (t : Ticket) → 2 ≤ t.queue → 1 ≤ used_worth (only t) w → Told (IsAnswer t) ds
+  pub told : (t : Ticket) → 2 ≤ t.queue → 1 ≤ used_worth (only t) w → Happened (IsAnswer t) ds
   pub direct : (c : PlainChain) (o : Outcome) (xs : List Write) (past : List Deed)
       → IsBeginning (Deed.Direct c o xs ∷ past) ds → IsAnsweredSo old past c o xs
   pub answer : (k : ℕ) (x : PlainJob) (o : Outcome) (xs : List Write) (past : List Deed)

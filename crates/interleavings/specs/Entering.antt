@@ -13,7 +13,7 @@ use Rattle.deeds.specs.Deeds.{Deed}
 use Rattle.deeds.specs.Happens.{Finds, DecidesRequest, world_of}
 use Rattle.deeds.specs.Places.{accepted_worth, only}
 use Rattle.deeds.specs.Worths.{fetches, entered_worth, was_accepted}
-use Rattle.interleavings.specs.Told.{Told, IsBeginning, IsFetch}
+use Rattle.interleavings.specs.Happened.{Happened, IsBeginning, IsFetch}
 use Rattle.interleavings.specs.Histories.{Stands, history_of}
 
 -- the job is the fetched chain's, for the unit and with the task that were decided of its bytes
@@ -25,7 +25,7 @@ pub record IsJobOf (inventory : List Address) (f : PlainFetch) (x : PlainJob) : 
 -- the job is that of a chain that was fetched
 pub record IsSent (inventory : List Address) (ds : List Deed) (x : PlainJob) : Type 0 where
   pub fetch : PlainFetch
-  pub fetched : Told (IsFetch fetch) ds
+  pub fetched : Happened (IsFetch fetch) ds
   pub job : IsJobOf inventory fetch x
 
 -- a task that stands at a place is that of a job for this unit

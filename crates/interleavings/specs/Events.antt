@@ -9,7 +9,7 @@ use Rattle.deeds.specs.World.{PlainQueue, PlainWorld}
 use Rattle.deeds.specs.Deeds.{Deed}
 use Rattle.deeds.specs.After.{with_chain, reports_of}
 use Rattle.deeds.specs.Happens.{QueueIs, spent_bytes, world_of}
-use Rattle.interleavings.specs.Told.{IsBeginning}
+use Rattle.interleavings.specs.Happened.{IsBeginning}
 
 -- the buffers that were held, and those that were given an event, the first one first
 

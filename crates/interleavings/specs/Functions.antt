@@ -24,7 +24,7 @@ use Rattle.deeds.specs.Parts.{PlainFetch, answer_writes}
 use Rattle.deeds.specs.World.{PlainQueue, PlainWorld}
 use Rattle.deeds.specs.Deeds.{Deed}
 use Rattle.deeds.specs.Happens.{QueueIs, DecidesControl, world_of}
-use Rattle.interleavings.specs.Told.{Told, IsBeginning, IsFetch, IsAnswer, IsMark, IsFound, IsFail, IsVisit}
+use Rattle.interleavings.specs.Happened.{Happened, IsBeginning, IsFetch, IsAnswer, IsMark, IsFound, IsFail, IsVisit}
 use Rattle.interleavings.specs.Histories.{history_of}
 
 abbrev pub Among : ℕ → List ℕ → Type 0
@@ -34,7 +34,7 @@ Among place (k ∷ left) = (k ≡ place) ⊎ Among place left
 -- what was decided of the bytes of a Fetch is this function
 pub record IsBegun (inventory : List Address) (ds : List Deed) (t : Ticket) : Type 0 where
   pub fetch : PlainFetch
-  pub fetched : Told (IsFetch fetch) ds
+  pub fetched : Happened (IsFetch fetch) ds
   pub ticket : fetch.chain.ticket ≡ t
   pub function : PlainFunction
   pub decided : DecidesControl inventory fetch (managed.Opens function)
@@ -55,7 +55,7 @@ pub record IsMarkedSo (old : PlainWorld) (ds past : List Deed) (t : Ticket) (p :
 -- all tasks that a mark met have left, and were answered
 abbrev pub IsClear : Place → List Deed → Type 0
 IsClear p ds =
-    AllByRecursion (λ (e : Entry). (has_left e.ticket (history_of p.unit ds) ≡ true) × Told (IsAnswer e.ticket) ds)
+    AllByRecursion (λ (e : Entry). (has_left e.ticket (history_of p.unit ds) ≡ true) × Happened (IsAnswer e.ticket) ds)
     (met_at p.place (history_of p.unit ds))
 
 abbrev pub IsResponse : FunctionResponse → Type 0
@@ -68,11 +68,11 @@ pub record IsOver (old : PlainWorld) (past : List Deed) (c : PlainChain) (r : Fu
   pub begun : IsBegun old.inventory past c.ticket
   pub chain : begun.fetch.chain ≡ c
   pub visited : (place : ℕ) → Among place begun.function.left
-      → Told (IsVisit c.ticket place) past ⊎ Told (IsFail c.ticket) past
-  pub clear : (p : Place) → Told (IsMark c.ticket p) past → IsClear p past
+      → Happened (IsVisit c.ticket place) past ⊎ Happened (IsFail c.ticket) past
+  pub clear : (p : Place) → Happened (IsMark c.ticket p) past → IsClear p past
   pub response : IsResponse r
-  pub succeeds : (r ≡ Succeeded) ↔ Told (IsFound c.ticket) past
-  pub fails : (r ≡ Failure) ↔ Told (IsFail c.ticket) past
+  pub succeeds : (r ≡ Succeeded) ↔ Happened (IsFound c.ticket) past
+  pub fails : (r ≡ Failure) ↔ Happened (IsFail c.ticket) past
   pub queue : PlainQueue
   pub there : QueueIs (world_of old past) c.ticket.queue queue
   pub writes : xs ≡ answer_writes queue.ring c (function_bytes r)

@@ -1,4 +1,4 @@
-pub mod Told
+pub mod Happened
 pub mod Histories
 pub mod Entering
 pub mod Answering

@@ -8,7 +8,7 @@ use Rattle.deeds.specs.Happens.{Occurrence, Reached, Leads, deeds_of, occurrence
 use Rattle.deeds.specs.Laws.{memory_after}
 use Rattle.deeds.specs.Places.{accepted_worth, standing, used_worth, only}
 use Rattle.deeds.specs.Standing.{AreOwned}
-use Rattle.interleavings.specs.Told.{IsBeginning, NoneIsLost}
+use Rattle.interleavings.specs.Happened.{IsBeginning, NoneIsLost}
 use Rattle.interleavings.specs.Histories.{AreHistories}
 use Rattle.interleavings.specs.Entering.{AreEntered}
 use Rattle.interleavings.specs.Answering.{AreAnswered}

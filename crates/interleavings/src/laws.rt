@@ -4,7 +4,7 @@
 ghost use Rattle.std.specs.Prelude.{List};
 ghost use Rattle.deeds.specs.World.{PlainWorld};
 ghost use Rattle.deeds.specs.Happens.{Occurrence, Reached, deeds_of};
-ghost use Rattle.interleavings.specs.Told.{NoneIsLost};
+ghost use Rattle.interleavings.specs.Happened.{NoneIsLost};
 ghost use Rattle.interleavings.specs.Histories.{AreHistories};
 ghost use Rattle.interleavings.specs.Entering.{AreEntered};
 ghost use Rattle.interleavings.specs.Answering.{AreAnswered};

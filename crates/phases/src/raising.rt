@@ -3,7 +3,7 @@
 ghost use Rattle.std.specs.Prelude.{◌≡◌, ◌≤◌, ◌<◌, ◌↔◌, ◌^◌, length, IsTrue};
 ghost use Rattle.ring_core.specs.Parts.{writable_total};
 ghost use Rattle.ring_core.specs.State.{Owns};
-ghost use Rattle.event_queue.specs.Port.{HasRoom};
+ghost use Rattle.event_queue.specs.Port.{HoldsEvent};
 ghost use Rattle.phases.specs.Queue.{with_slot};
 ghost use Rattle.phases.specs.Parts.{slot_of};
 ghost use Rattle.phases.specs.EventQueue.{FetchesEvent, RaisesNext, MayHold, UsesWith, TakesBufferOf, MayRaise};

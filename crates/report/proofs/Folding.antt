@@ -9,7 +9,7 @@ use Rattle.history.specs.Steps.{Step}
 use Rattle.history.specs.Receipts.{step_at}
 use Rattle.unit_history.specs.Kept.{kind_of}
 use Rattle.report.specs.declared.tally.Tally.{Tally}
-use Rattle.report.specs.Tallies.{told_by_one, tells, read}
+use Rattle.report.specs.Tallies.{fact_of_one, tells, read}
 
 pub fold_step : {A : Type 0} (f : Tally → A → Tally) (xs : List A) (i : ℕ) (d : A) → i < length xs → (o p q : Option Tally)
     → p ≡ option_map (λ s. fold f s (take i xs)) o → q ≡ option_map (λ s. f s (get_or xs i d)) p → q ≡ option_map (λ s. fold f s (take (i + 1) xs)) o
@@ -49,7 +49,7 @@ last_or_before : (p n : ℕ) → p < suc n → (p < n) ⊎ (n ≡ p)
 last_or_before p n lt = grind arith
 
 pub next_oldest : (t : Ticket) (s : Tally) (h : List Step) (p : ℕ) → p < length h
-    → tells (told_by_one (option_map kind_of (step_at p h))) t (read t (oldest p h) s) ≡ read t (oldest (p + 1) h) s
+    → tells (fact_of_one (option_map kind_of (step_at p h))) t (read t (oldest p h) s) ≡ read t (oldest (p + 1) h) s
 next_oldest t s [] p lt = absurd (omega arith)
 next_oldest t s (step ∷ past) p lt =
     elim (last_or_before p (length past) (omega arith)) [
@@ -66,7 +66,7 @@ next_oldest t s (step ∷ past) p lt =
     ]
 
 pub unit_step : (t : Ticket) (h : List Step) (i : ℕ) → i < length h → (o p q : Option Tally) → p ≡ option_map (read t (oldest i h)) o
-    → q ≡ option_map (tells (told_by_one (option_map kind_of (step_at i h))) t) p → q ≡ option_map (read t (oldest (i + 1) h)) o
-unit_step t h i lt None p q e g = g ∙ ap (option_map (tells (told_by_one (option_map kind_of (step_at i h))) t)) e
+    → q ≡ option_map (tells (fact_of_one (option_map kind_of (step_at i h))) t) p → q ≡ option_map (read t (oldest (i + 1) h)) o
+unit_step t h i lt None p q e g = g ∙ ap (option_map (tells (fact_of_one (option_map kind_of (step_at i h))) t)) e
 unit_step t h i lt (Some s) p q e g =
-    g ∙ ap (option_map (tells (told_by_one (option_map kind_of (step_at i h))) t)) e ∙ ap (λ (z : Tally). Some z) (next_oldest t s h i lt)
+    g ∙ ap (option_map (tells (fact_of_one (option_map kind_of (step_at i h))) t)) e ∙ ap (λ (z : Tally). Some z) (next_oldest t s h i lt)

@@ -8,8 +8,8 @@ use Rattle.history.specs.Lawful.{IsLawful}
 use Rattle.history.proofs.Tickets.{same-true, or_right}
 use Rattle.history.proofs.Fresh.{fresh, none_of, above_fresh, fresh_undone}
 use Rattle.history.proofs.Clearing.{left_not_alive}
-use Rattle.report.specs.declared.tally.Mark.{Mark}
-use Rattle.report.specs.declared.tally.Mark.TheVariants as mark
+use Rattle.report.specs.declared.tally.Fact.{Fact}
+use Rattle.report.specs.declared.tally.Fact.TheVariants as fact
 use Rattle.report.specs.declared.tally.Tally.{Tally}
 use Rattle.report.specs.Words.{has_busy, has_full}
 use Rattle.report.specs.Tallies.{after, is_wrong, read}
@@ -77,24 +77,24 @@ closed t h s = shut (has_entered t h) (has_full t h) (has_left t h) (has_busy t 
 
 -- The steps of the ticket itself:
 module _ (s : Tally) (f b d : Bool) where
-  entering : after mark.Enter (shut false f false b d s) ≡ shut true f false false false s
+  entering : after fact.Enter (shut false f false b d s) ≡ shut true f false false false s
   entering =
       ap (λ a. record { answer = s.answer; entered = true; full = f || s.full; open_now = true; busy = false; done = false; amiss = a }) (sym (or_false (s.amiss || s.open_now)))
 
-  leaving : after mark.Leave (shut true f false b d s) ≡ shut true f true b d s
+  leaving : after fact.Leave (shut true f false b d s) ≡ shut true f true b d s
   leaving =
       ap (λ a. record { answer = s.answer; entered = true; full = f || s.full; open_now = false; busy = b; done = d; amiss = a || is_wrong s.answer b d })
       (or_false (s.amiss || s.open_now))
 
-filling : (s : Tally) (e f l b d : Bool) → after mark.Full (shut e f l b d s) ≡ shut e true l b d s
+filling : (s : Tally) (e f l b d : Bool) → after fact.Full (shut e f l b d s) ≡ shut e true l b d s
 filling s true f l b d = refl
 filling s false f l b d = refl
 
 step_enter : (o : Opening) (t : Ticket) (e : Entry) (past : List Step) (s : Tally) → IsLawful o (Step.Enter e ∷ past)
-    → cond (same_ticket e.ticket t) (after mark.Enter (closed t past s)) (closed t past s) ≡ closed t (Step.Enter e ∷ past) s
+    → cond (same_ticket e.ticket t) (after fact.Enter (closed t past s)) (closed t past s) ≡ closed t (Step.Enter e ∷ past) s
 step_enter o t e past s l =
     elim (same_ticket e.ticket t) as (λ c. (same_ticket e.ticket t ≡ c)
-    → cond c (after mark.Enter (closed t past s)) (closed t past s) ≡ shut (c || has_entered t past) (has_full t past) (has_left t past) (has_busy t past) (done t past) s) [
+    → cond c (after fact.Enter (closed t past s)) (closed t past s) ≡ shut (c || has_entered t past) (has_full t past) (has_left t past) (has_busy t past) (done t past) s) [
       | true ↦ λ q.
           let new : has_entered t past ≡ false = ap (λ z. has_entered z past) (sym (same-true e.ticket t q)) ∙ above_fresh o e.ticket past l.0 l.1.1 in
           let stays : has_left t past ≡ false = is_false (has_left t past) (λ k. clash (sym (left_entered o t past l.0 k) ∙ new)) in
@@ -105,10 +105,10 @@ step_enter o t e past s l =
     ] refl
 
 step_full : (t u : Ticket) (past : List Step) (s : Tally)
-    → cond (same_ticket u t) (after mark.Full (closed t past s)) (closed t past s) ≡ closed t (Step.Full u ∷ past) s
+    → cond (same_ticket u t) (after fact.Full (closed t past s)) (closed t past s) ≡ closed t (Step.Full u ∷ past) s
 step_full t u past s =
     elim (same_ticket u t) as (λ c.
-    cond c (after mark.Full (closed t past s)) (closed t past s) ≡ shut (has_entered t past) (c || has_full t past) (has_left t past) (has_busy t past) (done t past) s) [
+    cond c (after fact.Full (closed t past s)) (closed t past s) ≡ shut (has_entered t past) (c || has_full t past) (has_left t past) (has_busy t past) (done t past) s) [
       | true ↦ filling s (has_entered t past) (has_full t past) (has_left t past) (has_busy t past) (done t past)
       | false ↦ refl
     ]
@@ -122,44 +122,44 @@ module _ (o : Opening) (t u : Ticket) (past : List Step) (e : Entry) (l : IsLawf
   no_leave = ap (λ z. has_left z past) (sym (same-true u t q)) ∙ alive_unleft o u past e l at
 
 step_commit : (o : Opening) (t u : Ticket) (past : List Step) (s : Tally) (e : Entry) → IsLawful o past → task_of u (alive past) ≡ Some e
-    → cond (same_ticket u t) (after mark.Commit (closed t past s)) (closed t past s)
+    → cond (same_ticket u t) (after fact.Commit (closed t past s)) (closed t past s)
     ≡ shut (has_entered t past) (has_full t past) (has_left t past) (has_busy t past) (same_ticket u t || done t past) s
 step_commit o t u past s e l at =
     elim (same_ticket u t) as (λ c. (same_ticket u t ≡ c)
-    → cond c (after mark.Commit (closed t past s)) (closed t past s) ≡ shut (has_entered t past) (has_full t past) (has_left t past) (has_busy t past) (c || done t past) s) [
+    → cond c (after fact.Commit (closed t past s)) (closed t past s) ≡ shut (has_entered t past) (has_full t past) (has_left t past) (has_busy t past) (c || done t past) s) [
       | true ↦ λ q. rw (its_enter o t u past e l at q, no_leave o t u past e l at q) refl
       | false ↦ λ q. refl
     ] refl
 
 step_busy : (o : Opening) (t u : Ticket) (past : List Step) (s : Tally) (e : Entry) → IsLawful o past → task_of u (alive past) ≡ Some e
-    → cond (same_ticket u t) (after mark.Busy (closed t past s)) (closed t past s)
+    → cond (same_ticket u t) (after fact.Busy (closed t past s)) (closed t past s)
     ≡ shut (has_entered t past) (has_full t past) (has_left t past) (same_ticket u t || has_busy t past) (same_ticket u t || done t past) s
 step_busy o t u past s e l at =
     elim (same_ticket u t) as (λ c. (same_ticket u t ≡ c)
-    → cond c (after mark.Busy (closed t past s)) (closed t past s) ≡ shut (has_entered t past) (has_full t past) (has_left t past) (c || has_busy t past) (c || done t past) s) [
+    → cond c (after fact.Busy (closed t past s)) (closed t past s) ≡ shut (has_entered t past) (has_full t past) (has_left t past) (c || has_busy t past) (c || done t past) s) [
       | true ↦ λ q. rw (its_enter o t u past e l at q, no_leave o t u past e l at q) refl
       | false ↦ λ q. refl
     ] refl
 
 step_leave : (o : Opening) (t u : Ticket) (past : List Step) (s : Tally) (e : Entry) → IsLawful o past → task_of u (alive past) ≡ Some e
-    → cond (same_ticket u t) (after mark.Leave (closed t past s)) (closed t past s)
+    → cond (same_ticket u t) (after fact.Leave (closed t past s)) (closed t past s)
     ≡ shut (has_entered t past) (has_full t past) (same_ticket u t || has_left t past) (has_busy t past) (done t past) s
 step_leave o t u past s e l at =
     elim (same_ticket u t) as (λ c. (same_ticket u t ≡ c)
-    → cond c (after mark.Leave (closed t past s)) (closed t past s) ≡ shut (has_entered t past) (has_full t past) (c || has_left t past) (has_busy t past) (done t past) s) [
+    → cond c (after fact.Leave (closed t past s)) (closed t past s) ≡ shut (has_entered t past) (has_full t past) (c || has_left t past) (has_busy t past) (done t past) s) [
       | true ↦ λ q. rw (its_enter o t u past e l at q, no_leave o t u past e l at q) (leaving s (has_full t past) (has_busy t past) (done t past))
       | false ↦ λ q. refl
     ] refl
 
-abbrev seen : Mark → Bool → Tally → Tally
+abbrev seen : Fact → Bool → Tally → Tally
 seen m c s = cond c (after m s) s
 
 pub read_closed : (o : Opening) (t : Ticket) (h : List Step) (s : Tally) → IsLawful o h → read t h s ≡ closed t h s
 read_closed o t [] s l = refl
-read_closed o t (Step.Enter e ∷ past) s l = ap (seen mark.Enter (same_ticket e.ticket t)) (read_closed o t past s l.0) ∙ step_enter o t e past s l
-read_closed o t (Step.Full u ∷ past) s l = ap (seen mark.Full (same_ticket u t)) (read_closed o t past s l.0) ∙ step_full t u past s
-read_closed o t (Step.Commit u r ∷ past) s l = ap (seen mark.Commit (same_ticket u t)) (read_closed o t past s l.0) ∙ step_commit o t u past s l.1.0 l.0 l.1.1.is_there
-read_closed o t (Step.Busy u ∷ past) s l = ap (seen mark.Busy (same_ticket u t)) (read_closed o t past s l.0) ∙ step_busy o t u past s l.1.0 l.0 l.1.1.is_there
+read_closed o t (Step.Enter e ∷ past) s l = ap (seen fact.Enter (same_ticket e.ticket t)) (read_closed o t past s l.0) ∙ step_enter o t e past s l
+read_closed o t (Step.Full u ∷ past) s l = ap (seen fact.Full (same_ticket u t)) (read_closed o t past s l.0) ∙ step_full t u past s
+read_closed o t (Step.Commit u r ∷ past) s l = ap (seen fact.Commit (same_ticket u t)) (read_closed o t past s l.0) ∙ step_commit o t u past s l.1.0 l.0 l.1.1.is_there
+read_closed o t (Step.Busy u ∷ past) s l = ap (seen fact.Busy (same_ticket u t)) (read_closed o t past s l.0) ∙ step_busy o t u past s l.1.0 l.0 l.1.1.is_there
 read_closed o t (Step.Abort rule ∷ past) s l = read_closed o t past s l.0
 read_closed o t (Step.Reset c ∷ past) s l = read_closed o t past s l.0
-read_closed o t (Step.Leave u ∷ past) s l = ap (seen mark.Leave (same_ticket u t)) (read_closed o t past s l.0) ∙ step_leave o t u past s l.1.0 l.0 l.1.1
+read_closed o t (Step.Leave u ∷ past) s l = ap (seen fact.Leave (same_ticket u t)) (read_closed o t past s l.0) ∙ step_leave o t u past s l.1.0 l.0 l.1.1

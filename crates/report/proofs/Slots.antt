@@ -1,4 +1,4 @@
--- How a mark changes the tally of one ticket, and no other.
+-- How what is told changes the tally of one ticket, and no other.
 use Rattle.std.proofs.Common.{◌≡◌, ◌≢◌, ℕ, zero, suc, ◌<◌, ◌≤◌, Bool, true, false, ◌&&◌, cond, eqb, List, [], ◌∷◌, length, get_or, set, Option, Some, None, is_some, refl, sym, ap, ◌∙◌, arith, ◌⊎◌, inl, inr, Vec}
 use Rattle.std.proofs.lemmas.Option.{slice_get_read, slice_get_past}
 use Rattle.std.proofs.lemmas.Bool.{eqb-true}
@@ -6,7 +6,7 @@ use Rattle.std.specs.Prelude.{slice_get}
 use Rattle.std.specs.Option.{option_map}
 use Rattle.std.specs.declared.alloc.Global.{Global}
 use Rattle.ring_core.specs.declared.log.Ticket.{Ticket}
-use Rattle.report.specs.declared.tally.Mark.{Mark}
+use Rattle.report.specs.declared.tally.Fact.{Fact}
 use Rattle.report.specs.declared.tally.Tally.{Tally}
 use Rattle.report.specs.Tallies.{after, marking, tally_in, tally_at}
 
@@ -33,14 +33,14 @@ pub map_same : {X : Type 0} (o : Option X) → o ≡ option_map (λ (s : X). s) 
 map_same None = refl
 map_same (Some x) = refl
 
-abbrev marked_at : ℕ → Mark → ℕ → Tally → Tally
+abbrev marked_at : ℕ → Fact → ℕ → Tally → Tally
 marked_at i m n s = cond (eqb i n) (after m s) s
 
-unmarked : (i : ℕ) (m : Mark) (n : ℕ) (o : Option Tally) → eqb i n ≡ false → o ≡ option_map (marked_at i m n) o
+unmarked : (i : ℕ) (m : Fact) (n : ℕ) (o : Option Tally) → eqb i n ≡ false → o ≡ option_map (marked_at i m n) o
 unmarked i m n None e = refl
 unmarked i m n (Some s) e = ap (λ b. Some (cond b (after m s) s)) (sym e)
 
-pub mark_set : (xs : List Tally) (i : ℕ) (m : Mark) (x v : Tally) → i < length xs → x ≡ get_or xs i x → v ≡ after m x
+pub mark_set : (xs : List Tally) (i : ℕ) (m : Fact) (x v : Tally) → i < length xs → x ≡ get_or xs i x → v ≡ after m x
     → (n : ℕ) → slice_get (set xs i v) n ≡ option_map (marked_at i m n) (slice_get xs n)
 mark_set xs i m x v lt is e n =
     elim (same_or_other i n) [
@@ -51,7 +51,7 @@ mark_set xs i m x v lt is e n =
       | inr q ↦ set_other xs i n v q.0 ∙ unmarked i m n (slice_get xs n) q.1
     ]
 
-pub mark_past : (xs : List Tally) (i : ℕ) (m : Mark) → length xs ≤ i → (n : ℕ) → slice_get xs n ≡ option_map (marked_at i m n) (slice_get xs n)
+pub mark_past : (xs : List Tally) (i : ℕ) (m : Fact) → length xs ≤ i → (n : ℕ) → slice_get xs n ≡ option_map (marked_at i m n) (slice_get xs n)
 mark_past xs i m le n =
     elim (same_or_other i n) [
       | inl q ↦ let e : slice_get xs n ≡ None = ap (λ k. slice_get xs k) (sym q.0) ∙ slice_get_past xs i le in e ∙ sym (ap (option_map (marked_at i m n)) e)
@@ -61,11 +61,11 @@ mark_past xs i m le n =
 pub none_past : {X : Type 0} (xs : List X) (i : ℕ) → length xs ≤ i → false ≡ is_some (slice_get xs i)
 none_past xs i le = ap is_some (sym (slice_get_past xs i le))
 
-another : (u t : Ticket) (m : Mark) (o : Option Tally) → (eqb u.queue t.queue && eqb u.number t.number) ≡ false → o ≡ option_map (marking u m t) o
+another : (u t : Ticket) (m : Fact) (o : Option Tally) → (eqb u.queue t.queue && eqb u.number t.number) ≡ false → o ≡ option_map (marking u m t) o
 another u t m None e = refl
 another u t m (Some s) e = ap (λ b. Some (cond b (after m s) s)) (sym e)
 
-module _ (tables : List (Vec Tally Global)) (u : Ticket) (m : Mark) where
+module _ (tables : List (Vec Tally Global)) (u : Ticket) (m : Fact) where
   pub tables_marked : (table new : Vec Tally Global) → u.queue < length tables → table ≡ get_or tables u.queue table
       → ((n : ℕ) → slice_get new.items n ≡ option_map (marked_at u.number m n) (slice_get table.items n))
       → (t : Ticket) → tally_at (set tables u.queue new) t ≡ option_map (marking u m t) (tally_at tables t)

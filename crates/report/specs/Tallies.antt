@@ -18,10 +18,10 @@ use Rattle.report.specs.Words.{is_before}
 use Rattle.report.specs.Settled.{is_request}
 use Rattle.report.specs.declared.tally.Answer.{Answer}
 use Rattle.report.specs.declared.tally.Answer.TheVariants as answer
-use Rattle.report.specs.declared.tally.Mark.{Mark}
-use Rattle.report.specs.declared.tally.Mark.TheVariants as mark
+use Rattle.report.specs.declared.tally.Fact.{Fact}
+use Rattle.report.specs.declared.tally.Fact.TheVariants as fact
 use Rattle.report.specs.declared.tally.Tally.{Tally}
-use Rattle.report.specs.declared.tally.Told.{Told}
+use Rattle.report.specs.declared.tally.TicketFact.{TicketFact}
 
 abbrev pub joined : Answer → Answer → Answer
 joined answer.Missing more = more
@@ -56,47 +56,47 @@ fresh =
       amiss = false;
     }
 
-abbrev pub after : Mark → Tally → Tally
-after (mark.Answered a) s = record s { answer = joined s.answer a }
-after mark.Enter s =
+abbrev pub after : Fact → Tally → Tally
+after (fact.Answered a) s = record s { answer = joined s.answer a }
+after fact.Enter s =
     record s { entered = true; open_now = true; busy = false; done = false; amiss = s.amiss || s.open_now }
-after mark.Full s = record s { full = true }
-after mark.Commit s = record s { done = true }
-after mark.Busy s = record s { busy = true; done = true }
-after mark.Leave s = record s { open_now = false; amiss = s.amiss || is_wrong s.answer s.busy s.done }
+after fact.Full s = record s { full = true }
+after fact.Commit s = record s { done = true }
+after fact.Busy s = record s { busy = true; done = true }
+after fact.Leave s = record s { open_now = false; amiss = s.amiss || is_wrong s.answer s.busy s.done }
 
--- a mark of one ticket, as that of another sees it
-abbrev pub marking : Ticket → Mark → Ticket → Tally → Tally
+-- what is told of one ticket, as another sees it
+abbrev pub marking : Ticket → Fact → Ticket → Tally → Tally
 marking u m t s = if same_ticket u t then after m s else s
 
 -- what a step tells of a ticket
-abbrev pub told_by : StepKind → Option Told
-told_by (kind.Enter t) = Some (record { ticket = t; mark = mark.Enter })
-told_by (kind.Full t) = Some (record { ticket = t; mark = mark.Full })
-told_by (kind.Commit t) = Some (record { ticket = t; mark = mark.Commit })
-told_by (kind.Busy t) = Some (record { ticket = t; mark = mark.Busy })
-told_by (kind.Abort rule) = None
-told_by kind.Reset = None
-told_by (kind.Leave t) = Some (record { ticket = t; mark = mark.Leave })
+abbrev pub fact_of : StepKind → Option TicketFact
+fact_of (kind.Enter t) = Some (record { ticket = t; fact = fact.Enter })
+fact_of (kind.Full t) = Some (record { ticket = t; fact = fact.Full })
+fact_of (kind.Commit t) = Some (record { ticket = t; fact = fact.Commit })
+fact_of (kind.Busy t) = Some (record { ticket = t; fact = fact.Busy })
+fact_of (kind.Abort rule) = None
+fact_of kind.Reset = None
+fact_of (kind.Leave t) = Some (record { ticket = t; fact = fact.Leave })
 
-abbrev pub tells : Option Told → Ticket → Tally → Tally
+abbrev pub tells : Option TicketFact → Ticket → Tally → Tally
 tells None t s = s
-tells (Some told) t s = marking told.ticket told.mark t s
+tells (Some told) t s = marking told.ticket told.fact t s
 
-abbrev pub told_by_one : Option StepKind → Option Told
-told_by_one None = None
-told_by_one (Some k) = told_by k
+abbrev pub fact_of_one : Option StepKind → Option TicketFact
+fact_of_one None = None
+fact_of_one (Some k) = fact_of k
 
 -- a history, and one after another
 abbrev pub read : Ticket → List Step → Tally → Tally
 read t [] s = s
-read t (step ∷ past) s = tells (told_by (kind_of step)) t (read t past s)
+read t (step ∷ past) s = tells (fact_of (kind_of step)) t (read t past s)
 
 abbrev pub with_receipt : Ticket → Tally → Receipt → Tally
-with_receipt t s c = marking c.ticket (mark.Answered answer.Receipt) t s
+with_receipt t s c = marking c.ticket (fact.Answered answer.Receipt) t s
 
 abbrev pub with_note : Ticket → Tally → PlainNote → Tally
-with_note t s n = marking n.ticket (mark.Answered (answer.Note n.cause)) t s
+with_note t s n = marking n.ticket (fact.Answered (answer.Note n.cause)) t s
 
 abbrev pub with_unit : Ticket → Tally → PlainUnit → Tally
 with_unit t s u = read t u.steps s

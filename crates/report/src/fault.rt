@@ -1,6 +1,5 @@
 //! Why no report is given.
 
-use block_store::NoMemory;
 use ring_core::Ticket;
 use std::error::Error;
 use std::fmt;
@@ -32,9 +31,3 @@ impl fmt::Display for CloseFault {
 }
 
 impl Error for CloseFault {}
-
-impl From<NoMemory> for CloseFault {
-    fn from(_refused: NoMemory) -> CloseFault {
-        CloseFault::NoMemory
-    }
-}

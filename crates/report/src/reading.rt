@@ -11,7 +11,7 @@ ghost use Rattle.report.specs.Sources.{stray, stray_one};
 
 use crate::least::lesser;
 use crate::tables::Tables;
-use crate::tally::{Answer, Mark, told_by_one};
+use crate::tally::{Answer, Fact, fact_of_one};
 use phases::Note;
 use ring_core::Ticket;
 use unit_history::{Receipt, UnitState};
@@ -32,7 +32,7 @@ pub(crate) fn read_receipts(tables: &mut Tables, receipts: &[Receipt]) -> Option
     let mut first = None;
     for receipt in receipts {
         let ticket = receipt.ticket();
-        let known = tables.mark(ticket, Mark::Answered(Answer::Receipt));
+        let known = tables.mark(ticket, Fact::Answered(Answer::Receipt));
         first = lesser(first, stray_one(known, ticket));
     }
     first
@@ -47,7 +47,7 @@ pub(crate) fn read_notes(tables: &mut Tables, notes: &[Note]) -> Option<Ticket>
     let mut first = None;
     for note in notes {
         let ticket = note.ticket();
-        let known = tables.mark(ticket, Mark::Answered(Answer::Note(note.cause())));
+        let known = tables.mark(ticket, Fact::Answered(Answer::Note(note.cause())));
         first = lesser(first, stray_one(known, ticket));
     }
     first
@@ -59,7 +59,7 @@ fn read_unit(tables: &mut Tables, unit: &UnitState)
         ≡ option_map (read t unit.now.steps) (tally_at tables.old.tables.items t) }
 {
     for place in 0..unit.steps() {
-        tables.tell(told_by_one(unit.step(place)));
+        tables.tell(fact_of_one(unit.step(place)));
     }
 }
 

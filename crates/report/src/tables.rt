@@ -7,7 +7,7 @@ ghost use Rattle.phases.specs.Queue.{Lent};
 ghost use Rattle.report.specs.Tallies.{fresh, after, marking, tells, tally_in, tally_at, ends_amiss};
 ghost use Rattle.report.specs.Opening.{asked_count, Opens};
 
-use crate::tally::{Mark, Tally, Told};
+use crate::tally::{Fact, Tally, TicketFact};
 use block_store::NoMemory;
 use phases::Queue;
 use ring_core::Ticket;
@@ -43,15 +43,15 @@ fn fresh_table(alloc: Global, count: usize) -> Result<Vec<Tally>, NoMemory>
 }
 
 /// Marks the tally of a number, and tells whether there is one.
-fn mark_in(table: &mut Vec<Tally>, number: u64, mark: Mark) -> bool
+fn mark_in(table: &mut Vec<Tally>, number: u64, fact: Fact) -> bool
     ensures known { result ≡ is_some (slice_get table.old.items number) }
     ensures marks { (n : ℕ) → slice_get table.new.items n
-        ≡ option_map (λ s. if number == n then after mark s else s) (slice_get table.old.items n) }
+        ≡ option_map (λ s. if number == n then after fact s else s) (slice_get table.old.items n) }
 {
     let number = number as usize;
     if number < table.len() {
         let tally = table[number];
-        table[number] = tally.after(mark);
+        table[number] = tally.after(fact);
         true
     } else {
         false
@@ -74,26 +74,26 @@ impl Tables {
     }
 
     /// Marks the tally of a ticket, and tells whether there is one: whether it is that of a request.
-    pub(crate) fn mark(&mut self, ticket: Ticket, mark: Mark) -> bool
+    pub(crate) fn mark(&mut self, ticket: Ticket, fact: Fact) -> bool
         ensures known { result ≡ is_some (tally_at self.old.tables.items ticket) }
         ensures marks { (t : ATicket) → tally_at self.new.tables.items t
-            ≡ option_map (marking ticket mark t) (tally_at self.old.tables.items t) }
+            ≡ option_map (marking ticket fact t) (tally_at self.old.tables.items t) }
     {
         let queue = ticket.queue as usize;
         if queue < self.tables.len() {
-            mark_in(&mut self.tables[queue], ticket.number, mark)
+            mark_in(&mut self.tables[queue], ticket.number, fact)
         } else {
             false
         }
     }
 
     /// Marks what a step tells, if it tells anything.
-    pub(crate) fn tell(&mut self, told: Option<Told>)
+    pub(crate) fn tell(&mut self, told: Option<TicketFact>)
         ensures { (t : ATicket) → tally_at self.new.tables.items t
             ≡ option_map (tells told t) (tally_at self.old.tables.items t) }
     {
         if let Some(told) = told {
-            self.mark(told.ticket, told.mark);
+            self.mark(told.ticket, told.fact);
         }
     }
 

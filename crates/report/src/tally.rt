@@ -1,7 +1,7 @@
 //! What is kept of a request while a report is examined.
 
 ghost use Rattle.std.specs.Prelude.{◌≡◌, Option};
-ghost use Rattle.report.specs.Tallies.{joined, is_wrong, fresh, after, is_fine, ends_well, told_by, told_by_one};
+ghost use Rattle.report.specs.Tallies.{joined, is_wrong, fresh, after, is_fine, ends_well, fact_of, fact_of_one};
 
 use phases::Cause;
 use ring_core::Ticket;
@@ -59,7 +59,7 @@ impl Answer {
 
 /// What is told of a request.
 #[derive(Clone, Copy, Debug, PartialEq, Eq)]
-pub enum Mark {
+pub enum Fact {
     /// A receipt or a note.
     Answered(Answer),
     /// A step of a history.
@@ -72,47 +72,47 @@ pub enum Mark {
 
 /// What a step tells, and of which request.
 #[derive(Clone, Copy, Debug)]
-pub struct Told {
+pub struct TicketFact {
     pub ticket: Ticket,
-    pub mark: Mark,
+    pub fact: Fact,
 }
 
 /// What a step tells.
-fn told_by(kind: StepKind) -> Option<Told>
-    ensures { result ≡ told_by kind }
+fn fact_of(kind: StepKind) -> Option<TicketFact>
+    ensures { result ≡ fact_of kind }
 {
     match kind {
-        StepKind::Enter(ticket) => Some(Told {
+        StepKind::Enter(ticket) => Some(TicketFact {
             ticket,
-            mark: Mark::Enter,
+            fact: Fact::Enter,
         }),
-        StepKind::Full(ticket) => Some(Told {
+        StepKind::Full(ticket) => Some(TicketFact {
             ticket,
-            mark: Mark::Full,
+            fact: Fact::Full,
         }),
-        StepKind::Commit(ticket) => Some(Told {
+        StepKind::Commit(ticket) => Some(TicketFact {
             ticket,
-            mark: Mark::Commit,
+            fact: Fact::Commit,
         }),
-        StepKind::Busy(ticket) => Some(Told {
+        StepKind::Busy(ticket) => Some(TicketFact {
             ticket,
-            mark: Mark::Busy,
+            fact: Fact::Busy,
         }),
         StepKind::Abort(_) | StepKind::Reset => None,
-        StepKind::Leave(ticket) => Some(Told {
+        StepKind::Leave(ticket) => Some(TicketFact {
             ticket,
-            mark: Mark::Leave,
+            fact: Fact::Leave,
         }),
     }
 }
 
 /// What a step tells, if there is one.
-pub(crate) fn told_by_one(step: Option<StepKind>) -> Option<Told>
-    ensures { result ≡ told_by_one step }
+pub(crate) fn fact_of_one(step: Option<StepKind>) -> Option<TicketFact>
+    ensures { result ≡ fact_of_one step }
 {
     match step {
         None => None,
-        Some(kind) => told_by(kind),
+        Some(kind) => fact_of(kind),
     }
 }
 
@@ -152,15 +152,15 @@ impl Tally {
     }
 
     /// Once this was read.
-    pub(crate) fn after(self, mark: Mark) -> Tally
-        ensures { result ≡ after mark self }
+    pub(crate) fn after(self, fact: Fact) -> Tally
+        ensures { result ≡ after fact self }
     {
-        match mark {
-            Mark::Answered(more) => Tally {
+        match fact {
+            Fact::Answered(more) => Tally {
                 answer: self.answer.and(more),
                 ..self
             },
-            Mark::Enter => Tally {
+            Fact::Enter => Tally {
                 entered: true,
                 open_now: true,
                 busy: false,
@@ -168,14 +168,14 @@ impl Tally {
                 amiss: self.amiss || self.open_now,
                 ..self
             },
-            Mark::Full => Tally { full: true, ..self },
-            Mark::Commit => Tally { done: true, ..self },
-            Mark::Busy => Tally {
+            Fact::Full => Tally { full: true, ..self },
+            Fact::Commit => Tally { done: true, ..self },
+            Fact::Busy => Tally {
                 busy: true,
                 done: true,
                 ..self
             },
-            Mark::Leave => Tally {
+            Fact::Leave => Tally {
                 open_now: false,
                 amiss: self.amiss || self.answer.is_wrong(self.busy, self.done),
                 ..self

@@ -14,7 +14,7 @@ use Rattle.history.specs.Seen.{finished, freed}
 use Rattle.history.specs.Contents.{Opening, facts_after}
 use Rattle.history.specs.Lawful.{IsReady}
 use Rattle.history.specs.Endings.{Ending}
-use Rattle.history.specs.Receipts.{unit_of}
+use Rattle.history.specs.Receipts.{unit_address}
 use Rattle.history.proofs.Tickets.{itself}
 use Rattle.scsi_codec.specs.declared.lun.Address.{Address}
 use Rattle.task_set.specs.Jobs.{PlainJob}
@@ -126,7 +126,7 @@ module _ (o : Opening) (past : List Step) (block_at : Blocks) (pending : List Co
 
     -- all of it
     pub serves : (answers : Ending → Type 0)
-        → answers (ending_of (outcome_for (unit_of o) (length (Step.Enter j.entry ∷ past)) j.entry.ticket p))
+        → answers (ending_of (outcome_for (unit_address o) (length (Step.Enter j.entry ∷ past)) j.entry.ticket p))
         → j.chain.ticket ≡ j.entry.ticket
         → ServesAlone answers (unit_with o past [] false) j
         (unit_with o (Step.Leave j.entry.ticket ∷ step_for j.entry.ticket p ∷ Step.Enter j.entry ∷ past) [] false)
@@ -134,7 +134,7 @@ module _ (o : Opening) (past : List Step) (block_at : Blocks) (pending : List Co
         record {
           once_entered = unit_with o (Step.Enter j.entry ∷ past) [] false;
           once_run = unit_with o (step_for j.entry.ticket p ∷ Step.Enter j.entry ∷ past) [] false;
-          outcome = outcome_for (unit_of o) (length (Step.Enter j.entry ∷ past)) j.entry.ticket p;
+          outcome = outcome_for (unit_address o) (length (Step.Enter j.entry ∷ past)) j.entry.ticket p;
           enters = enters;
           commits = commits_run (kept_entered room1 reserve) j j.entry false facts p block_at' pending'
               (is_of (kept_entered room1 reserve) j (task_of_job (length past) j false false) (is_found (length past) j false) refl)
@@ -175,7 +175,7 @@ module _ (o : Opening) (past : List Step) (block_at : Blocks) (pending : List Co
       room2 room3 less fewer))
 
   pub serves_alone : (answers : Ending → Type 0) (keeps keeps' : Bool) → keeps ≡ false → keeps' ≡ false
-      → answers (ending_of (outcome_for (unit_of o) (length (Step.Enter j.entry ∷ past)) j.entry.ticket p))
+      → answers (ending_of (outcome_for (unit_address o) (length (Step.Enter j.entry ∷ past)) j.entry.ticket p))
       → j.chain.ticket ≡ j.entry.ticket
       → ServesAlone answers (unit_with o past (parked_of tasks) keeps) j (unit_with o steps' (parked_of tasks) keeps')
   serves_alone answers keeps keeps' a b answered own =

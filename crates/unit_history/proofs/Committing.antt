@@ -14,7 +14,7 @@ use Rattle.history.specs.Marks.{mark_of}
 use Rattle.history.specs.Seen.{Seen, seen, finished}
 use Rattle.history.specs.Contents.{Opening, facts_after, reply_after}
 use Rattle.history.specs.Lawful.{IsReady}
-use Rattle.history.specs.Receipts.{unit_of, receipt_of}
+use Rattle.history.specs.Receipts.{unit_address, receipt_of}
 use Rattle.task_set.specs.Jobs.{PlainJob}
 use Rattle.task_set.specs.Tasks.{PlainTask, parked_of, moved, task_at}
 use Rattle.unit_history.specs.Calls.{IsOf, asked_of, CannotCommit, Commits, may_run_short}
@@ -67,7 +67,7 @@ module _ {o : Opening} {past : List Step} {block_at : Blocks} {pending : List Co
   pub commits_run : (j : PlainJob) (e : Entry) (keeps : Bool) (facts : Facts) (p : Option Performed) (block_at' : Blocks) (pending' : List Code)
       → IsOf j e past → IsReady j.entry.ticket e past → facts ≡ facts_after o past → Performs keeps facts e.command e.data_out p block_at block_at' pending pending'
       → Commits (record { opening = o; steps = past; parked = parked_of tasks; keeps_replies = keeps }) j
-      (outcome_for (unit_of o) (length past) j.entry.ticket p)
+      (outcome_for (unit_address o) (length past) j.entry.ticket p)
       (record { opening = o; steps = step_for j.entry.ticket p ∷ past; parked = parked_of (map (moved (finished j.entry.ticket)) tasks); keeps_replies = keeps })
   commits_run j e keeps facts None block_at' pending' of ready as_told short = (
     e,

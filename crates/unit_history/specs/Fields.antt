@@ -16,8 +16,8 @@ opening_of u =
       calm = u.calm;
     }
 
-abbrev pub unit_of : Inside → PlainUnit
-unit_of u =
+abbrev pub plain_unit : Inside → PlainUnit
+plain_unit u =
     record {
       opening = opening_of u;
       steps = u.log.steps;

@@ -56,9 +56,9 @@ impl Model for UnitState {
 
     ghost Value = { PlainUnit };
 
-    ghost use Rattle.unit_history.specs.Fields.{unit_of, IsTold};
+    ghost use Rattle.unit_history.specs.Fields.{plain_unit, IsTold};
 
-    ghost view = { unit_of };
+    ghost view = { plain_unit };
 
     ghost invariant = { IsTold };
 }

@@ -101,15 +101,15 @@ abbrev pub Breaks : ℕ → ℕ → ℕ → Served → Answer → Served → Typ
 Breaks queue old new d a d' = BrokenBy d.world.queues queue old a new × (d' ≡ d)
 
 -- as the counts of `World::log`
-abbrev pub StandsAt : Option PlainQueue → ℕ → ℕ → Answer → ℕ → ℕ → Type 0
-StandsAt (Some q) accepted used answer.Done accepted' used' = (accepted' ≡ length q.ring.log.accepted)
+abbrev pub CountsAt : Option PlainQueue → ℕ → ℕ → Answer → ℕ → ℕ → Type 0
+CountsAt (Some q) accepted used answer.Done accepted' used' = (accepted' ≡ length q.ring.log.accepted)
     × (used' ≡ length q.ring.log.used)
-StandsAt None accepted used answer.NoQueue accepted' used' = (accepted' ≡ accepted) × (used' ≡ used)
-StandsAt q accepted used a accepted' used' = ⊥
+CountsAt None accepted used answer.NoQueue accepted' used' = (accepted' ≡ accepted) × (used' ≡ used)
+CountsAt q accepted used a accepted' used' = ⊥
 
-abbrev pub Stands : ℕ → ℕ → ℕ → ℕ → ℕ → Served → Answer → Served → Type 0
-Stands queue accepted used accepted' used' d a d' =
-    StandsAt (slice_get d.world.queues queue) accepted used a accepted' used' × (d' ≡ d)
+abbrev pub Counts : ℕ → ℕ → ℕ → ℕ → ℕ → Served → Answer → Served → Type 0
+Counts queue accepted used accepted' used' d a d' =
+    CountsAt (slice_get d.world.queues queue) accepted used a accepted' used' × (d' ≡ d)
 
 -- as `World::step` of a hard reset of the unit of an address
 abbrev pub ResetsWorld : PlainWorld → ℕ → ℕ → Answer → PlainWorld → Type 0

@@ -9,8 +9,8 @@ use Rattle.vscsi_c.specs.declared.wanted.WantedUnit.{WantedUnit}
 abbrev pub layout_of : WantedQueue → Layout
 layout_of q = record { size = q.size; desc = q.desc; driver = q.driver; device = q.device }
 
-abbrev pub unit_of : WantedUnit → UnitSpec
-unit_of u = record { target = u.target; lun = u.lun; blocks = u.blocks; calm = not (u.calm == 0) }
+abbrev pub spec_of : WantedUnit → UnitSpec
+spec_of u = record { target = u.target; lun = u.lun; blocks = u.blocks; calm = not (u.calm == 0) }
 
 -- one worker, with room for 64 jobs
 pub record Asks (pages features : ℕ) (queues : List WantedQueue) (units : List WantedUnit) (c : Config) : Type 0 where
@@ -19,4 +19,4 @@ pub record Asks (pages features : ℕ) (queues : List WantedQueue) (units : List
   pub queues_are : c.queues.items ≡ map layout_of queues
   pub workers : c.workers ≡ 1
   pub handoff : c.handoff ≡ 64
-  pub units_are : c.units.items ≡ map unit_of units
+  pub units_are : c.units.items ≡ map spec_of units

@@ -2,7 +2,7 @@
 
 ghost use Rattle.std.specs.Prelude.{◌≡◌};
 ghost use Rattle.vscsi_c.specs.Kept.{kept_in};
-ghost use Rattle.vscsi_c.specs.Calls.{Serving, Settles, Pokes, Peeks, Owes, IsStatus, Breaks, Stands, Resets, Holds, Gives, Creates, Destroys};
+ghost use Rattle.vscsi_c.specs.Calls.{Serving, Settles, Pokes, Peeks, Owes, IsStatus, Breaks, Counts, Resets, Holds, Gives, Creates, Destroys};
 
 use crate::answer::Answer;
 use crate::device::Device;
@@ -150,7 +150,7 @@ pub(crate) fn progress(
     accepted: &mut u64,
     used: &mut u64,
 ) -> Answer
-    ensures { Serving (Stands queue accepted.old used.old accepted.new used.new)
+    ensures { Serving (Counts queue accepted.old used.old accepted.new used.new)
         ((accepted.new ≡ accepted.old) × (used.new ≡ used.old)) (kept_in device.old) result (kept_in device.new) }
 {
     let Some(mut served) = device.take(alloc) else {

@@ -4,7 +4,7 @@
 ghost use Rattle.std.specs.Prelude.{◌≡◌};
 ghost use Rattle.vscsi_c.specs.Answers.{Tells};
 ghost use Rattle.vscsi_c.specs.Kept.{kept_in};
-ghost use Rattle.vscsi_c.specs.Calls.{Serving, Settles, Pokes, Peeks, Owes, IsStatus, Breaks, Stands, Resets, Holds, Gives, Creates, Destroys};
+ghost use Rattle.vscsi_c.specs.Calls.{Serving, Settles, Pokes, Peeks, Owes, IsStatus, Breaks, Counts, Resets, Holds, Gives, Creates, Destroys};
 
 use crate::calls;
 use crate::device::Device;
@@ -109,7 +109,7 @@ pub extern "C" fn vscsi_raw_progress(
     accepted: &mut u64,
     used: &mut u64,
 ) -> u32
-    ensures { Tells result (λ a. Serving (Stands queue accepted.old used.old accepted.new used.new)
+    ensures { Tells result (λ a. Serving (Counts queue accepted.old used.old accepted.new used.new)
         ((accepted.new ≡ accepted.old) × (used.new ≡ used.old)) (kept_in device.old) a (kept_in device.new)) }
 {
     calls::progress(device, alloc, queue, accepted, used).code()

@@ -1,7 +1,7 @@
 //! What each call does with a device.
 
 ghost use Rattle.std.specs.Prelude.{◌≡◌};
-ghost use Rattle.vscsi_c.specs.Calls.{Settles, Pokes, Peeks, Owes, IsStatus, Breaks, Stands, Resets, Holds, Gives, number_of};
+ghost use Rattle.vscsi_c.specs.Calls.{Settles, Pokes, Peeks, Owes, IsStatus, Breaks, Counts, Resets, Holds, Gives, number_of};
 
 use crate::answer::Answer;
 use deeds::Event;
@@ -98,7 +98,7 @@ impl Served {
 
     /// How many chains a queue accepted, and how many of them were used.
     pub(crate) fn progress(&mut self, queue: u16, accepted: &mut u64, used: &mut u64) -> Answer
-        ensures { Stands queue accepted.old used.old accepted.new used.new self.old result self.new }
+        ensures { Counts queue accepted.old used.old accepted.new used.new self.old result self.new }
     {
         match self.world.log(queue) {
             Some(log) => {

@@ -1,7 +1,7 @@
 //! The device that C wants.
 
 ghost use Rattle.std.specs.Prelude.{◌≡◌, map, IfOk};
-ghost use Rattle.vscsi_c.specs.Wanted.{layout_of, unit_of, Asks};
+ghost use Rattle.vscsi_c.specs.Wanted.{layout_of, spec_of, Asks};
 ghost use Rattle.vscsi_c.specs.Calls.{layout_number as number_of_layout, cause_of, plain_cause};
 
 use decisions::UnitSpec;
@@ -52,7 +52,7 @@ pub struct WantedUnit {
 impl WantedUnit {
     /// As a specification.
     fn spec(&self) -> UnitSpec
-        ensures { result ≡ unit_of self.now }
+        ensures { result ≡ spec_of self.now }
     {
         UnitSpec {
             target: self.target,
@@ -124,7 +124,7 @@ fn layouts_of(alloc: Global, queues: &[WantedQueue]) -> Result<Vec<Layout>, Allo
 
 /// The specifications of units.
 fn specs_of(alloc: Global, units: &[WantedUnit]) -> Result<Vec<UnitSpec>, AllocError>
-    ensures { IfOk result (λ specs. specs.items ≡ map unit_of units.now) }
+    ensures { IfOk result (λ specs. specs.items ≡ map spec_of units.now) }
 {
     units.iter().map(|unit| unit.spec()).collect(alloc)
 }

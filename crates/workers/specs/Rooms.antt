@@ -4,6 +4,6 @@ use Rattle.std.specs.Vec.{vec_capacity}
 use Rattle.workers.specs.declared.kept.Kept.{Kept}
 
 -- own: one receipt more finds room, and one note more
-pub record HasRoom (k : Kept) : Type 0 where
+pub record HasRoomForOne (k : Kept) : Type 0 where
   pub receipts : vec_len k.receipts < vec_capacity k.receipts
   pub notes : vec_len k.notes < vec_capacity k.notes

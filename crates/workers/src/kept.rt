@@ -4,7 +4,7 @@ ghost use Rattle.std.specs.Prelude.{◌≡◌, ◌<◌, vec_len};
 ghost use Rattle.std.specs.Bool.{OnTrue};
 ghost use Rattle.std.specs.Vec.{vec_capacity};
 ghost use Rattle.workers.specs.Keeping.{has_long, shortened, KeepsReceipt, KeepsGiven};
-ghost use Rattle.workers.specs.Rooms.{HasRoom};
+ghost use Rattle.workers.specs.Rooms.{HasRoomForOne};
 
 use phases::{Given, Note};
 use std::alloc::Global;
@@ -62,7 +62,7 @@ impl Kept {
     /// Whether there is room for what so many more requests leave: not where a growth was refused.
     pub(crate) fn make_room(&mut self, requests: usize) -> bool
         requires some { 0 < requests }
-        ensures { OnTrue result (HasRoom self.new) }
+        ensures { OnTrue result (HasRoomForOne self.new) }
     {
         let Ok(()) = self.receipts.reserve(requests) else {
             return false;
@@ -75,7 +75,7 @@ impl Kept {
 
     /// Keeps what a request left, for which there is room.
     pub(crate) fn keep(&mut self, given: Given)
-        requires { HasRoom self.old }
+        requires { HasRoomForOne self.old }
         ensures { KeepsGiven self.old given self.new }
     {
         match given {

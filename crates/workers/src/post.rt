@@ -3,7 +3,7 @@
 ghost use Rattle.std.specs.Prelude.{◌≡◌, IfOk};
 ghost use Rattle.handoff.specs.Seats.{IsSeatOf, IsSameSeat};
 ghost use Rattle.std.specs.Bool.{OnTrue};
-ghost use Rattle.workers.specs.Rooms.{HasRoom};
+ghost use Rattle.workers.specs.Rooms.{HasRoomForOne};
 
 use crate::hired::Begins;
 use crate::kept::Kept;
@@ -75,7 +75,7 @@ pub(crate) fn commit<R: Wait, G: Gate + Drop>(rt: &R, shared: &Shared<G>, post: 
 
 /// The job in the hand whose commit is over is answered, where one is, and what it leaves is kept.
 fn answer<R: Wait, G: Gate + Drop>(rt: &R, shared: &Shared<G>, post: &mut Post)
-    requires room { HasRoom post.old.kept }
+    requires room { HasRoomForOne post.old.kept }
     ensures seat { post.new.seat ≡ post.old.seat }
 {
     let Some(queue) = post.hand.answering_queue() else {
@@ -125,7 +125,7 @@ impl Post {
     /// Whether there is room for what the jobs in its list and in its hand leave, and one more request: not where a growth
     /// was refused.
     pub(crate) fn make_room(&mut self) -> bool
-        ensures room { OnTrue result (HasRoom self.new.kept) }
+        ensures room { OnTrue result (HasRoomForOne self.new.kept) }
         ensures seat { self.new.seat ≡ self.old.seat }
     {
         self.kept.make_room(self.out.len().saturating_add(2))
@@ -135,7 +135,7 @@ impl Post {
 /// What is in the hand is committed, answered and leaves, as far as it has come. Room for what it leaves was made
 /// before.
 fn serve<R: Wait, G: Gate + Drop>(rt: &R, shared: &Shared<G>, post: &mut Post)
-    requires room { HasRoom post.old.kept }
+    requires room { HasRoomForOne post.old.kept }
     ensures seat { post.new.seat ≡ post.old.seat }
 {
     commit(rt, shared, post);

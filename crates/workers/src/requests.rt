@@ -2,7 +2,7 @@
 
 ghost use Rattle.std.specs.Prelude.{◌≡◌, ◌<◌, vec_len};
 ghost use Rattle.handoff.specs.Seats.{IsSeatOf, IsSameSeat};
-ghost use Rattle.workers.specs.Rooms.{HasRoom};
+ghost use Rattle.workers.specs.Rooms.{HasRoomForOne};
 
 use crate::post::{Post, clear, commit, is_long, serve_hand, take_own};
 use crate::shared::Shared;
@@ -49,7 +49,7 @@ fn direct<R: Wait, G: Gate + Drop>(
     post: &mut Post,
 )
     requires at { at < vec_len shared.now.queues }
-    requires room { HasRoom post.old.kept }
+    requires room { HasRoomForOne post.old.kept }
     ensures seat { post.new.seat ≡ post.old.seat }
 {
     if slot.is_empty() {

@@ -1,4 +1,4 @@
-use Rattle.interleavings.specs.Told.{NoneIsLost}
+use Rattle.interleavings.specs.Happened.{NoneIsLost}
 use Rattle.interleavings.proofs.Traces.{in_run}
 use Rattle.interleavings.proofs.Knowing.{none_is_lost}
 use Rattle.interleavings.proofs.laws.none_is_lost.Goals as goal

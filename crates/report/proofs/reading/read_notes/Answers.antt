@@ -4,7 +4,7 @@ use Rattle.std.specs.Option.{option_map}
 use Rattle.ring_core.specs.declared.log.Ticket.{Ticket}
 use Rattle.phases.specs.Notes.{PlainNote}
 use Rattle.report.specs.declared.tally.Answer.TheVariants as answer
-use Rattle.report.specs.declared.tally.Mark.TheVariants as mark
+use Rattle.report.specs.declared.tally.Fact.TheVariants as fact
 use Rattle.report.specs.declared.tally.Tally.{Tally}
 use Rattle.report.specs.Closed.{IsFirst}
 use Rattle.report.specs.Sources.{stray, stray_one}
@@ -28,8 +28,8 @@ loop-note-preserved c =
           fold_step (with_note t) xs c.loop-note.note-index d c.loop-note-test.true (tally_at c.args.tables.now.tables.items t) (tally_at c.loop-note.tables.tables.items t) (tally_at c.mark-known.new.self.tables.items t)
           (c.loop-note.invariant.tallied t)
           (c.mark-known.ensures.marks t
-          ∙ ap (λ (u : Ticket). option_map (marking u (mark.Answered (answer.Note c.cause.result)) t) (tally_at c.loop-note.tables.tables.items t)) c.ticket-ticket.ensures
-          ∙ ap (λ w. option_map (marking c.note-item.result.ticket (mark.Answered (answer.Note w)) t) (tally_at c.loop-note.tables.tables.items t)) c.cause.ensures
+          ∙ ap (λ (u : Ticket). option_map (marking u (fact.Answered (answer.Note c.cause.result)) t) (tally_at c.loop-note.tables.tables.items t)) c.ticket-ticket.ensures
+          ∙ ap (λ w. option_map (marking c.note-item.result.ticket (fact.Answered (answer.Note w)) t) (tally_at c.loop-note.tables.tables.items t)) c.cause.ensures
           ∙ ap (λ (z : PlainNote). option_map (λ (s : Tally). with_note t s z) (tally_at c.loop-note.tables.tables.items t)) c.note-item.is);
       strays =
           subst (λ (r : Option Ticket). IsFirst (stray (λ (z : PlainNote). z.ticket) c.args.tables.now.tables.items (take (c.loop-note.note-index + 1) xs)) r) (sym last)

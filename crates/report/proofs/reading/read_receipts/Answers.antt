@@ -4,7 +4,7 @@ use Rattle.std.specs.Option.{option_map}
 use Rattle.ring_core.specs.declared.log.Ticket.{Ticket}
 use Rattle.history.specs.Receipts.{Receipt}
 use Rattle.report.specs.declared.tally.Answer.TheVariants as answer
-use Rattle.report.specs.declared.tally.Mark.TheVariants as mark
+use Rattle.report.specs.declared.tally.Fact.TheVariants as fact
 use Rattle.report.specs.declared.tally.Tally.{Tally}
 use Rattle.report.specs.Closed.{IsFirst}
 use Rattle.report.specs.Sources.{stray, stray_one}
@@ -28,7 +28,7 @@ loop-receipt-preserved c =
           fold_step (with_receipt t) xs c.loop-receipt.receipt-index d c.loop-receipt-test.true (tally_at c.args.tables.now.tables.items t) (tally_at c.loop-receipt.tables.tables.items t) (tally_at c.mark-known.new.self.tables.items t)
           (c.loop-receipt.invariant.tallied t)
           (c.mark-known.ensures.marks t
-          ∙ ap (λ (u : Ticket). option_map (marking u (mark.Answered answer.Receipt) t) (tally_at c.loop-receipt.tables.tables.items t)) c.ticket-ticket.ensures
+          ∙ ap (λ (u : Ticket). option_map (marking u (fact.Answered answer.Receipt) t) (tally_at c.loop-receipt.tables.tables.items t)) c.ticket-ticket.ensures
           ∙ ap (λ (z : Receipt). option_map (λ (s : Tally). with_receipt t s z) (tally_at c.loop-receipt.tables.tables.items t)) c.receipt-item.is);
       strays =
           subst (λ (r : Option Ticket). IsFirst (stray (λ (z : Receipt). z.ticket) c.args.tables.now.tables.items (take (c.loop-receipt.receipt-index + 1) xs)) r) (sym last)

@@ -1,8 +1,8 @@
 use Rattle.std.proofs.Common.{ap, sym, ◌∙◌, List, Option, arith}
 use Rattle.std.specs.Option.{option_map}
 use Rattle.history.specs.Steps.{Step}
-use Rattle.report.specs.declared.tally.Told.{Told}
-use Rattle.report.specs.Tallies.{read, tells, told_by_one, tally_at}
+use Rattle.report.specs.declared.tally.TicketFact.{TicketFact}
+use Rattle.report.specs.Tallies.{read, tells, fact_of_one, tally_at}
 use Rattle.report.proofs.Slots.{map_same}
 use Rattle.report.proofs.Folding.{all_oldest, none_oldest, unit_step}
 use Rattle.report.proofs.reading.read_unit.Goals as goal
@@ -18,7 +18,7 @@ loop-place-preserved c = λ t.
     (tally_at c.args.tables.now.tables.items t) (tally_at c.loop-place.tables.tables.items t) _
     (c.loop-place.invariant t)
     (c.tell.ensures t
-    ∙ ap (λ (w : Option Told). option_map (tells w t) (tally_at c.loop-place.tables.tables.items t)) (c.told_by_one.ensures ∙ ap told_by_one c.step.ensures))
+    ∙ ap (λ (w : Option TicketFact). option_map (tells w t) (tally_at c.loop-place.tables.tables.items t)) (c.fact_of_one.ensures ∙ ap fact_of_one c.step.ensures))
 
 pub returns : goal.returns
 returns c = λ t.

@@ -14,35 +14,35 @@ came (Happening.Raised e ∷ past) = came past
 came (Happening.Came c ∷ past) = came past ++ c ∷ []
 
 -- the events that the driver was told, oldest first, and whether it is to be told that one was missed
-pub record Told : Type 0 where
+pub record Reported : Type 0 where
   pub events : List Event
   pub missed : Bool
 
 -- an event is told where a buffer is left for it, and else missed
-abbrev pub raising : Bool → Event → List Event → Bool → Told
+abbrev pub raising : Bool → Event → List Event → Bool → Reported
 raising true e events missed = record { events = events ++ e ∷ []; missed = missed }
 raising false e events missed = record { events = events; missed = true }
 
 -- the first buffer behind a miss tells it
-abbrev pub coming : Bool → List Event → Told
+abbrev pub coming : Bool → List Event → Reported
 coming true events = record { events = events ++ missed_event ∷ []; missed = false }
 coming false events = record { events = events; missed = false }
 
-abbrev pub told : List Happening → Told
-told [] = record { events = []; missed = false }
-told (Happening.Raised e ∷ past) =
-    raising (nat_lt (length (told past).events) (length (came past))) e (told past).events (told past).missed
-told (Happening.Came c ∷ past) = coming (told past).missed (told past).events
+abbrev pub reported : List Happening → Reported
+reported [] = record { events = []; missed = false }
+reported (Happening.Raised e ∷ past) =
+    raising (nat_lt (length (reported past).events) (length (came past))) e (reported past).events (reported past).missed
+reported (Happening.Came c ∷ past) = coming (reported past).missed (reported past).events
 
 -- the first buffers have got the events that were told, and the others are held
 abbrev pub given_of : List Happening → List Gift
-given_of past = zip (came past) (map (λ (e : Event). event_bytes e) (told past).events)
+given_of past = zip (came past) (map (λ (e : Event). event_bytes e) (reported past).events)
 
 abbrev pub held_of : List Happening → List PlainChain
-held_of past = drop (length (told past).events) (came past)
+held_of past = drop (length (reported past).events) (came past)
 
 abbrev pub missed_of : List Happening → Bool
-missed_of past = (told past).missed
+missed_of past = (reported past).missed
 
 -- The port, call by call
 

@@ -9,9 +9,9 @@ use Rattle.deeds.specs.Parts.{PlainFetch}
 use Rattle.deeds.specs.Deeds.{Deed}
 
 -- some deed of them is so
-abbrev pub Told : (Deed → Type 0) → List Deed → Type 0
-Told P [] = ⊥
-Told P (d ∷ past) = P d ⊎ Told P past
+abbrev pub Happened : (Deed → Type 0) → List Deed → Type 0
+Happened P [] = ⊥
+Happened P (d ∷ past) = P d ⊎ Happened P past
 
 -- the deeds up to one of them
 abbrev pub IsBeginning : List Deed → List Deed → Type 0
@@ -92,4 +92,4 @@ IsLoss d = ⊥
 
 -- none of these happens
 abbrev pub NoneIsLost : List Deed → Type 0
-NoneIsLost ds = Told IsLoss ds → ⊥
+NoneIsLost ds = Happened IsLoss ds → ⊥
