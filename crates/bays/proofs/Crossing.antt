@@ -16,14 +16,14 @@ use Rattle.ring_core.proofs.chain.Spare.TheSendSync as spare
 use Rattle.std.proofs.Crossing.{crosses}
 use Rattle.std.proofs.option.Option.TheSendSync as option
 use Rattle.unit_history.proofs.kind.StepKind.TheSendSync as kind
-use Rattle.block_commands.proofs.reply.Reply.TheSendSync as reply
+use Rattle.replies.proofs.reply.Reply.TheSendSync as reply
 use Rattle.split_ring.specs.contracts.ring.SplitRing.{the_row as split_row}
 use Rattle.split_ring.specs.contracts.ring.SplitRing.TheInside as split
 use Rattle.packed_ring.specs.contracts.ring.PackedRing.{the_row as packed_row}
 use Rattle.packed_ring.specs.contracts.ring.PackedRing.TheInside as packed
-use Rattle.phases.specs.contracts.any_ring.AnyRing.{the_field as ring_field, the_type as ring_type}
-use Rattle.phases.specs.contracts.queue.Queue.{the_row as queue_row}
-use Rattle.phases.specs.contracts.queue.Queue.TheInside as queue
+use Rattle.queues.specs.contracts.any_ring.AnyRing.{the_field as ring_field, the_type as ring_type}
+use Rattle.queues.specs.contracts.queue.Queue.{the_row as queue_row}
+use Rattle.queues.specs.contracts.queue.Queue.TheInside as queue
 use Rattle.arrayvec.proofs.array_vec.ArrayVec.TheSendSync as array_vec
 use Rattle.unit_history.specs.contracts.log.StepLog.{the_row as steps_row}
 use Rattle.unit_history.specs.contracts.log.StepLog.TheInside as steps

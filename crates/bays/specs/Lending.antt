@@ -3,7 +3,7 @@ use Rattle.std.specs.Prelude.{◌≡◌, ◌≤◌}
 use Rattle.std.specs.Borrow.{MutBor}
 use Rattle.std.specs.Fn.{Once}
 use Rattle.ring_core.specs.Sound.{IsSound, outstanding_count}
-use Rattle.phases.specs.Queue.{Lent}
+use Rattle.queues.specs.Queue.{Lent}
 
 -- own: what every queue is: its log is lawful, with which what is outstanding agrees, and no more is than it has
 -- descriptors

@@ -2,7 +2,8 @@
 //! memory that were lent and came back.
 
 ghost use Rattle.std.specs.Prelude.{◌≡◌, ◌<◌, List, ℕ, length, is_some, IfSome, Some};
-ghost use Rattle.phases.specs.Queue.{Lent, with_slot};
+ghost use Rattle.queues.specs.Queue.{Lent};
+ghost use Rattle.phases.specs.Queue.{with_slot};
 ghost use Rattle.phases.specs.Parts.{slot_of, hand_of};
 ghost use Rattle.phases.specs.Fetching.{FetchesRequest, FetchesControl};
 ghost use Rattle.phases.specs.Answering.{Directs, Answers, Responds};
@@ -14,9 +15,10 @@ use block_store::NoMemory;
 use decisions::Inventory;
 use event_queue::{EventPort, WaitingEvents};
 use phases::{
-    Given, Hand, Note, OpenFunction, Slot, phase_answer, phase_answer_tmf, phase_direct,
-    phase_fetch, phase_fetch_control, phase_fetch_event, phase_raise,
+    Hand, OpenFunction, Slot, phase_answer, phase_answer_tmf, phase_direct, phase_fetch,
+    phase_fetch_control, phase_fetch_event, phase_raise,
 };
+use unit_history::{Given, Note};
 
 /// A request queue takes its next chain (`phase_fetch`), in one hold of it and of the memory. The queue's owner calls.
 /// Whether something changed, or `NoMemory` as of the phase.

@@ -3,11 +3,11 @@
 ghost use Rattle.std.specs.Prelude.{◌≡◌, ◌<◌, List, ℕ};
 ghost use Rattle.std.specs.Fn.{FnOnceReturnsAtMut};
 ghost use Rattle.unit_history.specs.Unit.{PlainUnit};
-ghost use Rattle.phases.specs.Queue.{Lent};
+ghost use Rattle.queues.specs.Queue.{Lent};
 ghost use Rattle.bays.specs.Lending.{OnceAtThree, OnceAtFour};
 
 use guest_mem::GuestMem;
-use phases::Queue;
+use queues::Queue;
 use unit_history::UnitState;
 
 /// What has the units, the queues and the memory of a device, and lends one unit, or one queue with the memory, or the

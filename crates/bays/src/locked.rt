@@ -7,7 +7,7 @@ ghost use Rattle.bays.specs.Lending.{IsQueue};
 use crate::holding::hold;
 use crate::lend::Bays;
 use guest_mem::GuestMem;
-use phases::Queue;
+use queues::Queue;
 use std::sync::{Mutex, Wait};
 use unit_history::UnitState;
 

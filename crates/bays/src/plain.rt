@@ -4,7 +4,7 @@ ghost use Rattle.std.specs.Prelude.{◌≡◌, Some, slice_get, slice_set, lengt
 
 use crate::lend::Bays;
 use guest_mem::GuestMem;
-use phases::Queue;
+use queues::Queue;
 use unit_history::UnitState;
 
 /// The parts of a device that one thread has: what is lent is what stands there, and what comes back stands there then.

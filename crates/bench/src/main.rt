@@ -1,18 +1,27 @@
-//! `bench KIND RING DEPTH ROUNDS` has a guest make DEPTH requests available at once, ROUNDS times, and the device serve
-//! them each time; it prints how many there were and what one took. With `csv` behind it the same stands in one line.
-//! Without words it serves a few rounds of each kind on each ring, and prints how many requests ended well.
+//! `bench KIND RING DEPTH ROUNDS` has a guest make DEPTH requests available at once on a queue, ROUNDS times, and the
+//! device of one thread serve them each time; it prints how many requests ended well, and how many nanoseconds all took.
+//! With WORKERS behind these words the guest does so on each of two queues, those of each for a unit of its own, and a
+//! host of so many workers serves them; with 0 of them the device of one thread. Without words it serves a few rounds of
+//! each kind on each ring, by one thread and by two workers, and prints how many requests ended well.
 #![tactic(auto)]
 
-mod guest;
+mod device;
+mod failure;
+mod one_queue;
+mod places;
+mod requests;
 mod telling;
+mod two_queues;
 mod words;
 mod work;
 
 use std::env;
 use std::process::ExitCode;
 use std::rt::{Clock, Env};
+use std::sync::Wait;
+use std::thread::Threads;
 use telling::{tell, tell_all};
-use words::work_of;
+use words::asked;
 
 /// Does what the words name. Ends with status 0, or 1 where a request wasn't answered well, 2 where the words name
 /// no work, 3 for want of memory, 4 where there is no clock or standard output fails.
@@ -21,7 +30,9 @@ fn main(rt: HostRuntime) -> ExitCode {
 }
 
 /// The exit status.
-fn status<R: Env + Clock + Print + AllocGlobal>(rt: &R) -> u8 {
+fn status<R: Env + Clock + Threads + Wait + Print + AllocGlobal + Copy + Send + 'static>(
+    rt: &R,
+) -> u8 {
     let Ok(words) = env::args(rt) else {
         return 2;
     };
@@ -31,16 +42,10 @@ fn status<R: Env + Clock + Print + AllocGlobal>(rt: &R) -> u8 {
     };
     match words.as_slice() {
         [_] => tell_all(rt),
-        [_, kind, form, depth, rounds] => match work_of(kind, form, depth, rounds) {
-            Some(work) => tell(rt, &work, false),
+        [_, rest @ ..] => match asked(rest) {
+            Some(work) => tell(rt, &work),
             None => 2,
         },
-        [_, kind, form, depth, rounds, last] if last.as_str() == "csv" => {
-            match work_of(kind, form, depth, rounds) {
-                Some(work) => tell(rt, &work, true),
-                None => 2,
-            }
-        }
-        _ => 2,
+        [] => 2,
     }
 }

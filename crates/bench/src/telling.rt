@@ -1,17 +1,22 @@
 //! What is printed.
 
-use crate::guest::{Failure, Guest};
-use crate::work::{KINDS, Kind, Work};
+use crate::device::{Alone, Hosted};
+use crate::failure::Failure;
+use crate::work::{KINDS, Kind, OF_TWO_QUEUES, Work};
+use crate::{one_queue, two_queues};
 use ring_core::Form;
 use std::alloc::Global;
-use std::io;
 use std::rt::Clock;
+use std::sync::Wait;
+use std::thread::Threads;
 use std::time::{Duration, Instant};
 
-/// The depth and the rounds of which all kinds are served where no words say more.
+/// The depth, the rounds and the workers of which all kinds are served where no words say more.
 const DEPTH: u16 = 4;
 
 const ROUNDS: u64 = 3;
+
+const WORKERS: u16 = 2;
 
 /// The word that names a form.
 fn word_of(form: Form) -> &'static str {
@@ -29,85 +34,129 @@ fn status_of(failure: Failure) -> u8 {
     }
 }
 
-/// Serves all rounds: how many requests ended well.
-fn serve_rounds(guest: &mut Guest, rounds: u64) -> Result<u64, Failure> {
-    for round in 0..rounds {
-        guest.serve(round)?;
-    }
-    Ok(guest.served())
+/// How many requests ended well, and how long all took, where there is a clock.
+#[derive(Drop)]
+struct Done {
+    good: u64,
+    took: Option<Duration>,
 }
 
-/// So many units for each of a number of things; 0 of none.
-fn each(total: u128, number: u128) -> u128 {
-    if number == 0 { 0 } else { total / number }
+/// How long it is since a moment.
+fn elapsed<R: Clock>(rt: &R, start: Option<Instant>) -> Option<Duration> {
+    start?.elapsed(rt).ok()
 }
 
-/// Prints how many requests there were, and what one took.
-fn print_times<R: Print>(rt: &R, work: &Work, took: Duration, csv: bool) -> io::Result<()> {
-    let requests = (work.rounds as u128) * work.depth as u128;
-    let nanoseconds = each(took.as_nanos(), requests);
-    let bytes = match work.kind {
-        Kind::None | Kind::Ready | Kind::Mixed => 0,
-        _ => 512 * work.kind.blocks() as u128,
+/// Has the device of one thread serve the guest with one queue.
+fn serve_one_queue<R: Clock>(rt: &R, alloc: Global, work: &Work) -> Result<Done, Failure> {
+    let guest = one_queue::Guest::new(alloc, work)?;
+    let start = Instant::now(rt).ok();
+    let good = guest.serve()?;
+    Ok(Done {
+        good,
+        took: elapsed(rt, start),
+    })
+}
+
+/// Has the device of one thread serve the guest with two queues.
+fn serve_alone<R: Clock>(rt: &R, alloc: Global, work: &Work) -> Result<Done, Failure> {
+    let mut device = Alone::new(alloc, work)?;
+    let guest = two_queues::Guest::new(alloc, &mut device, work)?;
+    let start = Instant::now(rt).ok();
+    let good = guest.serve(&mut device)?;
+    Ok(Done {
+        good,
+        took: elapsed(rt, start),
+    })
+}
+
+/// Has a host of so many workers serve the guest with two queues, and closes it.
+fn serve_hosted<R: Clock + Threads + Wait + Copy + Send + 'static>(
+    rt: &R,
+    alloc: Global,
+    work: &Work,
+    workers: u16,
+) -> Result<Done, Failure> {
+    let mut device = Hosted::new(rt, alloc, work, workers)?;
+    let guest = two_queues::Guest::new(alloc, &mut device, work);
+    let start = Instant::now(rt).ok();
+    let good = match guest {
+        Ok(guest) => guest.serve(&mut device),
+        Err(_) => Err(Failure::NoMemory),
     };
-    let speed = each(bytes * 1_000_000_000, nanoseconds);
-    let (kind, form) = (work.kind.word(), word_of(work.form));
-    if csv {
-        let depth = work.depth;
-        return println!(rt; "{kind},{form},{depth},{requests},{nanoseconds},{speed}");
+    let took = elapsed(rt, start);
+    if !device.close() {
+        return Err(Failure::NotServed);
     }
-    println!(rt; "requests: {requests}")?;
-    println!(rt; "nanoseconds a request: {nanoseconds}")?;
-    println!(rt; "bytes a second: {speed}")
+    Ok(Done { good: good?, took })
 }
 
-/// Does some work, and prints what it took: the exit status.
-pub(crate) fn tell<R: Clock + Print + AllocGlobal>(rt: &R, work: &Work, csv: bool) -> u8 {
-    let mut guest = match Guest::new(rt.alloc(), work) {
-        Ok(guest) => guest,
+/// Does some work.
+fn serve<R: Clock + Threads + Wait + AllocGlobal + Copy + Send + 'static>(
+    rt: &R,
+    work: &Work,
+) -> Result<Done, Failure> {
+    match work.workers {
+        None => serve_one_queue(rt, rt.alloc(), work),
+        Some(0) => serve_alone(rt, rt.alloc(), work),
+        Some(workers) => serve_hosted(rt, rt.alloc(), work, workers),
+    }
+}
+
+/// Does some work, and prints how many requests ended well and how many nanoseconds all took: the exit status.
+pub(crate) fn tell<R: Clock + Threads + Wait + Print + AllocGlobal + Copy + Send + 'static>(
+    rt: &R,
+    work: &Work,
+) -> u8 {
+    let Done { good, took } = match serve(rt, work) {
+        Ok(done) => done,
         Err(failure) => return status_of(failure),
     };
-    let Ok(start) = Instant::now(rt) else {
+    let Some(took) = took else {
         return 4;
     };
-    if let Err(failure) = serve_rounds(&mut guest, work.rounds) {
-        return status_of(failure);
-    }
-    let Ok(took) = start.elapsed(rt) else {
-        return 4;
-    };
-    if print_times(rt, work, took, csv).is_err() {
+    if println!(rt; "{good} requests in {} ns", took.as_nanos()).is_err() {
         return 4;
     }
     0
 }
 
-/// Serves a few rounds of a kind: how many requests ended well.
-fn count(alloc: Global, kind: Kind, form: Form) -> Result<u64, Failure> {
-    let work = Work {
-        kind,
-        form,
-        depth: DEPTH,
-        rounds: ROUNDS,
-    };
-    let mut guest = Guest::new(alloc, &work)?;
-    serve_rounds(&mut guest, ROUNDS)
-}
-
-/// Serves a few rounds of each kind on each ring, and prints how many requests ended well: the exit status.
-pub(crate) fn tell_all<R: Print + AllocGlobal>(rt: &R) -> u8 {
+/// Serves a few rounds of some kinds on each ring, and prints how many requests ended well: the exit status.
+fn tell_each<R: Clock + Threads + Wait + Print + AllocGlobal + Copy + Send + 'static>(
+    rt: &R,
+    who: &str,
+    kinds: &[Kind],
+    workers: Option<u16>,
+) -> u8 {
     for form in [Form::Split, Form::Packed] {
-        for kind in KINDS {
-            match count(rt.alloc(), kind, form) {
-                Ok(good) => {
-                    let (kind, form) = (kind.word(), word_of(form));
-                    if println!(rt; "{kind} {form}: {good}").is_err() {
-                        return 4;
-                    }
-                }
+        for kind in kinds {
+            let work = Work {
+                kind: *kind,
+                form,
+                depth: DEPTH,
+                rounds: ROUNDS,
+                workers,
+            };
+            let Done { good, .. } = match serve(rt, &work) {
+                Ok(done) => done,
                 Err(failure) => return status_of(failure),
+            };
+            let (kind, form) = (kind.word(), word_of(form));
+            if println!(rt; "{who}, {kind} {form}: {good}").is_err() {
+                return 4;
             }
         }
     }
     0
+}
+
+/// Serves a few rounds of each kind on each ring, by one thread and by workers, and prints how many requests ended
+/// well: the exit status.
+pub(crate) fn tell_all<R: Clock + Threads + Wait + Print + AllocGlobal + Copy + Send + 'static>(
+    rt: &R,
+) -> u8 {
+    let status = tell_each(rt, "one thread", &KINDS, None);
+    if status != 0 {
+        return status;
+    }
+    tell_each(rt, "two workers", &OF_TWO_QUEUES, Some(WORKERS))
 }

@@ -1,17 +1,17 @@
-//! What the guest asks for.
+//! What is to be done: kinds of requests, and how often.
 
 use ring_core::Form;
 
 /// The most requests that are outstanding at once.
-pub const MOST_DEPTH: u16 = 256;
+pub(crate) const MOST_DEPTH: u16 = 256;
 
 /// The bytes of a request before its data, and of a response before its data (VIRTIO 1.2, 5.6.6.1).
-pub const REQUEST_BYTES: u32 = 51;
+pub(crate) const REQUEST_BYTES: u32 = 51;
 
-pub const RESPONSE_BYTES: u32 = 108;
+pub(crate) const RESPONSE_BYTES: u32 = 108;
 
 /// The blocks of 64 KiB.
-const LARGE: u16 = 128;
+pub(crate) const LARGE: u16 = 128;
 
 /// What each request does.
 #[derive(Clone, Copy, Debug, PartialEq, Eq)]
@@ -34,8 +34,8 @@ pub enum Kind {
     Mixed,
 }
 
-/// All kinds, in the order in which they are told.
-pub const KINDS: [Kind; 8] = [
+/// All kinds, in the order in which they are told: those of the guest with one queue.
+pub(crate) const KINDS: [Kind; 8] = [
     Kind::None,
     Kind::Ready,
     Kind::Read512,
@@ -44,6 +44,15 @@ pub const KINDS: [Kind; 8] = [
     Kind::Write64k,
     Kind::CompareAndWrite,
     Kind::Mixed,
+];
+
+/// Those of the guest with two queues.
+pub(crate) const OF_TWO_QUEUES: [Kind; 5] = [
+    Kind::Ready,
+    Kind::Read512,
+    Kind::Write512,
+    Kind::Read64k,
+    Kind::Write64k,
 ];
 
 impl Kind {
@@ -64,6 +73,7 @@ impl Kind {
     /// How many blocks one request covers at most.
     pub(crate) fn blocks(self) -> u16 {
         match self {
+            Kind::None | Kind::Ready => 0,
             Kind::Read64k | Kind::Write64k => LARGE,
             _ => 1,
         }
@@ -77,80 +87,11 @@ pub struct Work {
     pub kind: Kind,
     /// The form of the queues.
     pub form: Form,
-    /// How many requests are made available at once: a power of two, at most `MOST_DEPTH`.
+    /// How many requests are made available at once on a queue: a power of two, at most `MOST_DEPTH`.
     pub depth: u16,
     /// How often.
     pub rounds: u64,
-}
-
-/// A request as the guest lays it out.
-#[derive(Clone, Copy, Debug)]
-pub struct Request {
-    /// The LUN of its unit; the target is 0.
-    pub lun: u8,
-    /// SIMPLE 0, ORDERED 1, HEAD OF QUEUE 2.
-    pub attribute: u8,
-    /// Its CDB.
-    pub cdb: [u8; 16],
-    /// The bytes of its data to and from the device.
-    pub sent: u32,
-    pub taken: u32,
-}
-
-/// A command block with an opcode, a first block and a number of blocks, each of them as READ (10) and WRITE (10)
-/// have them.
-fn short_cdb(opcode: u8, first: u16, blocks: u16) -> [u8; 16] {
-    let mut cdb = [0; 16];
-    cdb[0] = opcode;
-    cdb[4..6].copy_from_slice(&first.to_be_bytes());
-    cdb[7..9].copy_from_slice(&blocks.to_be_bytes());
-    cdb
-}
-
-/// COMPARE AND WRITE of one block.
-fn compare_cdb(first: u16) -> [u8; 16] {
-    let mut cdb = [0; 16];
-    cdb[0] = 0x89;
-    cdb[8..10].copy_from_slice(&first.to_be_bytes());
-    cdb[13] = 1;
-    cdb
-}
-
-/// A SIMPLE request on the first unit.
-fn simple(cdb: [u8; 16], sent: u32, taken: u32) -> Request {
-    Request {
-        lun: 0,
-        attribute: 0,
-        cdb,
-        sent,
-        taken,
-    }
-}
-
-/// One of the requests that are mixed.
-fn mixed(number: u16) -> Request {
-    let request = match number % 3 {
-        0 => simple(short_cdb(0x28, number, 1), 0, 512),
-        1 => simple(short_cdb(0x2a, number, 1), 512, 0),
-        _ => simple([0; 16], 0, 0),
-    };
-    Request {
-        lun: (number % 2) as u8,
-        attribute: (number / 2 % 3) as u8,
-        ..request
-    }
-}
-
-/// The request with this number of those that are made available at once. Each has blocks of its own.
-pub(crate) fn request_of(kind: Kind, number: u16) -> Request {
-    let first = number.wrapping_mul(kind.blocks());
-    match kind {
-        Kind::None | Kind::Ready => simple([0; 16], 0, 0),
-        Kind::Read512 => simple(short_cdb(0x28, first, 1), 0, 512),
-        Kind::Write512 => simple(short_cdb(0x2a, first, 1), 512, 0),
-        Kind::Read64k => simple(short_cdb(0x28, first, LARGE), 0, 65536),
-        Kind::Write64k => simple(short_cdb(0x2a, first, LARGE), 65536, 0),
-        Kind::CompareAndWrite => simple(compare_cdb(first), 1024, 0),
-        Kind::Mixed => mixed(number),
-    }
+    /// Nothing where a guest with one queue is served by the device of one thread. Else the guest has two queues, and
+    /// these are the workers that serve it, 1 to 8; with none of them the device of one thread does.
+    pub workers: Option<u16>,
 }

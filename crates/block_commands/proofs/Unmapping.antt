@@ -1,14 +1,14 @@
 -- An UNMAP by the tests on its list.
 use Rattle.std.proofs.Common.{◌≡◌, ℕ, ◌≤◌, true, false, Bool, List, [], ◌∷◌, length, drop, if◌then◌else◌, refl, ◌∙◌, Err, arith, eqb, ltb, IsTrue, rules, None, inl, inr}
 use Rattle.std.proofs.lemmas.Bool.Decides.{nat_tests, eqb_tells}
-use Rattle.block_commands.specs.PlainReply.{replied}
+use Rattle.replies.specs.PlainReply.{replied}
+use Rattle.replies.specs.Statuses.{good}
 use Rattle.block_commands.proofs.Ranges.{reported-good}
 use Rattle.std.specs.Prelude.{◌||◌, ◌&&◌, nat_lt}
 use Rattle.sense.specs.Conditions.{parameter_list_length_error, lba_out_of_range, invalid_field_in_parameter_list}
 use Rattle.cdb.specs.declared.commands.Command.TheVariants.{Unmap}
 use Rattle.block_store.specs.Blocks.{Blocks}
 use Rattle.block_commands.specs.Facts.{Facts}
-use Rattle.block_commands.specs.Statuses.{good}
 use Rattle.block_commands.specs.Replies.{done, unmap_answer, reply_of}
 use Rattle.block_commands.specs.UnmapList.{descriptors, descriptors_in, descriptor_count, blocks_named, are_in_range}
 use Rattle.block_commands.proofs.Descriptors.{length-descriptors_in}

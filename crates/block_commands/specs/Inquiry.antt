@@ -1,27 +1,14 @@
--- The data of INQUIRY: the standard data, SPC-4 §6.6.2, and the pages of vital product data, SPC-4
+-- The data of INQUIRY: the standard data, and the pages of vital product data, SPC-4
 -- §7.8 and SBC-3 §6.6.
 use Rattle.std.specs.Prelude.{ℕ, ◌+◌, ◌/◌, ◌%◌, ◌^◌, List, [], ◌∷◌, ◌++◌, map, replicate, codes}
 use Rattle.cdb.specs.declared.commands.InquiryData.{InquiryData}
 use Rattle.cdb.specs.declared.commands.InquiryData.TheVariants.{Standard, SupportedPages, SerialNumber, DeviceIdentification, BlockLimits, LogicalBlockProvisioning}
+use Rattle.replies.specs.StandardData.{standard_data, vendor}
 
--- byte 0, the peripheral qualifier and device type: a block device that is there, or none (SPC-4
--- §6.6.2)
+-- byte 0 of the standard data, the peripheral qualifier and device type: a block device that is there
+-- (SPC-4 §6.6.2)
 abbrev pub block_device : ℕ
 block_device = 0x00
-
-abbrev pub no_device : ℕ
-no_device = 0x7f
-
--- the T10 vendor identification, 8 bytes
-abbrev pub vendor : List ℕ
-vendor = codes "VSCSI   "
-
--- standard INQUIRY data with this byte 0, 36 bytes: version 06h (SPC-4), response data format 2, 31
--- more bytes, CMDQUE; the vendor, the product, its revision
-unfoldable pub standard_data : ℕ → List ℕ
-standard_data peripheral =
-    (peripheral ∷ 0x00 ∷ 0x06 ∷ 0x02 ∷ 0x1f ∷ 0x00 ∷ 0x00 ∷ 0x02 ∷ [])
-    ++ vendor ++ codes "TASK SET DISK   " ++ codes "0001"
 
 -- the decimal digit of a number at a place, as text; place 0 is the lowest
 abbrev pub digit : ℕ → ℕ → ℕ

@@ -1,8 +1,10 @@
 pub use Rattle.block_store.specs.Blocks
 pub use Rattle.cdb.specs.Need
+pub use Rattle.replies.specs.Data
+pub use Rattle.replies.specs.PlainReply
+pub use Rattle.replies.specs.Statuses
 pub use Rattle.sense.specs.Conditions
 pub use Rattle.sense.specs.Fixed
-pub mod Absent
 pub mod Attention
 pub mod Capacity
 pub mod Comparing
@@ -11,8 +13,6 @@ pub mod Facts
 pub mod Inquiry
 pub mod Luns
 pub mod Memory
-pub mod PlainReply
 pub mod Replies
-pub mod Statuses
 pub mod Steps
 pub mod UnmapList

@@ -1,29 +1,21 @@
 -- What a command is answered, by what the unit is told of itself, the data from the driver and the
 -- blocks before.
-use Rattle.std.specs.Prelude.{ℕ, ◌==◌, ◌||◌, nat_lt, List, [], length, take, Option, Some, None, Result, Ok, Err, if◌then◌else◌, unwrap_or}
+use Rattle.std.specs.Prelude.{ℕ, ◌==◌, ◌||◌, nat_lt, List, [], length, take, Option, Some, None, Ok, Err, if◌then◌else◌, unwrap_or}
 use Rattle.sense.specs.declared.Sense.{Sense}
 use Rattle.sense.specs.Conditions.{no_sense, parameter_list_length_error, invalid_opcode, lba_out_of_range, invalid_field_in_cdb, invalid_field_in_parameter_list, miscompare}
 use Rattle.sense.specs.Fixed.{fixed}
-use Rattle.cdb.specs.Need.{need_of}
 use Rattle.cdb.specs.declared.commands.Command.{Command}
 use Rattle.cdb.specs.declared.commands.Command.TheVariants.{TestUnitReady, RequestSense, Read, Write, Inquiry, ReadCapacity10, ReadCapacity16, SynchronizeCache, WriteSame, Unmap, CompareAndWrite, ReportLuns, Bad, Unknown}
 use Rattle.block_store.specs.Blocks.{Blocks, run}
+use Rattle.replies.specs.Data.{Answer}
+use Rattle.replies.specs.PlainReply.{PlainReply, refusal, replied}
 use Rattle.block_commands.specs.Attention.{met}
 use Rattle.block_commands.specs.Capacity.{is_in_range, capacity_10, capacity_16}
 use Rattle.block_commands.specs.Comparing.{to_compare, first_unequal}
 use Rattle.block_commands.specs.Facts.{Facts}
 use Rattle.block_commands.specs.Inquiry.{inquiry_data}
 use Rattle.block_commands.specs.Luns.{listed, lun_list}
-use Rattle.block_commands.specs.PlainReply.{PlainReply, refusal, replied}
 use Rattle.block_commands.specs.UnmapList.{descriptors, blocks_named, are_in_range}
-
--- the data that a command takes: so much of what the driver sent as it needs
-abbrev pub data_of : Command → List ℕ → List ℕ
-data_of command sent = take (need_of command).out sent
-
--- data to the driver, or the sense of a refusal
-abbrev pub Answer : Type 0
-Answer = Result (List ℕ) Sense
 
 -- no data
 abbrev pub done : Answer

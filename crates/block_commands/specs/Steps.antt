@@ -3,11 +3,12 @@ use Rattle.std.specs.Prelude.{ℕ, ◌≡◌, Bool, List, Result, Ok, Err, IsTru
 use Rattle.sense.specs.declared.Sense.{Sense}
 use Rattle.block_store.specs.declared.fault.NoMemory.{NoMemory}
 use Rattle.cdb.specs.declared.commands.Command.{Command}
-use Rattle.block_commands.specs.PlainReply.{plain_of, success, refusal}
-use Rattle.block_commands.specs.Replies.{Answer, done}
+use Rattle.replies.specs.Data.{Answer}
+use Rattle.replies.specs.PlainReply.{plain_of, success, refusal}
+use Rattle.replies.specs.declared.reply.Reply.{Reply}
+use Rattle.block_commands.specs.Replies.{done}
 use Rattle.block_commands.specs.declared.failure.Failure.{Failure}
 use Rattle.block_commands.specs.declared.failure.Failure.TheVariants.{Refused, WantOfMemory}
-use Rattle.block_commands.specs.declared.reply.Reply.{Reply}
 
 -- a part gives this answer, unless memory was refused; data is a list by `bytes`
 abbrev pub Gives : {T : Type 0} → (T → List ℕ) → Answer → Result T Failure → Type 0

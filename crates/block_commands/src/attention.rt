@@ -4,15 +4,10 @@ ghost use Rattle.std.specs.Prelude.{◌≡◌};
 ghost use Rattle.block_commands.specs.Attention.{takes, met};
 
 use cdb::Command;
+use replies::{INQUIRY, REQUEST_SENSE};
 use sense::Sense;
 
-/// The opcode of REQUEST SENSE, which a CDB that is refused still has.
-pub(crate) const REQUEST_SENSE: u8 = 0x03;
-
-/// The opcode of INQUIRY.
-pub(crate) const INQUIRY: u8 = 0x12;
-
-/// The opcode of REPORT LUNS.
+/// The opcode of REPORT LUNS, which a CDB that is refused still has.
 const REPORT_LUNS: u8 = 0xa0;
 
 /// Whether the command takes the oldest pending attention, if there is one: every command but

@@ -1,13 +1,15 @@
 //! One command, run whole.
 
-ghost use Rattle.std.specs.Prelude.{◌≡◌, ◌≤◌, ◌<◌, ℕ, length, vec_len, IfOk, OnOk, OnErr, unwrap_or, MatchResult, IsOkAnd, IsTrue, [], Err};
+ghost use Rattle.std.specs.Prelude.{◌≡◌, ◌≤◌, ◌+◌, ◌<◌, ◌^◌, ℕ, length, vec_len, IfOk, OnOk, OnErr, unwrap_or, MatchResult, IsOkAnd, IsTrue, [], Err};
+ghost use Rattle.std.specs.Result.{ForOk};
 ghost use Rattle.cdb.specs.Need.{need_of};
+ghost use Rattle.replies.specs.Data.{data_of};
+ghost use Rattle.replies.specs.PlainReply.{plain_of};
 ghost use Rattle.block_commands.specs.Effects.{block_after, given};
 ghost use Rattle.block_commands.specs.Facts.{facts_of};
 ghost use Rattle.block_commands.specs.Memory.{may_want, wants};
-ghost use Rattle.block_commands.specs.PlainReply.{plain_of};
-ghost use Rattle.block_commands.specs.Replies.{data_of, reply_of, answer_of};
-ghost use Rattle.block_commands.specs.Steps.{Gives, Wants};
+ghost use Rattle.block_commands.specs.Replies.{reply_of, answer_of};
+ghost use Rattle.block_commands.specs.Steps.{Gives, Replies, Wants};
 
 use crate::attention::met_attention;
 use crate::capacity::{capacity_10, capacity_16};
@@ -17,11 +19,11 @@ use crate::facts::UnitFacts;
 use crate::failure::Failure;
 use crate::inquiry::inquiry;
 use crate::luns::{listed_luns, lun_list};
-use crate::reply::{Reply, replied};
 use crate::transfer::{read, synchronize, write, write_same};
 use crate::unmap::unmap;
 use block_store::{NoMemory, Store};
 use cdb::{Command, need};
+use replies::Reply;
 use sense::Sense;
 use std::alloc::Global;
 
@@ -128,4 +130,20 @@ fn without_data(alloc: Global, ended: Result<(), Failure>) -> Result<Vec<u8>, Fa
 {
     ended?;
     Ok(Vec::new(alloc))
+}
+
+/// The reply to a command that gave this data, or was refused.
+fn replied(
+    alloc: Global,
+    command: &Command,
+    answer: Result<Vec<u8>, Failure>,
+) -> Result<Reply, NoMemory>
+    requires { ForOk answer (λ bytes. (need_of command.now).out + vec_len bytes < 2 ^ 32) }
+    ensures { Replies (λ bytes. bytes.items) command.now answer result }
+{
+    match answer {
+        Ok(payload) => Ok(Reply::success(command, payload)),
+        Err(Failure::Refused(sense)) => Ok(Reply::refusal(alloc, sense)),
+        Err(Failure::WantOfMemory) => Err(NoMemory),
+    }
 }

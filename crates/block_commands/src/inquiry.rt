@@ -1,17 +1,15 @@
 //! The data of INQUIRY (SPC-4 §6.6, §7.8, SBC-3 §6.6).
 
 ghost use Rattle.std.specs.Prelude.{◌≡◌, ◌+◌, ◌*◌, ◌/◌, ◌%◌, ◌<◌, nat_lt, take, IfOk, OnErr, IsTrue};
-ghost use Rattle.block_commands.specs.Inquiry.{standard_data, serial, serial_page, identification_page, limits_page, inquiry_data};
+ghost use Rattle.block_commands.specs.Inquiry.{serial, serial_page, identification_page, limits_page, inquiry_data};
 
 use crate::data::cut;
 use cdb::InquiryData;
+use replies::standard_data;
 use std::alloc::{AllocError, Global};
 
 /// Byte 0 of the standard data of a block device that is there.
-pub(crate) const BLOCK_DEVICE: u8 = 0x00;
-
-/// Byte 0 of the standard data of a LUN that has no device.
-pub(crate) const NO_DEVICE: u8 = 0x7f;
+const BLOCK_DEVICE: u8 = 0x00;
 
 /// Supported VPD Pages.
 const SUPPORTED_PAGES: [u8; 9] = [0x00, 0x00, 0x00, 0x05, 0x00, 0x80, 0x83, 0xb0, 0xb2];
@@ -40,7 +38,7 @@ pub(crate) fn inquiry(
     ensures want { OnErr result (IsTrue (nat_lt 0 allocation)) }
 {
     match what {
-        InquiryData::Standard => cut(alloc, &standard(BLOCK_DEVICE), allocation),
+        InquiryData::Standard => cut(alloc, &standard_data(BLOCK_DEVICE), allocation),
         InquiryData::SupportedPages => cut(alloc, &SUPPORTED_PAGES, allocation),
         InquiryData::SerialNumber => cut(alloc, &serial_page(target, lun), allocation),
         InquiryData::DeviceIdentification => {
@@ -49,16 +47,6 @@ pub(crate) fn inquiry(
         InquiryData::BlockLimits => cut(alloc, &limits_page(), allocation),
         InquiryData::LogicalBlockProvisioning => cut(alloc, &PROVISIONING_PAGE, allocation),
     }
-}
-
-/// The standard data, with this byte 0.
-#[tactic(auto, unfolding(crate::specs::Inquiry::standard_data))]
-pub(crate) fn standard(peripheral: u8) -> [u8; 36]
-    ensures { result ≡ standard_data peripheral }
-{
-    let mut data = *b"\x00\x00\x06\x02\x1f\x00\x00\x02VSCSI   TASK SET DISK   0001";
-    data[0] = peripheral;
-    data
 }
 
 /// Unit Serial Number.

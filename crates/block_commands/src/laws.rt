@@ -8,28 +8,19 @@ ghost use Rattle.cdb.specs.declared.commands.SelectReport.{SelectReport};
 ghost use Rattle.cdb.specs.Fields.{number};
 ghost use Rattle.cdb.specs.Need.{need_of};
 ghost use Rattle.block_store.specs.Blocks.{Blocks, run, zero_block};
+ghost use Rattle.replies.specs.PlainReply.{success, refusal};
+ghost use Rattle.replies.specs.Statuses.{good, check_condition};
 ghost use Rattle.block_commands.specs.Attention.{takes};
 ghost use Rattle.block_commands.specs.Capacity.{is_in_range};
 ghost use Rattle.block_commands.specs.Comparing.{to_compare};
 ghost use Rattle.block_commands.specs.Effects.{block_after};
 ghost use Rattle.block_commands.specs.Facts.{Facts};
 ghost use Rattle.block_commands.specs.Inquiry.{limits_page};
-ghost use Rattle.block_commands.specs.PlainReply.{success, refusal};
 ghost use Rattle.block_commands.specs.Replies.{reply_of};
-ghost use Rattle.block_commands.specs.Statuses.{good, check_condition, busy, task_set_full};
 ghost use Rattle.block_commands.specs.UnmapList.{blocks_named, descriptors, are_in_range, is_named};
 
-use crate::reply::{BUSY, CHECK_CONDITION, GOOD, TASK_SET_FULL};
 use block_store::written_is_read_back;
 use cdb::{Command, MOST_COMPARE_BLOCKS, MOST_TRANSFER_BLOCKS, MOST_WRITE_SAME_BLOCKS};
-
-/// Each constant is the status code of its name.
-pub fn status_codes()
-    ensures good { GOOD ≡ good }
-    ensures check_condition { CHECK_CONDITION ≡ check_condition }
-    ensures busy { BUSY ≡ busy }
-    ensures task_set_full { TASK_SET_FULL ≡ task_set_full }
-{}
 
 /// A reply is GOOD or CHECK CONDITION. GOOD moves all that the command needs from the driver, and the
 /// data to it; CHECK CONDITION has no data and moves nothing.

@@ -2,7 +2,6 @@
 //! leaves in the blocks of any store.
 #![tactic(auto)]
 
-mod absent;
 mod attention;
 mod capacity;
 mod compare;
@@ -13,12 +12,9 @@ mod failure;
 mod inquiry;
 pub mod laws;
 mod luns;
-mod reply;
 mod transfer;
 mod unmap;
 
-pub use absent::{ABSENT_BYTES, AbsentReply, exec_absent};
 pub use attention::takes_attention;
 pub use execution::exec;
 pub use facts::UnitFacts;
-pub use reply::{BUSY, CHECK_CONDITION, GOOD, Reply, TASK_SET_FULL};

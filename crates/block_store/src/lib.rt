@@ -15,6 +15,3 @@ pub use laws::{
     read_gives_512_bytes_a_block, read_in_two_parts, written_is_read_back, zeroed_reads_as_zeros,
 };
 pub use store::{BLOCK_BYTES, Store};
-
-#[cfg(test)]
-mod tests;

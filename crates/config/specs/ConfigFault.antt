@@ -3,7 +3,7 @@ use Rattle.std.specs.Prelude.{ℕ, ◌-◌, ◌<◌, ◌≡◌, ◌&&◌, not, n
 use Rattle.std.specs.List.{list_all}
 use Rattle.ring_core.specs.declared.layout.Form.{Form}
 use Rattle.ring_core.specs.declared.layout.Layout.{Layout}
-use Rattle.phases.specs.Queue.{placement_of}
+use Rattle.queues.specs.Queue.{placement_of}
 use Rattle.decisions.specs.Inventory.{address_of, stands_before, is_rising}
 use Rattle.decisions.specs.declared.inventory.UnitSpec.{UnitSpec}
 use Rattle.config.specs.Config.{form_of, size_of, is_queue, is_unit, has_lun_0, are_queues}

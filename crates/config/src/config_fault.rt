@@ -6,7 +6,7 @@ ghost use Rattle.config.specs.Config.{is_queue, is_unit, has_lun_0, are_units, a
 ghost use Rattle.config.specs.ConfigFault.{IsQueueFault, IsQueuesFault, IsUnitFault, IsUnitsFault, Falls};
 
 use decisions::UnitSpec;
-use phases::placement;
+use queues::placement;
 use ring_core::{Form, Layout, LayoutFault};
 use std::error::Error;
 use std::fmt;

@@ -6,8 +6,8 @@ use Rattle.sense.specs.declared.Sense.{Sense}
 use Rattle.scsi_codec.specs.Responses.{response_bytes}
 use Rattle.scsi_codec.specs.declared.responses.ResponseCode.{ResponseCode}
 use Rattle.scsi_codec.specs.declared.responses.ResponseCode.TheVariants as code
-use Rattle.block_commands.specs.PlainReply.{PlainReply}
-use Rattle.block_commands.specs.Statuses.{busy, task_set_full}
+use Rattle.replies.specs.PlainReply.{PlainReply}
+use Rattle.replies.specs.Statuses.{busy, task_set_full}
 use Rattle.decisions.specs.declared.answer.ChainLengths.{ChainLengths}
 
 -- a response other than OK: no status, no residual, no sense, no data

@@ -11,9 +11,9 @@ use Rattle.scsi_codec.specs.declared.requests.CodecFault.{CodecFault}
 use Rattle.scsi_codec.specs.declared.requests.CodecFault.TheVariants.{ShortRequest, ShortResponse, BadAddress}
 use Rattle.scsi_codec.specs.declared.responses.ResponseCode.{ResponseCode}
 use Rattle.scsi_codec.specs.declared.responses.ResponseCode.TheVariants as code
-use Rattle.block_commands.specs.Absent.{absent_reply}
-use Rattle.block_commands.specs.PlainReply.{PlainReply, refusal}
-use Rattle.block_commands.specs.Replies.{data_of}
+use Rattle.replies.specs.Absent.{absent_reply}
+use Rattle.replies.specs.PlainReply.{PlainReply, refusal}
+use Rattle.replies.specs.Data.{data_of}
 use Rattle.decisions.specs.Answers.{failed, answer_of_reply}
 use Rattle.decisions.specs.Inventory.{has_target, place_of}
 use Rattle.decisions.specs.declared.answer.ChainLengths.{ChainLengths}

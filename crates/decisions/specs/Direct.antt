@@ -1,8 +1,8 @@
 -- What is told without a unit, and its bytes.
 use Rattle.std.specs.Prelude.{ℕ, ◌≤◌, ◌+◌, ◌^◌, List, [], ⊤}
 use Rattle.cdb.specs.Need.{need_of}
-use Rattle.block_commands.specs.Absent.{absent_reply}
-use Rattle.block_commands.specs.PlainReply.{refusal}
+use Rattle.replies.specs.Absent.{absent_reply}
+use Rattle.replies.specs.PlainReply.{refusal}
 use Rattle.decisions.specs.Answers.{failed, answer_of_reply, status_reply}
 use Rattle.decisions.specs.declared.answer.ChainLengths.{ChainLengths}
 use Rattle.decisions.specs.declared.direct.Told.{Told}

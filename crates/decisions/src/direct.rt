@@ -2,14 +2,14 @@
 
 ghost use Rattle.std.specs.Prelude.{◌≡◌, ◌+◌, ◌≤◌, ◌^◌, ◌++◌, [], length};
 ghost use Rattle.cdb.specs.Need.{need_of};
-ghost use Rattle.block_commands.specs.Absent.{absent_reply};
-ghost use Rattle.block_commands.specs.PlainReply.{refusal};
+ghost use Rattle.replies.specs.Absent.{absent_reply};
+ghost use Rattle.replies.specs.PlainReply.{refusal};
 ghost use Rattle.decisions.specs.Answers.{failed, answer_of_reply, status_reply};
 
 use crate::answer::{ChainLengths, response_ok};
 use arrayvec::ArrayVec;
-use block_commands::{ABSENT_BYTES, CHECK_CONDITION, exec_absent};
 use cdb::Command;
+use replies::{ABSENT_BYTES, CHECK_CONDITION, exec_absent};
 use scsi_codec::{RESPONSE_BYTES, Response, ResponseCode, write_response};
 use sense::Sense;
 use std::marker::Model;

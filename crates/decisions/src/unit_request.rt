@@ -2,7 +2,7 @@
 
 ghost use Rattle.std.specs.Prelude.{◌≡◌, ◌+◌, ◌≤◌, drop, length};
 ghost use Rattle.cdb.specs.Need.{need_of};
-ghost use Rattle.block_commands.specs.Replies.{data_of};
+ghost use Rattle.replies.specs.Data.{data_of};
 
 use crate::attribute::TaskAttribute;
 use cdb::{Command, need};
@@ -23,7 +23,7 @@ pub struct UnitRequest {
 impl Model for UnitRequest {
     ghost use Rattle.std.specs.Prelude.{◌≡◌, ◌⊎◌, ◌+◌, ◌≤◌, drop, length};
     ghost use Rattle.cdb.specs.Need.{need_of};
-    ghost use Rattle.block_commands.specs.Replies.{data_of};
+    ghost use Rattle.replies.specs.Data.{data_of};
     ghost use Rattle.decisions.specs.UnitRequest.{PlainRequest};
 
     ghost Value = { PlainRequest };

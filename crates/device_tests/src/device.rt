@@ -7,21 +7,28 @@ mod views;
 
 use device_bench::{Row, first_wrong};
 use std::alloc::Global;
+use std::fmt::Display;
 use std::process::Abort;
 use std::test::Fail;
-
-/// Plays a row.
-fn play(rt: &impl Abort, alloc: Global, row: &Row) -> Result<(), Fail> {
-    let shows = row.shows;
-    let wrong = first_wrong(alloc, row)?;
-    assert_eq!(rt; wrong, None, "wrong step of {shows}");
-    Ok(())
-}
 
 /// Plays rows.
 fn play_all(rt: &impl Abort, alloc: Global, rows: &[Row]) -> Result<(), Fail> {
     for row in rows {
-        play(rt, alloc, row)?;
+        let shows = row.shows;
+        let wrong = first_wrong(alloc, row)?;
+        assert_eq!(rt; wrong, None, "wrong step of {shows}");
+    }
+    Ok(())
+}
+
+/// Each value is called as its row says.
+pub(crate) fn are_called<D: Display>(
+    rt: &impl Abort,
+    alloc: Global,
+    rows: &[(D, &str)],
+) -> Result<(), Fail> {
+    for (value, text) in rows {
+        assert_eq!(rt; format!(in alloc; "{value}")?.as_str(), *text);
     }
     Ok(())
 }

@@ -1,6 +1,9 @@
-//! Tests of the device over its public calls, each a table of rows, of what no script can show. They
-//! stand in a crate of their own so that the crates below are proved once.
+//! Tests of what no script can show, each a table of rows: of the device over its public calls, of what one thread lends
+//! the phases, and of reports, made of real units and queues. They stand in a crate of their own so that the crates
+//! below are proved once.
 #![tactic(auto)]
 
 #[cfg(test)]
 mod device;
+#[cfg(test)]
+mod reports;

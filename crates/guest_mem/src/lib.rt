@@ -6,6 +6,3 @@ mod memory;
 
 pub use laws::{keeps_other_bytes, reads_what_was_written};
 pub use memory::{GuestMem, MemFault, PAGE_BYTES};
-
-#[cfg(test)]
-mod tests;

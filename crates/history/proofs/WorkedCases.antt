@@ -2,7 +2,7 @@
 use Rattle.std.proofs.Common.{◌≡◌, ℕ, true, false, List, [], ◌∷◌, ◌++◌, length, take, Some, refl, ◌∙◌, ap, arith}
 use Rattle.std.proofs.lemmas.List.{append-nil, take_all}
 use Rattle.cdb.specs.declared.commands.Command.TheVariants.{Read}
-use Rattle.block_commands.specs.PlainReply.{success}
+use Rattle.replies.specs.PlainReply.{success}
 use Rattle.ring_core.specs.declared.log.Ticket.{Ticket}
 use Rattle.history.specs.declared.rule.Rule.TheVariants.{Id}
 use Rattle.history.specs.Tasks.{Entry, task_of}

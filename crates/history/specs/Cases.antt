@@ -3,7 +3,7 @@ use Rattle.std.specs.Prelude.{ℕ, ◌+◌, true, List, [], ◌∷◌}
 use Rattle.cdb.specs.declared.commands.Command.TheVariants.{TestUnitReady, Read, Write}
 use Rattle.decisions.specs.declared.attribute.TaskAttribute.{TaskAttribute}
 use Rattle.decisions.specs.declared.attribute.TaskAttribute.TheVariants.{Simple, Ordered, HeadOfQueue}
-use Rattle.block_commands.specs.PlainReply.{PlainReply, success}
+use Rattle.replies.specs.PlainReply.{PlainReply, success}
 use Rattle.ring_core.specs.declared.log.Ticket.{Ticket}
 use Rattle.history.specs.Tasks.{Entry}
 use Rattle.history.specs.Steps.{Step}

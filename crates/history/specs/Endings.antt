@@ -2,7 +2,7 @@
 use Rattle.std.specs.Prelude.{ℕ, List}
 use Rattle.scsi_codec.specs.declared.responses.ResponseCode.{ResponseCode}
 use Rattle.scsi_codec.specs.declared.responses.ResponseCode.TheVariants as code
-use Rattle.block_commands.specs.PlainReply.{PlainReply}
+use Rattle.replies.specs.PlainReply.{PlainReply}
 use Rattle.decisions.specs.Answers.{answer_of_reply, failed, busy_reply, full_reply}
 use Rattle.decisions.specs.declared.answer.ChainLengths.{ChainLengths}
 use Rattle.history.specs.declared.reason.Reason.{Reason}

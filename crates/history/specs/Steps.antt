@@ -1,6 +1,6 @@
 -- The steps of a unit, and which tasks are alive and done after them.
 use Rattle.std.specs.Prelude.{ℕ, ◌+◌, Bool, false, ◌==◌, ◌||◌, is_some, List, [], ◌∷◌, ◌++◌, if◌then◌else◌}
-use Rattle.block_commands.specs.PlainReply.{PlainReply}
+use Rattle.replies.specs.PlainReply.{PlainReply}
 use Rattle.ring_core.specs.declared.log.Ticket.{Ticket}
 use Rattle.unit_attention.specs.declared.code.Code.{Code}
 use Rattle.history.specs.declared.rule.Rule.{Rule}

@@ -1,7 +1,7 @@
 -- Each chain of a request queue that is used has one answer, which tells what is so.
 use Rattle.std.proofs.Common.{◌≡◌, ℕ, ◌+◌, ◌≤◌, List, ◌∷◌, Option, Some, None, refl, sym, ◌∙◌, ap, subst, arith, inl, inr, zero, suc}
 use Rattle.std.specs.List.{sum_by}
-use Rattle.block_commands.specs.PlainReply.{PlainReply}
+use Rattle.replies.specs.PlainReply.{PlainReply}
 use Rattle.ring_core.specs.State.{PlainChain}
 use Rattle.ring_core.specs.Writes.{Write}
 use Rattle.ring_core.specs.declared.log.Ticket.{Ticket}

@@ -1,7 +1,7 @@
 -- What answers the chains of a reached device.
 use Rattle.std.specs.Prelude.{ℕ, ◌≡◌, ◌≤◌, ◌+◌, ◌⊎◌, List, ◌∷◌, Some}
 use Rattle.std.specs.List.{sum_by}
-use Rattle.block_commands.specs.PlainReply.{PlainReply}
+use Rattle.replies.specs.PlainReply.{PlainReply}
 use Rattle.ring_core.specs.State.{PlainChain}
 use Rattle.ring_core.specs.Writes.{Write}
 use Rattle.ring_core.specs.declared.log.Ticket.{Ticket}

@@ -1,6 +1,6 @@
 -- What the deeds of a trace tell. The newest stands first.
 use Rattle.std.specs.Prelude.{ℕ, ◌≡◌, ◌⊎◌, ⊤, true, List, [], ◌∷◌}
-use Rattle.block_commands.specs.PlainReply.{PlainReply}
+use Rattle.replies.specs.PlainReply.{PlainReply}
 use Rattle.ring_core.specs.declared.log.Ticket.{Ticket}
 use Rattle.history.specs.declared.reason.Reason.{Reason}
 use Rattle.task_set.specs.Jobs.{PlainJob}

@@ -1,6 +1,6 @@
 -- In which order the commands of one unit ran.
 use Rattle.std.specs.Prelude.{ℕ, List, ◌∷◌}
-use Rattle.block_commands.specs.PlainReply.{PlainReply}
+use Rattle.replies.specs.PlainReply.{PlainReply}
 use Rattle.ring_core.specs.declared.log.Ticket.{Ticket}
 use Rattle.history.specs.Steps.{Step}
 use Rattle.deeds.specs.Parts.{PlainFetch, ticket_of}

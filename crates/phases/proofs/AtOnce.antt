@@ -12,7 +12,7 @@ use Rattle.unit_history.specs.Endings.{ending_of}
 use Rattle.unit_history.specs.declared.answers.Outcome as answers
 use Rattle.unit_history.specs.declared.answers.Entered.TheVariants as entered
 use Rattle.deeds.specs.Parts.{Outcome, Hand}
-use Rattle.phases.specs.Queue.{Lent}
+use Rattle.queues.specs.Queue.{Lent}
 use Rattle.phases.specs.Units.{Commits, Leaves}
 use Rattle.phases.specs.Answering.{Answers}
 use Rattle.phases.specs.Doing.{with_more}

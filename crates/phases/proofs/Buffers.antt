@@ -9,8 +9,9 @@ use Rattle.deeds.specs.Parts.{PlainFetch, Slot, answer_writes, is_short}
 use Rattle.deeds.specs.Deeds.{Deed}
 use Rattle.deeds.specs.After.{with_chain}
 use Rattle.deeds.specs.Happens.{spent_bytes}
-use Rattle.phases.specs.Queue.{Lent, with_slot, completing}
-use Rattle.phases.specs.Looking.{Breaks}
+use Rattle.queues.specs.Queue.{Lent, completing}
+use Rattle.phases.specs.Queue.{with_slot}
+use Rattle.queues.specs.Looking.{Breaks}
 use Rattle.phases.specs.EventQueue.{IsEventFetch, DoesAtPort, TakesBuffer}
 
 -- what one lock lends is the same where its parts are

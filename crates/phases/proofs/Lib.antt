@@ -3,9 +3,7 @@ pub mod Buffers
 pub mod Commits
 pub mod Deciding
 pub mod Enters
-pub mod Opening
 pub mod Reading
 pub mod Refusing
 pub mod AtOnce
 pub mod Taking
-pub mod FirstPart

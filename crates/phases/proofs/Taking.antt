@@ -11,9 +11,10 @@ use Rattle.deeds.specs.World.{PlainQueue, Opened}
 use Rattle.deeds.specs.Deeds.{Deed}
 use Rattle.deeds.specs.After.{with_chain}
 use Rattle.deeds.specs.Happens.{DecidesRequest, DecidesControl, IsDirect}
-use Rattle.phases.specs.Queue.{Lent, with_slot}
+use Rattle.queues.specs.Queue.{Lent}
+use Rattle.phases.specs.Queue.{with_slot}
 use Rattle.phases.specs.Doing.{DoesQueue}
-use Rattle.phases.specs.Looking.{Breaks}
+use Rattle.queues.specs.Looking.{Breaks}
 use Rattle.phases.specs.Fetching.{Arrives, IsDecided, IsRequestFetch, IsControlFetch, opens}
 
 -- a direct answer to a chain of a request queue is decided as that of a request

@@ -7,8 +7,9 @@ use Rattle.task_mgmt.specs.Functions.{is_over, response_of}
 use Rattle.deeds.specs.Parts.{Outcome, Slot, Hand, lengths_of, bytes_of, answer_writes}
 use Rattle.deeds.specs.World.{Opened}
 use Rattle.deeds.specs.Deeds.{Deed}
-use Rattle.phases.specs.Queue.{Lent, with_slot}
-use Rattle.phases.specs.Doing.{AtQueue, DoesQueue, MayComplete}
+use Rattle.queues.specs.Queue.{Lent, MayComplete}
+use Rattle.phases.specs.Queue.{with_slot}
+use Rattle.phases.specs.Doing.{AtQueue, DoesQueue}
 
 -- the writes that answer a chain as told
 abbrev pub told_writes : RingState → PlainChain → Outcome → List Write

@@ -1,14 +1,14 @@
 -- What a phase does on what one lock lends: what a deed asks there, and what it leaves.
 use Rattle.std.specs.Prelude.{ℕ, ◌≡◌, ◌+◌, ◌≤◌, ◌++◌, Bool, List, length}
 use Rattle.scsi_codec.specs.declared.lun.Address.{Address}
-use Rattle.ring_core.specs.State.{PlainChain, Owns}
 use Rattle.task_set.specs.Jobs.{PlainJob, Jobs}
 use Rattle.unit_history.specs.Unit.{PlainUnit}
 use Rattle.deeds.specs.Parts.{Slot}
 use Rattle.deeds.specs.World.{PlainQueue}
 use Rattle.deeds.specs.Deeds.{Deed}
 use Rattle.deeds.specs.Phases.{AsksUnit, unit_after, AsksQueue, queue_after, bytes_after}
-use Rattle.phases.specs.Queue.{Lent, with_slot}
+use Rattle.queues.specs.Queue.{Lent}
+use Rattle.phases.specs.Queue.{with_slot}
 
 -- a deed on a unit
 pub record DoesUnit (d : Deed) (u u' : PlainUnit) : Type 0 where
@@ -26,11 +26,6 @@ pub record DoesQueue (inventory : List Address) (d : Deed) (q : PlainQueue) (m :
 abbrev pub AtQueue : Deed → Lent → List ℕ → Lent → List ℕ → Type 0
 AtQueue d q m q' m' = (inventory : List Address) (s : Slot)
     → DoesQueue inventory d (with_slot s q) m (with_slot s q') m'
-
--- the memory is the queue's, and the queue owns the chain
-pub record MayComplete (q : Lent) (m : List ℕ) (c : PlainChain) : Type 0 where
-  pub fits : length m ≡ q.ring.memory
-  pub owned : Owns q.ring c
 
 -- a list with these jobs behind its own
 abbrev pub with_more : List PlainJob → Jobs → Jobs

@@ -13,8 +13,8 @@ use Rattle.deeds.specs.World.{PlainQueue}
 use Rattle.deeds.specs.Deeds.{Deed}
 use Rattle.deeds.specs.Happens.{spent_bytes}
 use Rattle.deeds.specs.Phases.{AsksQueue, queue_after, bytes_after}
-use Rattle.phases.specs.Queue.{Lent, completing}
-use Rattle.phases.specs.Doing.{AtQueue, MayComplete}
+use Rattle.queues.specs.Queue.{Lent, completing, MayComplete}
+use Rattle.phases.specs.Doing.{AtQueue}
 use Rattle.phases.specs.Fetching.{IsFree, HasSome}
 use Rattle.phases.specs.Answering.{StaysQueue}
 

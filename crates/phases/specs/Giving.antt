@@ -10,11 +10,11 @@ use Rattle.unit_history.specs.declared.answers.Outcome as answers
 use Rattle.unit_history.specs.declared.answers.Outcome.TheVariants as outcome
 use Rattle.phases.specs.declared.hand.Hand.{Hand}
 use Rattle.phases.specs.declared.hand.Hand.TheVariants as hand
-use Rattle.phases.specs.declared.note.Cause.{Cause}
-use Rattle.phases.specs.declared.note.Cause.TheVariants as cause
-use Rattle.phases.specs.declared.note.Given.{Given}
-use Rattle.phases.specs.declared.note.Given.TheVariants as given
-use Rattle.phases.specs.Notes.{PlainNote, note_of}
+use Rattle.unit_history.specs.declared.note.Cause.{Cause}
+use Rattle.unit_history.specs.declared.note.Cause.TheVariants as cause
+use Rattle.unit_history.specs.declared.note.Given.{Given}
+use Rattle.unit_history.specs.declared.note.Given.TheVariants as given
+use Rattle.unit_history.specs.Notes.{PlainNote, note_of}
 
 -- own: a job is given the receipt of its Commit; where it has none, a note of why
 abbrev pub given_for : Ticket → answers.Outcome → Given

@@ -1,7 +1,4 @@
-pub mod AnyRing
 pub mod Queue
-pub mod Looking
-pub mod Notes
 pub mod Giving
 pub mod Outcomes
 pub mod Parts

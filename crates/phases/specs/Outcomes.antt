@@ -1,7 +1,6 @@
 -- What a chain or a job is answered with, as plain values.
-use Rattle.std.specs.Prelude.{ℕ, ◌≡◌, List, [], ◌∷◌, length, Option, Some, None, IfSome, if◌then◌else◌}
+use Rattle.std.specs.Prelude.{ℕ, ◌≡◌, List, length, Option, Some, None, IfSome}
 use Rattle.ring_core.specs.State.{PlainChain}
-use Rattle.ring_core.specs.declared.descriptor.Part.{Part}
 use Rattle.ring_core.specs.Writes.{all_written, scatter_writes}
 use Rattle.history.specs.Endings.{Ending, answer_of}
 use Rattle.task_set.specs.Jobs.{PlainJob}
@@ -40,8 +39,3 @@ pub record WritesWhole (x : PlainJob) (e : Ending) (m : List ℕ) (len : ℕ) (m
 -- the same of a job whose commit is over
 abbrev pub WritesEnding : PlainHeld → List ℕ → ℕ → List ℕ → Type 0
 WritesEnding h m len m' = IfSome h.outcome (λ o. WritesWhole h.job (ending_of o) m len m')
-
--- the first part that may be written
-abbrev pub first_open : List Part → Option Part
-first_open [] = None
-first_open (p ∷ parts) = if p.writable then Some p else first_open parts

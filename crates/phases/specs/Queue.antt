@@ -1,38 +1,8 @@
--- A virtqueue as one lock lends it, where it lies, and the queue that opens there.
-use Rattle.std.specs.Prelude.{ℕ, ◌+◌, List, Option}
-use Rattle.ring_core.specs.State.{RingState, PlainChain, opening, no_features, using}
-use Rattle.ring_core.specs.Offer.{wants_notice}
-use Rattle.ring_core.specs.declared.layout.Form.{Form}
-use Rattle.ring_core.specs.declared.layout.Form.TheVariants.{Split, Packed}
-use Rattle.ring_core.specs.declared.layout.Layout.{Layout}
-use Rattle.ring_core.specs.declared.layout.LayoutFault.{LayoutFault}
-use Rattle.split_ring.specs.Placement as split
-use Rattle.packed_ring.specs.Placement as packed
+-- A virtqueue as one lock lends it, beside its slot.
+use Rattle.queues.specs.Queue.{Lent}
 use Rattle.deeds.specs.Parts.{Slot}
 use Rattle.deeds.specs.World.{PlainQueue}
-use Rattle.deeds.specs.After.{bit}
-
--- its ring, and how many notices were wanted
-pub record Lent : Type 0 where
-  pub ring : RingState
-  pub notices : ℕ
 
 -- with what stands in its slot
 abbrev pub with_slot : Slot → Lent → PlainQueue
 with_slot s q = record { ring = q.ring; slot = s; notices = q.notices }
-
-abbrev pub placement_of : Form → ℕ → Layout → Option LayoutFault
-placement_of Split memory l = split.placement_fault memory l
-placement_of Packed memory l = packed.placement_fault memory l
-
--- the ring of this number, of which nothing was fetched yet
-abbrev pub opening_ring : Form → ℕ → ℕ → Layout → RingState
-opening_ring Split memory number l = opening Split number l no_features memory l.size
-opening_ring Packed memory number l = opening Packed number l no_features memory 65536
-
-abbrev pub opening_queue : Form → ℕ → ℕ → Layout → Lent
-opening_queue form memory number l = record { ring = opening_ring form memory number l; notices = 0 }
-
--- the queue once a chain was used, and memory is this: the driver may want a notice
-abbrev pub completing : List ℕ → PlainChain → Lent → Lent
-completing m c q = record { ring = using q.ring c; notices = q.notices + bit (wants_notice (using q.ring c) m) }

@@ -5,7 +5,8 @@ use Rattle.scsi_codec.specs.declared.lun.Address.{Address}
 use Rattle.task_set.specs.Jobs.{PlainJob, Jobs}
 use Rattle.unit_history.specs.Unit.{PlainUnit}
 use Rattle.deeds.specs.Parts.{Outcome, Slot, Hand}
-use Rattle.phases.specs.Queue.{Lent, with_slot}
+use Rattle.queues.specs.Queue.{Lent}
+use Rattle.phases.specs.Queue.{with_slot}
 use Rattle.phases.specs.Fetching.{Arrives, FetchesRequest}
 use Rattle.ring_core.specs.State.{PlainChain, Owns}
 use Rattle.phases.specs.Doing.{with_more}

@@ -1,131 +1,20 @@
-//! Writing what answers a request into its chain.
+//! Writing what answers a job into its chain.
 
-ghost use Rattle.std.specs.Prelude.{◌≡◌, ◌+◌, ◌≤◌, ◌<◌, ◌-◌, ◌^◌, ◌++◌, Some, length, IfOk, IfSome};
-ghost use Rattle.guest_mem.specs.Memory.{with_bytes};
+ghost use Rattle.std.specs.Prelude.{◌≡◌, ◌+◌, ◌≤◌, ◌<◌, ◌-◌, ◌^◌, length, IfOk, IfSome};
 ghost use Rattle.ring_core.specs.Parts.{writable_total};
 ghost use Rattle.ring_core.specs.Writes.{all_written, scatter_writes};
-ghost use Rattle.block_commands.specs.PlainReply.{plain_of};
-ghost use Rattle.decisions.specs.Answers.{answer_of_reply};
 ghost use Rattle.history.specs.Endings.{answer_of, code_of};
-ghost use Rattle.phases.specs.Outcomes.{first_open};
 ghost use Rattle.unit_history.specs.Endings.{ending_of, ending_of_reply, ending_of_run, FitsNeed};
 
-use block_commands::{BUSY, Reply};
 use block_store::NoMemory;
-use decisions::{ChainLengths, DirectAnswer, response_ok};
+use decisions::{ChainLengths, DirectAnswer};
 use guest_mem::GuestMem;
 use history::Reason;
-use ring_core::{Chain, Part, scatter};
+use queues::{write_direct, write_reply};
+use replies::{BUSY, Reply};
+use ring_core::Chain;
 use scsi_codec::{RESPONSE_BYTES, ResponseCode};
 use unit_history::{Outcome, Receipt};
-
-/// The first part of these that may be written.
-#[inline(always)]
-fn first_writable(parts: &[Part]) -> Option<Part>
-    ensures { result ≡ first_open parts.now }
-{
-    for part in parts {
-        if part.writable {
-            return Some(*part);
-        }
-    }
-    None
-}
-
-/// The first part of these that may be written, where so many bytes lie in it.
-#[inline(always)]
-fn whole_part(parts: &[Part], len: usize) -> Option<Part>
-    ensures { IfSome result (λ p. (first_open parts.now ≡ Some p) × (len ≤ p.len)) }
-{
-    match first_writable(parts) {
-        Some(part) => {
-            if len <= part.len as usize {
-                Some(part)
-            } else {
-                None
-            }
-        }
-        None => None,
-    }
-}
-
-/// Writes a response and its data into one part, in which both lie.
-#[inline(always)]
-fn write_whole(
-    memory: &mut GuestMem,
-    part: &Part,
-    head: &[u8; RESPONSE_BYTES],
-    payload: &[u8],
-) -> u32
-    requires inside { part.now.addr + part.now.len ≤ length memory.old }
-    requires room { RESPONSE_BYTES + length payload.now ≤ part.now.len }
-    ensures written { result ≡ RESPONSE_BYTES + length payload.now }
-    ensures memory { memory.new
-        ≡ with_bytes (with_bytes memory.old part.now.addr head.now) (part.now.addr + RESPONSE_BYTES) payload.now }
-    ensures size { length memory.new ≡ length memory.old }
-{
-    let _size = memory.size();
-    let _ = memory.write(part.addr, head.as_slice());
-    let _ = memory.write(part.addr + RESPONSE_BYTES as u64, payload);
-    (RESPONSE_BYTES + payload.len()) as u32
-}
-
-/// Writes a response and its data over the writable parts of a chain.
-fn write_scattered(
-    memory: &mut GuestMem,
-    chain: &Chain,
-    head: &[u8; RESPONSE_BYTES],
-    payload: &[u8],
-) -> u32
-    requires fits { length memory.old ≡ chain.now.memory }
-    requires room { RESPONSE_BYTES + length payload.now ≤ writable_total chain.now.parts }
-    requires less { RESPONSE_BYTES + length payload.now < 2 ^ 32 }
-    ensures written { result ≡ RESPONSE_BYTES + length payload.now }
-    ensures memory { memory.new ≡ all_written memory.old (scatter_writes chain.now.parts 0 (head.now ++ payload.now)) }
-    ensures size { length memory.new ≡ length memory.old }
-{
-    let _parts = chain.parts();
-    let first = scatter(memory, chain, 0, head);
-    first + scatter(memory, chain, first, payload)
-}
-
-/// Writes a response and its data over the writable parts of a chain: at once where both lie in the first.
-#[inline(always)]
-fn write_response(
-    memory: &mut GuestMem,
-    chain: &Chain,
-    head: &[u8; RESPONSE_BYTES],
-    payload: &[u8],
-) -> u32
-    requires fits { length memory.old ≡ chain.now.memory }
-    requires room { RESPONSE_BYTES + length payload.now ≤ writable_total chain.now.parts }
-    requires less { RESPONSE_BYTES + length payload.now < 2 ^ 32 }
-    ensures written { result ≡ RESPONSE_BYTES + length payload.now }
-    ensures memory { memory.new ≡ all_written memory.old (scatter_writes chain.now.parts 0 (head.now ++ payload.now)) }
-    ensures size { length memory.new ≡ length memory.old }
-{
-    match whole_part(chain.parts(), RESPONSE_BYTES + payload.len()) {
-        Some(part) => write_whole(memory, &part, head, payload),
-        None => write_scattered(memory, chain, head, payload),
-    }
-}
-
-/// Writes response OK with a reply.
-fn write_reply(memory: &mut GuestMem, chain: &Chain, lengths: &ChainLengths, reply: &Reply) -> u32
-    requires fits { length memory.old ≡ chain.now.memory }
-    requires sum { lengths.now.readable + lengths.now.writable ≤ 2 ^ 32 }
-    requires whole { lengths.now.writable ≡ writable_total chain.now.parts }
-    requires room { RESPONSE_BYTES ≤ lengths.now.writable }
-    requires less { lengths.now.writable < 2 ^ 32 }
-    requires payload { length reply.now.payload.items ≤ lengths.now.writable - RESPONSE_BYTES }
-    ensures written { result ≡ length (answer_of_reply lengths.now (plain_of reply.now)) }
-    ensures memory { memory.new
-        ≡ all_written memory.old (scatter_writes chain.now.parts 0 (answer_of_reply lengths.now (plain_of reply.now))) }
-    ensures size { length memory.new ≡ length memory.old }
-{
-    let head = response_ok(lengths, reply.status, reply.sense, reply.moved);
-    write_response(memory, chain, &head, reply.payload.as_slice())
-}
 
 /// Writes what came of a command: its reply, or BUSY where it was refused memory.
 #[inline(always)]
@@ -150,17 +39,6 @@ pub(crate) fn write_run(
         Ok(reply) => write_reply(memory, chain, lengths, reply),
         Err(NoMemory) => write_direct(memory, chain, &DirectAnswer::of_status(lengths, BUSY)),
     }
-}
-
-/// Writes an answer that needs no unit.
-pub(crate) fn write_direct(memory: &mut GuestMem, chain: &Chain, answer: &DirectAnswer) -> u32
-    requires fits { length memory.old ≡ chain.now.memory }
-    requires room { length answer.now ≤ writable_total chain.now.parts }
-    ensures written { result ≡ length answer.now }
-    ensures memory { memory.new ≡ all_written memory.old (scatter_writes chain.now.parts 0 answer.now) }
-    ensures size { length memory.new ≡ length memory.old }
-{
-    scatter(memory, chain, 0, answer.bytes().as_slice())
 }
 
 /// The response code of a task that was marked (VIRTIO 1.2 §5.6.6.1).

@@ -5,27 +5,24 @@ ghost use Rattle.ring_core.specs.Parts.{writable_total};
 ghost use Rattle.ring_core.specs.Writes.{all_written};
 ghost use Rattle.ring_core.specs.State.{Owns};
 ghost use Rattle.deeds.specs.Parts.{answer_writes};
-ghost use Rattle.phases.specs.Queue.{completing};
+ghost use Rattle.queues.specs.Queue.{completing, MayComplete};
 ghost use Rattle.deeds.specs.Parts as plain;
-ghost use Rattle.phases.specs.Doing.{MayComplete};
 ghost use Rattle.phases.specs.Parts.{slot_of, hand_of, job_held, outcome_in};
 ghost use Rattle.phases.specs.Giving.{note_in, given_for, given_in};
 ghost use Rattle.phases.specs.Outcomes.{WritesEnding};
 ghost use Rattle.phases.specs.Answering.{Directs, Answers, Responds};
 
-use crate::answer::write_direct;
 use crate::function::OpenFunction;
 use crate::hand::Hand;
 use crate::held::Held;
-use crate::note::{Cause, Given, Note};
-use crate::queue::Queue;
 use crate::slot::Slot;
 use decisions::DirectAnswer;
 use guest_mem::GuestMem;
+use queues::{Queue, write_direct};
 use ring_core::{Answered, Chain, Ticket};
 use std::mem;
 use task_mgmt::ControlAnswer;
-use unit_history::Outcome;
+use unit_history::{Cause, Given, Note, Outcome};
 
 /// Answers a chain, and uses it.
 fn answer_chain(

@@ -10,13 +10,13 @@ ghost use Rattle.phases.specs.Parts.{slot_of};
 ghost use Rattle.phases.specs.Fetching.{FetchesRequest, FetchesControl, IsDecided};
 
 use crate::function::OpenFunction;
-use crate::queue::{Fetch, Queue};
 use crate::ready::Ready;
 use crate::serving::{Taken, take_request};
 use crate::slot::Slot;
 use block_store::NoMemory;
 use decisions::{ChainLengths, DirectAnswer, Inventory};
 use guest_mem::GuestMem;
+use queues::{Fetch, Queue};
 use ring_core::{Chain, Fetched};
 use scsi_codec::one_control;
 use task_mgmt::{ControlDecision, decide_control};

@@ -4,7 +4,6 @@
 
 mod answer;
 mod answering;
-mod any_ring;
 mod committing;
 mod entering;
 mod fetching;
@@ -12,8 +11,6 @@ mod function;
 mod hand;
 mod held;
 mod marking;
-mod note;
-mod queue;
 mod raising;
 mod ready;
 mod refusal;
@@ -22,7 +19,6 @@ mod serving;
 mod slot;
 
 pub use answering::{phase_answer, phase_answer_tmf, phase_direct};
-pub use any_ring::AnyRing;
 pub use committing::{phase_commit, phase_leave};
 pub use entering::phase_enter;
 pub use fetching::{phase_fetch, phase_fetch_control};
@@ -30,8 +26,6 @@ pub use function::OpenFunction;
 pub use hand::Hand;
 pub use held::Held;
 pub use marking::{phase_check, phase_mark};
-pub use note::{Cause, Given, Note};
-pub use queue::{Queue, is_placed, placement};
 pub use raising::{phase_fetch_event, phase_raise};
 pub use ready::Ready;
 pub use refusal::Refusal;

@@ -8,11 +8,11 @@ ghost use Rattle.phases.specs.Queue.{with_slot};
 ghost use Rattle.phases.specs.Parts.{slot_of};
 ghost use Rattle.phases.specs.EventQueue.{FetchesEvent, RaisesNext, MayHold, UsesWith, TakesBufferOf, MayRaise};
 
-use crate::queue::{Fetch, Queue};
 use crate::slot::Slot;
 use block_store::NoMemory;
 use event_queue::{EventPort, WaitingEvents};
 use guest_mem::GuestMem;
+use queues::{Fetch, Queue};
 use ring_core::{Chain, scatter};
 use scsi_codec::EVENT_BYTES;
 

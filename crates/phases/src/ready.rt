@@ -7,14 +7,13 @@ ghost use Rattle.deeds.specs.Parts.{Outcome, lengths_of, bytes_of};
 ghost use Rattle.phases.specs.Outcomes.{refused_as, outcome_of};
 ghost use Rattle.phases.specs.Giving.{cause_for};
 
-use crate::note::Cause;
 use crate::refusal::Refusal;
-use block_commands::{BUSY, TASK_SET_FULL};
 use decisions::DirectAnswer;
+use replies::{BUSY, TASK_SET_FULL};
 use ring_core::Chain;
 use scsi_codec::ResponseCode;
 use std::marker::Model;
-use unit_history::Job;
+use unit_history::{Cause, Job};
 
 /// A chain that is to be answered, with its answer.
 #[derive(Debug, Drop)]

@@ -4,7 +4,8 @@ ghost use Rattle.std.specs.Prelude.{◌≡◌, ◌+◌, ◌≤◌, ◌^◌, leng
 ghost use Rattle.ring_core.specs.Parts.{readable_total};
 ghost use Rattle.ring_core.specs.State.{Owns};
 ghost use Rattle.deeds.specs.Parts as plain;
-ghost use Rattle.phases.specs.Queue.{with_slot, completing};
+ghost use Rattle.queues.specs.Queue.{completing};
+ghost use Rattle.phases.specs.Queue.{with_slot};
 ghost use Rattle.phases.specs.Doing.{HasPlaces};
 ghost use Rattle.phases.specs.Parts.{slot_of};
 ghost use Rattle.phases.specs.Units.{Leaves};
@@ -17,14 +18,14 @@ ghost use Rattle.task_set.specs.Jobs.{Jobs};
 
 use crate::answer::{write_outcome, write_run};
 use crate::fetching::lengths_of_chain;
-use crate::queue::{Fetch, Queue};
 use crate::ready::Ready;
 use crate::refusal::Refusal;
 use crate::slot::Slot;
-use block_commands::Reply;
 use block_store::NoMemory;
 use decisions::{Decision, Inventory, decide};
 use guest_mem::GuestMem;
+use queues::{Fetch, Queue};
+use replies::Reply;
 use ring_core::{Answered, Fetched};
 use unit_history::{Answering, Arrival, Entered, Job, JobList, Outcome, UnitState, Unknown};
 

@@ -4,6 +4,3 @@
 mod record;
 
 pub use record::Record;
-
-#[cfg(test)]
-mod tests;

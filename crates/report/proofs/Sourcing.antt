@@ -13,8 +13,8 @@ use Rattle.history.specs.Tasks.{same_ticket}
 use Rattle.history.specs.Receipts.{Receipt}
 use Rattle.history.proofs.Tickets.{same-true, itself}
 use Rattle.unit_history.specs.Unit.{PlainUnit}
-use Rattle.phases.specs.Queue.{Lent}
-use Rattle.phases.specs.Notes.{PlainNote}
+use Rattle.queues.specs.Queue.{Lent}
+use Rattle.unit_history.specs.Notes.{PlainNote}
 use Rattle.report.specs.declared.tally.Tally.{Tally}
 use Rattle.report.specs.Settled.{is_asked, is_used, uses, is_request, is_settled, count_accepted}
 use Rattle.report.specs.Closed.{IsFirst, is_outstanding}

@@ -10,10 +10,10 @@ use Rattle.history.specs.Steps.{has_entered, has_left}
 use Rattle.history.specs.Receipts.{Receipt}
 use Rattle.history.proofs.Tickets.{itself}
 use Rattle.unit_history.specs.Unit.{PlainUnit}
-use Rattle.phases.specs.Queue.{Lent}
-use Rattle.phases.specs.Notes.{PlainNote}
-use Rattle.phases.specs.declared.note.Cause.{Cause}
-use Rattle.phases.specs.declared.note.Cause.TheVariants as cause
+use Rattle.queues.specs.Queue.{Lent}
+use Rattle.unit_history.specs.Notes.{PlainNote}
+use Rattle.unit_history.specs.declared.note.Cause.{Cause}
+use Rattle.unit_history.specs.declared.note.Cause.TheVariants as cause
 use Rattle.report.specs.Settled.{answers, is_asked, is_used, is_request, is_settled, has_answer, where_entered, is_of, is_founded, is_right, are_right}
 use Rattle.report.specs.Closed.{IsReport, AreConfirmed, is_outstanding}
 use Rattle.report.specs.Unconfirmed.{AllStand, AllSound}

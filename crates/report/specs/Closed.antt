@@ -6,9 +6,9 @@ use Rattle.ring_core.specs.Sound.{IsSound}
 use Rattle.history.specs.Steps.{has_entered, has_left}
 use Rattle.history.specs.Receipts.{Receipt, IsConfirmed}
 use Rattle.unit_history.specs.Unit.{PlainUnit, IsUnit}
-use Rattle.phases.specs.Queue.{Lent}
-use Rattle.phases.specs.Notes.{PlainNote}
-use Rattle.phases.specs.declared.note.Cause.TheVariants as cause
+use Rattle.queues.specs.Queue.{Lent}
+use Rattle.unit_history.specs.Notes.{PlainNote}
+use Rattle.unit_history.specs.declared.note.Cause.TheVariants as cause
 use Rattle.report.specs.declared.report.Report.{Report}
 use Rattle.report.specs.declared.fault.CloseFault.{CloseFault}
 use Rattle.report.specs.declared.fault.CloseFault.TheVariants as fault

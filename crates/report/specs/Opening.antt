@@ -1,7 +1,7 @@
 -- The tallies before anything is read. Only private functions cite it: no promise stands on it.
 use Rattle.std.specs.Prelude.{ℕ, nat_lt, List, length, Vec, if◌then◌else◌}
 use Rattle.std.specs.declared.alloc.Global.{Global}
-use Rattle.phases.specs.Queue.{Lent}
+use Rattle.queues.specs.Queue.{Lent}
 use Rattle.report.specs.Tallies.{fresh, AreTallies}
 use Rattle.report.specs.declared.tally.Tally.{Tally}
 

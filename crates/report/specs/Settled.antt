@@ -7,10 +7,10 @@ use Rattle.history.specs.Steps.{Step, has_entered, has_left}
 use Rattle.history.specs.Marks.{marked}
 use Rattle.history.specs.Receipts.{Receipt}
 use Rattle.unit_history.specs.Unit.{PlainUnit}
-use Rattle.phases.specs.Queue.{Lent}
-use Rattle.phases.specs.Notes.{PlainNote}
-use Rattle.phases.specs.declared.note.Cause.{Cause}
-use Rattle.phases.specs.declared.note.Cause.TheVariants as cause
+use Rattle.queues.specs.Queue.{Lent}
+use Rattle.unit_history.specs.Notes.{PlainNote}
+use Rattle.unit_history.specs.declared.note.Cause.{Cause}
+use Rattle.unit_history.specs.declared.note.Cause.TheVariants as cause
 use Rattle.report.specs.Words.{has_busy, has_full}
 
 -- how many chains a queue accepted, if there is one

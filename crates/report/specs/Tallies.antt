@@ -10,10 +10,10 @@ use Rattle.unit_history.specs.Unit.{PlainUnit}
 use Rattle.unit_history.specs.Kept.{kind_of}
 use Rattle.unit_history.specs.declared.kind.StepKind.{StepKind}
 use Rattle.unit_history.specs.declared.kind.StepKind.TheVariants as kind
-use Rattle.phases.specs.Queue.{Lent}
-use Rattle.phases.specs.Notes.{PlainNote}
-use Rattle.phases.specs.declared.note.Cause.{Cause}
-use Rattle.phases.specs.declared.note.Cause.TheVariants as cause
+use Rattle.queues.specs.Queue.{Lent}
+use Rattle.unit_history.specs.Notes.{PlainNote}
+use Rattle.unit_history.specs.declared.note.Cause.{Cause}
+use Rattle.unit_history.specs.declared.note.Cause.TheVariants as cause
 use Rattle.report.specs.Words.{is_before}
 use Rattle.report.specs.Settled.{is_request}
 use Rattle.report.specs.declared.tally.Answer.{Answer}

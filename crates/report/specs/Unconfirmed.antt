@@ -4,7 +4,7 @@ use Rattle.ring_core.specs.declared.log.Ticket.{Ticket}
 use Rattle.ring_core.specs.Sound.{IsSound}
 use Rattle.history.specs.Receipts.{Receipt}
 use Rattle.unit_history.specs.Unit.{PlainUnit, IsUnit}
-use Rattle.phases.specs.Queue.{Lent}
+use Rattle.queues.specs.Queue.{Lent}
 use Rattle.report.specs.Closed.{AreConfirmed, IsFirstUnconfirmed}
 
 -- the first ticket of a receipt that isn't confirmed, if there is one

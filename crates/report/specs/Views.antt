@@ -1,7 +1,7 @@
 -- What a report tells of its queues.
 use Rattle.std.specs.Prelude.{ℕ, cond, is_some, List}
 use Rattle.std.specs.List.{list_any}
-use Rattle.phases.specs.Queue.{Lent}
+use Rattle.queues.specs.Queue.{Lent}
 
 -- DEVICE_NEEDS_RESET (VIRTIO 1.2, 2.1) where a queue is broken
 abbrev pub status_of : List Lent → ℕ

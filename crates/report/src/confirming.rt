@@ -8,7 +8,7 @@ ghost use Rattle.report.specs.Closed.{IsConfirmedBy};
 ghost use Rattle.report.specs.Unconfirmed.{Confirms, with_unconfirmed, AllStand, AllSound};
 
 use crate::least::lesser;
-use phases::Queue;
+use queues::Queue;
 use ring_core::Ticket;
 use unit_history::{Receipt, UnitState};
 

@@ -9,7 +9,7 @@ ghost use Rattle.report.specs.Tallies.{lesser_of, tally_at};
 ghost use Rattle.report.specs.Sources.{unused_in, unsettled_in, amiss_in, amiss_of};
 
 use crate::tables::Tables;
-use phases::Queue;
+use queues::Queue;
 use ring_core::Ticket;
 
 /// By queue, then by number.

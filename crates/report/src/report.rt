@@ -4,9 +4,9 @@ ghost use Rattle.std.specs.Prelude.{◌≡◌, is_some};
 ghost use Rattle.std.specs.List.{list_any};
 
 use guest_mem::GuestMem;
-use phases::{Note, Queue};
+use queues::Queue;
 use ring_core::QueueLog;
-use unit_history::{Receipt, UnitState};
+use unit_history::{Note, Receipt, UnitState};
 
 /// Whether a fault of the guest broke a queue.
 fn is_any_broken(queues: &[Queue]) -> bool

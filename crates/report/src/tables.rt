@@ -3,13 +3,13 @@
 ghost use Rattle.std.specs.Prelude.{◌≡◌, ◌+◌, ◌<◌, ◌==◌, ℕ, List, length, replicate, slice_get, if◌then◌else◌, is_some, IfOk, Option};
 ghost use Rattle.std.specs.Option.{option_map};
 ghost use Rattle.ring_core.specs.declared.log.Ticket.{Ticket as ATicket};
-ghost use Rattle.phases.specs.Queue.{Lent};
+ghost use Rattle.queues.specs.Queue.{Lent};
 ghost use Rattle.report.specs.Tallies.{fresh, after, marking, tells, tally_in, tally_at, ends_amiss};
 ghost use Rattle.report.specs.Opening.{asked_count, Opens};
 
 use crate::tally::{Fact, Tally, TicketFact};
 use block_store::NoMemory;
-use phases::Queue;
+use queues::Queue;
 use ring_core::Ticket;
 use std::alloc::Global;
 

@@ -3,9 +3,8 @@
 ghost use Rattle.std.specs.Prelude.{◌≡◌, Option};
 ghost use Rattle.report.specs.Tallies.{joined, is_wrong, fresh, after, is_fine, ends_well, fact_of, fact_of_one};
 
-use phases::Cause;
 use ring_core::Ticket;
-use unit_history::StepKind;
+use unit_history::{Cause, StepKind};
 
 /// What a request was answered with so far.
 #[derive(Clone, Copy, Debug, PartialEq, Eq)]

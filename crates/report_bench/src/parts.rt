@@ -2,7 +2,7 @@
 
 use decisions::{Inventory, MOST_UNITS, UnitSpec, are_rising};
 use guest_mem::GuestMem;
-use phases::{Queue, is_placed};
+use queues::{Queue, is_placed};
 use ring_core::{Form, Layout};
 use std::alloc::Global;
 use unit_history::UnitState;
@@ -109,6 +109,15 @@ pub(crate) fn put(memory: &mut GuestMem, number: u16, request: &[u8], room: u32)
     put_descriptor(memory, page, page + REQUEST, len, NEXT);
     put_descriptor(memory, page + 16, page + RESPONSE, room, WRITE);
     let _ = memory.write(page + 1026, &[1]);
+}
+
+/// How many chains of a queue were used, below 256.
+pub(crate) fn used(memory: &GuestMem, number: u16) -> Option<u8> {
+    let mut bytes = [0];
+    memory
+        .read(PAGE * u64::from(number) + 2050, &mut bytes)
+        .ok()?;
+    Some(bytes[0])
 }
 
 impl Parts {

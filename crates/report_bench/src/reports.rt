@@ -1,11 +1,10 @@
 //! Reports with something amiss, and what is said of them.
 
 use crate::parts::Parts;
-use crate::serving::{Asked, REFUSED, RUN, fetch, refuse, serve};
-use phases::{Given, Note};
+use crate::serving::{REFUSED, REFUSED_FIRST, RUN};
 use report::{CloseFault, Report, examine};
 use std::alloc::Global;
-use unit_history::Receipt;
+use unit_history::{Given, Note, Receipt};
 
 /// What is amiss in a report of a device whose queue 2 had a request that ran, and whose queue 3 had one that was
 /// refused.
@@ -38,7 +37,7 @@ struct Closed {
 /// The first request ran, and the second wasn't asked.
 fn with_first(alloc: Global) -> Option<Closed> {
     let mut parts = Parts::new(alloc)?;
-    let Given::Receipt(receipt) = serve(alloc, &mut parts, &RUN)? else {
+    let Given::Receipt(receipt) = parts.serve(alloc, &RUN)? else {
         return None;
     };
     let mut receipts = Vec::new(alloc);
@@ -53,21 +52,14 @@ fn with_first(alloc: Global) -> Option<Closed> {
 /// Both were served.
 fn with_both(alloc: Global) -> Option<Closed> {
     let mut closed = with_first(alloc)?;
-    let note = refuse(&mut closed.parts, &REFUSED)?;
+    let note = closed.parts.refuse(&REFUSED)?;
     closed.notes.push(note).ok()?;
     Some(closed)
 }
 
 /// A note of the first chain of queue 2, as another device gave it.
 fn another_note(alloc: Global) -> Option<Note> {
-    let mut parts = Parts::new(alloc)?;
-    refuse(
-        &mut parts,
-        &Asked {
-            queue: 2,
-            ..REFUSED
-        },
-    )
+    Parts::new(alloc)?.refuse(&REFUSED_FIRST)
 }
 
 /// With what is amiss.
@@ -85,7 +77,7 @@ fn closed_with(alloc: Global, amiss: Amiss) -> Option<Closed> {
         Amiss::HistoryLost => closed.parts.units = Parts::new(alloc)?.units,
         Amiss::ChainUnused => {
             closed = with_first(alloc)?;
-            fetch(&mut closed.parts, &REFUSED)?;
+            closed.parts.fetch(&REFUSED)?;
         }
         Amiss::NoteOfAnother => {
             closed.receipts.clear();

@@ -153,6 +153,3 @@ impl Sense {
         bytes
     }
 }
-
-#[cfg(test)]
-mod tests;

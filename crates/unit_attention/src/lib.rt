@@ -12,6 +12,3 @@ pub use laws::{
     codes_stay_distinct, known_codes_are_the_constants, oldest_stays_first, raised_code_is_pending,
     raising_again_changes_nothing,
 };
-
-#[cfg(test)]
-mod tests;

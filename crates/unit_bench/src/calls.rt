@@ -1,9 +1,9 @@
 //! The calls of a unit, each with whether its history is then longer by the step that its answer says, or by none.
 
 use crate::acts::{Comes, Ends};
-use block_commands::{CHECK_CONDITION, GOOD, Reply};
 use block_store::NoMemory;
 use history::{Reason, Rule};
+use replies::{CHECK_CONDITION, GOOD, Reply};
 use ring_core::{Answered, Ticket};
 use unit_attention::Code;
 use unit_history::{Arrival, Entered, Job, JobList, Outcome, Place, Receipt, StepKind, UnitState};

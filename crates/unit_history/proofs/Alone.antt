@@ -4,8 +4,8 @@ use Rattle.ring_core.specs.declared.log.Ticket.{Ticket}
 use Rattle.block_store.specs.Blocks.{Blocks}
 use Rattle.block_store.specs.declared.NoMemory.{NoMemory}
 use Rattle.unit_attention.specs.declared.code.Code.{Code}
+use Rattle.replies.specs.declared.reply.Reply.{Reply}
 use Rattle.block_commands.specs.Facts.{Facts}
-use Rattle.block_commands.specs.declared.reply.Reply.{Reply}
 use Rattle.decisions.specs.declared.attribute.TaskAttribute.{TaskAttribute}
 use Rattle.decisions.specs.declared.attribute.TaskAttribute.TheVariants.{Simple, Ordered, HeadOfQueue}
 use Rattle.history.specs.Tasks.{Entry, blocks, is_blocked}

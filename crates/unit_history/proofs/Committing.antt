@@ -3,9 +3,9 @@ use Rattle.std.proofs.Common.{◌≡◌, ℕ, ◌+◌, ◌≤◌, Bool, inl, inr
 use Rattle.ring_core.specs.declared.log.Ticket.{Ticket}
 use Rattle.block_store.specs.Blocks.{Blocks}
 use Rattle.unit_attention.specs.declared.code.Code.{Code}
+use Rattle.replies.specs.PlainReply.{PlainReply, plain_of}
 use Rattle.block_commands.specs.Effects.{block_after}
 use Rattle.block_commands.specs.Facts.{Facts}
-use Rattle.block_commands.specs.PlainReply.{PlainReply, plain_of}
 use Rattle.block_commands.specs.Replies.{reply_of}
 use Rattle.history.specs.declared.reason.Reason.{Reason}
 use Rattle.history.specs.Tasks.{Entry, task_of}

@@ -7,11 +7,11 @@ use Rattle.block_store.specs.Blocks.{Blocks, zero_block}
 use Rattle.unit_attention.specs.declared.code.Code.{Code}
 use Rattle.unit_attention.specs.Pending.{raised}
 use Rattle.cdb.specs.declared.commands.Command.{Command}
+use Rattle.replies.specs.PlainReply.{PlainReply, replied}
 use Rattle.block_commands.specs.Attention.{met}
 use Rattle.block_commands.specs.Effects.{block_after}
 use Rattle.block_commands.specs.Facts.{Facts, facts_of}
 use Rattle.block_commands.specs.declared.facts.UnitFacts.{UnitFacts}
-use Rattle.block_commands.specs.PlainReply.{PlainReply, replied}
 use Rattle.block_commands.specs.Replies.{reply_of, reported}
 use Rattle.block_commands.proofs.Ranges.{answer_of-agree}
 use Rattle.history.specs.declared.rule.Rule.{Rule}

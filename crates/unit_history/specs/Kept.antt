@@ -1,6 +1,6 @@
 -- What is kept of a step at run time: its kind, and of a Commit its reply, where replies are kept.
 use Rattle.std.specs.Prelude.{◌-◌, Bool, ◌&&◌, nat_le, List, length, drop, Option, Some, None, if◌then◌else◌}
-use Rattle.block_commands.specs.PlainReply.{PlainReply}
+use Rattle.replies.specs.PlainReply.{PlainReply}
 use Rattle.ring_core.specs.declared.log.Ticket.{Ticket}
 use Rattle.history.specs.Steps.{Step}
 use Rattle.history.specs.Receipts.{latest_kept, longest_kept}

@@ -3,8 +3,8 @@ use Rattle.std.specs.Prelude.{ℕ, ◌≡◌, ◌-◌, Bool, true, false, nat_lt
 use Rattle.std.specs.declared.collections.VecDeque.{VecDeque}
 use Rattle.std.specs.VecDeque.{deque_capacity, deque_len}
 use Rattle.std.specs.Option.{option_map}
-use Rattle.block_commands.specs.PlainReply.{PlainReply, plain_of}
-use Rattle.block_commands.specs.declared.reply.Reply.{Reply}
+use Rattle.replies.specs.PlainReply.{PlainReply, plain_of}
+use Rattle.replies.specs.declared.reply.Reply.{Reply}
 use Rattle.history.specs.Tasks.{Entry}
 use Rattle.history.specs.Steps.{Step}
 use Rattle.unit_history.specs.declared.kind.StepKind.{StepKind}

@@ -6,8 +6,8 @@ ghost use Rattle.history.specs.Endings.{Ending};
 ghost use Rattle.task_set.specs.Jobs.{PlainJob};
 ghost use Rattle.unit_history.specs.Endings.{ending_of_run};
 
-use block_commands::Reply;
 use block_store::NoMemory;
+use replies::Reply;
 use ring_core::Answered;
 use task_set::Arrival;
 

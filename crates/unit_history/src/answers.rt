@@ -2,11 +2,11 @@
 
 ghost use Rattle.std.specs.Prelude.{◌≡◌, Option, Some, None};
 ghost use Rattle.std.specs.Option.{option_map};
-ghost use Rattle.block_commands.specs.PlainReply.{plain_of};
+ghost use Rattle.replies.specs.PlainReply.{plain_of};
 ghost use Rattle.unit_history.specs.Calls.{entered_of};
 
-use block_commands::Reply;
 use history::Reason;
+use replies::Reply;
 use ring_core::Ticket;
 use scsi_codec::Address;
 use std::error::Error;
@@ -78,7 +78,7 @@ pub struct Receipt {
 
 impl Model for Receipt {
     ghost use Rattle.std.specs.Option.{option_map};
-    ghost use Rattle.block_commands.specs.PlainReply.{plain_of};
+    ghost use Rattle.replies.specs.PlainReply.{plain_of};
     ghost use Rattle.history.specs.Receipts as receipts;
 
     ghost Value = { receipts.Receipt };

@@ -2,7 +2,7 @@
 
 ghost use Rattle.std.specs.Prelude.{◌≡◌, ◌+◌, ◌<◌, ◌≤◌, [], ◌∷◌, ◌++◌, length, OnOk, Option, Some, None, slice_get, IsTrue, ◌↔◌, if◌then◌else◌};
 ghost use Rattle.std.specs.Option.{option_map};
-ghost use Rattle.block_commands.specs.PlainReply.{PlainReply, plain_of};
+ghost use Rattle.replies.specs.PlainReply.{PlainReply, plain_of};
 ghost use Rattle.history.specs.Clearing.{rule_at};
 ghost use Rattle.history.specs.Receipts.{step_at, latest_kept, is_kept, Agrees};
 ghost use Rattle.history.specs.Steps.{Step};
@@ -11,9 +11,9 @@ ghost use Rattle.unit_history.specs.Noted.{step_noted, spare_of_deque, kept_ther
 
 use crate::kind::StepKind;
 use crate::noted::NotedStep;
-use block_commands::Reply;
 use history::Rule;
 use record::Record;
+use replies::Reply;
 use ring_core::Ticket;
 use std::alloc::{AllocError, Global};
 use std::collections::VecDeque;

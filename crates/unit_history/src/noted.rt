@@ -1,16 +1,16 @@
 //! Steps as proofs see them: with the data of their commands and replies, which no bytes keep.
 
 ghost use Rattle.std.specs.Prelude.{◌≡◌};
-ghost use Rattle.block_commands.specs.PlainReply.{plain_of};
+ghost use Rattle.replies.specs.PlainReply.{plain_of};
 ghost use Rattle.unit_history.specs.Kept.{kind_of};
 ghost use Rattle.unit_history.specs.Noted.{entry_noted, reply_noted, step_noted};
 
 use crate::kind::StepKind;
-use block_commands::Reply;
 use cdb::Command;
 use decisions::TaskAttribute;
 use history::Rule;
 use record::Record;
+use replies::Reply;
 use ring_core::Ticket;
 use sense::Sense;
 use task_set::Arrival;

@@ -3,17 +3,18 @@
 ghost use Rattle.std.specs.Prelude.{◌≡◌, ◌≤◌, ◌<◌, ℕ, IfSome, IsTrue, if◌then◌else◌, length, true, IfOk, OnErr, nat_lt};
 ghost use Rattle.std.specs.Option.{option_map};
 ghost use Rattle.cdb.specs.Need.{need_of};
+ghost use Rattle.replies.specs.PlainReply.{plain_of};
 ghost use Rattle.block_commands.specs.Facts.{facts_of};
-ghost use Rattle.block_commands.specs.PlainReply.{plain_of};
 ghost use Rattle.sense.specs.Conditions.{unit_attention};
 ghost use Rattle.history.specs.Contents.{oldest, pending_at_start};
 ghost use Rattle.unit_history.specs.Kept.{kept_reply};
 ghost use Rattle.unit_history.specs.Performing.{Performs, told, taken};
 
 use crate::log::LONGEST_KEPT;
-use block_commands::{Reply, UnitFacts, exec, takes_attention};
+use block_commands::{UnitFacts, exec, takes_attention};
 use block_store::{NoMemory, Store};
 use cdb::Command;
+use replies::Reply;
 use sense::Sense;
 use std::alloc::{AllocError, Global};
 use task_set::Task;

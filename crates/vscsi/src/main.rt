@@ -1,20 +1,15 @@
 //! `vscsi` runs a virtio SCSI host device over a guest that a script plays.
 #![tactic(auto)]
 
-mod ending;
-mod output;
-mod words;
-
-use ending::Ending;
-use guest_script::{LineFault, ScriptFault, play, serve};
-use output::Output;
+use command_line::{Asked, Ending, Output, requested};
+use guest_script::{LineFault, ScriptFault, play};
+use served_script::serve;
 use std::io::{BufWriter, ErrorKind, Read, Write};
 use std::process::ExitCode;
 use std::rt::{Env, Files};
 use std::sync::Wait;
 use std::thread::Threads;
 use std::{env, fs, io};
-use words::{Asked, requested};
 
 /// Asks what the words ask for, does it, and ends with a status: 0 done, 1 a fault of the script or
 /// of standard output, 2 words that are refused or ask for help, 3 no memory.

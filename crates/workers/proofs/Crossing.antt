@@ -1,4 +1,4 @@
--- What a worker begins with and brings back may go to another thread. The search alone finds it of small types only.
+-- What a worker begins with may go to another thread, and threads may share what a host has. The search alone finds it of small types only.
 use denote.Param.Send.{IsSend, IsSync, sendable, recorded_send, struct_send, enum_send}
 use denote.Param.SendFields.{declared_send, declared_sync}
 use denote.RattleType.{RattleType}
@@ -8,12 +8,11 @@ use denote.Enum.Declared.{shape as enum_shape}
 use Rattle.std.proofs.Crossing.{crosses, send, sync, frees}
 use Rattle.std.specs.contracts.option.Option.{the_field as option_field, the_type as option_type}
 use Rattle.handoff.proofs.Crossing.{job_sends, seat_sends}
+use Rattle.keeping.proofs.Crossing.{kept_sends}
 use Rattle.task_set.specs.contracts.job.JobList.{the_row as list_row}
 use Rattle.task_set.specs.contracts.job.JobList.TheInside as list
 use Rattle.ring_core.proofs.answered.Answered.TheSendSync as answered
 use Rattle.unit_history.proofs.answers.Outcome.TheSendSync as outcome
-use Rattle.unit_history.proofs.answers.Receipt.TheSendSync as receipt
-use Rattle.phases.proofs.note.Note.TheSendSync as note
 use Rattle.phases.specs.contracts.held.Held.{the_row as held_row}
 use Rattle.phases.specs.contracts.held.Held.TheInside as held
 use Rattle.phases.specs.contracts.hand.Hand.{the_field as hand_field, the_type as hand_type}
@@ -31,9 +30,7 @@ use Rattle.crossbeam_queue.proofs.array_queue.Slotted.TheSendSync as slotted
 use Rattle.handoff.specs.contracts.queue.Handoff.{the_row as handoff_row}
 use Rattle.handoff.specs.contracts.queue.Handoff.TheInside as handoff
 use Rattle.workers.specs.contracts.shared.Shared.{the_row as shared_row, the_type as shared_type}
-use Rattle.workers.specs.contracts.kept.Kept.{the_field as kept_field, the_type as kept_type}
 use Rattle.workers.specs.contracts.post.Post.{the_field as post_field, the_type as post_type}
-use Rattle.workers.specs.contracts.worker.Worked.{the_field as worked_field, the_type as worked_type}
 
 option_sends : (R : RattleType) → IsSend (row_field R).row → IsSend (option_field R).row
 option_sends R s = enum_send (enum_shape (option_type R)) (tt, ((s, tt), tt))
@@ -55,14 +52,8 @@ held_sends = search (sendable, held_fields)
 hand_sends : IsSend hand_field.row
 hand_sends = enum_send (enum_shape hand_type) (tt, ((held_sends, tt), ((search sendable, (answered.the_send, tt)), tt)))
 
-kept_sends : IsSend kept_field.row
-kept_sends = struct_send (shape kept_type) (search (crosses, receipt.the_send), (search (crosses, note.the_send), tt))
-
 pub post_sends : IsSend post_field.row
 post_sends = struct_send (shape post_type) (seat_sends, (list_sends, (hand_sends, (kept_sends, tt))))
-
-pub worked_sends : IsSend worked_field.row
-worked_sends = struct_send (shape worked_type) (seat_sends, (kept_sends, tt))
 
 handoff_fields_sync : IsSync handoff.the_row
 handoff_fields_sync = declared_sync handoff.the_type

@@ -1,3 +1,1 @@
-pub mod Keeping
-pub mod Crews
 pub mod Crossing

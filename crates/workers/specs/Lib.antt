@@ -1,4 +1,1 @@
-pub mod Rooms
-pub mod Keeping
-pub mod Crew
 pub mod Extent

@@ -6,39 +6,42 @@ ghost use Rattle.handoff.specs.Seats.{IsSeatOf, IsSameSeat};
 ghost use Rattle.config.specs.Config.{is_config};
 ghost use Rattle.workers.specs.Extent.{Starts, extent_of};
 
-use crate::closing::{report, unshared};
 use crate::control::raise;
-use crate::crew::{dismiss, hire_all, join_all};
-use crate::hired::{Hired, Works};
-use crate::opening::open;
 use crate::post::{Post, clear, finish};
 use crate::shared::Shared;
-use crate::worker::{Worked, Worker, work};
+use crate::worker::{Worker, work};
 use bays::{Gate, hard_on, hold};
 use block_store::NoMemory;
 use config::{Config, StartFault};
+use crew::{Crew, Worked, Works, hire, unshared};
 use event_queue::WaitingEvents;
 use guest_mem::MemFault;
-use handoff::Handoff;
+use handoff::{Handoff, Seat};
+use keeping::{Kept, report};
+use parts::Parts;
 use report::{CloseFault, Report};
-use std::alloc::Global;
+use std::alloc::{AllocError, Global};
 use std::marker::Model;
 use std::sync::{Arc, Wait};
 use std::thread::Threads;
 use task_set::MOST_TASKS;
 
-impl<G: Gate + Drop> Works<Post> for Shared<G> {
+impl<G: Gate + Drop> Works<Post, Kept> for Shared<G> {
     ghost hub = { λ s. s.handoff };
 
     fn handoff(&self) -> &Handoff {
         &self.handoff
     }
 
+    fn begin(&self, alloc: Global, seat: Seat, limit: usize) -> Result<Post, AllocError> {
+        Post::new(alloc, seat, limit)
+    }
+
     fn close(&self) {
         Shared::close(self);
     }
 
-    fn work<R: Wait>(&self, rt: &R, post: Post, number: usize, workers: usize) -> Worked {
+    fn work<R: Wait>(&self, rt: &R, post: Post, number: usize, workers: usize) -> Worked<Kept> {
         let worker = Worker {
             post,
             number,
@@ -66,15 +69,12 @@ where
     requires valid { is_config config.now ≡ true }
     ensures { IfOk result (λ h. h ≡ extent_of config.now) }
 {
-    let workers = config.workers as usize;
-    let (handoff, mut seats) = Handoff::new(alloc, config.handoff as usize, workers + 1)?;
-    let Some(last) = seats.pop() else {
-        unreachable!()
-    };
+    let seats = config.workers as usize + 1;
+    let (handoff, seats) = Handoff::new(alloc, config.handoff as usize, seats)?;
     let limit = MOST_TASKS * config.units.len() + MOST_TASKS;
-    let post = Post::new(alloc, last, limit)?;
-    let shared = share(alloc, open(alloc, config, handoff, gate)?)?;
-    let crew = hire_all(rt, alloc, &shared, seats, limit)?;
+    let parts = Parts::open(alloc, config)?;
+    let shared = share(alloc, Shared::new(parts, handoff, gate))?;
+    let (crew, post) = hire(rt, alloc, &shared, seats, limit)?;
     Ok(Host {
         alloc,
         shared,
@@ -113,28 +113,28 @@ fn reset<R: Wait, G: Gate + Drop>(
 pub struct Host<G: Gate + Drop> {
     alloc: Global,
     shared: Arc<Shared<G>>,
-    crew: Vec<Hired>,
+    crew: Crew<Kept>,
     // What the operator's seat has, and the events that wait.
     post: Post,
     waiting: WaitingEvents,
 }
 
 impl<G: Gate + Drop> Model for Host<G> {
-    ghost use Rattle.std.specs.Prelude.{◌≤◌, vec_len};
+    ghost use Rattle.std.specs.Prelude.{◌≡◌, ◌≤◌, vec_len};
     ghost use Rattle.std.specs.Arc.{arc_value};
-    ghost use Rattle.workers.specs.Crew.{IsWhole};
+    ghost use Rattle.crew.specs.Crew.{IsLastSeat};
     ghost use Rattle.workers.specs.Extent.{Extent};
 
     ghost Value = { Extent };
 
     ghost view = { λ h. record {
-      workers = vec_len h.crew;
+      workers = h.crew.threads;
       units = vec_len (arc_value h.shared).units;
       queues = vec_len (arc_value h.shared).queues;
     } };
 
     ghost invariant = { λ h. (vec_len (arc_value h.shared).queues ≤ 18)
-        × IsWhole (arc_value h.shared).handoff h.crew.items h.post.seat };
+        × (h.crew.hub ≡ (arc_value h.shared).handoff) × IsLastSeat (arc_value h.shared).handoff h.post.seat };
 }
 
 impl<G: Gate + Drop> Host<G> {
@@ -220,19 +220,17 @@ impl<G: Gate + Drop> Host<G> {
         finish(rt, &*shared, &mut post);
         let Post { seat, kept, .. } = post;
         Shared::close(&*shared);
-        let room = crew.len() + 1;
-        let (Ok(seats), Ok(all)) = (
-            Vec::with_capacity(alloc, room),
-            Vec::with_capacity(alloc, room),
-        ) else {
-            dismiss(rt, &*shared, crew);
+        let Ok((seats, all)) = crew.join(rt, alloc, seat, kept) else {
             return Err(CloseFault::NoMemory);
         };
-        let (mut seats, mut all) = join_all(rt, crew, seats, all);
-        seats.push_reserved(seat);
-        all.push_reserved(kept);
-        let shared = unshared(rt, shared);
-        shared.handoff.gather(seats);
-        report(alloc, shared, all)
+        let Shared {
+            units,
+            queues,
+            memory,
+            handoff,
+            ..
+        } = unshared(rt, shared);
+        handoff.gather(seats);
+        report(alloc, units, queues, memory, all)
     }
 }

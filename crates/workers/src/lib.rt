@@ -2,13 +2,8 @@
 //! between the threads.
 #![tactic(auto)]
 
-mod closing;
 mod control;
-mod crew;
-mod hired;
 mod host;
-mod kept;
-mod opening;
 mod post;
 mod requests;
 mod shared;
@@ -17,6 +12,5 @@ mod worker;
 pub use bays::{Gate, Open, Point};
 pub use config::{Config, StartFault};
 pub use host::Host;
-pub use phases::{Cause, Note};
 pub use report::{CloseFault, Report};
-pub use unit_history::Receipt;
+pub use unit_history::{Cause, Note, Receipt};

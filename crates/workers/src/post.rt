@@ -3,13 +3,13 @@
 ghost use Rattle.std.specs.Prelude.{◌≡◌, IfOk};
 ghost use Rattle.handoff.specs.Seats.{IsSeatOf, IsSameSeat};
 ghost use Rattle.std.specs.Bool.{OnTrue};
-ghost use Rattle.workers.specs.Rooms.{HasRoomForOne};
+ghost use Rattle.keeping.specs.Rooms.{HasRoomForOne};
 
-use crate::hired::Begins;
-use crate::kept::Kept;
 use crate::shared::Shared;
 use bays::{Gate, Point, answer_on, commit_on, leave_on};
+use crew::Begins;
 use handoff::Seat;
+use keeping::Kept;
 use phases::Hand;
 use ring_core::Ticket;
 use std::alloc::{AllocError, Global};

@@ -2,14 +2,15 @@
 
 ghost use Rattle.std.specs.Prelude.{◌≡◌, ◌<◌, vec_len};
 ghost use Rattle.handoff.specs.Seats.{IsSeatOf, IsSameSeat};
-ghost use Rattle.workers.specs.Rooms.{HasRoomForOne};
+ghost use Rattle.keeping.specs.Rooms.{HasRoomForOne};
 
 use crate::post::{Post, clear, commit, is_long, serve_hand, take_own};
 use crate::shared::Shared;
 use bays::{Gate, Point, direct_on, enter_on, fetch_on};
-use phases::{Given, Slot};
+use phases::Slot;
 use ring_core::Ticket;
 use std::sync::Wait;
+use unit_history::Given;
 
 /// How many jobs of a queue a worker serves in a row.
 const IN_A_ROW: usize = 16;

@@ -7,7 +7,8 @@ use decisions::Inventory;
 use event_queue::EventPort;
 use guest_mem::GuestMem;
 use handoff::Handoff;
-use phases::Queue;
+use parts::Parts;
+use queues::Queue;
 use std::sync::atomic::{AtomicBool, AtomicU64, Ordering};
 use std::sync::{Mutex, Wait};
 use unit_history::UnitState;
@@ -32,6 +33,34 @@ pub(crate) struct Shared<G: Gate + Drop> {
 }
 
 impl<G: Gate + Drop> Shared<G> {
+    /// Of the parts of a device, at this hand-off. No worker is to end.
+    pub(crate) fn new(parts: Parts, handoff: Handoff, gate: G) -> Shared<G>
+        ensures handoff { result.handoff ≡ handoff }
+        ensures units { vec_len result.units ≡ vec_len parts.units }
+        ensures queues { vec_len result.queues ≡ vec_len parts.queues }
+    {
+        let Parts {
+            units,
+            queues,
+            memory,
+            port,
+            inventory,
+        } = parts;
+        Shared {
+            units,
+            queues,
+            port,
+            inventory,
+            handoff,
+            gate,
+            closing: AtomicBool::new(false),
+            waiting: AtomicU64::new(0),
+            _before: [0; 16],
+            memory,
+            _behind: [0; 16],
+        }
+    }
+
     /// What lends its units, its queues and its memory.
     pub(crate) fn bays<'a, R: Wait>(&'a self, rt: &'a R) -> Locked<'a, R>
         ensures units { length result.units.now ≡ vec_len self.now.units }

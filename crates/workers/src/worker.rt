@@ -4,12 +4,12 @@ ghost use Rattle.std.specs.Prelude.{◌≡◌, ◌<◌};
 ghost use Rattle.handoff.specs.Seats.{IsSeatOf, IsSameSeat};
 
 use crate::control::{fetch_event, manage};
-use crate::kept::Kept;
 use crate::post::{Post, clear, take};
 use crate::requests::fetch;
 use crate::shared::Shared;
 use bays::Gate;
-use handoff::Seat;
+use crew::Worked;
+use keeping::Kept;
 use phases::OpenFunction;
 use std::sync::Wait;
 use std::thread;
@@ -28,15 +28,8 @@ pub(crate) struct Worker {
     pub(crate) workers: usize,
 }
 
-/// What a worker brings back.
-#[derive(Drop)]
-pub(crate) struct Worked {
-    pub(crate) seat: Seat,
-    pub(crate) kept: Kept,
-}
-
 /// What a seat brings back.
-fn ends(post: Post) -> Worked
+fn ends(post: Post) -> Worked<Kept>
     ensures { result.seat ≡ post.seat }
 {
     let Post { seat, kept, .. } = post;
@@ -102,7 +95,11 @@ fn round<R: Wait, G: Gate + Drop>(
 }
 
 /// Works until the host closes, and a round then looked at all queues, found nothing to do and left the worker nothing.
-pub(crate) fn work<R: Wait, G: Gate + Drop>(rt: &R, shared: &Shared<G>, worker: Worker) -> Worked
+pub(crate) fn work<R: Wait, G: Gate + Drop>(
+    rt: &R,
+    shared: &Shared<G>,
+    worker: Worker,
+) -> Worked<Kept>
     requires some { 0 < worker.workers }
     requires seat { IsSeatOf shared.now.handoff worker.post.seat }
     ensures seat { IsSameSeat worker.post.seat result.seat }

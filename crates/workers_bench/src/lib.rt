@@ -10,4 +10,4 @@ mod together;
 
 pub use resetting::{Told, reset};
 pub use runs::{Left, is_refused, serve, serve_nothing};
-pub use together::{Together, meet, serve_together};
+pub use together::{Together, contend, meet, serve_together};

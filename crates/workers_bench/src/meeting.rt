@@ -6,8 +6,11 @@ use std::sync::atomic::{AtomicU64, Ordering};
 use std::thread;
 use workers::{Gate, Point};
 
-/// For how many turns a thread waits for the other.
-const TURNS: u32 = 10_000_000;
+/// For how many turns a thread waits for another that comes.
+pub(crate) const LONG: u32 = 10_000_000;
+
+/// For how many it waits for one that can't come.
+pub(crate) const SHORT: u32 = 100_000;
 
 /// How many threads came to each point of a gate, and how often one went on without the other.
 #[derive(Drop)]
@@ -44,22 +47,24 @@ impl Seen {
         }
     }
 
-    /// Whether two came to each of these points, and neither went on without the other.
-    pub(crate) fn have_met(&self, points: &[Point]) -> bool {
+    /// How often one went on without the other; `None` where two didn't come to each of these points.
+    pub(crate) fn missed(&self, points: &[Point]) -> Option<u64> {
         for point in points {
             if self.came(*point).load(Ordering::SeqCst) != 2 {
-                return false;
+                return None;
             }
         }
-        self.missed.load(Ordering::SeqCst) == 0
+        Some(self.missed.load(Ordering::SeqCst))
     }
 }
 
-/// A gate that holds the first request of each queue up at these points, until that of another queue came there too.
+/// A gate that holds the first request of each queue up at these points, until that of another queue came there too, or,
+/// where its unit's lock is held, for so many turns.
 #[derive(Drop)]
 pub(crate) struct Meeting {
     pub(crate) seen: Arc<Seen>,
     pub(crate) points: &'static [Point],
+    pub(crate) turns: u32,
 }
 
 impl Gate for Meeting {
@@ -69,7 +74,12 @@ impl Gate for Meeting {
         }
         let came = self.seen.came(point);
         came.fetch_add(1, Ordering::SeqCst);
-        for _ in 0..TURNS {
+        let turns = if point == Point::Locked {
+            self.turns
+        } else {
+            LONG
+        };
+        for _ in 0..turns {
             if came.load(Ordering::SeqCst) >= 2 {
                 return;
             }

@@ -1,7 +1,7 @@
 //! Two workers that serve at once.
 
 use crate::guest::{Asked, are_answered, ask};
-use crate::meeting::{Meeting, Seen};
+use crate::meeting::{LONG, Meeting, SHORT, Seen};
 use crate::runs::{FIRST, Left, start};
 use std::alloc::Global;
 use std::sync::{Arc, Wait};
@@ -67,11 +67,15 @@ const TWO: [Asked; 2] = [
     },
 ];
 
+/// Two requests for one unit, each on a queue of its own.
+const ONE: [Asked; 2] = [READ, Asked { queue: 3, ..READ }];
+
 /// How two workers served.
 #[derive(Clone, Copy, Debug, PartialEq, Eq)]
 pub struct Together {
-    /// Whether the first requests of both queues came to each point at once.
-    pub met: bool,
+    /// How often the first request of a queue went on from a point where that of the other hadn't come; `None` where
+    /// not both came to each point.
+    pub missed: Option<u64>,
     /// Whether the guest saw that all were answered.
     pub answered: bool,
     /// What the closed host left.
@@ -104,12 +108,12 @@ fn is_written(alloc: Global, unit: &UnitState) -> Option<bool> {
 }
 
 /// How a closed host served.
-fn told(alloc: Global, report: &Report, met: bool, answered: bool) -> Option<Together> {
+fn told(alloc: Global, report: &Report, missed: Option<u64>, answered: bool) -> Option<Together> {
     let (Some(first), Some(second)) = (report.units.get(0), report.units.get(1)) else {
         return None;
     };
     Some(Together {
-        met,
+        missed,
         answered,
         left: Left {
             receipts: report.receipts.len(),
@@ -129,23 +133,25 @@ fn ask_all<R: Wait>(rt: &R, host: &Host<Meeting>, all: &[Asked], counts: (u8, u8
 }
 
 /// How two workers serve what a guest asks for on two queues, so many on each, of which the first requests are held up
-/// at these points; `None` where memory was refused, or the closed host doesn't add up.
+/// at these points, where a unit's lock is held for so many turns at most; `None` where memory was refused, or the closed host doesn't add up.
 fn serve_all<R: Threads + Wait + Copy + Send + 'static>(
     rt: R,
     alloc: Global,
     all: &[Asked],
     counts: (u8, u8),
     points: &'static [Point],
+    turns: u32,
 ) -> Option<Together> {
     let seen = Arc::new(alloc, Seen::new()).ok()?;
     let gate = Meeting {
         seen: Arc::try_clone(&seen).ok()?,
         points,
+        turns,
     };
     let host = start(rt, alloc, gate, 2, 8)?;
     let answered = ask_all(&rt, &host, all, counts);
     match host.close(&rt) {
-        Ok(report) => told(alloc, &report, seen.have_met(points), answered),
+        Ok(report) => told(alloc, &report, seen.missed(points), answered),
         Err(_) => None,
     }
 }
@@ -157,11 +163,22 @@ pub fn serve_together<R: Threads + Wait + Copy + Send + 'static>(
     alloc: Global,
 ) -> Option<Together> {
     let points = &[Point::Entered, Point::Taken, Point::Committed];
-    serve_all(rt, alloc, &FIVE, (3, 2), points)
+    serve_all(rt, alloc, &FIVE, (3, 2), points, LONG)
 }
 
 /// How two workers serve a request for each of two units, where each is held up once it entered, and with its unit's
 /// lock held, until the other has come there.
 pub fn meet<R: Threads + Wait + Copy + Send + 'static>(rt: R, alloc: Global) -> Option<Together> {
-    serve_all(rt, alloc, &TWO, (1, 1), &[Point::Entered, Point::Locked])
+    let points = &[Point::Entered, Point::Locked];
+    serve_all(rt, alloc, &TWO, (1, 1), points, LONG)
+}
+
+/// The same of one unit, for which both requests are: where one has its lock the other can't come, so that it goes on
+/// alone.
+pub fn contend<R: Threads + Wait + Copy + Send + 'static>(
+    rt: R,
+    alloc: Global,
+) -> Option<Together> {
+    let points = &[Point::Entered, Point::Locked];
+    serve_all(rt, alloc, &ONE, (1, 1), points, SHORT)
 }

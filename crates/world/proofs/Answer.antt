@@ -14,7 +14,8 @@ use Rattle.deeds.specs.Turns.{Turns}
 use Rattle.deeds.proofs.Lists.{same, nothing}
 use Rattle.deeds.proofs.Joining.{joins}
 use Rattle.phases.specs.Parts.{answering_queue}
-use Rattle.phases.specs.Queue.{Lent, with_slot}
+use Rattle.queues.specs.Queue.{Lent}
+use Rattle.phases.specs.Queue.{with_slot}
 use Rattle.phases.specs.Doing.{AtQueue}
 use Rattle.phases.specs.Answering.{told_writes, Answers, LetsGo}
 use Rattle.world.specs.Kept.{KeptSeat, seat_of}

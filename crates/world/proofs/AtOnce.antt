@@ -14,7 +14,8 @@ use Rattle.deeds.specs.Standing.{SlotOwns}
 use Rattle.deeds.specs.Turns.{Turns}
 use Rattle.deeds.proofs.Lists.{same}
 use Rattle.settling.specs.Order.{of_seat}
-use Rattle.phases.specs.Queue.{Lent, with_slot}
+use Rattle.queues.specs.Queue.{Lent}
+use Rattle.phases.specs.Queue.{with_slot}
 use Rattle.phases.specs.Doing.{with_more}
 use Rattle.phases.specs.Fetching.{FetchesRequest}
 use Rattle.phases.specs.Units as phases

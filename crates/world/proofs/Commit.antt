@@ -2,7 +2,7 @@
 use Rattle.std.proofs.Common.{◌≡◌, ℕ, Bool, true, false, List, Some, refl, sym, ap, ◌∙◌, subst, inl, inr}
 use Rattle.std.proofs.lemmas.Bool.{false≢true}
 use Rattle.history.specs.declared.reason.Reason.{Reason}
-use Rattle.block_commands.specs.PlainReply.{PlainReply}
+use Rattle.replies.specs.PlainReply.{PlainReply}
 use Rattle.std.specs.Prelude.{slice_get, slice_set, map, ◌||◌}
 use Rattle.history.specs.Endings.{Ending}
 use Rattle.history.specs.Tasks.{task_of}

@@ -10,7 +10,8 @@ use Rattle.deeds.specs.Events.{Event}
 use Rattle.deeds.specs.After.{directing}
 use Rattle.deeds.specs.Turns.{Turns}
 use Rattle.deeds.proofs.Joining.{joins}
-use Rattle.phases.specs.Queue.{Lent, with_slot}
+use Rattle.queues.specs.Queue.{Lent}
+use Rattle.phases.specs.Queue.{with_slot}
 use Rattle.phases.specs.Doing.{DoesQueue}
 use Rattle.phases.specs.Answering.{told_writes, Directs, LetsGo, StaysQueue}
 use Rattle.world.specs.Sound.{IsSound}

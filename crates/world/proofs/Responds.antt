@@ -15,8 +15,8 @@ use Rattle.deeds.specs.Standing.{FunctionOwns}
 use Rattle.deeds.specs.Turns.{Turns}
 use Rattle.deeds.proofs.Joining.{joins}
 use Rattle.deeds.proofs.Lists.{same, nothing}
-use Rattle.phases.specs.Queue.{Lent, with_slot}
-use Rattle.phases.specs.Doing.{MayComplete}
+use Rattle.queues.specs.Queue.{Lent, MayComplete}
+use Rattle.phases.specs.Queue.{with_slot}
 use Rattle.phases.specs.Answering.{Responds, RespondsWhere, StaysQueue}
 use Rattle.world.specs.Sound.{IsSound}
 use Rattle.world.proofs.Setting.{set_same}

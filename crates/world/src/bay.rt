@@ -1,6 +1,7 @@
 //! A virtqueue with its slot.
 
-use phases::{Queue, Slot};
+use phases::Slot;
+use queues::Queue;
 use std::marker::Model;
 
 /// A virtqueue with what stands in its slot.

@@ -19,10 +19,11 @@ pub use config::{
 pub use deeds::Event;
 pub use notifications::Notifications;
 pub use phases::{
-    AnyRing, Cause, Given, Hand, Held, Note, OpenFunction, Queue, Ready, Refusal, Slot,
-    phase_answer, phase_answer_tmf, phase_check, phase_commit, phase_direct, phase_enter,
-    phase_fetch, phase_fetch_control, phase_leave, phase_mark,
+    Hand, Held, OpenFunction, Ready, Refusal, Slot, phase_answer, phase_answer_tmf, phase_check,
+    phase_commit, phase_direct, phase_enter, phase_fetch, phase_fetch_control, phase_leave,
+    phase_mark,
 };
+pub use queues::{AnyRing, Queue};
 pub use ring_core::RingFault;
-pub use unit_history::{StepKind, UnitState};
+pub use unit_history::{Cause, Given, Note, StepKind, UnitState};
 pub use world::World;

@@ -14,7 +14,7 @@ use config::{Config, MOST_DESCRIPTORS, form};
 use decisions::{Inventory, UnitSpec};
 use event_queue::{EventPort, WaitingEvents};
 use guest_mem::GuestMem;
-use phases::Queue;
+use queues::Queue;
 use ring_core::{Form, Layout};
 use std::alloc::Global;
 use task_set::MOST_TASKS;

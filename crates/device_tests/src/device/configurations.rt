@@ -1,5 +1,6 @@
 //! Which configurations are refused.
 
+use super::are_called;
 use device_bench::{NUMBERS, Numbers, Row, UNIT};
 use std::test::Fail;
 use world::{RING_PACKED, StartFault, UnitSpec, VERSION_1};
@@ -160,15 +161,15 @@ pub(crate) static ROWS: [Row; 13] = [
     },
 ];
 
+/// The refusals, and what they are called.
+static CALLED: [(StartFault, &str); 2] = [
+    (StartFault::BadConfig, "bad configuration"),
+    (StartFault::NoMemory, "no memory"),
+];
+
 #[test]
 fn names_start_faults(rt: HostRuntime) -> Result<(), Fail> {
-    let texts = [
-        (StartFault::BadConfig, 1, "bad configuration"),
-        (StartFault::NoMemory, 2, "no memory"),
-    ];
-    for (fault, number, text) in texts {
-        assert_eq!(rt; fault as u8, number);
-        assert_eq!(rt; format!(in rt.alloc(); "{fault}")?.as_str(), text);
-    }
-    Ok(())
+    let numbers = (StartFault::BadConfig as u8, StartFault::NoMemory as u8);
+    assert!(rt; numbers == (1, 2));
+    are_called(&rt, rt.alloc(), &CALLED)
 }

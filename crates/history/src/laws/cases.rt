@@ -4,7 +4,7 @@ ghost use Rattle.std.specs.Prelude.{ℕ, ◌≡◌, ◌∷◌, List, [], length,
 ghost use Rattle.decisions.specs.declared.attribute.TaskAttribute.TheVariants.{Simple, Ordered, HeadOfQueue};
 ghost use Rattle.unit_attention.specs.Code.{code};
 ghost use Rattle.cdb.specs.declared.commands.Command.TheVariants.{Read};
-ghost use Rattle.block_commands.specs.PlainReply.{PlainReply, success};
+ghost use Rattle.replies.specs.PlainReply.{PlainReply, success};
 ghost use Rattle.block_store.specs.Blocks.{zero_block};
 ghost use Rattle.history.specs.declared.rule.Rule.TheVariants.{Id};
 ghost use Rattle.history.specs.declared.reason.Reason.TheVariants.{Aborted, Reset};

@@ -4,7 +4,7 @@
 ghost use Rattle.std.specs.Prelude.{ℕ, ◌≡◌, ◌<◌, ◌+◌, ◌∷◌, List, true, false, if◌then◌else◌};
 ghost use Rattle.ring_core.specs.declared.log.Ticket.{Ticket};
 ghost use Rattle.unit_attention.specs.declared.code.Code.{Code};
-ghost use Rattle.block_commands.specs.PlainReply.{PlainReply};
+ghost use Rattle.replies.specs.PlainReply.{PlainReply};
 ghost use Rattle.history.specs.declared.rule.Rule.{Rule as ARule};
 ghost use Rattle.history.specs.Tasks.{Entry, any_task, is_blocked};
 ghost use Rattle.history.specs.Steps.{Step, alive, has_entered};

@@ -4,7 +4,7 @@ ghost use Rattle.std.specs.Prelude.{◌≡◌, ◌∷◌, ◌++◌, List, [], le
 ghost use Rattle.std.specs.Option.{option_map};
 ghost use Rattle.ring_core.specs.declared.log.Ticket.{Ticket};
 ghost use Rattle.unit_attention.specs.declared.code.Code.{Code};
-ghost use Rattle.block_commands.specs.PlainReply.{PlainReply};
+ghost use Rattle.replies.specs.PlainReply.{PlainReply};
 ghost use Rattle.history.specs.declared.rule.Rule.{Rule as ARule};
 ghost use Rattle.history.specs.declared.rule.Rule.TheVariants.{All};
 ghost use Rattle.history.specs.declared.reason.Reason.TheVariants.{Aborted, Reset};

@@ -2,7 +2,7 @@
 
 ghost use Rattle.std.specs.Prelude.{◌≡◌, ◌≢◌, ◌<◌, ◌≤◌, ◌∷◌, ◌++◌, Bool, true, false, List, length, Some, None};
 ghost use Rattle.ring_core.specs.declared.log.Ticket.{Ticket};
-ghost use Rattle.block_commands.specs.PlainReply.{PlainReply};
+ghost use Rattle.replies.specs.PlainReply.{PlainReply};
 ghost use Rattle.history.specs.Steps.{Step};
 ghost use Rattle.history.specs.Contents.{Opening};
 ghost use Rattle.history.specs.Receipts.{Receipt, receipt_of, IsConfirmed};

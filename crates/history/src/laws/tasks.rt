@@ -3,7 +3,7 @@
 ghost use Rattle.std.specs.Prelude.{◌≡◌, ◌<◌, ◌≤◌, ◌∷◌, ◌++◌, List, length, true, false, not};
 ghost use Rattle.std.specs.List.{list_any};
 ghost use Rattle.ring_core.specs.declared.log.Ticket.{Ticket};
-ghost use Rattle.block_commands.specs.PlainReply.{PlainReply};
+ghost use Rattle.replies.specs.PlainReply.{PlainReply};
 ghost use Rattle.history.specs.Tasks.{Entry, AreDistinct, any_task, is_blocked};
 ghost use Rattle.history.specs.Steps.{Step, alive, is_alive, floor, has_entered, done, has_left};
 ghost use Rattle.history.specs.Marks.{marked};

@@ -1,5 +1,5 @@
 use Rattle.ring_core.specs.Sound.{IsSound}
-use Rattle.phases.specs.Queue.{Lent}
+use Rattle.queues.specs.Queue.{Lent}
 use Rattle.report.proofs.Prefixes.{EachTo}
 use Rattle.report.proofs.confirming.are_sound.Given as goal
 

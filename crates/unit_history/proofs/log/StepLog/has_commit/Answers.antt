@@ -1,6 +1,6 @@
 use Rattle.std.proofs.Common.{◌≡◌, Some, length, sym, ap, ◌∙◌}
 use Rattle.std.specs.Option.{option_map}
-use Rattle.block_commands.specs.PlainReply.{plain_of}
+use Rattle.replies.specs.PlainReply.{plain_of}
 use Rattle.history.specs.Receipts.{step_at}
 use Rattle.unit_history.specs.Kept.{kind_of}
 use Rattle.unit_history.specs.Noted.{Logged, steps_noted}

@@ -1,0 +1,64 @@
+//! A small device that one thread serves, and what is said of reports of it with something amiss.
+
+use crate::device::are_called;
+use report::CloseFault;
+use report_bench::{Amiss, fault_of, refuses_plain, serves_plain};
+use ring_core::Ticket;
+use std::alloc::Global;
+use std::test::Fail;
+
+/// The first request, and the second.
+const FIRST: Ticket = Ticket {
+    queue: 2,
+    number: 0,
+};
+
+const SECOND: Ticket = Ticket {
+    queue: 3,
+    number: 0,
+};
+
+/// What is amiss, and what is said of it.
+static ROWS: [(Amiss, Option<CloseFault>); 7] = [
+    (Amiss::Nothing, None),
+    (Amiss::ReceiptLost, Some(CloseFault::Outstanding(FIRST))),
+    (Amiss::ReceiptTwice, Some(CloseFault::Outstanding(FIRST))),
+    (Amiss::HistoryLost, Some(CloseFault::Unconfirmed(FIRST))),
+    (Amiss::ChainUnused, Some(CloseFault::Outstanding(SECOND))),
+    (Amiss::NoteOfAnother, Some(CloseFault::Outstanding(FIRST))),
+    (Amiss::BothLost, Some(CloseFault::Outstanding(FIRST))),
+];
+
+/// The number of the first row of which something else is said, from 0.
+fn first_wrong(alloc: Global) -> Option<usize> {
+    for number in 0..ROWS.len() {
+        let (amiss, fault) = ROWS[number];
+        if fault_of(alloc, amiss) != Some(fault) {
+            return Some(number);
+        }
+    }
+    None
+}
+
+#[test]
+fn reports_are_given_where_they_add_up(rt: HostRuntime) {
+    assert_eq!(rt; first_wrong(rt.alloc()), None);
+}
+
+/// Faults, and what they are called.
+static CALLED: [(CloseFault, &str); 3] = [
+    (CloseFault::NoMemory, "no memory"),
+    (CloseFault::Unconfirmed(FIRST), "unconfirmed 2/0"),
+    (CloseFault::Outstanding(SECOND), "outstanding 3/0"),
+];
+
+#[test]
+fn faults_are_told(rt: HostRuntime) -> Result<(), Fail> {
+    are_called(&rt, rt.alloc(), &CALLED)
+}
+
+#[test]
+fn the_parts_of_one_thread_are_lent(rt: HostRuntime) {
+    assert_eq!(rt; serves_plain(rt.alloc()), Some(true));
+    assert_eq!(rt; refuses_plain(rt.alloc()), Some(1));
+}

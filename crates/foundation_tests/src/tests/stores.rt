@@ -1,0 +1,153 @@
+//! Stores of blocks.
+
+use super::none_is;
+use block_store::{BLOCK_BYTES, FlatStore, NoMemory, Store};
+use std::alloc::Global;
+use std::test::Fail;
+
+/// What is done with a store.
+#[derive(Clone, Copy)]
+enum Act {
+    /// Bytes are written over blocks from a number on.
+    Write(u64, &'static [u8]),
+    /// So many blocks from a number on get a byte everywhere.
+    Fill(u64, u32, u8),
+    /// So many blocks from a number on get zeros.
+    Zero(u64, u32),
+}
+
+/// What is done with a store of five blocks of zeros, one after the other, and the byte of which each block then
+/// consists.
+static ACTS: [(Act, [u8; 5]); 7] = [
+    (Act::Zero(0, 0), [0, 0, 0, 0, 0]),
+    (Act::Write(1, &[7; 1024]), [0, 7, 7, 0, 0]),
+    (Act::Fill(2, 3, 9), [0, 7, 9, 9, 9]),
+    (Act::Zero(3, 1), [0, 7, 9, 0, 9]),
+    (Act::Write(5, &[]), [0, 7, 9, 0, 9]),
+    (Act::Fill(5, 0, 1), [0, 7, 9, 0, 9]),
+    (Act::Zero(5, 0), [0, 7, 9, 0, 9]),
+];
+
+/// Writes bytes over blocks. Whether these are there.
+fn write<S: Store>(store: &mut S, first: u64, bytes: &[u8]) -> Result<bool, NoMemory> {
+    let capacity = store.capacity();
+    let count = (bytes.len() / BLOCK_BYTES) as u64;
+    if bytes.len() % BLOCK_BYTES != 0 || first > capacity || count > capacity - first {
+        return Ok(false);
+    }
+    store.write_blocks(first, bytes)?;
+    Ok(true)
+}
+
+/// Puts a byte into blocks everywhere. Whether these are there.
+fn fill<S: Store>(store: &mut S, first: u64, count: u32, byte: u8) -> Result<bool, NoMemory> {
+    let capacity = store.capacity();
+    if first > capacity || u64::from(count) > capacity - first {
+        return Ok(false);
+    }
+    store.fill_blocks(first, count, &[byte; BLOCK_BYTES])?;
+    Ok(true)
+}
+
+/// Puts zeros into blocks. Whether these are there.
+fn zero<S: Store>(store: &mut S, first: u64, count: u32) -> bool {
+    let capacity = store.capacity();
+    if first > capacity || u64::from(count) > capacity - first {
+        return false;
+    }
+    store.zero_blocks(first, count);
+    true
+}
+
+/// Appends the bytes of blocks. Whether these, and room for their bytes, are there.
+fn read<S: Store>(store: &S, first: u64, count: u32, into: &mut Vec<u8>) -> bool {
+    let capacity = store.capacity();
+    let room = into.capacity().saturating_sub(into.len()) / BLOCK_BYTES;
+    if first > capacity || u64::from(count) > capacity - first || count as usize > room {
+        return false;
+    }
+    store.read_blocks(first, count, into);
+    true
+}
+
+/// Whether bytes are five blocks, each of which consists of its byte.
+fn are_made_of(bytes: &[u8], each: [u8; 5]) -> bool {
+    if bytes.len() != 5 * BLOCK_BYTES {
+        return false;
+    }
+    for place in 0..5usize {
+        let start = place * BLOCK_BYTES;
+        if bytes[start..start + BLOCK_BYTES] != [each[place]; BLOCK_BYTES] {
+            return false;
+        }
+    }
+    true
+}
+
+/// Whether a store is five blocks, each of which consists of its byte. They are read in two parts, and an empty third.
+fn is_made_of<S: Store>(alloc: Global, store: &S, each: [u8; 5]) -> Result<bool, NoMemory> {
+    let Ok(mut bytes) = Vec::with_capacity(alloc, 5 * BLOCK_BYTES) else {
+        return Err(NoMemory);
+    };
+    let is_read = read(store, 0, 2, &mut bytes)
+        && read(store, 2, 3, &mut bytes)
+        && read(store, 5, 0, &mut bytes);
+    Ok(is_read && store.capacity() == 5 && are_made_of(bytes.as_slice(), each))
+}
+
+/// Does an act. Whether its blocks are there.
+fn does<S: Store>(store: &mut S, act: Act) -> Result<bool, NoMemory> {
+    match act {
+        Act::Write(first, bytes) => write(store, first, bytes),
+        Act::Fill(first, count, byte) => fill(store, first, count, byte),
+        Act::Zero(first, count) => Ok(zero(store, first, count)),
+    }
+}
+
+/// Does acts. The number of the first that doesn't go as it says, from 0.
+fn first_wrong<S: Store>(
+    alloc: Global,
+    store: &mut S,
+    acts: &[(Act, [u8; 5])],
+) -> Result<Option<usize>, NoMemory> {
+    for number in 0..acts.len() {
+        let (act, each) = acts[number];
+        if !does(store, act)? || !is_made_of(alloc, store, each)? {
+            return Ok(Some(number));
+        }
+    }
+    Ok(None)
+}
+
+/// Whether a store of so many blocks is refused.
+fn is_refused(alloc: Global, blocks: u64) -> bool {
+    match FlatStore::new(alloc, blocks) {
+        Ok(_) => false,
+        Err(NoMemory) => true,
+    }
+}
+
+/// How many blocks are too many.
+static TOO_MANY: [u64; 4] = [u64::MAX, 1 << 55, (1 << 55) - 1, 1 << 54];
+
+/// The number of the first of these of which a store is had, from 0.
+fn first_had(alloc: Global) -> Option<usize> {
+    for number in 0..TOO_MANY.len() {
+        if !is_refused(alloc, TOO_MANY[number]) {
+            return Some(number);
+        }
+    }
+    None
+}
+
+#[test]
+fn flat_store(rt: HostRuntime) -> Result<(), Fail> {
+    let mut store = FlatStore::new(rt.alloc(), 5)?;
+    none_is(&rt, first_wrong(rt.alloc(), &mut store, &ACTS)?);
+    Ok(())
+}
+
+#[test]
+fn too_large_a_store(rt: HostRuntime) {
+    none_is(&rt, first_had(rt.alloc()));
+}

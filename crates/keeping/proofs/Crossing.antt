@@ -1,0 +1,10 @@
+-- What a seat kept may go to another thread. The search alone finds it of small types only.
+use denote.Param.Send.{IsSend, struct_send}
+use denote.Struct.Declared.{shape}
+use Rattle.std.proofs.Crossing.{crosses}
+use Rattle.unit_history.proofs.answers.Receipt.TheSendSync as receipt
+use Rattle.unit_history.proofs.note.Note.TheSendSync as note
+use Rattle.keeping.specs.contracts.kept.Kept.{the_field, the_type}
+
+pub kept_sends : IsSend the_field.row
+kept_sends = struct_send (shape the_type) (search (crosses, receipt.the_send), (search (crosses, note.the_send), tt))

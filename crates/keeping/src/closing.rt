@@ -1,0 +1,88 @@
+//! What stood under locks, and what the seats kept, as a report.
+
+ghost use Rattle.std.specs.Prelude.{◌≡◌, ◌≤◌, vec_len, length, IfOk};
+ghost use Rattle.report.specs.Closed.{IsReport};
+
+use crate::kept::Kept;
+use guest_mem::GuestMem;
+use queues::Queue;
+use report::{CloseFault, Report, examine};
+use std::alloc::{AllocError, Global};
+use std::sync::Mutex;
+use unit_history::{Note, Receipt, UnitState};
+
+/// The values that stood under locks.
+fn out_of_locks<T: Drop>(alloc: Global, locks: Vec<Mutex<T>>) -> Result<Vec<T>, AllocError>
+    ensures { IfOk result (λ v. vec_len v ≡ vec_len locks) }
+{
+    let mut values = Vec::with_capacity(alloc, locks.len())?;
+    for lock in locks {
+        values.push_reserved(lock.into_inner());
+    }
+    Ok(values)
+}
+
+/// Appends what one seat kept.
+fn append(
+    kept: Kept,
+    receipts: &mut Vec<Receipt>,
+    notes: &mut Vec<Note>,
+) -> Result<(), AllocError> {
+    for receipt in kept.receipts {
+        if receipts.push(receipt).is_err() {
+            return Err(AllocError);
+        }
+    }
+    for note in kept.notes {
+        if notes.push(note).is_err() {
+            return Err(AllocError);
+        }
+    }
+    Ok(())
+}
+
+/// All receipts, and all notes.
+fn together(alloc: Global, kept: Vec<Kept>) -> Result<(Vec<Receipt>, Vec<Note>), AllocError> {
+    let mut receipts = Vec::new(alloc);
+    let mut notes = Vec::new(alloc);
+    for one in kept {
+        append(one, &mut receipts, &mut notes)?;
+    }
+    Ok((receipts, notes))
+}
+
+/// The report of the units and queues, at most 65,536 of these, and of the memory, which stood under locks, and of what
+/// each seat kept. Who closes a host calls it, once no thread shares the locks. `Unconfirmed`: the least ticket of a
+/// receipt whose Commit doesn't stand in its unit's history. `Outstanding`: the least ticket of a chain of the control
+/// queue or of a request that wasn't answered, once and as its unit's history says. `NoMemory` where a growth was
+/// refused.
+pub fn report(
+    alloc: Global,
+    units: Vec<Mutex<UnitState>>,
+    queues: Vec<Mutex<Queue>>,
+    memory: Mutex<GuestMem>,
+    kept: Vec<Kept>,
+) -> Result<Report, CloseFault>
+    requires few { vec_len queues ≤ 65536 }
+    ensures report { IfOk result (λ r. IsReport r.units.items r.queues.items r.receipts.items r.notes.items) }
+    ensures units { IfOk result (λ r. vec_len r.units ≡ vec_len units) }
+    ensures queues { IfOk result (λ r. vec_len r.queues ≡ vec_len queues) }
+{
+    let Ok(units) = out_of_locks(alloc, units) else {
+        return Err(CloseFault::NoMemory);
+    };
+    let Ok(queues) = out_of_locks(alloc, queues) else {
+        return Err(CloseFault::NoMemory);
+    };
+    let Ok((receipts, notes)) = together(alloc, kept) else {
+        return Err(CloseFault::NoMemory);
+    };
+    let report = Report {
+        units,
+        queues,
+        memory: memory.into_inner(),
+        receipts,
+        notes,
+    };
+    examine(alloc, report)
+}

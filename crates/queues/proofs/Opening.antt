@@ -1,0 +1,19 @@
+-- The queue that opens.
+use Rattle.std.proofs.Common.{◌≡◌, ℕ, None, refl}
+use Rattle.ring_core.specs.State.{opening}
+use Rattle.ring_core.specs.declared.layout.Form.{Form}
+use Rattle.ring_core.specs.declared.layout.Form.TheVariants.{Split, Packed}
+use Rattle.ring_core.specs.declared.layout.Layout.{Layout}
+use Rattle.queues.specs.Queue.{opening_ring}
+
+-- no fault has broken a ring that opens
+pub opens_whole : (form : Form) (memory number : ℕ) (l : Layout) → (opening_ring form memory number l).broken ≡ None
+unfolding opening
+opens_whole Split memory number l = refl
+opens_whole Packed memory number l = refl
+
+-- and it has the number that it was opened with
+pub opens_numbered : (form : Form) (memory number : ℕ) (l : Layout) → (opening_ring form memory number l).queue ≡ number
+unfolding opening
+opens_numbered Split memory number l = refl
+opens_numbered Packed memory number l = refl

@@ -1,0 +1,12 @@
+use Rattle.std.proofs.Common.{◌∙◌, ◌++◌, ap, List, ℕ}
+use Rattle.ring_core.specs.Writes.{all_written, scatter_writes}
+use Rattle.queues.proofs.writing.write_reply.Goals as goal
+
+pub returns-clause-memory : goal.returns-clause-memory
+returns-clause-memory c =
+    let m = c.args.memory.now in
+    let parts = c.args.chain.now.parts in
+    let head = c.response_ok-head.result in
+    c.write_response.ensures.memory
+    ∙ ap (λ (p : List ℕ). all_written m (scatter_writes parts 0 (head ++ p))) c.as_slice.ensures.value
+    ∙ ap (λ (h : List ℕ). all_written m (scatter_writes parts 0 (h ++ c.args.reply.now.payload.items))) c.response_ok-head.ensures

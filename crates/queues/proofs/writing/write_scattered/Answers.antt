@@ -1,0 +1,18 @@
+use Rattle.std.proofs.Common.{◌≡◌, ◌∙◌, ◌+◌, ap, length, arith, List, ℕ}
+use Rattle.ring_core.specs.Parts.{PartsFit}
+use Rattle.ring_core.specs.Writes.{all_written, scatter_writes}
+use Rattle.ring_core.proofs.Scattering.{scatter_in_two_lem}
+use Rattle.queues.proofs.writing.write_scattered.Goals as goal
+
+pub returns-clause-memory : goal.returns-clause-memory
+returns-clause-memory c =
+    let m = c.args.memory.now in
+    let parts = c.args.chain.now.parts in
+    let head = c.args.head.now in
+    let payload = c.args.payload.now in
+    let fit : PartsFit (length m) parts = rw c.requires.fits c.parts-parts.ensures.fit in
+    let first : c.scatter-first.result ≡ 0 + length head = omega (arith, c.scatter-first.ensures.written) in
+    c.scatter.ensures.memory
+    ∙ ap (λ (k : List ℕ). all_written k (scatter_writes parts c.scatter-first.result payload)) c.scatter-first.ensures.memory
+    ∙ ap (λ (n : ℕ). all_written (all_written m (scatter_writes parts 0 head)) (scatter_writes parts n payload)) first
+    ∙ scatter_in_two_lem m parts 0 head payload fit

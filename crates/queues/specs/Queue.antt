@@ -1,0 +1,37 @@
+-- A virtqueue as one lock lends it, where it lies, and the queue that opens there.
+use Rattle.std.specs.Prelude.{ℕ, ◌≡◌, ◌+◌, List, length, Option, if◌then◌else◌}
+use Rattle.ring_core.specs.State.{RingState, PlainChain, Owns, opening, no_features, using}
+use Rattle.ring_core.specs.Offer.{wants_notice}
+use Rattle.ring_core.specs.declared.layout.Form.{Form}
+use Rattle.ring_core.specs.declared.layout.Form.TheVariants.{Split, Packed}
+use Rattle.ring_core.specs.declared.layout.Layout.{Layout}
+use Rattle.ring_core.specs.declared.layout.LayoutFault.{LayoutFault}
+use Rattle.split_ring.specs.Placement as split
+use Rattle.packed_ring.specs.Placement as packed
+
+-- its ring, and how many notices were wanted
+pub record Lent : Type 0 where
+  pub ring : RingState
+  pub notices : ℕ
+
+abbrev pub placement_of : Form → ℕ → Layout → Option LayoutFault
+placement_of Split memory l = split.placement_fault memory l
+placement_of Packed memory l = packed.placement_fault memory l
+
+-- the ring of this number, of which nothing was fetched yet
+abbrev pub opening_ring : Form → ℕ → ℕ → Layout → RingState
+opening_ring Split memory number l = opening Split number l no_features memory l.size
+opening_ring Packed memory number l = opening Packed number l no_features memory 65536
+
+abbrev pub opening_queue : Form → ℕ → ℕ → Layout → Lent
+opening_queue form memory number l = record { ring = opening_ring form memory number l; notices = 0 }
+
+-- the queue once a chain was used, and memory is this: the driver may want a notice
+abbrev pub completing : List ℕ → PlainChain → Lent → Lent
+completing m c q =
+    record { ring = using q.ring c; notices = q.notices + (if wants_notice (using q.ring c) m then 1 else 0) }
+
+-- the memory is the queue's, and the queue owns the chain
+pub record MayComplete (q : Lent) (m : List ℕ) (c : PlainChain) : Type 0 where
+  pub fits : length m ≡ q.ring.memory
+  pub owned : Owns q.ring c

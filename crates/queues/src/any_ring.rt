@@ -1,0 +1,92 @@
+//! A virtqueue of either form.
+
+use guest_mem::GuestMem;
+use packed_ring::PackedRing;
+use ring_core::{Chain, Completion, Fetched, QueueLog, Ring, RingFault, Ticket};
+use split_ring::SplitRing;
+
+/// A virtqueue of either form.
+#[derive(Debug, Drop)]
+pub enum AnyRing {
+    /// A split one.
+    Split(SplitRing),
+    /// A packed one.
+    Packed(PackedRing),
+}
+
+impl Ring for AnyRing {
+    ghost use Rattle.queues.specs.AnyRing.{ring_state};
+
+    ghost state = { ring_state };
+
+    #[inline(always)]
+    fn fetch(&mut self, memory: &GuestMem) -> Result<Option<Fetched>, RingFault> {
+        match self {
+            AnyRing::Split(ring) => ring.fetch(memory),
+            AnyRing::Packed(ring) => ring.fetch(memory),
+        }
+    }
+
+    #[inline(always)]
+    fn is_idle(&self, memory: &GuestMem) -> bool {
+        match self {
+            AnyRing::Split(ring) => ring.is_idle(memory),
+            AnyRing::Packed(ring) => ring.is_idle(memory),
+        }
+    }
+
+    fn finish(
+        &mut self,
+        memory: &mut GuestMem,
+        chain: Chain,
+        len: u32,
+        leave: Completion,
+    ) -> Ticket {
+        match self {
+            AnyRing::Split(ring) => ring.finish(memory, chain, len, leave),
+            AnyRing::Packed(ring) => ring.finish(memory, chain, len, leave),
+        }
+    }
+
+    fn wants_notice(&self, memory: &GuestMem) -> bool {
+        match self {
+            AnyRing::Split(ring) => ring.wants_notice(memory),
+            AnyRing::Packed(ring) => ring.wants_notice(memory),
+        }
+    }
+
+    fn log(&self) -> &QueueLog {
+        match self {
+            AnyRing::Split(ring) => ring.log(),
+            AnyRing::Packed(ring) => ring.log(),
+        }
+    }
+
+    fn least_outstanding(&self) -> Option<u64> {
+        match self {
+            AnyRing::Split(ring) => ring.least_outstanding(),
+            AnyRing::Packed(ring) => ring.least_outstanding(),
+        }
+    }
+
+    fn broken(&self) -> Option<RingFault> {
+        match self {
+            AnyRing::Split(ring) => ring.broken(),
+            AnyRing::Packed(ring) => ring.broken(),
+        }
+    }
+
+    fn fits(&self, memory: &GuestMem) -> bool {
+        match self {
+            AnyRing::Split(ring) => ring.fits(memory),
+            AnyRing::Packed(ring) => ring.fits(memory),
+        }
+    }
+
+    fn owns(&self, chain: &Chain) -> bool {
+        match self {
+            AnyRing::Split(ring) => ring.owns(chain),
+            AnyRing::Packed(ring) => ring.owns(chain),
+        }
+    }
+}

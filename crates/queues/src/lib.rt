@@ -1,0 +1,10 @@
+//! A virtqueue of the device, split or packed, as one lock lends it, and the writing of answers into its chains.
+#![tactic(auto)]
+
+mod any_ring;
+mod queue;
+mod writing;
+
+pub use any_ring::AnyRing;
+pub use queue::{Fetch, Queue, is_placed, placement};
+pub use writing::{write_direct, write_reply};

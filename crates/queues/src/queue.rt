@@ -1,0 +1,259 @@
+//! A virtqueue of the device: its ring, whether it is broken, and the notices that its driver wanted.
+
+ghost use Rattle.std.specs.Prelude.{◌≡◌, length, IfOk, None, is_none};
+ghost use Rattle.queues.specs.AnyRing.{ring_state};
+ghost use Rattle.queues.specs.Queue.{opening_ring, placement_of};
+
+use crate::any_ring::AnyRing;
+use block_store::NoMemory;
+use guest_mem::GuestMem;
+use packed_ring::PackedRing;
+use ring_core::{Answered, Chain, Fetched, Form, Layout, LayoutFault, QueueLog, Ring, RingFault};
+use split_ring::SplitRing;
+use std::alloc::Global;
+use std::marker::Model;
+
+/// Why a queue of this form can't lie so, in a memory of so many bytes; `None` where it can.
+pub fn placement(form: Form, memory: u64, layout: &Layout) -> Option<LayoutFault>
+    ensures { result ≡ placement_of form memory layout.now }
+{
+    let checked = match form {
+        Form::Split => split_ring::check_layout(layout, memory),
+        Form::Packed => packed_ring::check_layout(layout, memory),
+    };
+    checked.err()
+}
+
+/// Whether a queue of this form can lie so, in a memory of so many bytes.
+pub fn is_placed(form: Form, memory: u64, layout: &Layout) -> bool
+    ensures { result ≡ is_none (placement_of form memory layout.now) }
+{
+    match form {
+        Form::Split => split_ring::check_layout(layout, memory).is_ok(),
+        Form::Packed => packed_ring::check_layout(layout, memory).is_ok(),
+    }
+}
+
+/// A split ring.
+fn split_of(
+    alloc: Global,
+    number: u16,
+    layout: Layout,
+    memory: &GuestMem,
+) -> Result<AnyRing, NoMemory>
+    requires { placement_of Form.Split (length memory.now) layout ≡ None }
+    ensures { IfOk result (λ ring. ring_state ring ≡ opening_ring Form.Split (length memory.now) number layout) }
+{
+    match SplitRing::new(alloc, number, layout, memory) {
+        Ok(ring) => Ok(AnyRing::Split(ring)),
+        Err(LayoutFault::NoMemory) => Err(NoMemory),
+        Err(_) => unreachable!(),
+    }
+}
+
+/// A packed ring.
+fn packed_of(
+    alloc: Global,
+    number: u16,
+    layout: Layout,
+    memory: &GuestMem,
+) -> Result<AnyRing, NoMemory>
+    requires { placement_of Form.Packed (length memory.now) layout ≡ None }
+    ensures { IfOk result (λ ring. ring_state ring ≡ opening_ring Form.Packed (length memory.now) number layout) }
+{
+    match PackedRing::new(alloc, number, layout, memory) {
+        Ok(ring) => Ok(AnyRing::Packed(ring)),
+        Err(LayoutFault::NoMemory) => Err(NoMemory),
+        Err(_) => unreachable!(),
+    }
+}
+
+/// A ring of either form.
+fn ring_of(
+    alloc: Global,
+    form: Form,
+    number: u16,
+    layout: Layout,
+    memory: &GuestMem,
+) -> Result<AnyRing, NoMemory>
+    requires { placement_of form (length memory.now) layout ≡ None }
+    ensures { IfOk result (λ ring. ring_state ring ≡ opening_ring form (length memory.now) number layout) }
+{
+    match form {
+        Form::Split => split_of(alloc, number, layout, memory),
+        Form::Packed => packed_of(alloc, number, layout, memory),
+    }
+}
+
+/// What a look at a queue finds.
+#[derive(Debug, Drop)]
+pub enum Fetch {
+    /// Nothing to be done.
+    Idle,
+    /// A fault of the guest, which broke the queue now.
+    Broke,
+    /// A chain.
+    Got(Fetched),
+}
+
+/// A virtqueue of the device, seen as its ring's plain value with a count of notices.
+#[derive(Debug, Drop)]
+pub struct Queue {
+    number: u16,
+    ring: AnyRing,
+    notices: u64,
+    broken: bool,
+}
+
+impl Model for Queue {
+    ghost use Rattle.std.specs.Prelude.{◌≡◌, ◌≤◌, length, is_some};
+    ghost use Rattle.queues.specs.AnyRing.{ring_state};
+    ghost use Rattle.queues.specs.Queue.{Lent};
+
+    ghost Value = { Lent };
+
+    ghost view = { λ q. record { ring = ring_state q.ring; notices = q.notices } };
+
+    ghost invariant = { λ q. (q.number ≡ (ring_state q.ring).queue)
+        × (q.broken ≡ is_some (ring_state q.ring).broken)
+        × (q.notices ≤ length (ring_state q.ring).log.used) };
+}
+
+impl Queue {
+    ghost use Rattle.std.specs.Prelude.{◌≡◌, ◌≤◌, ◌↔◌, length, is_some, IfOk, IsTrue};
+    ghost use Rattle.std.specs.Prelude.{None};
+    ghost use Rattle.queues.specs.Queue.{opening_queue, placement_of, completing, MayComplete};
+    ghost use Rattle.ring_core.specs.State.{Owns};
+    ghost use Rattle.ring_core.specs.Sound.{IsSound, IsLeastOutstanding, outstanding_count};
+    ghost use Rattle.ring_core.specs.Writes.{all_written};
+    ghost use Rattle.ring_core.specs.Offer.{used_writes};
+    ghost use Rattle.queues.specs.Looking.{IsIdle, Looks};
+
+    /// A queue with this number at a place that its ring takes, of which nothing was fetched yet.
+    /// `NoMemory` where its ring was refused memory.
+    pub fn new(
+        alloc: Global,
+        form: Form,
+        number: u16,
+        layout: Layout,
+        memory: &GuestMem,
+    ) -> Result<Queue, NoMemory>
+        requires { placement_of form (length memory.now) layout ≡ None }
+        ensures { IfOk result (λ queue. queue ≡ opening_queue form (length memory.now) number layout) }
+    {
+        let ring = ring_of(alloc, form, number, layout, memory)?;
+        Ok(Queue {
+            number,
+            ring,
+            notices: 0,
+            broken: false,
+        })
+    }
+
+    /// Its number.
+    pub fn number(&self) -> u16
+        ensures { result ≡ self.now.ring.queue }
+    {
+        self.number
+    }
+
+    /// Whether the memory has the size that it was made with.
+    pub fn fits(&self, memory: &GuestMem) -> bool
+        ensures { IsTrue result ↔ (length memory.now ≡ self.now.ring.memory) }
+    {
+        self.ring.fits(memory)
+    }
+
+    /// Whether the memory has the size that it was made with, and the chain is outstanding here.
+    #[inline(always)]
+    pub fn may_complete(&self, memory: &GuestMem, chain: &Chain) -> bool
+        ensures { IsTrue result ↔ MayComplete self.now memory.now chain.now }
+    {
+        self.ring.fits(memory) && self.ring.owns(chain)
+    }
+
+    /// Whether a fetch would find nothing to do: it is broken, or nothing is available. Called with a memory of the
+    /// size that it was made with.
+    pub fn is_silent(&self, memory: &GuestMem) -> bool
+        requires { length memory.now ≡ self.now.ring.memory }
+        ensures { IsTrue result ↔ IsIdle self.now.ring memory.now }
+    {
+        self.broken || self.ring.is_idle(memory)
+    }
+
+    /// Looks for the next chain.
+    #[inline(always)]
+    pub fn fetch(&mut self, memory: &GuestMem) -> Result<Fetch, NoMemory>
+        requires { length memory.now ≡ self.old.ring.memory }
+        ensures { Looks self.old memory.now result self.new }
+    {
+        if self.broken {
+            return Ok(Fetch::Idle);
+        }
+        match self.ring.fetch(memory) {
+            Ok(None) => Ok(Fetch::Idle),
+            Ok(Some(fetched)) => Ok(Fetch::Got(fetched)),
+            Err(RingFault::NoMemory) => Err(NoMemory),
+            Err(_) => {
+                self.broken = true;
+                Ok(Fetch::Broke)
+            }
+        }
+    }
+
+    /// Completes a chain, and counts the notice where the driver wants one.
+    #[inline(always)]
+    pub fn complete(&mut self, memory: &mut GuestMem, chain: Chain, len: u32) -> Answered
+        requires fits { length memory.old ≡ self.old.ring.memory }
+        requires owned { Owns self.old.ring chain }
+        ensures ticket { result ≡ chain.ticket }
+        ensures memory { memory.new ≡ all_written memory.old (used_writes self.old.ring chain.id len) }
+        ensures size { length memory.new ≡ length memory.old }
+        ensures queue { self.new ≡ completing memory.new chain self.old }
+    {
+        let answered = self.ring.complete(memory, chain, len);
+        let _used = self.ring.log().used();
+        if self.ring.wants_notice(memory) {
+            self.notices += 1;
+        }
+        answered
+    }
+
+    /// How many notices were wanted.
+    pub fn notices(&self) -> u64
+        ensures { result ≡ self.now.notices }
+    {
+        self.notices
+    }
+
+    /// Whether a fault of the guest broke it.
+    pub fn is_broken(&self) -> bool
+        ensures { result ≡ is_some self.now.ring.broken }
+    {
+        self.broken
+    }
+
+    /// The fault of the guest that broke it, if any.
+    pub fn fault(&self) -> Option<RingFault>
+        ensures { result ≡ self.now.ring.broken }
+    {
+        self.ring.broken()
+    }
+
+    /// Its log. What is outstanding agrees with it, and is no more than the queue has descriptors.
+    pub fn log(&self) -> &QueueLog
+        ensures log { result.now ≡ self.now.ring.log }
+        ensures sound { IsSound self.now.ring }
+        ensures few { outstanding_count self.now.ring ≤ self.now.ring.layout.size }
+    {
+        self.ring.log()
+    }
+
+    /// The least number of an accepted chain that wasn't used, if there is one: asked once the queue is no longer
+    /// served.
+    pub fn least_outstanding(&self) -> Option<u64>
+        ensures { IsLeastOutstanding self.now.ring result }
+    {
+        self.ring.least_outstanding()
+    }
+}

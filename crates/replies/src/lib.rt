@@ -1,0 +1,14 @@
+//! What a SCSI command is answered (SPC-4, SAM-5): its status, sense and data, and the whole answer of a
+//! LUN that a target lacks.
+#![tactic(auto)]
+
+mod absent;
+pub mod laws;
+mod opcodes;
+mod reply;
+mod standard;
+
+pub use absent::{ABSENT_BYTES, AbsentReply, exec_absent};
+pub use opcodes::{INQUIRY, REQUEST_SENSE};
+pub use reply::{BUSY, CHECK_CONDITION, GOOD, Reply, TASK_SET_FULL};
+pub use standard::standard_data;

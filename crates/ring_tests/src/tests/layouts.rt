@@ -1,0 +1,121 @@
+//! Which layouts are taken and which are refused, and whose chains a queue owns.
+
+use super::split::PLACE;
+use super::{Made, none_is};
+use guest_mem::GuestMem;
+use packed_ring::PackedRing;
+use ring_core::{Fetched, Layout, LayoutFault};
+use split_ring::SplitRing;
+use std::alloc::Global;
+use std::test::Fail;
+
+/// A layout in a memory of four pages, which ends at 16,384: size, descriptor area, driver area, device area, and why it
+/// is refused, if it is.
+type Placed = (u16, u64, u64, u64, Option<LayoutFault>);
+
+/// What is made of layouts of split queues.
+static SPLIT: [Placed; 12] = [
+    (8, 16256, 16362, 8192, None),
+    (0, 16256, 16362, 8192, Some(LayoutFault::BadSize)),
+    (6, 16256, 16362, 8192, Some(LayoutFault::BadSize)),
+    (32769, 16256, 16362, 8192, Some(LayoutFault::BadSize)),
+    (65535, 1, 16362, 8192, Some(LayoutFault::BadSize)),
+    (8, 16392, 16362, 8192, Some(LayoutFault::BadAlignment)),
+    (8, 16256, 1, 8192, Some(LayoutFault::BadAlignment)),
+    (8, 16256, 16362, 2, Some(LayoutFault::BadAlignment)),
+    (8, 16272, 16362, 8192, Some(LayoutFault::Outside)),
+    (8, 16256, 16364, 8192, Some(LayoutFault::Outside)),
+    (8, 16256, 16362, 16316, Some(LayoutFault::Outside)),
+    (
+        8,
+        0xffff_ffff_ffff_fff0,
+        16362,
+        8192,
+        Some(LayoutFault::Outside),
+    ),
+];
+
+/// The same of packed queues.
+static PACKED: [Placed; 9] = [
+    (7, 16272, 16380, 16380, None),
+    (0, 16272, 16380, 16380, Some(LayoutFault::BadSize)),
+    (32769, 16272, 16380, 16380, Some(LayoutFault::BadSize)),
+    (7, 16392, 16380, 16380, Some(LayoutFault::BadAlignment)),
+    (7, 16272, 2, 16380, Some(LayoutFault::BadAlignment)),
+    (7, 16272, 16380, 2, Some(LayoutFault::BadAlignment)),
+    (7, 16288, 16380, 16380, Some(LayoutFault::Outside)),
+    (7, 16272, 16384, 16380, Some(LayoutFault::Outside)),
+    (7, 16272, 16380, 16384, Some(LayoutFault::Outside)),
+];
+
+/// Why a layout is refused, if it is.
+fn refusal<R: Made>(memory: &GuestMem, alloc: Global, placed: &Placed) -> Option<LayoutFault> {
+    let (size, desc, driver, device, _) = *placed;
+    let layout = Layout {
+        size,
+        desc,
+        driver,
+        device,
+    };
+    match R::made(alloc, 2, layout, memory) {
+        Ok(_) => None,
+        Err(fault) => Some(fault),
+    }
+}
+
+/// The number of the first layout that isn't taken or refused as its row says, from 0.
+fn first_wrong<R: Made>(memory: &GuestMem, alloc: Global, rows: &[Placed]) -> Option<usize> {
+    for number in 0..rows.len() {
+        if refusal::<R>(memory, alloc, &rows[number]) != rows[number].4 {
+            return Some(number);
+        }
+    }
+    None
+}
+
+#[test]
+fn layouts(rt: HostRuntime) -> Result<(), Fail> {
+    let memory = GuestMem::new(rt.alloc(), 4)?;
+    none_is(&rt, first_wrong::<SplitRing>(&memory, rt.alloc(), &SPLIT));
+    none_is(&rt, first_wrong::<PackedRing>(&memory, rt.alloc(), &PACKED));
+    Ok(())
+}
+
+/// Whether the queue that a chain is fetched from owns it, and another doesn't.
+fn is_owned_there<R: Made>(ring: &mut R, other: &R, memory: &GuestMem) -> bool {
+    if !ring.fits(memory) {
+        return false;
+    }
+    match ring.fetch(memory) {
+        Ok(Some(Fetched { chain, .. })) => ring.owns(&chain) && !other.owns(&chain),
+        _ => false,
+    }
+}
+
+/// Whether that is so of two queues in one memory.
+fn own_apart<R: Made>(memory: &GuestMem, alloc: Global) -> Result<bool, LayoutFault> {
+    let mut ring = R::made(alloc, 2, PLACE, memory)?;
+    let other = R::made(alloc, 3, PLACE, memory)?;
+    Ok(is_owned_there(&mut ring, &other, memory))
+}
+
+/// Whether a queue fits a memory that is larger than its own.
+fn fits_larger<R: Made>(
+    memory: &GuestMem,
+    larger: &GuestMem,
+    alloc: Global,
+) -> Result<bool, LayoutFault> {
+    let ring = R::made(alloc, 2, PLACE, memory)?;
+    Ok(ring.fits(larger))
+}
+
+#[test]
+fn a_queue_owns_what_is_outstanding_of_it(rt: HostRuntime) -> Result<(), Fail> {
+    let mut memory = GuestMem::new(rt.alloc(), 16)?;
+    memory.write(4098, &[1, 0])?;
+    let larger = GuestMem::new(rt.alloc(), 17)?;
+    let is_wrong = !own_apart::<SplitRing>(&memory, rt.alloc())?;
+    let fits = fits_larger::<SplitRing>(&memory, &larger, rt.alloc())?;
+    none_is(&rt, if is_wrong || fits { Some(0) } else { None });
+    Ok(())
+}

@@ -1,0 +1,15 @@
+//! What is done with a split queue.
+
+pub(super) mod faults;
+pub(super) mod rows;
+mod wrapping;
+
+use ring_core::Layout;
+
+/// Where a queue lies.
+pub(super) const PLACE: Layout = Layout {
+    size: 8,
+    desc: 0,
+    driver: 4096,
+    device: 8192,
+};

@@ -1,0 +1,8 @@
+//! Tests of a logical unit over its public calls, each a table of rows, and of the hand-off, all with chains of real
+//! split queues. They stand in a crate of their own so that `unit_history` and `handoff` are proved once.
+#![tactic(auto)]
+
+#[cfg(test)]
+mod seats;
+#[cfg(test)]
+mod unit;
