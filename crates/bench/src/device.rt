@@ -129,18 +129,13 @@ pub(crate) struct Hosted<'a, R: Wait> {
 
 impl<'a, R: Threads + Wait + Copy + Send + 'static> Hosted<'a, R> {
     /// A host of a configuration, with so many workers.
-    pub(crate) fn new(
-        rt: &'a R,
-        alloc: Global,
-        work: &Work,
-        workers: u16,
-    ) -> Result<Hosted<'a, R>, Failure> {
+    pub(crate) fn new(rt: &'a R, alloc: Global, work: &Work) -> Result<Hosted<'a, R>, Failure> {
         let config = config(alloc, work)?;
         let answered = share(alloc)?;
         let gate = Counting {
             answered: Arc::try_clone(&answered)?,
         };
-        let host = Host::start(*rt, alloc, config, gate, workers)?;
+        let host = Host::start(*rt, alloc, config, gate, work.workers)?;
         Ok(Hosted { rt, host, answered })
     }
 

@@ -5,8 +5,8 @@ use std::alloc::AllocError;
 use world::StartFault;
 
 /// Why the work wasn't done.
-#[derive(Clone, Copy, Debug, PartialEq, Eq)]
-pub enum Failure {
+#[derive(Clone, Copy)]
+pub(crate) enum Failure {
     /// A request wasn't served, or its command didn't end with GOOD, or the host didn't add up.
     NotServed,
     /// Memory was refused, or a thread.

@@ -1,17 +1,14 @@
-//! `bench KIND RING DEPTH ROUNDS` has a guest make DEPTH requests available at once on a queue, ROUNDS times, and the
-//! device of one thread serve them each time; it prints how many requests ended well, and how many nanoseconds all took.
-//! With WORKERS behind these words the guest does so on each of two queues, those of each for a unit of its own, and a
-//! host of so many workers serves them; with 0 of them the device of one thread. Without words it serves a few rounds of
-//! each kind on each ring, by one thread and by two workers, and prints how many requests ended well.
+//! `bench KIND RING DEPTH ROUNDS WORKERS` has a guest make DEPTH requests available at once on each of two queues, those of
+//! each for a unit of its own, ROUNDS times, and a host of so many workers serve them; with 0 of them the device of one
+//! thread. It prints how many requests ended well, and how many nanoseconds all took. Without words it serves a few rounds
+//! of each kind on each ring, by one thread and by two workers, and prints how many requests ended well.
 #![tactic(auto)]
 
 mod device;
 mod failure;
-mod one_queue;
+mod guest;
 mod places;
-mod requests;
 mod telling;
-mod two_queues;
 mod words;
 mod work;
 

@@ -1,4 +1,4 @@
-//! What the guest with two queues asks for, and where it lies.
+//! What the guest asks for, and where it lies.
 
 ghost use Rattle.std.specs.Prelude.{◌<◌, ◌^◌};
 
@@ -27,12 +27,12 @@ pub(crate) enum Data {
 }
 
 impl Kind {
-    /// The operation code of one that the guest with two queues asks for.
+    /// Its operation code.
     fn opcode(self) -> u8 {
         match self {
             Kind::Read512 | Kind::Read64k => 0x28,
             Kind::Write512 | Kind::Write64k => 0x2a,
-            _ => 0,
+            Kind::Ready => 0,
         }
     }
 
@@ -42,7 +42,7 @@ impl Kind {
         match self {
             Kind::Write512 | Kind::Write64k => Data::Out(bytes),
             Kind::Read512 | Kind::Read64k => Data::In(bytes),
-            _ => Data::Absent,
+            Kind::Ready => Data::Absent,
         }
     }
 

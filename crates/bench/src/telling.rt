@@ -2,8 +2,8 @@
 
 use crate::device::{Alone, Hosted};
 use crate::failure::Failure;
-use crate::work::{KINDS, Kind, OF_TWO_QUEUES, Work};
-use crate::{one_queue, two_queues};
+use crate::guest::Guest;
+use crate::work::{KINDS, Work};
 use ring_core::Form;
 use std::alloc::Global;
 use std::rt::Clock;
@@ -11,12 +11,12 @@ use std::sync::Wait;
 use std::thread::Threads;
 use std::time::{Duration, Instant};
 
-/// The depth, the rounds and the workers of which all kinds are served where no words say more.
+/// The depth, the rounds and the numbers of workers of which all kinds are served where no words say more.
 const DEPTH: u16 = 4;
 
 const ROUNDS: u64 = 3;
 
-const WORKERS: u16 = 2;
+const WORKERS: [u16; 2] = [0, 2];
 
 /// The word that names a form.
 fn word_of(form: Form) -> &'static str {
@@ -46,21 +46,10 @@ fn elapsed<R: Clock>(rt: &R, start: Option<Instant>) -> Option<Duration> {
     start?.elapsed(rt).ok()
 }
 
-/// Has the device of one thread serve the guest with one queue.
-fn serve_one_queue<R: Clock>(rt: &R, alloc: Global, work: &Work) -> Result<Done, Failure> {
-    let guest = one_queue::Guest::new(alloc, work)?;
-    let start = Instant::now(rt).ok();
-    let good = guest.serve()?;
-    Ok(Done {
-        good,
-        took: elapsed(rt, start),
-    })
-}
-
-/// Has the device of one thread serve the guest with two queues.
+/// Has the device of one thread serve the guest.
 fn serve_alone<R: Clock>(rt: &R, alloc: Global, work: &Work) -> Result<Done, Failure> {
     let mut device = Alone::new(alloc, work)?;
-    let guest = two_queues::Guest::new(alloc, &mut device, work)?;
+    let guest = Guest::new(alloc, &mut device, work)?;
     let start = Instant::now(rt).ok();
     let good = guest.serve(&mut device)?;
     Ok(Done {
@@ -69,15 +58,14 @@ fn serve_alone<R: Clock>(rt: &R, alloc: Global, work: &Work) -> Result<Done, Fai
     })
 }
 
-/// Has a host of so many workers serve the guest with two queues, and closes it.
+/// Has a host of so many workers serve the guest, and closes it.
 fn serve_hosted<R: Clock + Threads + Wait + Copy + Send + 'static>(
     rt: &R,
     alloc: Global,
     work: &Work,
-    workers: u16,
 ) -> Result<Done, Failure> {
-    let mut device = Hosted::new(rt, alloc, work, workers)?;
-    let guest = two_queues::Guest::new(alloc, &mut device, work);
+    let mut device = Hosted::new(rt, alloc, work)?;
+    let guest = Guest::new(alloc, &mut device, work);
     let start = Instant::now(rt).ok();
     let good = match guest {
         Ok(guest) => guest.serve(&mut device),
@@ -95,10 +83,10 @@ fn serve<R: Clock + Threads + Wait + AllocGlobal + Copy + Send + 'static>(
     rt: &R,
     work: &Work,
 ) -> Result<Done, Failure> {
-    match work.workers {
-        None => serve_one_queue(rt, rt.alloc(), work),
-        Some(0) => serve_alone(rt, rt.alloc(), work),
-        Some(workers) => serve_hosted(rt, rt.alloc(), work, workers),
+    if work.workers == 0 {
+        serve_alone(rt, rt.alloc(), work)
+    } else {
+        serve_hosted(rt, rt.alloc(), work)
     }
 }
 
@@ -120,43 +108,31 @@ pub(crate) fn tell<R: Clock + Threads + Wait + Print + AllocGlobal + Copy + Send
     0
 }
 
-/// Serves a few rounds of some kinds on each ring, and prints how many requests ended well: the exit status.
-fn tell_each<R: Clock + Threads + Wait + Print + AllocGlobal + Copy + Send + 'static>(
-    rt: &R,
-    who: &str,
-    kinds: &[Kind],
-    workers: Option<u16>,
-) -> u8 {
-    for form in [Form::Split, Form::Packed] {
-        for kind in kinds {
-            let work = Work {
-                kind: *kind,
-                form,
-                depth: DEPTH,
-                rounds: ROUNDS,
-                workers,
-            };
-            let Done { good, .. } = match serve(rt, &work) {
-                Ok(done) => done,
-                Err(failure) => return status_of(failure),
-            };
-            let (kind, form) = (kind.word(), word_of(form));
-            if println!(rt; "{who}, {kind} {form}: {good}").is_err() {
-                return 4;
-            }
-        }
-    }
-    0
-}
-
 /// Serves a few rounds of each kind on each ring, by one thread and by workers, and prints how many requests ended
 /// well: the exit status.
 pub(crate) fn tell_all<R: Clock + Threads + Wait + Print + AllocGlobal + Copy + Send + 'static>(
     rt: &R,
 ) -> u8 {
-    let status = tell_each(rt, "one thread", &KINDS, None);
-    if status != 0 {
-        return status;
+    for workers in WORKERS {
+        for form in [Form::Split, Form::Packed] {
+            for kind in KINDS {
+                let work = Work {
+                    kind,
+                    form,
+                    depth: DEPTH,
+                    rounds: ROUNDS,
+                    workers,
+                };
+                let Done { good, .. } = match serve(rt, &work) {
+                    Ok(done) => done,
+                    Err(failure) => return status_of(failure),
+                };
+                let (kind, form) = (kind.word(), word_of(form));
+                if println!(rt; "{kind} {form} by {workers}: {good}").is_err() {
+                    return 4;
+                }
+            }
+        }
     }
-    tell_each(rt, "two workers", &OF_TWO_QUEUES, Some(WORKERS))
+    0
 }

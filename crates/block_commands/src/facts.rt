@@ -5,7 +5,7 @@ ghost use Rattle.std.specs.Prelude.{◌≤◌, length};
 use sense::Sense;
 
 /// What a command is told of its logical unit, apart from the blocks.
-#[derive(Debug, Drop)]
+#[derive(Drop)]
 pub struct UnitFacts {
     /// The target of the unit.
     pub target: u8,

@@ -15,7 +15,7 @@ pub const MOST_COMPARE_BLOCKS: u8 = 8;
 
 /// What a CDB asks for. `decode` gives each field in the range that is said here; a logical block
 /// address isn't yet compared with a capacity.
-#[derive(Clone, Copy, Debug, PartialEq, Eq)]
+#[derive(Clone, Copy, PartialEq, Eq)]
 pub enum Command {
     /// TEST UNIT READY (SPC-4 §6.47).
     TestUnitReady,
@@ -97,7 +97,7 @@ pub enum Command {
 
 /// Which data an INQUIRY asks for: the standard data, or a page of vital product data (SPC-4 §6.6,
 /// §7.8).
-#[derive(Clone, Copy, Debug, PartialEq, Eq)]
+#[derive(Clone, Copy, PartialEq, Eq)]
 pub enum InquiryData {
     /// Standard INQUIRY data.
     Standard,
@@ -114,7 +114,7 @@ pub enum InquiryData {
 }
 
 /// Which logical units a REPORT LUNS lists: the field SELECT REPORT (SPC-4 §6.33).
-#[derive(Clone, Copy, Debug, PartialEq, Eq)]
+#[derive(Clone, Copy, PartialEq, Eq)]
 pub enum SelectReport {
     /// 00h: the logical units that the target's addresses reach, well known ones left out.
     LogicalUnits,

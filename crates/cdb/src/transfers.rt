@@ -12,7 +12,7 @@ const BLOCK_BYTES: u32 = 512;
 const CAPACITY_10_BYTES: u32 = 8;
 
 /// How many bytes of data a command moves at most, each way.
-#[derive(Clone, Copy, Debug, PartialEq, Eq)]
+#[derive(Clone, Copy, PartialEq, Eq)]
 pub struct Transfer {
     /// Bytes from the driver to the device.
     pub out: u32,

@@ -4,7 +4,7 @@ ghost use Rattle.std.specs.Prelude.{◌≡◌};
 ghost use Rattle.decisions.specs.Decision.{attribute_of};
 
 /// The task attributes that this device knows (SAM-5 §8.6): when a command may run beside others.
-#[derive(Clone, Copy, Debug, PartialEq, Eq)]
+#[derive(Clone, Copy, PartialEq, Eq)]
 pub enum TaskAttribute {
     /// In any order with other SIMPLE tasks.
     Simple = 0,

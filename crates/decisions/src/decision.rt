@@ -14,7 +14,7 @@ use scsi_codec::{CodecFault, REQUEST_BYTES, RESPONSE_BYTES, Request, ResponseCod
 use sense::Sense;
 
 /// What is decided of a request when it is fetched. It is never decided again.
-#[derive(Debug, Drop)]
+#[derive(Drop)]
 pub enum Decision {
     /// It is answered so, and goes to no unit.
     Direct(DirectAnswer),

@@ -24,7 +24,7 @@ pub const MOST_OTHER_BYTES: usize = 5;
 pub type DirectBytes = ArrayVec<u8, MOST_DIRECT_BYTES>;
 
 /// What is told without a unit.
-#[derive(Debug, Drop)]
+#[derive(Drop)]
 pub(crate) enum Told {
     /// No byte.
     Nothing,
@@ -42,7 +42,7 @@ pub(crate) enum Told {
 
 /// An answer that needs no unit: its bytes are 0, or 108 and the data behind them, or those of another table. It is
 /// small, and its bytes are made where they are written, so that neither takes memory.
-#[derive(Debug, Drop)]
+#[derive(Drop)]
 pub struct DirectAnswer {
     lengths: ChainLengths,
     told: Told,

@@ -11,7 +11,7 @@ use std::marker::Model;
 use std::mem;
 
 /// A request that goes to a unit, decoded once, when it was fetched. Nobody can change it.
-#[derive(Debug, Drop)]
+#[derive(Drop)]
 pub struct UnitRequest {
     id: u64,
     attribute: TaskAttribute,

@@ -2,7 +2,7 @@
 
 /// One atomic step of the device, or of its guest or its operator: one hold of a unit's lock, of a queue's with the
 /// memory's inside it, or of the memory's alone, or one put or take of the hand-off.
-#[derive(Debug, Drop)]
+#[derive(Drop)]
 pub enum Event {
     /// The guest writes bytes at an address.
     Poke(u64, Vec<u8>),

@@ -7,7 +7,7 @@ use std::collections::VecDeque;
 use std::marker::Model;
 
 /// The buffers of the event queue that the device holds, oldest first, and whether an event was missed since one came.
-#[derive(Debug, Drop)]
+#[derive(Drop)]
 pub struct EventPort {
     buffers: VecDeque<Chain>,
     missed: bool,

@@ -6,7 +6,7 @@ use std::collections::VecDeque;
 use std::marker::Model;
 
 /// Events that are to be raised, oldest first, each about a unit of a LUN up to 16,383 or about none.
-#[derive(Debug, Drop)]
+#[derive(Drop)]
 pub struct WaitingEvents {
     events: VecDeque<Event>,
 }

@@ -32,7 +32,7 @@ impl fmt::Display for MemFault {
 impl Error for MemFault {}
 
 /// The memory of a guest, seen as the list of its bytes. Addresses begin at 0.
-#[derive(Debug, Drop)]
+#[derive(Drop)]
 pub struct GuestMem {
     bytes: Vec<u8>,
 }

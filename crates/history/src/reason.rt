@@ -1,7 +1,7 @@
 //! Why a command ends without having run.
 
 /// Why a task was marked: it ends without having run.
-#[derive(Clone, Copy, Debug, PartialEq, Eq)]
+#[derive(Clone, Copy, PartialEq, Eq)]
 pub enum Reason {
     /// An abort met it (SAM-5 §7.2, §7.3, §7.5): response ABORTED (VIRTIO 1.2 §5.6.6.1).
     Aborted,

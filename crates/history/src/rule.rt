@@ -1,7 +1,7 @@
 //! Which tasks an abort is for.
 
 /// Which tasks of a task set an abort meets (SAM-5 §7.2, §7.3, §7.5).
-#[derive(Clone, Copy, Debug, PartialEq, Eq)]
+#[derive(Clone, Copy, PartialEq, Eq)]
 pub enum Rule {
     /// Those with this identifier, of 64 bits, as the driver chose it (ABORT TASK).
     Id(u64),

@@ -11,7 +11,7 @@ use unit_history::{Given, LATEST_KEPT, LONGEST_KEPT, Note, Receipt};
 
 /// The receipts and notes of the requests that a seat answered, in order. Replies are kept of its latest receipts
 /// alone, as many as a unit has of its latest steps, and of these those alone that are short enough for a unit.
-#[derive(Debug, Drop)]
+#[derive(Drop)]
 pub struct Kept {
     pub receipts: Vec<Receipt>,
     pub notes: Vec<Note>,

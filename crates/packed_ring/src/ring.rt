@@ -22,7 +22,7 @@ const ALL_IDS: usize = 65536;
 
 /// A packed virtqueue, seen as its plain value. It takes its memory from the allocator that it
 /// was made with.
-#[derive(Debug, Drop)]
+#[derive(Drop)]
 pub struct PackedRing {
     base: RingBase,
 }

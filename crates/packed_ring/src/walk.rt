@@ -10,7 +10,7 @@ use guest_mem::GuestMem;
 use ring_core::{Before, Descriptor, Draft, Layout, RingFault};
 
 /// A run of slots that is a chain.
-#[derive(Debug, Drop)]
+#[derive(Drop)]
 pub struct Run {
     pub id: u16,
     pub slots: u16,

@@ -9,7 +9,7 @@ use std::marker::Model;
 use task_mgmt::Function;
 
 /// A task management function that is open, and the chain of the control queue that asked for it.
-#[derive(Debug, Drop)]
+#[derive(Drop)]
 pub struct OpenFunction {
     chain: Chain,
     function: Function,

@@ -5,7 +5,7 @@ use ring_core::Answered;
 use unit_history::Job;
 
 /// What a seat has in hand between two steps.
-#[derive(Debug, Drop)]
+#[derive(Drop)]
 pub enum Hand {
     /// Nothing.
     Free,

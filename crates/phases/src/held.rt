@@ -10,7 +10,7 @@ use unit_history::{Job, Outcome, UnitState};
 
 /// A job in hand, and what came of its commit once that is over. The commit changes it in place, so that the job
 /// doesn't move.
-#[derive(Debug, Drop)]
+#[derive(Drop)]
 pub struct Held {
     job: Job,
     outcome: Option<Outcome>,

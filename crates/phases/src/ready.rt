@@ -16,7 +16,7 @@ use std::marker::Model;
 use unit_history::{Cause, Job};
 
 /// A chain that is to be answered, with its answer.
-#[derive(Debug, Drop)]
+#[derive(Drop)]
 pub struct Ready {
     chain: Chain,
     answer: DirectAnswer,

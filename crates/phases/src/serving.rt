@@ -30,7 +30,7 @@ use ring_core::{Answered, Fetched};
 use unit_history::{Answering, Arrival, Entered, Job, JobList, Outcome, UnitState, Unknown};
 
 /// What was taken from a request queue.
-#[derive(Debug, Drop)]
+#[derive(Drop)]
 pub enum Taken {
     /// Nothing.
     Nothing,

@@ -4,7 +4,7 @@ use crate::ready::Ready;
 use unit_history::Arrival;
 
 /// What a queue has between two steps. Whoever fetches from the queue keeps it.
-#[derive(Debug, Drop)]
+#[derive(Drop)]
 pub enum Slot {
     /// Nothing.
     Empty,

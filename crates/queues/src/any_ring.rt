@@ -6,7 +6,7 @@ use ring_core::{Chain, Completion, Fetched, QueueLog, Ring, RingFault, Ticket};
 use split_ring::SplitRing;
 
 /// A virtqueue of either form.
-#[derive(Debug, Drop)]
+#[derive(Drop)]
 pub enum AnyRing {
     /// A split one.
     Split(SplitRing),

@@ -86,7 +86,7 @@ fn ring_of(
 }
 
 /// What a look at a queue finds.
-#[derive(Debug, Drop)]
+#[derive(Drop)]
 pub enum Fetch {
     /// Nothing to be done.
     Idle,
@@ -97,7 +97,7 @@ pub enum Fetch {
 }
 
 /// A virtqueue of the device, seen as its ring's plain value with a count of notices.
-#[derive(Debug, Drop)]
+#[derive(Drop)]
 pub struct Queue {
     number: u16,
     ring: AnyRing,

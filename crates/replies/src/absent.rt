@@ -17,7 +17,7 @@ use sense::Sense;
 pub const ABSENT_BYTES: usize = 36;
 
 /// What a LUN that a target lacks is answered. Its data stand in place, so it takes no memory.
-#[derive(Debug, Drop)]
+#[derive(Drop)]
 pub struct AbsentReply {
     /// The status code: GOOD or CHECK CONDITION.
     pub status: u8,

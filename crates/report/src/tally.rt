@@ -7,7 +7,7 @@ use ring_core::Ticket;
 use unit_history::{Cause, StepKind};
 
 /// What a request was answered with so far.
-#[derive(Clone, Copy, Debug, PartialEq, Eq)]
+#[derive(Clone, Copy, PartialEq, Eq)]
 pub enum Answer {
     /// Nothing.
     Missing,
@@ -57,7 +57,7 @@ impl Answer {
 }
 
 /// What is told of a request.
-#[derive(Clone, Copy, Debug, PartialEq, Eq)]
+#[derive(Clone, Copy, PartialEq, Eq)]
 pub enum Fact {
     /// A receipt or a note.
     Answered(Answer),
@@ -70,7 +70,7 @@ pub enum Fact {
 }
 
 /// What a step tells, and of which request.
-#[derive(Clone, Copy, Debug)]
+#[derive(Clone, Copy)]
 pub struct TicketFact {
     pub ticket: Ticket,
     pub fact: Fact,
@@ -117,7 +117,7 @@ pub(crate) fn fact_of_one(step: Option<StepKind>) -> Option<TicketFact>
 
 /// What is known of a request, as its answers and then the histories are read, one after another, each from its oldest
 /// step on.
-#[derive(Clone, Copy, Debug)]
+#[derive(Clone, Copy)]
 pub struct Tally {
     answer: Answer,
     /// It has an Enter in some history.

@@ -6,7 +6,7 @@ use crate::log::Ticket;
 use std::marker::Model;
 
 /// That a chain was completed. `Ring::complete` alone makes one.
-#[derive(Debug, Drop)]
+#[derive(Drop)]
 pub struct Answered {
     ticket: Ticket,
 }
@@ -37,7 +37,7 @@ impl Answered {
 
 /// The leave to finish a chain. `Ring::complete` alone makes one, so nothing else can call a
 /// ring's `finish`.
-#[derive(Debug, Drop)]
+#[derive(Drop)]
 pub struct Completion {
     private: (),
 }

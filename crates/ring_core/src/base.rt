@@ -14,7 +14,7 @@ use std::alloc::{AllocError, Global};
 use std::marker::Model;
 
 /// A queue's place, its log and its outstanding chains. For rings.
-#[derive(Debug, Drop)]
+#[derive(Drop)]
 pub struct RingBase {
     alloc: Global,
     form: Form,

@@ -14,7 +14,7 @@ const FEW_PARTS: usize = 4;
 const FEW_BYTES: usize = 4096;
 
 /// A chain where it stands in memory. A chain that moves is a pointer to it.
-#[derive(Debug, Drop)]
+#[derive(Drop)]
 pub(crate) struct Body {
     ticket: Ticket,
     id: u16,
@@ -28,7 +28,7 @@ pub(crate) struct Body {
 }
 
 /// The room of a chain, with the parts that were found of it, seen as the list of them. For rings.
-#[derive(Debug, Drop)]
+#[derive(Drop)]
 pub struct Draft {
     body: Box<Body>,
 }
@@ -48,7 +48,7 @@ impl Model for Draft {
 }
 
 /// The room of a chain that is over, without parts: the next one takes it in place of memory.
-#[derive(Debug, Drop)]
+#[derive(Drop)]
 pub(crate) struct Spare {
     draft: Draft,
 }
@@ -77,7 +77,7 @@ impl Spare {
 }
 
 /// A chain that was fetched and not completed. It is moved, never copied.
-#[derive(Debug, Drop)]
+#[derive(Drop)]
 pub struct Chain {
     body: Box<Body>,
 }
@@ -263,7 +263,7 @@ impl Chain {
 }
 
 /// A chain with its first readable bytes, read when it was fetched.
-#[derive(Debug, Drop)]
+#[derive(Drop)]
 pub struct Fetched {
     /// The chain, to be completed.
     pub chain: Chain,

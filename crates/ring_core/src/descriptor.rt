@@ -6,7 +6,7 @@ ghost use Rattle.ring_core.specs.Walk.{goes_on, is_writable, is_indirect, part_o
 use bitflags::{Flag, Flags, bitflag_items};
 
 /// What a descriptor's flags say (VIRTIO 1.2, 2.7.5 and 2.8.13). Other bits are ignored.
-#[derive(Clone, Copy, PartialEq, Eq, Debug)]
+#[derive(Clone, Copy, PartialEq, Eq)]
 pub struct DescriptorFlags(u16);
 
 bitflag_items! {
@@ -51,7 +51,7 @@ pub struct Part {
 }
 
 /// A descriptor as it stands in memory.
-#[derive(Clone, Copy, Debug, PartialEq, Eq)]
+#[derive(Clone, Copy, PartialEq, Eq)]
 pub struct Descriptor {
     /// Where its buffer begins.
     pub addr: u64,

@@ -17,7 +17,7 @@ pub struct Ticket {
 
 /// The tickets of the chains that a queue accepted, and of those that were used, in order. It keeps
 /// how many there are; which they are, only proofs see.
-#[derive(Debug, Drop)]
+#[derive(Drop)]
 pub struct QueueLog {
     accepted_count: u64,
     used_count: u64,

@@ -10,7 +10,7 @@ use std::collections::BTreeMap;
 use std::marker::Model;
 
 /// An outstanding chain, as its queue remembers it.
-#[derive(Clone, Copy, Debug, PartialEq, Eq)]
+#[derive(Clone, Copy, PartialEq, Eq)]
 pub struct OutstandingChain {
     /// The number of its ticket.
     pub number: u64,
@@ -19,7 +19,7 @@ pub struct OutstandingChain {
 }
 
 /// How the chains are kept.
-#[derive(Debug, Drop)]
+#[derive(Drop)]
 pub enum Entries {
     /// A place for each head, made once: a split queue's heads are below its size.
     ByHead(Vec<Option<OutstandingChain>>),
@@ -105,7 +105,7 @@ fn least_by_id(chains: &BTreeMap<u16, OutstandingChain>, ids: usize) -> Option<u
 }
 
 /// Which chain is outstanding under each head or id below a bound, seen as a list.
-#[derive(Debug, Drop)]
+#[derive(Drop)]
 pub struct OutstandingTable {
     entries: Entries,
     ids: usize,

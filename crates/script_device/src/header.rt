@@ -18,7 +18,7 @@ fn set_once<T: Drop>(place: &mut Option<T>, value: T) -> Result<(), LineFault> {
 }
 
 /// The header, as far as it was read.
-#[derive(Debug, Drop)]
+#[derive(Drop)]
 pub(crate) struct Header {
     pages: Option<u32>,
     form: Option<Form>,

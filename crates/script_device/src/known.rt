@@ -8,7 +8,7 @@ use scsi_codec::Address;
 const FIRST_REQUEST_QUEUE: u16 = 2;
 
 /// What lines may name: so many queues, and the units of the header.
-#[derive(Debug, Drop)]
+#[derive(Drop)]
 pub struct Known {
     /// How many queues there are, the control and the event queue among them.
     pub queues: u16,

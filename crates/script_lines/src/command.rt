@@ -10,7 +10,7 @@ use scsi_codec::Address;
 use std::alloc::Global;
 
 /// A line behind the header. Which of them may stand in a script, and where, isn't known here.
-#[derive(Debug, Drop)]
+#[derive(Drop)]
 pub enum Command<'a> {
     /// The guest writes into its memory.
     Guest(GuestLine<'a>),

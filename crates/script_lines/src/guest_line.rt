@@ -7,7 +7,7 @@ use scsi_codec::{CDB_BYTES, write_lun};
 use std::alloc::Global;
 
 /// A line of the guest, which writes into its memory.
-#[derive(Debug, Drop)]
+#[derive(Drop)]
 pub enum GuestLine<'a> {
     /// A request goes to the device.
     Send(Send<'a>),

@@ -4,7 +4,7 @@ use crate::values::Bytes;
 use scsi_codec::CDB_BYTES;
 
 /// A request as a line names it. Which queues and units there are isn't known here.
-#[derive(Debug, Drop)]
+#[derive(Drop)]
 pub struct Send<'a> {
     /// Its name, 1 to 16 letters or digits.
     pub name: &'a str,
@@ -25,7 +25,7 @@ pub struct Send<'a> {
 }
 
 /// A task management function as a line names it. Which functions and units there are isn't known here.
-#[derive(Clone, Copy, Debug, PartialEq, Eq)]
+#[derive(Clone, Copy, PartialEq, Eq)]
 pub struct TaskManagement<'a> {
     /// Its name, 1 to 16 letters or digits.
     pub name: &'a str,

@@ -77,7 +77,7 @@ pub fn unit_pair(word: &str) -> Result<Address, LineFault>
 }
 
 /// Bytes that stand several times, one after the other.
-#[derive(Debug, Drop)]
+#[derive(Drop)]
 pub struct Item {
     /// The bytes, one at least.
     pub bytes: Vec<u8>,
@@ -121,7 +121,7 @@ impl Item {
 }
 
 /// Bytes as a line has them. Repeated bytes are kept once.
-#[derive(Debug, Drop)]
+#[derive(Drop)]
 pub struct Bytes {
     items: Vec<Item>,
     length: u64,

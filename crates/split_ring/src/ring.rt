@@ -15,7 +15,7 @@ use std::marker::Model;
 const NO_INTERRUPT: u16 = 1;
 
 /// A chain that was found and not accepted yet.
-#[derive(Debug, Drop)]
+#[derive(Drop)]
 pub struct Candidate {
     head: u16,
     draft: Draft,
@@ -23,7 +23,7 @@ pub struct Candidate {
 
 /// A split virtqueue, seen as its plain value. It takes its memory from the allocator that it
 /// was made with.
-#[derive(Debug, Drop)]
+#[derive(Drop)]
 pub struct SplitRing {
     base: RingBase,
 }

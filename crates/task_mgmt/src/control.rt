@@ -19,7 +19,7 @@ pub const MOST_CONTROL_BYTES: usize = 5;
 
 /// An answer to a chain of the control queue: its bytes, 0, 1 or 5. They stand in place, so that neither
 /// deciding nor writing takes memory.
-#[derive(Debug, Drop)]
+#[derive(Drop)]
 pub struct ControlAnswer {
     bytes: ArrayVec<u8, MOST_CONTROL_BYTES>,
 }
@@ -78,7 +78,7 @@ impl ControlAnswer {
 }
 
 /// What is decided of a chain of the control queue when it is fetched. It is never decided again.
-#[derive(Debug, Drop)]
+#[derive(Drop)]
 pub enum ControlDecision {
     /// It is answered so.
     Direct(ControlAnswer),

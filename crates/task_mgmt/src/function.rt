@@ -10,7 +10,7 @@ use scsi_codec::FunctionResponse;
 use std::marker::Model;
 
 /// That a unit was marked: the mark is clear once every task that it met has left.
-#[derive(Clone, Copy, Debug, Default, PartialEq, Eq)]
+#[derive(Clone, Copy, Default, PartialEq, Eq)]
 pub struct Mark {
     /// The place of the unit in the inventory.
     pub unit: usize,
@@ -20,7 +20,7 @@ pub struct Mark {
 
 /// A task management function that has begun (SAM-5 §7.1). It first visits each of its units, once and by rising
 /// LUN, then waits for each mark in that order, and then has its response. No call takes memory.
-#[derive(Debug, Drop)]
+#[derive(Drop)]
 pub struct Function {
     kind: Kind,
     found: bool,

@@ -17,7 +17,7 @@ use std::marker::Model;
 
 /// A request for a unit that has not entered its task set yet: its chain, and the request with its data.
 /// Clauses see the job that it becomes.
-#[derive(Debug, Drop)]
+#[derive(Drop)]
 pub struct Arrival {
     unit: usize,
     chain: Chain,
@@ -148,7 +148,7 @@ impl Arrival {
 
 /// A request for a unit with its chain, which whoever has the job will answer. The data that the command
 /// takes are the task's: a job only knows, in proofs, what they were.
-#[derive(Debug, Drop)]
+#[derive(Drop)]
 pub struct Job {
     unit: usize,
     chain: Chain,
@@ -246,7 +246,7 @@ impl Job {
 }
 
 /// Jobs in order, at most as many as a limit, for which room was made once.
-#[derive(Debug, Drop)]
+#[derive(Drop)]
 pub struct JobList {
     jobs: VecDeque<Job>,
     limit: usize,

@@ -20,12 +20,12 @@ pub const MOST_TASKS: usize = 64;
 
 /// Why a task can't enter: 64 are alive. Its job, whose data were let go, is to be answered with TASK SET FULL
 /// (SAM-5 §5.3.1).
-#[derive(Debug, Drop)]
+#[derive(Drop)]
 pub struct Full(pub Job);
 
 /// The tasks of a logical unit that are alive, by order of entry (SAM-5 §8.1). Clauses see it as that list. No call
 /// takes memory.
-#[derive(Debug, Drop)]
+#[derive(Drop)]
 pub struct TaskSet {
     tasks: ArrayVec<Task, MOST_TASKS>,
 }

@@ -16,7 +16,7 @@ use std::marker::Model;
 
 /// A task that is alive: from when its command entered the task set until its answer is written (SAM-5 §5.5).
 /// Clauses see what is kept of it, and its job as long as it waits.
-#[derive(Debug, Drop)]
+#[derive(Drop)]
 pub struct Task {
     ticket: Ticket,
     request: Option<UnitRequest>,

@@ -15,7 +15,7 @@ use std::marker::Model;
 use task_set::Job;
 
 /// What became of a request that came to its unit.
-#[derive(Debug, Drop)]
+#[derive(Drop)]
 pub enum Entered {
     /// Its task entered and may run: whoever gets the job commits it.
     Run(Job),
@@ -42,7 +42,7 @@ impl Entered {
 }
 
 /// What became of a job at its commit.
-#[derive(Debug, Drop)]
+#[derive(Drop)]
 pub enum Outcome {
     /// Its command ran whole.
     Reply(Receipt),
@@ -68,7 +68,7 @@ impl Outcome {
 }
 
 /// That a command ran whole, and with which reply. `UnitState::commit` alone makes one.
-#[derive(Debug, Drop)]
+#[derive(Drop)]
 pub struct Receipt {
     unit: Address,
     place: u64,

@@ -4,7 +4,7 @@ use history::Rule;
 use ring_core::Ticket;
 
 /// What a step of a unit's history was, and of which chain. A Reset's code and a Commit's reply aren't told.
-#[derive(Clone, Copy, Debug, PartialEq, Eq)]
+#[derive(Clone, Copy, PartialEq, Eq)]
 pub enum StepKind {
     /// A task entered the task set (SAM-5 §8.1).
     Enter(Ticket),

@@ -24,7 +24,7 @@ pub enum Cause {
 }
 
 /// That a request was answered without a receipt, and why. The phase that answers it makes the note.
-#[derive(Debug, Drop)]
+#[derive(Drop)]
 pub struct Note {
     ticket: Ticket,
     cause: Cause,
@@ -62,7 +62,7 @@ impl Note {
 }
 
 /// What is left of a request once it is answered.
-#[derive(Debug, Drop)]
+#[derive(Drop)]
 pub enum Given {
     /// Its command ran whole.
     Receipt(Receipt),

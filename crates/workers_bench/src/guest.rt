@@ -36,7 +36,7 @@ const LOOKS: u32 = 1_000_000;
 
 /// A chain: its queue, which of that queue's chains it is, from 0 to 3, what the device reads of it, with a block of
 /// equal bytes behind the 51 of a request, how many bytes it reads, and how many it may write.
-#[derive(Clone, Copy, Debug)]
+#[derive(Clone, Copy)]
 pub(crate) struct Asked {
     pub(crate) queue: u16,
     pub(crate) number: u8,

@@ -5,7 +5,7 @@ use queues::Queue;
 use std::marker::Model;
 
 /// A virtqueue with what stands in its slot.
-#[derive(Debug, Drop)]
+#[derive(Drop)]
 pub(crate) struct Bay {
     pub(crate) queue: Queue,
     pub(crate) slot: Slot,

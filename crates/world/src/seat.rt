@@ -5,7 +5,7 @@ use std::marker::Model;
 use unit_history::{Job, JobList};
 
 /// What a seat's hand says of its next step.
-#[derive(Clone, Copy, Debug, PartialEq, Eq)]
+#[derive(Clone, Copy, PartialEq, Eq)]
 pub(crate) enum Stage {
     /// Nothing is in hand.
     Free,
@@ -18,7 +18,7 @@ pub(crate) enum Stage {
 }
 
 /// What a worker, or the operator, has between two steps: its hand, and the jobs that it is to hand off.
-#[derive(Debug, Drop)]
+#[derive(Drop)]
 pub(crate) struct Seat {
     pub(crate) hand: Hand,
     pub(crate) out: JobList,

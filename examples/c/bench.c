@@ -1,0 +1,247 @@
+// What a request costs: a guest makes so many requests available at once on one queue, over and over, from the same places
+// in guest memory, and the device serves them each time; the guest looks at every answer.
+//
+//     bench KIND RING DEPTH ROUNDS    prints how many requests ended well, and the nanoseconds that all rounds took
+//     bench                           serves a few rounds of each kind on each ring, and prints how many ended well
+//
+// RING is split or packed, DEPTH a power of two up to 256. The status is 1 where a request wasn't answered well, 2 where the
+// words name no work, 3 for want of memory.
+#define _POSIX_C_SOURCE 199309L
+#include <stdio.h>
+#include <stdlib.h>
+#include <string.h>
+#include <time.h>
+
+#include "vscsi.h"
+
+enum { QUEUES = 3, MOST_DEPTH = 256, REQUEST = 51, RESPONSE = 108, LARGE = 128, FEW_ROUNDS = 3, FEW_REQUESTS = 4 };
+
+// Descriptor flags (VIRTIO 1.2, 2.7.5 and 2.8.1).
+enum { NEXT = 1, WRITE = 2, AVAILABLE = 0x80, USED = 0x8000 };
+
+// The areas of the request queue; those of the other two queues lie behind them, and then the requests, each with its
+// response in an area of its own.
+enum { DRIVER = 0x2000, DEVICE = 0x4000, OTHER_QUEUES = 0x8000, AREAS = 0x10000, SMALL_AREA = 0x1000, LARGE_AREA = 0x11000 };
+
+// The steps of a request that nothing blocks: it is fetched, enters, is put, taken, committed and answered, and leaves.
+enum { STEPS = 7 };
+
+// What each request does: nothing, with the guest alone; or a command of so many blocks; or READ, WRITE and TEST UNIT READY in
+// turn, of all three attributes, on two units.
+enum kind { NONE, TUR, READ_512, WRITE_512, READ_64K, WRITE_64K, COMPARE_AND_WRITE, MIXED, KINDS };
+
+static const char *const names[KINDS] = {"none", "tur", "read512", "write512", "read64k", "write64k", "compare-and-write", "mixed"};
+
+struct work {
+  enum kind kind;
+  bool packed;
+  unsigned depth;
+  uint64_t rounds;
+};
+
+// A request as the guest lays it out: its bytes, and those of its data to and from the device.
+struct request {
+  uint8_t bytes[REQUEST];
+  uint32_t sent, taken;
+};
+
+static struct vscsi device;
+static uint8_t even[MOST_DEPTH * 32], odd[MOST_DEPTH * 32];
+static uint64_t responses[MOST_DEPTH];
+
+static bool is_large(enum kind kind) { return kind == READ_64K || kind == WRITE_64K; }
+
+static unsigned blocks_of(enum kind kind) { return kind <= TUR ? 0 : is_large(kind) ? LARGE : 1; }
+
+// Ends the program where a call didn't do what it was asked for.
+static void must(enum vscsi_answer answer) {
+  if (answer == VSCSI_DONE) return;
+  fprintf(stderr, "bench: a call answered %d\n", answer);
+  vscsi_destroy(&device);
+  exit(answer == VSCSI_NO_MEMORY ? 3 : 1);
+}
+
+static void poke(uint64_t addr, const void *bytes, size_t count) { must(vscsi_poke(&device, addr, bytes, count)); }
+
+// Numbers in guest memory stand with their lowest byte first, and in a command block with their highest.
+static void little(uint8_t *into, uint64_t number, size_t bytes) {
+  for (size_t i = 0; i < bytes; i++) into[i] = (uint8_t)(number >> 8 * i);
+}
+
+static void big(uint8_t *into, unsigned number) {
+  into[0] = (uint8_t)(number >> 8);
+  into[1] = (uint8_t)number;
+}
+
+// A command on one block or on many: READ (10) and WRITE (10), or COMPARE AND WRITE, which sends its block twice.
+static void command(struct request *request, uint8_t opcode, unsigned first, unsigned blocks) {
+  uint8_t *block = request->bytes + 19;
+  block[0] = opcode;
+  big(block + (opcode == 0x89 ? 8 : 4), first);
+  big(block + (opcode == 0x89 ? 12 : 7), blocks);
+  request->sent = opcode == 0x28 ? 0 : 512 * blocks * (opcode == 0x89 ? 2 : 1);
+  request->taken = opcode == 0x28 ? 512 * blocks : 0;
+}
+
+// The request with this number of those that are made available at once. Each has blocks of its own.
+static struct request request_of(enum kind kind, unsigned number) {
+  struct request request = {.bytes = {1, 0, 0x40, 0}};
+  enum kind its = kind;
+  little(request.bytes + 8, number, 2);
+  if (kind == MIXED) {
+    its = number % 3 == 0 ? READ_512 : number % 3 == 1 ? WRITE_512 : TUR;
+    request.bytes[3] = number % 2;
+    request.bytes[16] = number / 2 % 3;
+  }
+  if (its == READ_512 || its == READ_64K) command(&request, 0x28, number * blocks_of(kind), blocks_of(kind));
+  if (its == WRITE_512 || its == WRITE_64K) command(&request, 0x2a, number * blocks_of(kind), blocks_of(kind));
+  if (its == COMPARE_AND_WRITE) command(&request, 0x89, number, 1);
+  return request;
+}
+
+static uint64_t request_at(enum kind kind, unsigned number) {
+  return AREAS + (uint64_t)number * (is_large(kind) ? LARGE_AREA : SMALL_AREA);
+}
+
+// A descriptor of either form: the pair is flags and next of a split one, id and flags of a packed one.
+static void descriptor(uint8_t *into, uint64_t addr, uint32_t length, unsigned first, unsigned second) {
+  little(into, addr, 8);
+  little(into + 8, length, 4);
+  little(into + 12, first, 2);
+  little(into + 14, second, 2);
+}
+
+// Puts a request into memory: its bytes, and its chain into the table of a split queue and into its available ring, or into
+// the descriptors of a packed queue as the driver writes them in rounds with an even and with an odd number.
+static void put(const struct work *work, unsigned number) {
+  const struct request request = request_of(work->kind, number);
+  uint64_t at = request_at(work->kind, number);
+  uint32_t sent = REQUEST + request.sent, taken = RESPONSE + request.taken;
+  uint8_t slots[32], head[2];
+  // The response goes right behind the request, at a multiple of 64.
+  responses[number] = at + (sent / 64 + 1) * 64;
+  poke(at, request.bytes, REQUEST);
+  if (work->packed) {
+    for (unsigned round = 0; round < 2; round++) {
+      uint8_t *into = (round ? odd : even) + 32 * number;
+      descriptor(into, at, sent, number, NEXT | (round ? USED : AVAILABLE));
+      descriptor(into + 16, responses[number], taken, number, WRITE | (round ? USED : AVAILABLE));
+    }
+    return;
+  }
+  descriptor(slots, at, sent, NEXT, 2 * number + 1);
+  descriptor(slots + 16, responses[number], taken, WRITE, 0);
+  poke(32 * number, slots, sizeof slots);
+  // The ring has twice as many entries as there are requests.
+  little(head, 2 * number, 2);
+  poke(DRIVER + 4 + 2 * number, head, 2);
+  poke(DRIVER + 4 + 2 * (number + work->depth), head, 2);
+}
+
+// Makes the device, with two calm units and one request queue, and puts all requests into its memory.
+static void begin(const struct work *work) {
+  const struct vscsi_queue queues[QUEUES] = {
+      {.desc = OTHER_QUEUES, .driver = OTHER_QUEUES + 0x400, .device = OTHER_QUEUES + 0x800, .size = 2},
+      {.desc = OTHER_QUEUES + 0x1000, .driver = OTHER_QUEUES + 0x1400, .device = OTHER_QUEUES + 0x1800, .size = 2},
+      {.desc = 0, .driver = DRIVER, .device = DEVICE, .size = (uint16_t)(2 * work->depth)}};
+  const uint64_t blocks = MOST_DEPTH * (uint64_t)blocks_of(work->kind) + 1;
+  const struct vscsi_unit units[2] = {{.blocks = blocks, .lun = 0, .calm = 1}, {.blocks = blocks, .lun = 1, .calm = 1}};
+  const struct vscsi_config config = {.features = work->packed ? VSCSI_FEATURES : VSCSI_F_VERSION_1,
+                                      .queues = queues,
+                                      .queue_count = QUEUES,
+                                      .units = units,
+                                      .unit_count = 2,
+                                      .pages = (uint32_t)(request_at(work->kind, work->depth) / VSCSI_PAGE + 1)};
+  struct vscsi_fault fault;
+  must(vscsi_create(&device, &config, &fault));
+  for (unsigned number = 0; number < work->depth; number++) put(work, number);
+}
+
+// Makes all requests available, the first time with an index of 0.
+static void send(const struct work *work, uint64_t round) {
+  uint8_t index[2];
+  if (work->packed) {
+    poke(0, round % 2 ? odd : even, 32 * work->depth);
+    return;
+  }
+  little(index, (round + 1) * work->depth, 2);
+  poke(DRIVER + 2, index, 2);
+}
+
+// How many requests ended with GOOD.
+static unsigned found(const struct work *work) {
+  static const uint8_t good[12];
+  uint8_t head[12];
+  unsigned count = 0;
+  for (unsigned number = 0; number < work->depth; number++) {
+    must(vscsi_peek(&device, responses[number], head, sizeof head));
+    count += memcmp(head, good, sizeof head) == 0;
+  }
+  return count;
+}
+
+// Clears the responses, makes all requests available, lets the device serve them, and looks whether each ended with GOOD; the
+// guest alone does all but have them served. How many did.
+static unsigned serve_round(const struct work *work, uint64_t round) {
+  uint8_t open[12];
+  uint64_t steps = 0;
+  memset(open, 255, sizeof open);
+  for (unsigned number = 0; number < work->depth; number++) poke(responses[number], open, sizeof open);
+  send(work, round);
+  if (work->kind != NONE) must(vscsi_settle(&device, &steps));
+  unsigned good = found(work);
+  if (work->kind != NONE && (good != work->depth || steps != STEPS * good)) {
+    fprintf(stderr, "bench: %u of %u requests ended well, in %llu steps\n", good, work->depth, (unsigned long long)steps);
+    exit(1);
+  }
+  return good;
+}
+
+// Has all rounds served. How many requests ended with GOOD.
+static uint64_t serve(const struct work *work) {
+  uint64_t good = 0;
+  for (uint64_t round = 0; round < work->rounds; round++) good += serve_round(work, round);
+  return good;
+}
+
+static uint64_t now(void) {
+  struct timespec time;
+  clock_gettime(CLOCK_MONOTONIC, &time);
+  return (uint64_t)time.tv_sec * 1000000000 + (uint64_t)time.tv_nsec;
+}
+
+// The work that the words name. Whether they name one.
+static bool named(char **words, struct work *work) {
+  char *end;
+  unsigned kind = 0;
+  while (kind < KINDS && strcmp(words[0], names[kind]) != 0) kind++;
+  work->kind = (enum kind)kind;
+  work->packed = strcmp(words[1], "packed") == 0;
+  if (kind == KINDS || (!work->packed && strcmp(words[1], "split") != 0)) return false;
+  work->depth = (unsigned)strtoul(words[2], &end, 10);
+  if (*end || work->depth == 0 || work->depth > MOST_DEPTH || (work->depth & (work->depth - 1))) return false;
+  work->rounds = strtoull(words[3], &end, 10);
+  return *end == 0 && words[3][0] >= '0' && words[3][0] <= '9';
+}
+
+int main(int count, char **words) {
+  struct work work;
+  if (count == 5 && named(words + 1, &work)) {
+    begin(&work);
+    uint64_t start = now();
+    uint64_t good = serve(&work);
+    printf("%llu requests in %llu ns\n", (unsigned long long)good, (unsigned long long)(now() - start));
+    must(vscsi_destroy(&device));
+    return 0;
+  }
+  if (count != 1) return 2;
+  for (unsigned packed = 0; packed < 2; packed++) {
+    for (unsigned kind = 0; kind < KINDS; kind++) {
+      work = (struct work){.kind = (enum kind)kind, .packed = packed, .depth = FEW_REQUESTS, .rounds = FEW_ROUNDS};
+      begin(&work);
+      printf("%s %s: %llu\n", names[kind], packed ? "packed" : "split", (unsigned long long)serve(&work));
+      must(vscsi_destroy(&device));
+    }
+  }
+  return 0;
+}
