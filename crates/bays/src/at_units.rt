@@ -2,7 +2,7 @@
 //! came back.
 
 ghost use Rattle.std.specs.Prelude.{◌≡◌, ◌<◌, IsTrue};
-ghost use Rattle.unit_history.specs.Unit.{PlainUnit};
+ghost use Rattle.task_set.specs.Unit.{PlainUnit};
 ghost use Rattle.phases.specs.Parts.{slot_of, hand_of};
 ghost use Rattle.phases.specs.Units.{Enters, Commits, Leaves, Marks, Checks};
 ghost use Rattle.phases.specs.Giving.{KeepsOutcome};

@@ -2,7 +2,7 @@
 
 ghost use Rattle.std.specs.Prelude.{◌≡◌, ◌<◌, List, ℕ};
 ghost use Rattle.std.specs.Fn.{FnOnceReturnsAtMut};
-ghost use Rattle.unit_history.specs.Unit.{PlainUnit};
+ghost use Rattle.task_set.specs.Unit.{PlainUnit};
 ghost use Rattle.queues.specs.Queue.{Lent};
 ghost use Rattle.bays.specs.Lending.{OnceAtThree, OnceAtFour};
 

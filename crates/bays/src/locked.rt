@@ -1,7 +1,7 @@
 //! The parts of a device that threads share, each under a lock.
 
 ghost use Rattle.std.specs.Prelude.{◌≡◌, ⊤, length};
-ghost use Rattle.unit_history.specs.Unit.{IsUnit};
+ghost use Rattle.task_set.specs.Unit.{IsUnit};
 ghost use Rattle.bays.specs.Lending.{IsQueue};
 
 use crate::holding::hold;

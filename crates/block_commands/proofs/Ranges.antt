@@ -8,10 +8,10 @@ use Rattle.block_store.specs.Blocks.{Blocks, run, overwritten, block_count, is_w
 use Rattle.replies.specs.Data.{Answer}
 use Rattle.replies.specs.PlainReply.{PlainReply, replied}
 use Rattle.replies.specs.Statuses.{good}
-use Rattle.block_commands.specs.Comparing.{to_compare, first_unequal}
-use Rattle.block_commands.specs.Effects.{block_after, where_covered}
-use Rattle.block_commands.specs.Facts.{Facts}
-use Rattle.block_commands.specs.Replies.{within, compared, answer_of, reported}
+use Rattle.command_set.specs.Comparing.{to_compare, first_unequal}
+use Rattle.command_set.specs.Effects.{block_after, where_covered}
+use Rattle.command_set.specs.Facts.{Facts}
+use Rattle.command_set.specs.Replies.{within, compared, answer_of, reported}
 use Rattle.sense.specs.Conditions.{lba_out_of_range}
 
 -- blocks that agree below a number give the same run below it

@@ -4,9 +4,9 @@
 use Rattle.std.specs.Prelude.{ℕ, Bool, true, false, not, ◌&&◌, nat_lt, is_some}
 use Rattle.cdb.specs.declared.commands.Command.{Command}
 use Rattle.cdb.specs.declared.commands.Command.TheVariants.{TestUnitReady, RequestSense, Read, Write, Inquiry, ReadCapacity10, ReadCapacity16, SynchronizeCache, WriteSame, Unmap, CompareAndWrite, ReportLuns, Bad, Unknown}
-use Rattle.block_commands.specs.Attention.{met}
-use Rattle.block_commands.specs.Capacity.{is_in_range}
-use Rattle.block_commands.specs.Facts.{Facts}
+use Rattle.command_set.specs.Attention.{met}
+use Rattle.command_set.specs.Capacity.{is_in_range}
+use Rattle.command_set.specs.Facts.{Facts}
 
 -- where no attention stops the command, in a unit of so many blocks
 abbrev pub wants : ℕ → Command → Bool

@@ -1,7 +1,7 @@
 //! Which commands meet a pending unit attention (SAM-5 §5.14).
 
 ghost use Rattle.std.specs.Prelude.{◌≡◌};
-ghost use Rattle.block_commands.specs.Attention.{takes, met};
+ghost use Rattle.command_set.specs.Attention.{takes, met};
 
 use cdb::Command;
 use replies::{INQUIRY, REQUEST_SENSE};

@@ -11,7 +11,7 @@ use Rattle.ring_core.specs.Writes.{all_written}
 use Rattle.ring_core.specs.declared.log.Ticket.{Ticket}
 use Rattle.task_set.specs.Jobs.{PlainJob, is_job_of}
 use Rattle.task_mgmt.specs.Functions.{PlainFunction, marking, asking, failing, checking, step_by}
-use Rattle.unit_history.specs.Unit.{PlainUnit, after as stepped, parking}
+use Rattle.task_set.specs.Unit.{PlainUnit, after as stepped, parking}
 use Rattle.deeds.specs.Parts.{Outcome, Slot, Hand}
 use Rattle.deeds.specs.World.{PlainQueue, Seat, Opened, PlainWorld, change, owner, Everywhere}
 use Rattle.deeds.specs.Deeds.{Deed}

@@ -8,7 +8,7 @@ use Rattle.ring_core.specs.declared.log.Ticket.{Ticket}
 use Rattle.history.specs.Endings.{Ending}
 use Rattle.history.specs.Steps.{Step, floor}
 use Rattle.task_set.specs.Jobs.{PlainJob}
-use Rattle.unit_history.specs.Unit.{PlainUnit, after as stepped, parking}
+use Rattle.task_set.specs.Unit.{PlainUnit, after as stepped, parking}
 use Rattle.task_mgmt.specs.Functions.{step_by}
 use Rattle.task_mgmt.specs.declared.kind.Strike.{Strike}
 use Rattle.task_mgmt.specs.declared.kind.Strike.TheVariants.{Abort, Reset}

@@ -18,7 +18,7 @@ use Rattle.task_set.specs.Jobs.{PlainJob, of_tasks, is_job_of}
 use Rattle.task_mgmt.specs.Functions.{PlainFunction, marking, asking, failing, checking, step_by}
 use Rattle.task_mgmt.specs.declared.kind.Strike.{Strike}
 use Rattle.task_mgmt.specs.declared.kind.Strike.TheVariants.{Abort, Reset}
-use Rattle.unit_history.specs.Unit.{PlainUnit, after as stepped, parking}
+use Rattle.task_set.specs.Unit.{PlainUnit, after as stepped, parking}
 use Rattle.deeds.specs.Parts.{Outcome, Slot, Hand}
 use Rattle.deeds.specs.World.{PlainQueue, Seat, Opened, PlainWorld, change, owner, Everywhere, IsNewSeat, Opens}
 use Rattle.deeds.specs.Deeds.{Deed}

@@ -20,7 +20,7 @@ use Rattle.history.proofs.Leaving.{done_enabled, leaves_handed}
 use Rattle.history.proofs.Keeping.{all_own}
 use Rattle.history.proofs.Marking.{done_on, marked_lasts}
 use Rattle.task_set.specs.Jobs.{PlainJob, is_job_of, of_tasks}
-use Rattle.unit_history.specs.Unit.{tasks_of_jobs}
+use Rattle.task_set.specs.Unit.{tasks_of_jobs}
 
 nothing : {X : Type 0} {x : X} → None ≡ Some x → ⊥
 nothing e = cc

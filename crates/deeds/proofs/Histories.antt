@@ -4,7 +4,7 @@ use Rattle.std.specs.Prelude.{slice_get}
 use Rattle.history.specs.Steps.{Step, alive}
 use Rattle.history.specs.Enabling.{is_parked}
 use Rattle.history.specs.Lawful.{IsLawful}
-use Rattle.unit_history.specs.Unit.{PlainUnit, tasks_of_jobs, after as stepped, parking, IsUnit}
+use Rattle.task_set.specs.Unit.{PlainUnit, tasks_of_jobs, after as stepped, parking, IsUnit}
 use Rattle.task_mgmt.specs.Functions.{step_by}
 use Rattle.task_mgmt.specs.declared.kind.Strike.{Strike}
 use Rattle.task_mgmt.specs.declared.kind.Strike.TheVariants.{Abort, Reset}

@@ -26,7 +26,7 @@ use Rattle.history.proofs.Parked.{enabled_same, some_mark}
 use Rattle.history.proofs.Entering.{enabled_other}
 use Rattle.history.proofs.Leaving.{leaves_handed}
 use Rattle.task_set.specs.Jobs.{PlainJob, but_tasks}
-use Rattle.unit_history.specs.Unit.{PlainUnit, tasks_of_jobs, after as stepped, parking, IsUnit}
+use Rattle.task_set.specs.Unit.{PlainUnit, tasks_of_jobs, after as stepped, parking, IsUnit}
 
 -- the task is none of these
 abbrev isnt_of : List Entry → Entry → Bool

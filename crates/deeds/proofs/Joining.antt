@@ -5,7 +5,7 @@ use Rattle.ring_core.specs.declared.log.Ticket.{Ticket}
 use Rattle.task_set.specs.Jobs.{PlainJob}
 use Rattle.task_mgmt.specs.declared.kind.Kind.{Kind}
 use Rattle.task_mgmt.specs.declared.kind.Kind.TheVariants.{Marking, Asking}
-use Rattle.unit_history.specs.Unit.{PlainUnit}
+use Rattle.task_set.specs.Unit.{PlainUnit}
 use Rattle.deeds.specs.Parts.{PlainFetch, Slot, Hand}
 use Rattle.deeds.specs.World.{PlainQueue, PlainWorld, owner}
 use Rattle.deeds.specs.Deeds.{Deed}

@@ -11,7 +11,7 @@ use Rattle.history.proofs.Tickets.{clash}
 use Rattle.history.proofs.Worth.{worth_ones}
 use Rattle.history.proofs.Few.{alive_few}
 use Rattle.task_set.specs.Jobs.{PlainJob}
-use Rattle.unit_history.specs.Unit.{PlainUnit}
+use Rattle.task_set.specs.Unit.{PlainUnit}
 use Rattle.deeds.specs.World.{Seat, PlainWorld, Opens, Everywhere}
 use Rattle.deeds.specs.Deeds.{Deed}
 use Rattle.deeds.specs.After.{after}

@@ -8,7 +8,7 @@ use Rattle.history.specs.Endings.{Ending}
 use Rattle.ring_core.specs.State.{PlainChain}
 use Rattle.ring_core.specs.Writes.{Write, all_written}
 use Rattle.task_set.specs.Jobs.{PlainJob}
-use Rattle.unit_history.specs.Unit.{after as stepped, parking}
+use Rattle.task_set.specs.Unit.{after as stepped, parking}
 use Rattle.task_mgmt.specs.Functions.{step_by}
 use Rattle.deeds.specs.Parts.{Outcome, Slot, Hand}
 use Rattle.deeds.specs.World.{PlainWorld, Opens, change, owner, Everywhere}

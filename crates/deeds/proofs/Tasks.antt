@@ -12,7 +12,7 @@ use Rattle.history.specs.Released.{released}
 use Rattle.history.specs.Worths.{worth, alive_worth}
 use Rattle.history.proofs.Parked.{alive_enter, alive_leave}
 use Rattle.task_set.specs.Jobs.{PlainJob, is_job_of, of_tasks}
-use Rattle.unit_history.specs.Unit.{PlainUnit, after as stepped, parking}
+use Rattle.task_set.specs.Unit.{PlainUnit, after as stepped, parking}
 use Rattle.task_mgmt.specs.Functions.{step_by}
 use Rattle.task_mgmt.specs.declared.kind.Strike.{Strike}
 use Rattle.task_mgmt.specs.declared.kind.Strike.TheVariants.{Abort, Reset}

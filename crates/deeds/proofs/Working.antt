@@ -15,8 +15,8 @@ use Rattle.history.proofs.Tickets.{same-true, itself, apart, or_right}
 use Rattle.history.proofs.Distinct.{alive_distinct}
 use Rattle.history.proofs.Filtered.{other_head}
 use Rattle.task_set.specs.Jobs.{PlainJob}
-use Rattle.unit_history.specs.Unit.{PlainUnit, IsUnit, after as stepped, parking}
-use Rattle.unit_history.specs.Calls.{IsOf}
+use Rattle.task_set.specs.Unit.{PlainUnit, IsUnit, after as stepped, parking}
+use Rattle.task_set.specs.Asking.{IsOf}
 use Rattle.task_mgmt.specs.Functions.{step_by}
 use Rattle.task_mgmt.specs.declared.kind.Strike.{Strike}
 use Rattle.task_mgmt.specs.declared.kind.Strike.TheVariants.{Abort, Reset}

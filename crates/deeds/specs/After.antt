@@ -12,7 +12,7 @@ use Rattle.history.specs.Steps.{Step}
 use Rattle.history.specs.Endings.{Ending}
 use Rattle.history.specs.Receipts.{unit_address}
 use Rattle.task_set.specs.Jobs.{PlainJob}
-use Rattle.unit_history.specs.Unit.{PlainUnit, after as stepped, parking}
+use Rattle.task_set.specs.Unit.{PlainUnit, after as stepped, parking}
 use Rattle.task_mgmt.specs.Functions.{PlainFunction, marking, asking, failing, checking, step_by}
 use Rattle.deeds.specs.Parts.{Outcome, Slot, Hand, is_short}
 use Rattle.deeds.specs.World.{PlainQueue, Seat, Opened, PlainWorld, change, owner}

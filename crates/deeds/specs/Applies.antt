@@ -7,7 +7,7 @@ use Rattle.ring_core.specs.State.{PlainChain}
 use Rattle.ring_core.specs.declared.log.Ticket.{Ticket}
 use Rattle.history.specs.Clearing.{is_clear}
 use Rattle.task_set.specs.Jobs.{PlainJob}
-use Rattle.unit_history.specs.Unit.{PlainUnit}
+use Rattle.task_set.specs.Unit.{PlainUnit}
 use Rattle.task_mgmt.specs.declared.function.Mark.{Mark as Place}
 use Rattle.deeds.specs.Parts.{Outcome, Slot, Hand}
 use Rattle.deeds.specs.World.{PlainQueue, Opened, PlainWorld}

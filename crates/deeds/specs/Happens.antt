@@ -26,8 +26,8 @@ use Rattle.history.specs.Seen.{any_met}
 use Rattle.history.specs.Lawful as history
 use Rattle.history.specs.Released.{released}
 use Rattle.task_set.specs.Jobs.{PlainJob, of_tasks}
-use Rattle.unit_history.specs.Unit.{PlainUnit}
-use Rattle.unit_history.specs.Calls.{IsOf}
+use Rattle.task_set.specs.Unit.{PlainUnit}
+use Rattle.task_set.specs.Asking.{IsOf}
 use Rattle.task_mgmt.specs.Functions.{PlainFunction, step_by, response_of}
 use Rattle.task_mgmt.specs.Control.{decided_of}
 use Rattle.task_mgmt.specs.declared.control.ControlDecision.{ControlDecision}

@@ -3,7 +3,7 @@ use Rattle.std.specs.Prelude.{ℕ, ◌≡◌, List, [], ◌∷◌, length, ⊤}
 use Rattle.guest_mem.specs.Memory.{LiesIn}
 use Rattle.ring_core.specs.State.{tickets}
 use Rattle.ring_core.specs.Writes.{Write}
-use Rattle.unit_history.specs.Unit.{IsUnit}
+use Rattle.task_set.specs.Unit.{IsUnit}
 use Rattle.deeds.specs.World.{PlainQueue, PlainWorld, Everywhere}
 use Rattle.deeds.specs.Happens.{Occurrence}
 

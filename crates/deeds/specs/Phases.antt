@@ -17,8 +17,8 @@ use Rattle.history.specs.Marks.{mark_of}
 use Rattle.history.specs.Clearing.{is_clear}
 use Rattle.history.specs.Seen.{any_met}
 use Rattle.task_set.specs.Jobs.{PlainJob}
-use Rattle.unit_history.specs.Unit.{PlainUnit, after as stepped, parking}
-use Rattle.unit_history.specs.Calls.{CannotCommit}
+use Rattle.task_set.specs.Unit.{PlainUnit, after as stepped, parking}
+use Rattle.task_set.specs.Asking.{CannotCommit}
 use Rattle.task_mgmt.specs.Functions.{step_by, response_of}
 use Rattle.task_mgmt.specs.declared.control.ControlDecision.TheVariants as managed
 use Rattle.task_mgmt.specs.declared.kind.Kind.{Kind}

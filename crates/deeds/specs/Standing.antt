@@ -8,7 +8,7 @@ use Rattle.history.specs.Steps.{alive, done, floor}
 use Rattle.history.specs.Marks.{marked}
 use Rattle.history.specs.Enabling.{enabled}
 use Rattle.task_set.specs.Jobs.{PlainJob}
-use Rattle.unit_history.specs.Unit.{PlainUnit}
+use Rattle.task_set.specs.Unit.{PlainUnit}
 use Rattle.task_mgmt.specs.declared.function.Mark.{Mark as Place}
 use Rattle.deeds.specs.Parts.{Slot, Hand}
 use Rattle.deeds.specs.World.{PlainQueue, Opened, PlainWorld, Everywhere}

@@ -4,7 +4,7 @@ use Rattle.scsi_codec.specs.declared.lun.Address.{Address}
 use Rattle.scsi_codec.specs.declared.event_queue.Event.{Event as Report}
 use Rattle.ring_core.specs.State.{RingState, PlainChain}
 use Rattle.task_set.specs.Jobs.{PlainJob}
-use Rattle.unit_history.specs.Unit.{PlainUnit}
+use Rattle.task_set.specs.Unit.{PlainUnit}
 use Rattle.task_mgmt.specs.Functions.{PlainFunction}
 use Rattle.deeds.specs.Parts.{Slot, Hand}
 

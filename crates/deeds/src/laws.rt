@@ -6,7 +6,7 @@ ghost use Rattle.std.specs.List.{sum_by};
 ghost use Rattle.ring_core.specs.State.{tickets};
 ghost use Rattle.ring_core.specs.declared.log.Ticket.{Ticket};
 ghost use Rattle.task_set.specs.Jobs.{PlainJob};
-ghost use Rattle.unit_history.specs.Unit.{PlainUnit};
+ghost use Rattle.task_set.specs.Unit.{PlainUnit};
 ghost use Rattle.deeds.specs.World.{PlainQueue, PlainWorld, Everywhere, Opens};
 ghost use Rattle.deeds.specs.Events.{Event as AnEvent};
 ghost use Rattle.deeds.specs.Deeds.{Deed, action_of, event_of};

@@ -7,10 +7,10 @@ use Rattle.unit_attention.specs.declared.code.Code.{Code}
 use Rattle.unit_attention.specs.Code.{code}
 use Rattle.unit_attention.specs.Pending.{raised, without_first}
 use Rattle.replies.specs.PlainReply.{PlainReply}
-use Rattle.block_commands.specs.Attention.{takes}
-use Rattle.block_commands.specs.Effects.{block_after}
-use Rattle.block_commands.specs.Facts.{Facts}
-use Rattle.block_commands.specs.Replies.{reply_of}
+use Rattle.command_set.specs.Attention.{takes}
+use Rattle.command_set.specs.Effects.{block_after}
+use Rattle.command_set.specs.Facts.{Facts}
+use Rattle.command_set.specs.Replies.{reply_of}
 use Rattle.history.specs.Tasks.{Entry, task_of}
 use Rattle.history.specs.Steps.{Step, alive}
 

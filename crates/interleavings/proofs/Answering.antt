@@ -14,7 +14,7 @@ use Rattle.history.specs.Lawful.{IsReady}
 use Rattle.history.specs.Endings.{Ending}
 use Rattle.history.proofs.Marking.{mark_on}
 use Rattle.task_set.specs.Jobs.{PlainJob}
-use Rattle.unit_history.specs.Unit.{PlainUnit}
+use Rattle.task_set.specs.Unit.{PlainUnit}
 use Rattle.deeds.specs.Parts.{PlainFetch, Outcome, Hand}
 use Rattle.deeds.specs.World.{PlainWorld, Opens}
 use Rattle.deeds.specs.Deeds.{Deed}

@@ -6,7 +6,7 @@ use Rattle.ring_core.specs.State.{PlainChain}
 use Rattle.scsi_codec.specs.declared.event_queue.Event.{Event as Report}
 use Rattle.scsi_codec.specs.EventQueue.{transport_reset}
 use Rattle.history.specs.Receipts.{unit_address}
-use Rattle.unit_history.specs.Unit.{PlainUnit}
+use Rattle.task_set.specs.Unit.{PlainUnit}
 use Rattle.deeds.specs.Parts.{is_short}
 use Rattle.deeds.specs.World.{PlainWorld, Opens}
 use Rattle.deeds.specs.Deeds.{Deed}

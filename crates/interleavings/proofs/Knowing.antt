@@ -8,8 +8,8 @@ use Rattle.history.specs.Steps.{Step, alive, done, floor}
 use Rattle.history.specs.Marks.{mark_of, marked}
 use Rattle.history.specs.Enabling.{enabled}
 use Rattle.task_set.specs.Jobs.{PlainJob}
-use Rattle.unit_history.specs.Unit.{PlainUnit}
-use Rattle.unit_history.specs.Calls.{IsOf}
+use Rattle.task_set.specs.Unit.{PlainUnit}
+use Rattle.task_set.specs.Asking.{IsOf}
 use Rattle.task_mgmt.specs.declared.kind.Strike.TheVariants.{Abort, Reset}
 use Rattle.deeds.specs.Parts.{Hand}
 use Rattle.deeds.specs.World.{PlainWorld, Opens}

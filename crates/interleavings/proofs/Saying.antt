@@ -10,7 +10,7 @@ use Rattle.history.specs.Endings.{Ending}
 use Rattle.history.specs.Steps.{Step}
 use Rattle.history.specs.Released.{released}
 use Rattle.task_set.specs.Jobs.{PlainJob, is_job_of}
-use Rattle.unit_history.specs.Unit.{PlainUnit, after as stepped, parking}
+use Rattle.task_set.specs.Unit.{PlainUnit, after as stepped, parking}
 use Rattle.task_mgmt.specs.Functions.{step_by}
 use Rattle.deeds.specs.Parts.{PlainFetch, Outcome, Slot, Hand, request_of}
 use Rattle.deeds.specs.World.{PlainQueue, Seat, PlainWorld, Opens, change, owner, Everywhere}

@@ -13,7 +13,7 @@ use Rattle.history.specs.Contents.{Opening, reply_after}
 use Rattle.history.specs.Lawful.{IsReady}
 use Rattle.history.specs.Endings.{Ending}
 use Rattle.task_set.specs.Jobs.{PlainJob}
-use Rattle.unit_history.specs.Unit.{PlainUnit}
+use Rattle.task_set.specs.Unit.{PlainUnit}
 use Rattle.deeds.specs.Parts.{PlainFetch, Outcome, lengths_of, bytes_of, answer_writes}
 use Rattle.deeds.specs.World.{PlainQueue, PlainWorld}
 use Rattle.deeds.specs.Deeds.{Deed}

@@ -3,7 +3,7 @@ use Rattle.std.specs.Prelude.{ℕ, ◌≡◌, ◌⊎◌, ◌==◌, List, [], ◌
 use Rattle.history.specs.Steps.{Step}
 use Rattle.history.specs.Lawful.{IsLawful}
 use Rattle.task_mgmt.specs.Functions.{step_by}
-use Rattle.unit_history.specs.Unit.{PlainUnit}
+use Rattle.task_set.specs.Unit.{PlainUnit}
 use Rattle.deeds.specs.World.{PlainWorld, Everywhere}
 use Rattle.deeds.specs.Deeds.{Deed}
 use Rattle.deeds.specs.After.{hard_code}

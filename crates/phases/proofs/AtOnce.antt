@@ -6,7 +6,7 @@ use Rattle.history.specs.Steps.{Step}
 use Rattle.history.specs.Released.{released}
 use Rattle.task_set.specs.Jobs.{PlainJob, Jobs, of_tasks}
 use Rattle.unit_history.specs.Serving.{ServesAlone}
-use Rattle.unit_history.specs.Unit.{PlainUnit, Steps}
+use Rattle.task_set.specs.Unit.{PlainUnit, Steps}
 use Rattle.unit_history.specs.Calls as calls
 use Rattle.unit_history.specs.Endings.{ending_of}
 use Rattle.unit_history.specs.declared.answers.Outcome as answers

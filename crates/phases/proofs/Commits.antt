@@ -4,7 +4,7 @@ use Rattle.std.specs.Prelude.{is_some}
 use Rattle.history.specs.Endings.{Ending}
 use Rattle.history.specs.Contents.{reply_after}
 use Rattle.task_set.specs.Jobs.{PlainJob}
-use Rattle.unit_history.specs.Unit.{PlainUnit}
+use Rattle.task_set.specs.Unit.{PlainUnit}
 use Rattle.unit_history.specs.Calls.{Commits}
 use Rattle.unit_history.specs.Endings.{ending_of, ending_of_reply}
 use Rattle.unit_history.specs.declared.answers.Outcome as outcome_type

@@ -2,7 +2,7 @@
 use Rattle.std.proofs.Common.{◌≡◌, List, [], ◌∷◌, refl, ap, sym}
 use Rattle.std.proofs.lemmas.List.{append-nil}
 use Rattle.task_set.specs.Jobs.{PlainJob, Jobs}
-use Rattle.unit_history.specs.Unit.{PlainUnit}
+use Rattle.task_set.specs.Unit.{PlainUnit}
 use Rattle.unit_history.specs.Calls.{Enters}
 use Rattle.unit_history.specs.declared.answers.Entered.TheVariants as entered
 use Rattle.history.specs.Endings.{Ending}

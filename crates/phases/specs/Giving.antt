@@ -4,7 +4,7 @@ use Rattle.std.specs.Option.{option_map}
 use Rattle.ring_core.specs.declared.log.Ticket.{Ticket}
 use Rattle.history.specs.Endings.{Ending}
 use Rattle.deeds.specs.Parts.{Outcome, Slot}
-use Rattle.unit_history.specs.Unit.{PlainUnit}
+use Rattle.task_set.specs.Unit.{PlainUnit}
 use Rattle.unit_history.specs.Calls.{Commits}
 use Rattle.unit_history.specs.declared.answers.Outcome as answers
 use Rattle.unit_history.specs.declared.answers.Outcome.TheVariants as outcome

@@ -4,7 +4,7 @@ use Rattle.block_store.specs.declared.NoMemory.{NoMemory}
 use Rattle.scsi_codec.specs.declared.event_queue.Event.{Event as Report}
 use Rattle.history.specs.Steps.{Step}
 use Rattle.task_set.specs.Jobs.{Jobs}
-use Rattle.unit_history.specs.Unit.{PlainUnit}
+use Rattle.task_set.specs.Unit.{PlainUnit}
 use Rattle.deeds.specs.Deeds.{Deed}
 use Rattle.deeds.specs.After.{hard_code, hard_report}
 use Rattle.deeds.specs.Happens.{handed_out}

@@ -3,7 +3,7 @@ use Rattle.std.specs.Prelude.{ℕ, ◌≡◌, Bool, true, false, List, [], ◌�
 use Rattle.block_store.specs.declared.NoMemory.{NoMemory}
 use Rattle.scsi_codec.specs.declared.lun.Address.{Address}
 use Rattle.task_set.specs.Jobs.{PlainJob, Jobs}
-use Rattle.unit_history.specs.Unit.{PlainUnit}
+use Rattle.task_set.specs.Unit.{PlainUnit}
 use Rattle.deeds.specs.Parts.{Outcome, Slot, Hand}
 use Rattle.queues.specs.Queue.{Lent}
 use Rattle.phases.specs.Queue.{with_slot}

@@ -7,7 +7,7 @@ use Rattle.history.specs.Endings.{Ending}
 use Rattle.history.specs.Clearing.{is_clear}
 use Rattle.history.specs.Seen.{any_met}
 use Rattle.task_set.specs.Jobs.{PlainJob, Jobs}
-use Rattle.unit_history.specs.Unit.{PlainUnit, after as stepped}
+use Rattle.task_set.specs.Unit.{PlainUnit, after as stepped}
 use Rattle.unit_history.specs.Calls.{CannotLeave}
 use Rattle.task_mgmt.specs.Functions.{marking, asking, failing, checking, step_by}
 use Rattle.task_mgmt.specs.declared.kind.Strike.{Strike}

@@ -9,7 +9,7 @@ use Rattle.ring_core.specs.declared.log.Ticket.{Ticket}
 use Rattle.history.specs.Tasks.{same_ticket}
 use Rattle.history.specs.Receipts.{Receipt}
 use Rattle.history.proofs.Tickets.{same-true, itself}
-use Rattle.unit_history.specs.Unit.{PlainUnit}
+use Rattle.task_set.specs.Unit.{PlainUnit}
 use Rattle.report.specs.declared.tally.Tally.{Tally}
 use Rattle.report.specs.Words.{is_before}
 use Rattle.report.specs.Closed.{IsFirst, IsConfirmedBy}

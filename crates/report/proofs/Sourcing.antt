@@ -12,7 +12,7 @@ use Rattle.ring_core.specs.Sound.{IsSound, WasUsed, IsLeastOutstanding}
 use Rattle.history.specs.Tasks.{same_ticket}
 use Rattle.history.specs.Receipts.{Receipt}
 use Rattle.history.proofs.Tickets.{same-true, itself}
-use Rattle.unit_history.specs.Unit.{PlainUnit}
+use Rattle.task_set.specs.Unit.{PlainUnit}
 use Rattle.queues.specs.Queue.{Lent}
 use Rattle.unit_history.specs.Notes.{PlainNote}
 use Rattle.report.specs.declared.tally.Tally.{Tally}

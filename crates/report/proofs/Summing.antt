@@ -9,7 +9,7 @@ use Rattle.history.specs.Tasks.{same_ticket}
 use Rattle.history.specs.Steps.{has_entered, has_left}
 use Rattle.history.specs.Receipts.{Receipt}
 use Rattle.history.proofs.Tickets.{itself}
-use Rattle.unit_history.specs.Unit.{PlainUnit}
+use Rattle.task_set.specs.Unit.{PlainUnit}
 use Rattle.queues.specs.Queue.{Lent}
 use Rattle.unit_history.specs.Notes.{PlainNote}
 use Rattle.unit_history.specs.declared.note.Cause.{Cause}

@@ -10,7 +10,7 @@ use Rattle.history.specs.Contents.{Opening}
 use Rattle.history.specs.Lawful.{IsLawful}
 use Rattle.history.specs.Receipts.{Receipt}
 use Rattle.history.proofs.Marking.{left_marked, marked_undone}
-use Rattle.unit_history.specs.Unit.{PlainUnit}
+use Rattle.task_set.specs.Unit.{PlainUnit}
 use Rattle.unit_history.specs.Notes.{PlainNote}
 use Rattle.unit_history.specs.declared.note.Cause.{Cause}
 use Rattle.unit_history.specs.declared.note.Cause.TheVariants as cause

@@ -5,7 +5,7 @@ use Rattle.ring_core.specs.declared.log.Ticket.{Ticket}
 use Rattle.ring_core.specs.Sound.{IsSound}
 use Rattle.history.specs.Steps.{has_entered, has_left}
 use Rattle.history.specs.Receipts.{Receipt, IsConfirmed}
-use Rattle.unit_history.specs.Unit.{PlainUnit, IsUnit}
+use Rattle.task_set.specs.Unit.{PlainUnit, IsUnit}
 use Rattle.queues.specs.Queue.{Lent}
 use Rattle.unit_history.specs.Notes.{PlainNote}
 use Rattle.unit_history.specs.declared.note.Cause.TheVariants as cause

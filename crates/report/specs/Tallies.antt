@@ -6,7 +6,7 @@ use Rattle.ring_core.specs.declared.log.Ticket.{Ticket}
 use Rattle.history.specs.Tasks.{same_ticket}
 use Rattle.history.specs.Steps.{Step}
 use Rattle.history.specs.Receipts.{Receipt}
-use Rattle.unit_history.specs.Unit.{PlainUnit}
+use Rattle.task_set.specs.Unit.{PlainUnit}
 use Rattle.unit_history.specs.Kept.{kind_of}
 use Rattle.unit_history.specs.declared.kind.StepKind.{StepKind}
 use Rattle.unit_history.specs.declared.kind.StepKind.TheVariants as kind

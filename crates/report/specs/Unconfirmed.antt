@@ -3,7 +3,7 @@ use Rattle.std.specs.Prelude.{ℕ, ◌≡◌, Bool, true, false, List, Option, S
 use Rattle.ring_core.specs.declared.log.Ticket.{Ticket}
 use Rattle.ring_core.specs.Sound.{IsSound}
 use Rattle.history.specs.Receipts.{Receipt}
-use Rattle.unit_history.specs.Unit.{PlainUnit, IsUnit}
+use Rattle.task_set.specs.Unit.{PlainUnit, IsUnit}
 use Rattle.queues.specs.Queue.{Lent}
 use Rattle.report.specs.Closed.{AreConfirmed, IsFirstUnconfirmed}
 

@@ -5,7 +5,7 @@ use Rattle.std.proofs.lemmas.List.Sums.{sum_by-cons}
 use Rattle.ring_core.specs.declared.fault.RingFault.{RingFault}
 use Rattle.ring_core.specs.declared.log.Ticket.{Ticket}
 use Rattle.task_set.specs.Jobs.{PlainJob}
-use Rattle.unit_history.specs.Unit.{PlainUnit}
+use Rattle.task_set.specs.Unit.{PlainUnit}
 use Rattle.deeds.specs.Parts.{Slot, Hand}
 use Rattle.deeds.specs.World.{PlainQueue, Seat, Opened, PlainWorld, Everywhere}
 use Rattle.deeds.specs.Deeds.{Deed, event_of}

@@ -11,7 +11,7 @@ use Rattle.ring_core.proofs.Exact.{offers_once}
 use Rattle.ring_core.proofs.Exists.{offers_some}
 use Rattle.history.specs.Clearing.{is_clear}
 use Rattle.task_set.specs.Jobs.{PlainJob}
-use Rattle.unit_history.specs.Unit.{PlainUnit}
+use Rattle.task_set.specs.Unit.{PlainUnit}
 use Rattle.task_mgmt.specs.declared.function.Mark.{Mark as Place}
 use Rattle.deeds.specs.Parts.{Outcome, Slot, Hand}
 use Rattle.deeds.specs.World.{PlainQueue, Seat, Opened, PlainWorld}

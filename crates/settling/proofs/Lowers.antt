@@ -5,7 +5,7 @@ use Rattle.std.specs.List.{sum_by}
 use Rattle.std.proofs.lemmas.List.{length_push}
 use Rattle.ring_core.specs.Writes.{all_written}
 use Rattle.history.specs.Endings.{Ending}
-use Rattle.unit_history.specs.Unit.{PlainUnit}
+use Rattle.task_set.specs.Unit.{PlainUnit}
 use Rattle.task_mgmt.specs.Functions.{PlainFunction, marking, asking, failing, checking}
 use Rattle.deeds.specs.Parts.{Outcome, Slot, lengths_of}
 use Rattle.deeds.specs.World.{PlainQueue, Opened, PlainWorld, change}

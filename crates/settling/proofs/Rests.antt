@@ -20,7 +20,7 @@ use Rattle.history.specs.Worths.{worth, alive_worth, each_one}
 use Rattle.history.proofs.Worth.{worth_filter}
 use Rattle.history.proofs.Fewer.{parked_fewer}
 use Rattle.task_set.specs.Jobs.{PlainJob}
-use Rattle.unit_history.specs.Unit.{PlainUnit, tasks_of_jobs, IsUnit}
+use Rattle.task_set.specs.Unit.{PlainUnit, tasks_of_jobs, IsUnit}
 use Rattle.task_mgmt.specs.declared.function.Mark.{Mark as Place}
 use Rattle.deeds.specs.Parts.{Slot, Hand}
 use Rattle.deeds.specs.World.{PlainQueue, Seat, Opened, PlainWorld, Everywhere}

@@ -12,7 +12,7 @@ use Rattle.history.specs.Tasks.{Entry, same_ticket, task_of}
 use Rattle.history.specs.Steps.{Step, alive, is_alive}
 use Rattle.history.specs.Clearing.{met_by, met_at, is_clear}
 use Rattle.task_set.specs.Jobs.{PlainJob}
-use Rattle.unit_history.specs.Unit.{PlainUnit, after as stepped, parking}
+use Rattle.task_set.specs.Unit.{PlainUnit, after as stepped, parking}
 use Rattle.task_mgmt.specs.Functions.{PlainFunction, marking, asking, failing, checking}
 use Rattle.task_mgmt.specs.declared.function.Mark.{Mark as Place}
 use Rattle.deeds.specs.Parts.{Outcome, Slot, Hand, lengths_of}

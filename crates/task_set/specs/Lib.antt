@@ -1,2 +1,4 @@
 pub mod Jobs
 pub mod Tasks
+pub mod Unit
+pub mod Asking

@@ -5,7 +5,7 @@ use Rattle.block_store.specs.Blocks.{Blocks}
 use Rattle.block_store.specs.declared.NoMemory.{NoMemory}
 use Rattle.unit_attention.specs.declared.code.Code.{Code}
 use Rattle.replies.specs.declared.reply.Reply.{Reply}
-use Rattle.block_commands.specs.Facts.{Facts}
+use Rattle.command_set.specs.Facts.{Facts}
 use Rattle.decisions.specs.declared.attribute.TaskAttribute.{TaskAttribute}
 use Rattle.decisions.specs.declared.attribute.TaskAttribute.TheVariants.{Simple, Ordered, HeadOfQueue}
 use Rattle.history.specs.Tasks.{Entry, blocks, is_blocked}
@@ -25,7 +25,7 @@ use Rattle.unit_history.specs.Endings.{ending_of, ending_of_run}
 use Rattle.unit_history.specs.Parts.{AreKept}
 use Rattle.unit_history.specs.Performing.{Performs, step_for, outcome_for, unkept}
 use Rattle.unit_history.specs.Serving.{ServesAlone}
-use Rattle.unit_history.specs.Unit.{Steps}
+use Rattle.task_set.specs.Unit.{Steps}
 use Rattle.unit_history.specs.declared.answers.Entered.TheVariants as entered
 use Rattle.unit_history.specs.declared.perform.Performed.{Performed}
 use Rattle.unit_history.proofs.Committing.{is_of, keep_run, commits_run}

@@ -4,9 +4,9 @@ use Rattle.ring_core.specs.declared.log.Ticket.{Ticket}
 use Rattle.block_store.specs.Blocks.{Blocks}
 use Rattle.unit_attention.specs.declared.code.Code.{Code}
 use Rattle.replies.specs.PlainReply.{PlainReply, plain_of}
-use Rattle.block_commands.specs.Effects.{block_after}
-use Rattle.block_commands.specs.Facts.{Facts}
-use Rattle.block_commands.specs.Replies.{reply_of}
+use Rattle.command_set.specs.Effects.{block_after}
+use Rattle.command_set.specs.Facts.{Facts}
+use Rattle.command_set.specs.Replies.{reply_of}
 use Rattle.history.specs.declared.reason.Reason.{Reason}
 use Rattle.history.specs.Tasks.{Entry, task_of}
 use Rattle.history.specs.Steps.{Step, alive, done}
@@ -17,7 +17,8 @@ use Rattle.history.specs.Lawful.{IsReady}
 use Rattle.history.specs.Receipts.{unit_address, receipt_of}
 use Rattle.task_set.specs.Jobs.{PlainJob}
 use Rattle.task_set.specs.Tasks.{PlainTask, parked_of, moved, task_at}
-use Rattle.unit_history.specs.Calls.{IsOf, asked_of, CannotCommit, Commits, may_run_short}
+use Rattle.task_set.specs.Asking.{IsOf, asked_of, CannotCommit}
+use Rattle.unit_history.specs.Calls.{Commits, may_run_short}
 use Rattle.unit_history.specs.Parts.{AreKept}
 use Rattle.unit_history.specs.Performing.{Performs, step_for, outcome_for}
 use Rattle.unit_history.specs.Turns.{Turns}

@@ -11,7 +11,7 @@ use Rattle.task_set.specs.Tasks.{PlainTask, parked_of, entering, run_at_once}
 use Rattle.unit_history.specs.Calls.{Enters, entered_of}
 use Rattle.unit_history.specs.Lasts.{floor_kept}
 use Rattle.unit_history.specs.Parts.{AreKept}
-use Rattle.unit_history.specs.Unit.{PlainUnit}
+use Rattle.task_set.specs.Unit.{PlainUnit}
 use Rattle.unit_history.specs.declared.answers.Entered.TheVariants as entered
 use Rattle.unit_history.proofs.Keeping.{CameTo, may_enter, may_full}
 use Rattle.unit_history.proofs.Handing.{parked_run, parked_blocked, parked_full, run_free, run_blocked}

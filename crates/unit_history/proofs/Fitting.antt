@@ -8,7 +8,7 @@ use Rattle.history.specs.Tasks.{Entry, same_ticket, task_of, is_blocked}
 use Rattle.history.specs.Seen.{Seen, waits, seen_at, entries, others}
 use Rattle.task_set.specs.Jobs.{PlainJob, of_tasks, but_tasks, is_job_of}
 use Rattle.task_set.specs.Tasks.{PlainTask, seen_of, entries_of, there, parked_of, moved, given, all_given, without, entering}
-use Rattle.unit_history.specs.Unit.{tasks_of_jobs}
+use Rattle.task_set.specs.Unit.{tasks_of_jobs}
 use Rattle.unit_history.specs.Parts.{AreFit}
 
 -- the task of a job, if there is one

@@ -25,7 +25,7 @@ use Rattle.history.proofs.Leaving.{leaves_handed}
 use Rattle.history.proofs.Releasing.{released_by_leave, released_by_abort, released_by_reset}
 use Rattle.task_set.specs.Jobs.{PlainJob, of_tasks, but_tasks}
 use Rattle.task_set.specs.Tasks.{PlainTask, seen_of, entries_of, parked_of, moved, all_given, without, entering, run_at_once}
-use Rattle.unit_history.specs.Unit.{tasks_of_jobs, IsUnit}
+use Rattle.task_set.specs.Unit.{tasks_of_jobs, IsUnit}
 use Rattle.unit_history.specs.Parts.{AreFit, AreKept}
 use Rattle.unit_history.proofs.Fitting.{IsAmong, given_are, stay_are, entries_seen, seen_without, fit_without, parked_without, parked_entering, waiting, jobs_wait}
 

@@ -8,11 +8,12 @@ use Rattle.unit_attention.specs.declared.code.Code.{Code}
 use Rattle.unit_attention.specs.Pending.{raised}
 use Rattle.cdb.specs.declared.commands.Command.{Command}
 use Rattle.replies.specs.PlainReply.{PlainReply, replied}
-use Rattle.block_commands.specs.Attention.{met}
-use Rattle.block_commands.specs.Effects.{block_after}
-use Rattle.block_commands.specs.Facts.{Facts, facts_of}
+use Rattle.command_set.specs.Attention.{met}
+use Rattle.command_set.specs.Effects.{block_after}
+use Rattle.command_set.specs.Facts.{Facts}
+use Rattle.block_commands.specs.Told.{facts_of}
 use Rattle.block_commands.specs.declared.facts.UnitFacts.{UnitFacts}
-use Rattle.block_commands.specs.Replies.{reply_of, reported}
+use Rattle.command_set.specs.Replies.{reply_of, reported}
 use Rattle.block_commands.proofs.Ranges.{answer_of-agree}
 use Rattle.history.specs.declared.rule.Rule.{Rule}
 use Rattle.history.specs.declared.rule.Rule.TheVariants as rules

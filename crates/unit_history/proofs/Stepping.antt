@@ -12,7 +12,7 @@ use Rattle.task_set.specs.Jobs.{PlainJob, Jobs, but_tasks}
 use Rattle.task_set.specs.Tasks.{PlainTask, task_at}
 use Rattle.unit_history.specs.Calls.{CannotLeave}
 use Rattle.unit_history.specs.Parts.{AreKept}
-use Rattle.unit_history.specs.Unit.{PlainUnit, Steps}
+use Rattle.task_set.specs.Unit.{PlainUnit, Steps}
 use Rattle.unit_history.proofs.Keeping.{task_at_alive, task_at_none, is_done, is_marked}
 
 abbrev pub unit_with : Opening → List Step → List PlainJob → Bool → PlainUnit

@@ -1,20 +1,19 @@
 -- What the calls of a unit answer, by cases.
-use Rattle.std.specs.Prelude.{ℕ, ◌≡◌, ◌≢◌, ◌<◌, ◌≤◌, ◌⊎◌, nat_lt, Bool, true, false, ◌||◌, ◌&&◌, List, ◌∷◌, Option, Some, None, IsTrue, ⊤}
+use Rattle.std.specs.Prelude.{◌≡◌, ◌<◌, ◌≤◌, nat_lt, Bool, true, false, ◌||◌, ◌&&◌, List, ◌∷◌, Option, Some, None, IsTrue, ⊤}
 use Rattle.ring_core.specs.declared.log.Ticket.{Ticket}
 use Rattle.cdb.specs.declared.commands.Command.{Command}
 use Rattle.cdb.specs.Need.{need_of}
-use Rattle.decisions.specs.declared.attribute.TaskAttribute.{TaskAttribute}
-use Rattle.block_commands.specs.Facts.{Facts}
+use Rattle.command_set.specs.Facts.{Facts}
 use Rattle.block_commands.specs.Memory.{may_want}
 use Rattle.history.specs.Tasks.{Entry, task_of, is_blocked}
 use Rattle.history.specs.Steps.{Step, alive, done, floor}
 use Rattle.history.specs.Marks.{mark_of, marked}
-use Rattle.history.specs.Enabling.{enabled}
 use Rattle.history.specs.Contents.{facts_after, reply_after}
 use Rattle.history.specs.Lawful.{IsReady, May}
 use Rattle.history.specs.Receipts.{receipt_of}
 use Rattle.task_set.specs.Jobs.{PlainJob}
-use Rattle.unit_history.specs.Unit.{PlainUnit, parking, Steps}
+use Rattle.task_set.specs.Unit.{PlainUnit, parking, Steps}
+use Rattle.task_set.specs.Asking.{IsOf, CannotCommit}
 use Rattle.unit_history.specs.declared.answers.Entered.{Entered}
 use Rattle.unit_history.specs.declared.answers.Entered.TheVariants as entered
 use Rattle.unit_history.specs.declared.answers.Outcome.{Outcome}
@@ -40,27 +39,6 @@ Enters old j (entered.Busy job) new = (job ≡ j) × (floor j.entry.ticket.queue
     × (new ≡ old)
 Enters old j (entered.Stale job) new = (job ≡ j) × (j.entry.ticket.number < floor j.entry.ticket.queue old.steps)
     × (new ≡ old)
-
--- own: what a job says of its request: all but the data that its command takes
-pub record Asked : Type 0 where
-  pub id : ℕ
-  pub attribute : TaskAttribute
-  pub command : Command
-
-abbrev pub asked_of : Entry → Asked
-asked_of e = record { id = e.id; attribute = e.attribute; command = e.command }
-
--- own: the task is alive under the job's ticket, and entered with what the job says
-pub record IsOf (j : PlainJob) (e : Entry) (steps : List Step) : Type 0 where
-  pub is_there : task_of j.entry.ticket (alive steps) ≡ Some e
-  pub as_asked : asked_of e ≡ asked_of j.entry
-
--- own: the task of the job's ticket, if there is one, entered with another request, is done, or was never handed out
-abbrev pub CannotCommit : Option Entry → PlainJob → List Step → Type 0
-CannotCommit None j steps = ⊤
-CannotCommit (Some e) j steps =
-    (asked_of e ≢ asked_of j.entry)
-    ⊎ ((done e.ticket steps ≡ true) ⊎ ((marked e.ticket steps ≡ false) × (enabled e steps ≡ false)))
 
 -- own: whether a command may be refused memory: its own, or that of the reply that is kept
 abbrev pub may_run_short : Bool → Facts → Command → Bool

@@ -3,7 +3,7 @@ use Rattle.block_store.specs.Blocks.{block_count, nth_block}
 use Rattle.history.specs.Contents.{Opening}
 use Rattle.task_set.specs.Tasks.{parked_of}
 use Rattle.unit_history.specs.Parts.{AreKept}
-use Rattle.unit_history.specs.Unit.{PlainUnit}
+use Rattle.task_set.specs.Unit.{PlainUnit}
 use Rattle.unit_history.specs.declared.unit.UnitState.TheInside.{Inside}
 
 abbrev pub opening_of : Inside → Opening

@@ -2,7 +2,6 @@ pub mod Kept
 pub mod Noted
 pub mod Notes
 pub mod Lasts
-pub mod Unit
 pub mod Calls
 pub mod Parts
 pub mod Turns

@@ -6,13 +6,13 @@ use Rattle.block_store.specs.Blocks.{Blocks}
 use Rattle.block_store.specs.declared.NoMemory.{NoMemory}
 use Rattle.replies.specs.PlainReply.{plain_of}
 use Rattle.replies.specs.declared.reply.Reply.{Reply}
-use Rattle.block_commands.specs.Attention.{takes}
+use Rattle.command_set.specs.Attention.{takes}
 use Rattle.block_commands.specs.declared.facts.UnitFacts.{UnitFacts}
 use Rattle.unit_attention.specs.Pending.{without_first}
 use Rattle.unit_attention.specs.declared.code.Code.{Code}
-use Rattle.block_commands.specs.Effects.{block_after}
-use Rattle.block_commands.specs.Facts.{Facts}
-use Rattle.block_commands.specs.Replies.{reply_of}
+use Rattle.command_set.specs.Effects.{block_after}
+use Rattle.command_set.specs.Facts.{Facts}
+use Rattle.command_set.specs.Replies.{reply_of}
 use Rattle.ring_core.specs.declared.log.Ticket.{Ticket}
 use Rattle.scsi_codec.specs.declared.lun.Address.{Address}
 use Rattle.history.specs.Steps.{Step}

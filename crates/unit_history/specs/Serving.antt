@@ -5,7 +5,7 @@ use Rattle.history.specs.Steps.{Step}
 use Rattle.task_set.specs.Jobs.{PlainJob}
 use Rattle.unit_history.specs.Calls.{Enters, Commits}
 use Rattle.unit_history.specs.Endings.{ending_of}
-use Rattle.unit_history.specs.Unit.{PlainUnit, Steps}
+use Rattle.task_set.specs.Unit.{PlainUnit, Steps}
 use Rattle.unit_history.specs.declared.answers.Entered.TheVariants as entered
 use Rattle.unit_history.specs.declared.answers.Outcome.{Outcome}
 

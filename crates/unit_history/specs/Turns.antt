@@ -2,7 +2,7 @@
 use Rattle.std.specs.Prelude.{◌≡◌, ◌≢◌, ◌⊎◌, true, false, Some, None}
 use Rattle.history.specs.Seen.{Seen}
 use Rattle.task_set.specs.Jobs.{PlainJob}
-use Rattle.unit_history.specs.Calls.{asked_of}
+use Rattle.task_set.specs.Asking.{asked_of}
 use Rattle.unit_history.specs.declared.turn.Turn.{Turn}
 use Rattle.unit_history.specs.declared.turn.Turn.TheVariants as turn
 

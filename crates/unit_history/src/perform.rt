@@ -4,7 +4,7 @@ ghost use Rattle.std.specs.Prelude.{◌≡◌, ◌≤◌, ◌<◌, ℕ, IfSome, 
 ghost use Rattle.std.specs.Option.{option_map};
 ghost use Rattle.cdb.specs.Need.{need_of};
 ghost use Rattle.replies.specs.PlainReply.{plain_of};
-ghost use Rattle.block_commands.specs.Facts.{facts_of};
+ghost use Rattle.block_commands.specs.Told.{facts_of};
 ghost use Rattle.sense.specs.Conditions.{unit_attention};
 ghost use Rattle.history.specs.Contents.{oldest, pending_at_start};
 ghost use Rattle.unit_history.specs.Kept.{kept_reply};

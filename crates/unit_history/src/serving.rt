@@ -1,7 +1,7 @@
 //! A request that is served to its end in one call, where no other task is alive.
 
 ghost use Rattle.std.specs.Prelude.{◌≡◌, ◌+◌, ◌<◌, ◌≤◌, ◌∷◌, false, length, IfOk, IfErr, OnOk, OnErr};
-ghost use Rattle.block_commands.specs.Facts.{facts_of};
+ghost use Rattle.block_commands.specs.Told.{facts_of};
 ghost use Rattle.cdb.specs.Need.{need_of};
 ghost use Rattle.unit_history.specs.Performing.{Performs, step_for, told, unkept};
 ghost use Rattle.unit_history.specs.Serving.{ServesAlone};

@@ -1,7 +1,7 @@
 //! What a task that was found may do.
 
 ghost use Rattle.std.specs.Prelude.{◌≡◌, ◌≢◌, ◌||◌, is_some, IsTrue, IsFalse};
-ghost use Rattle.unit_history.specs.Calls.{asked_of};
+ghost use Rattle.task_set.specs.Asking.{asked_of};
 ghost use Rattle.unit_history.specs.Turns.{Turns};
 
 use cdb::Command;

@@ -53,7 +53,7 @@ pub struct UnitState {
 }
 
 impl Model for UnitState {
-    ghost use Rattle.unit_history.specs.Unit.{PlainUnit};
+    ghost use Rattle.task_set.specs.Unit.{PlainUnit};
 
     ghost Value = { PlainUnit };
 
@@ -110,7 +110,7 @@ impl UnitState {
     ghost use Rattle.history.specs.Released.{released};
     ghost use Rattle.task_set.specs.Jobs.{of_tasks};
     ghost use Rattle.unit_history.specs.Kept.{kind_of};
-    ghost use Rattle.unit_history.specs.Unit.{opening_unit, handing, tasks_of_jobs, Steps, IsUnit};
+    ghost use Rattle.task_set.specs.Unit.{opening_unit, handing, tasks_of_jobs, Steps, IsUnit};
     ghost use Rattle.unit_history.specs.Calls.{Enters, Commits, CannotLeave};
 
     /// A unit as it is specified, with the LUNs of its target by rising number, of which no step was taken. Whoever

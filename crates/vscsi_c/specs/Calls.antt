@@ -6,7 +6,7 @@ use Rattle.ring_core.specs.declared.fault.RingFault.{RingFault}
 use Rattle.ring_core.specs.declared.fault.RingFault.TheVariants as ring
 use Rattle.guest_mem.specs.Memory.{LiesIn, bytes_at}
 use Rattle.history.specs.Contents.{blocks_of, capacity_of}
-use Rattle.unit_history.specs.Unit.{PlainUnit}
+use Rattle.task_set.specs.Unit.{PlainUnit}
 use Rattle.deeds.specs.World.{PlainQueue, PlainWorld, Opens}
 use Rattle.ring_core.specs.Writes.{Write}
 use Rattle.deeds.specs.Events.{Event}

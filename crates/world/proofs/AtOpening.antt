@@ -12,7 +12,7 @@ use Rattle.ring_core.specs.declared.layout.Form.TheVariants.{Split, Packed}
 use Rattle.ring_core.specs.declared.layout.Layout.{Layout}
 use Rattle.decisions.specs.Inventory.{address_of, is_rising}
 use Rattle.decisions.specs.declared.inventory.UnitSpec.{UnitSpec}
-use Rattle.unit_history.specs.Unit.{PlainUnit}
+use Rattle.task_set.specs.Unit.{PlainUnit}
 use Rattle.deeds.specs.Parts.{Slot}
 use Rattle.deeds.specs.World.{PlainQueue, PlainWorld, Seat, Everywhere, IsNewQueue, IsNewUnit, IsNewSeat, Opens}
 use Rattle.deeds.proofs.Lists.{nothing, same}

@@ -10,8 +10,8 @@ use Rattle.history.specs.Steps.{Step, alive, done}
 use Rattle.history.specs.Marks.{marked}
 use Rattle.history.specs.Enabling.{enabled}
 use Rattle.task_set.specs.Jobs.{PlainJob}
-use Rattle.unit_history.specs.Unit.{PlainUnit, after as stepped}
-use Rattle.unit_history.specs.Calls.{CannotCommit}
+use Rattle.task_set.specs.Unit.{PlainUnit, after as stepped}
+use Rattle.task_set.specs.Asking.{CannotCommit}
 use Rattle.deeds.specs.Parts.{Outcome, Hand}
 use Rattle.deeds.specs.World.{Seat, PlainWorld, change}
 use Rattle.deeds.specs.Deeds.{Deed, event_of}

@@ -5,7 +5,7 @@ use Rattle.std.proofs.Math.Path.{subst₂}
 use Rattle.history.specs.Steps.{Step, floor}
 use Rattle.history.specs.Endings.{Ending}
 use Rattle.task_set.specs.Jobs.{PlainJob, Jobs}
-use Rattle.unit_history.specs.Unit.{PlainUnit, after as stepped, parking}
+use Rattle.task_set.specs.Unit.{PlainUnit, after as stepped, parking}
 use Rattle.deeds.specs.Parts.{Outcome, Slot}
 use Rattle.deeds.specs.World.{PlainQueue, Seat, PlainWorld, owner, change}
 use Rattle.deeds.specs.Events.{Event}

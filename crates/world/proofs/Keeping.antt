@@ -4,7 +4,7 @@ use Rattle.std.specs.Prelude.{map}
 use Rattle.ring_core.specs.Writes.{all_written}
 use Rattle.history.specs.Steps.{Step}
 use Rattle.history.specs.Endings.{Ending}
-use Rattle.unit_history.specs.Unit.{PlainUnit, after as stepped, parking}
+use Rattle.task_set.specs.Unit.{PlainUnit, after as stepped, parking}
 use Rattle.task_mgmt.specs.Functions.{step_by}
 use Rattle.deeds.specs.Parts.{Outcome, Slot}
 use Rattle.deeds.specs.World.{PlainQueue, PlainWorld, change}

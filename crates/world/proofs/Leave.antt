@@ -6,7 +6,7 @@ use Rattle.ring_core.specs.declared.log.Ticket.{Ticket}
 use Rattle.history.specs.Tasks.{task_of}
 use Rattle.history.specs.Steps.{Step, alive}
 use Rattle.task_set.specs.Jobs.{PlainJob, Jobs}
-use Rattle.unit_history.specs.Unit.{PlainUnit, after as stepped}
+use Rattle.task_set.specs.Unit.{PlainUnit, after as stepped}
 use Rattle.unit_history.specs.Calls.{CannotLeave}
 use Rattle.deeds.specs.Parts.{Hand}
 use Rattle.deeds.specs.World.{Seat, PlainWorld, Everywhere, change}

@@ -5,7 +5,7 @@ use Rattle.std.proofs.lemmas.List.{length-map}
 use Rattle.history.specs.Steps.{alive}
 use Rattle.history.specs.Seen.{any_met}
 use Rattle.task_set.specs.Jobs.{PlainJob, Jobs}
-use Rattle.unit_history.specs.Unit.{PlainUnit, after as stepped}
+use Rattle.task_set.specs.Unit.{PlainUnit, after as stepped}
 use Rattle.task_mgmt.specs.Functions.{PlainFunction, marking, asking, failing, step_by}
 use Rattle.task_mgmt.specs.declared.kind.Kind.{Kind}
 use Rattle.task_mgmt.specs.declared.kind.Kind.TheVariants.{Marking, Asking}

@@ -6,7 +6,7 @@ use Rattle.block_store.specs.declared.NoMemory.{NoMemory}
 use Rattle.scsi_codec.specs.declared.event_queue.Event.{Event as Report}
 use Rattle.history.specs.Steps.{Step}
 use Rattle.task_set.specs.Jobs.{Jobs}
-use Rattle.unit_history.specs.Unit.{PlainUnit, after as stepped}
+use Rattle.task_set.specs.Unit.{PlainUnit, after as stepped}
 use Rattle.deeds.specs.World.{Seat, PlainWorld}
 use Rattle.deeds.specs.Events.{Event}
 use Rattle.deeds.specs.Deeds.{Deed}

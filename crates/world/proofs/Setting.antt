@@ -3,7 +3,7 @@ use Rattle.std.proofs.Common.{◌≡◌, ◌≤◌, ℕ, ◌+◌, ◌*◌, zero,
 use Rattle.std.specs.Prelude.{slice_get, slice_set, map}
 use Rattle.std.proofs.lemmas.List.{append-nil}
 use Rattle.task_set.specs.Jobs.{PlainJob, Jobs}
-use Rattle.unit_history.specs.Unit.{PlainUnit}
+use Rattle.task_set.specs.Unit.{PlainUnit}
 use Rattle.deeds.specs.Parts.{Slot}
 use Rattle.deeds.specs.World.{PlainQueue, Seat, PlainWorld, change}
 use Rattle.deeds.specs.Events.{Event}

@@ -1,7 +1,7 @@
 -- What the device keeps beside its plain value. Only private functions and models cite it: no promise stands on it.
 use Rattle.std.specs.Prelude.{ℕ, ◌≡◌, ◌+◌, ◌*◌, List, length}
 use Rattle.task_set.specs.Jobs.{PlainJob}
-use Rattle.unit_history.specs.Unit.{PlainUnit}
+use Rattle.task_set.specs.Unit.{PlainUnit}
 use Rattle.deeds.specs.Parts.{Hand}
 use Rattle.deeds.specs.World.{PlainQueue, Seat, Everywhere}
 

@@ -8,8 +8,8 @@ use Rattle.deeds.specs.Parts.{Slot, Hand}
 use Rattle.deeds.specs.World.{PlainQueue, PlainWorld, IsNewSeat, Everywhere}
 use Rattle.world.specs.Kept.{KeptSeat}
 use Rattle.history.specs.Contents.{Opening}
-use Rattle.unit_history.specs.Unit.{PlainUnit}
-use Rattle.unit_history.specs.Unit as unit
+use Rattle.task_set.specs.Unit.{PlainUnit}
+use Rattle.task_set.specs.Unit as unit
 use Rattle.scsi_codec.specs.declared.lun.Address.{Address}
 use Rattle.decisions.specs.Inventory.{address_of, luns_of}
 use Rattle.decisions.specs.declared.inventory.UnitSpec.{UnitSpec}

@@ -1,6 +1,6 @@
 -- What holds of the device between two steps. Only private functions and models cite it: no promise stands on it.
 use Rattle.std.specs.Prelude.{ℕ, ◌≡◌, ◌≤◌, ◌+◌, List, length, map}
-use Rattle.unit_history.specs.Unit.{PlainUnit}
+use Rattle.task_set.specs.Unit.{PlainUnit}
 use Rattle.deeds.specs.World.{PlainQueue, PlainWorld, Everywhere}
 use Rattle.deeds.specs.Happens.{Occurrence, Reached}
 use Rattle.deeds.specs.Lawful.{AreNumbered}

@@ -4,7 +4,7 @@ use Rattle.std.specs.List.{list_any}
 use Rattle.block_store.specs.Blocks.{run}
 use Rattle.block_store.specs.declared.NoMemory.{NoMemory}
 use Rattle.history.specs.Contents.{blocks_of, capacity_of}
-use Rattle.unit_history.specs.Unit.{PlainUnit}
+use Rattle.task_set.specs.Unit.{PlainUnit}
 use Rattle.ring_core.specs.declared.fault.RingFault.{RingFault}
 use Rattle.deeds.specs.World.{PlainQueue, PlainWorld}
 

@@ -6,7 +6,7 @@ ghost use Rattle.unit_attention.specs.declared.code.Code.{Code};
 ghost use Rattle.unit_attention.specs.Pending.{raised, without_first};
 ghost use Rattle.replies.specs.PlainReply.{PlainReply};
 ghost use Rattle.replies.specs.Statuses.{good};
-ghost use Rattle.block_commands.specs.Attention.{takes};
+ghost use Rattle.command_set.specs.Attention.{takes};
 ghost use Rattle.history.specs.declared.rule.Rule.{Rule as ARule};
 ghost use Rattle.history.specs.Tasks.{Entry, task_of};
 ghost use Rattle.history.specs.Steps.{Step, alive};

@@ -1,5 +1,5 @@
 use Rattle.history.specs.Receipts.{IsConfirmed}
-use Rattle.unit_history.specs.Unit.{PlainUnit}
+use Rattle.task_set.specs.Unit.{PlainUnit}
 use Rattle.report.proofs.Prefixes.{EachTo}
 use Rattle.report.proofs.confirming.is_confirmed.Given as goal
 

@@ -1,7 +1,7 @@
 use Rattle.std.proofs.Common.{refl, subst, List, None, Option}
 use Rattle.ring_core.specs.declared.log.Ticket.{Ticket}
 use Rattle.history.specs.Receipts.{Receipt}
-use Rattle.unit_history.specs.Unit.{PlainUnit}
+use Rattle.task_set.specs.Unit.{PlainUnit}
 use Rattle.queues.specs.Queue.{Lent}
 use Rattle.report.specs.Closed.{IsFirst, AreConfirmed, is_outstanding}
 use Rattle.report.specs.Unconfirmed.{AllStand, AllSound}

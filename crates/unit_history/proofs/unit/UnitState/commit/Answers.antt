@@ -1,7 +1,7 @@
 use Rattle.std.proofs.Common.{◌≡◌, true, false, ap, sym, ◌∙◌, refl}
 use Rattle.std.specs.Option.{option_copied}
 use Rattle.block_store.specs.Blocks.{block_count, nth_block}
-use Rattle.block_commands.specs.Facts.{facts_of}
+use Rattle.block_commands.specs.Told.{facts_of}
 use Rattle.unit_history.specs.Performing.{told}
 use Rattle.task_set.specs.Tasks.{task_at}
 use Rattle.unit_history.proofs.Keeping.{has_room, is_ready, told_is}

@@ -3,7 +3,7 @@ use Rattle.block_store.specs.Blocks.{run, nth_block}
 use Rattle.block_commands.proofs.Ranges.{run-agree}
 use Rattle.history.specs.Contents.{blocks_of}
 use Rattle.unit_history.specs.Fields.{opening_of}
-use Rattle.unit_history.specs.Unit.{PlainUnit}
+use Rattle.task_set.specs.Unit.{PlainUnit}
 use Rattle.unit_history.proofs.unit.UnitState.read_blocks.Goals as goal
 
 pub returns-clause-ok : goal.returns-clause-ok

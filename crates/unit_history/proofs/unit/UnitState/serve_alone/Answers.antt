@@ -1,5 +1,5 @@
 use Rattle.std.proofs.Common.{◌≡◌, ◌≤◌, false, sym, ◌∙◌, arith, subst, refl}
-use Rattle.block_commands.specs.Facts.{facts_of}
+use Rattle.block_commands.specs.Told.{facts_of}
 use Rattle.block_store.specs.Blocks.{block_count, nth_block}
 use Rattle.ring_core.specs.declared.log.Ticket.{Ticket}
 use Rattle.history.specs.Endings.{Ending}

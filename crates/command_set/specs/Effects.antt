@@ -4,8 +4,8 @@ use Rattle.cdb.specs.declared.commands.Command.{Command}
 use Rattle.cdb.specs.declared.commands.Command.TheVariants.{Write, WriteSame, Unmap, CompareAndWrite}
 use Rattle.block_store.specs.Blocks.{Blocks, nth_block, zero_block, is_within}
 use Rattle.replies.specs.Statuses.{good}
-use Rattle.block_commands.specs.Comparing.{to_write}
-use Rattle.block_commands.specs.UnmapList.{descriptors, is_named}
+use Rattle.command_set.specs.Comparing.{to_write}
+use Rattle.command_set.specs.UnmapList.{descriptors, is_named}
 
 -- these bytes, where the command covers the block
 abbrev pub where_covered : Bool → List ℕ → Option (List ℕ)

@@ -3,7 +3,7 @@ use Rattle.std.specs.Prelude.{ℕ, zero, suc, ◌-◌, ◌/◌, Bool, List, [], 
 use Rattle.std.specs.List.{list_any, list_all}
 use Rattle.std.specs.Int.{w16, w32, w64, from_be_bytes}
 use Rattle.block_store.specs.Blocks.{is_within}
-use Rattle.block_commands.specs.Capacity.{is_in_range}
+use Rattle.command_set.specs.Capacity.{is_in_range}
 
 -- the block descriptor at the front of the bytes: the logical block address in bytes 0 to 7, the
 -- number of blocks in bytes 8 to 11

@@ -9,13 +9,13 @@ use Rattle.cdb.specs.declared.commands.Command.TheVariants.{TestUnitReady, Reque
 use Rattle.block_store.specs.Blocks.{Blocks, run}
 use Rattle.replies.specs.Data.{Answer}
 use Rattle.replies.specs.PlainReply.{PlainReply, refusal, replied}
-use Rattle.block_commands.specs.Attention.{met}
-use Rattle.block_commands.specs.Capacity.{is_in_range, capacity_10, capacity_16}
-use Rattle.block_commands.specs.Comparing.{to_compare, first_unequal}
-use Rattle.block_commands.specs.Facts.{Facts}
-use Rattle.block_commands.specs.Inquiry.{inquiry_data}
-use Rattle.block_commands.specs.Luns.{listed, lun_list}
-use Rattle.block_commands.specs.UnmapList.{descriptors, blocks_named, are_in_range}
+use Rattle.command_set.specs.Attention.{met}
+use Rattle.command_set.specs.Capacity.{is_in_range, capacity_10, capacity_16}
+use Rattle.command_set.specs.Comparing.{to_compare, first_unequal}
+use Rattle.command_set.specs.Facts.{Facts}
+use Rattle.command_set.specs.Inquiry.{inquiry_data}
+use Rattle.command_set.specs.Luns.{listed, lun_list}
+use Rattle.command_set.specs.UnmapList.{descriptors, blocks_named, are_in_range}
 
 -- no data
 abbrev pub done : Answer

@@ -1,0 +1,9 @@
+-- What a command is told of its unit, as the definitions of commands have it.
+use Rattle.std.specs.Prelude.{ℕ}
+use Rattle.command_set.specs.Facts.{Facts}
+use Rattle.block_commands.specs.declared.facts.UnitFacts.{UnitFacts}
+
+-- the facts of a unit of so many blocks
+abbrev pub facts_of : UnitFacts → ℕ → Facts
+facts_of u blocks =
+    record { target = u.target; lun = u.lun; luns = u.luns.items; capacity = blocks; pending = u.pending }

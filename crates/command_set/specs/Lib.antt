@@ -1,0 +1,16 @@
+pub use Rattle.block_store.specs.Blocks
+pub use Rattle.cdb.specs.Need
+pub use Rattle.replies.specs.Data
+pub use Rattle.replies.specs.PlainReply
+pub use Rattle.replies.specs.Statuses
+pub use Rattle.sense.specs.Conditions
+pub use Rattle.sense.specs.Fixed
+pub mod Attention
+pub mod Capacity
+pub mod Comparing
+pub mod Effects
+pub mod Facts
+pub mod Inquiry
+pub mod Luns
+pub mod Replies
+pub mod UnmapList
