@@ -7,7 +7,7 @@ use scsi_codec::{REQUEST_BYTES, RESPONSE_BYTES, Response, ResponseCode, write_re
 use sense::Sense;
 
 /// How many bytes of a chain can be read, and how many written.
-#[derive(Clone, Copy, PartialEq, Eq)]
+#[derive(Clone, Copy)]
 pub struct ChainLengths {
     /// All readable bytes.
     pub readable: u64,

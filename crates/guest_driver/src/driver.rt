@@ -89,7 +89,7 @@ enum Open {
 }
 
 /// What a chain asks for.
-#[derive(Clone, Copy, PartialEq, Eq)]
+#[derive(Clone, Copy)]
 pub enum Asks {
     /// A command, by a request.
     Command,
@@ -98,7 +98,7 @@ pub enum Asks {
 }
 
 /// What is known of a request or a function that was sent.
-#[derive(Clone, Copy, PartialEq, Eq)]
+#[derive(Clone, Copy)]
 pub struct Sent {
     /// Which of the two it is.
     pub asks: Asks,

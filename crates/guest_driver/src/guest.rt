@@ -12,7 +12,7 @@ use std::alloc::{AllocError, Global};
 const BLOCK_BYTES: usize = 4096;
 
 /// Where a buffer lies in guest memory.
-#[derive(Clone, Copy, PartialEq, Eq)]
+#[derive(Clone, Copy)]
 pub struct Buffer {
     /// The address of its first byte.
     pub at: u64,

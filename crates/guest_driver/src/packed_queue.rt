@@ -29,14 +29,14 @@ const USED: u16 = 1 << 15;
 const CHAIN_SLOTS: u16 = 2;
 
 /// An open chain: its key, and how many slots it takes.
-#[derive(Clone, Copy, PartialEq, Eq)]
+#[derive(Clone, Copy)]
 struct OpenChain {
     key: usize,
     slots: u16,
 }
 
 /// A place in the ring, with the wrap counter there.
-#[derive(Clone, Copy, PartialEq, Eq)]
+#[derive(Clone, Copy)]
 struct Position {
     slot: u16,
     wrap: bool,

@@ -39,7 +39,7 @@ pub fn function_request(function: &TaskManagement<'_>) -> [u8; FUNCTION_BYTES]
 }
 
 /// The buffers of a chain.
-#[derive(Clone, Copy, PartialEq, Eq)]
+#[derive(Clone, Copy)]
 pub struct Buffers {
     /// What the device reads, of a request or of a function; none of an event buffer.
     pub readable: Option<Buffer>,
@@ -48,7 +48,7 @@ pub struct Buffers {
 }
 
 /// What a queue says of a chain that was used.
-#[derive(Clone, Copy, PartialEq, Eq)]
+#[derive(Clone, Copy)]
 pub struct Used {
     /// The key under which it was made available.
     pub key: usize,
@@ -57,7 +57,7 @@ pub struct Used {
 }
 
 /// Where the next buffer goes. None is used again.
-#[derive(Clone, Copy, PartialEq, Eq)]
+#[derive(Clone, Copy)]
 pub struct Space {
     next: u64,
 }

@@ -1,7 +1,7 @@
 //! How a unit refuses a request.
 
 /// How a unit refused a request that came to it.
-#[derive(Clone, Copy, PartialEq, Eq)]
+#[derive(Clone, Copy)]
 pub enum Refusal {
     /// 64 tasks were alive.
     Full,

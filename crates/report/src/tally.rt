@@ -7,7 +7,7 @@ use ring_core::Ticket;
 use unit_history::{Cause, StepKind};
 
 /// What a request was answered with so far.
-#[derive(Clone, Copy, PartialEq, Eq)]
+#[derive(Clone, Copy)]
 pub enum Answer {
     /// Nothing.
     Missing,
@@ -57,7 +57,7 @@ impl Answer {
 }
 
 /// What is told of a request.
-#[derive(Clone, Copy, PartialEq, Eq)]
+#[derive(Clone, Copy)]
 pub enum Fact {
     /// A receipt or a note.
     Answered(Answer),

@@ -8,7 +8,7 @@ use crate::fault::RingFault;
 
 /// What the descriptors before one amount to: those of its run, and in `total` and `writable` also
 /// those of a run before it. For rings.
-#[derive(Clone, Copy, PartialEq, Eq)]
+#[derive(Clone, Copy)]
 pub struct Before {
     /// How many of them its run has.
     pub count: u64,

@@ -6,7 +6,7 @@ ghost use Rattle.ring_core.specs.Walk.{goes_on, is_writable, is_indirect, part_o
 use bitflags::{Flag, Flags, bitflag_items};
 
 /// What a descriptor's flags say (VIRTIO 1.2, 2.7.5 and 2.8.13). Other bits are ignored.
-#[derive(Clone, Copy, PartialEq, Eq)]
+#[derive(Clone, Copy)]
 pub struct DescriptorFlags(u16);
 
 bitflag_items! {
@@ -40,7 +40,7 @@ impl Flags for DescriptorFlags {
 }
 
 /// One buffer of a chain.
-#[derive(Clone, Copy, Debug, Default, PartialEq, Eq)]
+#[derive(Clone, Copy, Debug, Default)]
 pub struct Part {
     /// Where it begins in guest memory.
     pub addr: u64,
@@ -51,7 +51,7 @@ pub struct Part {
 }
 
 /// A descriptor as it stands in memory.
-#[derive(Clone, Copy, PartialEq, Eq)]
+#[derive(Clone, Copy)]
 pub struct Descriptor {
     /// Where its buffer begins.
     pub addr: u64,

@@ -27,7 +27,7 @@ pub struct Layout {
 }
 
 /// Which optional features of virtqueues were agreed (VIRTIO 1.2, 6).
-#[derive(Clone, Copy, Debug, PartialEq, Eq)]
+#[derive(Clone, Copy, Debug)]
 pub struct Features {
     /// VIRTIO_F_INDIRECT_DESC.
     pub indirect_descriptors: bool,

@@ -13,14 +13,14 @@ pub(crate) fn written(outcome: io::Result<()>) -> Result<(), Stop> {
 }
 
 /// A run of equal bytes.
-#[derive(Clone, Copy, PartialEq, Eq)]
+#[derive(Clone, Copy)]
 struct Run {
     byte: u8,
     length: u64,
 }
 
 /// Prints bytes as maximal runs of equal ones, joined by commas; `-` where there is none.
-#[derive(Clone, Copy, PartialEq, Eq)]
+#[derive(Clone, Copy)]
 pub(crate) struct Runs {
     /// The run that the next byte may belong to.
     last: Option<Run>,

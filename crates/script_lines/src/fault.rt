@@ -79,7 +79,7 @@ pub enum ScriptFault {
 }
 
 /// Why a line ends the script, before it is known which line it is.
-#[derive(Clone, Copy, PartialEq, Eq)]
+#[derive(Clone, Copy)]
 pub enum Stop {
     /// The line is at fault.
     Fault(LineFault),

@@ -11,7 +11,7 @@ use scsi_codec::Address;
 const LARGEST_SIZE: u16 = 256;
 
 /// The queues that a header asks for.
-#[derive(Clone, Copy, PartialEq, Eq)]
+#[derive(Clone, Copy)]
 pub struct Queues {
     /// How many there are.
     pub count: u16,
@@ -20,7 +20,7 @@ pub struct Queues {
 }
 
 /// A disk that a header asks for.
-#[derive(Clone, Copy, PartialEq, Eq)]
+#[derive(Clone, Copy)]
 pub struct Disk {
     /// Where it is found.
     pub unit: Address,
@@ -31,7 +31,7 @@ pub struct Disk {
 }
 
 /// A header line. Which of its numbers the device takes isn't known here.
-#[derive(Clone, Copy, PartialEq, Eq)]
+#[derive(Clone, Copy)]
 pub enum HeaderLine {
     /// The pages of guest memory, of 4,096 bytes.
     Memory(u32),

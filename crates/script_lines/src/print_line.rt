@@ -6,7 +6,7 @@ use crate::values::{name, number, unit_pair};
 use scsi_codec::Address;
 
 /// A line that prints. Which queues, units and blocks there are isn't known here.
-#[derive(Clone, Copy, PartialEq, Eq)]
+#[derive(Clone, Copy)]
 pub enum PrintLine<'a> {
     /// What became of a request or a function.
     Show(&'a str),

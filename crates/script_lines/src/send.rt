@@ -25,7 +25,7 @@ pub struct Send<'a> {
 }
 
 /// A task management function as a line names it. Which functions and units there are isn't known here.
-#[derive(Clone, Copy, PartialEq, Eq)]
+#[derive(Clone, Copy)]
 pub struct TaskManagement<'a> {
     /// Its name, 1 to 16 letters or digits.
     pub name: &'a str,

@@ -5,7 +5,7 @@ use crate::header::only;
 use crate::values::number;
 
 /// A step of the device. Which queues and seats there are, and whether it applies, isn't known here.
-#[derive(Clone, Copy, PartialEq, Eq)]
+#[derive(Clone, Copy)]
 pub enum Step {
     /// A queue takes its next chain.
     Fetch(u16),

@@ -23,7 +23,7 @@ pub const PARAM_CHANGE: u32 = 3;
 pub const EVENTS_MISSED: u32 = 0x8000_0000;
 
 /// An event (VIRTIO 1.2 §5.6.6.3).
-#[derive(Clone, Copy, Debug, PartialEq, Eq)]
+#[derive(Clone, Copy, Debug)]
 pub struct Event {
     /// Which event, as [`TRANSPORT_RESET`].
     pub event: u32,

@@ -40,7 +40,7 @@ pub enum ResponseCode {
 }
 
 /// A response without its data in (VIRTIO 1.2 §5.6.6.1). Its status qualifier is 0.
-#[derive(Clone, Copy, Debug, PartialEq, Eq)]
+#[derive(Clone, Copy, Debug)]
 pub struct Response {
     /// What became of the request.
     pub code: ResponseCode,

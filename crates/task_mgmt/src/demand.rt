@@ -13,7 +13,7 @@ use scsi_codec::{Address, FunctionResponse};
 const I_T_NEXUS_RESET: u32 = 4;
 
 /// What a task management request asks for (VIRTIO 1.2 §5.6.6.2).
-#[derive(Clone, Copy, PartialEq, Eq)]
+#[derive(Clone, Copy)]
 pub struct TaskManagement {
     /// Which function, as it stands.
     pub subtype: u32,

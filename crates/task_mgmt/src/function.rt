@@ -10,7 +10,7 @@ use scsi_codec::FunctionResponse;
 use std::marker::Model;
 
 /// That a unit was marked: the mark is clear once every task that it met has left.
-#[derive(Clone, Copy, Default, PartialEq, Eq)]
+#[derive(Clone, Copy, Default)]
 pub struct Mark {
     /// The place of the unit in the inventory.
     pub unit: usize,

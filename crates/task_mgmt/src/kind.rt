@@ -7,7 +7,7 @@ use history::Rule;
 use unit_attention::Code;
 
 /// What marks the tasks of a unit.
-#[derive(Clone, Copy, PartialEq, Eq)]
+#[derive(Clone, Copy)]
 pub enum Strike {
     /// They are aborted (SAM-5 §7.2, §7.3, §7.5).
     Abort(Rule),
@@ -16,7 +16,7 @@ pub enum Strike {
 }
 
 /// What a function does on each of its units.
-#[derive(Clone, Copy, PartialEq, Eq)]
+#[derive(Clone, Copy)]
 pub enum Kind {
     /// It marks the tasks that are alive, and waits until those that it meets have left.
     Marking(Strike),

@@ -7,7 +7,7 @@ use ring_core::Ticket;
 use std::marker::Model;
 
 /// Why a request was answered without a receipt.
-#[derive(Clone, Copy, Debug, PartialEq, Eq)]
+#[derive(Clone, Copy, Debug)]
 pub enum Cause {
     /// Its task was marked by an abort or a reset: nothing was done.
     Aborted,

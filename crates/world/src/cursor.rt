@@ -4,7 +4,7 @@ ghost use Rattle.std.specs.Prelude.{◌≡◌, ◌↔◌, IsTrue};
 ghost use Rattle.world.specs.Cursors.{served_of, direct_from, seat_from, enter_from};
 
 /// A place in the order before which no event applies.
-#[derive(Clone, Copy, PartialEq, Eq)]
+#[derive(Clone, Copy)]
 pub(crate) enum Cursor {
     /// Its beginning.
     Start,
@@ -19,7 +19,7 @@ pub(crate) enum Cursor {
 }
 
 /// What was served, and from where on to look then.
-#[derive(Clone, Copy, PartialEq, Eq)]
+#[derive(Clone, Copy)]
 pub(crate) struct Served {
     /// From where on to look.
     pub(crate) next: Cursor,

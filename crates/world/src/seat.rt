@@ -5,7 +5,7 @@ use std::marker::Model;
 use unit_history::{Job, JobList};
 
 /// What a seat's hand says of its next step.
-#[derive(Clone, Copy, PartialEq, Eq)]
+#[derive(Clone, Copy)]
 pub(crate) enum Stage {
     /// Nothing is in hand.
     Free,
