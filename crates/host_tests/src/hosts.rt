@@ -12,14 +12,14 @@ const ALL: Left = Left {
 
 #[test]
 fn no_workers_and_more_than_eight_are_refused(rt: HostRuntime) {
-    assert_eq!(rt; is_refused(rt, rt.alloc(), 0), Some(true));
-    assert_eq!(rt; is_refused(rt, rt.alloc(), 9), Some(true));
+    assert!(rt; is_refused(rt, rt.alloc(), 0) == Some(true));
+    assert!(rt; is_refused(rt, rt.alloc(), 9) == Some(true));
 }
 
 #[test]
 fn requests_are_served_by_any_number_of_workers(rt: HostRuntime) {
     for workers in [1, 2, 3, 8] {
-        assert_eq!(rt; serve(rt, rt.alloc(), workers), Some((true, Some(ALL))));
+        assert!(rt; serve(rt, rt.alloc(), workers) == Some((true, Some(ALL))));
     }
 }
 
@@ -29,7 +29,7 @@ fn a_host_is_closed_of_which_nothing_was_asked(rt: HostRuntime) {
         receipts: 0,
         notes: 0,
     };
-    assert_eq!(rt; serve_nothing(rt, rt.alloc(), 2), Some(nothing));
+    assert!(rt; serve_nothing(rt, rt.alloc(), 2) == Some(nothing));
 }
 
 #[test]
@@ -50,7 +50,7 @@ fn the_operator_resets_a_unit(rt: HostRuntime) {
         notes: 0,
     };
     let told = Told { event, answer };
-    assert_eq!(rt; reset(rt, rt.alloc(), 2), Some((told, Some(one))));
+    assert!(rt; reset(rt, rt.alloc(), 2) == Some((told, Some(one))));
 }
 
 #[test]
@@ -65,7 +65,7 @@ fn two_workers_serve_at_once(rt: HostRuntime) {
         commits: (3, 2),
         written: true,
     };
-    assert_eq!(rt; serve_together(rt, rt.alloc()), Some(five));
+    assert!(rt; serve_together(rt, rt.alloc()) == Some(five));
 }
 
 #[test]
@@ -80,7 +80,7 @@ fn two_units_are_held_at_once(rt: HostRuntime) {
         commits: (1, 1),
         written: false,
     };
-    assert_eq!(rt; meet(rt, rt.alloc()), Some(two));
+    assert!(rt; meet(rt, rt.alloc()) == Some(two));
 }
 
 #[test]
@@ -95,5 +95,5 @@ fn one_unit_is_held_by_one_worker(rt: HostRuntime) {
         commits: (2, 0),
         written: false,
     };
-    assert_eq!(rt; contend(rt, rt.alloc()), Some(two));
+    assert!(rt; contend(rt, rt.alloc()) == Some(two));
 }

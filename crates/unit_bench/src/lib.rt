@@ -13,3 +13,4 @@ pub use acts::{
     WRITE,
 };
 pub use bench::first_wrong;
+pub use port::Ports;

@@ -1,6 +1,6 @@
 //! The queues that requests come from.
 
-use crate::acts::{DATA, QUEUE, Sent};
+use crate::acts::{DATA, QUEUE, SIMPLE, Sent};
 use crate::bench::{CALM, SECOND};
 use block_store::NoMemory;
 use decisions::{ChainLengths, Decision, Inventory, MOST_UNITS, UnitSpec, are_rising, decide};
@@ -161,7 +161,7 @@ fn arrival_of(inventory: &Inventory, sent: &Sent, fetched: Fetched) -> Option<Ar
 
 /// Two queues whose tickets are the same, and the units that their requests may name.
 #[derive(Drop)]
-pub(crate) struct Ports {
+pub struct Ports {
     inventory: Inventory,
     port: Port,
     other: Port,
@@ -169,7 +169,7 @@ pub(crate) struct Ports {
 
 impl Ports {
     /// Queues of which nothing was fetched; `None` where memory was refused.
-    pub(crate) fn new(alloc: Global) -> Option<Ports> {
+    pub fn new(alloc: Global) -> Option<Ports> {
         let port = Port::new(alloc, PAGES)?;
         let other = Port::new(alloc, OTHER_PAGES)?;
         let inventory = inventory_of(&[CALM, SECOND])?;
@@ -197,6 +197,12 @@ impl Ports {
             Err(RingFault::NoMemory) => Err(NoMemory),
             _ => Ok(None),
         }
+    }
+
+    /// The job of a TEST UNIT READY with this identifier, over the first queue; `None` where memory was refused.
+    pub fn job(&mut self, id: u64) -> Option<Job> {
+        let arrival = self.arrive(&Sent { id, ..SIMPLE }).ok()??;
+        Some(arrival.into_job())
     }
 
     /// Completes a chain; `None` where it is of no queue.

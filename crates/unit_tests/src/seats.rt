@@ -2,13 +2,11 @@
 
 ghost use Rattle.handoff.specs.Seats.{IsSeatOf, IsSameSeat};
 
-mod source;
-
 use handoff::{Handoff, Seat};
-use source::Source;
 use std::alloc::Global;
 use std::sync::Wait;
 use std::test::Fail;
+use unit_bench::Ports;
 use unit_history::Job;
 
 /// The identifier of a job, where there is one.
@@ -21,14 +19,14 @@ fn put_all<R: Wait>(
     rt: &R,
     handoff: &Handoff,
     seat: &mut Seat,
-    source: &mut Source,
-    ids: &[u8],
+    ports: &mut Ports,
+    ids: &[u64],
 ) -> Option<u64>
     requires { IsSeatOf handoff.now seat.old }
     ensures { IsSameSeat seat.old seat.new }
 {
     for id in ids {
-        let Some(job) = source.job(*id) else {
+        let Some(job) = ports.job(*id) else {
             return None;
         };
         if let Err(back) = handoff.put(rt, seat, job) {
@@ -41,13 +39,13 @@ fn put_all<R: Wait>(
 /// What a queue of one job does with two: the one that comes back, the one that is taken then, and the next.
 fn overfill<R: Wait>(rt: &R, alloc: Global) -> Result<[Option<u64>; 3], Fail> {
     let (handoff, mut seats) = Handoff::new(alloc, 1, 1)?;
-    let Some(mut source) = Source::new(alloc) else {
+    let Some(mut ports) = Ports::new(alloc) else {
         return Ok([None; 3]);
     };
     let Some(mut seat) = seats.pop() else {
         return Ok([None; 3]);
     };
-    let back = put_all(rt, &handoff, &mut seat, &mut source, &[7, 8]);
+    let back = put_all(rt, &handoff, &mut seat, &mut ports, &[7, 8]);
     let taken = id_of(handoff.take(rt, &mut seat));
     Ok([back, taken, id_of(handoff.take(rt, &mut seat))])
 }
@@ -58,14 +56,14 @@ fn pass_on<R: Wait>(
     handoff: &Handoff,
     from: &mut Seat,
     to: &mut Seat,
-    source: &mut Source,
-    ids: &[u8],
+    ports: &mut Ports,
+    ids: &[u64],
 ) -> (Option<u64>, Option<u64>)
     requires { IsSeatOf handoff.now from.old × IsSeatOf handoff.now to.old }
     ensures from { IsSameSeat from.old from.new }
     ensures to { IsSameSeat to.old to.new }
 {
-    if put_all(rt, handoff, from, source, ids).is_some() {
+    if put_all(rt, handoff, from, ports, ids).is_some() {
         return (None, None);
     }
     let first = id_of(handoff.take(rt, to));
@@ -75,13 +73,13 @@ fn pass_on<R: Wait>(
 /// What two jobs are that one seat puts and another takes, once the seats are gathered.
 fn hand_over<R: Wait>(rt: &R, alloc: Global) -> Result<(Option<u64>, Option<u64>), Fail> {
     let (handoff, mut seats) = Handoff::new(alloc, 2, 2)?;
-    let Some(mut source) = Source::new(alloc) else {
+    let Some(mut ports) = Ports::new(alloc) else {
         return Ok((None, None));
     };
     let (Some(mut second), Some(mut first)) = (seats.pop(), seats.pop()) else {
         return Ok((None, None));
     };
-    let taken = pass_on(rt, &handoff, &mut first, &mut second, &mut source, &[7, 8]);
+    let taken = pass_on(rt, &handoff, &mut first, &mut second, &mut ports, &[7, 8]);
     seats.push(first)?;
     seats.push(second)?;
     handoff.gather(seats);

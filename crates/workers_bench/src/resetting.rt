@@ -17,7 +17,7 @@ const BUFFER: Asked = Asked {
 };
 
 /// What a guest was told of a reset.
-#[derive(Clone, Copy, Debug, PartialEq, Eq)]
+#[derive(Clone, Copy, PartialEq, Eq)]
 pub struct Told {
     /// The event that its buffer got.
     pub event: [u8; 16],

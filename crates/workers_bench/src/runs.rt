@@ -8,7 +8,7 @@ use std::thread::Threads;
 use workers::{CloseFault, Config, Gate, Host, Open, Report, StartFault};
 
 /// How many receipts and notes a closed host left.
-#[derive(Clone, Copy, Debug, PartialEq, Eq)]
+#[derive(Clone, Copy, PartialEq, Eq)]
 pub struct Left {
     /// The receipts.
     pub receipts: usize,

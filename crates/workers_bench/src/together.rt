@@ -71,7 +71,7 @@ const TWO: [Asked; 2] = [
 const ONE: [Asked; 2] = [READ, Asked { queue: 3, ..READ }];
 
 /// How two workers served.
-#[derive(Clone, Copy, Debug, PartialEq, Eq)]
+#[derive(Clone, Copy, PartialEq, Eq)]
 pub struct Together {
     /// How often the first request of a queue went on from a point where that of the other hadn't come; `None` where
     /// not both came to each point.
