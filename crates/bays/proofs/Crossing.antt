@@ -15,7 +15,7 @@ use Rattle.ring_core.proofs.chain.Chain.TheSendSync as chain
 use Rattle.ring_core.proofs.chain.Spare.TheSendSync as spare
 use Rattle.std.proofs.Crossing.{crosses}
 use Rattle.std.proofs.option.Option.TheSendSync as option
-use Rattle.unit_history.proofs.kind.StepKind.TheSendSync as kind
+use Rattle.unit_steps.proofs.kind.StepKind.TheSendSync as kind
 use Rattle.replies.proofs.reply.Reply.TheSendSync as reply
 use Rattle.split_ring.specs.contracts.ring.SplitRing.{the_row as split_row}
 use Rattle.split_ring.specs.contracts.ring.SplitRing.TheInside as split
@@ -25,9 +25,10 @@ use Rattle.queues.specs.contracts.any_ring.AnyRing.{the_field as ring_field, the
 use Rattle.queues.specs.contracts.queue.Queue.{the_row as queue_row}
 use Rattle.queues.specs.contracts.queue.Queue.TheInside as queue
 use Rattle.arrayvec.proofs.array_vec.ArrayVec.TheSendSync as array_vec
-use Rattle.unit_history.specs.contracts.log.StepLog.{the_row as steps_row}
-use Rattle.unit_history.specs.contracts.log.StepLog.TheInside as steps
-use Rattle.unit_history.specs.contracts.lasts.Lasts.{the_field as lasts_field, the_type as lasts_type}
+use Rattle.unit_steps.specs.contracts.log.StepLog.{the_row as steps_row}
+use Rattle.unit_steps.specs.contracts.log.StepLog.TheInside as steps
+use Rattle.unit_steps.specs.contracts.lasts.Lasts.{the_row as lasts_row}
+use Rattle.unit_steps.specs.contracts.lasts.Lasts.TheInside as lasts
 use Rattle.unit_attention.proofs.attentions.Attentions.TheSendSync as attentions
 use Rattle.history.specs.contracts.reason.Reason.{the_row as reason_row}
 use Rattle.ring_core.specs.contracts.fault.RingFault.{the_row as fault_row}
@@ -91,8 +92,12 @@ steps_fields = recorded_send steps.the_field.row _ _ steps.the_type.to_one
 steps_sends : IsSend steps_row
 steps_sends = search (sendable, steps_fields)
 
-lasts_sends : IsSend lasts_field.row
-lasts_sends = struct_send (shape lasts_type) (search (crosses, option.the_send) depth 30, tt)
+lasts_fields : IsSend lasts.the_row
+lasts_fields = recorded_send lasts.the_field.row _ _ lasts.the_type.to_one
+    (struct_send (shape lasts.the_type) (search (crosses, option.the_send) depth 30, tt))
+
+lasts_sends : IsSend lasts_row
+lasts_sends = search (sendable, lasts_fields)
 
 unit_fields : IsSend unit.the_row
 unit_fields = recorded_send unit.the_field.row _ _ unit.the_type.to_one

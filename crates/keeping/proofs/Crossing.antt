@@ -3,7 +3,7 @@ use denote.Param.Send.{IsSend, struct_send}
 use denote.Struct.Declared.{shape}
 use Rattle.std.proofs.Crossing.{crosses}
 use Rattle.unit_history.proofs.answers.Receipt.TheSendSync as receipt
-use Rattle.unit_history.proofs.note.Note.TheSendSync as note
+use Rattle.notes.proofs.note.Note.TheSendSync as note
 use Rattle.keeping.specs.contracts.kept.Kept.{the_field, the_type}
 
 pub kept_sends : IsSend the_field.row

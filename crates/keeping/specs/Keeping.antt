@@ -3,8 +3,8 @@ use Rattle.std.specs.Prelude.{ℕ, ◌≡◌, ◌≢◌, ◌+◌, ◌<◌, nat_l
 use Rattle.std.specs.Option.{option_map}
 use Rattle.replies.specs.PlainReply.{PlainReply}
 use Rattle.history.specs.Receipts.{Receipt, latest_kept, longest_kept}
-use Rattle.unit_history.specs.declared.note.Given.{Given}
-use Rattle.unit_history.specs.declared.note.Given.TheVariants as given
+use Rattle.unit_history.specs.declared.given.Given.{Given}
+use Rattle.unit_history.specs.declared.given.Given.TheVariants as given
 use Rattle.keeping.specs.declared.kept.Kept.{Kept}
 
 -- own: the receipt of a Commit whose reply was let go

@@ -13,7 +13,8 @@ use Rattle.unit_history.specs.Endings.{ending_of}
 use Rattle.unit_history.specs.declared.answers.Outcome as answers
 use Rattle.deeds.specs.Parts.{Outcome, Hand, lengths_of}
 use Rattle.queues.specs.Queue.{Lent, completing}
-use Rattle.phases.specs.Answering.{Answers, told_writes}
+use Rattle.phases.specs.Answering.{Answers}
+use Rattle.queue_phases.specs.Direct.{told_writes}
 use Rattle.phases.specs.Outcomes.{WritesWhole, WritesEnding}
 use Rattle.phases.specs.Parts.{held_hand, job_held}
 

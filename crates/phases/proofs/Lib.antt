@@ -1,9 +1,4 @@
 pub mod Answered
-pub mod Buffers
 pub mod Commits
-pub mod Deciding
 pub mod Enters
-pub mod Reading
-pub mod Refusing
 pub mod AtOnce
-pub mod Taking

@@ -2,19 +2,16 @@
 use Rattle.std.specs.Prelude.{◌≡◌, Option, Some, None, ⊤}
 use Rattle.std.specs.Option.{option_map}
 use Rattle.ring_core.specs.declared.log.Ticket.{Ticket}
-use Rattle.history.specs.Endings.{Ending}
-use Rattle.deeds.specs.Parts.{Outcome, Slot}
 use Rattle.task_set.specs.Unit.{PlainUnit}
 use Rattle.unit_history.specs.Calls.{Commits}
 use Rattle.unit_history.specs.declared.answers.Outcome as answers
 use Rattle.unit_history.specs.declared.answers.Outcome.TheVariants as outcome
 use Rattle.phases.specs.declared.hand.Hand.{Hand}
 use Rattle.phases.specs.declared.hand.Hand.TheVariants as hand
-use Rattle.unit_history.specs.declared.note.Cause.{Cause}
-use Rattle.unit_history.specs.declared.note.Cause.TheVariants as cause
-use Rattle.unit_history.specs.declared.note.Given.{Given}
-use Rattle.unit_history.specs.declared.note.Given.TheVariants as given
-use Rattle.unit_history.specs.Notes.{PlainNote, note_of}
+use Rattle.notes.specs.declared.note.Cause.TheVariants as cause
+use Rattle.unit_history.specs.declared.given.Given.{Given}
+use Rattle.unit_history.specs.declared.given.Given.TheVariants as given
+use Rattle.notes.specs.Notes.{note_of}
 
 -- own: a job is given the receipt of its Commit; where it has none, a note of why
 abbrev pub given_for : Ticket → answers.Outcome → Given
@@ -22,19 +19,6 @@ given_for t (outcome.Reply receipt) = given.Receipt receipt
 given_for t (outcome.Aborted why) = given.Note (note_of t cause.Aborted)
 given_for t outcome.Busy = given.Note (note_of t cause.Busy)
 given_for t outcome.Unknown = given.Note (note_of t cause.Unknown)
-
--- own: why a chain that needs no commit has no receipt: it was refused at its unit, or needed none
-abbrev pub cause_for : Outcome → Cause
-cause_for (Outcome.Told bytes) = cause.Direct
-cause_for (Outcome.Ended Ending.Full) = cause.Full
-cause_for (Outcome.Ended Ending.Busy) = cause.Busy
-cause_for (Outcome.Ended e) = cause.Stale
-
--- own: what the chain in the slot leaves once it is answered
-abbrev pub note_in : Slot → Option PlainNote
-note_in Slot.Empty = None
-note_in (Slot.Arrived x) = None
-note_in (Slot.Ready c o) = Some (note_of c.ticket (cause_for o))
 
 -- own: what the job in the hand leaves once it is answered
 abbrev pub given_in : Hand → Option Given

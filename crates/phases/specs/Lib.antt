@@ -1,11 +1,8 @@
-pub mod Queue
 pub mod Giving
 pub mod Outcomes
 pub mod Parts
 pub mod Doing
-pub mod Fetching
 pub mod Units
 pub mod Answering
-pub mod EventQueue
 pub mod Resetting
 pub mod Serving

@@ -1,18 +1,11 @@
 -- What stands in a slot and in a hand, as plain values.
-use Rattle.std.specs.Prelude.{ℕ, Bool, true, false, Option, Some, None}
+use Rattle.std.specs.Prelude.{ℕ, Option, Some, None}
 use Rattle.task_set.specs.Jobs.{PlainJob}
 use Rattle.unit_history.specs.Endings.{ending_of}
 use Rattle.unit_history.specs.declared.answers.Outcome as answers
-use Rattle.deeds.specs.Parts.{Outcome, Slot, Hand}
-use Rattle.phases.specs.declared.slot.Slot as declared_slot
-use Rattle.phases.specs.declared.slot.Slot.TheVariants as slot
+use Rattle.deeds.specs.Parts.{Outcome, Hand}
 use Rattle.phases.specs.declared.hand.Hand as declared_hand
 use Rattle.phases.specs.declared.hand.Hand.TheVariants as hand
-
-abbrev pub slot_of : declared_slot.Slot → Slot
-slot_of slot.Empty = Slot.Empty
-slot_of (slot.Arrived x) = Slot.Arrived x
-slot_of (slot.Ready r) = Slot.Ready r.chain r.outcome
 
 -- a job is to be committed, or to be answered where its commit is over
 abbrev pub held_hand : PlainJob → Option answers.Outcome → Hand
@@ -23,18 +16,6 @@ abbrev pub hand_of : declared_hand.Hand → Hand
 hand_of hand.Free = Hand.Free
 hand_of (hand.Held h) = held_hand h.job h.outcome
 hand_of (hand.Answered place t) = Hand.Answered place t
-
--- the unit that a request came for
-abbrev pub arrived_unit : Slot → Option ℕ
-arrived_unit Slot.Empty = None
-arrived_unit (Slot.Arrived x) = Some x.unit
-arrived_unit (Slot.Ready c o) = None
-
--- a chain is to be answered
-abbrev pub is_ready : Slot → Bool
-is_ready Slot.Empty = false
-is_ready (Slot.Arrived x) = false
-is_ready (Slot.Ready c o) = true
 
 -- what came of the commit of the hand's job
 abbrev pub outcome_in : declared_hand.Hand → Option answers.Outcome

@@ -1,46 +1,12 @@
 -- What is done of a request at once: it is taken from its queue, comes to its unit, runs, is answered and leaves.
-use Rattle.std.specs.Prelude.{ℕ, ◌≡◌, Bool, true, false, List, [], ◌∷◌, Option, Some, None, Result, Ok, Err, length, ⊤}
-use Rattle.block_store.specs.declared.NoMemory.{NoMemory}
-use Rattle.scsi_codec.specs.declared.lun.Address.{Address}
+use Rattle.std.specs.Prelude.{ℕ, ◌≡◌, Bool, true, List, [], ◌∷◌, Option, Some, None}
 use Rattle.task_set.specs.Jobs.{PlainJob, Jobs}
 use Rattle.task_set.specs.Unit.{PlainUnit}
 use Rattle.deeds.specs.Parts.{Outcome, Slot, Hand}
 use Rattle.queues.specs.Queue.{Lent}
-use Rattle.phases.specs.Queue.{with_slot}
-use Rattle.phases.specs.Fetching.{Arrives, FetchesRequest}
-use Rattle.ring_core.specs.State.{PlainChain, Owns}
 use Rattle.phases.specs.Doing.{with_more}
 use Rattle.phases.specs.Units.{EntersAs, Commits, Leaves}
 use Rattle.phases.specs.Answering.{Answers}
-use Rattle.phases.specs.declared.serving.Taken.{Taken}
-use Rattle.phases.specs.declared.serving.Taken.TheVariants as taken
-
--- a request that arrives is in hand, and would stand in the slot; a direct answer stands there
-abbrev pub Decides : List Address → PlainChain → List ℕ → Slot → Option PlainJob → Slot → Type 0
-Decides inventory c bytes s (Some x) s' = Arrives inventory c bytes (Slot.Arrived x) × (s' ≡ s)
-Decides inventory c bytes s None s' = Arrives inventory c bytes s'
-
--- so, as it was taken
-abbrev pub IsTakenAs : List Address → PlainChain → List ℕ → Slot → Taken → Slot → Type 0
-IsTakenAs inventory c bytes s taken.Nothing s' = ⊥
-IsTakenAs inventory c bytes s taken.Other s' = Decides inventory c bytes s None s'
-IsTakenAs inventory c bytes s (taken.Arrived x) s' = Decides inventory c bytes s (Some x) s'
-
--- the queue is fetched from; a request that arrived is in hand, and would stand in the slot
-abbrev pub TakesRequest : List Address → List ℕ → Slot → Lent → Result Taken NoMemory → Slot → Lent → Type 0
-TakesRequest inventory m s q (Ok taken.Nothing) s' q' =
-    FetchesRequest inventory m (with_slot s q) (Ok false) (with_slot s' q')
-TakesRequest inventory m s q (Ok taken.Other) s' q' =
-    FetchesRequest inventory m (with_slot s q) (Ok true) (with_slot s' q')
-TakesRequest inventory m s q (Ok (taken.Arrived x)) s' q' =
-    FetchesRequest inventory m (with_slot s q) (Ok true) (with_slot (Slot.Arrived x) q') × (s' ≡ s)
-TakesRequest inventory m s q (Err e) s' q' =
-    FetchesRequest inventory m (with_slot s q) (Err e) (with_slot s' q')
-
--- the chain of a request that arrived is outstanding at the queue, whose memory this is
-abbrev pub IsOutstanding : List ℕ → Result Taken NoMemory → Lent → Type 0
-IsOutstanding m (Ok (taken.Arrived x)) q' = (length m ≡ q'.ring.memory) × Owns q'.ring x.chain
-IsOutstanding m r q' = ⊤
 
 -- the task enters, and nothing blocks it; it is committed, answered, and leaves, or isn't known there any more
 pub record ServesAtOnce (x : PlainJob) (u : PlainUnit) (q : Lent) (m : List ℕ) (out : Jobs) (left : Bool)

@@ -1,14 +1,12 @@
 //! The step in which a request comes to its unit.
 
 ghost use Rattle.deeds.specs.Parts as plain;
-ghost use Rattle.phases.specs.Parts.{slot_of};
+ghost use Rattle.queue_phases.specs.Slots.{slot_of};
 ghost use Rattle.phases.specs.Units.{Enters, EntersAs};
 ghost use Rattle.phases.specs.Doing.{HasPlaces};
 ghost use Rattle.std.specs.Prelude.{IsTrue, ◌↔◌, ◌≡◌};
 
-use crate::ready::Ready;
-use crate::refusal::Refusal;
-use crate::slot::Slot;
+use queue_phases::{Ready, Refusal, Slot};
 use std::mem;
 use task_set::MOST_TASKS;
 use unit_history::{Arrival, Entered, JobList, UnitState};

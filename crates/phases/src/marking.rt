@@ -5,8 +5,8 @@ ghost use Rattle.task_mgmt.specs.Functions.{IsKnownStrike};
 ghost use Rattle.phases.specs.Units.{Marks, Strikes, Checks};
 
 use crate::entering::has_places;
-use crate::function::OpenFunction;
 use block_store::NoMemory;
+use queue_phases::OpenFunction;
 use task_mgmt::{Kind, Strike};
 use unit_history::{JobList, Place, UnitState};
 

@@ -1,95 +1,26 @@
 //! A request served at once: what the phases do of it one after another, with nothing put down between them.
 
-ghost use Rattle.std.specs.Prelude.{◌≡◌, ◌+◌, ◌≤◌, ◌^◌, length, min, true, is_some, IfOk, IfErr, OnOk, OnErr};
-ghost use Rattle.ring_core.specs.Parts.{readable_total};
+ghost use Rattle.std.specs.Prelude.{◌≡◌, ◌≤◌, length, true, IfOk, IfErr, OnOk, OnErr};
 ghost use Rattle.ring_core.specs.State.{Owns};
 ghost use Rattle.deeds.specs.Parts as plain;
-ghost use Rattle.queues.specs.Queue.{completing};
-ghost use Rattle.phases.specs.Queue.{with_slot};
 ghost use Rattle.phases.specs.Doing.{HasPlaces};
-ghost use Rattle.phases.specs.Parts.{slot_of};
+ghost use Rattle.queue_phases.specs.Slots.{slot_of};
 ghost use Rattle.phases.specs.Units.{Leaves};
 ghost use Rattle.phases.specs.Answering.{Answers};
 ghost use Rattle.phases.specs.Outcomes.{WritesWhole};
-ghost use Rattle.phases.specs.Serving.{IsTakenAs, TakesRequest, IsOutstanding, Serves, ServesAtOnce};
+ghost use Rattle.phases.specs.Serving.{Serves, ServesAtOnce};
 ghost use Rattle.unit_history.specs.Endings.{ending_of, ending_of_run, FitsNeed};
 ghost use Rattle.cdb.specs.Need.{need_of};
 ghost use Rattle.task_set.specs.Jobs.{Jobs};
 
 use crate::answer::{write_outcome, write_run};
-use crate::fetching::lengths_of_chain;
-use crate::ready::Ready;
-use crate::refusal::Refusal;
-use crate::slot::Slot;
 use block_store::NoMemory;
-use decisions::{Decision, Inventory, decide};
 use guest_mem::GuestMem;
-use queues::{Fetch, Queue};
+use queue_phases::{Ready, Refusal, Slot};
+use queues::Queue;
 use replies::Reply;
-use ring_core::{Answered, Fetched};
+use ring_core::Answered;
 use unit_history::{Answering, Arrival, Entered, Job, JobList, Outcome, UnitState, Unknown};
-
-/// What was taken from a request queue.
-#[derive(Drop)]
-pub enum Taken {
-    /// Nothing.
-    Nothing,
-    /// A chain whose answer stands in the slot now, or the first fault.
-    Other,
-    /// A request.
-    Arrived(Arrival),
-}
-
-/// What is decided of a chain that was taken: the request, unless its answer stands in the slot.
-#[inline(always)]
-fn decided(inventory: &Inventory, fetched: Fetched, slot: &mut Slot) -> Taken
-    requires { length fetched.bytes.items ≡ min 1048627 (readable_total fetched.chain.parts) }
-    ensures { IsTakenAs inventory.now fetched.chain fetched.bytes.items (slot_of slot.old) result (slot_of slot.new) }
-{
-    let Fetched {
-        mut chain,
-        mut bytes,
-    } = fetched;
-    let lengths = lengths_of_chain(&chain);
-    match decide(inventory, &mut bytes, &lengths) {
-        Decision::Direct(answer) => {
-            chain.keep_room(bytes);
-            *slot = Slot::Ready(Ready::told(chain, answer));
-            Taken::Other
-        }
-        Decision::Enter(unit, request) => {
-            chain.keep_room(bytes);
-            Taken::Arrived(Arrival::new(unit, chain, request))
-        }
-    }
-}
-
-/// Takes the next chain of a request queue as [`phase_fetch`](crate::phase_fetch) does, but for a request that arrives:
-/// that one is given to whoever calls, who puts it into the slot or serves it. Its chain is outstanding at the queue.
-#[inline(always)]
-pub fn take_request(
-    queue: &mut Queue,
-    slot: &mut Slot,
-    memory: &GuestMem,
-    inventory: &Inventory,
-) -> Result<Taken, NoMemory>
-    ensures takes { TakesRequest inventory.now memory.now (slot_of slot.old) queue.old
-        result (slot_of slot.new) queue.new }
-    ensures owned { IsOutstanding memory.now result queue.new }
-{
-    if queue.number() < 2 || !slot.is_empty() || !queue.fits(memory) {
-        return Ok(Taken::Nothing);
-    }
-    match queue.fetch(memory) {
-        Err(NoMemory) => Err(NoMemory),
-        Ok(Fetch::Idle) => Ok(Taken::Nothing),
-        Ok(Fetch::Broke) => Ok(Taken::Other),
-        Ok(Fetch::Got(fetched)) => {
-            let _parts = fetched.chain.parts();
-            Ok(decided(inventory, fetched, slot))
-        }
-    }
-}
 
 /// Writes what answers a job over the writable parts of its chain, by what came of its commit.
 #[inline(always)]

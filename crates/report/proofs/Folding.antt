@@ -7,7 +7,7 @@ use Rattle.std.specs.Option.{option_map}
 use Rattle.ring_core.specs.declared.log.Ticket.{Ticket}
 use Rattle.history.specs.Steps.{Step}
 use Rattle.history.specs.Receipts.{step_at}
-use Rattle.unit_history.specs.Kept.{kind_of}
+use Rattle.unit_steps.specs.Kept.{kind_of}
 use Rattle.report.specs.declared.tally.Tally.{Tally}
 use Rattle.report.specs.Tallies.{fact_of_one, tells, read}
 

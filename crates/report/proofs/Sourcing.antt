@@ -14,7 +14,7 @@ use Rattle.history.specs.Receipts.{Receipt}
 use Rattle.history.proofs.Tickets.{same-true, itself}
 use Rattle.task_set.specs.Unit.{PlainUnit}
 use Rattle.queues.specs.Queue.{Lent}
-use Rattle.unit_history.specs.Notes.{PlainNote}
+use Rattle.notes.specs.Notes.{PlainNote}
 use Rattle.report.specs.declared.tally.Tally.{Tally}
 use Rattle.report.specs.Settled.{is_asked, is_used, uses, is_request, is_settled, count_accepted}
 use Rattle.report.specs.Closed.{IsFirst, is_outstanding}

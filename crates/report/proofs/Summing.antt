@@ -11,9 +11,9 @@ use Rattle.history.specs.Receipts.{Receipt}
 use Rattle.history.proofs.Tickets.{itself}
 use Rattle.task_set.specs.Unit.{PlainUnit}
 use Rattle.queues.specs.Queue.{Lent}
-use Rattle.unit_history.specs.Notes.{PlainNote}
-use Rattle.unit_history.specs.declared.note.Cause.{Cause}
-use Rattle.unit_history.specs.declared.note.Cause.TheVariants as cause
+use Rattle.notes.specs.Notes.{PlainNote}
+use Rattle.notes.specs.declared.note.Cause.{Cause}
+use Rattle.notes.specs.declared.note.Cause.TheVariants as cause
 use Rattle.report.specs.Settled.{answers, is_asked, is_used, is_request, is_settled, has_answer, where_entered, is_of, is_founded, is_right, are_right}
 use Rattle.report.specs.Closed.{IsReport, AreConfirmed, is_outstanding}
 use Rattle.report.specs.Unconfirmed.{AllStand, AllSound}

@@ -11,9 +11,9 @@ use Rattle.history.specs.Lawful.{IsLawful}
 use Rattle.history.specs.Receipts.{Receipt}
 use Rattle.history.proofs.Marking.{left_marked, marked_undone}
 use Rattle.task_set.specs.Unit.{PlainUnit}
-use Rattle.unit_history.specs.Notes.{PlainNote}
-use Rattle.unit_history.specs.declared.note.Cause.{Cause}
-use Rattle.unit_history.specs.declared.note.Cause.TheVariants as cause
+use Rattle.notes.specs.Notes.{PlainNote}
+use Rattle.notes.specs.declared.note.Cause.{Cause}
+use Rattle.notes.specs.declared.note.Cause.TheVariants as cause
 use Rattle.report.specs.declared.tally.Answer.{Answer}
 use Rattle.report.specs.declared.tally.Answer.TheVariants as answer
 use Rattle.report.specs.declared.tally.Tally.{Tally}

@@ -7,8 +7,8 @@ use Rattle.history.specs.Steps.{has_entered, has_left}
 use Rattle.history.specs.Receipts.{Receipt, IsConfirmed}
 use Rattle.task_set.specs.Unit.{PlainUnit, IsUnit}
 use Rattle.queues.specs.Queue.{Lent}
-use Rattle.unit_history.specs.Notes.{PlainNote}
-use Rattle.unit_history.specs.declared.note.Cause.TheVariants as cause
+use Rattle.notes.specs.Notes.{PlainNote}
+use Rattle.notes.specs.declared.note.Cause.TheVariants as cause
 use Rattle.report.specs.declared.report.Report.{Report}
 use Rattle.report.specs.declared.fault.CloseFault.{CloseFault}
 use Rattle.report.specs.declared.fault.CloseFault.TheVariants as fault

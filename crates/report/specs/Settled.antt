@@ -8,9 +8,9 @@ use Rattle.history.specs.Marks.{marked}
 use Rattle.history.specs.Receipts.{Receipt}
 use Rattle.task_set.specs.Unit.{PlainUnit}
 use Rattle.queues.specs.Queue.{Lent}
-use Rattle.unit_history.specs.Notes.{PlainNote}
-use Rattle.unit_history.specs.declared.note.Cause.{Cause}
-use Rattle.unit_history.specs.declared.note.Cause.TheVariants as cause
+use Rattle.notes.specs.Notes.{PlainNote}
+use Rattle.notes.specs.declared.note.Cause.{Cause}
+use Rattle.notes.specs.declared.note.Cause.TheVariants as cause
 use Rattle.report.specs.Words.{has_busy, has_full}
 
 -- how many chains a queue accepted, if there is one

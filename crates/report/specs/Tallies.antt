@@ -7,13 +7,13 @@ use Rattle.history.specs.Tasks.{same_ticket}
 use Rattle.history.specs.Steps.{Step}
 use Rattle.history.specs.Receipts.{Receipt}
 use Rattle.task_set.specs.Unit.{PlainUnit}
-use Rattle.unit_history.specs.Kept.{kind_of}
-use Rattle.unit_history.specs.declared.kind.StepKind.{StepKind}
-use Rattle.unit_history.specs.declared.kind.StepKind.TheVariants as kind
+use Rattle.unit_steps.specs.Kept.{kind_of}
+use Rattle.unit_steps.specs.declared.kind.StepKind.{StepKind}
+use Rattle.unit_steps.specs.declared.kind.StepKind.TheVariants as kind
 use Rattle.queues.specs.Queue.{Lent}
-use Rattle.unit_history.specs.Notes.{PlainNote}
-use Rattle.unit_history.specs.declared.note.Cause.{Cause}
-use Rattle.unit_history.specs.declared.note.Cause.TheVariants as cause
+use Rattle.notes.specs.Notes.{PlainNote}
+use Rattle.notes.specs.declared.note.Cause.{Cause}
+use Rattle.notes.specs.declared.note.Cause.TheVariants as cause
 use Rattle.report.specs.Words.{is_before}
 use Rattle.report.specs.Settled.{is_request}
 use Rattle.report.specs.declared.tally.Answer.{Answer}

@@ -1,12 +1,13 @@
 //! What serves a small device, through what one thread lends of it.
 
 use crate::parts::{Parts, put, used};
-use bays::{
-    Bays, Open, Plain, answer_on, answer_tmf_on, check_on, commit_on, direct_on, enter_on,
-    fetch_control_on, fetch_event_on, fetch_on, hard_on, leave_on, mark_on, raise_on,
-};
+use bays::{Bays, Open, Plain};
 use decisions::Inventory;
 use event_queue::{EventPort, WaitingEvents};
+use lent_phases::{
+    answer_on, answer_tmf_on, check_on, commit_on, direct_on, enter_on, fetch_control_on,
+    fetch_event_on, fetch_on, hard_on, leave_on, mark_on, raise_on,
+};
 use phases::{Hand, OpenFunction, Slot};
 use std::alloc::Global;
 use unit_history::{Cause, Given, Job, JobList, Note};

@@ -23,11 +23,12 @@ use Rattle.task_set.proofs.Entering.{blocked_last}
 use Rattle.unit_history.specs.Calls.{Enters}
 use Rattle.unit_history.specs.Endings.{ending_of, ending_of_run}
 use Rattle.unit_history.specs.Parts.{AreKept}
-use Rattle.unit_history.specs.Performing.{Performs, step_for, outcome_for, unkept}
+use Rattle.unit_steps.specs.Performing.{Performs, step_for, unkept}
+use Rattle.unit_history.specs.Outcomes.{outcome_for}
 use Rattle.unit_history.specs.Serving.{ServesAlone}
 use Rattle.task_set.specs.Unit.{Steps}
 use Rattle.unit_history.specs.declared.answers.Entered.TheVariants as entered
-use Rattle.unit_history.specs.declared.perform.Performed.{Performed}
+use Rattle.unit_steps.specs.declared.performing.Performed.{Performed}
 use Rattle.unit_history.proofs.Committing.{is_of, keep_run, commits_run}
 use Rattle.unit_history.proofs.Entering.{enters_task}
 use Rattle.unit_history.proofs.Keeping.{CameTo, is_ready, may_leave, keep_enter, keep_leave}

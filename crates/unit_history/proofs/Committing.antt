@@ -18,11 +18,12 @@ use Rattle.history.specs.Receipts.{unit_address, receipt_of}
 use Rattle.task_set.specs.Jobs.{PlainJob}
 use Rattle.task_set.specs.Tasks.{PlainTask, parked_of, moved, task_at}
 use Rattle.task_set.specs.Asking.{IsOf, asked_of, CannotCommit}
-use Rattle.unit_history.specs.Calls.{Commits, may_run_short}
+use Rattle.unit_history.specs.Calls.{Commits}
 use Rattle.unit_history.specs.Parts.{AreKept}
-use Rattle.unit_history.specs.Performing.{Performs, step_for, outcome_for}
+use Rattle.unit_steps.specs.Performing.{may_run_short, Performs, step_for}
+use Rattle.unit_history.specs.Outcomes.{outcome_for}
 use Rattle.unit_history.specs.Turns.{Turns}
-use Rattle.unit_history.specs.declared.perform.Performed.{Performed}
+use Rattle.unit_steps.specs.declared.performing.Performed.{Performed}
 use Rattle.unit_history.specs.declared.turn.Turn.TheVariants as turn
 use Rattle.unit_history.proofs.Entering.{same_unit}
 use Rattle.unit_history.proofs.Keeping.{task_at_alive, task_at_none, ticket_at, replies_after, may_commit, may_busy, keep_commit, keep_busy}

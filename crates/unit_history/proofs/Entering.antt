@@ -9,7 +9,7 @@ use Rattle.history.specs.Contents.{Opening}
 use Rattle.task_set.specs.Jobs.{PlainJob}
 use Rattle.task_set.specs.Tasks.{PlainTask, parked_of, entering, run_at_once}
 use Rattle.unit_history.specs.Calls.{Enters, entered_of}
-use Rattle.unit_history.specs.Lasts.{floor_kept}
+use Rattle.unit_steps.specs.Lasts.{floor_kept}
 use Rattle.unit_history.specs.Parts.{AreKept}
 use Rattle.task_set.specs.Unit.{PlainUnit}
 use Rattle.unit_history.specs.declared.answers.Entered.TheVariants as entered

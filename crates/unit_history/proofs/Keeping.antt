@@ -33,9 +33,9 @@ use Rattle.history.proofs.Keeping.{tasks_enter, tasks_full, tasks_commit, tasks_
 use Rattle.history.proofs.Owing.{owed_some, alive_owed, commit_owed, busy_owed, leave_owed}
 use Rattle.task_set.specs.Jobs.{PlainJob}
 use Rattle.task_set.specs.Tasks.{PlainTask, seen_of, entries_of, moved, without, task_at, entering}
-use Rattle.unit_history.specs.Lasts.{floor_kept}
+use Rattle.unit_steps.specs.Lasts.{floor_kept}
 use Rattle.unit_history.specs.Parts.{AreKept}
-use Rattle.unit_history.specs.Performing.{taken, told}
+use Rattle.unit_steps.specs.Performing.{taken, told}
 use Rattle.unit_history.proofs.KeepingSet.{entries_seen, length_seen, seen_task, seen_without, seen_moved, seen_push, finished_waits, struck_waits, freed_waits, fit_moved, fit_without, fit_entering}
 
 pub keep_new : (o : Opening) (block_at : Blocks) (pending : List Code) (lasts : List (Option ℕ)) (room : ℕ)

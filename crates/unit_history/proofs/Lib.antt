@@ -1,6 +1,3 @@
-pub mod Places
-pub mod Latest
-pub mod Confirming
 pub mod KeepingSet
 pub mod Keeping
 pub mod Fitting

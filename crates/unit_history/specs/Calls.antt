@@ -1,10 +1,6 @@
 -- What the calls of a unit answer, by cases.
-use Rattle.std.specs.Prelude.{◌≡◌, ◌<◌, ◌≤◌, nat_lt, Bool, true, false, ◌||◌, ◌&&◌, List, ◌∷◌, Option, Some, None, IsTrue, ⊤}
+use Rattle.std.specs.Prelude.{◌≡◌, ◌<◌, ◌≤◌, true, false, ◌||◌, List, ◌∷◌, Option, Some, None, IsTrue, ⊤}
 use Rattle.ring_core.specs.declared.log.Ticket.{Ticket}
-use Rattle.cdb.specs.declared.commands.Command.{Command}
-use Rattle.cdb.specs.Need.{need_of}
-use Rattle.command_set.specs.Facts.{Facts}
-use Rattle.block_commands.specs.Memory.{may_want}
 use Rattle.history.specs.Tasks.{Entry, task_of, is_blocked}
 use Rattle.history.specs.Steps.{Step, alive, done, floor}
 use Rattle.history.specs.Marks.{mark_of, marked}
@@ -14,6 +10,7 @@ use Rattle.history.specs.Receipts.{receipt_of}
 use Rattle.task_set.specs.Jobs.{PlainJob}
 use Rattle.task_set.specs.Unit.{PlainUnit, parking, Steps}
 use Rattle.task_set.specs.Asking.{IsOf, CannotCommit}
+use Rattle.unit_steps.specs.Performing.{may_run_short}
 use Rattle.unit_history.specs.declared.answers.Entered.{Entered}
 use Rattle.unit_history.specs.declared.answers.Entered.TheVariants as entered
 use Rattle.unit_history.specs.declared.answers.Outcome.{Outcome}
@@ -39,10 +36,6 @@ Enters old j (entered.Busy job) new = (job ≡ j) × (floor j.entry.ticket.queue
     × (new ≡ old)
 Enters old j (entered.Stale job) new = (job ≡ j) × (j.entry.ticket.number < floor j.entry.ticket.queue old.steps)
     × (new ≡ old)
-
--- own: whether a command may be refused memory: its own, or that of the reply that is kept
-abbrev pub may_run_short : Bool → Facts → Command → Bool
-may_run_short keeps facts command = may_want facts command || (keeps && nat_lt 0 (need_of command).into)
 
 -- the command runs whole and its receipt has the reply; its task was marked, and nothing changes; it is refused memory,
 -- and only a Busy stands for it; or no task of the job can take the step

@@ -26,4 +26,4 @@ plain_unit u =
     }
 
 abbrev pub IsTold : Inside → Type 0
-IsTold u = AreKept (opening_of u) u.log.steps (nth_block u.store) u.attentions u.tasks u.lasts.numbers.items u.log.room
+IsTold u = AreKept (opening_of u) u.log.steps (nth_block u.store) u.attentions u.tasks u.lasts u.log.room

@@ -1,11 +1,7 @@
-pub mod Kept
-pub mod Noted
-pub mod Notes
-pub mod Lasts
 pub mod Calls
 pub mod Parts
 pub mod Turns
-pub mod Performing
+pub mod Outcomes
 pub mod Endings
 pub mod Serving
 pub mod Fields

@@ -9,7 +9,7 @@ use Rattle.history.specs.Contents.{Opening, blocks_of, pending_of}
 use Rattle.history.specs.Lawful.{IsLawful}
 use Rattle.task_set.specs.Jobs.{PlainJob}
 use Rattle.task_set.specs.Tasks.{PlainTask, seen_of}
-use Rattle.unit_history.specs.Lasts.{floor_kept}
+use Rattle.unit_steps.specs.Lasts.{floor_kept}
 
 -- a task has its job as long as it waits, and no other
 abbrev pub AreFit : List PlainTask → Type 0

@@ -3,20 +3,15 @@
 
 mod answering;
 mod answers;
-mod kind;
-mod lasts;
-mod log;
-mod note;
-mod noted;
-mod perform;
+mod given;
 mod serving;
 mod turn;
 mod unit;
 
 pub use answering::Answering;
 pub use answers::{Entered, Outcome, Receipt, Unknown};
-pub use kind::StepKind;
-pub use log::{LATEST_KEPT, LONGEST_KEPT};
-pub use note::{Cause, Given, Note};
+pub use given::Given;
+pub use notes::{Cause, Note};
 pub use task_set::{Arrival, Job, JobList};
 pub use unit::{Place, UnitState};
+pub use unit_steps::{LATEST_KEPT, LONGEST_KEPT, StepKind};

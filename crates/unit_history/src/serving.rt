@@ -1,49 +1,16 @@
 //! A request that is served to its end in one call, where no other task is alive.
 
-ghost use Rattle.std.specs.Prelude.{◌≡◌, ◌+◌, ◌<◌, ◌≤◌, ◌∷◌, false, length, IfOk, IfErr, OnOk, OnErr};
-ghost use Rattle.block_commands.specs.Told.{facts_of};
-ghost use Rattle.cdb.specs.Need.{need_of};
-ghost use Rattle.unit_history.specs.Performing.{Performs, step_for, told, unkept};
+ghost use Rattle.std.specs.Prelude.{◌≡◌, ◌+◌, ◌<◌, ◌≤◌, ◌∷◌, false, IfErr, OnOk, OnErr};
+ghost use Rattle.unit_steps.specs.Performing.{step_for, unkept};
 ghost use Rattle.unit_history.specs.Serving.{ServesAlone};
 
 use crate::answering::Answering;
-use crate::log::StepLog;
-use crate::noted::{NotedEntry, NotedReply, NotedStep};
-use crate::perform::{clear_oldest, tell_oldest};
-use crate::unit::{STEPS_AHEAD, UnitState};
-use block_commands::{UnitFacts, exec};
-use block_store::{NoMemory, Store};
-use cdb::Command;
+use crate::unit::{STEPS_AHEAD, UnitState, noted_entry};
+use block_store::NoMemory;
 use replies::Reply;
 use ring_core::Ticket;
-use std::alloc::Global;
 use task_set::Arrival;
-use unit_attention::Attentions;
-
-/// Runs a command on the blocks of its unit, with what is pending; its reply is kept nowhere.
-#[inline(always)]
-fn run<S: Store>(
-    alloc: Global,
-    room: &mut Vec<u8>,
-    facts: &mut UnitFacts,
-    attentions: &mut Attentions,
-    store: &mut S,
-    command: &Command,
-    bytes: &[u8],
-) -> Result<Reply, NoMemory>
-    requires data { length bytes.now ≡ (need_of command.now).out }
-    ensures performed { Performs false (facts_of (told facts.old attentions.old) (S.size store.old))
-        command.now bytes.now (unkept result)
-        (S.block_at store.old) (S.block_at store.new) attentions.old attentions.new }
-    ensures facts { facts.new ≡ told facts.old attentions.old }
-    ensures size { S.size store.new ≡ S.size store.old }
-    ensures fits { IfOk result (λ r. length r.payload.items ≤ (need_of command.now).into) }
-{
-    tell_oldest(facts, attentions);
-    let reply = exec(alloc, room, store, command, bytes, facts)?;
-    clear_oldest(attentions, command);
-    Ok(reply)
-}
+use unit_steps::{NotedReply, NotedStep, StepLog, run};
 
 /// Records what came of a command.
 #[inline(always)]
@@ -93,8 +60,7 @@ impl UnitState {
             return Err(arrival);
         };
         self.lasts.came(ticket);
-        self.log
-            .push(NotedStep::Enter(NotedEntry::of(&arrival)), None);
+        self.log.push(NotedStep::Enter(noted_entry(&arrival)), None);
         let ran = run(
             self.alloc,
             &mut self.room,

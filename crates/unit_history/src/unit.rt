@@ -5,14 +5,10 @@ ghost use Rattle.cdb.specs.Need.{need_of};
 ghost use Rattle.unit_history.specs.Endings.{FitsNeed};
 ghost use Rattle.history.specs.Seen.{finished};
 ghost use Rattle.task_set.specs.Tasks.{moved};
-ghost use Rattle.unit_history.specs.Performing.{IsKeptReply, step_for, outcome_for};
+ghost use Rattle.unit_steps.specs.Performing.{IsKeptReply, step_for};
+ghost use Rattle.unit_history.specs.Outcomes.{outcome_for};
 
 use crate::answers::{Entered, Outcome, Receipt, Unknown};
-use crate::kind::StepKind;
-use crate::lasts::Lasts;
-use crate::log::StepLog;
-use crate::noted::{NotedEntry, NotedReply, NotedStep};
-use crate::perform::{Performed, attentions_at_start, perform};
 use crate::turn::{Turn, is_ended, turn_of};
 use block_commands::UnitFacts;
 use block_store::{FlatStore, NoMemory, Store};
@@ -25,6 +21,10 @@ use std::alloc::Global;
 use std::marker::Model;
 use task_set::{Arrival, Full, Job, JobList, TaskSet};
 use unit_attention::{Attentions, Code};
+use unit_steps::{
+    Lasts, NotedEntry, NotedReply, NotedStep, Performed, StepKind, StepLog, attentions_at_start,
+    perform,
+};
 
 /// How many steps stand before a step of a unit's history.
 pub type Place = u64;
@@ -62,6 +62,14 @@ impl Model for UnitState {
     ghost view = { plain_unit };
 
     ghost invariant = { IsTold };
+}
+
+/// The task that an arrival becomes, as the log sees it.
+#[inline(always)]
+pub(crate) fn noted_entry(arrival: &Arrival) -> NotedEntry
+    ensures { result ≡ arrival.now.entry }
+{
+    NotedEntry::new(arrival.ticket(), arrival.request())
 }
 
 /// Records what became of a command that was to run.
@@ -107,10 +115,8 @@ impl UnitState {
     ghost use Rattle.history.specs.Clearing.{is_clear};
     ghost use Rattle.history.specs.Contents.{blocks_of, capacity_of};
     ghost use Rattle.history.specs.Receipts.{step_at, IsConfirmed};
-    ghost use Rattle.history.specs.Released.{released};
-    ghost use Rattle.task_set.specs.Jobs.{of_tasks};
-    ghost use Rattle.unit_history.specs.Kept.{kind_of};
-    ghost use Rattle.task_set.specs.Unit.{opening_unit, handing, tasks_of_jobs, Steps, IsUnit};
+    ghost use Rattle.unit_steps.specs.Kept.{kind_of};
+    ghost use Rattle.task_set.specs.Unit.{opening_unit, handing, Steps, IsUnit};
     ghost use Rattle.unit_history.specs.Calls.{Enters, Commits, CannotLeave};
 
     /// A unit as it is specified, with the LUNs of its target by rising number, of which no step was taken. Whoever
@@ -175,7 +181,7 @@ impl UnitState {
             return Entered::Busy(arrival.into_job());
         };
         let place = self.log.len();
-        let entered = NotedEntry::of(&arrival);
+        let entered = noted_entry(&arrival);
         self.lasts.came(ticket);
         match self.tasks.enter(arrival, place) {
             Err(Full(job)) => {
@@ -208,6 +214,8 @@ impl UnitState {
                     target: self.facts.target,
                     lun: self.facts.lun,
                 };
+                let command = task.command();
+                let bytes = task.data();
                 if self.log.keeps_replies() {
                     let performed = perform(
                         self.alloc,
@@ -215,7 +223,8 @@ impl UnitState {
                         &mut self.facts,
                         &mut self.attentions,
                         &mut self.store,
-                        task,
+                        &command,
+                        bytes,
                         true,
                     );
                     record_run(&mut self.log, &mut self.tasks, unit, ticket, performed)
@@ -226,7 +235,8 @@ impl UnitState {
                         &mut self.facts,
                         &mut self.attentions,
                         &mut self.store,
-                        task,
+                        &command,
+                        bytes,
                         false,
                     );
                     record_run(&mut self.log, &mut self.tasks, unit, ticket, performed)

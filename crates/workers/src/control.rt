@@ -4,11 +4,11 @@ ghost use Rattle.std.specs.Prelude.{◌≡◌};
 
 use crate::post::Post;
 use crate::shared::Shared;
-use bays::{
-    Gate, answer_tmf_on, check_on, direct_on, fetch_control_on, fetch_event_on, hold, mark_on,
-    raise_on,
-};
+use bays::{Gate, hold};
 use event_queue::WaitingEvents;
+use lent_phases::{
+    answer_tmf_on, check_on, direct_on, fetch_control_on, fetch_event_on, mark_on, raise_on,
+};
 use phases::{OpenFunction, Slot};
 use std::sync::Wait;
 

@@ -6,10 +6,11 @@ ghost use Rattle.std.specs.Bool.{OnTrue};
 ghost use Rattle.keeping.specs.Rooms.{HasRoomForOne};
 
 use crate::shared::Shared;
-use bays::{Gate, Point, answer_on, commit_on, leave_on};
+use bays::{Gate, Point};
 use crew::Begins;
 use handoff::Seat;
 use keeping::Kept;
+use lent_phases::{answer_on, commit_on, leave_on};
 use phases::Hand;
 use ring_core::Ticket;
 use std::alloc::{AllocError, Global};

@@ -6,7 +6,8 @@ ghost use Rattle.keeping.specs.Rooms.{HasRoomForOne};
 
 use crate::post::{Post, clear, commit, is_long, serve_hand, take_own};
 use crate::shared::Shared;
-use bays::{Gate, Point, direct_on, enter_on, fetch_on};
+use bays::{Gate, Point};
+use lent_phases::{direct_on, enter_on, fetch_on};
 use phases::Slot;
 use ring_core::Ticket;
 use std::sync::Wait;

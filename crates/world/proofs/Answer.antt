@@ -15,9 +15,10 @@ use Rattle.deeds.proofs.Lists.{same, nothing}
 use Rattle.deeds.proofs.Joining.{joins}
 use Rattle.phases.specs.Parts.{answering_queue}
 use Rattle.queues.specs.Queue.{Lent}
-use Rattle.phases.specs.Queue.{with_slot}
-use Rattle.phases.specs.Doing.{AtQueue}
-use Rattle.phases.specs.Answering.{told_writes, Answers, LetsGo}
+use Rattle.queue_phases.specs.Queue.{with_slot}
+use Rattle.queue_phases.specs.Doing.{AtQueue}
+use Rattle.queue_phases.specs.Direct.{told_writes, LetsGo}
+use Rattle.phases.specs.Answering.{Answers}
 use Rattle.world.specs.Kept.{KeptSeat, seat_of}
 use Rattle.world.specs.Sound.{IsSound}
 use Rattle.world.proofs.Setting.{set_change}

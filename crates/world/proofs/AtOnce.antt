@@ -15,9 +15,9 @@ use Rattle.deeds.specs.Turns.{Turns}
 use Rattle.deeds.proofs.Lists.{same}
 use Rattle.settling.specs.Order.{of_seat}
 use Rattle.queues.specs.Queue.{Lent}
-use Rattle.phases.specs.Queue.{with_slot}
+use Rattle.queue_phases.specs.Queue.{with_slot}
 use Rattle.phases.specs.Doing.{with_more}
-use Rattle.phases.specs.Fetching.{FetchesRequest}
+use Rattle.queue_phases.specs.Fetching.{FetchesRequest}
 use Rattle.phases.specs.Units as phases
 use Rattle.phases.specs.Serving.{ServesAtOnce, OnlyEnters, Serves}
 use Rattle.world.specs.Kept.{KeptSeat, seat_of}

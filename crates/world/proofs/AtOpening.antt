@@ -17,7 +17,7 @@ use Rattle.deeds.specs.Parts.{Slot}
 use Rattle.deeds.specs.World.{PlainQueue, PlainWorld, Seat, Everywhere, IsNewQueue, IsNewUnit, IsNewSeat, Opens}
 use Rattle.deeds.proofs.Lists.{nothing, same}
 use Rattle.queues.specs.Queue.{opening_ring, opening_queue, placement_of}
-use Rattle.phases.specs.Queue.{with_slot}
+use Rattle.queue_phases.specs.Queue.{with_slot}
 use Rattle.config.specs.declared.config.Config.{Config}
 use Rattle.config.specs.Config.{is_config, is_queue, is_unit, has_lun_0, are_queues, are_units, form_of, size_of}
 use Rattle.world.specs.Opening.{AreOpening, AreFresh, AreSeats, IsOpening, opening_unit}

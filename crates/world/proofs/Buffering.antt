@@ -15,7 +15,7 @@ use Rattle.deeds.specs.Happens.{IsOpenTo}
 use Rattle.deeds.specs.Phases.{AsksQueue}
 use Rattle.deeds.specs.Turns.{Turns}
 use Rattle.deeds.proofs.Joining.{joins}
-use Rattle.phases.specs.EventQueue.{IsEventFetch, DoesAtPort, FetchesEvent, MayHold, StaysAtPort, port_after}
+use Rattle.queue_phases.specs.EventQueue.{IsEventFetch, DoesAtPort, FetchesEvent, MayHold, StaysAtPort, port_after}
 use Rattle.world.specs.Steps.{TurnsOrWants}
 use Rattle.world.specs.Sound.{IsSound, AreFew, size_of}
 use Rattle.world.proofs.Setting.{map_get, set_same}

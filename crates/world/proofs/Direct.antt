@@ -11,9 +11,9 @@ use Rattle.deeds.specs.After.{directing}
 use Rattle.deeds.specs.Turns.{Turns}
 use Rattle.deeds.proofs.Joining.{joins}
 use Rattle.queues.specs.Queue.{Lent}
-use Rattle.phases.specs.Queue.{with_slot}
-use Rattle.phases.specs.Doing.{DoesQueue}
-use Rattle.phases.specs.Answering.{told_writes, Directs, LetsGo, StaysQueue}
+use Rattle.queue_phases.specs.Queue.{with_slot}
+use Rattle.queue_phases.specs.Doing.{DoesQueue}
+use Rattle.queue_phases.specs.Direct.{told_writes, Directs, LetsGo, StaysQueue}
 use Rattle.world.specs.Sound.{IsSound}
 use Rattle.world.proofs.Setting.{set_change, set_same}
 use Rattle.world.proofs.Seats.{one_there}

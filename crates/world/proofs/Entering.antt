@@ -17,7 +17,7 @@ use Rattle.deeds.specs.Standing.{SlotOwns, front_of}
 use Rattle.deeds.specs.Turns.{Turns}
 use Rattle.deeds.proofs.Lists.{same, nothing}
 use Rattle.deeds.proofs.Joining.{joins}
-use Rattle.phases.specs.Parts.{arrived_unit}
+use Rattle.queue_phases.specs.Slots.{arrived_unit}
 use Rattle.phases.specs.Doing.{DoesUnit, with_more}
 use Rattle.phases.specs.Units.{Enters, IsEntering, slot_after}
 use Rattle.world.specs.Kept.{KeptSeat, seat_of}

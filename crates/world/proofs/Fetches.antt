@@ -13,8 +13,8 @@ use Rattle.deeds.specs.Happens.{IsOpenTo}
 use Rattle.deeds.specs.Turns.{Turns}
 use Rattle.deeds.proofs.Joining.{joins}
 use Rattle.deeds.proofs.Lists.{same}
-use Rattle.phases.specs.Doing.{DoesQueue}
-use Rattle.phases.specs.Fetching.{HasSome, IsRequestFetch, FetchesRequest, IsControlFetch, FetchesControl, opens}
+use Rattle.queue_phases.specs.Doing.{DoesQueue}
+use Rattle.queue_phases.specs.Fetching.{HasSome, IsRequestFetch, FetchesRequest, IsControlFetch, FetchesControl, opens}
 use Rattle.world.specs.Steps.{TurnsOrWants}
 use Rattle.world.proofs.Setting.{set_same}
 use Rattle.world.proofs.Placing.{set_as}

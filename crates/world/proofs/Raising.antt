@@ -17,8 +17,8 @@ use Rattle.deeds.specs.Turns.{Turns}
 use Rattle.deeds.proofs.Joining.{joins}
 use Rattle.deeds.proofs.Lists.{same}
 use Rattle.queues.specs.Queue.{Lent, MayComplete}
-use Rattle.phases.specs.Queue.{with_slot}
-use Rattle.phases.specs.EventQueue.{RaisesNext, RaisesTo, StaysRaised}
+use Rattle.queue_phases.specs.Queue.{with_slot}
+use Rattle.queue_phases.specs.EventQueue.{RaisesNext, RaisesTo, StaysRaised}
 use Rattle.world.specs.Sound.{IsSound}
 use Rattle.world.proofs.Setting.{set_same}
 use Rattle.world.proofs.Placing.{set_as}

@@ -19,7 +19,7 @@ use Rattle.deeds.proofs.Lists.{same}
 use Rattle.deeds.proofs.Staying.{deed_stays}
 use Rattle.settling.specs.Order.{of_seat, order_of, IsFirstOf, IsNext, IsQuiet, NoneApplies}
 use Rattle.settling.specs.Waking.{IsAmong, IsFetch, IsTake, IsOwn, Wakes}
-use Rattle.phases.specs.Parts.{arrived_unit}
+use Rattle.queue_phases.specs.Slots.{arrived_unit}
 use Rattle.settling.proofs.Waking.{wakes}
 use Rattle.world.specs.Cursors.{TurnsFirst, of_function, NoStart, NoDirectBelow, NoDirect, NoSeatBelow, NoSeat, NoEnterBelow, NoFetchBelow, NoneBefore, NoneBeforeFetch, LeavesNext, EntersNext, FetchesNext, StepsNext, direct_from, seat_from, enter_from}
 use Rattle.world.specs.Settling.{MayWantFirst}

@@ -3,7 +3,7 @@ use Rattle.std.specs.Prelude.{ℕ, ◌+◌, ◌≡◌, false, List, [], length, 
 use Rattle.ring_core.specs.declared.layout.Form.{Form}
 use Rattle.ring_core.specs.declared.layout.Layout.{Layout}
 use Rattle.queues.specs.Queue.{opening_queue}
-use Rattle.phases.specs.Queue.{with_slot}
+use Rattle.queue_phases.specs.Queue.{with_slot}
 use Rattle.deeds.specs.Parts.{Slot, Hand}
 use Rattle.deeds.specs.World.{PlainQueue, PlainWorld, IsNewSeat, Everywhere}
 use Rattle.world.specs.Kept.{KeptSeat}

@@ -13,8 +13,8 @@ pub(crate) struct Bay {
 
 impl Model for Bay {
     ghost use Rattle.deeds.specs.World.{PlainQueue};
-    ghost use Rattle.phases.specs.Queue.{with_slot};
-    ghost use Rattle.phases.specs.Parts.{slot_of};
+    ghost use Rattle.queue_phases.specs.Queue.{with_slot};
+    ghost use Rattle.queue_phases.specs.Slots.{slot_of};
 
     ghost Value = { PlainQueue };
 
@@ -24,7 +24,7 @@ impl Model for Bay {
 impl Bay {
     ghost use Rattle.std.specs.Prelude.{◌≡◌};
     ghost use Rattle.deeds.specs.Parts as plain;
-    ghost use Rattle.phases.specs.Queue.{with_slot};
+    ghost use Rattle.queue_phases.specs.Queue.{with_slot};
 
     /// A queue whose slot is empty.
     pub(crate) fn new(queue: Queue) -> Bay

@@ -3,7 +3,7 @@ use Rattle.std.specs.List.{fold}
 use Rattle.std.specs.declared.alloc.Global.{Global}
 use Rattle.history.specs.Receipts.{Receipt}
 use Rattle.queues.specs.Queue.{Lent}
-use Rattle.unit_history.specs.Notes.{PlainNote}
+use Rattle.notes.specs.Notes.{PlainNote}
 use Rattle.report.specs.declared.tally.Tally.{Tally}
 use Rattle.report.specs.Closed.{IsFirst}
 use Rattle.report.specs.Settled.{is_request}

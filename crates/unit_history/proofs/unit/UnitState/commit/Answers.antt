@@ -2,7 +2,7 @@ use Rattle.std.proofs.Common.{◌≡◌, true, false, ap, sym, ◌∙◌, refl}
 use Rattle.std.specs.Option.{option_copied}
 use Rattle.block_store.specs.Blocks.{block_count, nth_block}
 use Rattle.block_commands.specs.Told.{facts_of}
-use Rattle.unit_history.specs.Performing.{told}
+use Rattle.unit_steps.specs.Performing.{told}
 use Rattle.task_set.specs.Tasks.{task_at}
 use Rattle.unit_history.proofs.Keeping.{has_room, is_ready, told_is}
 use Rattle.unit_history.proofs.Committing.{cannot_none, cannot_turn, is_of, is_aborted, keep_run, commits_run}
@@ -26,7 +26,7 @@ invariant_of-self c =
     (facts_of (told c.self.inside.facts c.self.inside.attentions) (block_count c.self.inside.store)) c.perform-performed.result _ _ _
     (is_ready c.self.invariant c.ticket-ticket.result c.in-Some.task.now at turns.1 turns.2 turns.3)
     (told_is c.self.invariant c.self.inside.facts (block_count c.self.inside.store) refl refl refl refl)
-    c.perform-performed.ensures.performed c.record_run.ensures.room)
+    (rw (c.command-command.ensures, c.data-bytes.ensures.data) at c.perform-performed.ensures.performed) c.record_run.ensures.room)
 
 pub returns-in-Unknown-clause-step : goal.returns-in-Unknown-clause-step
 returns-in-Unknown-clause-step c =
@@ -65,7 +65,7 @@ returns-then-keeps_replies-clause-step c =
     (is_of c.self.invariant c.args.job.now c.in-Some.task.now at turns.0)
     (is_ready c.self.invariant c.args.job.now.entry.ticket c.in-Some.task.now at turns.1 turns.2 turns.3)
     (told_is c.self.invariant c.self.inside.facts (block_count c.self.inside.store) refl refl refl refl)
-    (rw keeps c.perform-performed.ensures.performed))
+    (rw keeps (rw (c.command-command.ensures, c.data-bytes.ensures.data) at c.perform-performed.ensures.performed)))
 
 pub returns-else-keeps_replies-clause-step : goal.returns-else-keeps_replies-clause-step
 returns-else-keeps_replies-clause-step c =
@@ -88,7 +88,7 @@ returns-else-keeps_replies-clause-step c =
     (is_of c.self.invariant c.args.job.now c.in-Some.task.now at turns.0)
     (is_ready c.self.invariant c.args.job.now.entry.ticket c.in-Some.task.now at turns.1 turns.2 turns.3)
     (told_is c.self.invariant c.self.inside.facts (block_count c.self.inside.store) refl refl refl refl)
-    (rw keeps c.perform-performed-else-keeps_replies.ensures.performed))
+    (rw keeps (rw (c.command-command.ensures, c.data-bytes.ensures.data) at c.perform-performed-else-keeps_replies.ensures.performed)))
 
 pub record_run-requires-else-keeps_replies-clause-room : goal.record_run-requires-else-keeps_replies-clause-room
 record_run-requires-else-keeps_replies-clause-room c =
@@ -103,4 +103,4 @@ invariant_of-self-else-keeps_replies c =
     (facts_of (told c.self.inside.facts c.self.inside.attentions) (block_count c.self.inside.store)) c.perform-performed-else-keeps_replies.result _ _ _
     (is_ready c.self.invariant c.ticket-ticket.result c.in-Some.task.now at turns.1 turns.2 turns.3)
     (told_is c.self.invariant c.self.inside.facts (block_count c.self.inside.store) refl refl refl refl)
-    c.perform-performed-else-keeps_replies.ensures.performed c.record_run-else-keeps_replies.ensures.room)
+    (rw (c.command-command.ensures, c.data-bytes.ensures.data) at c.perform-performed-else-keeps_replies.ensures.performed) c.record_run-else-keeps_replies.ensures.room)

@@ -26,9 +26,9 @@ invariant_of-self-in-Ok-enter c =
     let le = not_stale c.self.invariant c.ticket-ticket.result c.is_stale.result c.is_stale.ensures c.if-is_stale.false in
     let room : 131 ≤ c.reserve-2.new.self.room = c.in-Ok-reserve.ensures.room in
     let entered = c.in-Ok-enter.ensures.ok in
-    rw (c.push-in-Ok-enter.ensures.steps, c.of-entered.ensures, entered.1, c.len-place.ensures, c.in-Ok-reserve.ensures.steps)
+    rw (c.push-in-Ok-enter.ensures.steps, c.noted_entry-entered.ensures, entered.1, c.len-place.ensures, c.in-Ok-reserve.ensures.steps)
     (keep_enter c.self.invariant c.args.arrival _ _ entered.0 (subst (λ (n : Ticket). floor n.queue c.self.inside.log.steps ≤ n.number) t le)
-    (subst (λ (n : Ticket). CameTo n c.self.inside.lasts.numbers.items c.came.new.self.numbers.items) t
+    (subst (λ (n : Ticket). CameTo n c.self.inside.lasts c.came.new.self) t
     (came_then c.ticket-ticket.result _ _ _ c.in-Ok.ensures.same c.came.ensures))
     (omega (arith, room, c.push-in-Ok-enter.ensures.room)))
 
@@ -49,7 +49,7 @@ returns-in-Ok-enter c =
     let le = not_stale c.self.invariant c.ticket-ticket.result c.is_stale.result c.is_stale.ensures c.if-is_stale.false in
     let entered = c.in-Ok-enter.ensures.ok in
     let steps : c.push-in-Ok-enter.new.self.steps ≡ Step.Enter c.args.arrival.entry ∷ c.self.inside.log.steps =
-    c.push-in-Ok-enter.ensures.steps ∙ ap (λ e. Step.Enter e ∷ c.reserve-2.new.self.steps) c.of-entered.ensures
+    c.push-in-Ok-enter.ensures.steps ∙ ap (λ e. Step.Enter e ∷ c.reserve-2.new.self.steps) c.noted_entry-entered.ensures
     ∙ ap (λ w. Step.Enter c.args.arrival.entry ∷ w) c.in-Ok-reserve.ensures.steps in
     rw (c.of.ensures, ← c.self.view_is, entered.1)
     (enters_task c.self.invariant c.args.arrival c.in-Ok-enter.job c.len-place.result _ _ _ entered.0

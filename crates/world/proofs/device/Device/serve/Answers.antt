@@ -4,8 +4,8 @@ use Rattle.std.proofs.lemmas.Option.{slice_get_read, slice_get_within}
 use Rattle.std.proofs.lemmas.List.{length-map}
 use Rattle.deeds.specs.World.{PlainQueue}
 use Rattle.deeds.specs.Parts.{Slot, Hand}
-use Rattle.phases.specs.Parts.{slot_of}
-use Rattle.phases.specs.Queue.{with_slot}
+use Rattle.queue_phases.specs.Slots.{slot_of}
+use Rattle.queue_phases.specs.Queue.{with_slot}
 use Rattle.world.specs.Kept.{KeptSeat, seat_of}
 use Rattle.task_set.specs.Jobs.{Jobs}
 use Rattle.phases.specs.Serving.{Serves}

@@ -1,0 +1,70 @@
+-- The replies of the latest steps, and one more.
+use Rattle.std.proofs.Common.{◌≡◌, ◌-◌, ◌≤◌, Bool, true, false, cond, List, [], ◌∷◌, ◌++◌, length, drop, map, Option, sym, ◌∙◌, ap, subst, arith, length-append, length-drop}
+use Rattle.std.specs.Option.{option_map}
+use Rattle.std.proofs.lemmas.List.{drop-append-le, drop-drop, drop-map, length-map, map-append}
+use Rattle.replies.specs.PlainReply.{PlainReply, plain_of}
+use Rattle.replies.specs.declared.reply.Reply.{Reply}
+use Rattle.history.specs.Receipts.{latest_kept}
+use Rattle.unit_steps.specs.declared.kind.StepKind.{StepKind}
+use Rattle.unit_steps.specs.declared.noted.NotedStep.{NotedStep}
+use Rattle.unit_steps.specs.Kept.{kind_of, latest, reply_kept}
+use Rattle.unit_steps.specs.Noted.{AreNoted, replies_noted, step_noted}
+
+length_latest : {X : Type 0} (xs : List X) → length (latest xs) ≡ length xs - (length xs - latest_kept)
+length_latest xs = length-drop (length xs - latest_kept) xs
+
+latest_map : {X Y : Type 0} (f : X → Y) (xs : List X) → map f (latest xs) ≡ latest (map f xs)
+latest_map f xs =
+    sym (drop-map f (length xs - latest_kept) xs)
+    ∙ ap (λ n. drop (n - latest_kept) (map f xs)) (sym (length-map xs f))
+
+-- the latest of the latest and one more are the latest of all and that one
+latest_more : {X : Type 0} (xs : List X) (y : X) → latest (latest xs ++ y ∷ []) ≡ latest (xs ++ y ∷ [])
+latest_more {X} xs y =
+    let k = length xs - latest_kept in
+    let a = length-append (latest xs) (y ∷ []) in
+    let b = length-append xs (y ∷ []) in
+    let l = length_latest xs in
+    ap (λ (w : List X). drop (length (latest xs ++ y ∷ []) - latest_kept) w) (sym (drop-append-le k xs (y ∷ []) (omega arith)))
+    ∙ drop-drop (length (latest xs ++ y ∷ []) - latest_kept) k (xs ++ y ∷ [])
+    ∙ ap (λ n. drop n (xs ++ y ∷ [])) (omega (arith, a, b, l))
+
+pub few_replies : (keeps : Bool) (kinds : List StepKind) (replies : List (Option Reply)) (items : List NotedStep) → AreNoted keeps kinds replies items
+    → (length replies ≤ latest_kept) × (length replies ≤ length items)
+few_replies true kinds replies items k =
+    let g = λ (s : NotedStep). reply_kept true (step_noted s) in
+    let n = sym (length-map replies (option_map plain_of)) ∙ ap (λ (w : List (Option PlainReply)). length w) k.replies_are ∙ length_latest (map g items) in
+    let m = length-map items g in
+    (omega (arith, n, m), omega (arith, n, m))
+few_replies false kinds replies items k =
+    let n = sym (length-map replies (option_map plain_of)) ∙ ap (λ (w : List (Option PlainReply)). length w) k.replies_are ∙ length_latest {X = Option PlainReply} [] in
+    (omega (arith, n), omega (arith, n))
+
+replies_more : (keeps : Bool) (replies : List (Option Reply)) (items : List NotedStep) (s : NotedStep) (reply : Option Reply)
+    → map (option_map plain_of) replies ≡ latest (replies_noted keeps items) → option_map plain_of reply ≡ reply_kept keeps (step_noted s)
+    → map (option_map plain_of) (cond keeps (latest (replies ++ reply ∷ [])) replies) ≡ latest (replies_noted keeps (items ++ s ∷ []))
+replies_more false replies items s reply e is = e
+replies_more true replies items s reply e is =
+    let g = λ (s : NotedStep). reply_kept true (step_noted s) in
+    latest_map (option_map plain_of) (replies ++ reply ∷ [])
+    ∙ ap latest (map-append (option_map plain_of) replies (reply ∷ []))
+    ∙ ap (λ (w : List (Option PlainReply)). latest (w ++ option_map plain_of reply ∷ [])) e
+    ∙ ap (λ (o : Option PlainReply). latest (latest (map g items) ++ o ∷ [])) is
+    ∙ latest_more (map g items) (g s)
+    ∙ ap latest (sym (map-append g items (s ∷ [])))
+
+-- what is kept of the steps and one more
+pub noted_more : (keeps : Bool) (kinds kinds' : List StepKind) (replies replies' : List (Option Reply)) (items items' : List NotedStep) (s : NotedStep)
+    (kind : StepKind) (reply : Option Reply) → AreNoted keeps kinds replies items → kind ≡ kind_of (step_noted s)
+    → option_map plain_of reply ≡ reply_kept keeps (step_noted s) → kinds' ≡ kinds ++ kind ∷ []
+    → replies' ≡ cond keeps (latest (replies ++ reply ∷ [])) replies → items' ≡ items ++ s ∷ [] → AreNoted keeps kinds' replies' items'
+noted_more keeps kinds kinds' replies replies' items items' s kind reply k as_kind as_reply is_kinds is_replies is_items =
+    let f = λ (s : NotedStep). kind_of (step_noted s) in
+    subst (λ w. AreNoted keeps kinds' replies' w) (sym is_items) (record {
+      kinds_are =
+          is_kinds
+          ∙ ap (λ (w : List StepKind). w ++ kind ∷ []) k.kinds_are
+          ∙ ap (λ (w : StepKind). map f items ++ w ∷ []) as_kind
+          ∙ sym (map-append f items (s ∷ []));
+      replies_are = ap (map (option_map plain_of)) is_replies ∙ replies_more keeps replies items s reply k.replies_are as_reply;
+    })

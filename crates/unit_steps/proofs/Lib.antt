@@ -1,0 +1,3 @@
+pub mod Places
+pub mod Latest
+pub mod Confirming

@@ -1,0 +1,4 @@
+pub mod Kept
+pub mod Noted
+pub mod Lasts
+pub mod Performing

@@ -1,0 +1,15 @@
+//! What a unit does at a step of its history: a command runs whole, and the log of the steps, of which the code keeps
+//! what it is asked.
+#![tactic(auto)]
+
+mod kind;
+mod lasts;
+mod log;
+mod noted;
+mod performing;
+
+pub use kind::StepKind;
+pub use lasts::Lasts;
+pub use log::{LATEST_KEPT, LONGEST_KEPT, StepLog};
+pub use noted::{NotedEntry, NotedReply, NotedStep};
+pub use performing::{Performed, attentions_at_start, perform, run};
