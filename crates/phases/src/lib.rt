@@ -1,5 +1,6 @@
-//! The atomic steps of the device: each works on what one lock lends, a queue with the memory or a unit, and on what
-//! the one who takes the step has in hand. None waits, and none knows a device.
+//! The atomic steps of the device, each on what one lock lends, a queue with the memory or a unit, and on what the one
+//! who takes the step has in hand. Those that need no unit and no job are passed on from `queue_phases`. None waits, and
+//! none knows a device.
 #![tactic(auto)]
 
 mod answer;
