@@ -1,66 +1,80 @@
--- A step along the slots of a chain.
-use Rattle.std.proofs.Common.{◌≡◌, ℕ, suc, ◌+◌, ◌<◌, ◌≤◌, List, [], ◌∷◌, ◌++◌, length, true, false, Some, None, refl, arith, ◌||◌, ◌^◌}
-use Rattle.std.proofs.lemmas.Grind.{common_steps}
-use Rattle.std.proofs.lemmas.Bool.Decides.{nat_tests}
-use Rattle.ring_core.specs.Walk.{nothing_before, goes_on, is_writable, part_of, front, by_next}
-use Rattle.ring_core.specs.Packed.{slot_at, slots_from, packed_wrong, PackedChain}
+-- A step along the slots of a chain, or the entries of its table.
+use Rattle.std.proofs.Common.{◌≡◌, ℕ, ◌+◌, ◌*◌, ◌/◌, ◌%◌, ◌≤◌, List, [], ◌∷◌, ◌++◌, length, true, false, map, MatchResult, Result, Ok, Err, None, sym, ap, ◌∙◌, subst, arith}
+use Rattle.ring_core.specs.Walk.{nothing_before, is_indirect, part_of, amount, table_wrong, Sequence, IsRun, IsChain}
+use Rattle.ring_core.specs.Walking.{Walks, RunFailsOrLacks, ChainFailsOrLacks}
+use Rattle.ring_core.specs.Packed.{packed_slots, packed_table}
 use Rattle.ring_core.specs.declared.layout.Features.{Features}
-use Rattle.ring_core.specs.declared.descriptor.Part.{Part}
 use Rattle.ring_core.specs.declared.layout.Layout.{Layout}
-use Rattle.ring_core.specs.declared.descriptor.Descriptor.{Descriptor}
+use Rattle.ring_core.specs.declared.descriptor.Part.{Part}
 use Rattle.ring_core.specs.declared.before.Before.{Before}
+use Rattle.ring_core.specs.declared.run.Run.{Run}
 use Rattle.ring_core.specs.declared.fault.RingFault.{RingFault}
 use Rattle.ring_core.specs.declared.fault.RingFault.TheVariants.{NoMemory}
-use Rattle.ring_core.proofs.Along.{Along, along_start, along_more, along_end, along_first, along_wrong}
-use Rattle.ring_core.proofs.Exists.{length-front}
-use Rattle.ring_core.proofs.ChainProperties.{id_of_last}
-use Rattle.packed_ring.specs.Inner.{PackedFailsOrLacks}
+use Rattle.ring_core.proofs.Along.{run_last}
+use Rattle.ring_core.proofs.RightChains.{packed_names}
+use Rattle.ring_core.proofs.ChainProperties.{names_table, some_entry}
+use Rattle.ring_core.proofs.Walking.{CanWalk, packed_walk, entries_walk, lacks_first, table_fails, chain_direct, chain_table}
+use Rattle.packed_ring.specs.Inner.{sequence_of, count_of, PackedFailsOrLacks, IsFound}
+use Rattle.packed_ring.specs.declared.walk.Along.{Along}
+use Rattle.packed_ring.specs.declared.walk.Along.TheVariants.{Slots, Entries}
+use Rattle.packed_ring.specs.declared.walk.Candidate.{Candidate}
 
-right_total : (features : Features) (memory size : ℕ) (b : Before) (d : Descriptor) → packed_wrong features memory size b d ≡ None → b.total + d.len ≤ 2 ^ 32
-right_total features memory size b d e = grind (arith, common_steps, nat_tests)
+pub can_walk : (m : List ℕ) (a : Along) → CanWalk (sequence_of m a) (count_of a)
+can_walk m (Slots l t features) = packed_walk features m l t
+can_walk m (Entries d) = entries_walk m d
 
-right_next : (features : Features) (memory size : ℕ) (b : Before) (d : Descriptor) → packed_wrong features memory size b d ≡ None → goes_on d ≡ true → b.count + 1 < size
-right_next features memory size b d e on = grind (arith, common_steps, nat_tests)
+entries_inside : (addr len memory : ℕ) → len % 16 ≡ 0 → addr + len ≤ memory → addr + 16 * (len / 16) ≤ memory
+entries_inside addr len memory whole inside = omega (arith, whole, inside)
 
-never_memory : (features : Features) (memory size : ℕ) (b : Before) (d : Descriptor) → packed_wrong features memory size b d ≡ Some NoMemory → ⊥
-never_memory features memory size b d e = grind (arith, common_steps, nat_tests)
+-- what a walk finds wrong, in the words of a packed queue
+pub as_packed : (features : Features) (m : List ℕ) (l : Layout) (t : ℕ) (f : RingFault) → ChainFailsOrLacks (packed_slots features m l t) (packed_table m) f → PackedFailsOrLacks features m l t f
+as_packed features m l t NoMemory lacks = let e : t + 0 ≡ t = omega arith in rw e at lacks
+as_packed features m l t f bad = bad
 
--- Where a walk stands after n slots.
-pub record Walked (features : Features) (m : List ℕ) (l : Layout) (t n : ℕ) (before : Before) (parts : List Part) : Type 0 where
-  pub along : Along nothing_before by_next (packed_wrong features (length m) l.size) (slots_from l m t) n before parts
-  pub bounded : before.total ≤ 2 ^ 32
-  pub counted : before.count ≡ n
-  pub left : n < l.size
+-- The chain that a walk along one run, or along two, gives.
+module _ (features : Features) (m : List ℕ) (l : Layout) (t : ℕ) (run : Run) (w : Walks (packed_slots features m l t) l.size nothing_before [] run) where
+  abbrev Ring : Sequence
+  Ring = packed_slots features m l t
 
-module _ (features : Features) (m : List ℕ) (l : Layout) (t : ℕ) where
-  pub walked_start : 0 < l.size → Walked features m l t 0 (record { count = 0; total = 0; writable = false }) []
-  walked_start lt =
-      record { along = along_start nothing_before by_next (packed_wrong features (length m) l.size) (slots_from l m t); bounded = omega arith; counted = refl; left = lt }
+  -- as many slots as descriptors of the run in the ring
+  pub slots_are : run.before.count + 1 ≡ length w.direct + 1
+  slots_are = ap (λ (b : Before). b.count + 1) w.before
 
-  module _ (n : ℕ) (b : Before) (parts : List Part) (d : Descriptor) (w : Walked features m l t n b parts) (is : d ≡ slot_at l m (t + n)) where
-    pub walked_more : packed_wrong features (length m) l.size b d ≡ None → goes_on d ≡ true
-        → Walked features m l t (n + 1) (record { count = b.count + 1; total = b.total + d.len; writable = b.writable || is_writable d }) (parts ++ part_of d ∷ [])
-    walked_more right on =
-        record {
-          along = along_more nothing_before by_next (packed_wrong features (length m) l.size) (slots_from l m t) n b parts d w.along is right on;
-          bounded = right_total features (length m) l.size b d right;
-          counted = omega (arith, w.counted);
-          left = omega (arith, w.counted, right_next features (length m) l.size b d right on);
-        }
+  abbrev Answers : Result Candidate RingFault → Type 0
+  Answers r = MatchResult r (λ c. IsFound features m l t c) (λ fault. PackedFailsOrLacks features m l t fault)
 
-    pub walked_end : packed_wrong features (length m) l.size b d ≡ None → goes_on d ≡ false
-        → PackedChain features m l t d.next_or_id (n + 1) (parts ++ part_of d ∷ [])
-    unfolding front
-    walked_end right off =
-        let at : ℕ → Descriptor = slots_from l m t in
-        let e = along_end nothing_before by_next (packed_wrong features (length m) l.size) (slots_from l m t) n b parts d w.along is right off in
-        (front at (suc n), e.0, rw (id_of_last, is) refl, omega (arith, length-front at (suc n)), e.1)
+  -- the run names no table
+  pub alone : (id slots : ℕ) → id ≡ run.last.next_or_id → slots ≡ run.before.count + 1 → is_indirect run.last ≡ false → (r : Result Candidate RingFault)
+      → MatchResult r (λ c. (c.id ≡ id) × (c.slots ≡ slots) × (c.draft ≡ run.draft ++ part_of run.last ∷ [])) (λ fault. fault ≡ NoMemory) → Answers r
+  alone id slots is count plain (Ok c) e =
+      (w.direct, run.last, subst (λ (ps : List Part). IsChain Ring (packed_table m) w.direct run.last ps) (sym e.2) (chain_direct Ring (packed_table m) w.direct run.last run.draft w.run plain w.found), e.0 ∙ is, e.1 ∙ count ∙ slots_are)
+  alone id slots is count plain (Err fault) e = subst (λ (f : RingFault). PackedFailsOrLacks features m l t f) (sym e) (as_packed features m l t NoMemory (lacks_first Ring (packed_table m) w.direct run.last w.run))
 
-    pub walked_first : packed_wrong features (length m) l.size b d ≡ None → PackedFailsOrLacks features m l t NoMemory
-    walked_first right =
-        let e : t + 0 ≡ t = omega arith in
-        rw e at (along_first nothing_before by_next (packed_wrong features (length m) l.size) (slots_from l m t) n b parts d w.along is right)
+  module _ (tabled : is_indirect run.last ≡ true) where
+    named : table_wrong features (length m) run.last ≡ None
+    named = packed_names features (length m) l.size (amount nothing_before w.direct) run.last (run_last Ring nothing_before w.direct run.last w.run).0 tabled
 
-    pub walked_wrong : (f : RingFault) → packed_wrong features (length m) l.size b d ≡ Some f → PackedFailsOrLacks features m l t f
-    walked_wrong NoMemory bad = absurd (never_memory features (length m) l.size b d bad)
-    walked_wrong f bad = along_wrong nothing_before by_next (packed_wrong features (length m) l.size) (slots_from l m t) n b parts d w.along is f bad
+    -- the table lies in memory
+    pub table_lies : (run.last.addr + 16 * (run.last.len / 16) ≤ length m) × (1 ≤ run.last.len / 16)
+    table_lies =
+        let names = names_table features m run.last named tabled in
+        (entries_inside run.last.addr run.last.len (length m) names.whole names.inside, some_entry run.last.len names.some names.whole)
+
+    -- the run along it fails
+    pub fails : (f : RingFault) → RunFailsOrLacks (packed_table m run.last) run.before f → PackedFailsOrLacks features m l t f
+    fails f bad =
+        as_packed features m l t f (table_fails Ring (packed_table m) f w.direct run.last w.run tabled (subst (λ (b : Before). RunFailsOrLacks (packed_table m run.last) b f) w.before bad))
+
+    -- or ends the chain
+    module _ (further : Run) (w2 : Walks (packed_table m run.last) (run.last.len / 16) run.before run.draft further) where
+      both : IsRun (packed_table m run.last) (amount nothing_before w.direct) w2.direct further.last
+      both = subst (λ (b : Before). IsRun (packed_table m run.last) b w2.direct further.last) w.before w2.run
+
+      found : further.draft ≡ map part_of w.direct ++ map part_of w2.direct
+      found = w2.found ∙ ap (λ (ps : List Part). ps ++ map part_of w2.direct) w.found
+
+      pub ended : (id slots : ℕ) → id ≡ run.last.next_or_id → slots ≡ run.before.count + 1 → (r : Result Candidate RingFault)
+          → MatchResult r (λ c. (c.id ≡ id) × (c.slots ≡ slots) × (c.draft ≡ further.draft ++ part_of further.last ∷ [])) (λ fault. fault ≡ NoMemory) → Answers r
+      ended id slots is count (Ok c) e =
+          (w.direct, run.last, subst (λ (ps : List Part). IsChain Ring (packed_table m) w.direct run.last ps) (sym e.2) (chain_table Ring (packed_table m) w.direct run.last w2.direct further.last further.draft w.run tabled both found), e.0 ∙ is, e.1 ∙ count ∙ slots_are)
+      ended id slots is count (Err fault) e = subst (λ (f : RingFault). PackedFailsOrLacks features m l t f) (sym e) (as_packed features m l t NoMemory (lacks_first Ring (packed_table m) w.direct run.last w.run))

@@ -3,11 +3,12 @@ use Rattle.std.proofs.Common.{◌≡◌, ℕ, ◌+◌, ◌*◌, ◌<◌, ◌≤�
 use Rattle.std.proofs.lemmas.Grind.{common_steps}
 use Rattle.std.proofs.lemmas.Bool.Decides.{nat_tests}
 use Rattle.std.proofs.lemmas.List.{length-replicate}
-use Rattle.ring_core.specs.State.{no_features, opening}
+use Rattle.ring_core.specs.State.{opening}
 use Rattle.ring_core.proofs.Sound.{none_there}
 use Rattle.packed_ring.specs.IsPacked.{IsPacked}
 use Rattle.packed_ring.specs.Placement.{placement_fault}
 use Rattle.ring_core.specs.declared.layout.Layout.{Layout}
+use Rattle.ring_core.specs.declared.layout.Features.{Features}
 use Rattle.ring_core.specs.declared.layout.Form.TheVariants.{Packed}
 
 -- what follows where nothing is wrong with a layout
@@ -23,10 +24,10 @@ right_places m l e =
     let b : l.driver + 4 ≤ m = grind (arith, common_steps, nat_tests) in
     (a, b)
 
-pub fresh : (queue : ℕ) (l : Layout) (m ids : ℕ) → ids ≡ 65536 → placement_fault m l ≡ None → m ≤ 2 ^ 28
-    → IsPacked (opening Packed queue l no_features m ids)
+pub fresh : (queue : ℕ) (l : Layout) (features : Features) (m ids : ℕ) → ids ≡ 65536 → placement_fault m l ≡ None → m ≤ 2 ^ 28
+    → IsPacked (opening Packed queue l features m ids)
 unfolding opening
-fresh queue l m ids all fine small =
+fresh queue l features m ids all fine small =
     let size = right_size m l fine in
     let places = right_places m l fine in
-    record { form = refl; features = refl; some = size.0; most = size.1; ids = rw (length-replicate, all) refl; slots = places.0; driver = places.1; small = small; each_slots = λ id c e. absurd (let p = none_there ids id in cc); within = omega arith }
+    record { form = refl; some = size.0; most = size.1; ids = rw (length-replicate, all) refl; slots = places.0; driver = places.1; small = small; each_slots = λ id c e. absurd (let p = none_there ids id in cc); latest = omega arith; among = omega arith; within = omega arith }

@@ -1,20 +1,36 @@
 -- What the ring's own functions answer to one another. No promise stands on these: public clauses cite what ring_core
 -- defines.
-use Rattle.std.specs.Prelude.{ℕ, ◌≡◌, List, length, None, Result, Ok, Err}
+use Rattle.std.specs.Prelude.{ℕ, ◌≡◌, ◌+◌, ◌*◌, ◌/◌, ◌<◌, ◌≤◌, ◌^◌, List, length, None, Result, Ok, Err}
 use Rattle.ring_core.specs.State.{RingState}
-use Rattle.ring_core.specs.Walk.{nothing_before}
-use Rattle.ring_core.specs.Packed.{slot_at, packed_wrong, PackedChain, PackedFails}
+use Rattle.ring_core.specs.Walk.{nothing_before, Sequence}
+use Rattle.ring_core.specs.Packed.{slot_at, packed_wrong, packed_slots, packed_table, PackedChain, PackedFails}
 use Rattle.ring_core.specs.Offer.{PackedOffers, Found, Refused, BeginsInForm}
 use Rattle.ring_core.specs.declared.layout.Features.{Features}
 use Rattle.ring_core.specs.declared.layout.Form.TheVariants.{Packed}
 use Rattle.ring_core.specs.declared.layout.Layout.{Layout}
-use Rattle.packed_ring.specs.declared.walk.Run.{Run}
+use Rattle.packed_ring.specs.declared.walk.Candidate.{Candidate}
+use Rattle.packed_ring.specs.declared.walk.Along.{Along}
+use Rattle.packed_ring.specs.declared.walk.Along.TheVariants.{Slots, Entries}
 use Rattle.ring_core.specs.declared.fault.RingFault.{RingFault}
 use Rattle.ring_core.specs.declared.fault.RingFault.TheVariants.{NoMemory}
 
--- the run of slots is the chain from there on
-abbrev pub IsRun : Features → List ℕ → Layout → ℕ → Run → Type 0
-IsRun features m l t run = PackedChain features m l t run.id run.slots run.draft
+-- what a run goes along, as a sequence
+abbrev pub sequence_of : List ℕ → Along → Sequence
+sequence_of m (Slots l t features) = packed_slots features m l t
+sequence_of m (Entries d) = packed_table m d
+
+abbrev pub count_of : Along → ℕ
+count_of (Slots l t features) = l.size
+count_of (Entries d) = d.len / 16
+
+-- it lies in a memory of this size
+abbrev pub LiesIn : ℕ → Along → Type 0
+LiesIn memory (Slots l t features) = (0 < l.size) × (l.desc + 16 * l.size ≤ memory) × (t < 2 ^ 100)
+LiesIn memory (Entries d) = d.addr + 16 * (d.len / 16) ≤ memory
+
+-- this is the chain in the slots from there on
+abbrev pub IsFound : Features → List ℕ → Layout → ℕ → Candidate → Type 0
+IsFound features m l t c = PackedChain features m l t c.id c.slots c.draft
 
 -- a walk finds this wrong with the slots from there on; memory is wanted once the first descriptor was found right
 abbrev pub PackedFailsOrLacks : Features → List ℕ → Layout → ℕ → RingFault → Type 0
@@ -27,6 +43,6 @@ abbrev pub PackedFaultFound : RingState → List ℕ → RingFault → Type 0
 PackedFaultFound s m NoMemory = BeginsInForm Packed s m
 PackedFaultFound s m f = PackedOffers s m (Refused f)
 
-abbrev pub PackedFinds : RingState → List ℕ → Result Run RingFault → Type 0
-PackedFinds s m (Ok run) = PackedOffers s m (Found run.id run.slots run.draft)
+abbrev pub PackedFinds : RingState → List ℕ → Result Candidate RingFault → Type 0
+PackedFinds s m (Ok c) = PackedOffers s m (Found c.id c.slots c.draft)
 PackedFinds s m (Err f) = PackedFaultFound s m f

@@ -2,6 +2,7 @@ pub use Rattle.guest_mem.specs.Memory
 pub use Rattle.ring_core.specs.State
 pub use Rattle.ring_core.specs.Parts
 pub use Rattle.ring_core.specs.Walk
+pub use Rattle.ring_core.specs.Walking
 pub use Rattle.ring_core.specs.Packed
 pub use Rattle.ring_core.specs.Offer
 pub use Rattle.ring_core.specs.Fetch

@@ -2,9 +2,9 @@
 
 use crate::placement::check_layout;
 use crate::slots::{
-    descriptor_at, flags_of_used, is_available, number_at, place_of, put_used, wrap_at,
+    descriptor_at, flags_of_used, is_available, names_one, number_at, place_of, put_used, wrap_at,
 };
-use crate::walk::{Run, fault_without_room, walk};
+use crate::walk::{Candidate, fault_without_room, walk};
 use guest_mem::GuestMem;
 use ring_core::{
     Chain, Completion, Draft, FIRST_BYTES, Features, Fetched, Layout, LayoutFault, QueueLog, Ring,
@@ -16,6 +16,9 @@ use std::marker::Model;
 /// RING_EVENT_FLAGS_DISABLE in the two low bits of the driver's flags: the driver asks for no
 /// notice (VIRTIO 1.2, 2.8.10 and 2.8.14).
 const DISABLE: u16 = 1;
+
+/// RING_EVENT_FLAGS_DESC: it asks for one of a certain slot, where event indices were agreed.
+const DESC: u16 = 2;
 
 /// How many ids a chain may have: any of two bytes.
 const ALL_IDS: usize = 65536;
@@ -43,7 +46,8 @@ impl PackedRing {
     ghost use Rattle.packed_ring.specs.Placement.{OpensPacked, IsMisplaced};
 
     /// A queue with this number at this place, of which nothing was fetched yet. Whoever sets the
-    /// device up calls it once for each queue, with the memory that all later calls get. Refused
+    /// device up calls it once for each queue, with the features that were agreed, of which it looks at
+    /// VIRTIO_F_INDIRECT_DESC and VIRTIO_F_EVENT_IDX (bits 28 and 29) alone, and with the memory that all later calls get. Refused
     /// are, in this order, a size that is 0 or above 32,768 (`BadSize`), a descriptor ring not
     /// aligned to 16 or an event suppression area not to 4 (`BadAlignment`), and one of them that
     /// doesn't lie in memory (`Outside`). It takes no memory, so it is never `NoMemory`.
@@ -51,18 +55,16 @@ impl PackedRing {
         alloc: Global,
         queue: u16,
         layout: Layout,
+        features: u64,
         memory: &GuestMem,
     ) -> Result<PackedRing, LayoutFault>
         ensures made { MatchResult result
-            (OpensPacked (length memory.now) queue layout)
+            (OpensPacked (length memory.now) queue layout features)
             (IsMisplaced (length memory.now) layout) }
     {
         let bytes = memory.size();
         check_layout(&layout, bytes)?;
-        let features = Features {
-            indirect_descriptors: false,
-            event_index: false,
-        };
+        let features = Features::of(features);
         let base = RingBase::packed(alloc, queue, layout, features, bytes, ALL_IDS);
         Ok(PackedRing { base })
     }
@@ -87,7 +89,7 @@ impl PackedRing {
     }
 
     /// The next chain, where there is one.
-    fn next(&mut self, memory: &GuestMem) -> Result<Run, RingFault>
+    fn next(&mut self, memory: &GuestMem) -> Result<Candidate, RingFault>
         requires fits { length memory.now ≡ self.old.memory }
         requires some { is_available_in self.old memory.now ≡ true }
         ensures finds { PackedFinds self.old memory.now result }
@@ -96,13 +98,13 @@ impl PackedRing {
         let layout = self.base.layout();
         let accepted = self.base.accepted_slots();
         let Ok(draft) = self.base.draft() else {
-            return Err(fault_without_room(memory, &layout, accepted));
+            return Err(fault_without_room(memory, &layout, self.base.features(), accepted));
         };
         self.find(memory, draft)
     }
 
     /// The next chain, where there is one, in this room.
-    fn find(&self, memory: &GuestMem, draft: Draft) -> Result<Run, RingFault>
+    fn find(&self, memory: &GuestMem, draft: Draft) -> Result<Candidate, RingFault>
         requires fits { length memory.now ≡ self.now.memory }
         requires some { is_available_in self.now memory.now ≡ true }
         requires empty { draft ≡ [] }
@@ -110,15 +112,15 @@ impl PackedRing {
     {
         let layout = self.base.layout();
         let accepted = self.base.accepted_slots();
-        match walk(draft, memory, &layout, accepted) {
-            Ok(run) => {
+        match walk(draft, memory, &layout, self.base.features(), accepted) {
+            Ok(found) => {
                 let outstanding = accepted - self.base.used_slots();
-                if self.base.is_outstanding(run.id) {
+                if self.base.is_outstanding(found.id) {
                     Err(RingFault::AlreadyOutstanding)
-                } else if outstanding + run.slots as u128 > layout.size as u128 {
+                } else if outstanding + found.slots as u128 > layout.size as u128 {
                     Err(RingFault::RingOverrun)
                 } else {
-                    Ok(run)
+                    Ok(found)
                 }
             }
             Err(fault) => Err(fault),
@@ -133,7 +135,7 @@ impl PackedRing {
         ensures { Fetches self.old memory.now result self.new }
     {
         match self.next(memory) {
-            Ok(run) => self.take(memory, run),
+            Ok(found) => self.take(memory, found),
             Err(RingFault::NoMemory) => Err(RingFault::NoMemory),
             Err(fault) => {
                 self.base.break_with(fault);
@@ -143,18 +145,22 @@ impl PackedRing {
     }
 
     /// Accepts the chain that was found, and reads its first bytes.
-    fn take(&mut self, memory: &GuestMem, run: Run) -> Result<Option<Fetched>, RingFault>
+    fn take(
+        &mut self,
+        memory: &GuestMem,
+        candidate: Candidate,
+    ) -> Result<Option<Fetched>, RingFault>
         requires fits { length memory.now ≡ self.old.memory }
         requires unbroken { self.old.broken ≡ None }
-        requires found { PackedOffers self.old memory.now (Found run.id run.slots run.draft) }
+        requires found { PackedOffers self.old memory.now (Found candidate.id candidate.slots candidate.draft) }
         ensures { Fetches self.old memory.now result self.new }
     {
         let _ = &self.base;
-        let Run {
+        let Candidate {
             id,
             slots,
             mut draft,
-        } = run;
+        } = candidate;
         let Ok(bytes) = gather(memory, &mut draft, FIRST_BYTES) else {
             return Err(RingFault::NoMemory);
         };
@@ -192,6 +198,7 @@ impl Ring for PackedRing {
         _leave: Completion,
     ) -> Ticket {
         let _size = memory.size();
+        let _log = self.base.log();
         let layout = self.base.layout();
         let used = self.base.used_slots();
         let flags = flags_of_used(wrap_at(layout.size, used), len);
@@ -200,7 +207,19 @@ impl Ring for PackedRing {
     }
 
     fn wants_notice(&self, memory: &GuestMem) -> bool {
-        number_at(memory, self.base.layout().driver + 2) % 4 != DISABLE
+        let layout = self.base.layout();
+        let flags = number_at(memory, layout.driver + 2) % 4;
+        if !self.base.features().event_index || flags != DESC {
+            return flags != DISABLE;
+        }
+        let latest = self.base.latest_slots();
+        let place = number_at(memory, layout.driver);
+        names_one(
+            layout.size,
+            place,
+            self.base.used_slots() - latest as u128,
+            latest,
+        )
     }
 
     fn log(&self) -> &QueueLog {

@@ -3,7 +3,7 @@
 ghost use Rattle.std.specs.Prelude.{◌≡◌, ◌+◌, ◌*◌, ◌%◌, ◌<◌, ◌≤◌, ◌^◌, ◌++◌, ◌&&◌, not, cond, length};
 ghost use Rattle.guest_mem.specs.Memory.{bytes_at, with_bytes};
 ghost use Rattle.byteorder.specs.Endian.{little_number, little_bytes};
-ghost use Rattle.ring_core.specs.Packed.{slot_at, wrap_counter, avail_bit, used_bit, used_flags};
+ghost use Rattle.ring_core.specs.Packed.{slot_at, packed_descriptor, names_one as names_one_of, wrap_counter, avail_bit, used_bit, used_flags};
 
 use byteorder::{ByteOrder, LittleEndian};
 use guest_mem::GuestMem;
@@ -61,6 +61,21 @@ pub(crate) fn wrap_at(size: u16, passed: u128) -> bool
     }
 }
 
+/// The descriptor at an address.
+#[inline(always)]
+fn read_descriptor(memory: &GuestMem, addr: u64) -> Descriptor
+    requires { addr + 16 ≤ length memory.now }
+    ensures { result ≡ packed_descriptor (bytes_at memory.now addr 16) }
+{
+    let bytes = memory.range(addr, 16);
+    Descriptor {
+        addr: LittleEndian::read_u64(bytes),
+        len: LittleEndian::read_u32(&bytes[8..]),
+        flags: LittleEndian::read_u16(&bytes[14..]),
+        next_or_id: LittleEndian::read_u16(&bytes[12..]),
+    }
+}
+
 /// The descriptor in the slot that is reached once so many slots were passed.
 pub(crate) fn descriptor_at(memory: &GuestMem, layout: &Layout, passed: u128) -> Descriptor
     requires some { 0 < layout.now.size }
@@ -68,12 +83,33 @@ pub(crate) fn descriptor_at(memory: &GuestMem, layout: &Layout, passed: u128) ->
     requires small { length memory.now ≤ 2 ^ 28 }
     ensures { result ≡ slot_at layout.now memory.now passed }
 {
-    let bytes = memory.range(place_of(layout, passed), 16);
-    Descriptor {
-        addr: LittleEndian::read_u64(bytes),
-        len: LittleEndian::read_u32(&bytes[8..]),
-        flags: LittleEndian::read_u16(&bytes[14..]),
-        next_or_id: LittleEndian::read_u16(&bytes[12..]),
+    read_descriptor(memory, place_of(layout, passed))
+}
+
+/// The entry at a place of the table at an address.
+pub(crate) fn entry_at(memory: &GuestMem, addr: u64, place: u32) -> Descriptor
+    requires inside { addr + 16 * place + 16 ≤ length memory.now }
+    requires small { length memory.now ≤ 2 ^ 28 }
+    ensures { result ≡ packed_descriptor (bytes_at memory.now (addr + 16 * place) 16) }
+{
+    read_descriptor(memory, addr + 16 * place as u64)
+}
+
+/// Whether one of so many slots, from where so many were passed, is the one that an offset and wrap names.
+pub(crate) fn names_one(size: u16, place: u16, passed: u128, slots: u16) -> bool
+    requires some { 0 < size }
+    requires few { slots ≤ size }
+    ensures { result ≡ names_one_of size place passed slots }
+{
+    let offset = place % 32768;
+    let first = slot_after(passed, size);
+    if offset >= size {
+        return false;
+    }
+    if (place / 32768 == 1) == wrap_at(size, passed) {
+        offset >= first && offset - first < slots
+    } else {
+        offset as u32 + (size as u32) < first as u32 + slots as u32
     }
 }
 

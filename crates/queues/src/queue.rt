@@ -3,6 +3,7 @@
 ghost use Rattle.std.specs.Prelude.{◌≡◌, length, IfOk, None, is_none};
 ghost use Rattle.queues.specs.AnyRing.{ring_state};
 ghost use Rattle.queues.specs.Queue.{opening_ring, placement_of};
+ghost use Rattle.ring_core.specs.State.{features_of};
 
 use crate::any_ring::AnyRing;
 use block_store::NoMemory;
@@ -39,12 +40,13 @@ fn split_of(
     alloc: Global,
     number: u16,
     layout: Layout,
+    features: u64,
     memory: &GuestMem,
 ) -> Result<AnyRing, NoMemory>
     requires { placement_of Form.Split (length memory.now) layout ≡ None }
-    ensures { IfOk result (λ ring. ring_state ring ≡ opening_ring Form.Split (length memory.now) number layout) }
+    ensures { IfOk result (λ ring. ring_state ring ≡ opening_ring Form.Split (length memory.now) number layout (features_of features)) }
 {
-    match SplitRing::new(alloc, number, layout, memory) {
+    match SplitRing::new(alloc, number, layout, features, memory) {
         Ok(ring) => Ok(AnyRing::Split(ring)),
         Err(LayoutFault::NoMemory) => Err(NoMemory),
         Err(_) => unreachable!(),
@@ -56,12 +58,13 @@ fn packed_of(
     alloc: Global,
     number: u16,
     layout: Layout,
+    features: u64,
     memory: &GuestMem,
 ) -> Result<AnyRing, NoMemory>
     requires { placement_of Form.Packed (length memory.now) layout ≡ None }
-    ensures { IfOk result (λ ring. ring_state ring ≡ opening_ring Form.Packed (length memory.now) number layout) }
+    ensures { IfOk result (λ ring. ring_state ring ≡ opening_ring Form.Packed (length memory.now) number layout (features_of features)) }
 {
-    match PackedRing::new(alloc, number, layout, memory) {
+    match PackedRing::new(alloc, number, layout, features, memory) {
         Ok(ring) => Ok(AnyRing::Packed(ring)),
         Err(LayoutFault::NoMemory) => Err(NoMemory),
         Err(_) => unreachable!(),
@@ -74,14 +77,15 @@ fn ring_of(
     form: Form,
     number: u16,
     layout: Layout,
+    features: u64,
     memory: &GuestMem,
 ) -> Result<AnyRing, NoMemory>
     requires { placement_of form (length memory.now) layout ≡ None }
-    ensures { IfOk result (λ ring. ring_state ring ≡ opening_ring form (length memory.now) number layout) }
+    ensures { IfOk result (λ ring. ring_state ring ≡ opening_ring form (length memory.now) number layout (features_of features)) }
 {
     match form {
-        Form::Split => split_of(alloc, number, layout, memory),
-        Form::Packed => packed_of(alloc, number, layout, memory),
+        Form::Split => split_of(alloc, number, layout, features, memory),
+        Form::Packed => packed_of(alloc, number, layout, features, memory),
     }
 }
 
@@ -123,25 +127,26 @@ impl Queue {
     ghost use Rattle.std.specs.Prelude.{◌≡◌, ◌≤◌, ◌↔◌, length, is_some, IfOk, IsTrue};
     ghost use Rattle.std.specs.Prelude.{None};
     ghost use Rattle.queues.specs.Queue.{opening_queue, placement_of, completing, MayComplete};
-    ghost use Rattle.ring_core.specs.State.{Owns};
+    ghost use Rattle.ring_core.specs.State.{Owns, features_of};
     ghost use Rattle.ring_core.specs.Sound.{IsSound, IsLeastOutstanding, outstanding_count};
     ghost use Rattle.ring_core.specs.Writes.{all_written};
     ghost use Rattle.ring_core.specs.Offer.{used_writes};
     ghost use Rattle.queues.specs.Looking.{IsIdle, Looks};
 
-    /// A queue with this number at a place that its ring takes, of which nothing was fetched yet.
-    /// `NoMemory` where its ring was refused memory.
+    /// Opens a queue with this number at a place that its ring takes, for a driver that agreed to these features. Of
+    /// the features it looks only at those that concern rings. `NoMemory` where its ring was refused memory.
     pub fn new(
         alloc: Global,
         form: Form,
         number: u16,
         layout: Layout,
+        features: u64,
         memory: &GuestMem,
     ) -> Result<Queue, NoMemory>
         requires { placement_of form (length memory.now) layout ≡ None }
-        ensures { IfOk result (λ queue. queue ≡ opening_queue form (length memory.now) number layout) }
+        ensures { IfOk result (λ queue. queue ≡ opening_queue form (length memory.now) number layout (features_of features)) }
     {
-        let ring = ring_of(alloc, form, number, layout, memory)?;
+        let ring = ring_of(alloc, form, number, layout, features, memory)?;
         Ok(Queue {
             number,
             ring,

@@ -51,8 +51,13 @@ impl<R: Ring> Bench<R> {
             Move::Put(addr, bytes) => self.put(addr, bytes),
             Move::Number(addr, number) => self.put(addr, &number.to_le_bytes()),
             Move::Descriptor(number, addr, len, third, fourth) => {
-                self.put_descriptor(number, addr, len, (third, fourth))
+                self.put_entry(0, number, addr, len, (third, fourth))
             }
+            Move::Entry(table, number, addr, len, third, fourth) => {
+                self.put_entry(table, number, addr, len, (third, fourth))
+            }
+            Move::SplitTable(table, count, len) => self.put_split_table(table, count, len),
+            Move::PackedTable(table, count, len) => self.put_packed_table(table, count, len),
             Move::Linked(count, len) => self.link(count, len),
             Move::Nothing => self.finds_nothing(),
             Move::Fault(number) => self.faults(number),
@@ -74,20 +79,49 @@ impl<R: Ring> Bench<R> {
         self.memory.write(addr, bytes).is_ok()
     }
 
-    /// Writes a descriptor of the area at 0.
-    fn put_descriptor(&mut self, number: u16, addr: u64, len: u32, last: (u16, u16)) -> bool {
+    /// Writes a descriptor of the table at an address.
+    fn put_entry(
+        &mut self,
+        table: u64,
+        number: u16,
+        addr: u64,
+        len: u32,
+        last: (u16, u16),
+    ) -> bool {
         let mut bytes = [0; 16];
         bytes[..8].copy_from_slice(&addr.to_le_bytes());
         bytes[8..12].copy_from_slice(&len.to_le_bytes());
         bytes[12..14].copy_from_slice(&last.0.to_le_bytes());
         bytes[14..].copy_from_slice(&last.1.to_le_bytes());
-        self.put(16 * u64::from(number), &bytes)
+        self.put(table.saturating_add(16 * u64::from(number)), &bytes)
     }
 
     /// Writes descriptors of a split table at 0, each linked to the next.
     fn link(&mut self, count: u16, len: u32) -> bool {
         for number in 0..count {
-            if !self.put_descriptor(number, 0, len, (1, number + 1)) {
+            if !self.put_entry(0, number, 0, len, (1, number + 1)) {
+                return false;
+            }
+        }
+        true
+    }
+
+    /// Writes the entries of a table of a split queue, each but the last linked to the next.
+    fn put_split_table(&mut self, table: u64, count: u16, len: u32) -> bool {
+        for number in 0..count {
+            let next = number + 1;
+            let last = if next < count { (1, next) } else { (0, 0) };
+            if !self.put_entry(table, number, 0, len, last) {
+                return false;
+            }
+        }
+        true
+    }
+
+    /// Writes the entries of a table of a packed queue.
+    fn put_packed_table(&mut self, table: u64, count: u16, len: u32) -> bool {
+        for number in 0..count {
+            if !self.put_entry(table, number, 0, len, (0, 0)) {
                 return false;
             }
         }

@@ -6,4 +6,4 @@ mod bench;
 mod moves;
 
 pub use bench::Bench;
-pub use moves::{INDIRECT, Move, NEXT, Row, WRITE};
+pub use moves::{EVENT_IDX, INDIRECT, INDIRECT_DESC, Move, NEXT, Row, WRITE};

@@ -11,6 +11,12 @@ pub const WRITE: u16 = 2;
 /// VIRTQ_DESC_F_INDIRECT.
 pub const INDIRECT: u16 = 4;
 
+/// VIRTIO_F_INDIRECT_DESC (VIRTIO 1.2, 6).
+pub const INDIRECT_DESC: u64 = 1 << 28;
+
+/// VIRTIO_F_EVENT_IDX (VIRTIO 1.2, 6).
+pub const EVENT_IDX: u64 = 1 << 29;
+
 /// What the driver does in memory or the device with the queue, and what comes of it.
 #[derive(Clone, Copy)]
 pub enum Move {
@@ -24,6 +30,14 @@ pub enum Move {
     /// The driver writes so many descriptors of a split table at 0, each of so many bytes at 0 and
     /// linked to the next.
     Linked(u16, u32),
+    /// The driver writes an entry of the table at an address: its number there, address, length, and its
+    /// last two fields.
+    Entry(u64, u16, u64, u32, u16, u16),
+    /// The driver writes a table of a split queue at an address: so many entries, each of so many bytes at 0
+    /// and all but the last linked to the next.
+    SplitTable(u64, u16, u32),
+    /// The driver writes a table of a packed queue at an address: so many entries, each of so many bytes at 0.
+    PackedTable(u64, u16, u32),
     /// A fetch finds no chain.
     Nothing,
     /// A fetch answers the fault of this number.
@@ -56,6 +70,8 @@ pub struct Row {
     pub pages: u32,
     /// Where the queue lies.
     pub layout: Layout,
+    /// The features that were agreed.
+    pub features: u64,
     /// What is done.
     pub moves: &'static [Move],
 }

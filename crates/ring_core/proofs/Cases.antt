@@ -1,14 +1,14 @@
 -- Small cases of queues.
-use Rattle.std.proofs.Common.{◌≡◌, ℕ, zero, suc, ◌+◌, ◌-◌, ◌%◌, ◌^◌, ◌<◌, ◌≤◌, List, [], ◌∷◌, ◌++◌, length, true, false, Option, Some, None, refl, sym, ap, ◌∙◌, arith, add-one}
+use Rattle.std.proofs.Common.{◌≡◌, ℕ, zero, suc, ◌+◌, ◌-◌, ◌%◌, ◌^◌, ◌<◌, ◌≤◌, List, [], ◌∷◌, ◌++◌, length, nat_lt, ◌==◌, ◌&&◌, true, false, Option, Some, None, refl, sym, ap, ◌∙◌, arith, add-one, inl}
 use Rattle.std.proofs.lemmas.Bool.Decides.{nat_tests}
 use Rattle.std.proofs.lemmas.Grind.{common_steps}
 use Rattle.byteorder.specs.Endian.{little_number, little_bytes}
 use Rattle.byteorder.specs.Numbers.{little_number-reads_back}
 use Rattle.guest_mem.specs.Memory.{bytes_at}
 use Rattle.ring_core.specs.State.{RingState}
-use Rattle.ring_core.specs.Walk.{nothing_before, goes_on, is_indirect, part_of, front, by_next}
-use Rattle.ring_core.specs.Split.{split_descriptor, in_table, number_on, path, split_wrong, SplitChain, SplitFails, ahead, entry_wrong}
-use Rattle.ring_core.specs.Packed.{packed_descriptor}
+use Rattle.ring_core.specs.Walk.{nothing_before, goes_on, is_indirect, part_of, front, Sequence}
+use Rattle.ring_core.specs.Split.{split_descriptor, in_table, number_on, path, split_path, split_table, split_wrong, SplitChain, SplitFails, ahead, entry_wrong, used_event, split_wants_notice}
+use Rattle.ring_core.specs.Packed.{packed_descriptor, names_one}
 use Rattle.ring_core.specs.declared.layout.Features.{Features}
 use Rattle.ring_core.specs.declared.descriptor.Part.{Part}
 use Rattle.ring_core.specs.declared.descriptor.Descriptor.{Descriptor}
@@ -16,6 +16,7 @@ use Rattle.ring_core.specs.declared.before.Before.{Before}
 use Rattle.ring_core.specs.declared.fault.RingFault.{RingFault}
 use Rattle.ring_core.specs.declared.fault.RingFault.TheVariants.{IndexJump, ChainTooLong}
 use Rattle.ring_core.proofs.Along.{Along, along_start, along_more, along_end, along_wrong}
+use Rattle.ring_core.proofs.Walking.{chain_direct}
 
 -- The available index:
 pub ahead_some : (s : RingState) (m : List ℕ) (k : ℕ) → k < 65536 → little_number 2 (bytes_at m (s.layout.driver + 2) 2) ≡ (length s.log.accepted + k) % 65536 → ahead s m ≡ k
@@ -42,16 +43,18 @@ module _ (features : Features) (m : List ℕ) (table size : ℕ) where
   abbrev Wrong : Before → Descriptor → Option RingFault
   Wrong = split_wrong features (length m) size
 
+  abbrev From : ℕ → Sequence
+  From head = split_path features m table size head
+
   pub one_alone : (head addr len next : ℕ) → in_table m table head ≡ record { addr = addr; len = len; flags = 0; next_or_id = next } → addr + len ≤ length m → len ≤ 2 ^ 32
       → SplitChain features m table size head (record { addr = addr; len = len; writable = false } ∷ [])
-  unfolding number_on
+  unfolding number_on front
   one_alone head addr len next is inside small =
       let d : Descriptor = record { addr = addr; len = len; flags = 0; next_or_id = next } in
       let b : Before = record { count = 0; total = 0; writable = false } in
-      let at : ℕ → Descriptor = path m table head in
       let fine : Wrong b d ≡ None = right features (length m) size b d refl inside refl (omega arith) (λ on. absurd (cc)) in
-      let e = along_end nothing_before by_next Wrong at 0 b [] d (along_start nothing_before by_next Wrong at) (sym is) fine refl in
-      (front at 1, e.0, e.1)
+      let e = along_end (From head) nothing_before [] 0 b [] d (along_start (From head) nothing_before []) (sym is) fine refl in
+      ([], d, chain_direct (From head) (split_table m) [] d [] e refl refl)
 
   pub three_linked : (a b c i j k next : ℕ) → 5 < size
       → in_table m table 3 ≡ record { addr = a; len = i; flags = 1; next_or_id = 5 }
@@ -61,7 +64,7 @@ module _ (features : Features) (m : List ℕ) (table size : ℕ) where
       → SplitChain features m table size 3 (record { addr = a; len = i; writable = false } ∷ record { addr = b; len = j; writable = false } ∷ record { addr = c; len = k; writable = true } ∷ [])
   unfolding number_on
   three_linked a b c i j k next big is3 is5 is1 in3 in5 in1 small =
-      let at : ℕ → Descriptor = path m table 3 in
+      let at : Sequence = From 3 in
       let d0 : Descriptor = record { addr = a; len = i; flags = 1; next_or_id = 5 } in
       let d1 : Descriptor = record { addr = b; len = j; flags = 1; next_or_id = 1 } in
       let d2 : Descriptor = record { addr = c; len = k; flags = 2; next_or_id = next } in
@@ -72,15 +75,15 @@ module _ (features : Features) (m : List ℕ) (table size : ℕ) where
       let b0 : Before = record { count = 0; total = 0; writable = false } in
       let b1 : Before = record { count = 1; total = 0 + i; writable = false } in
       let b2 : Before = record { count = 2; total = 0 + i + j; writable = false } in
-      let s1 : Along nothing_before by_next Wrong at 1 b1 (part_of d0 ∷ []) =
-      along_more nothing_before by_next Wrong at 0 b0 [] d0 (along_start nothing_before by_next Wrong at) (sym is3)
+      let s1 : Along (From 3) nothing_before [] 1 b1 (part_of d0 ∷ []) =
+      along_more (From 3) nothing_before [] 0 b0 [] d0 (along_start (From 3) nothing_before []) (sym is3)
       (right features (length m) size b0 d0 refl in3 refl (omega arith) (λ on. (big, omega arith))) refl in
-      let s2 : Along nothing_before by_next Wrong at 2 b2 (part_of d0 ∷ part_of d1 ∷ []) =
-      along_more nothing_before by_next Wrong at 1 b1 (part_of d0 ∷ []) d1 s1 (sym e1)
+      let s2 : Along (From 3) nothing_before [] 2 b2 (part_of d0 ∷ part_of d1 ∷ []) =
+      along_more (From 3) nothing_before [] 1 b1 (part_of d0 ∷ []) d1 s1 (sym e1)
       (right features (length m) size b1 d1 refl in5 refl (omega arith) (λ on. (omega arith, omega arith))) refl in
-      let e = along_end nothing_before by_next Wrong at 2 b2 (part_of d0 ∷ part_of d1 ∷ []) d2 s2 (sym e2)
+      let e = along_end (From 3) nothing_before [] 2 b2 (part_of d0 ∷ part_of d1 ∷ []) d2 s2 (sym e2)
       (right features (length m) size b2 d2 refl in1 refl (omega arith) (λ on. absurd (cc))) refl in
-      (front at 3, e.0, e.1)
+      (front (From 3).at 2, d2, chain_direct (From 3) (split_table m) (front (From 3).at 2) d2 (part_of d0 ∷ part_of d1 ∷ []) e refl s2.found)
 
   module _ (head addr : ℕ) (within : head < size) (is : in_table m table head ≡ record { addr = addr; len = 0; flags = 1; next_or_id = head }) where
     abbrev Itself : Descriptor
@@ -103,18 +106,18 @@ module _ (features : Features) (m : List ℕ) (table size : ℕ) where
     at_last : (n : ℕ) → size ≤ n + 1 → Wrong (behind n) Itself ≡ Some ChainTooLong
     at_last n le = grind (arith, common_steps, nat_tests)
 
-    round : (n : ℕ) → n < size → (parts : List Part) × Along nothing_before by_next Wrong (path m table head) n (behind n) parts
-    round zero lt = ([], along_start nothing_before by_next Wrong (path m table head))
+    round : (n : ℕ) → n < size → (parts : List Part) × Along (From head) nothing_before [] n (behind n) parts
+    round zero lt = ([], along_start (From head) nothing_before [])
     round (suc n) lt =
         let before = round n (omega arith) in
-        let next = along_more nothing_before by_next Wrong (path m table head) n (behind n) before.0 Itself before.1 (is_itself n) (once_more n (omega arith)) refl in
+        let next = along_more (From head) nothing_before [] n (behind n) before.0 Itself before.1 (is_itself n) (once_more n (omega arith)) refl in
         (before.0 ++ part_of Itself ∷ [], rw add-one at next)
 
     pub names_itself : SplitFails features m table size head ChainTooLong
     names_itself =
         let n : ℕ = size - 1 in
         let before = round n (omega arith) in
-        along_wrong nothing_before by_next Wrong (path m table head) n (behind n) before.0 Itself before.1 (is_itself n) ChainTooLong (at_last n (omega arith))
+        inl (along_wrong (From head) nothing_before [] n (behind n) before.0 Itself before.1 (is_itself n) ChainTooLong (at_last n (omega arith)))
 
 -- A descriptor in the bytes that a driver writes:
 module _ (addr len flags last : ℕ) (a : addr < 2 ^ 64) (n : len < 2 ^ 32) (f : flags < 2 ^ 16) (l : last < 2 ^ 16) where
@@ -133,3 +136,14 @@ module _ (addr len flags last : ℕ) (a : addr < 2 ^ 64) (n : len < 2 ^ 32) (f :
       let e2 = little_number-reads_back 2 last (little_bytes 2 flags) l in
       let e0 = little_number-reads_back 2 flags [] f in
       cc
+
+-- Notices:
+pub notice_once : (s : RingState) (m : List ℕ) → s.features.event_index ≡ true → length s.log.used ≤ 65536 → used_event s m < 65536 → split_wants_notice s m ≡ (length s.log.used == used_event s m + 1)
+notice_once s m agreed few small = rw agreed (once (length s.log.used) (used_event s m) few small)
+  where
+    once : (n e : ℕ) → n ≤ 65536 → e < 65536 → nat_lt 0 n && (e == (n - 1) % 65536) ≡ (n == e + 1)
+    once n e few small = grind (arith, common_steps, nat_tests)
+
+pub four_named : (names_one 7 32772 0 3 ≡ false) × (names_one 7 32772 3 3 ≡ true) × (names_one 7 32772 6 3 ≡ false) × (names_one 7 32772 9 3 ≡ false)
+unfolding names_one
+four_named = (refl, refl, refl, refl)

@@ -1,17 +1,16 @@
--- The parts of a chain fit in memory, in either form of queue.
-use Rattle.std.proofs.Common.{◌≡◌, ℕ, zero, suc, ◌+◌, ◌<◌, ◌≤◌, ◌^◌, List, [], ◌∷◌, ◌++◌, Bool, true, false, cond, Option, None, arith, map, sum_by, below_more}
+-- The parts of a sequence of descriptors whose buffers were tested, in either form of queue.
+use Rattle.std.proofs.Common.{◌≡◌, ℕ, zero, suc, ◌+◌, ◌<◌, ◌≤◌, ◌^◌, List, [], ◌∷◌, ◌++◌, Bool, true, false, cond, None, arith, map, sum_by}
 use Rattle.std.proofs.lemmas.Grind.{common_steps}
 use Rattle.std.proofs.lemmas.Bool.Decides.{nat_tests}
 use Rattle.std.proofs.lemmas.List.{map-append}
 use Rattle.std.proofs.lemmas.List.Sums.{sum_by-append}
 use Rattle.std.proofs.lemmas.List.Elements.{All-push}
 use Rattle.std.specs.List.{AllPass}
-use Rattle.ring_core.specs.Walk.{part_of, amount, front, first_of, buffer_tests, LeadsTo, IsChain}
+use Rattle.ring_core.specs.Walk.{nothing_before, part_of, amount, front, first_of, buffer_tests}
 use Rattle.ring_core.specs.Parts.{inside, readable_total, writable_total, PartsFit}
 use Rattle.ring_core.specs.declared.descriptor.Part.{Part}
 use Rattle.ring_core.specs.declared.descriptor.Descriptor.{Descriptor}
 use Rattle.ring_core.specs.declared.before.Before.{Before}
-use Rattle.ring_core.specs.declared.fault.RingFault.{RingFault}
 
 -- what follows where nothing is wrong with a buffer
 right_inside : (memory : ℕ) (b : Before) (d : Descriptor) → first_of (buffer_tests memory b d) ≡ None → inside memory (part_of d) ≡ true
@@ -42,29 +41,24 @@ module _ (at : ℕ → Descriptor) where
   fit_sum (suc n) =
       rw (map-append, readable_more, writable_more, len_more) (omega (arith, fit_sum n, both (part_of (at n)).writable (at n).len))
 
--- Along any sequence of descriptors whose buffers are tested:
-module _ (memory : ℕ) (first : Before) (on : Before → Descriptor → Bool) (wrong : Before → Descriptor → Option RingFault) (at : ℕ → Descriptor)
-    (tested : (b : Before) (d : Descriptor) → wrong b d ≡ None → first_of (buffer_tests memory b d) ≡ None) where
-  -- all of the first n are right
-  AllRight : ℕ → Type 0
-  AllRight n = (k : ℕ) → k < n → wrong (amount first (front at k)) (at k) ≡ None
+-- nothing is wrong with the buffers of the first n of a sequence
+abbrev pub AllTested : ℕ → (ℕ → Descriptor) → ℕ → Type 0
+AllTested memory at n = (k : ℕ) → k < n → first_of (buffer_tests memory (amount nothing_before (front at k)) (at k)) ≡ None
 
-  fit_inside : (n : ℕ) → AllRight n → AllPass (inside memory) (map part_of (front at n))
-  unfolding AllRight front
+module _ (memory : ℕ) (at : ℕ → Descriptor) where
+  fit_inside : (n : ℕ) → AllTested memory at n → AllPass (inside memory) (map part_of (front at n))
+  unfolding front
   fit_inside zero r = λ k d lt. absurd (omega arith)
   fit_inside (suc n) r =
       rw map-append
       (All-push (λ (p : Part). inside memory p ≡ true) (map part_of (front at n)) (part_of (at n)) (fit_inside n (λ k lt. r k (omega arith)))
-      (right_inside memory (amount first (front at n)) (at n) (tested _ _ (r n (omega arith)))))
+      (right_inside memory (amount nothing_before (front at n)) (at n) (r n (omega arith))))
 
-  pub chain_fits : (chain : List Descriptor) → IsChain first on wrong at chain → PartsFit memory (map part_of chain)
-  unfolding AllRight front IsChain LeadsTo
-  chain_fits chain (n, leads, right, off, is) =
-      let P : ℕ → Type 0 = λ k. wrong (amount first (front at k)) (at k) ≡ None in
-      let r : AllRight (suc n) = λ k lt. below_more P n (λ j l. (leads j l).0) right k (omega arith) in
-      rw is
-      (record {
+  pub tested_fit : (n : ℕ) → AllTested memory at (suc n) → PartsFit memory (map part_of (front at (suc n)))
+  unfolding front
+  tested_fit n r =
+      record {
         inside = fit_inside (suc n) r;
         total =
-            omega (arith, fit_sum at (suc n), len_more (front at n) (at n), right_total memory (amount first (front at n)) (at n) (tested _ _ right));
-      })
+            omega (arith, fit_sum at (suc n), len_more (front at n) (at n), right_total memory (amount nothing_before (front at n)) (at n) (r n (omega arith)));
+      }

@@ -1,4 +1,5 @@
 pub mod Along
+pub mod Joined
 pub mod Fitting
 pub mod ByPart
 pub mod Sound
@@ -11,3 +12,4 @@ pub mod Scattering
 pub mod RightChains
 pub mod ChainProperties
 pub mod Cases
+pub mod Walking

@@ -4,6 +4,7 @@ pub mod Sound
 pub mod Parts
 pub mod Writes
 pub mod Walk
+pub mod Walking
 pub mod Split
 pub mod Packed
 pub mod Offer

@@ -75,9 +75,9 @@ abbrev pub used_writes : RingState → ℕ → ℕ → List Write
 used_writes s id len = used_writes_in_form s.form s id len
 
 abbrev pub notice_in_form : Form → RingState → List ℕ → Bool
-notice_in_form Split s m = split_wants_notice m s.layout.driver
-notice_in_form Packed s m = packed_wants_notice m s.layout.driver
+notice_in_form Split s m = split_wants_notice s m
+notice_in_form Packed s m = packed_wants_notice s m
 
--- the driver asks for a notice: a used buffer notification (VIRTIO 1.2, 2.3)
+-- the driver asks for a notice of the latest used chain: a used buffer notification (VIRTIO 1.2, 2.3)
 abbrev pub wants_notice : RingState → List ℕ → Bool
 wants_notice s m = notice_in_form s.form s m

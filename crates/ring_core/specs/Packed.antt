@@ -1,9 +1,9 @@
 -- A packed virtqueue (VIRTIO 1.2, 2.8): which chain lies at its next place, and what a completion writes.
-use Rattle.std.specs.Prelude.{ℕ, ◌+◌, ◌*◌, ◌-◌, ◌%◌, ◌/◌, ◌==◌, ◌&&◌, not, nat_lt, nat_le, Bool, ◌≡◌, cond, List, [], ◌∷◌, ◌++◌, length, map, drop, Option, is_some, bit_and}
+use Rattle.std.specs.Prelude.{ℕ, zero, suc, ◌+◌, ◌*◌, ◌-◌, ◌%◌, ◌/◌, ◌==◌, ◌&&◌, ◌||◌, not, nat_lt, nat_le, Bool, false, ◌≡◌, cond, List, [], ◌∷◌, ◌++◌, length, drop, Option, is_some, bit_and}
 use Rattle.byteorder.specs.Endian.{little_number, little_bytes}
 use Rattle.guest_mem.specs.Memory.{bytes_at}
 use Rattle.ring_core.specs.State.{RingState, under}
-use Rattle.ring_core.specs.Walk.{goes_on, is_indirect, part_of, first_of, buffer_tests, nothing_before, by_next, IsChain, IsFault}
+use Rattle.ring_core.specs.Walk.{goes_on, is_indirect, first_of, buffer_tests, table_wrong, by_next, Sequence, IsChain, ChainFails}
 use Rattle.ring_core.specs.Writes.{Write}
 use Rattle.ring_core.specs.declared.layout.Layout.{Layout}
 use Rattle.ring_core.specs.declared.layout.Features.{Features}
@@ -11,7 +11,7 @@ use Rattle.ring_core.specs.declared.descriptor.Part.{Part}
 use Rattle.ring_core.specs.declared.descriptor.Descriptor.{Descriptor}
 use Rattle.ring_core.specs.declared.before.Before.{Before}
 use Rattle.ring_core.specs.declared.fault.RingFault.{RingFault}
-use Rattle.ring_core.specs.declared.fault.RingFault.TheVariants.{BadIndirect, ChainTooLong, AlreadyOutstanding, RingOverrun}
+use Rattle.ring_core.specs.declared.fault.RingFault.TheVariants.{ChainTooLong, AlreadyOutstanding, RingOverrun}
 
 -- The ring of descriptors (2.8.13): le64 addr, le32 len, le16 id, le16 flags
 
@@ -50,37 +50,46 @@ is_available s m =
     (avail_bit d && not (used_bit d))
     (not (avail_bit d) && used_bit d)
 
--- what is wrong with a descriptor of the run in the ring, in a memory and a ring of these sizes. INDIRECT is a fault
--- whatever features were agreed, since the device offers none of them.
+-- what is wrong with a descriptor of the run in the ring, in a memory and a ring of these sizes. One that names a table
+-- has no buffer.
 abbrev pub packed_wrong : Features → ℕ → ℕ → Before → Descriptor → Option RingFault
 packed_wrong features memory size before d =
-    first_of (
-    (is_indirect d, BadIndirect)
-    ∷ buffer_tests memory before d
+    cond (is_indirect d)
+    (table_wrong features memory d)
+    (first_of (
+    buffer_tests memory before d
     ++ (goes_on d && nat_le size (before.count + 1), ChainTooLong)
-    ∷ [])
+    ∷ []))
 
--- the run in the slots from t on: consecutive ones to the first without NEXT, each of them right (2.8.6)
-abbrev pub IsPackedRun : Features → List ℕ → Layout → ℕ → List Descriptor → Type 0
-IsPackedRun features m l t run =
-    IsChain nothing_before by_next (packed_wrong features (length m) l.size) (slots_from l m t) run
+-- the slots of the ring from t on: consecutive ones to the first without NEXT (2.8.6)
+abbrev pub packed_slots : Features → List ℕ → Layout → ℕ → Sequence
+packed_slots features m l t =
+    record { at = slots_from l m t; on = by_next; wrong = packed_wrong features (length m) l.size }
 
--- a chain's id is its last descriptor's (2.8.6)
-abbrev pub id_of : List Descriptor → ℕ
-id_of [] = 0
-id_of (d ∷ []) = d.next_or_id
-id_of (d ∷ e ∷ ds) = id_of (e ∷ ds)
+-- the k-th entry of the table that a descriptor names
+abbrev pub entry_of : List ℕ → Descriptor → ℕ → Descriptor
+entry_of m d k = packed_descriptor (bytes_at m (d.addr + 16 * k) 16)
 
--- the chain in the slots from t on has the id and the slots of its run in the ring, and its parts
+-- its entries as a sequence: all of them in order, of whose flags WRITE alone counts (2.8.7)
+abbrev pub packed_table : List ℕ → Descriptor → Sequence
+packed_table m d =
+    record {
+      at = entry_of m d;
+      on = λ before e. nat_lt (before.count + 1) (d.len / 16);
+      wrong = λ before e. first_of (buffer_tests (length m) before e);
+    }
+
+-- the chain in the slots from t on has these parts, the id of the last slot of its run in the ring (2.8.6), and as many
+-- slots as that has
 abbrev pub PackedChain : Features → List ℕ → Layout → ℕ → ℕ → ℕ → List Part → Type 0
 PackedChain features m l t id slots parts =
-    (chain : List Descriptor) × IsPackedRun features m l t chain
-    × (id ≡ id_of chain) × (slots ≡ length chain) × (parts ≡ map part_of chain)
+    (direct : List Descriptor) × (last : Descriptor)
+    × IsChain (packed_slots features m l t) (packed_table m) direct last parts
+    × (id ≡ last.next_or_id) × (slots ≡ length direct + 1)
 
--- the first thing wrong along those slots
+-- the first thing wrong with it
 abbrev pub PackedFails : Features → List ℕ → Layout → ℕ → RingFault → Type 0
-PackedFails features m l t f =
-    IsFault nothing_before by_next (packed_wrong features (length m) l.size) (slots_from l m t) f
+PackedFails features m l t f = ChainFails (packed_slots features m l t) (packed_table m) f
 
 -- what is wrong with a whole chain of this id and so many slots
 abbrev pub whole_wrong : RingState → ℕ → ℕ → Option RingFault
@@ -106,7 +115,30 @@ packed_used_writes s id len =
     }
     ∷ []
 
--- The driver event suppression area (2.8.10, 2.8.14): le16 offset and wrap, le16 flags; RING_EVENT_FLAGS_DISABLE is 1
+-- The driver event suppression area (2.8.10, 2.8.14): le16 offset and wrap, le16 flags
 
-abbrev pub packed_wants_notice : List ℕ → ℕ → Bool
-packed_wants_notice m driver = not (little_number 2 (bytes_at m (driver + 2) 2) % 4 == 1)
+-- RING_EVENT_FLAGS_DISABLE is 1, RING_EVENT_FLAGS_DESC 2
+abbrev pub event_flags : RingState → List ℕ → ℕ
+event_flags s m = little_number 2 (bytes_at m (s.layout.driver + 2) 2) % 4
+
+abbrev pub event_place : RingState → List ℕ → ℕ
+event_place s m = little_number 2 (bytes_at m s.layout.driver 2)
+
+-- the slot that is reached once t slots were passed is the one that an offset and wrap names: its number is the offset,
+-- and the wrap bit (15) is the wrap counter there
+abbrev pub is_named : ℕ → ℕ → ℕ → Bool
+is_named size place t =
+    (t % size == place % 32768) && (cond (place / 32768 == 1) (wrap_counter size t) (not (wrap_counter size t)))
+
+-- one of n slots from where t were passed is named
+unfoldable pub names_one : ℕ → ℕ → ℕ → ℕ → Bool
+names_one size place t zero = false
+names_one size place t (suc n) = names_one size place t n || is_named size place (t + n)
+
+-- a notice is wanted of the latest used chain: where event indices were agreed and flags are DESC, that is the one of
+-- whose slots one is named; before the first completion there is none. Otherwise always, but with flags DISABLE.
+abbrev pub packed_wants_notice : RingState → List ℕ → Bool
+packed_wants_notice s m =
+    cond (s.features.event_index && (event_flags s m == 2))
+    (names_one s.layout.size (event_place s m) (s.used_slots - s.latest_slots) s.latest_slots)
+    (not (event_flags s m == 1))

@@ -1,16 +1,16 @@
 -- A split virtqueue (VIRTIO 1.2, 2.7): which chain lies at its next place, and what a completion writes.
-use Rattle.std.specs.Prelude.{ℕ, zero, suc, ◌≡◌, ◌+◌, ◌*◌, ◌-◌, ◌%◌, ◌==◌, ◌&&◌, not, nat_lt, nat_le, Bool, map, List, [], ◌∷◌, ◌++◌, length, drop, Option, is_some, bit_and}
+use Rattle.std.specs.Prelude.{ℕ, zero, suc, ◌+◌, ◌*◌, ◌-◌, ◌%◌, ◌/◌, ◌==◌, ◌&&◌, not, nat_lt, nat_le, Bool, cond, List, [], ◌∷◌, ◌++◌, length, drop, Option, is_some, bit_and}
 use Rattle.byteorder.specs.Endian.{little_number, little_bytes}
 use Rattle.guest_mem.specs.Memory.{bytes_at}
-use Rattle.ring_core.specs.State.{RingState, under}
-use Rattle.ring_core.specs.Walk.{goes_on, is_indirect, part_of, first_of, buffer_tests, nothing_before, by_next, IsChain, IsFault}
+use Rattle.ring_core.specs.State.{RingState, under, no_features}
+use Rattle.ring_core.specs.Walk.{goes_on, is_indirect, first_of, buffer_tests, table_wrong, by_next, Sequence, IsChain, ChainFails}
 use Rattle.ring_core.specs.Writes.{Write}
 use Rattle.ring_core.specs.declared.layout.Features.{Features}
 use Rattle.ring_core.specs.declared.descriptor.Part.{Part}
 use Rattle.ring_core.specs.declared.descriptor.Descriptor.{Descriptor}
 use Rattle.ring_core.specs.declared.before.Before.{Before}
 use Rattle.ring_core.specs.declared.fault.RingFault.{RingFault}
-use Rattle.ring_core.specs.declared.fault.RingFault.TheVariants.{BadIndirect, IndexJump, HeadOutOfRange, NextOutOfRange, ChainTooLong, AlreadyOutstanding}
+use Rattle.ring_core.specs.declared.fault.RingFault.TheVariants.{IndexJump, HeadOutOfRange, NextOutOfRange, ChainTooLong, AlreadyOutstanding}
 
 -- The table of descriptors (2.7.5): le64 addr, le32 len, le16 flags, le16 next
 
@@ -37,35 +37,35 @@ abbrev pub path : List ℕ → ℕ → ℕ → ℕ → Descriptor
 path m table head k = in_table m table (number_on m table head k)
 
 -- what is wrong with a descriptor of a run, in a memory of this size, where the run has at most so many and their
--- numbers are below that. INDIRECT is a fault whatever features were agreed, since the device offers none of them.
+-- numbers are below that. One that names a table has no buffer.
 abbrev pub split_wrong : Features → ℕ → ℕ → Before → Descriptor → Option RingFault
 split_wrong features memory size before d =
-    first_of (
-    (is_indirect d, BadIndirect)
-    ∷ buffer_tests memory before d
+    cond (is_indirect d)
+    (table_wrong features memory d)
+    (first_of (
+    buffer_tests memory before d
     ++ (goes_on d && nat_le size d.next_or_id, NextOutOfRange)
     ∷ (goes_on d && nat_le size (before.count + 1), ChainTooLong)
-    ∷ [])
+    ∷ []))
 
--- a run from a head of a table of so many descriptors, behind what stood before it: those on its path to the first
--- without NEXT, each of them right
-abbrev pub IsSplitRun : Features → Before → List ℕ → ℕ → ℕ → ℕ → List Descriptor → Type 0
-IsSplitRun features first m table size head run =
-    IsChain first by_next (split_wrong features (length m) size) (path m table head) run
+-- a table of so many descriptors, from a head on
+abbrev pub split_path : Features → List ℕ → ℕ → ℕ → ℕ → Sequence
+split_path features m table size head =
+    record { at = path m table head; on = by_next; wrong = split_wrong features (length m) size }
 
--- the first thing wrong along it
-abbrev pub SplitRunFails : Features → Before → List ℕ → ℕ → ℕ → ℕ → RingFault → Type 0
-SplitRunFails features first m table size head f =
-    IsFault first by_next (split_wrong features (length m) size) (path m table head) f
+-- the table that a descriptor names, from its entry 0 on; none of its entries names another (2.7.5.3.1)
+abbrev pub split_table : List ℕ → Descriptor → Sequence
+split_table m d = split_path no_features m d.addr (d.len / 16) 0
 
--- the chain at a head has these parts: those of its run in the queue's table
+-- the chain at a head of the queue's table has these parts
 abbrev pub SplitChain : Features → List ℕ → ℕ → ℕ → ℕ → List Part → Type 0
 SplitChain features m table size head parts =
-    (chain : List Descriptor) × IsSplitRun features nothing_before m table size head chain × (parts ≡ map part_of chain)
+    (direct : List Descriptor) × (last : Descriptor)
+    × IsChain (split_path features m table size head) (split_table m) direct last parts
 
--- the first thing wrong along its path
+-- the first thing wrong with it
 abbrev pub SplitFails : Features → List ℕ → ℕ → ℕ → ℕ → RingFault → Type 0
-SplitFails features m table size head f = SplitRunFails features nothing_before m table size head f
+SplitFails features m table size head f = ChainFails (split_path features m table size head) (split_table m) f
 
 -- The available ring (2.7.6): le16 flags, le16 idx, le16 ring[size]
 
@@ -88,8 +88,20 @@ entry_wrong s m =
     ∷ [])
 
 -- VIRTQ_AVAIL_F_NO_INTERRUPT isn't set (2.7.7)
-abbrev pub split_wants_notice : List ℕ → ℕ → Bool
-split_wants_notice m driver = not (bit_and (little_number 2 (bytes_at m driver 2)) 1 == 1)
+abbrev pub split_interrupts : RingState → List ℕ → Bool
+split_interrupts s m = not (bit_and (little_number 2 (bytes_at m s.layout.driver 2)) 1 == 1)
+
+-- used_event, behind the entries (2.7.6, 2.7.7)
+abbrev pub used_event : RingState → List ℕ → ℕ
+used_event s m = little_number 2 (bytes_at m (s.layout.driver + 4 + 2 * s.layout.size) 2)
+
+-- a notice is wanted of the latest used chain: where event indices were agreed, that is the one whose completion found
+-- used_event as the used index; before the first completion there is none (2.7.7.2)
+abbrev pub split_wants_notice : RingState → List ℕ → Bool
+split_wants_notice s m =
+    cond s.features.event_index
+    (nat_lt 0 (length s.log.used) && (used_event s m == (length s.log.used - 1) % 65536))
+    (split_interrupts s m)
 
 -- The used ring (2.7.8): le16 flags, le16 idx, elements of le32 id and le32 len
 

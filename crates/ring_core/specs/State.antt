@@ -1,5 +1,5 @@
 -- A virtqueue as a plain value: where it lies, its log, and which of its chains are outstanding.
-use Rattle.std.specs.Prelude.{ℕ, ◌+◌, ◌≡◌, ◌<◌, List, [], ◌∷◌, ◌++◌, length, Option, Some, None, false, get_or, slice_set, slice_get, zero, suc, replicate}
+use Rattle.std.specs.Prelude.{ℕ, ◌+◌, ◌≡◌, ◌<◌, List, [], ◌∷◌, ◌++◌, length, Option, Some, None, false, get_or, slice_set, slice_get, zero, suc, replicate, bit_and, ◌==◌, ◌^◌}
 use Rattle.ring_core.specs.declared.log.Ticket.{Ticket}
 use Rattle.ring_core.specs.declared.layout.Layout.{Layout}
 use Rattle.ring_core.specs.declared.layout.Form.{Form}
@@ -33,6 +33,15 @@ pub record RingState : Type 0 where
 -- neither indirect descriptors nor event indices were agreed
 abbrev pub no_features : Features
 no_features = record { indirect_descriptors = false; event_index = false }
+
+-- the features of virtqueues among those that were agreed (VIRTIO 1.2, 6): VIRTIO_F_INDIRECT_DESC is bit 28,
+-- VIRTIO_F_EVENT_IDX bit 29
+abbrev pub features_of : ℕ → Features
+features_of agreed =
+    record {
+      indirect_descriptors = bit_and agreed (2 ^ 28) == 2 ^ 28;
+      event_index = bit_and agreed (2 ^ 29) == 2 ^ 29;
+    }
 
 -- a chain as a plain value: its ticket, its head or id, its slots, its parts, and the size of its memory
 pub record PlainChain : Type 0 where

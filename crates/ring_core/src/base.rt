@@ -130,6 +130,13 @@ impl RingBase {
         self.layout
     }
 
+    /// The features that were agreed.
+    pub fn features(&self) -> Features
+        ensures { result ≡ self.now.features }
+    {
+        self.features
+    }
+
     /// The size in bytes of the memory that it was made with.
     pub fn memory(&self) -> u64
         ensures { result ≡ self.now.memory }
@@ -152,6 +159,13 @@ impl RingBase {
         ensures below { result ≤ self.now.accepted_slots }
     {
         self.used_slots
+    }
+
+    /// The slots of the latest used chain.
+    pub fn latest_slots(&self) -> u16
+        ensures { result ≡ self.now.latest_slots }
+    {
+        self.latest_slots
     }
 
     /// The fault that broke it, if one did.

@@ -30,6 +30,17 @@ impl Before {
         }
     }
 
+    /// Before the first descriptor of a run behind these: they count no more for how many there are.
+    pub fn anew(&self) -> Before
+        ensures { result ≡ record { count = 0; total = self.now.total; writable = self.now.writable } }
+    {
+        Before {
+            count: 0,
+            total: self.total,
+            writable: self.writable,
+        }
+    }
+
     /// With one more descriptor.
     pub fn with(&self, d: &Descriptor) -> Before
         requires count { self.now.count < 2 ^ 32 }

@@ -8,7 +8,7 @@ use std::marker::Model;
 use std::mem;
 
 /// How many parts a chain has room for without a further allocation.
-const FEW_PARTS: usize = 4;
+const FEW_PARTS: usize = 8;
 
 /// Of how many bytes room is kept from one chain for the next, at most.
 const FEW_BYTES: usize = 4096;

@@ -1,8 +1,10 @@
 //! One descriptor, in whatever table or ring it stands.
 
-ghost use Rattle.std.specs.Prelude.{◌≡◌, ⊤, [], ◌∷◌, codes};
-ghost use Rattle.ring_core.specs.Walk.{goes_on, is_writable, is_indirect, part_of};
+ghost use Rattle.std.specs.Prelude.{◌≡◌, ⊤, [], ◌∷◌, codes, MatchResult, None, Some};
+ghost use Rattle.ring_core.specs.Walk.{goes_on, is_writable, is_indirect, part_of, table_wrong};
 
+use crate::fault::RingFault;
+use crate::layout::Features;
 use bitflags::{Flag, Flags, bitflag_items};
 
 /// What a descriptor's flags say (VIRTIO 1.2, 2.7.5 and 2.8.13). Other bits are ignored.
@@ -83,6 +85,26 @@ impl Descriptor {
         ensures { result ≡ is_indirect self.now }
     {
         DescriptorFlags(self.flags).contains(DescriptorFlags::INDIRECT)
+    }
+
+    /// What is wrong with it as one that names a table, in a memory of this size, where these features were agreed.
+    pub fn check_table(&self, memory: u64, features: &Features) -> Result<(), RingFault>
+        ensures { MatchResult result
+            (λ _. table_wrong features.now memory self.now ≡ None)
+            (λ fault. table_wrong features.now memory self.now ≡ Some fault) }
+    {
+        let len = self.len as u64;
+        if features.indirect_descriptors
+            && !self.goes_on()
+            && len != 0
+            && len % 16 == 0
+            && self.addr <= memory
+            && len <= memory - self.addr
+        {
+            Ok(())
+        } else {
+            Err(RingFault::BadIndirect)
+        }
     }
 
     /// Its buffer.

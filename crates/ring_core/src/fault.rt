@@ -11,9 +11,10 @@ pub enum RingFault {
     IndexJump = 1,
     /// An entry of the available ring names a head outside the descriptor table.
     HeadOutOfRange = 2,
-    /// A descriptor with NEXT names a next one outside the descriptor table.
+    /// A descriptor with NEXT names a next one outside its table.
     NextOutOfRange = 3,
-    /// A chain goes on behind as many descriptors as the queue has, or has over 2^32 bytes.
+    /// A chain goes on behind as many descriptors as the queue or its table has, or has over 2^32
+    /// bytes.
     ChainTooLong = 4,
     /// A buffer that isn't empty doesn't lie in guest memory.
     BufferOutside = 5,
@@ -21,7 +22,8 @@ pub enum RingFault {
     ReadableAfterWritable = 6,
     /// The head or the id belongs to a chain that is outstanding.
     AlreadyOutstanding = 7,
-    /// A descriptor has INDIRECT where that wasn't agreed.
+    /// A descriptor has INDIRECT where that wasn't agreed, with NEXT or in a split table, or its table
+    /// has no whole number of entries, at least one, inside guest memory.
     BadIndirect = 8,
     /// The outstanding chains would take more slots than the ring has.
     RingOverrun = 9,

@@ -1,5 +1,8 @@
 //! Where a queue lies, and in which form.
 
+ghost use Rattle.std.specs.Prelude.{◌≡◌};
+ghost use Rattle.ring_core.specs.State.{features_of, no_features};
+
 use std::error::Error;
 use std::fmt;
 
@@ -33,6 +36,34 @@ pub struct Features {
     pub indirect_descriptors: bool,
     /// VIRTIO_F_EVENT_IDX.
     pub event_index: bool,
+}
+
+/// VIRTIO_F_INDIRECT_DESC, bit 28 of the features.
+const INDIRECT_DESC: u64 = 1 << 28;
+
+/// VIRTIO_F_EVENT_IDX, bit 29 of the features.
+const EVENT_IDX: u64 = 1 << 29;
+
+impl Features {
+    /// Those among all that were agreed: their bits 28 and 29.
+    pub fn of(agreed: u64) -> Features
+        ensures { result ≡ features_of agreed }
+    {
+        Features {
+            indirect_descriptors: agreed & INDIRECT_DESC == INDIRECT_DESC,
+            event_index: agreed & EVENT_IDX == EVENT_IDX,
+        }
+    }
+
+    /// None of them.
+    pub fn none() -> Features
+        ensures { result ≡ no_features }
+    {
+        Features {
+            indirect_descriptors: false,
+            event_index: false,
+        }
+    }
 }
 
 /// Why a layout is refused. They are tested in this order.

@@ -14,11 +14,12 @@ use std::test::Fail;
 
 /// A queue that tests make. That has no contract, so that what `new` promises is read once.
 trait Made: Ring + Drop {
-    /// A queue of this number and layout.
+    /// A queue of this number and layout, for which these features were agreed.
     fn made(
         alloc: Global,
         number: u16,
         layout: Layout,
+        features: u64,
         memory: &GuestMem,
     ) -> Result<Self, LayoutFault>;
 }
@@ -28,9 +29,10 @@ impl Made for SplitRing {
         alloc: Global,
         number: u16,
         layout: Layout,
+        features: u64,
         memory: &GuestMem,
     ) -> Result<SplitRing, LayoutFault> {
-        SplitRing::new(alloc, number, layout, memory)
+        SplitRing::new(alloc, number, layout, features, memory)
     }
 }
 
@@ -39,25 +41,31 @@ impl Made for PackedRing {
         alloc: Global,
         number: u16,
         layout: Layout,
+        features: u64,
         memory: &GuestMem,
     ) -> Result<PackedRing, LayoutFault> {
-        PackedRing::new(alloc, number, layout, memory)
+        PackedRing::new(alloc, number, layout, features, memory)
     }
 }
 
-/// A queue of this layout in fresh memory.
-fn bench<R: Made>(alloc: Global, pages: u32, layout: Layout) -> Result<Bench<R>, Fail> {
+/// A queue of this layout in fresh memory, for which these features were agreed.
+fn bench<R: Made>(
+    alloc: Global,
+    pages: u32,
+    layout: Layout,
+    features: u64,
+) -> Result<Bench<R>, Fail> {
     if pages > 65536 {
         return Err(Fail::from("too many pages"));
     }
     let memory = GuestMem::new(alloc, pages)?;
-    let ring = R::made(alloc, 2, layout, &memory)?;
+    let ring = R::made(alloc, 2, layout, features, &memory)?;
     Ok(Bench::of(alloc, ring, memory))
 }
 
 /// The number of the first move of a row that doesn't go as it says, from 0.
 fn first_wrong<R: Made>(alloc: Global, row: &Row) -> Result<Option<usize>, Fail> {
-    let mut bench = bench::<R>(alloc, row.pages, row.layout)?;
+    let mut bench = bench::<R>(alloc, row.pages, row.layout, row.features)?;
     Ok(bench.first_wrong(row.moves))
 }
 
@@ -88,7 +96,19 @@ fn plays_rows(rt: HostRuntime) -> Result<(), Fail> {
     );
     none_is(
         &rt,
+        first_wrong_row::<SplitRing>(rt.alloc(), &split::tables::TABLES)?,
+    );
+    none_is(
+        &rt,
         first_wrong_row::<PackedRing>(rt.alloc(), &packed::rows::ROWS)?,
+    );
+    none_is(
+        &rt,
+        first_wrong_row::<PackedRing>(rt.alloc(), &packed::tables::TABLES)?,
+    );
+    none_is(
+        &rt,
+        first_wrong_row::<PackedRing>(rt.alloc(), &packed::notices::NOTICES)?,
     );
     Ok(())
 }

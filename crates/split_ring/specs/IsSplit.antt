@@ -1,11 +1,10 @@
 -- What is true of every split queue: it lies in its memory.
 use Rattle.std.specs.Prelude.{◌≡◌, ◌+◌, ◌*◌, ◌<◌, ◌≤◌, ◌^◌, length}
-use Rattle.ring_core.specs.State.{RingState, no_features}
+use Rattle.ring_core.specs.State.{RingState}
 use Rattle.ring_core.specs.declared.layout.Form.TheVariants.{Split}
 
 pub record IsSplit (s : RingState) : Type 0 where
   pub form : s.form ≡ Split
-  pub features : s.features ≡ no_features
   pub some : 0 < s.layout.size
   pub most : s.layout.size ≤ 32768
   pub heads : length s.outstanding ≡ s.layout.size

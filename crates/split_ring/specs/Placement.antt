@@ -1,7 +1,7 @@
 -- Where a split queue may lie (VIRTIO 1.2, 2.7: sizes and alignments of its areas).
 use Rattle.std.specs.Prelude.{ℕ, ◌≡◌, ◌+◌, ◌*◌, ◌%◌, ◌&&◌, ◌==◌, not, nat_le, nat_lt, cond, Bool, Option, Some, None}
 use Rattle.std.specs.Int.{is_power_of_two}
-use Rattle.ring_core.specs.State.{RingState, no_features, opening}
+use Rattle.ring_core.specs.State.{RingState, features_of, opening}
 use Rattle.ring_core.specs.declared.layout.Layout.{Layout}
 use Rattle.ring_core.specs.declared.layout.Form.TheVariants.{Split}
 use Rattle.ring_core.specs.declared.layout.LayoutFault.{LayoutFault}
@@ -33,6 +33,7 @@ abbrev pub LayoutRefusedAs : ℕ → Layout → LayoutFault → Type 0
 LayoutRefusedAs memory l NoMemory = placement_fault memory l ≡ None
 LayoutRefusedAs memory l f = placement_fault memory l ≡ Some f
 
--- a fresh queue with this number at a place where nothing is wrong
-abbrev pub OpensSplit : ℕ → ℕ → Layout → RingState → Type 0
-OpensSplit memory queue l s = (placement_fault memory l ≡ None) × (s ≡ opening Split queue l no_features memory l.size)
+-- a fresh queue with this number at a place where nothing is wrong, with what it looks at of the features
+abbrev pub OpensSplit : ℕ → ℕ → Layout → ℕ → RingState → Type 0
+OpensSplit memory queue l features s =
+    (placement_fault memory l ≡ None) × (s ≡ opening Split queue l (features_of features) memory l.size)

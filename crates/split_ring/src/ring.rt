@@ -44,7 +44,8 @@ impl SplitRing {
     ghost use Rattle.split_ring.specs.Placement.{OpensSplit, LayoutRefusedAs};
 
     /// A queue with this number at this place, of which nothing was fetched yet. Whoever sets the
-    /// device up calls it once for each queue, with the memory that all later calls get. Refused
+    /// device up calls it once for each queue, with the features that were agreed, of which it looks at
+    /// VIRTIO_F_INDIRECT_DESC and VIRTIO_F_EVENT_IDX (bits 28 and 29) alone, and with the memory that all later calls get. Refused
     /// are, in this order, a size that is 0, above 32,768 or no power of two (`BadSize`), a
     /// descriptor table not aligned to 16, an available ring not to 2 or a used ring not to 4
     /// (`BadAlignment`), one of them that doesn't lie in memory (`Outside`), and want of memory
@@ -54,17 +55,15 @@ impl SplitRing {
         alloc: Global,
         queue: u16,
         layout: Layout,
+        features: u64,
         memory: &GuestMem,
     ) -> Result<SplitRing, LayoutFault>
         ensures made { MatchResult result
-            (OpensSplit (length memory.now) queue layout)
+            (OpensSplit (length memory.now) queue layout features)
             (LayoutRefusedAs (length memory.now) layout) }
     {
         check_layout(&layout, memory.size())?;
-        let features = Features {
-            indirect_descriptors: false,
-            event_index: false,
-        };
+        let features = Features::of(features);
         match RingBase::split(alloc, queue, layout, features, memory.size()) {
             Ok(base) => Ok(SplitRing { base }),
             Err(_) => Err(LayoutFault::NoMemory),
@@ -128,10 +127,11 @@ impl SplitRing {
     {
         let head = self.entry(memory, ahead)?;
         let layout = self.base.layout();
+        let features = self.base.features();
         let Ok(draft) = self.base.draft() else {
-            return Err(fault_without_room(memory, layout.desc, layout.size, head));
+            return Err(fault_without_room(memory, &layout, features, head));
         };
-        match walk(draft, memory, layout.desc, layout.size, head) {
+        match walk(draft, memory, &layout, features, head) {
             Ok(draft) => Ok(Candidate { head, draft }),
             Err(fault) => Err(fault),
         }
@@ -224,7 +224,13 @@ impl Ring for SplitRing {
     }
 
     fn wants_notice(&self, memory: &GuestMem) -> bool {
-        number_at(memory, self.base.layout().driver) & NO_INTERRUPT == 0
+        let layout = self.base.layout();
+        if !self.base.features().event_index {
+            return number_at(memory, layout.driver) & NO_INTERRUPT == 0;
+        }
+        let used = self.base.log().used();
+        let event = number_at(memory, layout.driver + 4 + 2 * layout.size as u64);
+        used != 0 && event == ((used - 1) % 65536) as u16
     }
 
     fn log(&self) -> &QueueLog {

@@ -1,32 +1,66 @@
-//! Walking along a chain of descriptors.
+//! Walking along a chain of descriptors: those of the queue's table, and of one that the last of them names.
 
-ghost use Rattle.std.specs.Prelude.{◌≡◌, ◌+◌, ◌*◌, ◌<◌, ◌≤◌, ◌^◌, length, [], MatchResult, None, Some};
+ghost use Rattle.std.specs.Prelude.{◌≡◌, ◌+◌, ◌*◌, ◌/◌, ◌<◌, ◌≤◌, ◌^◌, length, [], MatchResult, None, Some};
 ghost use Rattle.ring_core.specs.State.{no_features};
+ghost use Rattle.ring_core.specs.Walking.{Walks, RunFailsOrLacks};
 ghost use Rattle.ring_core.specs.Split.{split_wrong, SplitChain};
-ghost use Rattle.split_ring.specs.Inner.{SplitFailsOrLacks};
+ghost use Rattle.split_ring.specs.Inner.{path_of, SplitFailsOrLacks};
 
 use crate::areas::descriptor_at;
 use guest_mem::GuestMem;
-use ring_core::{Before, Descriptor, Draft, RingFault};
+use ring_core::{Before, Descriptor, Draft, Features, Layout, RingFault, Run};
+
+/// A table of descriptors, and which features its descriptors may use.
+#[derive(Clone, Copy)]
+pub struct Table {
+    pub addr: u64,
+    pub entries: u32,
+    pub features: Features,
+}
+
+impl Table {
+    /// The queue's own.
+    fn of_queue(layout: &Layout, features: Features) -> Table
+        ensures { result ≡ record { addr = layout.now.desc; entries = layout.now.size; features = features } }
+    {
+        Table {
+            addr: layout.desc,
+            entries: layout.size as u32,
+            features,
+        }
+    }
+
+    /// That which a descriptor names; none of its own names another.
+    fn named_by(d: &Descriptor) -> Table
+        ensures { result ≡ record { addr = d.now.addr; entries = d.now.len / 16; features = no_features } }
+    {
+        Table {
+            addr: d.addr,
+            entries: d.len / 16,
+            features: Features::none(),
+        }
+    }
+}
 
 /// The first thing wrong with a descriptor, in a memory and a table of these sizes.
-fn check(before: &Before, d: &Descriptor, memory: u64, size: u16) -> Result<(), RingFault>
+fn check(before: &Before, d: &Descriptor, memory: u64, table: &Table) -> Result<(), RingFault>
     requires bounded { before.now.total ≤ 2 ^ 32 }
     requires small { memory ≤ 2 ^ 28 }
-    requires count { before.now.count < size }
+    requires count { before.now.count < table.now.entries }
     ensures { MatchResult result
-        (λ _. split_wrong no_features memory size before.now d.now ≡ None)
-        (λ fault. split_wrong no_features memory size before.now d.now ≡ Some fault) }
+        (λ _. split_wrong table.now.features memory table.now.entries before.now d.now ≡ None)
+        (λ fault. split_wrong table.now.features memory table.now.entries before.now d.now ≡ Some fault) }
 {
     if d.is_indirect() {
-        return Err(RingFault::BadIndirect);
+        return d.check_table(memory, &table.features);
     }
     before.check_buffer(d, memory)?;
+    let entries = table.entries;
     if !d.goes_on() {
         Ok(())
-    } else if d.next_or_id >= size {
+    } else if d.next_or_id as u32 >= entries {
         Err(RingFault::NextOutOfRange)
-    } else if before.count + 1 >= size as u64 {
+    } else if before.count + 1 >= entries as u64 {
         Err(RingFault::ChainTooLong)
     } else {
         Ok(())
@@ -36,52 +70,100 @@ fn check(before: &Before, d: &Descriptor, memory: u64, size: u16) -> Result<(), 
 /// What is answered where there is no room for the chain at a head: what is wrong with its first
 /// descriptor, and want of memory where nothing is.
 #[cold]
-pub(crate) fn fault_without_room(memory: &GuestMem, table: u64, size: u16, head: u16) -> RingFault
-    requires inside { table + 16 * size ≤ length memory.now }
+pub(crate) fn fault_without_room(
+    memory: &GuestMem,
+    layout: &Layout,
+    features: Features,
+    head: u16,
+) -> RingFault
+    requires inside { layout.now.desc + 16 * layout.now.size ≤ length memory.now }
     requires small { length memory.now ≤ 2 ^ 28 }
-    requires head { head < size }
-    ensures { SplitFailsOrLacks no_features memory.now table size head result }
+    requires head { head < layout.now.size }
+    ensures { SplitFailsOrLacks features memory.now layout.now head result }
 {
+    let table = Table::of_queue(layout, features);
     let before = Before::nothing();
-    let first = descriptor_at(memory, table, head);
-    match check(&before, &first, memory.size(), size) {
+    let first = descriptor_at(memory, table.addr, head);
+    match check(&before, &first, memory.size(), &table) {
         Ok(()) => RingFault::NoMemory,
         Err(fault) => fault,
     }
 }
 
-/// The parts of the chain at a head of a table, for which there is room, or the first thing wrong along it.
-pub(crate) fn walk(
+/// The run from a head of a table, behind what stands before it, or the first thing wrong along it. Its parts are put
+/// behind those in the draft.
+#[inline(always)]
+fn walk_run(
     mut draft: Draft,
     memory: &GuestMem,
-    table: u64,
-    size: u16,
+    table: &Table,
     head: u16,
-) -> Result<Draft, RingFault>
-    requires inside { table + 16 * size ≤ length memory.now }
+    first: Before,
+) -> Result<Run, RingFault>
+    requires inside { table.now.addr + 16 * table.now.entries ≤ length memory.now }
     requires small { length memory.now ≤ 2 ^ 28 }
-    requires head { head < size }
-    requires empty { draft ≡ [] }
+    requires head { head < table.now.entries }
+    requires total { first.total ≤ 2 ^ 32 }
     ensures { MatchResult result
-        (λ draft. SplitChain no_features memory.now table size head draft)
-        (λ fault. SplitFailsOrLacks no_features memory.now table size head fault) }
+        (λ run. Walks (path_of memory.now table.now head) table.now.entries first draft run)
+        (λ fault. RunFailsOrLacks (path_of memory.now table.now head) first fault) }
 {
     let bytes = memory.size();
-    let mut before = Before::nothing();
+    let mut before = first.anew();
     let mut number = head;
-    'along: for _step in 0..size {
-        let d = descriptor_at(memory, table, number);
-        if let Err(fault) = check(&before, &d, bytes, size) {
+    'along: for _step in 0..table.entries {
+        let d = descriptor_at(memory, table.addr, number);
+        if let Err(fault) = check(&before, &d, bytes, table) {
             return Err(fault);
+        }
+        if !d.goes_on() {
+            return Ok(Run {
+                last: d,
+                before,
+                draft,
+            });
         }
         if draft.push(d.part()).is_err() {
             return Err(RingFault::NoMemory);
-        }
-        if !d.goes_on() {
-            return Ok(draft);
         }
         before = before.with(&d);
         number = d.next_or_id;
     }
     unreachable!()
+}
+
+/// The parts of the chain at a head of the queue's table, for which there is room, or the first thing wrong along it.
+pub(crate) fn walk(
+    draft: Draft,
+    memory: &GuestMem,
+    layout: &Layout,
+    features: Features,
+    head: u16,
+) -> Result<Draft, RingFault>
+    requires inside { layout.now.desc + 16 * layout.now.size ≤ length memory.now }
+    requires small { length memory.now ≤ 2 ^ 28 }
+    requires head { head < layout.now.size }
+    requires empty { draft ≡ [] }
+    ensures { MatchResult result
+        (λ draft. SplitChain features memory.now layout.now.desc layout.now.size head draft)
+        (λ fault. SplitFailsOrLacks features memory.now layout.now head fault) }
+{
+    let table = Table::of_queue(layout, features);
+    let run = match walk_run(draft, memory, &table, head, Before::nothing()) {
+        Ok(run) => run,
+        Err(fault) => return Err(fault),
+    };
+    if !run.last.is_indirect() {
+        return run.into_parts();
+    }
+    let Run {
+        last,
+        before,
+        draft,
+    } = run;
+    let named = Table::named_by(&last);
+    match walk_run(draft, memory, &named, 0, before) {
+        Ok(further) => further.into_parts(),
+        Err(fault) => Err(fault),
+    }
 }

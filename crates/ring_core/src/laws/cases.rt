@@ -1,11 +1,11 @@
 //! Small cases, which show what the definitions of a queue say.
 
-ghost use Rattle.std.specs.Prelude.{◌≡◌, ◌+◌, ◌%◌, ◌^◌, ◌<◌, ◌++◌, ℕ, List, length, Some};
+ghost use Rattle.std.specs.Prelude.{◌≡◌, ◌+◌, ◌%◌, ◌^◌, ◌<◌, ◌≤◌, ◌==◌, ◌++◌, ℕ, List, length, Some, true, false};
 ghost use Rattle.byteorder.specs.Endian.{little_number, little_bytes};
 ghost use Rattle.guest_mem.specs.Memory.{bytes_at};
 ghost use Rattle.ring_core.specs.State.{RingState};
-ghost use Rattle.ring_core.specs.Split.{split_descriptor, ahead, entry_wrong};
-ghost use Rattle.ring_core.specs.Packed.{packed_descriptor};
+ghost use Rattle.ring_core.specs.Split.{split_descriptor, ahead, entry_wrong, used_event, split_wants_notice};
+ghost use Rattle.ring_core.specs.Packed.{packed_descriptor, names_one};
 ghost use Rattle.ring_core.specs.Cases.{OneAlone, ThreeLinked, NamesItself};
 ghost use Rattle.ring_core.specs.declared.fault.RingFault.TheVariants.{IndexJump};
 
@@ -53,4 +53,20 @@ pub fn the_index_counts_round()
 pub fn as_many_as_the_size_are_no_jump()
     ensures size { (s : RingState) (m : List ℕ) → ahead s m ≡ s.layout.size → entry_wrong s m ≡ Some IndexJump → ⊥ }
     ensures one_more { (s : RingState) (m : List ℕ) → ahead s m ≡ s.layout.size + 1 → entry_wrong s m ≡ Some IndexJump }
+{}
+
+/// Where event indices were agreed, a notice is wanted of that one alone of a split queue's first
+/// 65,536 completions whose number, from 0, is used_event.
+pub fn one_notice_of_a_split_queue()
+    ensures { (s : RingState) (m : List ℕ) → s.features.event_index ≡ true → length s.log.used ≤ 65536
+        → used_event s m < 65536 → split_wants_notice s m ≡ (length s.log.used == used_event s m + 1) }
+{}
+
+/// In a packed queue of 7, of four chains of 3 slots each the second alone has the slot that offset
+/// 4 and wrap 1 name.
+pub fn one_of_four_chains_is_named()
+    ensures first { names_one 7 32772 0 3 ≡ false }
+    ensures second { names_one 7 32772 3 3 ≡ true }
+    ensures third { names_one 7 32772 6 3 ≡ false }
+    ensures fourth { names_one 7 32772 9 3 ≡ false }
 {}

@@ -57,7 +57,7 @@ fn refusal<R: Made>(memory: &GuestMem, alloc: Global, placed: &Placed) -> Option
         driver,
         device,
     };
-    match R::made(alloc, 2, layout, memory) {
+    match R::made(alloc, 2, layout, 0, memory) {
         Ok(_) => None,
         Err(fault) => Some(fault),
     }
@@ -94,8 +94,8 @@ fn is_owned_there<R: Made>(ring: &mut R, other: &R, memory: &GuestMem) -> bool {
 
 /// Whether that is so of two queues in one memory.
 fn own_apart<R: Made>(memory: &GuestMem, alloc: Global) -> Result<bool, LayoutFault> {
-    let mut ring = R::made(alloc, 2, PLACE, memory)?;
-    let other = R::made(alloc, 3, PLACE, memory)?;
+    let mut ring = R::made(alloc, 2, PLACE, 0, memory)?;
+    let other = R::made(alloc, 3, PLACE, 0, memory)?;
     Ok(is_owned_there(&mut ring, &other, memory))
 }
 
@@ -105,7 +105,7 @@ fn fits_larger<R: Made>(
     larger: &GuestMem,
     alloc: Global,
 ) -> Result<bool, LayoutFault> {
-    let ring = R::made(alloc, 2, PLACE, memory)?;
+    let ring = R::made(alloc, 2, PLACE, 0, memory)?;
     Ok(ring.fits(larger))
 }
 

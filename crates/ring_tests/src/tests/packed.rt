@@ -1,6 +1,8 @@
 //! What is done with a packed queue.
 
+pub(super) mod notices;
 pub(super) mod rows;
+pub(super) mod tables;
 mod wrapping;
 
 use ring_core::Layout;

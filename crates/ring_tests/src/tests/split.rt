@@ -1,7 +1,9 @@
 //! What is done with a split queue.
 
 pub(super) mod faults;
+mod notices;
 pub(super) mod rows;
+pub(super) mod tables;
 mod wrapping;
 
 use ring_core::Layout;

@@ -1,9 +1,11 @@
-use Rattle.std.proofs.Common.{◌≡◌, ◌+◌, ℕ, List, arith}
-use Rattle.ring_core.specs.State.{no_features}
-use Rattle.ring_core.specs.Packed.{slot_at}
+use Rattle.std.proofs.Common.{◌≡◌, ◌+◌, ℕ, List, [], arith}
+use Rattle.ring_core.specs.Walk.{nothing_before}
+use Rattle.ring_core.specs.Packed.{slot_at, packed_slots, packed_table}
 use Rattle.ring_core.specs.declared.layout.Layout.{Layout}
 use Rattle.ring_core.specs.declared.descriptor.Descriptor.{Descriptor}
-use Rattle.packed_ring.proofs.BySlot.{walked_start, walked_first, walked_wrong}
+use Rattle.ring_core.proofs.Walking.{packed_walk, walked_start, walked_first, walked_wrong, ring_fails}
+use Rattle.ring_core.specs.declared.fault.RingFault.TheVariants.{NoMemory}
+use Rattle.packed_ring.proofs.BySlot.{as_packed}
 use Rattle.packed_ring.proofs.walk.fault_without_room.Goals as goal
 
 -- the first slot, as one that no other stands before
@@ -12,14 +14,15 @@ none_before l m t d is = let e : t + 0 ≡ t = omega arith in rw e is
 
 pub returns-in-Ok : goal.returns-in-Ok
 returns-in-Ok c =
-    walked_first no_features c.args.memory.now c.args.layout.now c.args.passed 0 _ _ c.descriptor_at-first.result
-    (walked_start no_features c.args.memory.now c.args.layout.now c.args.passed c.requires.some)
+    as_packed c.args.features c.args.memory.now c.args.layout.now c.args.passed NoMemory (walked_first (packed_slots c.args.features c.args.memory.now c.args.layout.now c.args.passed) c.args.layout.now.size (packed_walk c.args.features c.args.memory.now c.args.layout.now c.args.passed) nothing_before [] 0 nothing_before [] c.descriptor_at-first.result
+    (walked_start (packed_slots c.args.features c.args.memory.now c.args.layout.now c.args.passed) c.args.layout.now.size (packed_walk c.args.features c.args.memory.now c.args.layout.now c.args.passed) nothing_before [] c.requires.some (omega arith))
     (none_before c.args.layout.now c.args.memory.now c.args.passed c.descriptor_at-first.result c.descriptor_at-first.ensures)
-    (rw (c.size.ensures.size, c.nothing-before.ensures) at c.in-Ok.ensures)
+    (rw (c.size.ensures.size, c.nothing-before.ensures) at c.in-Ok.ensures))
 
 pub returns-in-Err : goal.returns-in-Err
 returns-in-Err c =
-    walked_wrong no_features c.args.memory.now c.args.layout.now c.args.passed 0 _ _ c.descriptor_at-first.result
-    (walked_start no_features c.args.memory.now c.args.layout.now c.args.passed c.requires.some)
+    as_packed c.args.features c.args.memory.now c.args.layout.now c.args.passed c.in-Err.fault (ring_fails (packed_slots c.args.features c.args.memory.now c.args.layout.now c.args.passed) (packed_table c.args.memory.now) c.in-Err.fault
+    (walked_wrong (packed_slots c.args.features c.args.memory.now c.args.layout.now c.args.passed) c.args.layout.now.size (packed_walk c.args.features c.args.memory.now c.args.layout.now c.args.passed) nothing_before [] 0 nothing_before [] c.descriptor_at-first.result
+    (walked_start (packed_slots c.args.features c.args.memory.now c.args.layout.now c.args.passed) c.args.layout.now.size (packed_walk c.args.features c.args.memory.now c.args.layout.now c.args.passed) nothing_before [] c.requires.some (omega arith))
     (none_before c.args.layout.now c.args.memory.now c.args.passed c.descriptor_at-first.result c.descriptor_at-first.ensures) c.in-Err.fault
-    (rw (c.size.ensures.size, c.nothing-before.ensures) at c.in-Err.ensures)
+    (rw (c.size.ensures.size, c.nothing-before.ensures) at c.in-Err.ensures)))

@@ -2,4 +2,4 @@ use Rattle.ring_core.proofs.RightChains.{offered_is_right, offered_slots, offere
 use Rattle.ring_core.proofs.laws.chains_are_right.Goals as goal
 
 pub returns : goal.returns
-returns c = record { parts = offered_is_right; slots = offered_slots; few = λ s m id slots parts o some agreed. offered_few s m id slots parts o some; head = offered_head }
+returns c = record { parts = offered_is_right; slots = offered_slots; few = offered_few; head = offered_head }

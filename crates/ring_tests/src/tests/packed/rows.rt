@@ -11,10 +11,11 @@ const THREE: Layout = Layout { size: 3, ..PLACE };
 const FOUR: Layout = Layout { size: 4, ..PLACE };
 
 /// A queue of seven slots.
-const ROW: Row = Row {
+pub(super) const ROW: Row = Row {
     shows: "",
     pages: 16,
     layout: PLACE,
+    features: 0,
     moves: &[],
 };
 

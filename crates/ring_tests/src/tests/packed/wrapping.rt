@@ -89,7 +89,7 @@ fn has_used<R: Ring>(bench: &mut Bench<R>, pair: u8) -> bool {
 
 /// Serves pairs, one after the other. The first that isn't served as it should.
 fn first_unserved_pair<R: Made>(alloc: Global) -> Result<Option<usize>, Fail> {
-    let mut bench = bench::<R>(alloc, 16, PLACE)?;
+    let mut bench = bench::<R>(alloc, 16, PLACE, 0)?;
     for pair in 0..21 {
         if bench.first_wrong(serving_pair(pair).as_slice()).is_some()
             || !has_used(&mut bench, pair)
@@ -129,7 +129,7 @@ fn serving_one(number: u64, slot: u16, turn: u16) -> [Move; 4] {
 /// Serves 65,537 chains, one after the other, on a queue of so many slots. The first that isn't served
 /// as it should.
 fn first_unserved<R: Made>(alloc: Global, size: u16) -> Result<Option<usize>, Fail> {
-    let mut bench = bench::<R>(alloc, 16, Layout { size, ..PLACE })?;
+    let mut bench = bench::<R>(alloc, 16, Layout { size, ..PLACE }, 0)?;
     let mut place = (0, AVAILABLE);
     for number in 0..65_537 {
         let moves = serving_one(number, place.0, place.1);

@@ -17,6 +17,7 @@ pub const ROW: Row = Row {
     shows: "",
     pages: 16,
     layout: PLACE,
+    features: 0,
     moves: &[],
 };
 
@@ -81,6 +82,7 @@ pub static ROWS: [Row; 14] = [
         shows: "over 2^32 bytes",
         pages: 305,
         layout: MANY,
+        features: 0,
         moves: &[
             Move::Linked(4097, 1_048_576),
             Move::Number(1_048_578, 1),
@@ -91,6 +93,7 @@ pub static ROWS: [Row; 14] = [
         shows: "2^32 bytes, of which the first are read",
         pages: 305,
         layout: MANY,
+        features: 0,
         moves: &[
             Move::Linked(4097, 1_048_576),
             Move::Number(1_048_578, 1),
@@ -164,6 +167,7 @@ pub static ROWS: [Row; 14] = [
             driver: 0,
             device: 524_288,
         },
+        features: 0,
         moves: &[
             Move::Number(4, 0),
             Move::Number(2, 1),
@@ -181,6 +185,7 @@ pub static ROWS: [Row; 14] = [
             driver: 0,
             device: 524_288,
         },
+        features: 0,
         moves: &[
             Move::Number(4, 1),
             Move::Number(2, 1),
@@ -198,6 +203,7 @@ pub static ROWS: [Row; 14] = [
             driver: 0,
             device: 524_288,
         },
+        features: 0,
         moves: &[
             Move::Number(4, 32767),
             Move::Number(2, 1),

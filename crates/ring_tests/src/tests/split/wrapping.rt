@@ -9,10 +9,10 @@ use std::alloc::Global;
 use std::test::Fail;
 
 /// A queue of two descriptors.
-const TWO: Layout = Layout { size: 2, ..PLACE };
+pub(super) const TWO: Layout = Layout { size: 2, ..PLACE };
 
 /// The chain of this number, whose head is its slot, is made available and served.
-fn serving(number: u32) -> [Move; 5] {
+pub(super) fn serving(number: u32) -> [Move; 5] {
     let seen = (number % 65536) as u16;
     let head = seen % 2;
     [
@@ -34,7 +34,7 @@ static USED: [Move; 1] = [Move::Has(
 /// Serves 65,537 chains, one after the other. The first that isn't served as it should, or the one behind them where
 /// memory isn't as it should be then.
 fn first_unserved<R: Made>(alloc: Global) -> Result<Option<usize>, Fail> {
-    let mut bench = bench::<R>(alloc, 16, TWO)?;
+    let mut bench = bench::<R>(alloc, 16, TWO, 0)?;
     for number in 0..65_537 {
         if bench.first_wrong(serving(number).as_slice()).is_some() {
             return Ok(Some(number as usize));

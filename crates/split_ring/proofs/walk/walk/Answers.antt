@@ -1,32 +1,44 @@
-use Rattle.std.proofs.Common.{◌≡◌, ◌++◌, ◌∷◌, [], rules}
-use Rattle.ring_core.specs.State.{no_features}
-use Rattle.ring_core.specs.Walk.{part_of}
-use Rattle.split_ring.proofs.Path.{walked_start, walked_more, walked_end, walked_first, walked_wrong}
+use Rattle.std.proofs.Common.{[]}
+use Rattle.ring_core.specs.Walk.{nothing_before}
+use Rattle.ring_core.specs.Walking.{Walks}
+use Rattle.ring_core.specs.Split.{split_table}
+use Rattle.ring_core.proofs.Walking.{ring_fails}
+use Rattle.split_ring.specs.Inner.{queue_path}
+use Rattle.split_ring.proofs.Chains.{as_split, alone, table_lies, fails, ended}
 use Rattle.split_ring.proofs.walk.walk.Goals as goal
 
-pub along-init : goal.along-init
-along-init c = rw (c.requires.empty, c.nothing-before.ensures) (walked_start no_features c.args.memory.now c.args.table c.args.size c.args.head c.requires.head)
+pub returns-then-not-is_indirect : goal.returns-then-not-is_indirect
+returns-then-not-is_indirect c =
+    let w : Walks (queue_path c.args.features c.args.memory.now c.args.layout.now c.args.head) c.args.layout.now.size nothing_before [] c.in-Ok.run' =
+    rw (c.of_queue-table.ensures, c.nothing.ensures, c.requires.empty) at c.in-Ok.ensures in
+    alone c.args.features c.args.memory.now c.args.layout.now c.args.head c.in-Ok.run' w (rw c.is_indirect.ensures at c.if-not-is_indirect.true) c.into_parts.result c.into_parts.ensures
+
+pub walk_run-requires-2-clause-inside : goal.walk_run-requires-2-clause-inside
+walk_run-requires-2-clause-inside c =
+    let w : Walks (queue_path c.args.features c.args.memory.now c.args.layout.now c.args.head) c.args.layout.now.size nothing_before [] c.in-Ok.run' =
+    rw (c.of_queue-table.ensures, c.nothing.ensures, c.requires.empty) at c.in-Ok.ensures in
+    rw c.named_by-named.ensures (table_lies c.args.features c.args.memory.now c.args.layout.now c.args.head c.in-Ok.run' w (rw c.is_indirect.ensures at c.if-not-is_indirect.false)).0
+
+pub walk_run-requires-2-clause-head : goal.walk_run-requires-2-clause-head
+walk_run-requires-2-clause-head c =
+    let w : Walks (queue_path c.args.features c.args.memory.now c.args.layout.now c.args.head) c.args.layout.now.size nothing_before [] c.in-Ok.run' =
+    rw (c.of_queue-table.ensures, c.nothing.ensures, c.requires.empty) at c.in-Ok.ensures in
+    rw c.named_by-named.ensures (table_lies c.args.features c.args.memory.now c.args.layout.now c.args.head c.in-Ok.run' w (rw c.is_indirect.ensures at c.if-not-is_indirect.false)).1
+
+pub returns-in-Err-walk_run : goal.returns-in-Err-walk_run
+returns-in-Err-walk_run c =
+    let w : Walks (queue_path c.args.features c.args.memory.now c.args.layout.now c.args.head) c.args.layout.now.size nothing_before [] c.in-Ok.run' =
+    rw (c.of_queue-table.ensures, c.nothing.ensures, c.requires.empty) at c.in-Ok.ensures in
+    fails c.args.features c.args.memory.now c.args.layout.now c.args.head c.in-Ok.run' w (rw c.is_indirect.ensures at c.if-not-is_indirect.false) c.in-Err-walk_run.fault (rw c.named_by-named.ensures at c.in-Err-walk_run.ensures)
+
+pub returns-in-Ok-walk_run : goal.returns-in-Ok-walk_run
+returns-in-Ok-walk_run c =
+    let w : Walks (queue_path c.args.features c.args.memory.now c.args.layout.now c.args.head) c.args.layout.now.size nothing_before [] c.in-Ok.run' =
+    rw (c.of_queue-table.ensures, c.nothing.ensures, c.requires.empty) at c.in-Ok.ensures in
+    ended c.args.features c.args.memory.now c.args.layout.now c.args.head c.in-Ok.run' w (rw c.is_indirect.ensures at c.if-not-is_indirect.false) c.in-Ok-walk_run.further (rw c.named_by-named.ensures at c.in-Ok-walk_run.ensures)
+    c.into_parts-in-Ok-walk_run.result c.into_parts-in-Ok-walk_run.ensures
 
 pub returns-in-Err : goal.returns-in-Err
 returns-in-Err c =
-    walked_wrong no_features c.args.memory.now c.args.table c.args.size c.args.head c.along._step c.along.before c.along.number c.along.draft c.descriptor_at-d.result
-    c.along.invariant c.descriptor_at-d.ensures c.in-Err.fault (rw c.size-bytes.ensures.size at c.in-Err.ensures)
-
-pub returns-then-is_err : goal.returns-then-is_err
-returns-then-is_err c =
-    walked_first no_features c.args.memory.now c.args.table c.args.size c.args.head c.along._step c.along.before c.along.number c.along.draft c.descriptor_at-d.result
-    c.along.invariant c.descriptor_at-d.ensures (rw c.size-bytes.ensures.size at c.in_default.ensures)
-
-pub returns-then-not-goes_on : goal.returns-then-not-goes_on
-returns-then-not-goes_on c =
-    let pushed : c.push.new.self ≡ c.along.draft ++ part_of c.descriptor_at-d.result ∷ [] = search rules in
-    rw pushed
-    (walked_end no_features c.args.memory.now c.args.table c.args.size c.args.head c.along._step c.along.before c.along.number c.along.draft c.descriptor_at-d.result
-    c.along.invariant c.descriptor_at-d.ensures (rw c.size-bytes.ensures.size at c.in_default.ensures) (rw c.goes_on.ensures at c.if-not-goes_on.true))
-
-pub along-preserved : goal.along-preserved
-along-preserved c =
-    let pushed : c.push.new.self ≡ c.along.draft ++ part_of c.descriptor_at-d.result ∷ [] = search rules in
-    rw (pushed, c.with-before.ensures)
-    (walked_more no_features c.args.memory.now c.args.table c.args.size c.args.head c.along._step c.along.before c.along.number c.along.draft c.descriptor_at-d.result
-    c.along.invariant c.descriptor_at-d.ensures (rw c.size-bytes.ensures.size at c.in_default.ensures) (rw c.goes_on.ensures at c.if-not-goes_on.false))
+    as_split c.args.features c.args.memory.now c.args.layout.now c.args.head c.in-Err.fault
+    (ring_fails (queue_path c.args.features c.args.memory.now c.args.layout.now c.args.head) (split_table c.args.memory.now) c.in-Err.fault (rw (c.of_queue-table.ensures, c.nothing.ensures) at c.in-Err.ensures))
