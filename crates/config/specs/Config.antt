@@ -1,5 +1,5 @@
 -- Which configurations the device takes.
-use Rattle.std.specs.Prelude.{ℕ, ◌+◌, ◌*◌, ◌^◌, ◌≡◌, ◌==◌, ◌&&◌, nat_le, Bool, true, false, cond, List, length, map, Option, Some, None, is_none}
+use Rattle.std.specs.Prelude.{ℕ, ◌+◌, ◌*◌, ◌^◌, ◌≡◌, ◌==◌, ◌&&◌, bit_and, nat_le, Bool, true, false, cond, List, length, map, Option, Some, None, is_none}
 use Rattle.std.specs.List.{list_all, list_any}
 use Rattle.ring_core.specs.declared.layout.Form.{Form}
 use Rattle.ring_core.specs.declared.layout.Form.TheVariants.{Split, Packed}
@@ -11,17 +11,30 @@ use Rattle.config.specs.declared.config.Config.{Config}
 use Rattle.config.specs.declared.config.StartFault.{StartFault}
 use Rattle.config.specs.declared.config.StartFault.TheVariants.{BadConfig, NoMemory}
 
--- VIRTIO_F_VERSION_1 alone, or with VIRTIO_F_RING_PACKED: bits 32 and 34 (VIRTIO 1.2, 6)
+-- the features that the device knows (VIRTIO 1.2, 6): VIRTIO_F_INDIRECT_DESC, VIRTIO_F_EVENT_IDX, VIRTIO_F_VERSION_1 and
+-- VIRTIO_F_RING_PACKED
+abbrev pub known_features : ℕ
+known_features = 2 ^ 28 + 2 ^ 29 + 2 ^ 32 + 2 ^ 34
+
+-- a feature bit is set
+abbrev pub has_bit : ℕ → ℕ → Bool
+has_bit features bit = bit_and features (2 ^ bit) == 2 ^ bit
+
+-- VIRTIO_F_VERSION_1 is set, and no feature that the device doesn't know
+abbrev pub are_taken : ℕ → Bool
+are_taken features = has_bit features 32 && (bit_and features known_features == features)
+
+-- VIRTIO_F_RING_PACKED chooses the form of features that are taken
 abbrev pub form_of : ℕ → Option Form
-form_of features = cond (features == 2 ^ 32) (Some Split) (cond (features == 2 ^ 32 + 2 ^ 34) (Some Packed) None)
+form_of features = cond (are_taken features) (Some (cond (has_bit features 34) Packed Split)) None
 
 -- a queue of 2 to 1,024 descriptors that its ring takes
 abbrev pub is_queue : Form → ℕ → Layout → Bool
 is_queue form memory l = nat_le 2 l.size && nat_le l.size 1024 && is_none (placement_of form memory l)
 
--- a unit of a LUN to 16,383 and of 1 to 131,072 blocks
+-- a unit of a LUN to 16,383 and of 1 to 2^40 blocks
 abbrev pub is_unit : UnitSpec → Bool
-is_unit u = nat_le u.lun 16383 && nat_le 1 u.blocks && nat_le u.blocks 131072
+is_unit u = nat_le u.lun 16383 && nat_le 1 u.blocks && nat_le u.blocks (2 ^ 40)
 
 abbrev pub has_lun_0 : List UnitSpec → ℕ → Bool
 has_lun_0 units target = list_any (λ u. (u.target == target) && (u.lun == 0)) units

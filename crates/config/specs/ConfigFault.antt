@@ -1,5 +1,5 @@
 -- What is wrong with a configuration: the first cause that holds, and the first place that it is true of.
-use Rattle.std.specs.Prelude.{ℕ, ◌-◌, ◌<◌, ◌≡◌, ◌&&◌, not, nat_le, Bool, true, false, List, length, map, slice_get, Option, Some, None, position}
+use Rattle.std.specs.Prelude.{ℕ, ◌-◌, ◌^◌, ◌<◌, ◌≡◌, ◌&&◌, not, nat_le, Bool, true, false, List, length, map, slice_get, Option, Some, None, position}
 use Rattle.std.specs.List.{list_all}
 use Rattle.ring_core.specs.declared.layout.Form.{Form}
 use Rattle.ring_core.specs.declared.layout.Layout.{Layout}
@@ -39,7 +39,7 @@ IsQueuesFault form memory queues f = ⊥
 abbrev pub IsUnitFault : ℕ → UnitSpec → ConfigFault → Type 0
 IsUnitFault place u (fault.UnitLun k) = (k ≡ place) × (nat_le u.lun 16383 ≡ false)
 IsUnitFault place u (fault.UnitBlocks k) =
-    (k ≡ place) × (nat_le u.lun 16383 ≡ true) × (is_within 1 131072 u.blocks ≡ false)
+    (k ≡ place) × (nat_le u.lun 16383 ≡ true) × (is_within 1 (2 ^ 40) u.blocks ≡ false)
 IsUnitFault place u f = ⊥
 
 -- the first unit whose numbers aren't taken has this fault

@@ -16,15 +16,28 @@ pub const VERSION_1: u64 = 1 << 32;
 /// VIRTIO_F_RING_PACKED: packed virtqueues in place of split ones.
 pub const RING_PACKED: u64 = 1 << 34;
 
-/// Every feature that the device offers. Of these a driver has to agree to `VERSION_1` (VIRTIO 1.2, 6.1).
-pub const FEATURES: u64 = VERSION_1 + RING_PACKED;
+/// VIRTIO_F_INDIRECT_DESC: a chain may end in a table of descriptors.
+pub const INDIRECT_DESC: u64 = 1 << 28;
+
+/// VIRTIO_F_EVENT_IDX: the driver names the completion behind which it wants a notice.
+pub const EVENT_IDX: u64 = 1 << 29;
+
+/// Names the features that any host may offer. Of these a driver has to agree to `VERSION_1` (VIRTIO 1.2, 6.1).
+pub const FEATURES: u64 = VERSION_1 + RING_PACKED + INDIRECT_DESC;
+
+/// Names all features that the device takes: `FEATURES` and `EVENT_IDX`.
+///
+/// The device never writes `avail_event` or its event area. A driver of a split queue that agreed to `EVENT_IDX` tells
+/// of a new chain only where `avail_event` names it, so it stops after its first chain. A host offers `EVENT_IDX` for
+/// packed queues alone, or writes the guest's `avail_event` itself after each call that serves the queue.
+pub const ACCEPTED_FEATURES: u64 = FEATURES + EVENT_IDX;
 
 /// A device that is wanted.
 #[derive(Debug, Drop)]
 pub struct Config {
     /// Guest memory in pages of 4,096 bytes, 1 to 65,536.
     pub pages: u32,
-    /// The features agreed: `VERSION_1`, alone or with `RING_PACKED`.
+    /// The features agreed: `VERSION_1`, and any others of `ACCEPTED_FEATURES`.
     pub features: u64,
     /// The control queue, the event queue, and 1 to 16 request queues, each of 2 to 1,024
     /// descriptors.
@@ -57,16 +70,16 @@ impl fmt::Display for StartFault {
 
 impl Error for StartFault {}
 
-/// The form of queue that features ask for; `None` where they are no set that the device takes.
+/// Returns the form of queue that features ask for; `None` where the device doesn't take these features.
 pub fn form(features: u64) -> Option<Form>
     ensures { result ≡ form_of features }
 {
-    if features == VERSION_1 {
-        Some(Form::Split)
-    } else if features == VERSION_1 + RING_PACKED {
+    if features & VERSION_1 != VERSION_1 || features & ACCEPTED_FEATURES != features {
+        None
+    } else if features & RING_PACKED == RING_PACKED {
         Some(Form::Packed)
     } else {
-        None
+        Some(Form::Split)
     }
 }
 

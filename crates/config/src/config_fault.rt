@@ -14,12 +14,15 @@ use std::fmt;
 /// The most descriptors of a queue, in the profile of this device.
 pub const MOST_DESCRIPTORS: u16 = 1024;
 
+/// The most blocks of a unit, of 512 bytes each: a unit has at most 512 tebibytes.
+pub const MOST_BLOCKS: u64 = 1 << 40;
+
 /// Why the device doesn't take a configuration. A place counts from 0, and is the first one that the cause is true of.
 #[derive(Clone, Copy, Debug, PartialEq, Eq)]
 pub enum ConfigFault {
     /// There are no pages, or more than 65,536.
     Pages,
-    /// The features aren't `VERSION_1`, alone or with `RING_PACKED`.
+    /// The features lack `VERSION_1`, or have one that isn't among `ACCEPTED_FEATURES`.
     Features,
     /// There are fewer than 3 queues, or more than 18.
     QueueCount,
@@ -35,7 +38,7 @@ pub enum ConfigFault {
     UnitCount,
     /// The unit at this place has a LUN above 16,383.
     UnitLun(usize),
-    /// The unit at this place has no blocks, or more than 131,072.
+    /// The unit at this place has no blocks, or more than 2^40.
     UnitBlocks(usize),
     /// The unit at this place doesn't stand above the one before it, by target and LUN.
     UnitOrder(usize),
@@ -112,7 +115,7 @@ pub(crate) fn fault_of_queues(form: Form, memory: u64, queues: &[Layout]) -> Opt
 fn check_unit(unit: &UnitSpec) -> bool
     ensures { result ≡ is_unit unit.now }
 {
-    unit.lun <= 16383 && unit.blocks >= 1 && unit.blocks <= 131_072
+    unit.lun <= 16383 && unit.blocks >= 1 && unit.blocks <= MOST_BLOCKS
 }
 
 /// Why a unit doesn't lie within the limits.

@@ -4,7 +4,10 @@
 mod config;
 mod config_fault;
 
-pub use config::{Config, FEATURES, RING_PACKED, StartFault, VERSION_1, form};
-pub use config_fault::{ConfigFault, MOST_DESCRIPTORS};
+pub use config::{
+    ACCEPTED_FEATURES, Config, EVENT_IDX, FEATURES, INDIRECT_DESC, RING_PACKED, StartFault,
+    VERSION_1, form,
+};
+pub use config_fault::{ConfigFault, MOST_BLOCKS, MOST_DESCRIPTORS};
 pub use decisions::UnitSpec;
 pub use ring_core::{Layout, LayoutFault};

@@ -53,10 +53,11 @@ fn open_units(
     Ok(units)
 }
 
-/// The queues of these layouts, each under a lock.
+/// Opens the queues of these layouts, each under a lock, for a driver that agreed to these features.
 fn open_queues(
     alloc: Global,
     form: Form,
+    features: u64,
     layouts: &[Layout],
     memory: &GuestMem,
 ) -> Result<Vec<Mutex<Queue>>, NoMemory>
@@ -66,7 +67,14 @@ fn open_queues(
 {
     let mut queues = Vec::with_capacity(alloc, layouts.len())?;
     for number in 0..layouts.len() {
-        let queue = Queue::new(alloc, form, number as u16, layouts[number], memory)?;
+        let queue = Queue::new(
+            alloc,
+            form,
+            number as u16,
+            layouts[number],
+            features,
+            memory,
+        )?;
         queues.push_reserved(Mutex::new(queue));
     }
     Ok(queues)
@@ -87,7 +95,13 @@ impl Parts {
         let Ok(memory) = GuestMem::new(alloc, config.pages) else {
             return Err(NoMemory);
         };
-        let queues = open_queues(alloc, form, config.queues.as_slice(), &memory)?;
+        let queues = open_queues(
+            alloc,
+            form,
+            config.features,
+            config.queues.as_slice(),
+            &memory,
+        )?;
         let inventory = Inventory::new(config.units.as_slice());
         let units = open_units(alloc, config.units.as_slice(), &inventory)?;
         // One place more than a queue may have chains outstanding, so that a full port keeps no fault from being found.
