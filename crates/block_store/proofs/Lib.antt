@@ -2,3 +2,8 @@ pub mod Parts
 pub mod Within
 pub mod Written
 pub mod Runs
+pub mod Paging
+pub mod Agreeing
+pub mod Changes
+pub mod CutOff
+pub mod Made

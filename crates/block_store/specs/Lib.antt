@@ -1,2 +1,6 @@
 pub mod Blocks
+pub mod Drafts
+pub mod Kept
+pub mod Padding
+pub mod Pages
 pub mod Whole

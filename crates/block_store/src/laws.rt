@@ -1,6 +1,7 @@
 //! What follows from the definitions alone.
 
 ghost use Rattle.std.specs.Prelude.{◌≡◌, ℕ, ◌+◌, ◌-◌, ◌*◌, ◌<◌, ◌≤◌, ◌++◌, List, [], IsTrue, length, replicate};
+ghost use Rattle.block_store.specs.Pages.{covered};
 ghost use Rattle.block_store.specs.Blocks.{Blocks, block_count, nth_block, is_within, overwritten, filled, zeroed, run};
 
 /// What was written is read back.
@@ -58,4 +59,11 @@ pub fn read_gives_512_bytes_a_block()
     ensures { (blocks : Blocks) (first count : ℕ) →
         ((b : ℕ) → first ≤ b → b < first + count → length (blocks b) ≡ 512) →
         length (run blocks first count) ≡ 512 * count }
+{}
+
+/// What was prepared with bytes and is installed is as these bytes written, whatever stood beside the range.
+pub fn installed_is_written()
+    ensures { (blocks copied prepared : Blocks) (first count : ℕ) (bytes : List ℕ) → length bytes ≡ 512 * count →
+        ((b : ℕ) → prepared b ≡ overwritten copied first bytes b) →
+        (b : ℕ) → covered blocks prepared first count b ≡ overwritten blocks first bytes b }
 {}

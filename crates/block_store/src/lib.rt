@@ -1,17 +1,26 @@
 //! The blocks of a disk: a map from a logical block address to 512 bytes, as a trait with laws, and
-//! a store that keeps them in one run of bytes.
+//! two stores: one keeps them in one run of bytes, the other in pages.
 #![tactic(auto)]
 
 mod bytes;
+mod cutting;
+mod edges;
+mod exchange;
 mod fault;
 mod flat;
 mod laws;
+mod page;
+mod paged;
+mod pages;
 mod store;
 
+pub use edges::{Edges, Prepared};
 pub use fault::NoMemory;
 pub use flat::FlatStore;
 pub use laws::{
-    filled_has_the_block, later_write_wins, nothing_written_changes_nothing, others_stay,
-    read_gives_512_bytes_a_block, read_in_two_parts, written_is_read_back, zeroed_reads_as_zeros,
+    filled_has_the_block, installed_is_written, later_write_wins, nothing_written_changes_nothing,
+    others_stay, read_gives_512_bytes_a_block, read_in_two_parts, written_is_read_back,
+    zeroed_reads_as_zeros,
 };
+pub use paged::PagedStore;
 pub use store::{BLOCK_BYTES, Store};

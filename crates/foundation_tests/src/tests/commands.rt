@@ -260,12 +260,12 @@ static ROWS: [Asks; 51] = [
     ),
     // COMPARE AND WRITE.
     Asks(
-        b"\x89\x1f\x01\x02\x03\x04\x05\x06\x07\x08\xff\xff\xff\x08\x00\xfb",
+        b"\x89\x1f\x01\x02\x03\x04\x05\x06\x07\x08\xff\xff\xff\x40\x00\xfb",
         Command::CompareAndWrite {
             lba: 0x102030405060708,
-            blocks: 8,
+            blocks: 64,
         },
-        8192,
+        65536,
         0,
     ),
     Asks(

@@ -1,7 +1,7 @@
 //! Stores of blocks.
 
 use super::none_is;
-use block_store::{BLOCK_BYTES, FlatStore, NoMemory, Store};
+use block_store::{BLOCK_BYTES, FlatStore, NoMemory, PagedStore, Store};
 use std::alloc::Global;
 use std::test::Fail;
 
@@ -150,4 +150,58 @@ fn flat_store(rt: HostRuntime) -> Result<(), Fail> {
 #[test]
 fn too_large_a_store(rt: HostRuntime) {
     none_is(&rt, first_had(rt.alloc()));
+}
+
+#[test]
+fn paged_store(rt: HostRuntime) -> Result<(), Fail> {
+    let mut store = PagedStore::new(rt.alloc(), 5);
+    none_is(&rt, first_wrong(rt.alloc(), &mut store, &ACTS)?);
+    Ok(())
+}
+
+/// Whether so many blocks of a store consist of a byte, each.
+fn consist_of(
+    alloc: Global,
+    store: &PagedStore,
+    first: u64,
+    count: u32,
+    byte: u8,
+) -> Result<bool, NoMemory> {
+    for number in 0..count {
+        let Ok(mut bytes) = Vec::with_capacity(alloc, BLOCK_BYTES) else {
+            return Err(NoMemory);
+        };
+        if !read(
+            store,
+            first.saturating_add(u64::from(number)),
+            1,
+            &mut bytes,
+        ) || bytes.as_slice() != [byte; BLOCK_BYTES].as_slice()
+        {
+            return Ok(false);
+        }
+    }
+    Ok(true)
+}
+
+/// Prepares a write of block 1 of 16 and installs it. Whether that block alone has its bytes then.
+fn is_installed(alloc: Global) -> Result<bool, NoMemory> {
+    let mut store = PagedStore::new(alloc, 16);
+    let edges = store.edges(1, 1)?;
+    let prepared = edges.prepare(&[0xab; BLOCK_BYTES])?;
+    if !store.install(prepared)? {
+        return Ok(false);
+    }
+    Ok(
+        consist_of(alloc, &store, 0, 1, 0)?
+            && consist_of(alloc, &store, 1, 1, 0xab)?
+            && consist_of(alloc, &store, 2, 14, 0)?,
+    )
+}
+
+#[test]
+fn prepared_page(rt: HostRuntime) -> Result<(), Fail> {
+    let installed = is_installed(rt.alloc())?;
+    none_is(&rt, if installed { None } else { Some(0) });
+    Ok(())
 }

@@ -1,0 +1,13 @@
+use Rattle.std.proofs.Common.{sym, ◌∙◌}
+use Rattle.block_store.specs.Blocks.{zero_block}
+use Rattle.block_store.specs.Padding.{length-zero_block}
+use Rattle.block_store.proofs.Paging.{blocks_in-covered, clear-unmade}
+use Rattle.block_store.proofs.page.Page.clear.Goals as goal
+
+pub returns-then-is_made : goal.returns-then-is_made
+returns-then-is_made c =
+    blocks_in-covered c.args.self.now.bytes.items c.wipe.new.self.bytes.items (λ _. zero_block) c.args.from c.args.count
+    (λ k reaches short. length-zero_block) c.wipe.ensures.blocks
+
+pub returns-else-is_made : goal.returns-else-is_made
+returns-else-is_made c = clear-unmade c.args.self.now.bytes.items c.args.from c.args.count (sym c.is_made.ensures ∙ c.if-is_made.false)

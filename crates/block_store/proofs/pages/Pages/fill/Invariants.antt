@@ -1,0 +1,15 @@
+use Rattle.std.proofs.Common.{◌≡◌, ℕ, ◌-◌, ◌≤◌}
+use Rattle.block_store.specs.Blocks.{filled}
+use Rattle.block_store.specs.Kept.{blocks_of, is_made}
+use Rattle.block_store.proofs.pages.Pages.fill.Given as goal
+
+-- the first blocks are filled
+abbrev pub invariant-loop-done : goal.invariant-loop-done
+invariant-loop-done l = record {
+  within : l.done ≤ l.count;
+  blocks : (b : ℕ) → blocks_of l.self b ≡ filled (blocks_of l.fn.self) l.first l.done l.block b;
+  made : (p : ℕ) → is_made l.self p ≡ is_made l.fn.self p;
+}
+
+abbrev pub decreases-loop-done : goal.decreases-loop-done
+decreases-loop-done l = l.count - l.done

@@ -1,0 +1,75 @@
+//! Pages that are prepared away from a store.
+
+ghost use Rattle.std.specs.Prelude.{◌+◌, ◌^◌, ◌<◌};
+
+use crate::NoMemory;
+use crate::pages::Pages;
+use std::alloc::Global;
+
+/// A range of blocks, and copies of the pages that it covers in part. Clauses see it as a draft, whose
+/// blocks beside the range are those of the store.
+#[derive(Drop)]
+pub struct Edges {
+    pub(crate) alloc: Global,
+    pub(crate) first: u64,
+    pub(crate) count: u32,
+    pub(crate) pages: Pages,
+    ghost fits: { first + count < 2 ^ 64 },
+}
+
+/// A range of blocks, and the new pages of the range. Clauses see it as a draft.
+#[derive(Drop)]
+pub struct Prepared {
+    pub(crate) first: u64,
+    pub(crate) count: u32,
+    pub(crate) pages: Pages,
+    ghost fits: { first + count < 2 ^ 64 },
+}
+
+impl Edges {
+    ghost use Rattle.std.specs.Prelude.{◌≡◌, ℕ, ◌*◌, length, IfOk};
+    ghost use Rattle.block_store.specs.Blocks.{overwritten};
+    ghost use Rattle.block_store.specs.Drafts.{edges_draft, prepared_draft};
+
+    /// The new pages of the range, with these bytes, 512 for each block, over its blocks. Needs no store.
+    pub fn prepare(self, bytes: &[u8]) -> Result<Prepared, NoMemory>
+        requires { length bytes.now ≡ 512 * (edges_draft self).count }
+        ensures first { IfOk result (λ prepared. (prepared_draft prepared).first ≡ (edges_draft self).first) }
+        ensures count { IfOk result (λ prepared. (prepared_draft prepared).count ≡ (edges_draft self).count) }
+        ensures blocks { IfOk result (λ prepared. (b : ℕ) → (prepared_draft prepared).blocks b
+            ≡ overwritten (edges_draft self).blocks (edges_draft self).first bytes.now b) }
+    {
+        let Edges {
+            alloc,
+            first,
+            count,
+            mut pages,
+        } = self;
+        pages.make_all(alloc, first, count as usize)?;
+        pages.put(first, bytes);
+        Ok(Prepared {
+            first,
+            count,
+            pages,
+        })
+    }
+}
+
+impl Prepared {
+    ghost use Rattle.std.specs.Prelude.{◌≡◌};
+    ghost use Rattle.block_store.specs.Drafts.{prepared_draft};
+
+    /// The first block of the range.
+    pub fn first(&self) -> u64
+        ensures { result ≡ (prepared_draft self.now).first }
+    {
+        self.first
+    }
+
+    /// How many blocks the range has.
+    pub fn count(&self) -> u32
+        ensures { result ≡ (prepared_draft self.now).count }
+    {
+        self.count
+    }
+}

@@ -1,0 +1,144 @@
+//! A store in pages.
+
+ghost use Rattle.std.specs.Prelude.{◌≡◌, ℕ, ◌+◌, ◌^◌, ◌<◌, ◌≤◌, ◌↔◌, IsTrue, IfOk, OnErr, if◌then◌else◌};
+ghost use Rattle.block_store.specs.Blocks.{zero_block};
+ghost use Rattle.block_store.specs.Pages.{covered};
+ghost use Rattle.block_store.specs.Drafts.{IsAsCopied, edges_draft, prepared_draft};
+
+use crate::edges::{Edges, Prepared};
+use crate::page::PAGE_BLOCKS;
+use crate::pages::{Pages, in_page, page_end, page_from, page_of, place_of};
+use crate::{BLOCK_BYTES, NoMemory, Store};
+use std::alloc::Global;
+
+/// Blocks in pages of 8, by number. A page that was never written, or was zeroed whole, isn't there,
+/// and reads as zeros: a store costs nothing until it is written.
+///
+/// Writing and filling may want memory, zeroing takes none.
+#[derive(Drop)]
+pub struct PagedStore {
+    alloc: Global,
+    capacity: u64,
+    pages: Pages,
+    ghost counted: { capacity < 2 ^ 64 },
+}
+
+impl PagedStore {
+    /// So many blocks of zeros. Takes no memory.
+    pub fn new(alloc: Global, blocks: u64) -> PagedStore
+        ensures capacity { ⟦<PagedStore as Store>⟧.size result ≡ blocks }
+        ensures zeros { (b : ℕ) → ⟦<PagedStore as Store>⟧.block_at result b ≡ zero_block }
+    {
+        PagedStore {
+            alloc,
+            capacity: blocks,
+            pages: Pages::new(alloc),
+        }
+    }
+}
+
+impl PagedStore {
+    /// Copies of the pages that the range covers in part, at most two, to prepare a write of it away from the store.
+    pub fn edges(&self, first: u64, count: u32) -> Result<Edges, NoMemory>
+        requires range { first + count ≤ ⟦<PagedStore as Store>⟧.size self.now }
+        ensures first { IfOk result (λ edges. (edges_draft edges).first ≡ first) }
+        ensures count { IfOk result (λ edges. (edges_draft edges).count ≡ count) }
+        ensures copied { IfOk result (λ edges. IsAsCopied (edges_draft edges) (⟦<PagedStore as Store>⟧.block_at self.now)) }
+    {
+        let pages = self.pages.edges(self.alloc, first, count)?;
+        Ok(Edges {
+            alloc: self.alloc,
+            first,
+            count,
+            pages,
+        })
+    }
+
+    /// Puts the new pages over the blocks of their range, where the blocks beside it, in these pages, are as they were
+    /// copied. Elsewhere answers false, and changes nothing, as after a refusal.
+    pub fn install(&mut self, prepared: Prepared) -> Result<bool, NoMemory>
+        requires range { (prepared_draft prepared).first + (prepared_draft prepared).count ≤ ⟦<PagedStore as Store>⟧.size self.old }
+        ensures exactly { IfOk result (λ installed. IsTrue installed ↔ IsAsCopied (prepared_draft prepared) (⟦<PagedStore as Store>⟧.block_at self.old)) }
+        ensures ok { IfOk result (λ installed. (b : ℕ) → ⟦<PagedStore as Store>⟧.block_at self.new b
+            ≡ (if installed then covered (⟦<PagedStore as Store>⟧.block_at self.old) (prepared_draft prepared).blocks (prepared_draft prepared).first (prepared_draft prepared).count b else ⟦<PagedStore as Store>⟧.block_at self.old b)) }
+        ensures err { OnErr result ((b : ℕ) → ⟦<PagedStore as Store>⟧.block_at self.new b ≡ ⟦<PagedStore as Store>⟧.block_at self.old b) }
+        ensures size { ⟦<PagedStore as Store>⟧.size self.new ≡ ⟦<PagedStore as Store>⟧.size self.old }
+    {
+        let Prepared {
+            first,
+            count,
+            mut pages,
+        } = prepared;
+        if !self.pages.agrees(&pages, first, count) {
+            return Ok(false);
+        }
+        let start = page_of(first);
+        let end = page_end(first, count);
+        self.pages.place_all(self.alloc, start, end)?;
+        self.pages.take_over(self.alloc, &mut pages, start, end);
+        Ok(true)
+    }
+}
+
+impl PagedStore {
+    ghost use Rattle.std.specs.Prelude.{nat_lt, min};
+
+    /// Has so many blocks from now on. Those at or above the new capacity are lost: where it grows again, they are
+    /// zeros. Takes no memory.
+    pub fn resize(&mut self, blocks: u64)
+        ensures size { ⟦<PagedStore as Store>⟧.size self.new ≡ blocks }
+        ensures blocks { (b : ℕ) → ⟦<PagedStore as Store>⟧.block_at self.new b
+            ≡ (if nat_lt b (min (⟦<PagedStore as Store>⟧.size self.old) blocks) then ⟦<PagedStore as Store>⟧.block_at self.old b else zero_block) }
+    {
+        let left = self.capacity.min(blocks);
+        let behind = (PAGE_BLOCKS - place_of(left)) % PAGE_BLOCKS;
+        self.pages.cut(page_from(left));
+        self.pages.clear_part(left, behind);
+        self.capacity = blocks;
+    }
+}
+
+impl Store for PagedStore {
+    ghost use Rattle.std.specs.Prelude.{◌/◌, ◌%◌};
+    ghost use Rattle.block_store.specs.Kept.{kept, blocks_of};
+    ghost use Rattle.block_store.specs.Padding.{length-blocks_in};
+
+    ghost size = { λ s. s.capacity };
+
+    ghost block_at = { λ s. blocks_of s.pages };
+
+    ghost whole = { λ s b below. length-blocks_in (kept s.pages (b / 8)) (b % 8) };
+
+    fn capacity(&self) -> u64 {
+        self.capacity
+    }
+
+    fn read_blocks(&self, first: u64, count: u32, into: &mut Vec<u8>) {
+        self.pages.read(first, count as usize, into);
+    }
+
+    fn write_blocks(&mut self, first: u64, bytes: &[u8]) -> Result<(), NoMemory> {
+        let count = bytes.len() / BLOCK_BYTES;
+        if in_page(first, count) == count && self.pages.try_put(first, bytes) {
+            return Ok(());
+        }
+        self.pages.make_all(self.alloc, first, count)?;
+        self.pages.put(first, bytes);
+        Ok(())
+    }
+
+    fn fill_blocks(
+        &mut self,
+        first: u64,
+        count: u32,
+        block: &[u8; BLOCK_BYTES],
+    ) -> Result<(), NoMemory> {
+        self.pages.make_all(self.alloc, first, count as usize)?;
+        self.pages.fill(first, count as usize, block);
+        Ok(())
+    }
+
+    fn zero_blocks(&mut self, first: u64, count: u32) {
+        self.pages.clear(first, count as usize);
+    }
+}
