@@ -15,5 +15,6 @@ pub use Rattle.command_set.specs.Luns
 pub use Rattle.command_set.specs.Replies
 pub use Rattle.command_set.specs.UnmapList
 pub mod Memory
+pub mod Prepared
 pub mod Steps
 pub mod Told

@@ -12,9 +12,11 @@ mod failure;
 mod inquiry;
 pub mod laws;
 mod luns;
+mod prepared;
 mod transfer;
 mod unmap;
 
 pub use attention::takes_attention;
 pub use execution::exec;
 pub use facts::UnitFacts;
+pub use prepared::exec_prepared;

@@ -103,7 +103,7 @@ profile =
     (λ cdb. Read (number 2 9 cdb) (number 10 13 cdb))
     -- COMPARE AND WRITE, SBC-3 §5.2
     ∷ row 0x89 15
-    (λ cdb. protect cdb ∷ is_over 8 (byte 13 cdb) ∷ [])
+    (λ cdb. protect cdb ∷ is_over 64 (byte 13 cdb) ∷ [])
     (λ cdb. CompareAndWrite (number 2 9 cdb) (byte 13 cdb))
     -- WRITE (16), SBC-3 §5.35
     ∷ row 0x8a 15

@@ -11,7 +11,7 @@ pub const MOST_TRANSFER_BLOCKS: u16 = 2048;
 pub const MOST_WRITE_SAME_BLOCKS: u32 = 65536;
 
 /// The most blocks that a COMPARE AND WRITE compares and writes.
-pub const MOST_COMPARE_BLOCKS: u8 = 8;
+pub const MOST_COMPARE_BLOCKS: u8 = 64;
 
 /// What a CDB asks for. `decode` gives each field in the range that is said here; a logical block
 /// address isn't yet compared with a capacity.

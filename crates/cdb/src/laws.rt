@@ -37,5 +37,5 @@ pub fn read_10()
 pub fn limits()
     ensures transfer { MOST_TRANSFER_BLOCKS ≡ 2048 }
     ensures write_same { MOST_WRITE_SAME_BLOCKS ≡ 65536 }
-    ensures compare { MOST_COMPARE_BLOCKS ≡ 8 }
+    ensures compare { MOST_COMPARE_BLOCKS ≡ 64 }
 {}

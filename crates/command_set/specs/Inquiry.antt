@@ -38,7 +38,7 @@ unfoldable pub limits_page : List ℕ
 limits_page =
     (0x00 ∷ 0xb0 ∷ 0x00 ∷ 0x3c ∷ [])
     -- bytes 4 and 5: WSNZ; the most blocks of a COMPARE AND WRITE
-    ++ (0x01 ∷ 0x08 ∷ 0x00 ∷ 0x00 ∷ [])
+    ++ (0x01 ∷ 0x40 ∷ 0x00 ∷ 0x00 ∷ [])
     -- bytes 8 and 12: the most blocks of a transfer, and the best
     ++ (0x00 ∷ 0x00 ∷ 0x08 ∷ 0x00 ∷ [])
     ++ (0x00 ∷ 0x00 ∷ 0x08 ∷ 0x00 ∷ [])

@@ -18,7 +18,7 @@ pub struct UnitSpec {
     pub target: u8,
     /// Its LUN, 0 to 16,383.
     pub lun: u16,
-    /// Its capacity in blocks of 512 bytes, 1 to 131,072.
+    /// Its capacity in blocks of 512 bytes, 1 to 2^40.
     pub blocks: u64,
     /// Whether nothing is pending at the start; else POWER ON, RESET, OR BUS DEVICE RESET OCCURRED is.
     pub calm: bool,
