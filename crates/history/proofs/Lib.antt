@@ -20,3 +20,4 @@ pub mod Waiting
 pub mod Kept
 pub mod Keeping
 pub mod Owing
+pub mod Base

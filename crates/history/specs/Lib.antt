@@ -8,6 +8,7 @@ pub mod Clearing
 pub mod Contents
 pub mod Lawful
 pub mod Receipts
+pub mod Base
 pub mod Endings
 pub mod Worths
 pub mod Cases

@@ -1,5 +1,6 @@
 //! What follows from the definitions alone.
 
+mod base;
 mod cases;
 mod contents;
 mod handing;
@@ -10,6 +11,7 @@ mod receipts;
 mod releasing;
 mod tasks;
 
+pub use base::{few_steps_are_kept, folded_and_kept_are_the_history};
 pub use cases::{
     abort_of_a_committed_task, abort_of_a_parked_task, abort_of_a_taken_task, either_may_be_first,
     ordered_stands_between, what_was_written_is_read,

@@ -1,7 +1,7 @@
 //! The tasks of a logical unit that are alive.
 
-ghost use Rattle.std.specs.Prelude.{◌≡◌, ◌+◌, ◌<◌, ◌≤◌, ◌++◌, ◌∷◌, [], length, map, None, OnOk, OnErr, IfOk, IfErr};
-ghost use Rattle.std.specs.Option.{option_copied};
+ghost use Rattle.std.specs.Prelude.{◌≡◌, ◌+◌, ◌<◌, ◌≤◌, ◌++◌, ◌∷◌, [], length, map, slice_get, None, OnOk, OnErr, IfOk, IfErr};
+ghost use Rattle.std.specs.Option.{option_copied, option_map};
 ghost use Rattle.history.specs.Tasks.{task_of};
 ghost use Rattle.history.specs.Seen.{any_met, any_before, finished, struck, freed};
 ghost use Rattle.task_set.specs.Tasks.{PlainTask, entries_of, seen_of, moved, all_given, task_at, without, entering, run_at_once, may_run};
@@ -58,6 +58,16 @@ impl TaskSet {
         ensures most { result ≤ 64 }
     {
         self.tasks.len()
+    }
+
+    /// Returns the ticket of a task by its place in the order of entry; `None` where fewer are alive.
+    pub fn ticket_at(&self, index: usize) -> Option<Ticket>
+        ensures { result ≡ option_map (λ e. e.ticket) (slice_get (entries_of self.now) index) }
+    {
+        match self.tasks.get(index) {
+            None => None,
+            Some(task) => Some(task.ticket()),
+        }
     }
 
     /// The task of a ticket; `None` where it isn't alive.

@@ -1,5 +1,5 @@
 -- A Commit is found by what is kept of its step.
-use Rattle.std.proofs.Common.{◌≡◌, ℕ, zero, suc, ◌+◌, ◌-◌, Bool, true, false, ◌&&◌, nat_le, nat_lt, cond, List, [], ◌∷◌, drop, length, map, slice_get, Option, Some, None, refl, sym, ◌∙◌, ap, subst, arith, length-drop}
+use Rattle.std.proofs.Common.{◌≡◌, ℕ, ◌+◌, ◌-◌, Bool, true, false, ◌&&◌, nat_le, nat_lt, cond, List, [], drop, length, map, slice_get, Option, Some, None, refl, sym, ◌∙◌, ap, subst, arith, length-drop}
 use Rattle.std.specs.Option.{option_map}
 use Rattle.std.proofs.lemmas.Bool.{le-leb, lt-leb, ltb-true, ltb-false}
 use Rattle.std.proofs.lemmas.List.{length-map, length-reverse}
@@ -14,7 +14,7 @@ use Rattle.unit_steps.specs.declared.kind.StepKind.TheVariants as kind
 use Rattle.unit_steps.specs.declared.noted.NotedStep.{NotedStep}
 use Rattle.unit_steps.specs.Kept.{kind_of, latest, reply_kept, commit_kind}
 use Rattle.unit_steps.specs.Noted.{kept_there, replies_noted, reply_of_place, step_noted, steps_noted, AreAlike}
-use Rattle.unit_steps.proofs.Places.{at_place}
+use Rattle.unit_steps.proofs.Places.{at_place, drop_get}
 
 -- what is kept is a Commit of the ticket, with a reply that agrees
 abbrev pub IsCommit : Option StepKind → Option PlainReply → Ticket → Option PlainReply → Type 0
@@ -135,12 +135,6 @@ kept_where : (steps place : ℕ) (o : Option NotedStep) → nat_le steps (place 
 kept_where steps place None on = refl
 kept_where steps place (Some s) on = sym (ap (λ b. cond b (reply_kept true (step_noted s)) None) on)
 
-drop_get : {X : Type 0} (k : ℕ) (xs : List X) (i j : ℕ) → k + i ≡ j → slice_get (drop k xs) i ≡ slice_get xs j
-drop_get zero xs i j e = ap (slice_get xs) (omega (arith, e))
-drop_get (suc k) [] i j e = refl
-drop_get (suc k) (x ∷ xs) i zero e = absurd (omega (arith, e))
-drop_get (suc k) (x ∷ xs) i (suc j) e = drop_get k xs i j (omega (arith, e))
-
 there_from : {X : Type 0} (steps place k : ℕ) (items : List X) → steps - length items ≡ k
     → kept_there steps place items ≡ cond (nat_lt place k) None (slice_get items (place - k))
 there_from steps place k items e = ap (λ n. cond (nat_lt place n) None (slice_get items (place - n))) e
@@ -187,7 +181,7 @@ by_place : (keeps : Bool) (place : ℕ) (xs : List NotedStep)
 by_place true place xs = by_place_kept place xs
 by_place false place xs = none_there (length xs) place ∙ kept_nowhere (length xs) place (slice_get xs place)
 
-length_noted : (xs : List NotedStep) → length (steps_noted xs) ≡ length xs
+pub length_noted : (xs : List NotedStep) → length (steps_noted xs) ≡ length xs
 length_noted xs = length-map _ step_noted ∙ length-reverse xs
 
 -- the reply of the step at a place, by what is kept
@@ -222,3 +216,23 @@ module _ (keeps : Bool) (given : Option PlainReply) (t : Ticket) (place : ℕ) (
       subst (λ w. IsCommit w (reply_of_place (kept_there steps place replies)) t given) (sym kind_is)
       (subst (λ w. IsCommit (option_map kind_of (step_at place (steps_noted xs))) w t given) (sym there)
       (back keeps (length (steps_noted xs)) place given t (step_at place (steps_noted xs)) f))
+
+none_kind : {k : StepKind} → None ≡ Some k → ⊥
+none_kind e = cc
+
+same_kind : (a b : StepKind) → Some a ≡ Some b → a ≡ b
+same_kind a b e = cc
+
+-- a Commit that is folded, whose reply isn't kept any more
+pub folded_found : (keeps : Bool) (steps place : ℕ) (given : Option PlainReply) (t : Ticket) (o : Option Step) → nat_le steps (place + latest_kept) ≡ false
+    → (option_map kind_of o ≡ Some (commit_kind t) → (r : PlainReply) × (o ≡ Some (Step.Commit t r)) × Agrees (is_kept keeps steps place r) given r)
+    × ((r : PlainReply) × (o ≡ Some (Step.Commit t r)) × Agrees (is_kept keeps steps place r) given r → option_map kind_of o ≡ Some (commit_kind t))
+folded_found keeps steps place given t None off = (λ e. absurd (none_kind e), λ f. ap (option_map kind_of) f.1)
+folded_found keeps steps place given t (Some s) off = (
+  λ e.
+      is_found keeps steps place given t s (
+        same_kind (kind_of s) (commit_kind t) e,
+        subst (λ w. AreAlike w given) (sym (ap (λ b. cond b (reply_kept keeps s) None) off)) tt,
+      ),
+  λ f. ap (option_map kind_of) f.1,
+)

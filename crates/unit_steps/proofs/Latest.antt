@@ -1,14 +1,16 @@
 -- The replies of the latest steps, and one more.
-use Rattle.std.proofs.Common.{◌≡◌, ◌-◌, ◌≤◌, Bool, true, false, cond, List, [], ◌∷◌, ◌++◌, length, drop, map, Option, sym, ◌∙◌, ap, subst, arith, length-append, length-drop}
+use Rattle.std.proofs.Common.{◌≡◌, ℕ, ◌+◌, ◌-◌, ◌<◌, ◌≤◌, Bool, true, false, cond, List, [], ◌∷◌, ◌++◌, length, drop, map, Option, sym, ◌∙◌, ap, subst, arith, length-append, length-drop}
 use Rattle.std.specs.Option.{option_map}
 use Rattle.std.proofs.lemmas.List.{drop-append-le, drop-drop, drop-map, length-map, map-append}
 use Rattle.replies.specs.PlainReply.{PlainReply, plain_of}
 use Rattle.replies.specs.declared.reply.Reply.{Reply}
+use Rattle.history.specs.Base.{most_kept}
 use Rattle.history.specs.Receipts.{latest_kept}
 use Rattle.unit_steps.specs.declared.kind.StepKind.{StepKind}
 use Rattle.unit_steps.specs.declared.noted.NotedStep.{NotedStep}
 use Rattle.unit_steps.specs.Kept.{kind_of, latest, reply_kept}
-use Rattle.unit_steps.specs.Noted.{AreNoted, replies_noted, step_noted}
+use Rattle.unit_steps.specs.Noted.{AreNoted, kinds_noted, replies_noted, step_noted}
+use Rattle.unit_steps.proofs.Bounds.{first_still}
 
 length_latest : {X : Type 0} (xs : List X) → length (latest xs) ≡ length xs - (length xs - latest_kept)
 length_latest xs = length-drop (length xs - latest_kept) xs
@@ -29,15 +31,15 @@ latest_more {X} xs y =
     ∙ drop-drop (length (latest xs ++ y ∷ []) - latest_kept) k (xs ++ y ∷ [])
     ∙ ap (λ n. drop n (xs ++ y ∷ [])) (omega (arith, a, b, l))
 
-pub few_replies : (keeps : Bool) (kinds : List StepKind) (replies : List (Option Reply)) (items : List NotedStep) → AreNoted keeps kinds replies items
+pub few_replies : (keeps : Bool) (replies : List (Option Reply)) (items : List NotedStep) → map (option_map plain_of) replies ≡ latest (replies_noted keeps items)
     → (length replies ≤ latest_kept) × (length replies ≤ length items)
-few_replies true kinds replies items k =
+few_replies true replies items are =
     let g = λ (s : NotedStep). reply_kept true (step_noted s) in
-    let n = sym (length-map replies (option_map plain_of)) ∙ ap (λ (w : List (Option PlainReply)). length w) k.replies_are ∙ length_latest (map g items) in
+    let n = sym (length-map replies (option_map plain_of)) ∙ ap (λ (w : List (Option PlainReply)). length w) are ∙ length_latest (map g items) in
     let m = length-map items g in
     (omega (arith, n, m), omega (arith, n, m))
-few_replies false kinds replies items k =
-    let n = sym (length-map replies (option_map plain_of)) ∙ ap (λ (w : List (Option PlainReply)). length w) k.replies_are ∙ length_latest {X = Option PlainReply} [] in
+few_replies false replies items are =
+    let n = sym (length-map replies (option_map plain_of)) ∙ ap (λ (w : List (Option PlainReply)). length w) are ∙ length_latest {X = Option PlainReply} [] in
     (omega (arith, n), omega (arith, n))
 
 replies_more : (keeps : Bool) (replies : List (Option Reply)) (items : List NotedStep) (s : NotedStep) (reply : Option Reply)
@@ -54,17 +56,28 @@ replies_more true replies items s reply e is =
     ∙ ap latest (sym (map-append g items (s ∷ [])))
 
 -- what is kept of the steps and one more
-pub noted_more : (keeps : Bool) (kinds kinds' : List StepKind) (replies replies' : List (Option Reply)) (items items' : List NotedStep) (s : NotedStep)
-    (kind : StepKind) (reply : Option Reply) → AreNoted keeps kinds replies items → kind ≡ kind_of (step_noted s)
-    → option_map plain_of reply ≡ reply_kept keeps (step_noted s) → kinds' ≡ kinds ++ kind ∷ []
-    → replies' ≡ cond keeps (latest (replies ++ reply ∷ [])) replies → items' ≡ items ++ s ∷ [] → AreNoted keeps kinds' replies' items'
-noted_more keeps kinds kinds' replies replies' items items' s kind reply k as_kind as_reply is_kinds is_replies is_items =
+pub noted_more : (keeps folds : Bool) (base cap cap' : ℕ) (folded kinds kinds' : List StepKind) (replies replies' : List (Option Reply)) (items items' : List NotedStep)
+    (s : NotedStep) (kind : StepKind) (reply : Option Reply) → AreNoted keeps folds base cap folded kinds replies items → length kinds < base + most_kept
+    → kind ≡ kind_of (step_noted s) → option_map plain_of reply ≡ reply_kept keeps (step_noted s) → cap' ≡ cap → kinds' ≡ kinds ++ kind ∷ []
+    → replies' ≡ cond keeps (latest (replies ++ reply ∷ [])) replies → items' ≡ items ++ s ∷ [] → AreNoted keeps folds base cap' folded kinds' replies' items'
+noted_more keeps folds base cap cap' folded kinds kinds' replies replies' items items' s kind reply k below as_kind as_reply is_cap is_kinds is_replies is_items =
     let f = λ (s : NotedStep). kind_of (step_noted s) in
-    subst (λ w. AreNoted keeps kinds' replies' w) (sym is_items) (record {
+    let one = length-append items (s ∷ []) in
+    let counted = k.counted in
+    let low = k.low in
+    let full = k.full in
+    let more = length-append kinds (kind ∷ []) in
+    subst (AreNoted keeps folds base cap' folded kinds' replies') (sym is_items)
+    (subst (λ w. AreNoted keeps folds base cap' folded w replies' (items ++ s ∷ [])) (sym is_kinds) (record {
+      alike = k.alike;
       kinds_are =
-          is_kinds
-          ∙ ap (λ (w : List StepKind). w ++ kind ∷ []) k.kinds_are
-          ∙ ap (λ (w : StepKind). map f items ++ w ∷ []) as_kind
+          ap (λ (w : List StepKind). w ++ kind ∷ []) k.kinds_are ∙ ap (λ (w : StepKind). kinds_noted items ++ w ∷ []) as_kind
           ∙ sym (map-append f items (s ∷ []));
+      counted = omega (arith, counted, one, more);
+      folded_are = first_still folded kinds kind k.folded_are;
+      behind = k.behind;
+      low = omega (arith, low, more);
+      few = omega (arith, below, more);
+      full = λ some. subst (λ n. most_kept ≤ n) (sym is_cap) (full some);
       replies_are = ap (map (option_map plain_of)) is_replies ∙ replies_more keeps replies items s reply k.replies_are as_reply;
-    })
+    }))

@@ -1,8 +1,8 @@
 -- A step by its place: in a list with the newest first, and in the order in which steps came.
-use Rattle.std.proofs.Common.{◌≡◌, ℕ, zero, suc, Bool, true, false, eqb, cond, List, [], ◌∷◌, ◌++◌, length, reverse, map, slice_get, Option, Some, None, refl, sym, ◌∙◌, ap, subst, eq-eqb}
+use Rattle.std.proofs.Common.{◌≡◌, ℕ, zero, suc, ◌+◌, ◌<◌, ◌≤◌, Bool, true, false, eqb, nat_lt, cond, List, [], ◌∷◌, ◌++◌, length, take, drop, reverse, map, slice_get, Option, Some, None, inl, inr, refl, sym, ◌∙◌, ap, subst, arith, eq-eqb}
 use Rattle.std.specs.Option.{option_map}
 use Rattle.std.proofs.lemmas.List.{length-reverse, reverse-reverse, reverse-append, length-map}
-use Rattle.std.proofs.lemmas.Bool.{eqb-true}
+use Rattle.std.proofs.lemmas.Bool.{eqb-true, ltb-true, ltb-false}
 use Rattle.std.proofs.lemmas.Option.{slice_get-map}
 use Rattle.history.specs.Steps.{Step}
 use Rattle.history.specs.Clearing.{rule_at, rule_of}
@@ -11,22 +11,23 @@ use Rattle.history.specs.declared.rule.Rule.{Rule}
 use Rattle.unit_steps.specs.declared.kind.StepKind.{StepKind}
 use Rattle.unit_steps.specs.declared.noted.NotedStep.{NotedStep}
 use Rattle.unit_steps.specs.Kept.{kind_of, met_kind}
-use Rattle.unit_steps.specs.Noted.{kinds_noted, step_noted, steps_noted}
+use Rattle.unit_steps.specs.Folding.{met_one}
+use Rattle.unit_steps.specs.Noted.{kinds_noted, step_noted, steps_noted, AreFirst, Tells}
 
 unlike : false ≡ true → ⊥
 unlike e = cc
 
-push_here : {X : Type 0} (xs : List X) (y : X) → slice_get (xs ++ y ∷ []) (length xs) ≡ Some y
+pub push_here : {X : Type 0} (xs : List X) (y : X) → slice_get (xs ++ y ∷ []) (length xs) ≡ Some y
 push_here [] y = refl
 push_here (x ∷ xs) y = push_here xs y
 
-push_other : {X : Type 0} (xs : List X) (y : X) (k : ℕ) → (length xs ≡ k → ⊥) → slice_get (xs ++ y ∷ []) k ≡ slice_get xs k
+pub push_other : {X : Type 0} (xs : List X) (y : X) (k : ℕ) → (length xs ≡ k → ⊥) → slice_get (xs ++ y ∷ []) k ≡ slice_get xs k
 push_other [] y zero other = absurd (other refl)
 push_other [] y (suc k) other = refl
 push_other (x ∷ xs) y zero other = refl
 push_other (x ∷ xs) y (suc k) other = push_other xs y k (λ e. other (ap suc e))
 
-push_get : {X : Type 0} (xs : List X) (y : X) (k : ℕ) → slice_get (xs ++ y ∷ []) k ≡ cond (eqb (length xs) k) (Some y) (slice_get xs k)
+pub push_get : {X : Type 0} (xs : List X) (y : X) (k : ℕ) → slice_get (xs ++ y ∷ []) k ≡ cond (eqb (length xs) k) (Some y) (slice_get xs k)
 push_get xs y k =
     (elim (eqb (length xs) k) as (λ b. eqb (length xs) k ≡ b → slice_get (xs ++ y ∷ []) k ≡ cond b (Some y) (slice_get xs k)) [
       | true ↦ λ e. subst (λ n. slice_get (xs ++ y ∷ []) n ≡ Some y) (eqb-true (length xs) k e) (push_here xs y)
@@ -61,10 +62,25 @@ kind_there place kinds xs e =
     ∙ composed (slice_get xs place)
     ∙ ap (option_map kind_of) (sym (at_place place xs))
 
--- which tasks a step meets, if there is one
-abbrev pub met_one : Option StepKind → Option Rule
-met_one None = None
-met_one (Some k) = met_kind k
+pub drop_get : {X : Type 0} (k : ℕ) (xs : List X) (i j : ℕ) → k + i ≡ j → slice_get (drop k xs) i ≡ slice_get xs j
+drop_get zero xs i j e = ap (slice_get xs) (omega (arith, e))
+drop_get (suc k) [] i j e = refl
+drop_get (suc k) (x ∷ xs) i zero e = absurd (omega (arith, e))
+drop_get (suc k) (x ∷ xs) i (suc j) e = drop_get k xs i j (omega (arith, e))
+
+take_get : {X : Type 0} (n : ℕ) (xs : List X) (i : ℕ) → i < n → slice_get (take n xs) i ≡ slice_get xs i
+take_get zero xs i below = absurd (omega (arith, below))
+take_get (suc n) [] i below = refl
+take_get (suc n) (x ∷ xs) zero below = refl
+take_get (suc n) (x ∷ xs) (suc i) below = take_get n xs i (omega (arith, below))
+
+-- and of one that is folded
+pub kind_folded : (place : ℕ) (folded kinds : List StepKind) (xs : List NotedStep) → kinds ≡ kinds_noted xs → AreFirst folded kinds → place < length folded
+    → slice_get folded place ≡ option_map kind_of (step_at place (steps_noted xs))
+kind_folded place folded kinds xs are first below =
+    ap (λ w. slice_get w place) first
+    ∙ take_get (length folded) kinds place below
+    ∙ kind_there place kinds xs are
 
 met_by_kind : (s : Step) → met_kind (kind_of s) ≡ rule_of s
 met_by_kind (Step.Enter e) = refl
@@ -82,3 +98,30 @@ rule_there place (s ∷ past) =
       | true ↦ met_by_kind s
       | false ↦ rule_there place past
     ]
+
+-- a place is kept or folded
+pub kept_place : {X : Type 0} (place base : ℕ) (o : Option X) → base ≤ place → cond (nat_lt place base) None o ≡ o
+kept_place place base o le =
+    (elim (nat_lt place base) as (λ b. nat_lt place base ≡ b → cond b None o ≡ o) [
+      | true ↦ λ e. absurd (let h = ltb-true place base e in omega (arith, h, le))
+      | false ↦ λ e. refl
+    ]) refl
+
+pub folded_place : {X : Type 0} (place base : ℕ) (o : Option X) → place < base → None ≡ cond (nat_lt place base) None o
+folded_place place base o lt =
+    (elim (nat_lt place base) as (λ b. nat_lt place base ≡ b → None ≡ cond b None o) [
+      | true ↦ λ e. refl
+      | false ↦ λ e. absurd (let h = ltb-false place base e in omega (arith, h, lt))
+    ]) refl
+
+-- what is told of a step, and of one that is folded
+pub tells_is : (f place : ℕ) (steps : List Step) (r : Option Rule) → r ≡ rule_at place steps → Tells f place steps r
+tells_is f place steps None is = inl (sym is)
+tells_is f place steps (Some rule) is = sym is
+
+pub tells_folded : (f place : ℕ) (steps : List Step) (r o : Option Rule) → o ≡ rule_at place steps → r ≡ cond (nat_lt place f) None o → Tells f place steps r
+tells_folded f place steps r o is as_told =
+    (elim (nat_lt place f) as (λ b. nat_lt place f ≡ b → r ≡ cond b None o → Tells f place steps r) [
+      | true ↦ λ e k. subst (Tells f place steps) (sym k) (inr (ltb-true place f e))
+      | false ↦ λ e k. tells_is f place steps r (k ∙ is)
+    ]) refl as_told

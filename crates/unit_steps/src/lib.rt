@@ -2,11 +2,15 @@
 //! what it is asked.
 #![tactic(auto)]
 
+mod commits;
+mod folding;
 mod kind;
 mod lasts;
 mod log;
 mod noted;
 mod performing;
+mod ring;
+mod runs;
 
 pub use kind::StepKind;
 pub use lasts::Lasts;

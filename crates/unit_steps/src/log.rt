@@ -1,16 +1,19 @@
 //! The steps of a history, of which the code keeps what it is asked.
 
-ghost use Rattle.std.specs.Prelude.{◌≡◌, ◌+◌, ◌<◌, ◌≤◌, [], ◌∷◌, ◌++◌, length, OnOk, Option, Some, None, slice_get, IsTrue, ◌↔◌, if◌then◌else◌};
+ghost use Rattle.std.specs.Prelude.{◌≡◌, ◌+◌, ◌-◌, ◌<◌, ◌≤◌, nat_lt, [], ◌∷◌, ◌++◌, length, drop, max, OnOk, OnErr, IfSome, Option, Some, None, slice_get, true, false, ◌⊎◌, IsTrue, ◌↔◌, if◌then◌else◌};
 ghost use Rattle.std.specs.Option.{option_map};
 ghost use Rattle.replies.specs.PlainReply.{PlainReply, plain_of};
-ghost use Rattle.history.specs.Clearing.{rule_at};
+ghost use Rattle.history.specs.Base.{most_before, most_kept};
 ghost use Rattle.history.specs.Receipts.{step_at, latest_kept, is_kept, Agrees};
 ghost use Rattle.history.specs.Steps.{Step};
-ghost use Rattle.unit_steps.specs.Kept.{kind_of, latest, reply_kept, met_kind, commit_kind};
-ghost use Rattle.unit_steps.specs.Noted.{step_noted, spare_of_deque, kept_there, reply_of_place, AreAlike};
+ghost use Rattle.unit_steps.specs.Kept.{kind_of, latest, reply_kept, commit_kind};
+ghost use Rattle.unit_steps.specs.Slots.{IsCalm};
+ghost use Rattle.unit_steps.specs.Noted.{step_noted, spare_of_deque, kept_there, reply_of_place, AreAlike, AreFirst, Tells, most_steps};
 
+use crate::folding::{Folding, rule_of_one};
 use crate::kind::StepKind;
 use crate::noted::NotedStep;
+use crate::ring::{KindRing, index_behind, index_of};
 use history::Rule;
 use record::Record;
 use replies::Reply;
@@ -25,12 +28,29 @@ pub const LATEST_KEPT: usize = 256;
 /// How many bytes of data a reply has at most that is kept.
 pub const LONGEST_KEPT: usize = 4096;
 
+/// How many steps are kept at most where one is added that brings more.
+const MOST_BEFORE: u64 = 4095;
+
+/// For how many steps room is made before one is taken that brings more: that one, and two for each of 64 tasks.
+const STEPS_AHEAD: usize = 129;
+
+/// How many steps are folded at once at least, where some are to be.
+const FOLDED_AHEAD: u64 = 64;
+
+/// How many steps a history has at most where one is taken that brings more.
+const MOST_STEPS: u64 = 0x8000_0000_0000_0000;
+
 /// The steps of a history, seen with the newest first. The steps themselves only proofs see; of each its kind
 /// is kept, and of a Commit its reply, where replies are kept and it isn't long, as long as it is among the latest.
 #[derive(Drop)]
 pub struct StepLog {
     keeps_replies: bool,
-    kinds: Vec<StepKind>,
+    // How many are folded.
+    base: u64,
+    // These, and maybe some of those that are kept.
+    folded: Folding,
+    // Those of all steps, of which the kept ones stand.
+    kinds: KindRing,
     // Those of the latest steps, the oldest first, and none at all where replies aren't kept: a step then costs its
     // kind alone.
     replies: VecDeque<Option<Reply>>,
@@ -38,27 +58,83 @@ pub struct StepLog {
 }
 
 impl Model for StepLog {
-    ghost use Rattle.unit_steps.specs.Noted.{Logged, AreNoted, spare, spare_of_deque, room_left, steps_noted};
+    ghost use Rattle.std.specs.Prelude.{length};
+    ghost use Rattle.unit_steps.specs.Slots.{ring_room};
+    ghost use Rattle.unit_steps.specs.Noted.{Logged, AreNoted, spare_of_deque, room_left, steps_left, steps_noted};
 
     ghost Value = { Logged };
 
     ghost view = { λ l. record {
       steps = steps_noted l.noted.items;
       keeps = l.keeps_replies;
-      room = room_left l.keeps_replies (spare l.kinds) (spare_of_deque l.replies);
+      room = room_left l.keeps_replies (ring_room l.base l.kinds.cap (length l.kinds.kinds)) (spare_of_deque l.replies) (steps_left (length l.kinds.kinds));
+      base = l.base;
+      forgotten = l.folded.forgotten;
     } };
 
-    ghost invariant = { λ l. AreNoted l.keeps_replies l.kinds.items l.replies.items l.noted.items };
+    ghost invariant = { λ l. AreNoted l.keeps_replies l.folded.keeps l.base l.kinds.cap l.folded.kinds l.kinds.kinds
+        l.replies.items l.noted.items };
 }
 
-/// The kind at a place.
-fn kind_there(kinds: &[StepKind], place: u64) -> Option<StepKind>
-    ensures { result ≡ slice_get kinds.now place }
+/// Folds the steps up to a place. What is folded already stays so. `AllocError` where memory was refused; then maybe
+/// fewer are folded.
+#[inline(never)]
+fn cover(folded: &mut Folding, kinds: &KindRing, to: u64) -> Result<(), AllocError>
+    requires covers { AreFirst folded.old.kinds kinds.now.kinds }
+    requires stand { length kinds.now.kinds ≤ length folded.old.kinds + most_kept }
+    requires there { to ≤ length kinds.now.kinds }
+    ensures covers { AreFirst folded.new.kinds kinds.now.kinds }
+    ensures more { length folded.old.kinds ≤ length folded.new.kinds }
+    ensures forgotten { folded.new.forgotten ≡ folded.old.forgotten }
+    ensures keeps { folded.new.keeps ≡ folded.old.keeps }
+    ensures ok { OnOk result (to ≤ length folded.new.kinds) }
 {
-    match kinds.get(place as usize) {
-        Some(kind) => Some(*kind),
-        None => None,
+    let from = folded.len();
+    let mut index = index_of(from);
+    for place in from..to {
+        folded.fold(kinds.stands_at(index, place))?;
+        index = index_behind(index);
     }
+    Ok(())
+}
+
+/// The same where no Commits are kept, and none of these steps is an Abort or a Reset: nothing of them has to be read.
+#[inline(always)]
+fn count_up(folded: &mut Folding, kinds: &KindRing, to: u64)
+    requires covers { AreFirst folded.old.kinds kinds.now.kinds }
+    requires stand { length kinds.now.kinds ≤ length folded.old.kinds + most_kept }
+    requires there { to ≤ length kinds.now.kinds }
+    requires calm { IsCalm (length folded.old.kinds) kinds.now.kinds }
+    requires keeps { folded.old.keeps ≡ false }
+    ensures covers { AreFirst folded.new.kinds kinds.now.kinds }
+    ensures more { length folded.old.kinds ≤ length folded.new.kinds }
+    ensures forgotten { folded.new.forgotten ≡ folded.old.forgotten }
+    ensures keeps { folded.new.keeps ≡ folded.old.keeps }
+    ensures to { to ≤ length folded.new.kinds }
+{
+    let from = folded.len();
+    for place in from..to {
+        folded.count(kinds.at(place));
+    }
+}
+
+/// Folds the steps up to a place, by the one or the other.
+#[inline(never)]
+fn advance(folded: &mut Folding, kinds: &KindRing, to: u64) -> Result<(), AllocError>
+    requires covers { AreFirst folded.old.kinds kinds.now.kinds }
+    requires stand { length kinds.now.kinds ≤ length folded.old.kinds + most_kept }
+    requires there { to ≤ length kinds.now.kinds }
+    ensures covers { AreFirst folded.new.kinds kinds.now.kinds }
+    ensures more { length folded.old.kinds ≤ length folded.new.kinds }
+    ensures forgotten { folded.new.forgotten ≡ folded.old.forgotten }
+    ensures keeps { folded.new.keeps ≡ folded.old.keeps }
+    ensures ok { OnOk result (to ≤ length folded.new.kinds) }
+{
+    if !folded.keeps() && kinds.is_calm_from(folded.len()) {
+        count_up(folded, kinds, to);
+        return Ok(());
+    }
+    cover(folded, kinds, to)
 }
 
 /// Whether replies are one.
@@ -140,27 +216,19 @@ fn push_where(keeps: bool, replies: &mut VecDeque<Option<Reply>>, reply: Option<
     }
 }
 
-/// Which tasks a step meets.
-fn rule_of_kind(kind: StepKind) -> Option<Rule>
-    ensures { result ≡ met_kind kind }
-{
-    match kind {
-        StepKind::Abort(rule) => Some(rule),
-        StepKind::Reset => Some(Rule::All),
-        StepKind::Enter(_) | StepKind::Full(_) | StepKind::Commit(_) => None,
-        StepKind::Busy(_) | StepKind::Leave(_) => None,
-    }
-}
-
 impl StepLog {
     /// No steps, for a unit that opens, and whether replies are to be kept.
     pub fn new(alloc: Global, keeps_replies: bool) -> StepLog
         ensures steps { result.steps ≡ [] }
         ensures keeps { result.keeps ≡ keeps_replies }
+        ensures base { result.base ≡ 0 }
+        ensures forgotten { result.forgotten ≡ 0 }
     {
         StepLog {
             keeps_replies,
-            kinds: Vec::new(alloc),
+            base: 0,
+            folded: Folding::new(alloc, keeps_replies),
+            kinds: KindRing::new(alloc),
             replies: VecDeque::new(alloc),
             noted: Record::new(),
         }
@@ -170,7 +238,14 @@ impl StepLog {
     pub fn len(&self) -> u64
         ensures { result ≡ length self.now.steps }
     {
-        self.kinds.len() as u64
+        self.kinds.len()
+    }
+
+    /// How many of them are folded: the oldest.
+    pub fn base(&self) -> u64
+        ensures { result ≡ self.now.base }
+    {
+        self.base
     }
 
     /// Whether replies are kept.
@@ -180,47 +255,72 @@ impl StepLog {
         self.keeps_replies
     }
 
-    /// What the step at a place is, by how many steps stood before it; `None` where there is none yet.
+    /// What the step at a place is, by how many steps stood before it; `None` where it is folded, or there is none yet.
     pub fn kind_at(&self, place: u64) -> Option<StepKind>
-        ensures { result ≡ option_map kind_of (step_at place self.now.steps) }
+        ensures { result
+            ≡ (if nat_lt place self.now.base then None else option_map kind_of (step_at place self.now.steps)) }
     {
-        kind_there(self.kinds.as_slice(), place)
+        if place < self.base {
+            return None;
+        }
+        self.kinds.get(place)
     }
 
-    /// Which tasks the step at a place meets; `None` where it is no Abort and no Reset, or there is none yet.
+    /// Which tasks the step at a place met; `None` where it is no Abort and no Reset, where there is none yet, and where
+    /// that is forgotten.
     pub fn rule_at(&self, place: u64) -> Option<Rule>
-        ensures { result ≡ rule_at place self.now.steps }
+        ensures { Tells self.now.forgotten place self.now.steps result }
     {
-        match self.kind_at(place) {
-            Some(kind) => rule_of_kind(kind),
-            None => None,
+        if place < self.base {
+            return self.folded.rule_at(place);
         }
+        rule_of_one(self.kinds.get(place))
     }
 
-    /// Whether the Commit of a ticket stands at a place, with this reply where both have one: the log, where it still
-    /// keeps it.
-    pub fn has_commit(&self, place: u64, ticket: Ticket, reply: &Option<Reply>) -> bool
-        ensures { IsTrue result ↔ ((r : PlainReply) × (step_at place self.now.steps ≡ Some (Step.Commit ticket r))
-            × Agrees (is_kept self.now.keeps (length self.now.steps) place r) (option_map plain_of reply.now) r) }
-    {
-        match self.kind_at(place) {
-            None => false,
-            Some(kind) => is_commit_of(kind, ticket)
-                && agrees_there(&self.replies, self.len(), place, reply),
-        }
-    }
-
-    /// Makes room for so many more steps. The unit calls it before it takes one: `AllocError` where a list couldn't grow.
-    /// The steps stay, whatever the result.
+    /// The place of the oldest folded Abort or Reset of which it is kept which tasks it met, if there is one.
     #[inline(always)]
-    pub fn reserve(&mut self, room: usize) -> Result<(), AllocError>
+    pub fn oldest_mark(&self) -> Option<u64>
+        ensures { IfSome result (λ place. place < length self.now.steps) }
+    {
+        self.folded.oldest_mark()
+    }
+
+    /// Forgets of folded steps up to a place which tasks they met. The unit calls it for the oldest, once no task is alive
+    /// that entered before it.
+    #[inline(always)]
+    pub fn forget(&mut self, place: u64)
+        requires { place < length self.old.steps }
+        ensures { self.new ≡ record self.old { forgotten = max self.old.forgotten (place + 1) } }
+    {
+        let _steps = self.len();
+        self.folded.forget(place);
+    }
+
+    /// Folds the oldest steps, until at most 4,095 are kept, and makes room for those ahead: one, and two for each of 64
+    /// tasks that may be alive. The unit calls it before it takes a step that brings more. `AllocError`, with all as
+    /// before, where memory was refused, or 2^63 steps stand.
+    #[inline(always)]
+    pub fn make_way(&mut self) -> Result<(), AllocError>
         ensures steps { self.new.steps ≡ self.old.steps }
         ensures keeps { self.new.keeps ≡ self.old.keeps }
-        ensures room { OnOk result (room ≤ self.new.room) }
-        ensures kept { self.old.room ≤ self.new.room }
+        ensures forgotten { self.new.forgotten ≡ self.old.forgotten }
+        ensures base { OnOk result (self.new.base ≡ length self.old.steps - most_before) }
+        ensures room { OnOk result (129 ≤ self.new.room) }
+        ensures limit { OnOk result (length self.old.steps < most_steps) }
+        ensures kept { OnErr result ((self.new.base ≡ self.old.base) × (self.old.room ≤ self.new.room)) }
     {
-        reserve_where(self.keeps_replies, &mut self.replies, room)?;
-        self.kinds.reserve(room)
+        let len = self.kinds.len();
+        if len >= MOST_STEPS {
+            return Err(AllocError);
+        }
+        let to = len.saturating_sub(MOST_BEFORE);
+        if to > self.folded.len() {
+            advance(&mut self.folded, &self.kinds, to + (FOLDED_AHEAD - 1))?;
+        }
+        reserve_where(self.keeps_replies, &mut self.replies, STEPS_AHEAD)?;
+        self.kinds.make_room()?;
+        self.base = to;
+        Ok(())
     }
 
     /// One more step, for which room was made, with its reply where that is kept: of a Commit, in a log that keeps
@@ -233,13 +333,29 @@ impl StepLog {
         ensures steps { self.new.steps ≡ step_noted step ∷ self.old.steps }
         ensures keeps { self.new.keeps ≡ self.old.keeps }
         ensures room { self.old.room ≤ self.new.room + 1 }
+        ensures base { self.new.base ≡ self.old.base }
+        ensures forgotten { self.new.forgotten ≡ self.old.forgotten }
     {
         let kind = step.kind();
         self.noted.push(&step);
         push_where(self.keeps_replies, &mut self.replies, reply);
-        match self.kinds.push(kind) {
-            Ok(()) => {}
-            Err(_) => unreachable!(),
+        self.kinds.push(kind);
+    }
+
+    /// Whether the Commit of a ticket stands at a place, with this reply where both have one: the log, where it still
+    /// keeps it. A log that keeps no replies knows no Commits that are folded.
+    pub fn has_commit(&self, place: u64, ticket: Ticket, reply: &Option<Reply>) -> bool
+        requires { (self.now.keeps ≡ true) ⊎ (self.now.base ≤ place) }
+        ensures { IsTrue result ↔ ((r : PlainReply) × (step_at place self.now.steps ≡ Some (Step.Commit ticket r))
+            × Agrees (is_kept self.now.keeps (length self.now.steps) place r) (option_map plain_of reply.now) r) }
+    {
+        if place < self.base {
+            return self.folded.has_commit(place, ticket);
+        }
+        match self.kind_at(place) {
+            None => false,
+            Some(kind) => is_commit_of(kind, ticket)
+                && agrees_there(&self.replies, self.kinds.len(), place, reply),
         }
     }
 }

@@ -4,6 +4,8 @@ ghost use Rattle.std.specs.Prelude.{◌≡◌, ◌≤◌, ◌<◌, IfSome, if◌
 ghost use Rattle.std.specs.Option.{option_map};
 ghost use Rattle.cdb.specs.Need.{need_of};
 ghost use Rattle.replies.specs.PlainReply.{plain_of};
+ghost use Rattle.block_store.specs.Drafts.{prepared_draft};
+ghost use Rattle.block_commands.specs.Prepared.{IsOf};
 ghost use Rattle.block_commands.specs.Told.{facts_of};
 ghost use Rattle.sense.specs.Conditions.{unit_attention};
 ghost use Rattle.history.specs.Contents.{pending_at_start};
@@ -11,8 +13,8 @@ ghost use Rattle.unit_steps.specs.Kept.{kept_reply};
 ghost use Rattle.unit_steps.specs.Performing.{Performs, told, taken, unkept};
 
 use crate::log::LONGEST_KEPT;
-use block_commands::{UnitFacts, exec, takes_attention};
-use block_store::{NoMemory, Store};
+use block_commands::{UnitFacts, exec_prepared, takes_attention};
+use block_store::{NoMemory, PagedStore, Prepared, Store};
 use cdb::Command;
 use replies::Reply;
 use sense::Sense;
@@ -96,29 +98,31 @@ pub struct Performed {
     pub kept: Option<Reply>,
 }
 
-/// Runs a command, with exactly the data that it takes, on the blocks of its unit, with what is pending; its reply is
-/// kept nowhere. The unit calls it, in the hold of its lock. `NoMemory` where memory was refused, with blocks and
-/// attentions as before.
+/// Runs a command, with exactly the data that it takes, on the blocks of its unit, with what is pending, and with the
+/// new pages of its write, if they were prepared; its reply is kept nowhere. The unit calls it, in the hold of its lock.
+/// `NoMemory` where memory was refused, with blocks and attentions as before.
 #[inline(always)]
-pub fn run<S: Store>(
+pub fn run(
     alloc: Global,
     room: &mut Vec<u8>,
     facts: &mut UnitFacts,
     attentions: &mut Attentions,
-    store: &mut S,
+    store: &mut PagedStore,
     command: &Command,
     bytes: &[u8],
+    prepared: Option<Prepared>,
 ) -> Result<Reply, NoMemory>
     requires data { length bytes.now ≡ (need_of command.now).out }
-    ensures performed { Performs false (facts_of (told facts.old attentions.old) (S.size store.old))
+    requires own { IfSome prepared (λ pages. IsOf command.now bytes.now (prepared_draft pages)) }
+    ensures performed { Performs false (facts_of (told facts.old attentions.old) (⟦<PagedStore as Store>⟧.size store.old))
         command.now bytes.now (unkept result)
-        (S.block_at store.old) (S.block_at store.new) attentions.old attentions.new }
+        (⟦<PagedStore as Store>⟧.block_at store.old) (⟦<PagedStore as Store>⟧.block_at store.new) attentions.old attentions.new }
     ensures facts { facts.new ≡ told facts.old attentions.old }
-    ensures size { S.size store.new ≡ S.size store.old }
+    ensures size { ⟦<PagedStore as Store>⟧.size store.new ≡ ⟦<PagedStore as Store>⟧.size store.old }
     ensures fits { IfOk result (λ r. length r.payload.items ≤ (need_of command.now).into) }
 {
     tell_oldest(facts, attentions);
-    let reply = exec(alloc, room, store, command, bytes, facts)?;
+    let reply = exec_prepared(alloc, room, store, command, bytes, facts, prepared)?;
     clear_oldest(attentions, command);
     Ok(reply)
 }
@@ -126,30 +130,35 @@ pub fn run<S: Store>(
 /// Runs a command as [`run`] does, and has its reply again, where replies are kept and it isn't too long; `None`
 /// where memory was refused, also to that, with blocks and attentions as before.
 #[inline(always)]
-pub fn perform<S: Store>(
+pub fn perform(
     alloc: Global,
     room: &mut Vec<u8>,
     facts: &mut UnitFacts,
     attentions: &mut Attentions,
-    store: &mut S,
+    store: &mut PagedStore,
     command: &Command,
     bytes: &[u8],
+    prepared: Option<Prepared>,
     keeps_replies: bool,
 ) -> Option<Performed>
     requires data { length bytes.now ≡ (need_of command.now).out }
-    ensures performed { Performs keeps_replies (facts_of (told facts.old attentions.old) (S.size store.old))
+    requires own { IfSome prepared (λ pages. IsOf command.now bytes.now (prepared_draft pages)) }
+    ensures performed { Performs keeps_replies (facts_of (told facts.old attentions.old) (⟦<PagedStore as Store>⟧.size store.old))
         command.now bytes.now result
-        (S.block_at store.old) (S.block_at store.new) attentions.old attentions.new }
+        (⟦<PagedStore as Store>⟧.block_at store.old) (⟦<PagedStore as Store>⟧.block_at store.new) attentions.old attentions.new }
     ensures facts { facts.new ≡ told facts.old attentions.old }
-    ensures size { S.size store.new ≡ S.size store.old }
+    ensures size { ⟦<PagedStore as Store>⟧.size store.new ≡ ⟦<PagedStore as Store>⟧.size store.old }
     ensures fits { IfSome result (λ p. length p.reply.payload.items ≤ (need_of command.now).into) }
 {
     if !keeps_replies {
-        let reply = run(alloc, room, facts, attentions, store, command, bytes).ok()?;
+        let reply = run(
+            alloc, room, facts, attentions, store, command, bytes, prepared,
+        )
+        .ok()?;
         return Some(Performed { reply, kept: None });
     }
     tell_oldest(facts, attentions);
-    let reply = exec(alloc, room, store, command, bytes, facts).ok()?;
+    let reply = exec_prepared(alloc, room, store, command, bytes, facts, prepared).ok()?;
     // A reply with data is that of a command that changes no block.
     let kept = kept_of(alloc, &reply).ok()?;
     clear_oldest(attentions, command);
