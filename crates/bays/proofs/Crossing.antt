@@ -1,5 +1,6 @@
 -- What stands under the locks may go to another thread. The search alone finds it of small types only.
 use denote.Param.Send.{IsSend, sendable, recorded_send, struct_send, enum_send}
+use denote.Param.SendFields.{declared_send, as_row_send}
 use denote.RattleType.{RattleType}
 use denote.Struct.Declared.{shape}
 use denote.Struct.Field.{row_field}
@@ -25,6 +26,12 @@ use Rattle.queues.specs.contracts.any_ring.AnyRing.{the_field as ring_field, the
 use Rattle.queues.specs.contracts.queue.Queue.{the_row as queue_row}
 use Rattle.queues.specs.contracts.queue.Queue.TheInside as queue
 use Rattle.arrayvec.proofs.array_vec.ArrayVec.TheSendSync as array_vec
+use Rattle.unit_steps.proofs.commits.Commits.TheSendSync as commits
+use Rattle.unit_steps.proofs.folding.FoldedMark.TheSendSync as mark
+use Rattle.unit_steps.specs.contracts.folding.Folding.{the_row as folding_row}
+use Rattle.unit_steps.specs.contracts.folding.Folding.TheInside as folding
+use Rattle.unit_steps.specs.contracts.ring.KindRing.{the_row as kinds_row}
+use Rattle.unit_steps.specs.contracts.ring.KindRing.TheInside as kinds
 use Rattle.unit_steps.specs.contracts.log.StepLog.{the_row as steps_row}
 use Rattle.unit_steps.specs.contracts.log.StepLog.TheInside as steps
 use Rattle.unit_steps.specs.contracts.lasts.Lasts.{the_row as lasts_row}
@@ -36,7 +43,7 @@ use Rattle.sense.specs.contracts.Sense.{the_row as sense_row}
 use Rattle.decisions.proofs.unit_request.UnitRequest.TheSendSync as request
 use Rattle.unit_history.specs.contracts.unit.UnitState.{the_row as unit_row}
 use Rattle.unit_history.specs.contracts.unit.UnitState.TheInside as unit
-use Rattle.block_store.proofs.flat.FlatStore.TheSendSync as store
+use Rattle.block_store.proofs.paged.PagedStore.TheSendSync as store
 use Rattle.block_commands.specs.contracts.facts.UnitFacts.{the_field as facts_field, the_type as facts_type}
 use Rattle.ring_core.proofs.outstanding.OutstandingTable.TheSendSync as table
 use Rattle.ring_core.specs.contracts.base.RingBase.{the_row as base_row}
@@ -85,9 +92,23 @@ set_fields = recorded_send set.the_field.row _ _ set.the_type.to_one
 set_sends : IsSend set_row
 set_sends = search (sendable, set_fields)
 
+folding_fields : IsSend folding.the_row
+folding_fields = recorded_send folding.the_field.row _ _ folding.the_type.to_one
+    (struct_send (shape folding.the_type) (search sendable, (search sendable, (search sendable, (search (crosses, mark.the_send), (commits.the_send, (search sendable depth 30, tt)))))))
+
+folding_sends : IsSend folding_row
+folding_sends = search (sendable, folding_fields)
+
+kinds_fields : IsSend kinds.the_row
+kinds_fields = recorded_send kinds.the_field.row _ _ kinds.the_type.to_one
+    (struct_send (shape kinds.the_type) (search sendable, (search sendable, (search (crosses, kind.the_send), (search sendable depth 30, tt)))))
+
+kinds_sends : IsSend kinds_row
+kinds_sends = search (sendable, kinds_fields)
+
 steps_fields : IsSend steps.the_row
 steps_fields = recorded_send steps.the_field.row _ _ steps.the_type.to_one
-    (struct_send (shape steps.the_type) (search sendable, (search (crosses, kind.the_send), (search (crosses, option.the_send, reply.the_send), (search sendable depth 30, tt)))))
+    (struct_send (shape steps.the_type) (search sendable, (search sendable, (folding_sends, (kinds_sends, (search (crosses, option.the_send, reply.the_send), (search sendable depth 30, tt)))))))
 
 steps_sends : IsSend steps_row
 steps_sends = search (sendable, steps_fields)
@@ -100,8 +121,8 @@ lasts_sends : IsSend lasts_row
 lasts_sends = search (sendable, lasts_fields)
 
 unit_fields : IsSend unit.the_row
-unit_fields = recorded_send unit.the_field.row _ _ unit.the_type.to_one
-    (struct_send (shape unit.the_type) (search sendable, (facts_sends, (search sendable, (attentions.the_send, (store.the_send, (set_sends, (steps_sends, (lasts_sends, (search crosses depth 30, tt))))))))))
+unit_fields = declared_send unit.the_type
+    (search sendable, (as_row_send facts_field facts_sends, (search sendable, (attentions.the_send, (store.the_send, (set_sends, (steps_sends, (lasts_sends, (search crosses depth 30, tt)))))))))
 
 pub unit_sends : IsSend unit_row
 unit_sends = search (sendable, unit_fields)

@@ -70,6 +70,13 @@ impl Attentions {
         self.codes.as_slice().first().copied()
     }
 
+    /// Returns the codes that are pending, the oldest first.
+    pub fn as_slice(&self) -> &[Code]
+        ensures { result.now ≡ self.now }
+    {
+        self.codes.as_slice()
+    }
+
     /// Whether no code is pending.
     pub fn is_empty(&self) -> bool
         ensures { IsTrue result ↔ (self.now ≡ []) }

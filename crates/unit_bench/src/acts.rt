@@ -112,6 +112,8 @@ pub enum Act {
     Enter(u64, Sent, Comes),
     /// So many requests enter and run, with jobs named from this number on.
     Fill(u64, u64),
+    /// So many requests, one after another, enter, run and leave, with jobs named from this number on.
+    Serve(u64, u64),
     /// A job that is in hand is committed.
     Commit(u64, Ends),
     /// A job that is in hand is committed at this unit.
@@ -134,6 +136,8 @@ pub enum Act {
     History(&'static [Told]),
     /// How many steps a unit's history has.
     Steps(usize, u64),
+    /// How many steps of the first unit are folded.
+    Base(u64),
     /// All bytes of a block of the first unit.
     Block(u64, u8),
     /// All bytes of the data of a receipt.

@@ -109,6 +109,7 @@ impl Bench {
         match act {
             Act::Enter(name, sent, comes) => self.enters(&sent, name, comes),
             Act::Fill(name, count) => self.fill(name, count),
+            Act::Serve(name, count) => self.serve(name, count),
             Act::Commit(name, ends) => self.commits(0, name, ends),
             Act::CommitAt(unit, name, ends) => self.commits(unit, name, ends),
             Act::Leave(name, names) => Ok(self.leaves(name, true, names)),
@@ -199,6 +200,26 @@ impl Bench {
         for number in 0..count {
             let came = self.enter(&SIMPLE)?;
             if came != Some((name.saturating_add(number), Comes::Run)) {
+                return Ok(false);
+            }
+        }
+        Ok(true)
+    }
+
+    /// Returns whether a request enters, runs and leaves, with a job of this name.
+    fn serves_one(&mut self, name: u64) -> Result<bool, NoMemory> {
+        if !self.enters(&SIMPLE, name, Comes::Run)? {
+            return Ok(false);
+        }
+        let has_run = self.commits(0, name, Ends::Good(0))?;
+        Ok(has_run && self.leaves(name, true, &[]))
+    }
+
+    /// Serves so many requests, one after another, with jobs named from this number on. Returns whether each enters, runs
+    /// and leaves.
+    fn serve(&mut self, name: u64, count: u64) -> Result<bool, NoMemory> {
+        for number in 0..count {
+            if !self.serves_one(name.saturating_add(number))? {
                 return Ok(false);
             }
         }
@@ -325,7 +346,7 @@ impl Bench {
     }
 }
 
-/// Whether a unit's history is this.
+/// Returns whether a unit's history is this, of which no step is folded.
 fn has_history(unit: &UnitState, steps: &[Told]) -> bool {
     for number in 0..steps.len() {
         if unit.step(number as u64) != Some(steps[number].kind()) {
@@ -340,6 +361,7 @@ fn is_so(unit: &UnitState, act: Act) -> bool {
     match act {
         Act::ClearOf(place, is_clear) => unit.clear_of(place) == is_clear,
         Act::IsAlive(rule, is_alive) => unit.is_alive(rule) == is_alive,
+        Act::Base(base) => unit.base() == base,
         Act::History(steps) => has_history(unit, steps),
         _ => false,
     }

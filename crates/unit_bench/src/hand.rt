@@ -173,10 +173,17 @@ impl Hand {
         }
     }
 
-    /// Whether a unit confirms a receipt.
+    /// Returns whether a unit confirms a receipt; `None` where it can't say: it keeps no replies, and the receipt's place
+    /// is folded.
     pub(crate) fn is_confirmed(&self, unit: &UnitState, number: usize) -> Option<bool> {
         let receipt = self.receipts.get(number)?;
-        Some(unit.confirm(receipt))
+        if unit.keeps_replies() {
+            return Some(unit.confirm(receipt));
+        }
+        if unit.base() <= receipt.place() {
+            return Some(unit.confirm(receipt));
+        }
+        None
     }
 
     /// Whether the data of a receipt are 512 times this byte.

@@ -1,5 +1,7 @@
 //! The queues that requests come from.
 
+ghost use Rattle.std.specs.Prelude.{◌≤◌};
+
 use crate::acts::{DATA, QUEUE, SIMPLE, Sent};
 use crate::bench::{CALM, SECOND};
 use block_store::NoMemory;
@@ -35,6 +37,14 @@ const NEXT: u16 = 1;
 /// VIRTQ_DESC_F_WRITE.
 const WRITE: u16 = 2;
 
+/// Returns which descriptors a request takes that comes behind so many. The first request keeps its own, so that it may
+/// stay while any number of others pass.
+fn slot_of(count: u16) -> u16
+    ensures { result ≤ 127 }
+{
+    if count == 0 { 0 } else { (count - 1) % 127 + 1 }
+}
+
 /// A split queue in its memory.
 #[derive(Drop)]
 struct Port {
@@ -56,7 +66,7 @@ impl Port {
 
     /// A queue of which nothing was fetched.
     fn of(alloc: Global, memory: GuestMem) -> Option<Port> {
-        match SplitRing::new(alloc, QUEUE, PLACE, &memory) {
+        match SplitRing::new(alloc, QUEUE, PLACE, 0, &memory) {
             Ok(ring) => Some(Port { memory, ring }),
             Err(_) => None,
         }
@@ -92,7 +102,7 @@ impl Port {
     /// Makes a request available behind all that were fetched. One that could not be fetched it replaces.
     fn put(&mut self, lun: u8, sent: &Sent) {
         let count = (self.ring.log().accepted() % 65536) as u16;
-        let head = 2 * (count % 128);
+        let head = 2 * slot_of(count);
         self.put_request(lun, sent);
         self.put_descriptor(head, REQUEST, sent.asked.out.saturating_add(51), NEXT);
         self.put_descriptor(

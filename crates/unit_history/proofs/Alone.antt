@@ -80,13 +80,13 @@ module _ (o : Opening) (past : List Step) (block_at : Blocks) (pending : List Co
     (k : AreKept o past block_at pending [] lasts room) (j : PlainJob) (lasts' : List (Option ℕ))
     (le : floor j.entry.ticket.queue past ≤ j.entry.ticket.number) (came : CameTo j.entry.ticket lasts lasts') where
   -- its task entered
-  pub kept_entered : (room' : ℕ) → 130 ≤ room'
+  pub kept_entered : (room' : ℕ) → 128 ≤ room'
       → AreKept o (Step.Enter j.entry ∷ past) block_at pending (task_of_job (length past) j false false ∷ []) lasts' room'
   kept_entered room' reserve =
       subst (λ x. AreKept o (Step.Enter j.entry ∷ past) block_at pending (x ∷ []) lasts' room') (enters_so (length past) j)
       (keep_enter k j lasts' room' (omega arith) le came reserve)
 
-  module _ (room1 : ℕ) (reserve : 130 ≤ room1) (facts : Facts) (p : Option Performed) (block_at' : Blocks) (pending' : List Code)
+  module _ (room1 : ℕ) (reserve : 128 ≤ room1) (facts : Facts) (p : Option Performed) (block_at' : Blocks) (pending' : List Code)
       (as_told : facts ≡ facts_after o (Step.Enter j.entry ∷ past))
       (ran : Performs false facts j.entry.command j.entry.data_out p block_at block_at' pending pending') where
     ready : IsReady j.entry.ticket j.entry (Step.Enter j.entry ∷ past)
@@ -160,7 +160,7 @@ all_steps t t1 t2 e e1 p s0 s1 s2 s3 s4 a b c d f g h =
 module _ (o : Opening) (past : List Step) (block_at : Blocks) (pending : List Code) (tasks : List PlainTask)
     (lasts : List (Option ℕ)) (room : ℕ) (k : AreKept o past block_at pending tasks lasts room) (none : tasks ≡ [])
     (j : PlainJob) (lasts' : List (Option ℕ)) (le : floor j.entry.ticket.queue past ≤ j.entry.ticket.number)
-    (came : CameTo j.entry.ticket lasts lasts') (room1 : ℕ) (reserve : 130 ≤ room1) (facts : Facts) (p : Option Performed)
+    (came : CameTo j.entry.ticket lasts lasts') (room1 : ℕ) (reserve : 128 ≤ room1) (facts : Facts) (p : Option Performed)
     (block_at' : Blocks) (pending' : List Code) (as_told : facts ≡ facts_after o (Step.Enter j.entry ∷ past))
     (ran : Performs false facts j.entry.command j.entry.data_out p block_at block_at' pending pending') (steps' : List Step)
     (is : steps' ≡ Step.Leave j.entry.ticket ∷ step_for j.entry.ticket p ∷ Step.Enter j.entry ∷ past) where

@@ -174,7 +174,7 @@ module _ {o : Opening} {past : List Step} {block_at : Blocks} {pending : List Co
       (x.seen.entry, (task_at_alive t x at).0, sym (ap (λ b. b || is_some x.seen.mark) (is_done t x at) ∙ ap (λ b. done t past || b) (is_marked t x at)) ∙ ended)
 
   -- What the parts are after each:
-  pub keep_full : (t : Ticket) (lasts' : List (Option ℕ)) (room' : ℕ) → length tasks ≡ 64 → floor t.queue past ≤ t.number → CameTo t lasts lasts' → 129 ≤ room'
+  pub keep_full : (t : Ticket) (lasts' : List (Option ℕ)) (room' : ℕ) → length tasks ≡ 64 → floor t.queue past ≤ t.number → CameTo t lasts lasts' → 128 ≤ room'
       → AreKept o (Step.Full t ∷ past) block_at pending tasks lasts' room'
   keep_full t lasts' room' full le came reserve =
       let lawful : IsLawful o (Step.Full t ∷ past) = (k.lawful, may_full t full le) in
@@ -197,7 +197,7 @@ module _ {o : Opening} {past : List Step} {block_at : Blocks} {pending : List Co
       ∙ sym (tasks_enter o j.entry past lawful)
 
   pub keep_enter : (j : PlainJob) (lasts' : List (Option ℕ)) (room' : ℕ) → length tasks < 64 → floor j.entry.ticket.queue past ≤ j.entry.ticket.number
-      → CameTo j.entry.ticket lasts lasts' → 130 ≤ room'
+      → CameTo j.entry.ticket lasts lasts' → 128 ≤ room'
       → AreKept o (Step.Enter j.entry ∷ past) block_at pending (tasks ++ entering (length past) tasks j ∷ []) lasts' room'
   keep_enter j lasts' room' few le came reserve =
       let t = j.entry.ticket in

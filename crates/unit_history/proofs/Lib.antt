@@ -1,5 +1,6 @@
 pub mod KeepingSet
 pub mod Keeping
+pub mod Basing
 pub mod Fitting
 pub mod Handing
 pub mod Stepping

@@ -1,8 +1,8 @@
 -- What a unit keeps. Only private functions and models cite it: no promise stands on it.
-use Rattle.block_store.specs.Blocks.{block_count, nth_block}
+use Rattle.block_store.specs.Kept as pages
 use Rattle.history.specs.Contents.{Opening}
-use Rattle.task_set.specs.Tasks.{parked_of}
-use Rattle.unit_history.specs.Parts.{AreKept}
+use Rattle.task_set.specs.Tasks.{parked_of, seen_of}
+use Rattle.unit_history.specs.Parts.{AreKept, AreBased}
 use Rattle.task_set.specs.Unit.{PlainUnit}
 use Rattle.unit_history.specs.declared.unit.UnitState.TheInside.{Inside}
 
@@ -12,7 +12,7 @@ opening_of u =
       target = u.facts.target;
       lun = u.facts.lun;
       luns = u.facts.luns.items;
-      blocks = block_count u.store;
+      blocks = u.store.capacity;
       calm = u.calm;
     }
 
@@ -25,5 +25,6 @@ plain_unit u =
       keeps_replies = u.log.keeps;
     }
 
-abbrev pub IsTold : Inside → Type 0
-IsTold u = AreKept (opening_of u) u.log.steps (nth_block u.store) u.attentions u.tasks u.lasts u.log.room
+pub record IsTold (u : Inside) : Type 0 where
+  pub kept : AreKept (opening_of u) u.log.steps (pages.blocks_of u.store.pages) u.attentions u.tasks u.lasts u.log.room
+  pub based : AreBased u.log.base u.log.forgotten u.log.steps (seen_of u.tasks)

@@ -1,10 +1,11 @@
 -- What the parts of a unit are. Only private functions and models cite it: no promise stands on it.
-use Rattle.std.specs.Prelude.{ℕ, ◌≡◌, ◌<◌, ◌≤◌, List, [], ◌∷◌, Option, Some, None, if◌then◌else◌, ⊤}
+use Rattle.std.specs.Prelude.{ℕ, ◌≡◌, ◌+◌, ◌<◌, ◌≤◌, List, [], ◌∷◌, length, Option, Some, None, if◌then◌else◌, ⊤}
 use Rattle.std.specs.Option.{option_map}
 use Rattle.block_store.specs.Blocks.{Blocks}
 use Rattle.unit_attention.specs.declared.code.Code.{Code}
 use Rattle.history.specs.Steps.{Step, floor}
-use Rattle.history.specs.Seen.{tasks_of, owed, waits}
+use Rattle.history.specs.Base.{base_of}
+use Rattle.history.specs.Seen.{Seen, tasks_of, owed, waits}
 use Rattle.history.specs.Contents.{Opening, blocks_of, pending_of}
 use Rattle.history.specs.Lawful.{IsLawful}
 use Rattle.task_set.specs.Jobs.{PlainJob}
@@ -29,3 +30,17 @@ pub record AreKept (o : Opening) (steps : List Step) (block_at : Blocks) (pendin
   pub floors : (q : ℕ) → floor_kept lasts q ≡ floor q steps
   -- for the steps that the tasks that are alive may still take
   pub reserved : owed (seen_of tasks) ≤ room
+
+-- no task that is alive entered before a place that is forgotten
+abbrev pub AreBehind : ℕ → List Seen → Type 0
+AreBehind forgotten [] = ⊤
+AreBehind forgotten (s ∷ tasks) = (forgotten ≤ s.place + 1) × AreBehind forgotten tasks
+
+-- what folded Aborts and Resets before a place met has left
+abbrev pub AreClear : ℕ → List Step → List Seen → Type 0
+AreClear forgotten steps tasks = (forgotten ≤ length steps) × AreBehind forgotten tasks
+
+-- the oldest steps are folded as the history says, and what is forgotten of these nothing waits for
+pub record AreBased (base forgotten : ℕ) (steps : List Step) (tasks : List Seen) : Type 0 where
+  pub based : base ≡ base_of steps
+  pub clear : AreClear forgotten steps tasks

@@ -141,6 +141,67 @@ impl Receipt {
     }
 }
 
+/// A receipt without its reply, in 24 bytes. Whoever keeps many receipts keeps them so, and their latest replies apart.
+#[derive(Drop)]
+pub struct BareReceipt {
+    place: u64,
+    number: u64,
+    queue: u16,
+    unit: Address,
+}
+
+impl Model for BareReceipt {
+    ghost use Rattle.std.specs.Prelude.{None};
+    ghost use Rattle.history.specs.Receipts as receipts;
+
+    ghost Value = { receipts.Receipt };
+
+    ghost view = { λ r. record {
+      unit = r.unit;
+      place = r.place;
+      ticket = record { queue = r.queue; number = r.number };
+      reply = None;
+    } };
+}
+
+impl BareReceipt {
+    /// Parts a receipt from its reply.
+    pub fn of(receipt: Receipt) -> (BareReceipt, Option<Reply>)
+        ensures bare { result.0 ≡ record receipt { reply = None } }
+        ensures reply { option_map plain_of result.1 ≡ receipt.reply }
+    {
+        let Receipt {
+            unit,
+            place,
+            ticket,
+            reply,
+        } = receipt;
+        let bare = BareReceipt {
+            place,
+            number: ticket.number,
+            queue: ticket.queue,
+            unit,
+        };
+        (bare, reply)
+    }
+
+    /// Joins the receipt with a reply, where that is still there.
+    pub fn with_reply(self, reply: Option<Reply>) -> Receipt
+        ensures { result ≡ record self { reply = option_map plain_of reply } }
+    {
+        let ticket = Ticket {
+            queue: self.queue,
+            number: self.number,
+        };
+        Receipt {
+            unit: self.unit,
+            place: self.place,
+            ticket,
+            reply,
+        }
+    }
+}
+
 /// No task of the ticket can leave: none is alive, or it is neither done nor marked.
 #[derive(Clone, Copy, Debug, PartialEq, Eq)]
 pub struct Unknown;

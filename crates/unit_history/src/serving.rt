@@ -5,7 +5,7 @@ ghost use Rattle.unit_steps.specs.Performing.{step_for, unkept};
 ghost use Rattle.unit_history.specs.Serving.{ServesAlone};
 
 use crate::answering::Answering;
-use crate::unit::{STEPS_AHEAD, UnitState, noted_entry};
+use crate::unit::{UnitState, make_way, noted_entry};
 use block_store::NoMemory;
 use replies::Reply;
 use ring_core::Ticket;
@@ -20,6 +20,8 @@ fn record_run(log: &mut StepLog, ticket: Ticket, ran: &Result<Reply, NoMemory>)
     ensures steps { log.new.steps ≡ step_for ticket (unkept ran.now) ∷ log.old.steps }
     ensures keeps { log.new.keeps ≡ log.old.keeps }
     ensures room { log.old.room ≤ log.new.room + 1 }
+    ensures base { log.new.base ≡ log.old.base }
+    ensures forgotten { log.new.forgotten ≡ log.old.forgotten }
 {
     match ran {
         Ok(reply) => log.push(NotedStep::Commit(ticket, NotedReply::of(reply)), None),
@@ -56,7 +58,7 @@ impl UnitState {
         let Ok(()) = self.lasts.reserve(ticket.queue) else {
             return Err(arrival);
         };
-        let Ok(()) = self.log.reserve(STEPS_AHEAD) else {
+        let Ok(()) = make_way(&mut self.log, &self.tasks) else {
             return Err(arrival);
         };
         self.lasts.came(ticket);
@@ -69,6 +71,7 @@ impl UnitState {
             &mut self.store,
             &arrival.command(),
             arrival.data(),
+            None,
         );
         record_run(&mut self.log, ticket, &ran);
         let answered = answering.answer(arrival, &ran);

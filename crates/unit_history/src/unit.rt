@@ -1,23 +1,25 @@
 //! A logical unit.
 
-ghost use Rattle.std.specs.Prelude.{◌≡◌, ◌+◌, ◌<◌, ◌≤◌, ◌∷◌, ℕ, length, map, IfSome};
+ghost use Rattle.std.specs.Prelude.{◌≡◌, ◌+◌, ◌-◌, ◌<◌, ◌≤◌, ◌∷◌, ℕ, length, map, IfSome, OnOk, OnErr};
 ghost use Rattle.cdb.specs.Need.{need_of};
 ghost use Rattle.unit_history.specs.Endings.{FitsNeed};
 ghost use Rattle.history.specs.Seen.{finished};
-ghost use Rattle.task_set.specs.Tasks.{moved};
+ghost use Rattle.history.specs.Base.{most_before};
+ghost use Rattle.task_set.specs.Tasks.{moved, seen_of};
+ghost use Rattle.unit_history.specs.Parts.{AreClear};
 ghost use Rattle.unit_steps.specs.Performing.{IsKeptReply, step_for};
 ghost use Rattle.unit_history.specs.Outcomes.{outcome_for};
 
 use crate::answers::{Entered, Outcome, Receipt, Unknown};
 use crate::turn::{Turn, is_ended, turn_of};
 use block_commands::UnitFacts;
-use block_store::{FlatStore, NoMemory, Store};
+use block_store::{NoMemory, PagedStore, Store};
 use decisions::UnitSpec;
 use history::{Reason, Rule};
 use replies::Reply;
 use ring_core::{Answered, Ticket};
 use scsi_codec::Address;
-use std::alloc::Global;
+use std::alloc::{AllocError, Global};
 use std::marker::Model;
 use task_set::{Arrival, Full, Job, JobList, TaskSet};
 use unit_attention::{Attentions, Code};
@@ -28,10 +30,6 @@ use unit_steps::{
 
 /// How many steps stand before a step of a unit's history.
 pub type Place = u64;
-
-/// For how many steps room is made before one is taken: two for each of 64 tasks that are alive, this one,
-/// and two more for the task that it may bring.
-pub(crate) const STEPS_AHEAD: usize = 131;
 
 /// Of how many bytes room is kept from one command for the next, at most.
 const MOST_ROOM: usize = 4096;
@@ -44,7 +42,7 @@ pub struct UnitState {
     pub(crate) facts: UnitFacts,
     pub(crate) calm: bool,
     pub(crate) attentions: Attentions,
-    pub(crate) store: FlatStore,
+    pub(crate) store: PagedStore,
     pub(crate) tasks: TaskSet,
     pub(crate) log: StepLog,
     pub(crate) lasts: Lasts,
@@ -72,6 +70,37 @@ pub(crate) fn noted_entry(arrival: &Arrival) -> NotedEntry
     NotedEntry::new(arrival.ticket(), arrival.request())
 }
 
+/// Makes way in a unit's log for a step that brings more, and for those ahead. What the oldest folded Abort or Reset met
+/// is forgotten, where no task is alive that entered before it. Where memory was refused, the log says the same as before.
+#[inline(always)]
+pub(crate) fn make_way(log: &mut StepLog, tasks: &TaskSet) -> Result<(), AllocError>
+    ensures steps { log.new.steps ≡ log.old.steps }
+    ensures keeps { log.new.keeps ≡ log.old.keeps }
+    ensures base { OnOk result (log.new.base ≡ length log.old.steps - most_before) }
+    ensures room { OnOk result (129 ≤ log.new.room) }
+    ensures kept { OnErr result ((log.new.base ≡ log.old.base) × (log.old.room ≤ log.new.room)) }
+    ensures clear { AreClear log.old.forgotten log.old.steps (seen_of tasks.now) → AreClear log.new.forgotten log.old.steps (seen_of tasks.now) }
+{
+    forget_where_clear(log, tasks);
+    log.make_way()
+}
+
+/// Forgets what the oldest folded Abort or Reset met, where no task is alive that entered before it.
+#[inline(always)]
+fn forget_where_clear(log: &mut StepLog, tasks: &TaskSet)
+    ensures same { log.new ≡ record log.old { forgotten = log.new.forgotten } }
+    ensures clear { AreClear log.old.forgotten log.old.steps (seen_of tasks.now) → AreClear log.new.forgotten log.old.steps (seen_of tasks.now) }
+{
+    match log.oldest_mark() {
+        None => {}
+        Some(place) => {
+            if !tasks.is_met_before(place, Rule::All) {
+                log.forget(place);
+            }
+        }
+    }
+}
+
 /// Records what became of a command that was to run.
 #[inline(always)]
 fn record_run(
@@ -87,6 +116,8 @@ fn record_run(
     ensures steps { log.new.steps ≡ step_for ticket performed ∷ log.old.steps }
     ensures keeps { log.new.keeps ≡ log.old.keeps }
     ensures room { log.old.room ≤ log.new.room + 1 }
+    ensures base { log.new.base ≡ log.old.base }
+    ensures forgotten { log.new.forgotten ≡ log.old.forgotten }
     ensures tasks { tasks.new ≡ map (moved (finished ticket)) tasks.old }
     ensures fits { (room : ℕ) → IfSome performed (λ p. length p.reply.payload.items ≤ room) → FitsNeed room result }
 {
@@ -105,7 +136,7 @@ fn record_run(
 }
 
 impl UnitState {
-    ghost use Rattle.std.specs.Prelude.{◌≡◌, ◌+◌, ◌*◌, ◌<◌, ◌≤◌, ◌++◌, length, IfOk, OnOk, OnErr, IsTrue, ◌↔◌};
+    ghost use Rattle.std.specs.Prelude.{◌≡◌, ◌+◌, ◌*◌, ◌<◌, ◌≤◌, ◌⊎◌, ◌++◌, true, length, slice_get, IfOk, OnOk, OnErr, IsTrue, ◌↔◌};
     ghost use Rattle.std.specs.Option.{option_map};
     ghost use Rattle.block_store.specs.Blocks.{run};
     ghost use Rattle.unit_attention.specs.Code.{IsKnown};
@@ -113,8 +144,9 @@ impl UnitState {
     ghost use Rattle.history.specs.Steps.{Step, alive};
     ghost use Rattle.history.specs.Seen.{any_met};
     ghost use Rattle.history.specs.Clearing.{is_clear};
-    ghost use Rattle.history.specs.Contents.{blocks_of, capacity_of};
-    ghost use Rattle.history.specs.Receipts.{step_at, IsConfirmed};
+    ghost use Rattle.history.specs.Contents.{blocks_of, capacity_of, pending_of};
+    ghost use Rattle.history.specs.Base.{base_of, kept_at};
+    ghost use Rattle.history.specs.Receipts.{IsConfirmed};
     ghost use Rattle.unit_steps.specs.Kept.{kind_of};
     ghost use Rattle.task_set.specs.Unit.{opening_unit, handing, Steps, IsUnit};
     ghost use Rattle.unit_history.specs.Calls.{Enters, Commits, CannotLeave};
@@ -139,7 +171,7 @@ impl UnitState {
         }) keeps_replies) }
     {
         let luns = Vec::from_slice(alloc, luns)?;
-        let store = FlatStore::new(alloc, spec.blocks)?;
+        let store = PagedStore::new(alloc, spec.blocks);
         Ok(UnitState {
             alloc,
             facts: UnitFacts {
@@ -177,7 +209,7 @@ impl UnitState {
         let Ok(()) = self.lasts.reserve(ticket.queue) else {
             return Entered::Busy(arrival.into_job());
         };
-        let Ok(()) = self.log.reserve(STEPS_AHEAD) else {
+        let Ok(()) = make_way(&mut self.log, &self.tasks) else {
             return Entered::Busy(arrival.into_job());
         };
         let place = self.log.len();
@@ -225,6 +257,7 @@ impl UnitState {
                         &mut self.store,
                         &command,
                         bytes,
+                        None,
                         true,
                     );
                     record_run(&mut self.log, &mut self.tasks, unit, ticket, performed)
@@ -237,6 +270,7 @@ impl UnitState {
                         &mut self.store,
                         &command,
                         bytes,
+                        None,
                         false,
                     );
                     record_run(&mut self.log, &mut self.tasks, unit, ticket, performed)
@@ -275,7 +309,7 @@ impl UnitState {
         ensures out { OnOk result (out.new ≡ handing (Step.Abort rule) self.old out.old) }
         ensures err { OnErr result ((self.new ≡ self.old) × (out.new ≡ out.old)) }
     {
-        self.log.reserve(STEPS_AHEAD)?;
+        make_way(&mut self.log, &self.tasks)?;
         let place = self.log.len();
         self.log.push(NotedStep::Abort(rule), None);
         self.tasks.mark(rule, Reason::Aborted, out);
@@ -292,7 +326,7 @@ impl UnitState {
         ensures out { OnOk result (out.new ≡ handing (Step.Reset code) self.old out.old) }
         ensures err { OnErr result ((self.new ≡ self.old) × (out.new ≡ out.old)) }
     {
-        self.log.reserve(STEPS_AHEAD)?;
+        make_way(&mut self.log, &self.tasks)?;
         let place = self.log.len();
         self.log.push(NotedStep::Reset(code), None);
         self.attentions.raise(code);
@@ -336,8 +370,10 @@ impl UnitState {
     }
 
     /// Whether the Commit of a receipt stands at its place in this unit's history, with its reply where both have
-    /// one: the receipt, and the unit where it still keeps it. It takes no memory.
+    /// one: the receipt, and the unit where it still keeps it. It takes no memory. A unit that keeps no replies knows no
+    /// Commits of folded steps: there the place is asked for that isn't folded.
     pub fn confirm(&self, receipt: &Receipt) -> bool
+        requires { (self.now.keeps_replies ≡ true) ⊎ (base_of self.now.steps ≤ receipt.now.place) }
         ensures { IsTrue result ↔ IsConfirmed self.now.opening self.now.keeps_replies self.now.steps receipt.now }
     {
         let unit = receipt.unit();
@@ -355,6 +391,27 @@ impl UnitState {
         self.tasks.is_met(rule)
     }
 
+    /// Returns how many tasks are alive, at most 64.
+    pub fn alive_count(&self) -> usize
+        ensures { result ≡ length (alive self.now.steps) }
+    {
+        self.tasks.len()
+    }
+
+    /// Returns the ticket of a task that is alive, by its place in the order of entry; `None` where fewer are alive.
+    pub fn alive_ticket(&self, index: usize) -> Option<Ticket>
+        ensures { result ≡ option_map (λ e. e.ticket) (slice_get (alive self.now.steps) index) }
+    {
+        self.tasks.ticket_at(index)
+    }
+
+    /// Returns whether the unit keeps the replies of its Commits, and with them which folded steps are Commits.
+    pub fn keeps_replies(&self) -> bool
+        ensures { result ≡ self.now.keeps_replies }
+    {
+        self.log.keeps_replies()
+    }
+
     /// How many steps its history has.
     pub fn steps(&self) -> u64
         ensures { result ≡ length self.now.steps }
@@ -362,9 +419,16 @@ impl UnitState {
         self.log.len()
     }
 
-    /// What the step at a place is; `None` where there is none yet.
+    /// How many of them are folded: the oldest.
+    pub fn base(&self) -> u64
+        ensures { result ≡ base_of self.now.steps }
+    {
+        self.log.base()
+    }
+
+    /// What the step at a place is; `None` where it is folded, or there is none yet.
     pub fn step(&self, place: Place) -> Option<StepKind>
-        ensures { result ≡ option_map kind_of (step_at place self.now.steps) }
+        ensures { result ≡ option_map kind_of (kept_at place self.now.steps) }
     {
         self.log.kind_at(place)
     }
@@ -388,6 +452,13 @@ impl UnitState {
         ensures { result ≡ capacity_of self.now.opening self.now.steps }
     {
         self.store.capacity()
+    }
+
+    /// Returns the codes of the unit attention conditions that are pending, the oldest first (SAM-5 §5.14).
+    pub fn pending(&self) -> &[Code]
+        ensures { result.now ≡ pending_of self.now.opening self.now.steps }
+    {
+        self.attentions.as_slice()
     }
 
     /// Appends the bytes of `count` blocks from `first` on, as its commands left them; `NoMemory`

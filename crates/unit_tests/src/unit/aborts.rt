@@ -27,7 +27,7 @@ const OLDER: Sent = Sent { id: 9, ..ORDERED };
 /// The attention of a reset: BUS DEVICE RESET FUNCTION OCCURRED.
 const WAS_RESET: Ends = Ends::Sense(0x06, 0x29, 0x03);
 
-pub(crate) static ROWS: [Row; 6] = [
+pub(crate) static ROWS: [Row; 7] = [
     Row {
         shows: "an abort of a parked task",
         keeps_replies: false,
@@ -78,6 +78,22 @@ pub(crate) static ROWS: [Row; 6] = [
             Act::Block(3, DATA),
             Act::Block(4, 0),
             Act::Steps(0, 4),
+        ],
+    },
+    Row {
+        shows: "an abort waits for a task while 1,400 others pass",
+        keeps_replies: false,
+        acts: &[
+            Act::Enter(A, SIMPLE, Comes::Run),
+            Act::Commit(A, Ends::Good(0)),
+            Act::Abort(Rule::All, 2, &[]),
+            Act::Serve(B, 1400),
+            Act::Base(105),
+            Act::Steps(0, 4203),
+            Act::ClearOf(2, false),
+            Act::Leave(A, &[]),
+            Act::ClearOf(2, true),
+            Act::Steps(0, 4204),
         ],
     },
     Row {

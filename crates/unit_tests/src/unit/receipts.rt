@@ -10,6 +10,8 @@ const B: u64 = 1;
 /// A chain of the other queue with the first ticket.
 const OTHER_A: u64 = OTHER;
 
+const OTHER_B: u64 = OTHER + 1;
+
 /// To unit 0:1, over the other queue.
 const TO_SECOND: Sent = Sent {
     unit: 1,
@@ -53,7 +55,7 @@ const READS_9: Sent = Sent {
     ..SIMPLE
 };
 
-pub(crate) static ROWS: [Row; 8] = [
+pub(crate) static ROWS: [Row; 9] = [
     Row {
         shows: "a receipt is of its address",
         keeps_replies: false,
@@ -142,6 +144,30 @@ pub(crate) static ROWS: [Row; 8] = [
             Act::Steps(0, 258),
             Act::Confirms(0, 0, true),
             Act::Confirms(0, 1, true),
+        ],
+    },
+    Row {
+        shows: "the Commits of folded steps",
+        keeps_replies: true,
+        acts: &[
+            Act::Enter(A, SIMPLE, Comes::Run),
+            Act::CommitAt(0, A, Ends::Good(0)),
+            Act::Leave(A, &[]),
+            Act::Enter(OTHER_A, TO_SECOND, Comes::Run),
+            Act::CommitAt(1, OTHER_A, Ends::Good(0)),
+            Act::Leave(OTHER_A, &[]),
+            Act::Enter(OTHER_B, TO_TWIN, Comes::Run),
+            Act::CommitAt(2, OTHER_B, Ends::Sense(0x06, 0x29, 0x00)),
+            Act::Leave(OTHER_B, &[]),
+            Act::Serve(B, 1400),
+            Act::Base(105),
+            Act::Confirms(0, 0, true),
+            Act::Confirms(0, 1, false),
+            Act::Confirms(0, 2, false),
+            Act::Confirms(1, 0, false),
+            Act::Confirms(0, 3, true),
+            Act::Confirms(1, 3, false),
+            Act::Confirms(0, 1402, true),
         ],
     },
     Row {

@@ -1,9 +1,12 @@
-use Rattle.std.proofs.Common.{◌≡◌, true, false, ap, sym, ◌∙◌, refl}
+use Rattle.std.proofs.Common.{◌≡◌, true, false, ap, sym, subst, ◌∙◌, refl}
+use Rattle.history.specs.Seen.{finished}
+use Rattle.unit_history.specs.Parts.{AreBehind}
+use Rattle.unit_history.proofs.Basing.{based_on, behind_moved, ran_folds}
 use Rattle.std.specs.Option.{option_copied}
-use Rattle.block_store.specs.Blocks.{block_count, nth_block}
+use Rattle.block_store.specs.Kept as pages
 use Rattle.block_commands.specs.Told.{facts_of}
-use Rattle.unit_steps.specs.Performing.{told}
-use Rattle.task_set.specs.Tasks.{task_at}
+use Rattle.unit_steps.specs.Performing.{told, step_for}
+use Rattle.task_set.specs.Tasks.{task_at, seen_of}
 use Rattle.unit_history.proofs.Keeping.{has_room, is_ready, told_is}
 use Rattle.unit_history.proofs.Committing.{cannot_none, cannot_turn, is_of, is_aborted, keep_run, commits_run}
 use Rattle.unit_history.proofs.unit.UnitState.commit.Goals as goal
@@ -11,27 +14,35 @@ use Rattle.unit_history.proofs.unit.UnitState.commit.Goals as goal
 pub returns-in_default-clause-step : goal.returns-in_default-clause-step
 returns-in_default-clause-step c =
     let at = ap (λ t. task_at t c.self.inside.tasks) (sym c.ticket-ticket.ensures.entry) ∙ sym c.task.ensures ∙ ap option_copied c.in_default.is in
-    rw (← c.self.view_is) (cannot_none c.self.invariant c.args.job.now at, refl)
+    rw (← c.self.view_is) (cannot_none c.self.invariant.kept c.args.job.now at, refl)
 
 pub record_run-requires-clause-room : goal.record_run-requires-clause-room
 record_run-requires-clause-room c =
-    has_room c.self.invariant c.ticket-ticket.result c.in-Some.task.now (sym c.task.ensures ∙ ap option_copied c.in-Some.is)
+    has_room c.self.invariant.kept c.ticket-ticket.result c.in-Some.task.now (sym c.task.ensures ∙ ap option_copied c.in-Some.is)
 
 pub invariant_of-self : goal.invariant_of-self
 invariant_of-self c =
     let at = sym c.task.ensures ∙ ap option_copied c.in-Some.is in
     let turns = c.in-Ready.ensures in
-    rw (c.record_run.ensures.tasks, c.record_run.ensures.steps, c.perform-performed.ensures.facts, c.perform-performed.ensures.size)
-    (keep_run c.self.invariant c.ticket-ticket.result c.in-Some.task.now.seen.entry true
-    (facts_of (told c.self.inside.facts c.self.inside.attentions) (block_count c.self.inside.store)) c.perform-performed.result _ _ _
-    (is_ready c.self.invariant c.ticket-ticket.result c.in-Some.task.now at turns.1 turns.2 turns.3)
-    (told_is c.self.invariant c.self.inside.facts (block_count c.self.inside.store) refl refl refl refl)
-    (rw (c.command-command.ensures, c.data-bytes.ensures.data) at c.perform-performed.ensures.performed) c.record_run.ensures.room)
+    let n = c.self.inside.log.forgotten in
+    record {
+      kept =
+          rw (c.record_run.ensures.tasks, c.record_run.ensures.steps, c.perform-performed.ensures.facts, c.perform-performed.ensures.size)
+          (keep_run c.self.invariant.kept c.ticket-ticket.result c.in-Some.task.now.seen.entry true
+          (facts_of (told c.self.inside.facts c.self.inside.attentions) (c.self.inside.store.capacity)) c.perform-performed.result _ _ _
+          (is_ready c.self.invariant.kept c.ticket-ticket.result c.in-Some.task.now at turns.1 turns.2 turns.3)
+          (told_is c.self.invariant.kept c.self.inside.facts (c.self.inside.store.capacity) refl refl refl refl)
+          (rw (c.command-command.ensures, c.data-bytes.ensures.data) at c.perform-performed.ensures.performed) c.record_run.ensures.room);
+      based =
+          based_on _ _ n _ (step_for c.ticket-ticket.result _) c.self.inside.log.steps _ (seen_of c.self.inside.tasks) _ c.self.invariant.based (ran_folds c.ticket-ticket.result _)
+          c.record_run.ensures.base c.record_run.ensures.forgotten c.record_run.ensures.steps
+          (λ b. subst (λ ts. AreBehind n (seen_of ts)) (sym c.record_run.ensures.tasks) (behind_moved (finished c.ticket-ticket.result) n c.self.inside.tasks (λ s. refl) b));
+    }
 
 pub returns-in-Unknown-clause-step : goal.returns-in-Unknown-clause-step
 returns-in-Unknown-clause-step c =
     let at = ap (λ t. task_at t c.self.inside.tasks) (sym c.ticket-ticket.ensures.entry) ∙ sym c.task.ensures ∙ ap option_copied c.in-Some.is in
-    rw (← c.self.view_is) (cannot_turn c.self.invariant c.args.job.now c.in-Some.task.now at c.in-Unknown.ensures, refl)
+    rw (← c.self.view_is) (cannot_turn c.self.invariant.kept c.args.job.now c.in-Some.task.now at c.in-Unknown.ensures, refl)
 
 pub returns-in-Aborted-clause-step : goal.returns-in-Aborted-clause-step
 returns-in-Aborted-clause-step c =
@@ -39,8 +50,8 @@ returns-in-Aborted-clause-step c =
     let turns = c.in-Aborted.ensures in
     rw (← c.self.view_is) (
       c.in-Some.task.now.seen.entry,
-      is_of c.self.invariant c.args.job.now c.in-Some.task.now at turns.0,
-      is_aborted c.self.invariant c.args.job.now.entry.ticket c.in-Some.task.now c.in-Aborted.reason at turns.2,
+      is_of c.self.invariant.kept c.args.job.now c.in-Some.task.now at turns.0,
+      is_aborted c.self.invariant.kept c.args.job.now.entry.ticket c.in-Some.task.now c.in-Aborted.reason at turns.2,
       refl,
     )
 
@@ -59,12 +70,12 @@ returns-then-keeps_replies-clause-step c =
       c.perform-performed.ensures.size,
       c.ticket-ticket.ensures.entry,
     )
-    (commits_run c.self.invariant c.args.job.now c.in-Some.task.now.seen.entry c.self.inside.log.keeps
-    (facts_of (told c.self.inside.facts c.self.inside.attentions) (block_count c.self.inside.store)) c.perform-performed.result
-    (nth_block c.perform-performed.new.store) c.perform-performed.new.attentions
-    (is_of c.self.invariant c.args.job.now c.in-Some.task.now at turns.0)
-    (is_ready c.self.invariant c.args.job.now.entry.ticket c.in-Some.task.now at turns.1 turns.2 turns.3)
-    (told_is c.self.invariant c.self.inside.facts (block_count c.self.inside.store) refl refl refl refl)
+    (commits_run c.self.invariant.kept c.args.job.now c.in-Some.task.now.seen.entry c.self.inside.log.keeps
+    (facts_of (told c.self.inside.facts c.self.inside.attentions) (c.self.inside.store.capacity)) c.perform-performed.result
+    (pages.blocks_of c.perform-performed.new.store.pages) c.perform-performed.new.attentions
+    (is_of c.self.invariant.kept c.args.job.now c.in-Some.task.now at turns.0)
+    (is_ready c.self.invariant.kept c.args.job.now.entry.ticket c.in-Some.task.now at turns.1 turns.2 turns.3)
+    (told_is c.self.invariant.kept c.self.inside.facts (c.self.inside.store.capacity) refl refl refl refl)
     (rw keeps (rw (c.command-command.ensures, c.data-bytes.ensures.data) at c.perform-performed.ensures.performed)))
 
 pub returns-else-keeps_replies-clause-step : goal.returns-else-keeps_replies-clause-step
@@ -82,25 +93,33 @@ returns-else-keeps_replies-clause-step c =
       c.perform-performed-else-keeps_replies.ensures.size,
       c.ticket-ticket.ensures.entry,
     )
-    (commits_run c.self.invariant c.args.job.now c.in-Some.task.now.seen.entry c.self.inside.log.keeps
-    (facts_of (told c.self.inside.facts c.self.inside.attentions) (block_count c.self.inside.store)) c.perform-performed-else-keeps_replies.result
-    (nth_block c.perform-performed-else-keeps_replies.new.store) c.perform-performed-else-keeps_replies.new.attentions
-    (is_of c.self.invariant c.args.job.now c.in-Some.task.now at turns.0)
-    (is_ready c.self.invariant c.args.job.now.entry.ticket c.in-Some.task.now at turns.1 turns.2 turns.3)
-    (told_is c.self.invariant c.self.inside.facts (block_count c.self.inside.store) refl refl refl refl)
+    (commits_run c.self.invariant.kept c.args.job.now c.in-Some.task.now.seen.entry c.self.inside.log.keeps
+    (facts_of (told c.self.inside.facts c.self.inside.attentions) (c.self.inside.store.capacity)) c.perform-performed-else-keeps_replies.result
+    (pages.blocks_of c.perform-performed-else-keeps_replies.new.store.pages) c.perform-performed-else-keeps_replies.new.attentions
+    (is_of c.self.invariant.kept c.args.job.now c.in-Some.task.now at turns.0)
+    (is_ready c.self.invariant.kept c.args.job.now.entry.ticket c.in-Some.task.now at turns.1 turns.2 turns.3)
+    (told_is c.self.invariant.kept c.self.inside.facts (c.self.inside.store.capacity) refl refl refl refl)
     (rw keeps (rw (c.command-command.ensures, c.data-bytes.ensures.data) at c.perform-performed-else-keeps_replies.ensures.performed)))
 
 pub record_run-requires-else-keeps_replies-clause-room : goal.record_run-requires-else-keeps_replies-clause-room
 record_run-requires-else-keeps_replies-clause-room c =
-    has_room c.self.invariant c.ticket-ticket.result c.in-Some.task.now (sym c.task.ensures ∙ ap option_copied c.in-Some.is)
+    has_room c.self.invariant.kept c.ticket-ticket.result c.in-Some.task.now (sym c.task.ensures ∙ ap option_copied c.in-Some.is)
 
 pub invariant_of-self-else-keeps_replies : goal.invariant_of-self-else-keeps_replies
 invariant_of-self-else-keeps_replies c =
     let at = sym c.task.ensures ∙ ap option_copied c.in-Some.is in
     let turns = c.in-Ready.ensures in
-    rw (c.record_run-else-keeps_replies.ensures.tasks, c.record_run-else-keeps_replies.ensures.steps, c.perform-performed-else-keeps_replies.ensures.facts, c.perform-performed-else-keeps_replies.ensures.size)
-    (keep_run c.self.invariant c.ticket-ticket.result c.in-Some.task.now.seen.entry false
-    (facts_of (told c.self.inside.facts c.self.inside.attentions) (block_count c.self.inside.store)) c.perform-performed-else-keeps_replies.result _ _ _
-    (is_ready c.self.invariant c.ticket-ticket.result c.in-Some.task.now at turns.1 turns.2 turns.3)
-    (told_is c.self.invariant c.self.inside.facts (block_count c.self.inside.store) refl refl refl refl)
-    (rw (c.command-command.ensures, c.data-bytes.ensures.data) at c.perform-performed-else-keeps_replies.ensures.performed) c.record_run-else-keeps_replies.ensures.room)
+    let n = c.self.inside.log.forgotten in
+    record {
+      kept =
+          rw (c.record_run-else-keeps_replies.ensures.tasks, c.record_run-else-keeps_replies.ensures.steps, c.perform-performed-else-keeps_replies.ensures.facts, c.perform-performed-else-keeps_replies.ensures.size)
+          (keep_run c.self.invariant.kept c.ticket-ticket.result c.in-Some.task.now.seen.entry false
+          (facts_of (told c.self.inside.facts c.self.inside.attentions) (c.self.inside.store.capacity)) c.perform-performed-else-keeps_replies.result _ _ _
+          (is_ready c.self.invariant.kept c.ticket-ticket.result c.in-Some.task.now at turns.1 turns.2 turns.3)
+          (told_is c.self.invariant.kept c.self.inside.facts (c.self.inside.store.capacity) refl refl refl refl)
+          (rw (c.command-command.ensures, c.data-bytes.ensures.data) at c.perform-performed-else-keeps_replies.ensures.performed) c.record_run-else-keeps_replies.ensures.room);
+      based =
+          based_on _ _ n _ (step_for c.ticket-ticket.result _) c.self.inside.log.steps _ (seen_of c.self.inside.tasks) _ c.self.invariant.based (ran_folds c.ticket-ticket.result _)
+          c.record_run-else-keeps_replies.ensures.base c.record_run-else-keeps_replies.ensures.forgotten c.record_run-else-keeps_replies.ensures.steps
+          (λ b. subst (λ ts. AreBehind n (seen_of ts)) (sym c.record_run-else-keeps_replies.ensures.tasks) (behind_moved (finished c.ticket-ticket.result) n c.self.inside.tasks (λ s. refl) b));
+    }

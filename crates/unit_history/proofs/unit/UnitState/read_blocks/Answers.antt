@@ -1,5 +1,6 @@
 use Rattle.std.proofs.Common.{◌+◌, ◌≤◌, ◌++◌, ap, sym, ◌∙◌, subst}
-use Rattle.block_store.specs.Blocks.{run, nth_block}
+use Rattle.block_store.specs.Blocks.{run}
+use Rattle.block_store.specs.Kept as pages
 use Rattle.block_commands.proofs.Ranges.{run-agree}
 use Rattle.history.specs.Contents.{blocks_of}
 use Rattle.unit_history.specs.Fields.{opening_of}
@@ -12,5 +13,5 @@ returns-clause-ok c =
     let within : c.args.first + c.args.count ≤ (opening_of u).blocks = subst (λ (v : PlainUnit). c.args.first + c.args.count ≤ v.opening.blocks) (sym c.self.view_is) c.requires in
     rw (← c.self.view_is)
     (c.read_blocks.ensures.bytes
-    ∙ ap (λ w. w ++ run (nth_block u.store) c.args.first c.args.count) c.reserve.ensures.items
-    ∙ ap (λ w. c.args.into.now.items ++ w) (run-agree (nth_block u.store) (blocks_of u.log.steps) c.args.first c.args.count _ within c.self.invariant.stored))
+    ∙ ap (λ w. w ++ run (pages.blocks_of u.store.pages) c.args.first c.args.count) c.reserve.ensures.items
+    ∙ ap (λ w. c.args.into.now.items ++ w) (run-agree (pages.blocks_of u.store.pages) (blocks_of u.log.steps) c.args.first c.args.count _ within c.self.invariant.kept.stored))

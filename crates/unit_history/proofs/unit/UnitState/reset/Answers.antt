@@ -1,4 +1,10 @@
-use Rattle.std.proofs.Common.{◌≤◌, ◌∷◌, ap, ◌∙◌, arith}
+use Rattle.std.proofs.Common.{◌≤◌, ◌∷◌, refl, sym, ap, subst, ◌∙◌, arith}
+use Rattle.history.specs.declared.reason.Reason.TheVariants as reason
+use Rattle.history.specs.declared.rule.Rule.TheVariants as rules
+use Rattle.history.specs.Seen.{struck}
+use Rattle.task_set.specs.Tasks.{seen_of}
+use Rattle.unit_history.specs.Parts.{AreBehind}
+use Rattle.unit_history.proofs.Basing.{based_way, behind_moved}
 use Rattle.history.specs.Steps.{Step}
 use Rattle.task_set.specs.Tasks.{parked_of}
 use Rattle.unit_history.proofs.Keeping.{few, may_reset, keep_reset}
@@ -7,23 +13,33 @@ use Rattle.unit_history.proofs.Stepping.{steps_is, handed_is}
 use Rattle.unit_history.proofs.unit.UnitState.reset.Goals as goal
 
 pub mark-requires : goal.mark-requires
-mark-requires c = let most = few c.self.invariant in let free = c.requires.room in omega (arith, most, free)
+mark-requires c = let most = few c.self.invariant.kept in let free = c.requires.room in omega (arith, most, free)
 
 pub invariant_of-self-2 : goal.invariant_of-self-2
 invariant_of-self-2 c =
-    let ahead : 131 ≤ c.reserve.new.self.room = c.in_ok-reserve.ensures.room in
+    let ahead : 129 ≤ c.make_way.new.log.room = c.in_ok-make_way.ensures.room in
     let left = c.push.ensures.room in
-    rw (c.mark.ensures.tasks, c.push.ensures.steps, c.in_ok-reserve.ensures.steps)
-    (keep_reset c.self.invariant c.args.code _ _ c.raise.ensures (omega (arith, ahead, left)))
+    let n = c.make_way.new.log.forgotten in
+    record {
+      kept =
+          rw (c.mark.ensures.tasks, c.push.ensures.steps, c.in_ok-make_way.ensures.steps)
+          (keep_reset c.self.invariant.kept c.args.code _ _ c.raise.ensures (omega (arith, ahead, left)));
+      based =
+          based_way _ n _ (Step.Reset c.args.code) c.self.inside.log.steps _ (seen_of c.self.inside.tasks) _ refl
+          (c.push.ensures.base ∙ c.in_ok-make_way.ensures.base) c.push.ensures.forgotten
+          (c.push.ensures.steps ∙ ap (λ w. Step.Reset c.args.code ∷ w) c.make_way.ensures.steps)
+          (λ le b. subst (λ ts. AreBehind n (seen_of ts)) (sym c.mark.ensures.tasks) (behind_moved (struck rules.All reason.Reset) n c.self.inside.tasks (λ s. refl) b))
+          (c.make_way.ensures.clear c.self.invariant.based.clear);
+    }
 
 pub returns-clause-step : goal.returns-clause-step
 returns-clause-step c =
     rw (← c.self.view_is)
-    (steps_is _ (Step.Reset c.args.code) _ _ _ _ _ _ (may_reset c.self.invariant c.args.code)
-    (c.push.ensures.steps ∙ ap (λ w. Step.Reset c.args.code ∷ w) c.reserve.ensures.steps)
-    (ap parked_of c.mark.ensures.tasks ∙ parked_reset _ _ _ _ _ _ _ c.args.code c.self.invariant) (c.push.ensures.keeps ∙ c.reserve.ensures.keeps))
+    (steps_is _ (Step.Reset c.args.code) _ _ _ _ _ _ (may_reset c.self.invariant.kept c.args.code)
+    (c.push.ensures.steps ∙ ap (λ w. Step.Reset c.args.code ∷ w) c.make_way.ensures.steps)
+    (ap parked_of c.mark.ensures.tasks ∙ parked_reset _ _ _ _ _ _ _ c.args.code c.self.invariant.kept) (c.push.ensures.keeps ∙ c.make_way.ensures.keeps))
 
 pub returns-clause-out : goal.returns-clause-out
 returns-clause-out c =
     rw (← c.self.view_is)
-    (handed_is _ _ _ _ c.mark.ensures.out (given_reset _ _ _ _ _ _ _ c.args.code c.self.invariant))
+    (handed_is _ _ _ _ c.mark.ensures.out (given_reset _ _ _ _ _ _ _ c.args.code c.self.invariant.kept))
