@@ -26,7 +26,7 @@ pub join_step : (h : Hub) (ss : List PlainSeat) (n m : ℕ) (s : PlainSeat) (p :
 join_step h ss n m s p rest now a e up is of number new grown =
     let b : AreHired h n (p ∷ rest) = subst (λ ps. AreHired h n ps) is a.1 in
     let at : s.number ≡ 0 + length ss = omega (arith, number, b.1, e) in
-    let there : IsSeatOf h s = record { queue = of.queue ∙ ap (λ x. x.queue) b.0; seats = of.seats ∙ ap (λ x. x.seats) b.0 } in (
+    let there : IsSeatOf h s = record { queues = of.queues ∙ ap (λ x. x.queues) b.0; seats = of.seats ∙ ap (λ x. x.seats) b.0 } in (
       subst (λ xs. AreSeatsFrom h 0 xs) (sym grown) (seats_more h 0 ss s a.0 there at),
       subst (λ k. AreHired h k rest) (sym up) b.2,
     )

@@ -83,8 +83,8 @@ applies (Deed.Stall x) w h = absurd h
 applies (Deed.Direct c o xs) w h = (c, o, (h.queue, h.there, h.ready))
 applies (Deed.Put k x) w h = record { job = x; rest = h.rest; seat = h.seat }
 applies (Deed.Keep k x) w h = record { job = x; rest = h.rest; seat = h.seat }
-applies (Deed.Take k x) w h =
-    record { worker = h.worker; seat = h.seat; job = x; rest = h.rest; handed_off = h.handed_off }
+applies (Deed.Take k from x) w h =
+    record { worker = h.worker; seat = h.seat; from = from; job = x; rest = h.rest; handed_off = h.handed_off }
 applies (Deed.Commit k x r) w h = (x, (h.holds.out, h.holds.seat))
 applies (Deed.Busy k x) w h = (x, (h.holds.out, h.holds.seat))
 applies (Deed.Abort k x why) w h = (x, (h.holds.out, h.holds.seat))

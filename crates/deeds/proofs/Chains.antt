@@ -13,7 +13,7 @@ use Rattle.task_set.specs.Jobs.{PlainJob, is_job_of}
 use Rattle.task_mgmt.specs.Functions.{PlainFunction, marking, asking, failing, checking, step_by}
 use Rattle.task_set.specs.Unit.{PlainUnit, after as stepped, parking}
 use Rattle.deeds.specs.Parts.{Outcome, Slot, Hand}
-use Rattle.deeds.specs.World.{PlainQueue, Seat, Opened, PlainWorld, change, owner, Everywhere}
+use Rattle.deeds.specs.World.{PlainQueue, Seat, Opened, PlainWorld, change, owner, Everywhere, all_off}
 use Rattle.deeds.specs.Deeds.{Deed}
 use Rattle.deeds.specs.After.{arriving, taking, slotted, broken_by, completing, directing, spending, with_hand, without_first, with_jobs, leaving, on_function, hard_code, after}
 use Rattle.deeds.specs.Happens.{May, Comes, handed_out}
@@ -23,6 +23,7 @@ use Rattle.deeds.specs.Standing.{IsOwned, IsJob, SlotOwns, HandOwns, FunctionOwn
 use Rattle.deeds.proofs.Lists.{nothing, same}
 use Rattle.deeds.proofs.Places.{nothing_counts}
 use Rattle.deeds.proofs.Staying.{everywhere}
+use Rattle.deeds.proofs.Off.{each_put, each_taken}
 
 -- Lists
 
@@ -93,7 +94,7 @@ SeatsOwn v ss = Everywhere (λ k s. SeatOwns v s) ss
 
 abbrev pub Stand : PlainWorld → PlainWorld → Type 0
 Stand v w =
-    SlotsOwn v w.queues × UnitsOwn v w.units × SeatsOwn v w.seats × JobsOwn v w.handed_off × FunctionOwns v w.function
+    SlotsOwn v w.queues × UnitsOwn v w.units × SeatsOwn v w.seats × JobsOwn v (all_off w) × FunctionOwns v w.function
     × AllByRecursion (BufferOwns v) w.buffers
 
 -- One part changes
@@ -255,16 +256,16 @@ places v (Deed.Put k x) w m b h =
       h.0,
       h.1,
       goes v Hand.Free k w.seats tt h.2,
-      all_append (IsJob v) w.handed_off (x ∷ []) h.3 (j, tt),
+      each_put (IsJob v) k w.handed_off x j h.3,
       h.4,
       h.5,
     )
 places v (Deed.Keep k x) w m b h =
     let j = (h.2 k (record { hand = Hand.Free; out = x ∷ m.rest }) m.seat).1.0 in
     (h.0, h.1, goes v (Hand.Taken x) k w.seats j h.2, h.3, h.4, h.5)
-places v (Deed.Take k x) w m b h =
-    let j = (subst (JobsOwn v) m.handed_off h.3).0 in
-    (h.0, h.1, turns v (Hand.Taken x) k w.seats j h.2, all_rest (IsJob v) w.handed_off h.3, h.4, h.5)
+places v (Deed.Take k from x) w m b h =
+    let j = each_taken (IsJob v) from w.handed_off x m.rest m.handed_off h.3 in
+    (h.0, h.1, turns v (Hand.Taken x) k w.seats j.0 h.2, j.1, h.4, h.5)
 places v (Deed.Commit k x r) w m b h =
     let j = (h.2 k (record { hand = Hand.Taken x; out = m.holds.out }) m.holds.seat).0 in
     let new = Hand.Done x (Outcome.Ended (Ending.Replied r)) in (
@@ -387,7 +388,7 @@ turn p u v w t z h = (
       (λ i x a n. jobs_turn p u v t x.parked n a) (omega (arith, z)) h.1,
   every_turn (λ k s. SeatOwns u s) (λ k s. SeatOwns v s) (at_seat (of_job p)) w.seats
       (λ k s. seat_turns p u v t s) (omega (arith, z)) h.2,
-  jobs_turn p u v t w.handed_off (omega (arith, z)) h.3,
+  jobs_turn p u v t (all_off w) (omega (arith, z)) h.3,
   function_turns p u v t w.function h.4 (omega (arith, z)),
   all_turn (BufferOwns u) (BufferOwns v) (of_chain p) w.buffers (λ c b n. (b.0, t c b.1 n)) (omega (arith, z)) h.5,
 )
@@ -427,7 +428,7 @@ no_worth w =
     let a = nothing_counts (at_queue worthless) w.queues (λ i q at. worthless_slot q.slot) in
     let b = nothing_counts (at_unit worthless) w.units (λ i u at. worthless_jobs u.parked) in
     let c = nothing_counts (at_seat (of_job worthless)) w.seats (λ i s at. worthless_seat s) in
-    let d = worthless_jobs w.handed_off in
+    let d = worthless_jobs (all_off w) in
     let e = worthless_function w.function in
     let f = nothing_counts (of_chain worthless) w.buffers (λ i x at. refl) in
     omega (arith, a, b, c, d, e, f)

@@ -33,6 +33,7 @@ use Rattle.deeds.proofs.Places.{moves, nothing_counts}
 use Rattle.deeds.proofs.Owning.{owned}
 use Rattle.deeds.proofs.Staying.{run_keeps}
 use Rattle.deeds.proofs.Numbering.{new_numbered, deed_numbers}
+use Rattle.deeds.proofs.Off.{off_put, off_taken, none_off}
 
 -- Queues
 
@@ -202,15 +203,13 @@ held_deed f w (Deed.Direct c o xs) h =
     omega (arith, q, e)
 held_deed f w (Deed.Put k x) h =
     let s = goes f k w.seats Hand.Free x h.rest h.seat in
-    let p = sum_by_push (of_job f.off) w.handed_off x in
+    let p = off_put (of_job f.off) k w.handed_off h.off x h.there in
     omega (arith, s, p)
 held_deed f w (Deed.Keep k x) h = let s = goes f k w.seats (Hand.Taken x) x h.rest h.seat in omega (arith, s)
-held_deed f w (Deed.Take k x) h =
+held_deed f w (Deed.Take k from x) h =
     let s = turns f k w.seats Hand.Free (Hand.Taken x) [] h.seat in
-    let a = ap (λ l. sum_by (of_job f.off) l) h.handed_off in
-    let b = ap (λ l. sum_by (of_job f.off) (drop 1 l)) h.handed_off in
-    let c = sum_by-cons (of_job f.off) x h.rest in
-    omega (arith, s, a, b, c)
+    let a = off_taken (of_job f.off) from w.handed_off x h.rest h.handed_off in
+    omega (arith, s, a)
 held_deed f w (Deed.Commit k x r) h =
     let new = Hand.Done x (Outcome.Ended (Ending.Replied r)) in
     let s = turns f k w.seats (Hand.Taken x) new h.holds.out h.holds.seat in
@@ -485,7 +484,7 @@ new_flows w o =
           let b = nothing_counts (at_unit f.kept) w.units (λ i u at.
           ap (λ l. sum_by (of_job f.kept) l) (o.units i u at).parked) in
           let c = nothing_counts (in_seat f) w.seats (λ i s at. idle f s (o.seats i s at)) in
-          let d = ap (λ l. sum_by (of_job f.off) l) o.handed_off in
+          let d = ap (λ l. sum_by (of_job f.off) l) (none_off w.handed_off o.handed_off) in
           let e = ap (of_function f.opened) o.function in
           let g = ap (λ l. sum_by (of_chain f.port) l) o.buffers in
           omega (arith, a, b, c, d, e, g);

@@ -1,7 +1,7 @@
 -- The units of the open function are there.
-use Rattle.std.proofs.Common.{◌≡◌, ℕ, ◌<◌, List, [], ◌∷◌, ◌++◌, drop, length, Option, Some, None, refl, sym, subst}
+use Rattle.std.proofs.Common.{◌≡◌, ℕ, Bool, slice_index, ◌<◌, List, [], ◌∷◌, ◌++◌, drop, length, Option, Some, None, refl, sym, subst}
 use Rattle.std.specs.List.{AllByRecursion}
-use Rattle.task_mgmt.specs.Functions.{PlainFunction, marking, asking, failing, checking}
+use Rattle.task_mgmt.specs.Functions.{PlainFunction, marking, next_look, asking, failing, checking}
 use Rattle.task_mgmt.specs.declared.function.Mark.{Mark as Place}
 use Rattle.deeds.specs.Parts.{lengths_of}
 use Rattle.deeds.specs.World.{Opened, PlainWorld, Opens}
@@ -16,12 +16,12 @@ abbrev IsThere : ℕ → PlainFunction → Type 0
 IsThere n f = AllByRecursion (λ place. place < n) f.left × AllByRecursion (λ (p : Place). p.unit < n) f.waits
 
 -- what holds of all holds of all but the first
-all_drop : {X : Type 0} (P : X → Type 0) (xs : List X) → AllByRecursion P xs → AllByRecursion P (drop 1 xs)
+pub all_drop : {X : Type 0} (P : X → Type 0) (xs : List X) → AllByRecursion P xs → AllByRecursion P (drop 1 xs)
 all_drop P [] h = tt
 all_drop P (x ∷ xs) h = h.1
 
 -- what holds of all and of one more holds of both
-all_push : {X : Type 0} (P : X → Type 0) (xs : List X) (x : X) → AllByRecursion P xs → P x
+pub all_push : {X : Type 0} (P : X → Type 0) (xs : List X) (x : X) → AllByRecursion P xs → P x
     → AllByRecursion P (xs ++ x ∷ [])
 all_push P [] x h p = (p, tt)
 all_push P (y ∷ xs) x h p = (h.0, all_push P xs x h.1 p)
@@ -34,7 +34,7 @@ goes_on n g None f h = tt
 goes_on n g (Some x) f h = f x refl h
 
 -- one function is open
-same_function : {x y : Opened} {o : Option Opened} → o ≡ Some x → o ≡ Some y → x ≡ y
+pub same_function : {x y : Opened} {o : Option Opened} → o ≡ Some x → o ≡ Some y → x ≡ y
 same_function e f = cc
 
 -- the units of the open function are those of the inventory's addresses
@@ -47,6 +47,14 @@ marks_there : (n : ℕ) (later : List ℕ) (p : Place) (f : PlainFunction) → f
 marks_there n later p f left h =
     let unit : p.unit < n = (subst (AllByRecursion (λ place. place < n)) left h.0).0 in
     (all_drop (λ place. place < n) f.left h.0, all_push (λ (q : Place). q.unit < n) f.waits p h.1 unit)
+
+-- the next unit is looked at
+looks_there : (n place : ℕ) (later : List ℕ) (b : Bool) (f : PlainFunction) → f.left ≡ place ∷ later → IsThere n f
+    → IsThere n (asking b f)
+looks_there n place later b f left h =
+    let unit : (next_look f).unit < n =
+    subst (λ z. slice_index z 0 < n) (sym left) (subst (AllByRecursion (λ k. k < n)) left h.0).0 in
+    (all_drop (λ k. k < n) f.left h.0, all_push (λ (q : Place). q.unit < n) f.waits (next_look f) h.1 unit)
 
 -- no function is open yet
 pub new_finds : (w : PlainWorld) → Opens w → FindsUnits w
@@ -67,7 +75,10 @@ deed_finds (Deed.Mark t p s jobs) w m h =
     marks_there n m.marking.later p x.function left i) h
 deed_finds (Deed.Ask t place rule b) w m h =
     let n = length w.inventory in
-    goes_on n (asking b) w.function (λ x is i. (all_drop (λ k. k < n) x.function.left i.0, i.1)) h
+    goes_on n (asking b) w.function (λ x is i.
+    let now : m.marking.opened ≡ x = same_function m.marking.there is in
+    let left = subst (λ (z : Opened). z.function.left ≡ place ∷ m.marking.later) now m.marking.left in
+    looks_there n place m.marking.later b x.function left i) h
 deed_finds (Deed.Fail t) w m h = goes_on (length w.inventory) failing w.function (λ x is i. (tt, i.1)) h
 deed_finds (Deed.Check t p) w m h =
     let n = length w.inventory in

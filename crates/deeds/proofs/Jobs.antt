@@ -1,17 +1,18 @@
 -- What the jobs of the seats and of the hand-off count.
-use Rattle.std.proofs.Common.{◌≡◌, ℕ, ◌+◌, List, [], ◌∷◌, drop, Some, refl, ap, arith, zero, suc}
+use Rattle.std.proofs.Common.{◌≡◌, ℕ, ◌+◌, List, [], ◌∷◌, Some, refl, ap, arith, zero, suc}
 use Rattle.std.specs.Prelude.{slice_get}
 use Rattle.std.specs.List.{sum_by}
-use Rattle.std.proofs.lemmas.List.Sums.{sum_by-append, sum_by-cons, sum_by_push}
+use Rattle.std.proofs.lemmas.List.Sums.{sum_by-append, sum_by-cons}
 use Rattle.history.specs.Endings.{Ending}
 use Rattle.task_set.specs.Jobs.{PlainJob}
 use Rattle.deeds.specs.Parts.{Outcome, Hand}
-use Rattle.deeds.specs.World.{Seat, PlainWorld, change, owner}
+use Rattle.deeds.specs.World.{Seat, PlainWorld, change, owner, all_off}
 use Rattle.deeds.specs.Deeds.{Deed}
 use Rattle.deeds.specs.After.{with_hand, without_first, with_jobs, leaving, after}
 use Rattle.deeds.specs.Happens.{Happens}
 use Rattle.deeds.specs.Laws.{in_hand, at_seat, jobs_out, brings, ends}
 use Rattle.deeds.proofs.Lists.{nothing, same}
+use Rattle.deeds.proofs.Off.{off_put, off_taken}
 
 pub sum_change : {X : Type 0} (f : X → ℕ) (g : X → X) (k : ℕ) (xs : List X) (x : X) → slice_get xs k ≡ Some x
     → sum_by f (change g k xs) + f x ≡ sum_by f xs + f (g x)
@@ -73,18 +74,16 @@ frees p k seats old out jobs at =
 pub kept : (p : PlainJob → ℕ) (d : Deed) (w : PlainWorld) → Happens d w → Kept p d w
 kept p (Deed.Run x) w h =
     let k = owner w.workers x.chain.ticket.queue in
-    gets p k w.seats (sum_by p w.handed_off) h.comes.seat (x ∷ []) h.comes.seat_there
+    gets p k w.seats (sum_by p (all_off w)) h.comes.seat (x ∷ []) h.comes.seat_there
 kept p (Deed.Put k x) w h =
     let g = goes p k w.seats Hand.Free x h.rest h.seat in
-    let a = sum_by_push p w.handed_off x in
+    let a = off_put p k w.handed_off h.off x h.there in
     omega (arith, g, a)
 kept p (Deed.Keep k x) w h = let g = goes p k w.seats (Hand.Taken x) x h.rest h.seat in omega (arith, g)
-kept p (Deed.Take k x) w h =
+kept p (Deed.Take k from x) w h =
     let t = turns p k w.seats Hand.Free (Hand.Taken x) [] h.seat in
-    let a = ap (λ l. sum_by p l) h.handed_off in
-    let b = ap (λ l. sum_by p (drop 1 l)) h.handed_off in
-    let c = sum_by-cons p x h.rest in
-    omega (arith, t, a, b, c)
+    let a = off_taken p from w.handed_off x h.rest h.handed_off in
+    omega (arith, t, a)
 kept p (Deed.Commit k x r) w h =
     let new = Hand.Done x (Outcome.Ended (Ending.Replied r)) in
     let t = turns p k w.seats (Hand.Taken x) new h.holds.out h.holds.seat in
@@ -104,9 +103,9 @@ kept p (Deed.Leave k place t jobs) w h =
     let f = frees p k w.seats (Hand.Answered place t) h.holds.out jobs h.holds.seat in
     omega (arith, f)
 kept p (Deed.Mark t m strike jobs) w h =
-    gets p 0 w.seats (sum_by p w.handed_off) h.seat jobs h.seat_there
+    gets p 0 w.seats (sum_by p (all_off w)) h.seat jobs h.seat_there
 kept p (Deed.Hard m jobs) w h =
-    gets p w.workers w.seats (sum_by p w.handed_off) h.seat jobs h.seat_there
+    gets p w.workers w.seats (sum_by p (all_off w)) h.seat jobs h.seat_there
 kept p (Deed.Stall x) w h = absurd h
 kept p (Deed.Lose k x) w h = absurd h
 kept p (Deed.Idle e) w h = absurd h

@@ -87,11 +87,11 @@ joins (Deed.Direct c o xs) w s u q =
     record { queue = q.0; there = q.1; ready = slot_is w c.ticket.queue (Slot.Ready c o) q.0 s q.1; writes = q.2 }
 joins (Deed.Put k x) w s u q = s
 joins (Deed.Keep k x) w s u q = s
-joins (Deed.Take k x) w s u q = s
+joins (Deed.Take k from x) w s u q = s
 joins (Deed.Commit k x r) w s u q =
     record { holds = holds w k (Hand.Taken x) x.unit u.0 s u.1; may = u.2 }
 joins (Deed.Busy k x) w s u q =
-    record { holds = holds w k (Hand.Taken x) x.unit u.0 s u.1; may = u.2 }
+    record { holds = holds w k (Hand.Taken x) x.unit u.0 s u.1; may = u.2.0; wants = u.2.1 }
 joins (Deed.Abort k x why) w s u q =
     record { holds = holds w k (Hand.Taken x) x.unit u.0 s u.1; alive = u.2.0; marked = u.2.1 }
 joins (Deed.Answer k x o xs) w s u q = record { out = s.0; seat = s.1; queue = q.0; there = q.1; writes = q.2 }

@@ -4,6 +4,7 @@ pub mod Phasing
 pub mod Joining
 pub mod Apart
 pub mod Counting
+pub mod Off
 pub mod Jobs
 pub mod Places
 pub mod Once
@@ -14,6 +15,7 @@ pub mod Holding
 pub mod Histories
 pub mod Deciding
 pub mod Functions
+pub mod Looks
 pub mod Floors
 pub mod Applying
 pub mod Outstanding

@@ -22,6 +22,7 @@ use Rattle.deeds.proofs.Jobs.{turns, kept}
 use Rattle.deeds.proofs.Places.{nothing_counts}
 use Rattle.deeds.proofs.Staying.{everywhere}
 use Rattle.deeds.proofs.Sums.{counts_one}
+use Rattle.deeds.proofs.Off.{none_off}
 
 -- what holds of all holds of those that pass a test
 pub all_filter : {X : Type 0} (P : X → Type 0) (q : X → Bool) (xs : List X) → AllByRecursion P xs
@@ -82,7 +83,7 @@ no_job s n =
 pub new_named : (w : PlainWorld) → Opens w → AreNamed w
 new_named w o =
     let a = nothing_counts (at_seat misnamed) w.seats (λ i s at. no_job s (o.seats i s at)) in
-    let b = ap (λ l. sum_by misnamed l) o.handed_off in (
+    let b = ap (λ l. sum_by misnamed l) (none_off w.handed_off o.handed_off) in (
       λ i q at. subst SlotIsNamed (sym (o.queues i q at).slot) tt,
       λ i u at. subst (λ l. AllByRecursion (IsFor i) l) (sym (o.units i u at).parked) tt,
       omega (arith, a, b),
@@ -186,7 +187,7 @@ outs_after (Deed.Run x) w m h =
     omega (arith, k, e, h.2)
 outs_after (Deed.Put i x) w m h = let k = kept misnamed (Deed.Put i x) w m in omega (arith, k, h.2)
 outs_after (Deed.Keep i x) w m h = let k = kept misnamed (Deed.Keep i x) w m in omega (arith, k, h.2)
-outs_after (Deed.Take i x) w m h = let k = kept misnamed (Deed.Take i x) w m in omega (arith, k, h.2)
+outs_after (Deed.Take i from x) w m h = let k = kept misnamed (Deed.Take i from x) w m in omega (arith, k, h.2)
 outs_after (Deed.Commit i x r) w m h = let k = kept misnamed (Deed.Commit i x r) w m in omega (arith, k, h.2)
 outs_after (Deed.Busy i x) w m h = let k = kept misnamed (Deed.Busy i x) w m in omega (arith, k, h.2)
 outs_after (Deed.Abort i x why) w m h = let k = kept misnamed (Deed.Abort i x why) w m in omega (arith, k, h.2)

@@ -23,6 +23,7 @@ use Rattle.deeds.proofs.Places.{moves, balanced}
 use Rattle.deeds.proofs.Once.{once}
 use Rattle.deeds.proofs.Outstanding.{free, owns_accepting, owns_using, owns_spending}
 use Rattle.deeds.proofs.Chains.{Stand, JobsOwn, BufferOwns, Brings, worthless, places, turn, no_worth}
+use Rattle.deeds.proofs.Off.{none_off}
 
 -- One queue changes
 
@@ -241,7 +242,7 @@ opens w o = (
   λ i u at. subst (JobsOwn w) (sym (o.units i u at).parked) tt,
   λ k s at.
       let n = o.seats k s at in (subst (HandOwns w) (sym n.hand) tt, subst (JobsOwn w) (sym n.out) tt),
-  subst (JobsOwn w) (sym o.handed_off) tt,
+  subst (JobsOwn w) (sym (none_off w.handed_off o.handed_off)) tt,
   subst (FunctionOwns w) (sym o.function) tt,
   subst (AllByRecursion (BufferOwns w)) (sym o.buffers) tt,
 )

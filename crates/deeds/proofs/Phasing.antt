@@ -35,7 +35,7 @@ unit_part (Deed.Commit k x r) w h =
     (u, at, h.may, get_change (stepped (Step.Commit x.entry.ticket r)) x.unit w.units u at)
 unit_part (Deed.Busy k x) w h =
     let u = h.holds.unit in let at = h.holds.there in
-    (u, at, h.may, get_change (stepped (Step.Busy x.entry.ticket)) x.unit w.units u at)
+    (u, at, (h.may, h.wants), get_change (stepped (Step.Busy x.entry.ticket)) x.unit w.units u at)
 unit_part (Deed.Abort k x why) w h = (h.holds.unit, h.holds.there, (h.alive, h.marked), h.holds.there)
 unit_part (Deed.Leave k place t jobs) w h =
     let u = h.holds.unit in let at = h.holds.there in

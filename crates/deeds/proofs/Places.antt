@@ -21,6 +21,7 @@ use Rattle.deeds.specs.Happens.{May, Finds, handed_out, Occurrence, Runs}
 use Rattle.deeds.specs.Laws.{at_seat, in_hand}
 use Rattle.deeds.specs.Places.{of_chain, of_job, of_slot, of_function, at_queue, at_unit, standing, log_accepted, log_used, accepted_worth, used_worth, accepted_chains, used_chains, Moves}
 use Rattle.deeds.proofs.Jobs.{sum_change, turns, kept}
+use Rattle.deeds.proofs.Off.{none_off}
 
 -- one queue is changed
 record Line (p : Ticket → ℕ) (old new : List PlainQueue) (q r : PlainQueue) : Type 0 where
@@ -204,8 +205,8 @@ moves p (Deed.Put k x) w h =
 moves p (Deed.Keep k x) w h =
     let k = kept (of_job p) (Deed.Keep k x) w h in
     record { accepted = omega (arith); used = omega (arith); standing = omega (arith, k) }
-moves p (Deed.Take k x) w h =
-    let k = kept (of_job p) (Deed.Take k x) w h in
+moves p (Deed.Take k from x) w h =
+    let k = kept (of_job p) (Deed.Take k from x) w h in
     record { accepted = omega (arith); used = omega (arith); standing = omega (arith, k) }
 moves p (Deed.Commit k x r) w h =
     let s = stays p (Step.Commit x.entry.ticket r) x.unit w.units h.holds.unit h.holds.there refl in
@@ -306,7 +307,7 @@ starts p w o =
     let c = nothing_counts (at_queue p) w.queues (λ i q at. ap (of_slot p) (o.queues i q at).slot) in
     let d = nothing_counts (at_unit p) w.units (λ i u at. ap (λ l. sum_by (of_job p) l) (o.units i u at).parked) in
     let e = nothing_counts (at_seat (of_job p)) w.seats (λ i s at. idle p s (o.seats i s at)) in
-    let f = ap (λ l. sum_by (of_job p) l) o.handed_off in
+    let f = ap (λ l. sum_by (of_job p) l) (none_off w.handed_off o.handed_off) in
     let g = ap (of_function p) o.function in
     let h = ap (λ l. sum_by (of_chain p) l) o.buffers in
     omega (arith, a, b, c, d, e, f, g, h)

@@ -1,5 +1,5 @@
 -- The lists of jobs have room.
-use Rattle.std.proofs.Common.{◌≡◌, ℕ, ◌+◌, ◌*◌, ◌<◌, ◌≤◌, true, false, eqb, cond, List, [], ◌∷◌, length, Some, refl, sym, ◌∙◌, ap, arith, zero, suc, length-append, length-drop}
+use Rattle.std.proofs.Common.{◌≡◌, ℕ, ◌+◌, ◌*◌, ◌<◌, ◌≤◌, true, false, eqb, cond, List, [], ◌∷◌, length, Some, refl, sym, ◌∙◌, ap, arith, zero, suc, length-append, length-drop, drop}
 use Rattle.std.specs.Prelude.{slice_get}
 use Rattle.std.specs.List.{AllByRecursion, sum_by}
 use Rattle.std.proofs.lemmas.Bool.{eq-eqb}
@@ -14,17 +14,18 @@ use Rattle.task_set.specs.Jobs.{PlainJob}
 use Rattle.task_set.specs.Unit.{PlainUnit}
 use Rattle.deeds.specs.World.{Seat, PlainWorld, Opens, Everywhere}
 use Rattle.deeds.specs.Deeds.{Deed}
-use Rattle.deeds.specs.After.{after}
+use Rattle.deeds.specs.After.{after, with_job}
 use Rattle.deeds.specs.Happens.{May, Occurrence, Runs}
-use Rattle.deeds.proofs.Staying.{run_keeps}
+use Rattle.deeds.proofs.Staying.{run_keeps, run_stays, everywhere}
 use Rattle.deeds.proofs.Sums.{counts_one}
 use Rattle.deeds.proofs.Tasks.{of_place, seat_worth}
 use Rattle.deeds.proofs.Working.{ToCommit, Works}
+use Rattle.deeds.proofs.Lists.{same}
 
 -- Places
 
 -- each place below the end has its item
-below_found : {X : Type 0} (xs : List X) (i : ℕ) → i < length xs → (x : X) × (slice_get xs i ≡ Some x)
+pub below_found : {X : Type 0} (xs : List X) (i : ℕ) → i < length xs → (x : X) × (slice_get xs i ≡ Some x)
 below_found [] i h = absurd (omega (arith, h))
 below_found (y ∷ xs) zero h = (y, refl)
 below_found (y ∷ xs) (suc i) h = below_found xs i (omega (arith, h))
@@ -106,16 +107,28 @@ seats_room w h k s at =
 -- The hand-off
 
 abbrev HasRoom : PlainWorld → Type 0
-HasRoom w = length w.handed_off ≤ w.limit
+HasRoom w = Everywhere (λ k jobs. length jobs ≤ w.limit) w.handed_off
 
 deed_room : (d : Deed) (w : PlainWorld) → May d w → HasRoom w → HasRoom (after d w)
 deed_room (Deed.Put k x) w m h =
-    let a = length-append w.handed_off (x ∷ []) in
-    omega (arith, a, m.room)
-deed_room (Deed.Take k x) w m h = let a = length-drop 1 w.handed_off in omega (arith, a, h)
+    everywhere (λ i jobs. length jobs ≤ w.limit) (with_job x) k w.handed_off
+    (λ jobs at old.
+    let e : length jobs ≡ length m.off = ap (λ (l : List PlainJob). length l) (same (sym at ∙ m.there)) in
+    let a = length-append jobs (x ∷ []) in
+    omega (arith, a, e, m.room)) h
+deed_room (Deed.Take k from x) w m h =
+    everywhere (λ i jobs. length jobs ≤ w.limit) (drop 1) from w.handed_off
+    (λ jobs at old. let a = length-drop 1 jobs in omega (arith, a, old)) h
 deed_room d w m h = h
 
 pub run_room : (old : PlainWorld) (trace : List Occurrence) (w : PlainWorld) → Opens old → Runs old trace w → HasRoom w
 run_room old trace w o r =
-    let z = ap (λ (l : List PlainJob). length l) o.handed_off in
-    run_keeps HasRoom deed_room old trace w (omega (arith, z)) r
+    run_keeps HasRoom deed_room old trace w
+    (λ k jobs at. let z = ap (λ (l : List PlainJob). length l) (o.handed_off k jobs at) in omega (arith, z)) r
+
+-- each seat has its list
+pub run_lists : (old : PlainWorld) (trace : List Occurrence) (w : PlainWorld) → Opens old → Runs old trace w
+    → length w.handed_off ≡ length w.seats
+run_lists old trace w o r =
+    let k = run_stays old trace w r in
+    k.lists ∙ o.lists ∙ sym k.seats

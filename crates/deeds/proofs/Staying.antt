@@ -13,7 +13,7 @@ use Rattle.task_mgmt.specs.Functions.{step_by}
 use Rattle.deeds.specs.Parts.{Outcome, Slot, Hand}
 use Rattle.deeds.specs.World.{PlainWorld, Opens, change, owner, Everywhere}
 use Rattle.deeds.specs.Deeds.{Deed}
-use Rattle.deeds.specs.After.{hard_code, arriving, taking, slotted, broken_by, completing, directing, spending, with_hand, without_first, with_jobs, leaving, completed, after}
+use Rattle.deeds.specs.After.{hard_code, arriving, taking, slotted, broken_by, completing, directing, spending, with_hand, without_first, with_jobs, with_job, leaving, completed, after}
 use Rattle.deeds.specs.Happens.{Occurrence, May, Runs}
 use Rattle.deeds.specs.Laws.{memory_after}
 use Rattle.deeds.specs.Lawful.{KeepsParts, LieIn, AllLieIn}
@@ -49,14 +49,17 @@ abbrev Keeping : PlainWorld → PlainWorld → Type 0
 Keeping w v = (length v.queues ≡ length w.queues) × (length v.units ≡ length w.units) × (length v.seats
     ≡ length w.seats)
 
+abbrev KeepingLists : PlainWorld → PlainWorld → Type 0
+KeepingLists w v = length v.handed_off ≡ length w.handed_off
+
 -- the deed leaves these three as many as they are
 so_many : (w v : PlainWorld) → v.inventory ≡ w.inventory → v.workers ≡ w.workers → v.limit ≡ w.limit → Keeping w v
-    → KeepsParts w v
-so_many w v a b c k =
-    record { inventory = a; workers = b; limit = c; queues = k.0; units = k.1; seats = k.2 }
+    → KeepingLists w v → KeepsParts w v
+so_many w v a b c k l =
+    record { inventory = a; workers = b; limit = c; queues = k.0; units = k.1; seats = k.2; lists = l }
 
 pub all_stay : (w : PlainWorld) → KeepsParts w w
-all_stay w = so_many w w refl refl refl (refl, refl, refl)
+all_stay w = so_many w w refl refl refl (refl, refl, refl) refl
 
 joined : (u v w : PlainWorld) → KeepsParts u v → KeepsParts v w → KeepsParts u w
 joined u v w a b =
@@ -67,6 +70,7 @@ joined u v w a b =
       queues = b.queues ∙ a.queues;
       units = b.units ∙ a.units;
       seats = b.seats ∙ a.seats;
+      lists = b.lists ∙ a.lists;
     }
 
 used_many : (c : PlainChain) (xs : List Write) (w : PlainWorld) → length (completed c xs w) ≡ length w.queues
@@ -106,7 +110,7 @@ so_many_after (Deed.Direct c o xs) w =
     (many (directing (all_written w.memory xs) c) c.ticket.queue w.queues, refl, refl)
 so_many_after (Deed.Put k x) w = (refl, refl, many (without_first Hand.Free) k w.seats)
 so_many_after (Deed.Keep k x) w = (refl, refl, many (without_first (Hand.Taken x)) k w.seats)
-so_many_after (Deed.Take k x) w = (refl, refl, many (with_hand (Hand.Taken x)) k w.seats)
+so_many_after (Deed.Take k from x) w = (refl, refl, many (with_hand (Hand.Taken x)) k w.seats)
 so_many_after (Deed.Commit k x r) w = (
   refl,
   stepped_many (Step.Commit x.entry.ticket r) x.unit w,
@@ -133,6 +137,11 @@ so_many_after (Deed.Respond c r xs) w = (used_many c xs w, refl, refl)
 so_many_after (Deed.Give e c xs) w = (used_many c xs w, refl, refl)
 so_many_after d w = (refl, refl, refl)
 
+lists_after : (d : Deed) (w : PlainWorld) → KeepingLists w (after d w)
+lists_after (Deed.Put k x) w = many (with_job x) k w.handed_off
+lists_after (Deed.Take k from x) w = many (drop 1) from w.handed_off
+lists_after d w = refl
+
 inventory_after : (d : Deed) (w : PlainWorld) → (after d w).inventory ≡ w.inventory
 inventory_after (Deed.Poke x) w = refl
 inventory_after d w = refl
@@ -148,6 +157,7 @@ limit_after d w = refl
 pub deed_stays : (d : Deed) (w : PlainWorld) → KeepsParts w (after d w)
 deed_stays d w =
     so_many w (after d w) (inventory_after d w) (workers_after d w) (limit_after d w) (so_many_after d w)
+    (lists_after d w)
 
 pub run_stays : (old : PlainWorld) (trace : List Occurrence) (w : PlainWorld) → Runs old trace w → KeepsParts old w
 run_stays old trace w r =

@@ -1,5 +1,5 @@
 -- The tasks of each unit are as many as the jobs that it holds, and those of its jobs that are under way.
-use Rattle.std.proofs.Common.{◌≡◌, ℕ, ◌+◌, Bool, true, false, not, eqb, cond, List, [], ◌∷◌, drop, Some, refl, sym, ◌∙◌, ap, subst, arith, inl, inr}
+use Rattle.std.proofs.Common.{◌≡◌, ℕ, ◌+◌, Bool, true, false, not, eqb, cond, List, [], ◌∷◌, Some, refl, sym, ◌∙◌, ap, subst, arith, inl, inr}
 use Rattle.std.specs.Prelude.{slice_get}
 use Rattle.std.specs.List.{AllByRecursion, sum_by}
 use Rattle.std.proofs.lemmas.Bool.{eq-eqb}
@@ -17,7 +17,7 @@ use Rattle.task_mgmt.specs.Functions.{step_by}
 use Rattle.task_mgmt.specs.declared.kind.Strike.{Strike}
 use Rattle.task_mgmt.specs.declared.kind.Strike.TheVariants.{Abort, Reset}
 use Rattle.deeds.specs.Parts.{Outcome, Hand}
-use Rattle.deeds.specs.World.{Seat, PlainWorld, Opens, IsNewUnit, IsNewSeat, change, owner}
+use Rattle.deeds.specs.World.{Seat, PlainWorld, Opens, IsNewUnit, IsNewSeat, change, owner, all_off}
 use Rattle.deeds.specs.Deeds.{Deed}
 use Rattle.deeds.specs.After.{with_hand, without_first, with_jobs, leaving, hard_code, after}
 use Rattle.deeds.specs.Happens.{May, handed_out}
@@ -25,6 +25,7 @@ use Rattle.deeds.proofs.Lists.{same, at_other}
 use Rattle.deeds.proofs.Jobs.{sum_change}
 use Rattle.deeds.proofs.Places.{nothing_counts}
 use Rattle.deeds.proofs.Named.{IsFor, UnitsHoldOwn, AreNamed, given_own, done_is_named}
+use Rattle.deeds.proofs.Off.{off_put, off_taken, none_off}
 
 -- What a unit's jobs under way count, each by what p says of its ticket
 
@@ -53,7 +54,7 @@ UnitBalances n p us out =
     (u : PlainUnit) → slice_get us n ≡ Some u → alive_worth p u.steps ≡ sum_by (own p) u.parked + out
 
 abbrev pub AreBalanced : PlainWorld → Type 0
-AreBalanced w = (n : ℕ) (p : Ticket → ℕ) → UnitBalances n p w.units (out_worth n p w.seats w.handed_off)
+AreBalanced w = (n : ℕ) (p : Ticket → ℕ) → UnitBalances n p w.units (out_worth n p w.seats (all_off w))
 
 -- Seats
 
@@ -113,8 +114,8 @@ gone n p d = 0
 
 abbrev Flows : ℕ → (Ticket → ℕ) → Deed → PlainWorld → Type 0
 Flows n p d w =
-    out_worth n p (after d w).seats (after d w).handed_off + gone n p d
-    ≡ out_worth n p w.seats w.handed_off + came n p d
+    out_worth n p (after d w).seats (all_off (after d w)) + gone n p d
+    ≡ out_worth n p w.seats (all_off w) + came n p d
 
 -- a deed adds what it brings to what is under way, and takes away what leaves
 flows : (n : ℕ) (p : Ticket → ℕ) (d : Deed) (w : PlainWorld) → May d w → AreNamed w → Flows n p d w
@@ -124,15 +125,13 @@ flows n p (Deed.Run x) w m h =
     omega (arith, g)
 flows n p (Deed.Put k x) w m h =
     let g = goes n p k w.seats Hand.Free x m.rest m.seat in
-    let a = sum_by_push (of_place n p) w.handed_off x in
+    let a = off_put (of_place n p) k w.handed_off m.off x m.there in
     omega (arith, g, a)
 flows n p (Deed.Keep k x) w m h = let g = goes n p k w.seats (Hand.Taken x) x m.rest m.seat in omega (arith, g)
-flows n p (Deed.Take k x) w m h =
+flows n p (Deed.Take k from x) w m h =
     let t = turns n p k w.seats Hand.Free (Hand.Taken x) [] m.seat in
-    let a = ap (λ l. sum_by (of_place n p) l) m.handed_off in
-    let b = ap (λ l. sum_by (of_place n p) (drop 1 l)) m.handed_off in
-    let c = sum_by-cons (of_place n p) x m.rest in
-    omega (arith, t, a, b, c)
+    let a = off_taken (of_place n p) from w.handed_off x m.rest m.handed_off in
+    omega (arith, t, a)
 flows n p (Deed.Commit k x r) w m h =
     let new = Hand.Done x (Outcome.Ended (Ending.Replied r)) in
     let t = turns n p k w.seats (Hand.Taken x) new m.holds.out m.holds.seat in
@@ -263,8 +262,8 @@ same_strike (Reset c) past = refl
 pub deed_balances : (d : Deed) (w : PlainWorld) → May d w → AreNamed w → AreBalanced w → AreBalanced (after d w)
 deed_balances (Deed.Run x) w m names h n p =
     let d = Deed.Run x in
-    let out = out_worth n p w.seats w.handed_off in
-    let out' = out_worth n p (after d w).seats (after d w).handed_off in
+    let out = out_worth n p w.seats (all_off w) in
+    let out' = out_worth n p (after d w).seats (all_off (after d w)) in
     let u = m.comes.unit in
     let c = keeps_all p (Step.Enter x.entry) u refl in
     let a = alive_enter p x.entry u.steps in
@@ -273,32 +272,32 @@ deed_balances (Deed.Run x) w m names h n p =
     moves n p (stepped (Step.Enter x.entry)) x.unit w.units u (p x.entry.ticket) 0 out out' m.comes.unit_there
     (omega (arith, c, a)) (omega (arith, f, z)) (h n p)
 deed_balances (Deed.Park x) w m names h n p =
-    let out = out_worth n p w.seats w.handed_off in
+    let out = out_worth n p w.seats (all_off w) in
     let u = m.comes.unit in
     let c = sum_by_push (own p) u.parked x in
     let a = alive_enter p x.entry u.steps in
     moves n p (parking x) x.unit w.units u 0 0 out out m.comes.unit_there (omega (arith, c, a)) refl (h n p)
 deed_balances (Deed.Full x) w m names h n p =
-    let out = out_worth n p w.seats w.handed_off in
+    let out = out_worth n p w.seats (all_off w) in
     calm n p (Step.Full x.entry.ticket) x.unit w.units m.comes.unit out out m.comes.unit_there refl refl refl (h n p)
 deed_balances (Deed.Commit k x r) w m names h n p =
     let d = Deed.Commit k x r in
-    let out = out_worth n p w.seats w.handed_off in
-    let out' = out_worth n p (after d w).seats (after d w).handed_off in
+    let out = out_worth n p w.seats (all_off w) in
+    let out' = out_worth n p (after d w).seats (all_off (after d w)) in
     calm n p (Step.Commit x.entry.ticket r) x.unit w.units m.holds.unit out out' m.holds.there refl refl
     (flows n p d w m names) (h n p)
 deed_balances (Deed.Busy k x) w m names h n p =
     let d = Deed.Busy k x in
-    let out = out_worth n p w.seats w.handed_off in
-    let out' = out_worth n p (after d w).seats (after d w).handed_off in
+    let out = out_worth n p w.seats (all_off w) in
+    let out' = out_worth n p (after d w).seats (all_off (after d w)) in
     calm n p (Step.Busy x.entry.ticket) x.unit w.units m.holds.unit out out' m.holds.there refl refl
     (flows n p d w m names) (h n p)
 deed_balances (Deed.Leave k place t jobs) w m names h n p =
     let d = Deed.Leave k place t jobs in
     let s = Step.Leave t in
     let u = m.holds.unit in
-    let out = out_worth n p w.seats w.handed_off in
-    let out' = out_worth n p (after d w).seats (after d w).handed_off in
+    let out = out_worth n p w.seats (all_off w) in
+    let out' = out_worth n p (after d w).seats (all_off (after d w)) in
     let c = parted p s u in
     let g = given_own s place w.units u m.holds.there names.1 in
     let j = ap (λ l. sum_by (of_place n p) l) m.enables ∙ for_place n p place (handed_out u s) g in
@@ -309,14 +308,14 @@ deed_balances (Deed.Leave k place t jobs) w m names h n p =
 deed_balances (Deed.Mark t i s jobs) w m names h n p =
     let d = Deed.Mark t i s jobs in
     let u = m.marking.unit in
-    let out = out_worth n p w.seats w.handed_off in
-    let out' = out_worth n p (after d w).seats (after d w).handed_off in
+    let out = out_worth n p w.seats (all_off w) in
+    let out' = out_worth n p (after d w).seats (all_off (after d w)) in
     gives n p (step_by s) i.unit w.units u jobs out out' m.marking.unit_there (same_strike s u.steps) m.releases names.1
     (flows n p d w m names) (h n p)
 deed_balances (Deed.Hard i jobs) w m names h n p =
     let d = Deed.Hard i jobs in
-    let out = out_worth n p w.seats w.handed_off in
-    let out' = out_worth n p (after d w).seats (after d w).handed_off in
+    let out = out_worth n p w.seats (all_off w) in
+    let out' = out_worth n p (after d w).seats (all_off (after d w)) in
     gives n p (Step.Reset hard_code) i.unit w.units m.unit jobs out out' m.there refl m.releases names.1
     (flows n p d w m names) (h n p)
 deed_balances d w m names h n p =
@@ -337,5 +336,5 @@ new_balanced w o n p u at =
     let a = ap (alive_worth p) is.steps in
     let b = ap (λ l. sum_by (own p) l) is.parked in
     let c = nothing_counts (seat_worth n p) w.seats (λ i s there. no_worth n p s (o.seats i s there)) in
-    let d = ap (λ l. sum_by (of_place n p) l) o.handed_off in
+    let d = ap (λ l. sum_by (of_place n p) l) (none_off w.handed_off o.handed_off) in
     omega (arith, a, b, c, d)

@@ -1,5 +1,5 @@
 -- Each job that was handed out is that of a task that is alive.
-use Rattle.std.proofs.Common.{◌≡◌, ℕ, ◌≤◌, Bool, true, false, ◌||◌, eqb, cond, List, [], ◌∷◌, drop, Option, Some, None, is_some, refl, sym, ◌∙◌, ap, subst, arith, inl, inr}
+use Rattle.std.proofs.Common.{◌≡◌, ℕ, ◌≤◌, Bool, true, false, ◌||◌, eqb, cond, List, [], ◌∷◌, Option, Some, None, is_some, refl, sym, ◌∙◌, ap, subst, arith, inl, inr}
 use Rattle.std.specs.Prelude.{slice_get, ⊤}
 use Rattle.std.specs.List.{AllByRecursion, sum_by}
 use Rattle.std.proofs.lemmas.Bool.{eq-eqb, eqb-true}
@@ -21,7 +21,7 @@ use Rattle.task_mgmt.specs.Functions.{step_by}
 use Rattle.task_mgmt.specs.declared.kind.Strike.{Strike}
 use Rattle.task_mgmt.specs.declared.kind.Strike.TheVariants.{Abort, Reset}
 use Rattle.deeds.specs.Parts.{Outcome, Hand}
-use Rattle.deeds.specs.World.{Seat, PlainWorld, Opens, IsNewSeat, change, owner, Everywhere}
+use Rattle.deeds.specs.World.{Seat, PlainWorld, Opens, IsNewSeat, change, owner, Everywhere, all_off}
 use Rattle.deeds.specs.Deeds.{Deed}
 use Rattle.deeds.specs.After.{bit, with_hand, without_first, with_jobs, leaving, hard_code, after}
 use Rattle.deeds.specs.Happens.{May, MayStep, Loses, handed_out, Occurrence, Runs}
@@ -34,6 +34,7 @@ use Rattle.deeds.proofs.Handed.{IsOpen, IsEnded, Spares, open_on, ended_on, open
 use Rattle.deeds.proofs.Sums.{counts_one, counts_two, counts_none}
 use Rattle.deeds.proofs.Named.{IsFor, UnitsHoldOwn, AreNamed, all_push, given_own, done_is_named, new_named, deed_names}
 use Rattle.deeds.proofs.Tasks.{AreBalanced, of_place, hand_worth, seat_worth, out_worth, new_balanced, deed_balances}
+use Rattle.deeds.proofs.Off.{each_put, each_taken, none_off}
 
 -- of the unit at a place, if it is there, its steps are so
 abbrev At : (List Step → Type 0) → List PlainUnit → ℕ → Type 0
@@ -61,7 +62,7 @@ abbrev SeatsAt : List PlainUnit → List Seat → Type 0
 SeatsAt us seats = Everywhere (λ k s. SeatAt us s) seats
 
 abbrev pub AtWork : PlainWorld → Type 0
-AtWork w = SeatsAt w.units w.seats × JobsAt w.units w.handed_off
+AtWork w = SeatsAt w.units w.seats × JobsAt w.units (all_off w)
 
 -- A step of one unit
 
@@ -224,7 +225,7 @@ once t (e ∷ es) d =
 
 -- at most one job under way of a unit has the ticket
 out_once : (n : ℕ) (t : Ticket) (w : PlainWorld) (u : PlainUnit) → slice_get w.units n ≡ Some u → AreUnits w
-    → AreBalanced w → out_worth n (one t) w.seats w.handed_off ≤ 1
+    → AreBalanced w → out_worth n (one t) w.seats (all_off w) ≤ 1
 out_once n t w u at us b =
     let e = b n (one t) u at in
     let is = us n u at in
@@ -314,7 +315,7 @@ finishes : (s : Step) (k : ℕ) (x : PlainJob) (o : Outcome) (out : List PlainJo
     → ((past : List Step) → (alive (s ∷ past) ≡ alive past) × (done x.entry.ticket (s ∷ past) ≡ true))
     → AreUnits w → AreBalanced w → AtWork w
     → SeatsAt (change (stepped s) x.unit w.units) (change (with_hand (Hand.Done x o)) k w.seats)
-    × JobsAt (change (stepped s) x.unit w.units) w.handed_off
+    × JobsAt (change (stepped s) x.unit w.units) (all_off w)
 finishes s k x o out w u there at only does us b h =
     let n = x.unit in
     let t = x.entry.ticket in
@@ -322,13 +323,13 @@ finishes s k x o out w u there at only does us b h =
     let new = change (stepped s) n old in
     let step = goes s (stepped s) n old (λ v. refl) in
     let le = out_once n t w u there us b in
-    let sp = spares_else s n t k w.seats w.handed_off (Hand.Taken x) out only at (its_own n t) le in
+    let sp = spares_else s n t k w.seats (all_off w) (Hand.Taken x) out only at (its_own n t) le in
     let is = (λ (past : List Step) (p : IsOpen x.entry past).
     let d = does past in
     let ended : IsEnded t (s ∷ past) =
     (x.entry, ap (task_of t) d.0 ∙ p.0, ap (λ c. c || marked t (s ∷ past)) d.1) in
     ended) in
-    ends s n k old new w.seats w.handed_off (Hand.Taken x) out (with_hand (Hand.Done x o)) step at sp
+    ends s n k old new w.seats (all_off w) (Hand.Taken x) out (with_hand (Hand.Done x o)) step at sp
     (λ was more. ((stepped s was.0, get_change (stepped s) n old was.0 was.1, is was.0.steps was.2), more)) h
 
 each_given : (new : List PlainUnit) (k : ℕ) (v : PlainUnit) (xs : List PlainJob) → slice_get new k ≡ Some v
@@ -393,31 +394,31 @@ deed_works (Deed.Run x) w m us names b h =
     let new = change (stepped s) x.unit w.units in
     let is = us x.unit u c.unit_there in
     let opened = open_entered u.opening x.entry u.steps is.lawful m.may m.blocked in
-    gets s x.unit w.units new (owner w.workers x.chain.ticket.queue) w.seats w.handed_off c.seat (x ∷ [])
+    gets s x.unit w.units new (owner w.workers x.chain.ticket.queue) w.seats (all_off w) c.seat (x ∷ [])
     (goes s (stepped s) x.unit w.units (λ v. refl)) (λ t. tt) c.seat_there
     ((stepped s u, get_change (stepped s) x.unit w.units u c.unit_there, opened), tt) h
 deed_works (Deed.Park x) w m us names b h =
     let s = Step.Enter x.entry in
-    stays s x.unit w.units (change (parking x) x.unit w.units) w.seats w.handed_off
+    stays s x.unit w.units (change (parking x) x.unit w.units) w.seats (all_off w)
     (goes s (parking x) x.unit w.units (λ v. refl)) (λ t. tt) h
 deed_works (Deed.Full x) w m us names b h =
     let s = Step.Full x.entry.ticket in
-    stays s x.unit w.units (change (stepped s) x.unit w.units) w.seats w.handed_off
+    stays s x.unit w.units (change (stepped s) x.unit w.units) w.seats (all_off w)
     (goes s (stepped s) x.unit w.units (λ v. refl)) (λ t. tt) h
 deed_works (Deed.Put k x) w m us names b h =
     let this : Seat = record { hand = Hand.Free; out = x ∷ m.rest } in
     let was = h.0 k this m.seat in (
       seat_goes w.units (without_first Hand.Free) k w.seats this m.seat (λ z. (tt, z.1.1)) h.0,
-      all_push (ToCommit w.units) w.handed_off (x ∷ []) h.1 (was.1.0, tt),
+      each_put (ToCommit w.units) k w.handed_off x was.1.0 h.1,
     )
 deed_works (Deed.Keep k x) w m us names b h =
     let this : Seat = record { hand = Hand.Free; out = x ∷ m.rest } in
     (seat_goes w.units (without_first (Hand.Taken x)) k w.seats this m.seat (λ z. (z.1.0, z.1.1)) h.0, h.1)
-deed_works (Deed.Take k x) w m us names b h =
+deed_works (Deed.Take k from x) w m us names b h =
     let this : Seat = record { hand = Hand.Free; out = [] } in
-    let off = subst (JobsAt w.units) m.handed_off h.1 in (
+    let off = each_taken (ToCommit w.units) from w.handed_off x m.rest m.handed_off h.1 in (
       seat_goes w.units (with_hand (Hand.Taken x)) k w.seats this m.seat (λ z. (off.0, z.1)) h.0,
-      subst (λ l. JobsAt w.units (drop 1 l)) (sym m.handed_off) off.1,
+      off.1,
     )
 deed_works (Deed.Commit k x r) w m us names b h =
     finishes (Step.Commit x.entry.ticket r) k x (Outcome.Ended (Ending.Replied r)) m.holds.out w m.holds.unit
@@ -453,9 +454,9 @@ deed_works (Deed.Leave k place t jobs) w m us names b h =
     let step = goes s (stepped s) place w.units (λ v. refl) in
     let le = out_once place t w u m.holds.there us b in
     let own = its_own place t in
-    let sp = spares_else s place t k w.seats w.handed_off hand m.holds.out (λ v n. n) m.holds.seat own le in
+    let sp = spares_else s place t k w.seats (all_off w) hand m.holds.out (λ v n. n) m.holds.seat own le in
     let more = given s place w.units u jobs m.holds.there m.may (us place u m.holds.there) names.1 m.enables in
-    ends s place k w.units new w.seats w.handed_off hand m.holds.out (leaving jobs) step m.holds.seat sp
+    ends s place k w.units new w.seats (all_off w) hand m.holds.out (leaving jobs) step m.holds.seat sp
     (λ was out. (tt, all_push (ToCommit new) m.holds.out jobs out more)) h
 deed_works (Deed.Mark t p strike jobs) w m us names b h =
     let s = step_by strike in
@@ -463,13 +464,13 @@ deed_works (Deed.Mark t p strike jobs) w m us names b h =
     let new = change (stepped s) p.unit w.units in
     let at = m.marking.unit_there in
     let more = given s p.unit w.units u jobs at (may_strike strike u) (us p.unit u at) names.1 m.releases in
-    gets s p.unit w.units new 0 w.seats w.handed_off m.seat jobs (goes s (stepped s) p.unit w.units (λ v. refl))
+    gets s p.unit w.units new 0 w.seats (all_off w) m.seat jobs (goes s (stepped s) p.unit w.units (λ v. refl))
     (mild_strike strike) m.seat_there more h
 deed_works (Deed.Hard p jobs) w m us names b h =
     let s = Step.Reset hard_code in
     let new = change (stepped s) p.unit w.units in
     let more = given s p.unit w.units m.unit jobs m.there tt (us p.unit m.unit m.there) names.1 m.releases in
-    gets s p.unit w.units new w.workers w.seats w.handed_off m.seat jobs
+    gets s p.unit w.units new w.workers w.seats (all_off w) m.seat jobs
     (goes s (stepped s) p.unit w.units (λ v. refl)) (λ t. tt) m.seat_there more h
 deed_works d w m us names b h = h
 
@@ -484,7 +485,7 @@ new_works w o = (
   λ k s at.
       let n : IsNewSeat s = o.seats k s at in
       (subst (HandAt w.units) (sym n.hand) tt, subst (JobsAt w.units) (sym n.out) tt),
-  subst (JobsAt w.units) (sym o.handed_off) tt,
+  subst (JobsAt w.units) (sym (none_off w.handed_off o.handed_off)) tt,
 )
 
 pub run_works : (old : PlainWorld) (trace : List Occurrence) (w : PlainWorld) → Opens old → Runs old trace w → Works w
@@ -519,5 +520,5 @@ pub all_work : (w : PlainWorld) → AtWork w → AreAtWork w
 all_work w h =
     record {
       seats = λ k s at. let is = h.0 k s at in (hand_works w s.hand is.0, jobs_work w s.out is.1);
-      handed_off = jobs_work w w.handed_off h.1;
+      handed_off = jobs_work w (all_off w) h.1;
     }

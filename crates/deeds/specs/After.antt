@@ -66,6 +66,11 @@ with_jobs xs s = record { hand = s.hand; out = s.out ++ xs }
 abbrev pub leaving : List PlainJob → Seat → Seat
 leaving xs s = record { hand = Hand.Free; out = s.out ++ xs }
 
+-- A list of the hand-off
+
+abbrev pub with_job : PlainJob → List PlainJob → List PlainJob
+with_job x jobs = jobs ++ x ∷ []
+
 -- The function
 
 abbrev pub on_function : (PlainFunction → PlainFunction) → Option Opened → Option Opened
@@ -141,10 +146,16 @@ after (Deed.Direct c o xs) w =
       memory = all_written w.memory xs;
     }
 after (Deed.Put k x) w =
-    record w { seats = change (without_first Hand.Free) k w.seats; handed_off = w.handed_off ++ x ∷ [] }
+    record w {
+      seats = change (without_first Hand.Free) k w.seats;
+      handed_off = change (with_job x) k w.handed_off;
+    }
 after (Deed.Keep k x) w = record w { seats = change (without_first (Hand.Taken x)) k w.seats }
-after (Deed.Take k x) w =
-    record w { seats = change (with_hand (Hand.Taken x)) k w.seats; handed_off = drop 1 w.handed_off }
+after (Deed.Take k from x) w =
+    record w {
+      seats = change (with_hand (Hand.Taken x)) k w.seats;
+      handed_off = change (drop 1) from w.handed_off;
+    }
 after (Deed.Commit k x r) w =
     record w {
       seats = change (with_hand (Hand.Done x (Outcome.Ended (Ending.Replied r)))) k w.seats;

@@ -12,7 +12,7 @@ use Rattle.task_mgmt.specs.declared.function.Mark.{Mark as Place}
 use Rattle.deeds.specs.Parts.{Outcome, Slot, Hand}
 use Rattle.deeds.specs.World.{PlainQueue, Opened, PlainWorld}
 use Rattle.deeds.specs.Events.{Event}
-use Rattle.deeds.specs.Happens.{QueueIs, UnitIs, SeatIs, IsOpenTo}
+use Rattle.deeds.specs.Happens.{QueueIs, UnitIs, SeatIs, OffIs, IsOpenTo}
 use Rattle.deeds.specs.Phases.{SlotIs, HasHand}
 
 -- a queue whose slot is empty and that no fault broke has something for the device
@@ -29,12 +29,14 @@ pub record MayPut (w : PlainWorld) (k : ℕ) : Type 0 where
   pub rest : List PlainJob
   pub seat : SeatIs w k Hand.Free (job ∷ rest)
 
+-- some list of the hand-off isn't empty
 pub record MayTake (w : PlainWorld) (k : ℕ) : Type 0 where
   pub worker : k < w.workers
   pub seat : SeatIs w k Hand.Free []
+  pub from : ℕ
   pub job : PlainJob
   pub rest : List PlainJob
-  pub handed_off : w.handed_off ≡ job ∷ rest
+  pub handed_off : OffIs w from (job ∷ rest)
 
 -- a function with a unit left
 pub record MayMark (w : PlainWorld) : Type 0 where

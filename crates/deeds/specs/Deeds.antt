@@ -34,10 +34,11 @@ pub data Deed : Type 0 where
   Shed : PlainJob → Deed
   Stall : PlainJob → Deed
   Direct : PlainChain → Outcome → List Write → Deed
-  -- Put: to the hand-off, or where that is full to the own hand
+  -- Put: to the own list of the hand-off, or where that is full to the own hand
   Put : ℕ → PlainJob → Deed
   Keep : ℕ → PlainJob → Deed
-  Take : ℕ → PlainJob → Deed
+  -- Take: by which seat, from which seat's list
+  Take : ℕ → ℕ → PlainJob → Deed
   -- Commit, by seat; that the unit doesn't know the task never happens
   Commit : ℕ → PlainJob → PlainReply → Deed
   Busy : ℕ → PlainJob → Deed
@@ -83,7 +84,7 @@ event_of (Deed.Stall x) = Event.Enter (queue_of_job x)
 event_of (Deed.Direct c o xs) = Event.Direct c.ticket.queue
 event_of (Deed.Put k x) = Event.Put k
 event_of (Deed.Keep k x) = Event.Put k
-event_of (Deed.Take k x) = Event.Take k
+event_of (Deed.Take k from x) = Event.Take k
 event_of (Deed.Commit k x r) = Event.Commit k
 event_of (Deed.Busy k x) = Event.Commit k
 event_of (Deed.Abort k x why) = Event.Commit k

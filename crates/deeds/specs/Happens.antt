@@ -1,5 +1,5 @@
 -- When a deed may happen, the world's step, and what is reached.
-use Rattle.std.specs.Prelude.{ℕ, zero, suc, ◌≡◌, ◌<◌, ◌≤◌, ◌⊎◌, ◌||◌, Bool, true, false, if◌then◌else◌, List, [], ◌∷◌, length, Some, None, slice_get, ⊤}
+use Rattle.std.specs.Prelude.{ℕ, zero, suc, ◌≡◌, ◌<◌, ◌≤◌, ◌⊎◌, ◌||◌, Bool, true, false, IsTrue, if◌then◌else◌, List, [], ◌∷◌, length, Some, None, slice_get, ⊤}
 use Rattle.guest_mem.specs.Memory.{LiesIn}
 use Rattle.scsi_codec.specs.declared.lun.Address.{Address}
 use Rattle.scsi_codec.specs.declared.event_queue.Event.{Event as Report}
@@ -13,6 +13,7 @@ use Rattle.ring_core.specs.Offer.{Offers, Refused, MayLackMemory}
 use Rattle.ring_core.specs.Fetch.{Takes}
 use Rattle.ring_core.specs.declared.fault.RingFault.{RingFault}
 use Rattle.ring_core.specs.declared.log.Ticket.{Ticket}
+use Rattle.cdb.specs.declared.commands.Command.{Command}
 use Rattle.decisions.specs.Decision.{decided}
 use Rattle.decisions.specs.declared.decision.Decision.{Decision}
 use Rattle.decisions.specs.declared.decision.Decision.TheVariants as decision
@@ -22,9 +23,11 @@ use Rattle.history.specs.Tasks.{Entry, is_blocked}
 use Rattle.history.specs.Steps.{Step, alive, is_alive, floor}
 use Rattle.history.specs.Marks.{mark_of}
 use Rattle.history.specs.Clearing.{is_clear}
+use Rattle.history.specs.Contents.{facts_after}
 use Rattle.history.specs.Seen.{any_met}
 use Rattle.history.specs.Lawful as history
 use Rattle.history.specs.Released.{released}
+use Rattle.unit_steps.specs.Performing.{may_run_short}
 use Rattle.task_set.specs.Jobs.{PlainJob, of_tasks}
 use Rattle.task_set.specs.Unit.{PlainUnit}
 use Rattle.task_set.specs.Asking.{IsOf}
@@ -37,7 +40,7 @@ use Rattle.task_mgmt.specs.declared.kind.Kind.TheVariants.{Marking, Asking}
 use Rattle.task_mgmt.specs.declared.kind.Strike.{Strike}
 use Rattle.task_mgmt.specs.declared.function.Mark.{Mark as Place}
 use Rattle.deeds.specs.Parts.{PlainFetch, Outcome, Slot, Hand, lengths_of, request_of, bytes_of, answer_writes, is_short}
-use Rattle.deeds.specs.World.{PlainQueue, Seat, Opened, PlainWorld, Opens, owner}
+use Rattle.deeds.specs.World.{PlainQueue, Seat, Opened, PlainWorld, Opens, IsBefore, owner}
 use Rattle.deeds.specs.Events.{Event}
 use Rattle.deeds.specs.Deeds.{Deed, Action, event_of, action_of}
 use Rattle.deeds.specs.After.{with_chain, hard_code, after}
@@ -51,9 +54,17 @@ UnitIs w place u = slice_get w.units place ≡ Some u
 abbrev pub SeatIs : PlainWorld → ℕ → Hand → List PlainJob → Type 0
 SeatIs w k hand out = slice_get w.seats k ≡ Some (record { hand = hand; out = out })
 
+-- the jobs that a seat handed off and that none took yet
+abbrev pub OffIs : PlainWorld → ℕ → List PlainJob → Type 0
+OffIs w k jobs = slice_get w.handed_off k ≡ Some jobs
+
 -- the step may come next there
 abbrev pub MayStep : PlainUnit → Step → Type 0
 MayStep u s = history.May u.opening s u.steps
+
+-- the command, which runs next there, may be refused memory
+abbrev pub MayYield : PlainUnit → Command → Type 0
+MayYield u command = IsTrue (may_run_short u.keeps_replies (facts_after u.opening u.steps) command)
 
 -- the jobs that a step hands out there
 abbrev pub handed_out : PlainUnit → Step → List PlainJob
@@ -165,18 +176,24 @@ pub record Directs (w : PlainWorld) (c : PlainChain) (o : Outcome) (xs : List Wr
 pub record Puts (w : PlainWorld) (k : ℕ) (x : PlainJob) : Type 0 where
   pub rest : List PlainJob
   pub seat : SeatIs w k Hand.Free (x ∷ rest)
-  pub room : length w.handed_off < w.limit
+  pub off : List PlainJob
+  pub there : OffIs w k off
+  pub room : length off < w.limit
 
 pub record Retains (w : PlainWorld) (k : ℕ) (x : PlainJob) : Type 0 where
   pub rest : List PlainJob
   pub seat : SeatIs w k Hand.Free (x ∷ rest)
-  pub full : w.limit ≤ length w.handed_off
+  pub off : List PlainJob
+  pub there : OffIs w k off
+  pub full : w.limit ≤ length off
 
-pub record TakesJob (w : PlainWorld) (k : ℕ) (x : PlainJob) : Type 0 where
+-- the first job of a list, where each that comes before it is empty
+pub record TakesJob (w : PlainWorld) (k from : ℕ) (x : PlainJob) : Type 0 where
   pub worker : k < w.workers
   pub seat : SeatIs w k Hand.Free []
   pub rest : List PlainJob
-  pub handed_off : w.handed_off ≡ x ∷ rest
+  pub handed_off : OffIs w from (x ∷ rest)
+  pub first : (i : ℕ) (jobs : List PlainJob) → IsBefore k i from → OffIs w i jobs → jobs ≡ []
 
 -- a hand of a seat, and a unit
 pub record Holds (w : PlainWorld) (k : ℕ) (hand : Hand) (place : ℕ) : Type 0 where
@@ -188,6 +205,12 @@ pub record Holds (w : PlainWorld) (k : ℕ) (hand : Hand) (place : ℕ) : Type 0
 pub record Commits (w : PlainWorld) (k : ℕ) (x : PlainJob) (s : Step) : Type 0 where
   pub holds : Holds w k (Hand.Taken x) x.unit
   pub may : MayStep holds.unit s
+
+-- memory was refused, which only a command that may want memory asks for, or the reply that is kept of it
+pub record Yields (w : PlainWorld) (k : ℕ) (x : PlainJob) : Type 0 where
+  pub holds : Holds w k (Hand.Taken x) x.unit
+  pub may : MayStep holds.unit (Step.Busy x.entry.ticket)
+  pub wants : MayYield holds.unit x.entry.command
 
 pub record Aborts (w : PlainWorld) (k : ℕ) (x : PlainJob) (why : Reason) : Type 0 where
   pub holds : Holds w k (Hand.Taken x) x.unit
@@ -302,9 +325,9 @@ Happens (Deed.Stall x) w = ⊥
 Happens (Deed.Direct c o xs) w = Directs w c o xs
 Happens (Deed.Put k x) w = Puts w k x
 Happens (Deed.Keep k x) w = Retains w k x
-Happens (Deed.Take k x) w = TakesJob w k x
+Happens (Deed.Take k from x) w = TakesJob w k from x
 Happens (Deed.Commit k x r) w = Commits w k x (Step.Commit x.entry.ticket r)
-Happens (Deed.Busy k x) w = Commits w k x (Step.Busy x.entry.ticket)
+Happens (Deed.Busy k x) w = Yields w k x
 Happens (Deed.Abort k x why) w = Aborts w k x why
 Happens (Deed.Lose k x) w = ⊥
 Happens (Deed.Answer k x o xs) w = Answers w k x o xs

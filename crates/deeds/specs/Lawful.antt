@@ -27,6 +27,7 @@ pub record KeepsParts (old new : PlainWorld) : Type 0 where
   pub queues : length new.queues ≡ length old.queues
   pub units : length new.units ≡ length old.units
   pub seats : length new.seats ≡ length old.seats
+  pub lists : length new.handed_off ≡ length old.handed_off
 
 -- each write lies in a memory of this size
 abbrev pub LieIn : ℕ → List Write → Type 0

@@ -6,7 +6,7 @@ use Rattle.ring_core.specs.declared.fault.RingFault.{RingFault}
 use Rattle.ring_core.specs.declared.log.Ticket.{Ticket}
 use Rattle.task_set.specs.Jobs.{PlainJob}
 use Rattle.deeds.specs.Parts.{Hand}
-use Rattle.deeds.specs.World.{PlainQueue, Seat, PlainWorld}
+use Rattle.deeds.specs.World.{PlainQueue, Seat, PlainWorld, all_off}
 use Rattle.deeds.specs.Deeds.{Deed}
 use Rattle.deeds.specs.After.{after}
 use Rattle.deeds.specs.Happens.{Occurrence}
@@ -56,7 +56,7 @@ abbrev pub at_seat : (PlainJob → ℕ) → Seat → ℕ
 at_seat p s = in_hand p s.hand + sum_by p s.out
 
 abbrev pub jobs_out : (PlainJob → ℕ) → PlainWorld → ℕ
-jobs_out p w = sum_by (at_seat p) w.seats + sum_by p w.handed_off
+jobs_out p w = sum_by (at_seat p) w.seats + sum_by p (all_off w)
 
 -- the jobs that a deed brings from a unit, or ends
 abbrev pub brings : Deed → List PlainJob

@@ -28,7 +28,7 @@ use Rattle.deeds.specs.Parts.{PlainFetch, Outcome, Slot, Hand, lengths_of, reque
 use Rattle.deeds.specs.World.{PlainQueue, Seat, Opened, PlainWorld, owner}
 use Rattle.deeds.specs.Deeds.{Deed, action_of}
 use Rattle.deeds.specs.After.{with_chain, arriving, taking, broken_by, completing, directing, spending, hard_code}
-use Rattle.deeds.specs.Happens.{MayStep, SeatIs, IsOpenTo, Puts, Retains, TakesJob, Fails, IsWaiting, Misses, DecidesRequest, DecidesControl, IsDirect, spent_bytes, handed_out}
+use Rattle.deeds.specs.Happens.{MayStep, MayYield, SeatIs, IsOpenTo, Puts, Retains, TakesJob, Fails, IsWaiting, Misses, DecidesRequest, DecidesControl, IsDirect, spent_bytes, handed_out}
 
 -- of that number, if there is one
 abbrev pub Under : Option ℕ → (ℕ → Type 0) → Type 0
@@ -61,7 +61,7 @@ AsksUnit (Deed.Full x) u = MayStep u (Step.Full x.entry.ticket)
 AsksUnit (Deed.Shed x) u = floor x.entry.ticket.queue u.steps ≤ x.entry.ticket.number
 AsksUnit (Deed.Stall x) u = x.entry.ticket.number < floor x.entry.ticket.queue u.steps
 AsksUnit (Deed.Commit k x r) u = MayStep u (Step.Commit x.entry.ticket r)
-AsksUnit (Deed.Busy k x) u = MayStep u (Step.Busy x.entry.ticket)
+AsksUnit (Deed.Busy k x) u = MayStep u (Step.Busy x.entry.ticket) × MayYield u x.entry.command
 AsksUnit (Deed.Abort k x why) u =
     (is_alive x.entry.ticket u.steps ≡ true) × (mark_of x.entry.ticket u.steps ≡ Some why)
 AsksUnit (Deed.Lose k x) u = CannotCommit (task_of x.entry.ticket (alive u.steps)) x u.steps
@@ -191,7 +191,7 @@ StandsFor (Deed.Shed x) w =
 StandsFor (Deed.Direct c o xs) w = SlotIs w c.ticket.queue (Slot.Ready c o)
 StandsFor (Deed.Put k x) w = Puts w k x
 StandsFor (Deed.Keep k x) w = Retains w k x
-StandsFor (Deed.Take k x) w = TakesJob w k x
+StandsFor (Deed.Take k from x) w = TakesJob w k from x
 StandsFor (Deed.Commit k x r) w = HasHand w k (Hand.Taken x)
 StandsFor (Deed.Busy k x) w = HasHand w k (Hand.Taken x)
 StandsFor (Deed.Abort k x why) w = HasHand w k (Hand.Taken x)

@@ -1,5 +1,5 @@
 -- What is true of everything that stands somewhere in the device, in every world that is reached.
-use Rattle.std.specs.Prelude.{ℕ, ◌≡◌, ◌<◌, ◌≤◌, ◌+◌, ◌*◌, ◌||◌, true, false, length, Option, Some, None, slice_get, ⊤}
+use Rattle.std.specs.Prelude.{ℕ, ◌≡◌, ◌<◌, ◌≤◌, ◌+◌, ◌*◌, ◌||◌, true, false, List, [], ◌∷◌, length, Option, Some, None, slice_get, ⊤}
 use Rattle.std.specs.List.{AllByRecursion}
 use Rattle.ring_core.specs.State.{PlainChain, Owns}
 use Rattle.ring_core.specs.declared.log.Ticket.{Ticket}
@@ -9,9 +9,12 @@ use Rattle.history.specs.Marks.{marked}
 use Rattle.history.specs.Enabling.{enabled}
 use Rattle.task_set.specs.Jobs.{PlainJob}
 use Rattle.task_set.specs.Unit.{PlainUnit}
+use Rattle.history.specs.declared.rule.Rule.{Rule}
+use Rattle.task_mgmt.specs.declared.kind.Kind.{Kind}
+use Rattle.task_mgmt.specs.declared.kind.Kind.TheVariants.{Marking, Asking}
 use Rattle.task_mgmt.specs.declared.function.Mark.{Mark as Place}
 use Rattle.deeds.specs.Parts.{Slot, Hand}
-use Rattle.deeds.specs.World.{PlainQueue, Opened, PlainWorld, Everywhere}
+use Rattle.deeds.specs.World.{PlainQueue, Opened, PlainWorld, Everywhere, all_off}
 use Rattle.deeds.specs.Happens.{QueueIs, UnitIs}
 
 -- Chains
@@ -48,7 +51,7 @@ pub record AreOwned (w : PlainWorld) : Type 0 where
   pub slots : Everywhere (λ i q. SlotOwns w i q.slot) w.queues
   pub parked : Everywhere (λ i u. AllByRecursion (IsJob w) u.parked) w.units
   pub seats : Everywhere (λ k s. HandOwns w s.hand × AllByRecursion (IsJob w) s.out) w.seats
-  pub handed_off : AllByRecursion (IsJob w) w.handed_off
+  pub handed_off : AllByRecursion (IsJob w) (all_off w)
   pub function : FunctionOwns w w.function
   pub buffers : AllByRecursion (λ (c : PlainChain). (c.ticket.queue ≡ 1) × IsOwned w c) w.buffers
 
@@ -86,7 +89,7 @@ HandWorks w (Hand.Answered place t) = IsToLeave w place t
 -- each job that was handed out is that of a task that is alive
 pub record AreAtWork (w : PlainWorld) : Type 0 where
   pub seats : Everywhere (λ k s. HandWorks w s.hand × AllByRecursion (IsToCommit w) s.out) w.seats
-  pub handed_off : AllByRecursion (IsToCommit w) w.handed_off
+  pub handed_off : AllByRecursion (IsToCommit w) (all_off w)
 
 -- Tickets
 
@@ -117,10 +120,11 @@ AreBehind w = Everywhere (IsBehind w) w.queues
 
 -- Room
 
--- no seat has more jobs than there may be tasks, and no more are handed off than the limit
+-- no seat has more jobs than there may be tasks; each has its list of the hand-off, which has no more than the limit
 pub record HaveRoom (w : PlainWorld) : Type 0 where
   pub seats : Everywhere (λ k s. length s.out ≤ 64 * length w.units) w.seats
-  pub handed_off : length w.handed_off ≤ w.limit
+  pub lists : length w.handed_off ≡ length w.seats
+  pub handed_off : Everywhere (λ k jobs. length jobs ≤ w.limit) w.handed_off
 
 -- The function
 
@@ -130,3 +134,23 @@ FunctionIsThere units None = ⊤
 FunctionIsThere units (Some o) =
     AllByRecursion (λ place. place < units) o.function.left
     × AllByRecursion (λ (p : Place). p.unit < units) o.function.waits
+
+-- a query's checks are of no step
+abbrev pub AreLooks : Kind → List Place → Type 0
+AreLooks (Marking m) waits = ⊤
+AreLooks (Asking rule) waits = AllByRecursion (λ (p : Place). p.place ≡ 0) waits
+
+abbrev pub LooksAreFree : Option Opened → Type 0
+LooksAreFree None = ⊤
+LooksAreFree (Some o) = AreLooks o.function.kind o.function.waits
+
+-- the open function is a query that has looked at all its units, and has not checked all of them
+pub record IsToCheck (w : PlainWorld) : Type 0 where
+  pub opened : Opened
+  pub there : w.function ≡ Some opened
+  pub rule : Rule
+  pub asks : opened.function.kind ≡ Asking rule
+  pub left : opened.function.left ≡ []
+  pub mark : Place
+  pub later : List Place
+  pub waits : opened.function.waits ≡ mark ∷ later

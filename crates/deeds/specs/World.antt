@@ -1,5 +1,5 @@
 -- The device as a plain value: memory, queues, units, seats, the hand-off, one function, the event port.
-use Rattle.std.specs.Prelude.{ℕ, Bool, false, zero, suc, ◌≡◌, ◌-◌, ◌%◌, ◌+◌, ◌≤◌, List, [], ◌∷◌, length, Option, Some, None, slice_get}
+use Rattle.std.specs.Prelude.{ℕ, Bool, false, zero, suc, ◌≡◌, ◌-◌, ◌%◌, ◌+◌, ◌<◌, ◌≤◌, ◌⊎◌, List, [], ◌∷◌, ◌++◌, length, Option, Some, None, slice_get}
 use Rattle.scsi_codec.specs.declared.lun.Address.{Address}
 use Rattle.scsi_codec.specs.declared.event_queue.Event.{Event as Report}
 use Rattle.ring_core.specs.State.{RingState, PlainChain}
@@ -34,8 +34,8 @@ pub record PlainWorld : Type 0 where
   pub units : List PlainUnit
   pub seats : List Seat
   pub workers : ℕ
-  -- the jobs between seats, and how many there may be
-  pub handed_off : List PlainJob
+  -- for each seat the jobs that it handed off and that none took yet, and how many these may be
+  pub handed_off : List (List PlainJob)
   pub limit : ℕ
   pub function : Option Opened
   -- event buffers that are held, and whether an event was missed since the last one
@@ -53,6 +53,19 @@ change f (suc k) (x ∷ xs) = x ∷ change f k xs
 -- each item, with its number
 abbrev pub Everywhere : {X : Type 0} → (ℕ → X → Type 0) → List X → Type 0
 Everywhere P xs = (i : ℕ) (x : _) → slice_get xs i ≡ Some x → P i x
+
+-- the jobs of lists, one list after the other; all jobs that are handed off
+abbrev pub all_of : List (List PlainJob) → List PlainJob
+all_of [] = []
+all_of (jobs ∷ lists) = jobs ++ all_of lists
+
+abbrev pub all_off : PlainWorld → List PlainJob
+all_off w = all_of w.handed_off
+
+-- own: whoever takes for a seat looks at its own list first, then at those of the next seats by rising number, and so
+-- round to the beginning: on the way from the list k, the list i comes before the list j
+abbrev pub IsBefore : ℕ → ℕ → ℕ → Type 0
+IsBefore k i j = ((k ≤ i) × ((i < j) ⊎ (j < k))) ⊎ ((i < j) × (j < k))
 
 -- the seat that serves a request queue
 abbrev pub owner : ℕ → ℕ → ℕ
@@ -82,7 +95,8 @@ pub record Opens (w : PlainWorld) : Type 0 where
   pub seats : Everywhere (λ i s. IsNewSeat s) w.seats
   pub working : 1 ≤ w.workers
   pub seated : length w.seats ≡ w.workers + 1
-  pub handed_off : w.handed_off ≡ []
+  pub handed_off : Everywhere (λ k jobs. jobs ≡ []) w.handed_off
+  pub lists : length w.handed_off ≡ length w.seats
   pub function : w.function ≡ None
   pub buffers : w.buffers ≡ []
   pub missed : w.missed ≡ false

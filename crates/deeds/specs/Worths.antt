@@ -6,7 +6,7 @@ use Rattle.history.specs.Steps.{Step}
 use Rattle.history.specs.Worths.{alive_worth}
 use Rattle.task_set.specs.Unit.{PlainUnit}
 use Rattle.deeds.specs.Parts.{Slot, Hand}
-use Rattle.deeds.specs.World.{PlainQueue, Seat, PlainWorld}
+use Rattle.deeds.specs.World.{PlainQueue, Seat, PlainWorld, all_off}
 use Rattle.deeds.specs.Deeds.{Deed}
 use Rattle.deeds.specs.After.{bit}
 use Rattle.deeds.specs.Places.{of_chain, of_job, of_function, at_unit, accepted_worth, used_worth, only, accepts, uses as of_used}
@@ -45,7 +45,7 @@ in_seat f s = in_hand f s.hand + sum_by (of_job f.kept) s.out
 abbrev pub held : Worths → PlainWorld → ℕ
 held f w =
     sum_by (in_queue f) w.queues + sum_by (at_unit f.kept) w.units + sum_by (in_seat f) w.seats
-    + sum_by (of_job f.off) w.handed_off + of_function f.opened w.function + sum_by (of_chain f.port) w.buffers
+    + sum_by (of_job f.off) (all_off w) + of_function f.opened w.function + sum_by (of_chain f.port) w.buffers
 
 -- what comes to stand somewhere by a deed; what a unit hands out counts as it did there
 abbrev pub takes : Worths → Deed → ℕ
@@ -60,7 +60,7 @@ takes f (Deed.Shed x) = f.direct x.chain.ticket
 takes f (Deed.Stall x) = f.direct x.chain.ticket
 takes f (Deed.Put k x) = f.off x.chain.ticket
 takes f (Deed.Keep k x) = f.taken x.chain.ticket
-takes f (Deed.Take k x) = f.taken x.chain.ticket
+takes f (Deed.Take k from x) = f.taken x.chain.ticket
 takes f (Deed.Commit k x r) = f.done x.chain.ticket
 takes f (Deed.Busy k x) = f.done x.chain.ticket
 takes f (Deed.Abort k x why) = f.done x.chain.ticket
@@ -78,7 +78,7 @@ gives f (Deed.Stall x) = f.arrived x.chain.ticket
 gives f (Deed.Direct c o xs) = f.direct c.ticket
 gives f (Deed.Put k x) = f.kept x.chain.ticket
 gives f (Deed.Keep k x) = f.kept x.chain.ticket
-gives f (Deed.Take k x) = f.off x.chain.ticket
+gives f (Deed.Take k from x) = f.off x.chain.ticket
 gives f (Deed.Commit k x r) = f.taken x.chain.ticket
 gives f (Deed.Busy k x) = f.taken x.chain.ticket
 gives f (Deed.Abort k x why) = f.taken x.chain.ticket

@@ -44,6 +44,7 @@ ghost use Rattle.deeds.specs.Standing.{
   AreBehind,
   HaveRoom,
   FunctionIsThere,
+  IsToCheck,
 };
 ghost use Rattle.deeds.specs.Applies.{Applies};
 ghost use Rattle.deeds.specs.Turns.{Turns, IsStep};
@@ -142,7 +143,7 @@ pub fn logs_are_numbered()
     ensures { (old : PlainWorld) (trace : List Occurrence) (w : PlainWorld) → Reached old trace w → AreNumbered w }
 {}
 
-/// The units, with their addresses, the queues, the seats and the room of the hand-off are in every world that is
+/// The units, with their addresses, the queues, the seats and the lists of the hand-off, with their room, are in every world that is
 /// reached those that the device opened with, and memory is as long, where the writes of the trace lie in it.
 pub fn parts_stay()
     ensures parts { (old : PlainWorld) (trace : List Occurrence) (w : PlainWorld) → Reached old trace w →
@@ -183,8 +184,8 @@ pub fn tickets_rise()
     ensures { (old : PlainWorld) (trace : List Occurrence) (w : PlainWorld) → Reached old trace w → AreBehind w }
 {}
 
-/// In every world that is reached no seat has more jobs than the units' task sets have places, and the hand-off has no
-/// more than its room.
+/// In every world that is reached no seat has more jobs than the units' task sets have places, and of the jobs that a
+/// seat handed off no more wait than there is room for.
 pub fn lists_have_room()
     ensures { (old : PlainWorld) (trace : List Occurrence) (w : PlainWorld) → Reached old trace w → HaveRoom w }
 {}
@@ -194,6 +195,13 @@ pub fn lists_have_room()
 pub fn functions_find_their_units()
     ensures { (old : PlainWorld) (trace : List Occurrence) (w : PlainWorld) → Reached old trace w →
         FunctionIsThere (length w.units) w.function }
+{}
+
+/// In every world that is reached a query that has looked at all its units checks the next one at once, whatever is alive
+/// there and whatever came to stand there since.
+pub fn queries_are_checked_at_once()
+    ensures { (old : PlainWorld) (trace : List Occurrence) (w : PlainWorld) → Reached old trace w → IsToCheck w →
+        Applies w AnEvent.Check }
 {}
 
 /// Where a deed happens, its event applies; so an event that doesn't apply may do nothing.

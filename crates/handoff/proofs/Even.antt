@@ -1,14 +1,15 @@
 -- What was put is what was taken and what is left.
-use Rattle.std.proofs.Common.{◌≡◌, ◌≢◌, ℕ, ◌+◌, ◌<◌, ◌≤◌, true, false, eqb, List, [], ◌∷◌, length, refl, ap, subst, arith, ne_eqb, ⊎_elim}
+use Rattle.std.proofs.Common.{◌≡◌, ◌≢◌, ℕ, ◌+◌, ◌<◌, ◌≤◌, true, false, eqb, Some, suc, List, [], ◌∷◌, length, refl, sym, ap, ◌∙◌, arith, ne_eqb, ⊎_elim}
 use Rattle.std.proofs.lemmas.Bool.Decides.{eqb_tells}
-use Rattle.std.proofs.lemmas.List.{length-map}
 use Rattle.std.proofs.lemmas.List.Sums.{sum_by-cons, sum_by-append}
-use Rattle.std.specs.Prelude.{◌==◌, if◌then◌else◌}
+use Rattle.std.proofs.lemmas.Option.{slice_get_within}
+use Rattle.std.specs.Prelude.{◌==◌, if◌then◌else◌, slice_get}
 use Rattle.std.specs.List.{sum_by, filter}
 use Rattle.task_set.specs.Jobs.{PlainJob}
 use Rattle.history.specs.Tasks.{same_ticket}
-use Rattle.handoff.specs.Moves.{Move, Moves, jobs_of, jobs_by, is_by, IsBelow, AllFit, HandedOver}
-use Rattle.handoff.specs.Seats.{Hub, PlainSeat, AreSeatsFrom, account_of, accounts_of, all_put, all_taken, IsEven, IsEvenByTicket}
+use Rattle.handoff.specs.Moves.{Move, jobs_of, jobs_by, is_by, IsBelow}
+use Rattle.handoff.specs.Seats.{Hub, PlainSeat, AreSeatsFrom, HandedOver, all_put, all_taken, all_left, IsEven, IsEvenByTicket, AreGathered}
+use Rattle.handoff.proofs.Gathering.{AreBelow}
 
 -- the moves of these seats, weighed
 of_all : (PlainJob → ℕ) → List Move → List PlainSeat → ℕ
@@ -63,37 +64,95 @@ all_moves worth hub ss (m ∷ ms) a b =
     let c = sum_by-cons worth m.job (jobs_of ms) in
     omega (arith, e, r, t, c)
 
-put_is : (worth : PlainJob → ℕ) (all : Moves) (ss : List PlainSeat) → AllFit all (accounts_of ss) → sum_by worth (all_put ss) ≡ of_all worth all.gone ss + of_all worth all.left ss
-unfolding of_all
-put_is worth all [] f = refl
-put_is worth all (s ∷ ss) f =
-    let r = put_is worth all ss f.1 in
-    let w = sum_by-append worth (jobs_by s.number all.gone) (jobs_by s.number all.left) in
-    let e = ap (sum_by worth) f.0.put in
-    let t = sum_by-append worth s.put (all_put ss) in
-    omega (arith, r, w, e, t)
+-- what these seats took from the queue of one, weighed
+from_one : (PlainJob → ℕ) → ℕ → List PlainSeat → ℕ
+from_one worth q [] = 0
+from_one worth q (s ∷ ss) = sum_by worth (jobs_by q s.taken) + from_one worth q ss
 
-taken_is : (worth : PlainJob → ℕ) (all : Moves) (ss : List PlainSeat) → AllFit all (accounts_of ss) → sum_by worth (all_taken ss) ≡ of_all worth all.takes ss
-unfolding of_all
-taken_is worth all [] f = refl
-taken_is worth all (s ∷ ss) f =
-    let r = taken_is worth all ss f.1 in
-    let e = ap (sum_by worth) f.0.taken in
-    let t = sum_by-append worth s.taken (all_taken ss) in
-    omega (arith, r, e, t)
+-- and from the queues of several
+from_each : (PlainJob → ℕ) → List PlainSeat → List PlainSeat → ℕ
+from_each worth [] ss = 0
+from_each worth (t ∷ ts) ss = from_one worth t.number ss + from_each worth ts ss
 
-pub even : (hub : Hub) (ss : List PlainSeat) (items : List PlainJob) → AreSeatsFrom hub 0 ss → HandedOver (accounts_of ss) items → IsEven ss items
-even hub ss items a k worth =
-    let n : length (accounts_of ss) ≡ length ss = length-map ss account_of in
-    let put = put_is worth k.all ss k.each in
-    let taken = taken_is worth k.all ss k.each in
-    let gone = all_moves worth hub ss k.all.gone a (subst (λ w. IsBelow w k.all.gone) n k.theirs.gone) in
-    let left = all_moves worth hub ss k.all.left a (subst (λ w. IsBelow w k.all.left) n k.theirs.left) in
-    let takes = all_moves worth hub ss k.all.takes a (subst (λ w. IsBelow w k.all.takes) n k.theirs.takes) in
-    let went = ap (sum_by worth) k.order.went in
-    let stands = ap (sum_by worth) k.order.stands in
-    omega (arith, put, taken, gone, left, takes, went, stands)
+-- added up by the seats that took it is the same
+one_more : (worth : PlainJob → ℕ) (ts : List PlainSeat) (s : PlainSeat) (ss : List PlainSeat)
+    → from_each worth ts (s ∷ ss) ≡ of_all worth s.taken ts + from_each worth ts ss
+unfolding from_each from_one of_all
+one_more worth [] s ss = refl
+one_more worth (t ∷ ts) s ss = let a = one_more worth ts s ss in omega (arith, a)
+
+none_took : (worth : PlainJob → ℕ) (ts : List PlainSeat) → from_each worth ts [] ≡ 0
+unfolding from_each from_one
+none_took worth [] = refl
+none_took worth (t ∷ ts) = let a = none_took worth ts in omega (arith, a)
+
+taken_is : (worth : PlainJob → ℕ) (hub : Hub) (all ss : List PlainSeat) → AreSeatsFrom hub 0 all → AreBelow (length all) ss
+    → from_each worth all ss ≡ sum_by worth (all_taken ss)
+taken_is worth hub all [] a b = none_took worth all
+taken_is worth hub all (s ∷ ss) a b =
+    let r = taken_is worth hub all ss a b.1 in
+    let e = all_moves worth hub all s.taken a b.0 in
+    let t = one_more worth all s ss in
+    let w = sum_by-append worth (jobs_of s.taken) (all_taken ss) in
+    omega (arith, r, e, t, w)
+
+-- what these seats took from a queue are its takes
+takes_are : (worth : PlainJob → ℕ) (q n : ℕ) (ms : List Move) (ss : List PlainSeat) (hub : Hub) → AreSeatsFrom hub n ss
+    → ((k : ℕ) (s : PlainSeat) → slice_get ss k ≡ Some s → jobs_by q s.taken ≡ jobs_by (n + k) ms)
+    → from_one worth q ss ≡ of_all worth ms ss
+unfolding from_one of_all
+takes_are worth q n ms [] hub a each = refl
+takes_are worth q n ms (s ∷ ss) hub a each =
+    let here : jobs_by q s.taken ≡ jobs_by s.number ms =
+    each 0 s refl ∙ ap (λ k. jobs_by k ms) (omega (arith, a.1)) in
+    let r = takes_are worth q (n + 1) ms ss hub a.2 (λ k t at.
+    each (suc k) t at ∙ ap (λ j. jobs_by j ms) (omega arith)) in
+    let e = ap (sum_by worth) here in
+    omega (arith, r, e)
+
+plus : (k : ℕ) → 0 + k ≡ k
+plus k = omega arith
+
+module _ (hub : Hub) (all : List PlainSeat) (a : AreSeatsFrom hub 0 all) (left : ℕ → List PlainJob)
+    (h : (q : ℕ) → q < length all → HandedOver all q (left q)) (worth : PlainJob → ℕ) where
+  -- what one seat put
+  one_put : (q : ℕ) (s : PlainSeat) → slice_get all q ≡ Some s
+      → sum_by worth s.put ≡ from_one worth q all + sum_by worth (left q)
+  one_put q s at =
+      let k = h q (slice_get_within all q s at) in
+      let e = ap (sum_by worth) (k.put s at) in
+      let p = sum_by-append worth (jobs_of k.takes) (left q) in
+      let t = takes_are worth q 0 k.takes all hub a (λ j t there.
+      k.each j t there ∙ ap (λ (n : ℕ). jobs_by n k.takes) (sym (plus j))) in
+      let m = all_moves worth hub all k.takes a k.theirs in
+      omega (arith, e, p, t, m)
+
+  put_is : (n : ℕ) (ss : List PlainSeat) → AreSeatsFrom hub n ss
+      → ((k : ℕ) (s : PlainSeat) → slice_get ss k ≡ Some s → slice_get all (n + k) ≡ Some s)
+      → sum_by worth (all_put ss) ≡ from_each worth ss all + sum_by worth (all_left left ss)
+  unfolding from_each
+  put_is n [] b part = refl
+  put_is n (s ∷ ss) b part =
+      let at : slice_get all s.number ≡ Some s = ap (slice_get all) (omega (arith, b.1)) ∙ part 0 s refl in
+      let o = one_put s.number s at in
+      let r = put_is (n + 1) ss b.2 (λ k t there. ap (slice_get all) (omega arith) ∙ part (suc k) t there) in
+      let p = sum_by-append worth s.put (all_put ss) in
+      let l = sum_by-append worth (left s.number) (all_left left ss) in
+      omega (arith, o, r, p, l)
+
+pub even : (hub : Hub) (all : List PlainSeat) (left : ℕ → List PlainJob) → AreSeatsFrom hub 0 all
+    → AreBelow (length all) all → ((q : ℕ) → q < length all → HandedOver all q (left q)) → IsEven all (all_left left all)
+even hub all left a b h worth =
+    let p = put_is hub all a left h worth 0 all a (λ k s at. ap (λ (n : ℕ). slice_get all n) (plus k) ∙ at) in
+    let t = taken_is worth hub all all a b in
+    omega (arith, p, t)
 
 -- counting the jobs of a ticket is weighing them
-pub even_by_ticket : (ss : List PlainSeat) (items : List PlainJob) → IsEven ss items → IsEvenByTicket ss items
+even_by_ticket : (ss : List PlainSeat) (items : List PlainJob) → IsEven ss items → IsEvenByTicket ss items
 even_by_ticket ss items e ticket = e (λ j. if same_ticket ticket j.chain.ticket then 1 else 0)
+
+pub gathered : (hub : Hub) (all : List PlainSeat) (left : ℕ → List PlainJob) → AreSeatsFrom hub 0 all
+    → AreBelow (length all) all → ((q : ℕ) → q < length all → HandedOver all q (left q)) → AreGathered all left
+gathered hub all left a b h =
+    let e = even hub all left a b h in
+    record { each = h; even = e; by_ticket = even_by_ticket all (all_left left all) e }

@@ -8,9 +8,8 @@ use Rattle.crossbeam_queue.proofs.Lists.{at_set}
 use Rattle.task_set.specs.Jobs.{PlainJob}
 use Rattle.handoff.specs.declared.rule.Account.{Account}
 use Rattle.handoff.specs.declared.rule.View.{View}
-use Rattle.handoff.specs.Moves.{Move, move, Moves, jobs_of, jobs_by, IsInOrder, IsBelow, AreBelow, account, Fits, AllFit, Balances, HandedOver}
+use Rattle.handoff.specs.Moves.{Move, move, Moves, jobs_of, jobs_by, IsInOrder, IsBelow, AreBelow, account, Fits, AllFit, Balances, AreSettled}
 use Rattle.handoff.specs.Rule.{AreWith, IsRight, Agree, opening, one_more, newcomer, joined, spent, after_put, after_take}
-use Rattle.handoff.specs.Seats.{PlainSeat, pass_view, BalancesFor}
 use Rattle.handoff.proofs.Moves.{jobs_of_append, jobs_by_append, jobs_by_own, jobs_by_other, jobs_by_none, below_append, all_below_more, front, at_end}
 
 abbrev EachView : (ℕ → View → Type 0) → List View → Type 0
@@ -23,10 +22,10 @@ each_set F views pass w mine others j u e = ⊎_elim (λ (x : (j ≡ pass) × (w
     (λ (x : (j ≢ pass) × (get_elem? views j ≡ some u)). others j u x.0 x.1) (at_set views pass j w u e)
 
 -- a move that is added to a list is one's own, or another's
-own_grows : (seat : ℕ) (moves : List Move) (job : PlainJob) → jobs_by seat (moves ++ move seat job ∷ []) ≡ jobs_by seat moves ++ job ∷ []
+pub own_grows : (seat : ℕ) (moves : List Move) (job : PlainJob) → jobs_by seat (moves ++ move seat job ∷ []) ≡ jobs_by seat moves ++ job ∷ []
 own_grows seat moves job = jobs_by_append seat moves (move seat job ∷ []) ∙ ap (λ l. jobs_by seat moves ++ l) (jobs_by_own seat job)
 
-other_stays : (seat mover : ℕ) (moves : List Move) (job : PlainJob) → mover ≢ seat → jobs_by seat (moves ++ move mover job ∷ []) ≡ jobs_by seat moves
+pub other_stays : (seat mover : ℕ) (moves : List Move) (job : PlainJob) → mover ≢ seat → jobs_by seat (moves ++ move mover job ∷ []) ≡ jobs_by seat moves
 other_stays seat mover moves job ne =
     jobs_by_append seat moves (move mover job ∷ []) ∙ ap (λ l. jobs_by seat moves ++ l) (jobs_by_other seat mover job ne) ∙ append_nil (jobs_by seat moves)
 
@@ -164,10 +163,6 @@ takes pass v a is job items views k at =
 pub learns : (pass : ℕ) (v : View) → Learns Agree pass v (λ items. Balances v.accounts items)
 learns pass v items views k at = record { all = k.all; order = k.order; each = (k.right pass v at).2 }
 
--- the same, of a seat
-pub stands_for : (v : View) (s : PlainSeat) (items : List PlainJob) → v ≡ pass_view s → Balances v.accounts items → BalancesFor s items
-stands_for v s items is k = subst (λ (w : View). Balances w.accounts items) is k
-
 pub begins : Agree [] (opening ∷ [])
 begins =
     let all : Moves = record { gone = []; left = []; takes = [] } in record {
@@ -285,7 +280,7 @@ merges pass v other w lead items views k at two at' =
       right = each_set F vs other spent ((λ c. absurd (true≢false (sym c))), tt, tt) (λ j u n e. now j u e n);
     }
 
-pub settles : (pass : ℕ) (v : View) → v.is_chief ≡ true → v.made ≡ length v.accounts → Learns Agree pass v (λ items. HandedOver v.accounts items)
+pub settles : (pass : ℕ) (v : View) → v.is_chief ≡ true → v.made ≡ length v.accounts → Learns Agree pass v (λ items. AreSettled v.accounts items)
 settles pass v lead full items views k at =
     let here = k.right pass v at in
     let made : k.made ≡ length v.accounts = sym (here.0 lead).1 ∙ full in

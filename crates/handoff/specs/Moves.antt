@@ -1,6 +1,6 @@
--- What all seats of a hand-off put and took, and what each of them knows of it.
--- All puts, by all seats, stand in one order: those that are gone, then those that are left, which the queue holds.
--- What is gone was taken, in that order.
+-- What all seats put into one queue and took from it, and what each of them knows of it.
+-- All puts stand in one order: those that are gone, then those that are left, which the queue holds. What is gone was
+-- taken, in that order.
 use Rattle.std.specs.Prelude.{◌≡◌, ℕ, ◌<◌, ◌==◌, ◌++◌, Bool, List, [], ◌∷◌, map, length, ⊤}
 use Rattle.std.specs.List.{filter}
 use Rattle.task_set.specs.Jobs.{PlainJob}
@@ -65,7 +65,7 @@ pub record Balances (accounts : List Account) (items : List PlainJob) : Type 0 w
   pub each : AllFit all accounts
 
 -- own: the same where no seat is missing, so that each move is one of theirs
-pub record HandedOver (accounts : List Account) (items : List PlainJob) : Type 0 where
+pub record AreSettled (accounts : List Account) (items : List PlainJob) : Type 0 where
   pub all : Moves
   pub order : IsInOrder all items
   pub theirs : AreBelow (length accounts) all

@@ -1,4 +1,4 @@
--- The rule that holds of the queue and of what every pass knows, after each put and each take.
+-- The rule that holds of a queue and of what every pass of it knows, after each put and each take.
 use Rattle.std.specs.Prelude.{◌≡◌, ℕ, ◌+◌, ◌<◌, true, false, List, [], ◌∷◌, ◌++◌, ⊤}
 use mathlib.Core.Option.{some}
 use lib.ListN.{get_elem?}

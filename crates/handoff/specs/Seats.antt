@@ -1,45 +1,49 @@
 -- What callers see of a hand-off and of its seats.
-use Rattle.std.specs.Prelude.{◌≡◌, ℕ, ◌+◌, ◌==◌, if◌then◌else◌, List, [], ◌∷◌, ◌++◌, map, length, ⊤}
+use Rattle.std.specs.Prelude.{◌≡◌, ℕ, ◌+◌, ◌<◌, ◌≤◌, ◌==◌, ◌⊎◌, if◌then◌else◌, List, [], ◌∷◌, ◌++◌, Option, None, Some, map, length, slice_get, ⊤}
 use Rattle.std.specs.List.{sum_by, count_by, flat_map}
 use Rattle.atomic_table.specs.Seated.{TableId}
+use Rattle.crossbeam_queue.specs.Fifo.{Held}
 use Rattle.ring_core.specs.declared.log.Ticket.{Ticket}
 use Rattle.history.specs.Tasks.{same_ticket}
 use Rattle.task_set.specs.Jobs.{PlainJob}
 use Rattle.handoff.specs.declared.rule.Account.{Account}
 use Rattle.handoff.specs.declared.rule.View.{View}
-use Rattle.handoff.specs.Moves.{account, Balances}
+use Rattle.handoff.specs.declared.seat.Taken.{Taken}
+use Rattle.handoff.specs.Moves.{Move, move, jobs_of, jobs_by, IsBelow, account, Balances}
+use Rattle.handoff.specs.Places.{PlainPlace}
 
--- own: which queue, how many jobs it holds at most, and how many seats there are
+-- own: which queues, one for each seat, how many jobs each holds at most, and how many seats there are
 pub record Hub : Type 0 where
-  pub queue : TableId
+  pub queues : List TableId
   pub capacity : ℕ
   pub seats : ℕ
 
--- own: a seat: at which queue, which one of how many, and the jobs that it put and took, in order
+-- own: a seat: at which queues, which one of how many, the jobs that it put into its own queue, and those that it took,
+-- each with the seat whose queue it stood in, in order
 pub record PlainSeat : Type 0 where
-  pub queue : TableId
+  pub queues : List TableId
   pub number : ℕ
   pub seats : ℕ
   pub put : List PlainJob
-  pub taken : List PlainJob
+  pub taken : List Move
 
 -- own: the seat is one of this hand-off
 pub record IsSeatOf (h : Hub) (s : PlainSeat) : Type 0 where
-  pub queue : s.queue ≡ h.queue
+  pub queues : s.queues ≡ h.queues
   pub seats : s.seats ≡ h.seats
 
 -- own: it is the same seat, whatever it put and took
 pub record IsSameSeat (old new : PlainSeat) : Type 0 where
-  pub queue : new.queue ≡ old.queue
+  pub queues : new.queues ≡ old.queues
   pub number : new.number ≡ old.number
   pub seats : new.seats ≡ old.seats
 
--- own: the seat once it put a job, and once it took one
+-- own: the seat once it put a job, and once it took one from the queue of a seat
 abbrev pub putting : PlainSeat → PlainJob → PlainSeat
 putting s job = record s { put = s.put ++ job ∷ [] }
 
-abbrev pub taking : PlainSeat → PlainJob → PlainSeat
-taking s job = record s { taken = s.taken ++ job ∷ [] }
+abbrev pub taking : ℕ → PlainSeat → PlainJob → PlainSeat
+taking from s job = record s { taken = s.taken ++ move from job ∷ [] }
 
 -- own: seats of a hand-off, in order, from a number on; all of them
 abbrev pub AreSeatsFrom : Hub → ℕ → List PlainSeat → Type 0
@@ -55,23 +59,57 @@ abbrev pub AreNew : List PlainSeat → Type 0
 AreNew [] = ⊤
 AreNew (s ∷ seats) = (s.put ≡ []) × (s.taken ≡ []) × AreNew seats
 
--- own: what a seat put and took, and what several did
-abbrev pub account_of : PlainSeat → Account
-account_of s = account s.number s.put s.taken
+-- What one seat knows of a queue
 
-abbrev pub accounts_of : List PlainSeat → List Account
-accounts_of seats = map account_of seats
+-- own: what it put into the queue of a seat, which is nothing but where that is its own, and what it took from there
+abbrev pub put_at : ℕ → PlainSeat → List PlainJob
+put_at q s = if q == s.number then s.put else []
 
--- own: what one seat knows of the queue: of its puts a beginning is gone, and the rest stand there, in order
-abbrev pub BalancesFor : PlainSeat → List PlainJob → Type 0
-BalancesFor s items = Balances (account_of s ∷ []) items
+abbrev pub taken_at : ℕ → PlainSeat → List PlainJob
+taken_at q s = jobs_by q s.taken
 
--- own: the jobs that some seats put, and those that they took
+abbrev pub account_at : ℕ → PlainSeat → Account
+account_at q s = account s.number (put_at q s) (taken_at q s)
+
+-- own: what it knows of what a queue holds: of its puts there a beginning is gone, and the rest stand there, in order
+abbrev pub BalancesAt : ℕ → PlainSeat → List PlainJob → Type 0
+BalancesAt q s items = Balances (account_at q s ∷ []) items
+
+-- own: the queue of a seat was empty at some moment
+abbrev pub WasEmpty : PlainSeat → ℕ → Type 0
+WasEmpty s q = Held 0 (BalancesAt q s)
+
+-- own: whoever takes looks into its own queue first, then into those of the next seats by rising number, and so round to
+-- the beginning: on the way of the seat k, the queue i comes before the queue j
+abbrev pub IsBefore : ℕ → ℕ → ℕ → Type 0
+IsBefore k i j = ((k ≤ i) × ((i < j) ⊎ (j < k))) ⊎ ((i < j) × (j < k))
+
+-- own: a job was taken from one queue, and each that comes before it was empty at some moment
+pub record TakesNearest (old new : PlainSeat) (job : PlainJob) : Type 0 where
+  pub from : ℕ
+  pub there : from < old.seats
+  pub taken : new ≡ taking from old job
+  pub first : (q : ℕ) → q < old.seats → IsBefore old.number q from → WasEmpty old q
+
+-- What all seats know
+
+-- own: what became of the jobs that the seat q put: those that are gone are a beginning of them, and were taken in that
+-- order; the rest stand in its own queue, in order. Of what each seat took, what it took from there is its part
+pub record HandedOver (seats : List PlainSeat) (q : ℕ) (left : List PlainJob) : Type 0 where
+  pub takes : List Move
+  pub put : (s : PlainSeat) → slice_get seats q ≡ Some s → s.put ≡ jobs_of takes ++ left
+  pub theirs : IsBelow (length seats) takes
+  pub each : (k : ℕ) (s : PlainSeat) → slice_get seats k ≡ Some s → taken_at q s ≡ jobs_by k takes
+
+-- own: the jobs that some seats put, those that they took, and those that are left in their queues
 abbrev pub all_put : List PlainSeat → List PlainJob
 all_put seats = flat_map (λ s. s.put) seats
 
 abbrev pub all_taken : List PlainSeat → List PlainJob
-all_taken seats = flat_map (λ s. s.taken) seats
+all_taken seats = flat_map (λ s. jobs_of s.taken) seats
+
+abbrev pub all_left : (ℕ → List PlainJob) → List PlainSeat → List PlainJob
+all_left left seats = flat_map (λ s. left s.number) seats
 
 -- own: each job was put as often as it was taken or is left. However jobs are weighed, those that were put weigh what
 -- was taken and what is left do: with 1 for one job and 0 for the others, how often it was
@@ -88,15 +126,45 @@ abbrev pub IsEvenByTicket : List PlainSeat → List PlainJob → Type 0
 IsEvenByTicket seats items =
     (ticket : Ticket) → times ticket (all_put seats) ≡ times ticket (all_taken seats) + times ticket items
 
--- own: what the pass of a seat knows: the seat's account, and of the first one how many seats were made
-abbrev pub pass_view : PlainSeat → View
-pass_view s =
-    record { accounts = account_of s ∷ []; is_chief = s.number == 0; made = if s.number == 0 then s.seats else 0 }
+-- own: with what is left in the queue of each seat
+pub record AreGathered (seats : List PlainSeat) (left : ℕ → List PlainJob) : Type 0 where
+  pub each : (q : ℕ) → q < length seats → HandedOver seats q (left q)
+  pub even : IsEven seats (all_left left seats)
+  pub by_ticket : IsEvenByTicket seats (all_left left seats)
+
+-- What a seat has, whose places stand in the order of the queues
+
+abbrev pub move_of : Taken → Move
+move_of t = move t.from t.job.value
 
 abbrev pub first_put : List Account → List PlainJob
 first_put [] = []
 first_put (a ∷ accounts) = a.put
 
-abbrev pub first_taken : List Account → List PlainJob
-first_taken [] = []
-first_taken (a ∷ accounts) = a.taken
+abbrev pub put_there : Option PlainPlace → List PlainJob
+put_there None = []
+put_there (Some p) = first_put p.knows.accounts
+
+abbrev pub seat_of : ℕ → List PlainPlace → List Taken → PlainSeat
+seat_of number places taken =
+    record {
+      queues = map (λ p. p.queue) places;
+      number = number;
+      seats = length places;
+      put = put_there (slice_get places number);
+      taken = map move_of taken;
+    }
+
+-- own: what the place of a seat at a queue knows: the account there, and of the first seat how many there are
+abbrev pub view_at : ℕ → PlainSeat → View
+view_at q s =
+    record {
+      accounts = account_at q s ∷ [];
+      is_chief = s.number == 0;
+      made = if s.number == 0 then s.seats else 0;
+    }
+
+pub record IsSeated (s : PlainSeat) (places : List PlainPlace) : Type 0 where
+  pub number : s.number < s.seats
+  pub below : IsBelow s.seats s.taken
+  pub each : (q : ℕ) (p : PlainPlace) → slice_get places q ≡ Some p → p.knows ≡ view_at q s

@@ -1,45 +1,87 @@
-//! The queue itself, with the calls of its seats.
+//! The queues themselves, with the calls of their seats.
 
-use crate::rule::{All, InOrder, Puts, Seats, Takes, View};
-use crate::seat::Seat;
+use crate::lane::{Lane, Place};
+use crate::seat::{Seat, Taken};
 use block_store::NoMemory;
-use crossbeam_queue::RuledArrayQueue;
+use record::Record;
 use std::alloc::Global;
 use std::marker::Model;
+use std::snapshot::Snapshot;
 use std::sync::Wait;
 use unit_history::Job;
 
-/// A bounded queue of jobs, first in, first out, which several threads share: each has a `Seat`, by which it puts and
-/// takes. No other call reaches the queue. Clauses see which queue it is, its capacity, and how many seats it has.
+/// Bounded queues of jobs, each first in, first out, one for each seat, which several threads share: each has a `Seat`,
+/// by which it puts into its own queue and takes from all. No other call reaches the queues. Clauses see which queues
+/// these are, the capacity of each, and how many seats there are.
 #[derive(Drop)]
 pub struct Handoff {
-    queue: RuledArrayQueue<Job, View, InOrder>,
-    seats: usize,
+    lanes: Vec<Lane>,
+    capacity: usize,
 }
 
 impl Model for Handoff {
-    ghost use Rattle.crossbeam_queue.specs.Passes.{ruled_capacity};
     ghost use Rattle.handoff.specs.Seats.{Hub};
+    ghost use Rattle.handoff.specs.Lanes.{hub_of, HaveCapacity};
 
     ghost Value = { Hub };
 
-    ghost view = { λ h. record {
-      queue = h.queue.table.shared.table_id;
-      capacity = ruled_capacity h.queue;
-      seats = h.seats;
-    } };
+    ghost view = { λ h. hub_of h.capacity h.lanes.items };
+
+    ghost invariant = { λ h. HaveCapacity h.capacity h.lanes.items };
+}
+
+ghost use Rattle.std.specs.Prelude.{◌≡◌, ◌+◌, ◌<◌, ◌≤◌, length, IfOk};
+ghost use Rattle.handoff.specs.Rule.{newcomer};
+ghost use Rattle.handoff.specs.Lanes.{HaveCapacity, at_each, lead};
+
+/// So many empty queues, each of this capacity, and the chief of each.
+fn open(alloc: Global, capacity: usize, count: usize) -> Result<(Vec<Lane>, Vec<Place>), NoMemory>
+    requires { 0 < capacity }
+    ensures capacity { IfOk result (λ r. HaveCapacity capacity r.0.items) }
+    ensures count { IfOk result (λ r. length r.0.items ≡ count) }
+    ensures chiefs { IfOk result (λ r. r.1.items ≡ at_each (lead 1) r.0.items) }
+{
+    let mut lanes = Vec::with_capacity(alloc, count)?;
+    let mut chiefs = Vec::with_capacity(alloc, count)?;
+    for _number in 0..count {
+        let (lane, chief) = Lane::new(alloc, capacity)?;
+        lanes.push_reserved(lane);
+        chiefs.push_reserved(chief);
+    }
+    Ok((lanes, chiefs))
+}
+
+/// The places of one more seat, which the chiefs make.
+fn another(
+    alloc: Global,
+    lanes: &[Lane],
+    chiefs: &mut Vec<Place>,
+    number: usize,
+) -> Result<Vec<Place>, NoMemory>
+    requires chiefs { chiefs.old.items ≡ at_each (lead number) lanes.now }
+    ensures chiefs { IfOk result (λ _. chiefs.new.items ≡ at_each (lead (number + 1)) lanes.now) }
+    ensures places { IfOk result (λ places. places.items ≡ at_each (newcomer (lead number)) lanes.now) }
+{
+    let mut places = Vec::with_capacity(alloc, lanes.len())?;
+    for at in 0..lanes.len() {
+        places.push_reserved(lanes[at].another(&mut chiefs[at]));
+    }
+    Ok(places)
 }
 
 impl Handoff {
-    ghost use Rattle.std.specs.Prelude.{◌≡◌, ◌<◌, OnOk, OnErr, IfOk, IfErr, IfSome, IfNone, List};
+    ghost use Rattle.std.specs.Prelude.{ℕ, Some, slice_get, true, OnOk, OnErr, IfErr, IfSome, IfNone, List};
     ghost use Rattle.crossbeam_queue.specs.Fifo.{Held};
     ghost use Rattle.task_set.specs.Jobs.{PlainJob};
-    ghost use Rattle.handoff.specs.Moves.{HandedOver};
-    ghost use Rattle.handoff.specs.Seats.{IsSeatOf, IsSameSeat, AreAllSeats, AreNew, putting, taking, BalancesFor, accounts_of, IsEven, IsEvenByTicket};
+    ghost use Rattle.handoff.specs.Moves.{AreSettled};
+    ghost use Rattle.handoff.specs.Rule.{joined};
+    ghost use Rattle.handoff.specs.Places.{PlainPlace, knowing};
+    ghost use Rattle.handoff.specs.Lanes.{AreAt, AreChiefs, KnowAll, TakesBetween};
+    ghost use Rattle.handoff.specs.Seats.{IsSeatOf, IsSameSeat, AreAllSeats, AreNew, putting, taking, BalancesAt, WasEmpty, TakesNearest, AreGathered};
 
-    /// An empty hand-off that holds at most `capacity` jobs, 1 to 4,096, and all its seats, 2 to 9, in order: seat 0
-    /// stands first. Who starts the device calls it once; only this call takes memory, and `NoMemory` says that some
-    /// was refused.
+    /// An empty hand-off with a queue for each seat, each of which holds at most `capacity` jobs, 1 to 4,096, and all
+    /// its seats, 2 to 9, in order: seat 0 stands first. Who starts the device calls it once; only this call takes
+    /// memory, and `NoMemory` says that some was refused.
     pub fn new(
         alloc: Global,
         capacity: usize,
@@ -52,68 +94,137 @@ impl Handoff {
         ensures new { IfOk result (λ r. AreNew r.1.items) }
     {
         let mut all = Vec::with_capacity(alloc, seats)?;
-        let (queue, mut chief) = RuledArrayQueue::ruled(alloc, capacity)?;
+        let (lanes, mut chiefs) = open(alloc, capacity, seats)?;
         for number in 1..seats {
-            let pass = queue.another::<Seats>(&mut chief);
+            let places = another(alloc, lanes.as_slice(), &mut chiefs, number)?;
             all.push_reserved(Seat {
-                pass,
+                places,
                 number,
-                seats,
+                taken: Record::new(),
             });
         }
         let first = Seat {
-            pass: chief,
+            places: chiefs,
             number: 0,
-            seats,
+            taken: Record::new(),
         };
         let Ok(()) = all.insert(0, first) else {
             unreachable!() // room was made for all
         };
-        Ok((Handoff { queue, seats }, all))
+        Ok((Handoff { lanes, capacity }, all))
     }
 
-    /// Puts a job behind the others, by a seat of this hand-off. Whoever has the seat calls it, as a worker with a job
-    /// that may run. It may wait for other threads that are in the middle of a call, and takes no memory. `Err` gives
-    /// the job back, and is answered only where the queue was full at a moment of the call.
+    /// Puts a job behind the others in the own queue of a seat of this hand-off. Whoever has the seat calls it, as a
+    /// worker with a job that may run. It may wait for other threads that are in the middle of a call, and takes no
+    /// memory. `Err` gives the job back, and is answered only where that queue was full at a moment of the call.
     pub fn put<R: Wait>(&self, rt: &R, seat: &mut Seat, job: Job) -> Result<(), Job>
         requires { IsSeatOf self.now seat.old }
         ensures seat { IsSameSeat seat.old seat.new }
         ensures put { OnOk result (seat.new ≡ putting seat.old job) }
         ensures back { IfErr result (λ back. back ≡ job) }
         ensures unchanged { OnErr result (seat.new ≡ seat.old) }
-        ensures full { OnErr result (Held self.now.capacity (BalancesFor seat.old)) }
+        ensures full { OnErr result (Held self.now.capacity (BalancesAt seat.old.number seat.old)) }
     {
-        self.queue.push_as::<Puts, R>(rt, &mut seat.pass, job)
+        let own = seat.number;
+        self.lanes[own].put(rt, &mut seat.places[own], job)
     }
 
-    /// Takes the job that has stood longest, by a seat of this hand-off. Whoever has the seat calls it, as a worker
-    /// whose hand is free. It may wait for other threads that are in the middle of a call, and takes no memory. `None`
-    /// is answered only where the queue was empty at a moment of the call.
+    /// Takes the job that has stood longest in the queue of a seat.
+    fn take_from<R: Wait>(&self, rt: &R, seat: &mut Seat, from: usize) -> Option<Job>
+        requires seat { IsSeatOf self.now seat.old }
+        requires there { from < self.now.seats }
+        ensures seat { IsSameSeat seat.old seat.new }
+        ensures taken { IfSome result (λ job. seat.new ≡ taking from seat.old job) }
+        ensures unchanged { IfNone result (seat.new ≡ seat.old) }
+        ensures empty { IfNone result (WasEmpty seat.old from) }
+    {
+        let Some(job) = self.lanes[from].take(rt, &mut seat.places[from]) else {
+            return None;
+        };
+        seat.taken.push(&Taken {
+            from,
+            job: Snapshot::of(&job),
+        });
+        Some(job)
+    }
+
+    /// Takes a job from the first that isn't empty of the queues from one number on, short of another.
+    fn take_between<R: Wait>(&self, rt: &R, seat: &mut Seat, from: usize, to: usize) -> Option<Job>
+        requires seat { IsSeatOf self.now seat.old }
+        requires there { (from ≤ to) × (to ≤ self.now.seats) }
+        ensures seat { IsSameSeat seat.old seat.new }
+        ensures taken { IfSome result (λ job. TakesBetween from to seat.old seat.new job) }
+        ensures unchanged { IfNone result (seat.new ≡ seat.old) }
+        ensures empty { IfNone result ((q : ℕ) → from ≤ q → q < to → WasEmpty seat.old q) }
+    {
+        for at in from..to {
+            if let Some(job) = self.take_from(rt, seat, at) {
+                return Some(job);
+            }
+        }
+        None
+    }
+
+    /// Takes the job that has stood longest in the first queue that isn't empty, by a seat of this hand-off: its own
+    /// comes first, then those of the next seats by rising number, and so round to the beginning. Whoever has the seat
+    /// calls it, as a worker whose hand is free. It may wait for other threads that are in the middle of a call, and
+    /// takes no memory. `None` is answered only where each queue was empty at a moment of the call, not all at one.
     pub fn take<R: Wait>(&self, rt: &R, seat: &mut Seat) -> Option<Job>
         requires { IsSeatOf self.now seat.old }
         ensures seat { IsSameSeat seat.old seat.new }
-        ensures taken { IfSome result (λ job. seat.new ≡ taking seat.old job) }
+        ensures taken { IfSome result (λ job. TakesNearest seat.old seat.new job) }
         ensures unchanged { IfNone result (seat.new ≡ seat.old) }
-        ensures empty { IfNone result (Held 0 (BalancesFor seat.old)) }
+        ensures empty { IfNone result ((q : ℕ) → q < self.now.seats → WasEmpty seat.old q) }
     {
-        self.queue.pop_as::<Takes, R>(rt, &mut seat.pass)
+        let own = seat.number;
+        if let Some(job) = self.take_between(rt, seat, own, self.lanes.len()) {
+            return Some(job);
+        }
+        self.take_between(rt, seat, 0, own)
+    }
+
+    /// The chiefs take in the places of a seat.
+    fn absorb(&self, chiefs: &mut Vec<Place>, places: Vec<Place>)
+        requires chiefs { AreAt self.now chiefs.old.items × AreChiefs chiefs.old.items }
+        requires places { AreAt self.now places.items }
+        ensures at { AreAt self.now chiefs.new.items }
+        ensures joined { (q : ℕ) (c p : PlainPlace) → slice_get chiefs.old.items q ≡ Some c → slice_get places.items q ≡ Some p
+            → slice_get chiefs.new.items q ≡ Some (knowing (joined c.knows p.knows) c) }
+    {
+        let mut at = 0;
+        for place in places {
+            self.lanes[at].absorb(&mut chiefs[at], place);
+            at += 1;
+        }
+    }
+
+    /// The chiefs, which have all accounts, learn the whole.
+    fn learn(&self, chiefs: Vec<Place>)
+        requires chiefs { AreAt self.now chiefs.items × AreChiefs chiefs.items }
+        requires all { KnowAll chiefs.items }
+        ensures { (left : ℕ → List PlainJob) × ((q : ℕ) (c : PlainPlace) → slice_get chiefs.items q ≡ Some c → AreSettled c.knows.accounts (left q)) }
+    {
+        let mut at = 0;
+        for chief in chiefs {
+            self.lanes[at].learn(chief);
+            at += 1;
+        }
     }
 
     /// Takes back all seats of this hand-off, in order, and answers nothing: what they put and took is known then, and
-    /// that the queue still holds the rest.
+    /// that the queue of each still holds the rest of what it put.
     pub fn gather(&self, seats: Vec<Seat>)
         requires { AreAllSeats self.now seats.items }
-        ensures { (left : List PlainJob) × HandedOver (accounts_of seats.items) left
-            × IsEven seats.items left × IsEvenByTicket seats.items left }
+        ensures { (left : ℕ → List PlainJob) × AreGathered seats.items left }
     {
         let mut seats = seats.into_iter();
         let Some(first) = seats.next() else {
             return;
         };
-        let mut chief = first.pass;
+        let mut chiefs = first.places;
         for seat in seats {
-            self.queue.absorb::<Seats>(&mut chief, seat.pass);
+            self.absorb(&mut chiefs, seat.places);
         }
-        self.queue.learn_as::<All>(&mut chief);
+        self.learn(chiefs);
     }
 }

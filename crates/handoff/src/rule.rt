@@ -1,17 +1,17 @@
-//! The rule of the queue, and what each of its steps tells.
+//! The rule of a queue, and what each of its steps tells.
 
 use crossbeam_queue::protocol::{Join, Lesson, Outcome, Protocol, Split};
 use std::collections::LinkedList;
 use unit_history::Job;
 
-/// What one seat put and took, in order. Only proofs speak of it: no value of it is made.
+/// What one seat put into a queue and took from it, in order. Only proofs speak of it: no value of it is made.
 pub(crate) struct Account {
     pub seat: u64,
     pub put: LinkedList<Job>,
     pub taken: LinkedList<Job>,
 }
 
-/// What one pass of the queue knows: the accounts that it has and, where it is the chief, how many seats were
+/// What one pass of a queue knows: the accounts that it has and, where it is the chief, how many seats were
 /// made. Only proofs speak of it: no value of it is made.
 pub(crate) struct View {
     pub accounts: LinkedList<Account>,
@@ -85,7 +85,7 @@ impl Lesson<Job, View> for Takes {
 pub(crate) struct All;
 
 impl Lesson<Job, View> for All {
-    ghost use Rattle.handoff.specs.Moves.{HandedOver};
+    ghost use Rattle.handoff.specs.Moves.{AreSettled};
 
-    ghost fact = { λ v items. HandedOver v.accounts items };
+    ghost fact = { λ v items. AreSettled v.accounts items };
 }

@@ -9,7 +9,7 @@ use Rattle.history.specs.Steps.{Step}
 use Rattle.history.specs.Clearing.{AreGone}
 use Rattle.history.proofs.Clearing.{clear_gone}
 use Rattle.task_set.specs.Jobs.{PlainJob}
-use Rattle.task_mgmt.specs.Functions.{PlainFunction, step_by, marking, asking, failing, checking}
+use Rattle.task_mgmt.specs.Functions.{PlainFunction, step_by, marking, next_look, asking, failing, checking}
 use Rattle.task_mgmt.specs.declared.control.ControlDecision.TheVariants as managed
 use Rattle.task_mgmt.specs.declared.kind.Kind.{Kind}
 use Rattle.task_mgmt.specs.declared.kind.Kind.TheVariants.{Marking, Asking}
@@ -281,6 +281,11 @@ never_both : (kind : Kind) → IsAsking kind → IsMarking kind → ⊥
 never_both (Marking m) a b = a
 never_both (Asking rule) a b = b
 
+listed_push : (p q : Place) (ps : List Place) → Listed p ps → Listed p (ps ++ q ∷ [])
+listed_push p q [] h = absurd h
+listed_push p q (x ∷ ps) (inl e) = inl e
+listed_push p q (x ∷ ps) (inr h) = inr (listed_push p q ps h)
+
 functions_ask : (old : PlainWorld) (t : Ticket) (place : ℕ) (rule : Rule) (b : Bool) (ds : List Deed) (w : PlainWorld)
     → Asks w t place rule b → FunctionsSay old ds w.function
     → FunctionsSay old (Deed.Ask t place rule b ∷ ds) (on_function (asking b) w.function)
@@ -303,7 +308,10 @@ functions_ask old t place rule b ds w m s =
           ]) was.visits;
       waits = λ p told. elim told [
         | inl q ↦ absurd q
-        | inr q ↦ waits_on d ds f.waits p (s.marks u p q).1 (was.waits p q)
+        | inr q ↦ elim (waits_on d ds f.waits p (s.marks u p q).1 (was.waits p q)) [
+          | inl i ↦ inl (listed_push p (next_look f) f.waits i)
+          | inr i ↦ inr i
+        ]
       ];
       found = found_now u t place rule b f.found ds (sym g.of) was.found;
       failed = told_same (IsFail u) d ds f.refused (λ q. q) was.failed;
@@ -320,11 +328,6 @@ functions_ask old t place rule b ds w m s =
       ];
       fails = told_fetched_on IsFail d ds (λ v q. q) s.fails;
     }
-
-listed_push : (p q : Place) (ps : List Place) → Listed p ps → Listed p (ps ++ q ∷ [])
-listed_push p q [] h = absurd h
-listed_push p q (x ∷ ps) (inl e) = inl e
-listed_push p q (x ∷ ps) (inr h) = inr (listed_push p q ps h)
 
 listed_last : (p q : Place) (ps : List Place) → q ≡ p → Listed p (ps ++ q ∷ [])
 listed_last p q [] e = inl e

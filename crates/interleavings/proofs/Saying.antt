@@ -13,7 +13,7 @@ use Rattle.task_set.specs.Jobs.{PlainJob, is_job_of}
 use Rattle.task_set.specs.Unit.{PlainUnit, after as stepped, parking}
 use Rattle.task_mgmt.specs.Functions.{step_by}
 use Rattle.deeds.specs.Parts.{PlainFetch, Outcome, Slot, Hand, request_of}
-use Rattle.deeds.specs.World.{PlainQueue, Seat, PlainWorld, Opens, change, owner, Everywhere}
+use Rattle.deeds.specs.World.{PlainQueue, Seat, PlainWorld, Opens, change, owner, Everywhere, all_off}
 use Rattle.deeds.specs.Deeds.{Deed}
 use Rattle.deeds.specs.After.{hard_code, arriving, taking, slotted, broken_by, completing, directing, spending, with_hand, without_first, with_jobs, leaving, after}
 use Rattle.deeds.specs.Happens.{May, DecidesRequest, IsDirect, handed_out}
@@ -23,6 +23,7 @@ use Rattle.deeds.proofs.Named.{all_filter, all_push}
 use Rattle.interleavings.specs.Happened.{Happened, IsFetch, IsEnter, IsFull, IsShed, IsCommit, IsBusy, IsAbort, IsLoss}
 use Rattle.interleavings.specs.Histories.{at_place, pushed, history_of, IsToldOf}
 use Rattle.interleavings.specs.Entering.{IsJobOf, IsSent}
+use Rattle.deeds.proofs.Off.{each_put, each_taken, none_off}
 
 abbrev Each : {X : Type 0} → (X → Type 0) → List X → Type 0
 Each P xs = AllByRecursion P xs
@@ -90,7 +91,7 @@ Units old ds us = Everywhere (UnitSays old ds) us
 pub record Says (old : PlainWorld) (ds : List Deed) (w : PlainWorld) : Type 0 where
   pub slots : Slots old.inventory ds w.queues
   pub seats : Seats ds w.seats
-  pub handed_off : Each (JobSays ds) w.handed_off
+  pub handed_off : Each (JobSays ds) (all_off w)
   pub units : Units old ds w.units
 
 -- What was said before is still said
@@ -246,14 +247,14 @@ sent_there units ds w x q i at e h = subst (SlotSays units ds) e (h i q at)
 
 -- the slots alone
 queues_alone : (old : PlainWorld) (d : Deed) (ds : List Deed) (w v : PlainWorld) → v.seats ≡ w.seats
-    → v.handed_off ≡ w.handed_off → v.units ≡ w.units
+    → all_off v ≡ all_off w → v.units ≡ w.units
     → ((place : ℕ) → history_of place (d ∷ ds) ≡ history_of place ds) → Slots old.inventory (d ∷ ds) v.queues
     → Says old ds w → Says old (d ∷ ds) v
 queues_alone old d ds w v a b c e q h =
     record {
       slots = q;
       seats = subst (λ z. Seats (d ∷ ds) z) (sym a) (old_seats d ds w.seats h.seats);
-      handed_off = subst (λ z. Each (JobSays (d ∷ ds)) z) (sym b) (older_jobs w.handed_off d ds h.handed_off);
+      handed_off = subst (λ z. Each (JobSays (d ∷ ds)) z) (sym b) (older_jobs (all_off w) d ds h.handed_off);
       units = subst (λ z. Units old (d ∷ ds) z) (sym c) (old_units old d ds w.units e h.units);
     }
 
@@ -301,7 +302,7 @@ says_deed old (Deed.Run x) ds w e n m h =
     record {
       slots = new_slots old.inventory d ds (slotted Slot.Empty) q w.queues Slot.Empty (λ z. refl) tt h.slots;
       seats = added d ds (x ∷ []) (owner w.workers q) w.seats (inl refl, tt) h.seats;
-      handed_off = older_jobs w.handed_off d ds h.handed_off;
+      handed_off = older_jobs (all_off w) d ds h.handed_off;
       units = steps old d ds (Step.Enter x.entry) x.unit w.units (λ i. refl) h.units;
     }
 says_deed old (Deed.Park x) ds w e n m h =
@@ -310,7 +311,7 @@ says_deed old (Deed.Park x) ds w e n m h =
     record {
       slots = new_slots old.inventory d ds (slotted Slot.Empty) q w.queues Slot.Empty (λ z. refl) tt h.slots;
       seats = old_seats d ds w.seats h.seats;
-      handed_off = older_jobs w.handed_off d ds h.handed_off;
+      handed_off = older_jobs (all_off w) d ds h.handed_off;
       units = steps_on old d ds (parking x) (Step.Enter x.entry) x.unit w.units (λ u. refl) (λ u. refl)
           (λ u p. all_push (JobSays (d ∷ ds)) u.parked (x ∷ []) p (inl refl, tt)) (λ i. refl) h.units;
     }
@@ -324,7 +325,7 @@ says_deed old (Deed.Full x) ds w e n m h =
     record {
       slots = new_slots i d ds (slotted s) q w.queues s (λ z. refl) (x, refl, sent, inl refl) h.slots;
       seats = old_seats d ds w.seats h.seats;
-      handed_off = older_jobs w.handed_off d ds h.handed_off;
+      handed_off = older_jobs (all_off w) d ds h.handed_off;
       units = steps old d ds (Step.Full x.entry.ticket) x.unit w.units (λ k. refl) h.units;
     }
 says_deed old (Deed.Shed x) ds w e n m h =
@@ -347,8 +348,7 @@ says_deed old (Deed.Put k x) ds w e n m h =
     record {
       slots = old_slots old.inventory d ds w.queues h.slots;
       seats = dropped d ds Hand.Free k w.seats tt h.seats;
-      handed_off = all_push (JobSays (d ∷ ds)) w.handed_off (x ∷ []) (older_jobs w.handed_off d ds h.handed_off)
-          (inr at.1.0, tt);
+      handed_off = each_put (JobSays (d ∷ ds)) k w.handed_off x (inr at.1.0) (older_jobs (all_off w) d ds h.handed_off);
       units = old_units old d ds w.units (λ i. refl) h.units;
     }
 says_deed old (Deed.Keep k x) ds w e n m h =
@@ -357,16 +357,16 @@ says_deed old (Deed.Keep k x) ds w e n m h =
     record {
       slots = old_slots old.inventory d ds w.queues h.slots;
       seats = dropped d ds (Hand.Taken x) k w.seats (inr at.1.0) h.seats;
-      handed_off = older_jobs w.handed_off d ds h.handed_off;
+      handed_off = older_jobs (all_off w) d ds h.handed_off;
       units = old_units old d ds w.units (λ i. refl) h.units;
     }
-says_deed old (Deed.Take k x) ds w e n m h =
-    let d = Deed.Take k x in
-    let at = subst (Each (JobSays ds)) m.handed_off h.handed_off in
+says_deed old (Deed.Take k from x) ds w e n m h =
+    let d = Deed.Take k from x in
+    let at = each_taken (JobSays (d ∷ ds)) from w.handed_off x m.rest m.handed_off (older_jobs (all_off w) d ds h.handed_off) in
     record {
       slots = old_slots old.inventory d ds w.queues h.slots;
-      seats = handed d ds (Hand.Taken x) k w.seats (inr at.0) h.seats;
-      handed_off = each_rest (JobSays (d ∷ ds)) w.handed_off (older_jobs w.handed_off d ds h.handed_off);
+      seats = handed d ds (Hand.Taken x) k w.seats at.0 h.seats;
+      handed_off = at.1;
       units = old_units old d ds w.units (λ i. refl) h.units;
     }
 says_deed old (Deed.Commit k x r) ds w e n m h =
@@ -376,7 +376,7 @@ says_deed old (Deed.Commit k x r) ds w e n m h =
     record {
       slots = old_slots old.inventory d ds w.queues h.slots;
       seats = handed d ds new k w.seats (inr at.0, inl (refl, refl)) h.seats;
-      handed_off = older_jobs w.handed_off d ds h.handed_off;
+      handed_off = older_jobs (all_off w) d ds h.handed_off;
       units = steps old d ds (Step.Commit x.entry.ticket r) x.unit w.units (λ i. refl) h.units;
     }
 says_deed old (Deed.Busy k x) ds w e n m h =
@@ -386,7 +386,7 @@ says_deed old (Deed.Busy k x) ds w e n m h =
     record {
       slots = old_slots old.inventory d ds w.queues h.slots;
       seats = handed d ds new k w.seats (inr at.0, inl refl) h.seats;
-      handed_off = older_jobs w.handed_off d ds h.handed_off;
+      handed_off = older_jobs (all_off w) d ds h.handed_off;
       units = steps old d ds (Step.Busy x.entry.ticket) x.unit w.units (λ i. refl) h.units;
     }
 says_deed old (Deed.Abort k x why) ds w e n m h =
@@ -396,7 +396,7 @@ says_deed old (Deed.Abort k x why) ds w e n m h =
     record {
       slots = old_slots old.inventory d ds w.queues h.slots;
       seats = handed d ds new k w.seats (inr at.0, inl (refl, refl)) h.seats;
-      handed_off = older_jobs w.handed_off d ds h.handed_off;
+      handed_off = older_jobs (all_off w) d ds h.handed_off;
       units = old_units old d ds w.units (λ i. refl) h.units;
     }
 says_deed old (Deed.Answer k x o xs) ds w e n m h =
@@ -405,7 +405,7 @@ says_deed old (Deed.Answer k x o xs) ds w e n m h =
     record {
       slots = kept_slots old.inventory d ds g x.chain.ticket.queue w.queues (λ z. refl) h.slots;
       seats = handed d ds (Hand.Answered x.unit x.chain.ticket) k w.seats tt h.seats;
-      handed_off = older_jobs w.handed_off d ds h.handed_off;
+      handed_off = older_jobs (all_off w) d ds h.handed_off;
       units = old_units old d ds w.units (λ i. refl) h.units;
     }
 says_deed old (Deed.Leave k place t jobs) ds w e n m h =
@@ -415,7 +415,7 @@ says_deed old (Deed.Leave k place t jobs) ds w e n m h =
     record {
       slots = old_slots old.inventory d ds w.queues h.slots;
       seats = left_with d ds jobs k w.seats new h.seats;
-      handed_off = older_jobs w.handed_off d ds h.handed_off;
+      handed_off = older_jobs (all_off w) d ds h.handed_off;
       units = steps old d ds s place w.units (λ i. refl) h.units;
     }
 says_deed old (Deed.Mark t p strike jobs) ds w e n m h =
@@ -425,7 +425,7 @@ says_deed old (Deed.Mark t p strike jobs) ds w e n m h =
     record {
       slots = old_slots old.inventory d ds w.queues h.slots;
       seats = added d ds jobs 0 w.seats new h.seats;
-      handed_off = older_jobs w.handed_off d ds h.handed_off;
+      handed_off = older_jobs (all_off w) d ds h.handed_off;
       units = steps old d ds s p.unit w.units (λ i. refl) h.units;
     }
 says_deed old (Deed.Respond c r xs) ds w e n m h =
@@ -440,7 +440,7 @@ says_deed old (Deed.Hard p jobs) ds w e n m h =
     record {
       slots = old_slots old.inventory d ds w.queues h.slots;
       seats = added d ds jobs w.workers w.seats new h.seats;
-      handed_off = older_jobs w.handed_off d ds h.handed_off;
+      handed_off = older_jobs (all_off w) d ds h.handed_off;
       units = steps old d ds s p.unit w.units (λ i. refl) h.units;
     }
 says_deed old (Deed.Give r c xs) ds w e n m h =
@@ -461,7 +461,7 @@ says_new old o =
       seats = λ i s at.
           let n = o.seats i s at in
           (subst (HandSays []) (sym n.hand) tt, subst (Each (JobSays [])) (sym n.out) tt);
-      handed_off = subst (Each (JobSays [])) (sym o.handed_off) tt;
+      handed_off = subst (Each (JobSays [])) (sym (none_off old.handed_off o.handed_off)) tt;
       units = λ i u at.
           let n = o.units i u at in
           let none = subst (Each (JobSays [])) (sym n.parked) tt in

@@ -4,6 +4,7 @@ use Rattle.std.specs.Prelude.{is_some}
 use Rattle.history.specs.Endings.{Ending}
 use Rattle.history.specs.Contents.{reply_after}
 use Rattle.task_set.specs.Jobs.{PlainJob}
+use Rattle.task_set.specs.Asking.{Asked}
 use Rattle.task_set.specs.Unit.{PlainUnit}
 use Rattle.unit_history.specs.Calls.{Commits}
 use Rattle.unit_history.specs.Endings.{ending_of, ending_of_reply}
@@ -11,6 +12,7 @@ use Rattle.unit_history.specs.declared.answers.Outcome as outcome_type
 use Rattle.unit_history.specs.declared.answers.Outcome.TheVariants as outcome
 use Rattle.deeds.specs.Parts.{Outcome, Hand}
 use Rattle.deeds.specs.Deeds.{Deed}
+use Rattle.deeds.specs.Happens.{MayYield}
 use Rattle.phases.specs.Doing.{DoesUnit}
 use Rattle.phases.specs.Outcomes.{PlainHeld}
 use Rattle.phases.specs.Parts.{held_hand}
@@ -31,7 +33,9 @@ committed k x u v (outcome.Reply receipt) (e, of, ready, is, step) =
 committed k x u v (outcome.Aborted why) (e, of, mark, same) =
     (Deed.Abort k x why, (refl, refl), record { asks = (ap is_some of.is_there, mark); is = same }, refl)
 committed k x u v outcome.Busy (e, of, want, step) =
-    (Deed.Busy k x, (refl, refl), record { asks = step.may; is = step.is }, refl)
+    let asked = ap (λ (a : Asked). a.command) of.as_asked in
+    let wants = subst (λ command. MayYield u command) asked want in
+    (Deed.Busy k x, (refl, refl), record { asks = (step.may, wants); is = step.is }, refl)
 committed k x u v outcome.Unknown (cannot, same) =
     (Deed.Lose k x, (refl, refl), record { asks = cannot; is = same }, refl)
 

@@ -1,5 +1,5 @@
 -- How long a device may settle.
-use Rattle.std.proofs.Common.{◌≡◌, ℕ, ◌+◌, ◌*◌, ◌≤◌, List, [], ◌∷◌, length, Option, Some, None, refl, arith, zero, suc}
+use Rattle.std.proofs.Common.{◌≡◌, ℕ, Bool, ◌+◌, ◌*◌, ◌≤◌, List, [], ◌∷◌, length, Option, Some, None, refl, arith, zero, suc}
 use Rattle.std.specs.List.{sum_by, AllByRecursion}
 use Rattle.std.proofs.lemmas.List.Sums.{sum_by-cons}
 use Rattle.ring_core.specs.declared.fault.RingFault.{RingFault}
@@ -7,7 +7,7 @@ use Rattle.ring_core.specs.declared.log.Ticket.{Ticket}
 use Rattle.task_set.specs.Jobs.{PlainJob}
 use Rattle.task_set.specs.Unit.{PlainUnit}
 use Rattle.deeds.specs.Parts.{Slot, Hand}
-use Rattle.deeds.specs.World.{PlainQueue, Seat, Opened, PlainWorld, Everywhere}
+use Rattle.deeds.specs.World.{PlainQueue, Seat, Opened, PlainWorld, Everywhere, all_off}
 use Rattle.deeds.specs.Deeds.{Deed, event_of}
 use Rattle.deeds.specs.Happens.{Happens, Occurrence, Reached, world_of}
 use Rattle.deeds.specs.Laws.{in_hand as job_in_hand, at_seat}
@@ -18,9 +18,10 @@ use Rattle.deeds.proofs.Turning.{may}
 use Rattle.deeds.proofs.Places.{moves, nothing_counts, balanced}
 use Rattle.deeds.proofs.Owning.{owned}
 use Rattle.settling.specs.Measure.{owed, price, price_at, visits, if_whole, whole, measure, pays, if_answered, answered_hand}
-use Rattle.settling.specs.Settling.{Settles, visited, IsShort}
+use Rattle.std.specs.Prelude.{⊤}
+use Rattle.settling.specs.Settling.{Settles, SettlesOf, visited, IsShort}
 use Rattle.settling.specs.Waking.{IsOwn}
-use Rattle.settling.proofs.Choosing.{own_next}
+use Rattle.settling.proofs.Choosing.{own_next, own_next_of}
 use Rattle.settling.proofs.Lowers.{lowers}
 
 -- What is owed is at most the price of each chain, and 1 for an answered task
@@ -99,7 +100,7 @@ held_owed w h =
     let c = at_most (in_seat owed) (at_seat (of_job price)) answered_hand w.seats (λ k s at.
     let o = h.seats k s at in
     seat_owed w s o.0 o.1) in
-    let d = jobs_owed w 4 w.handed_off (omega (arith)) h.handed_off in
+    let d = jobs_owed w 4 (all_off w) (omega (arith)) h.handed_off in
     let e = function_owed w.function in
     let f = nothing_counts (of_chain nothing) w.buffers (λ i x at. refl) in
     let y = no_worths w.queues in
@@ -138,7 +139,22 @@ own_pays d w h o = omega (arith)
 
 -- Along a settling
 
-accepted_on : (p : Ticket → ℕ) (w : PlainWorld) (more : List Deed) → Settles w more
+-- each deed happens, and is of the device itself
+abbrev pub AreOwnDeeds : PlainWorld → List Deed → Type 0
+AreOwnDeeds w [] = ⊤
+AreOwnDeeds w (d ∷ past) = AreOwnDeeds w past × Happens d (world_of w past) × IsOwn (event_of d)
+
+pub settles_own : (w : PlainWorld) (more : List Deed) → Settles w more → AreOwnDeeds w more
+settles_own w [] s = tt
+settles_own w (d ∷ past) s = (settles_own w past s.0, s.1, own_next (world_of w past) (event_of d) s.2)
+
+pub settles_of_own : (asked : ℕ → Bool) (w : PlainWorld) (more : List Deed) → SettlesOf asked w more
+    → AreOwnDeeds w more
+settles_of_own asked w [] s = tt
+settles_of_own asked w (d ∷ past) s =
+    (settles_of_own asked w past s.0, s.1, own_next_of asked (world_of w past) (event_of d) s.2)
+
+accepted_on : (p : Ticket → ℕ) (w : PlainWorld) (more : List Deed) → AreOwnDeeds w more
     → accepted_worth p (world_of w more) ≡ accepted_worth p w + sum_by (fetches p) more
 accepted_on p w [] s = omega (arith)
 accepted_on p w (d ∷ past) s =
@@ -149,22 +165,30 @@ accepted_on p w (d ∷ past) s =
     omega (arith, a, b, c)
 
 -- each step is paid for
-all_paid : (w : PlainWorld) (more : List Deed) → Settles w more
+all_paid : (w : PlainWorld) (more : List Deed) → AreOwnDeeds w more
     → measure (world_of w more) + length more ≤ measure w + sum_by (fetches price) more + 2 * sum_by visited more
 all_paid w [] s = omega (arith)
 all_paid w (d ∷ past) s =
     let v = world_of w past in
     let here = lowers d v s.1 in
     let rest = all_paid w past s.0 in
-    let own = own_pays d v s.1 (own_next v (event_of d) s.2) in
+    let own = own_pays d v s.1 s.2 in
     let a = sum_by-cons (fetches price) d past in
     let b = sum_by-cons visited d past in
     omega (arith, here, rest, own, a, b)
 
-pub settles_short : (old : PlainWorld) (trace : List Occurrence) (w : PlainWorld) (more : List Deed)
-    → Reached old trace w → Settles w more → IsShort w more
-settles_short old trace w more r s =
+own_short : (old : PlainWorld) (trace : List Occurrence) (w : PlainWorld) (more : List Deed)
+    → Reached old trace w → AreOwnDeeds w more → IsShort w more
+own_short old trace w more r s =
     let a = all_paid w more s in
     let b = owed_at_start old trace w r in
     let c = accepted_on price w more s in
     omega (arith, a, b, c)
+
+pub settles_short : (old : PlainWorld) (trace : List Occurrence) (w : PlainWorld) (more : List Deed)
+    → Reached old trace w → Settles w more → IsShort w more
+settles_short old trace w more r s = own_short old trace w more r (settles_own w more s)
+
+pub settles_of_short : (asked : ℕ → Bool) (old : PlainWorld) (trace : List Occurrence) (w : PlainWorld)
+    (more : List Deed) → Reached old trace w → SettlesOf asked w more → IsShort w more
+settles_of_short asked old trace w more r s = own_short old trace w more r (settles_of_own asked w more s)

@@ -1,5 +1,5 @@
 -- What is next is decided, and is one event.
-use Rattle.std.proofs.Common.{◌≡◌, ℕ, ◌<◌, ◌≤◌, Bool, true, false, List, [], ◌∷◌, ◌++◌, length, Option, Some, None, refl, sym, ◌∙◌, ap, subst, arith, zero, suc, inl, inr}
+use Rattle.std.proofs.Common.{◌≡◌, ℕ, ◌<◌, ◌≤◌, Bool, true, false, if◌then◌else◌, List, [], ◌∷◌, ◌++◌, length, Option, Some, None, refl, sym, ◌∙◌, ap, subst, arith, zero, suc, inl, inr}
 use Rattle.std.specs.Prelude.{slice_get, ◌⊎◌}
 use Rattle.std.specs.List.{AllByRecursion}
 use Rattle.scsi_codec.specs.declared.event_queue.Event.{Event as Report}
@@ -19,9 +19,10 @@ use Rattle.deeds.specs.Events.{Event}
 use Rattle.deeds.specs.Happens.{IsOpenTo}
 use Rattle.deeds.specs.Applies.{Applies, MayCheck}
 use Rattle.deeds.proofs.Lists.{nothing, same}
-use Rattle.settling.specs.Order.{each, of_seat, order, order_of, IsFirstOf, IsNext, NoneApplies, IsQuiet}
+use Rattle.settling.specs.Order.{each, of_seat, fetch_of, order, order_by, order_of, IsFirstOf, IsNext, IsNextOf, NoneApplies, IsQuiet, IsQuietOf}
 use Rattle.settling.specs.Waking.{IsOwn}
 use Rattle.settling.proofs.Quiet.{Never}
+use Rattle.deeds.proofs.Off.{some_off}
 
 abbrev Decided : PlainWorld → Event → Type 0
 Decided w e = Applies w e ⊎ Never w e
@@ -202,10 +203,12 @@ take_not_free : (w : PlainWorld) (k : ℕ) (hand : Hand) (out : List PlainJob) �
     → Never w (Event.Take k)
 take_not_free w k hand out at e h = false_true (sym e ∙ ap is_free (one_hand w k hand Hand.Free out [] at h.seat))
 
-take_off : (w : PlainWorld) (k : ℕ) (jobs : List PlainJob) → w.handed_off ≡ jobs → k < w.workers
-    → At w k Hand.Free [] → Decided w (Event.Take k)
-take_off w k [] off lt at = inr (λ h. no_job (sym off ∙ h.handed_off))
-take_off w k (x ∷ rest) off lt at = inl (record { worker = lt; seat = at; job = x; rest = rest; handed_off = off })
+take_off : (w : PlainWorld) (k : ℕ) → k < w.workers → At w k Hand.Free [] → Decided w (Event.Take k)
+take_off w k lt at =
+    elim (some_off w.handed_off) [
+      | inl q ↦ inl (record { worker = lt; seat = at; from = q.0; job = q.1; rest = q.2; handed_off = q.3 })
+      | inr none ↦ inr (λ h. no_job (sym (none h.from (h.job ∷ h.rest) h.handed_off)))
+    ]
 
 below_or_not : (k n : ℕ) → (k < n) ⊎ (n ≤ k)
 below_or_not k n = grind arith
@@ -216,7 +219,7 @@ not_below k n a b = omega (arith, a, b)
 take_at : (w : PlainWorld) (k : ℕ) (hand : Hand) (out : List PlainJob) → (k < w.workers) ⊎ (w.workers ≤ k)
     → At w k hand out → Decided w (Event.Take k)
 take_at w k hand out (inr le) at = inr (λ h. not_below k w.workers le h.worker)
-take_at w k Hand.Free [] (inl lt) at = take_off w k w.handed_off refl lt at
+take_at w k Hand.Free [] (inl lt) at = take_off w k lt at
 take_at w k Hand.Free (x ∷ rest) (inl lt) at =
     inr (λ h. no_job (sym (one_out w k Hand.Free Hand.Free (x ∷ rest) [] at h.seat)))
 take_at w k (Hand.Taken x) out (inl lt) at = inr (take_not_free w k (Hand.Taken x) out at refl)
@@ -380,6 +383,24 @@ own_order queues seats =
     (each of_seat seats ++ (enters ++ fetches)) (tt, (tt, (tt, (tt, a))))
     (own_append (each of_seat seats) (enters ++ fetches) b (own_append enters fetches c d))
 
+own_asked : (b : Bool) (q : ℕ) → AreOwn (if b then Event.Fetch q ∷ [] else [])
+own_asked true q = (tt, tt)
+own_asked false q = tt
+
+own_order_by : (asked : ℕ → Bool) (queues seats : ℕ) → AreOwn (order_by asked queues seats)
+unfolding order_by
+own_order_by asked queues seats =
+    let directs : List Event = each (λ q. Event.Direct q ∷ []) queues in
+    let enters : List Event = each (λ q. Event.Enter q ∷ []) queues in
+    let fetches : List Event = each (fetch_of asked) queues in
+    let a = own_each (λ q. Event.Direct q ∷ []) queues (λ q. (tt, tt)) in
+    let b = own_each of_seat seats (λ k. (tt, (tt, (tt, (tt, (tt, tt)))))) in
+    let c = own_each (λ q. Event.Enter q ∷ []) queues (λ q. (tt, tt)) in
+    let d = own_each (fetch_of asked) queues (λ q. own_asked (asked q) q) in
+    own_append (Event.AnswerTmf ∷ Event.Check ∷ Event.Mark ∷ Event.Raise ∷ directs)
+    (each of_seat seats ++ (enters ++ fetches)) (tt, (tt, (tt, (tt, a))))
+    (own_append (each of_seat seats) (enters ++ fetches) b (own_append enters fetches c d))
+
 own_first : (w : PlainWorld) (es : List Event) (e : Event) → IsFirstOf w es e → AreOwn es → IsOwn e
 own_first w [] e h own = absurd h
 own_first w (x ∷ xs) e (inl h) own = subst IsOwn h.1 own.0
@@ -423,3 +444,21 @@ first_or_none w (x ∷ xs) own = first_among w x xs (decided w x own.0) (first_o
 -- some event is next, or none applies
 pub next_or_quiet : (w : PlainWorld) → ((e : Event) × IsNext w e) ⊎ IsQuiet w
 next_or_quiet w = first_or_none w (order_of w) (own_order (length w.queues) (length w.seats))
+
+-- The same of the queues that are asked
+
+pub own_next_of : (asked : ℕ → Bool) (w : PlainWorld) (e : Event) → IsNextOf asked w e → IsOwn e
+own_next_of asked w e h =
+    own_first w (order_by asked (length w.queues) (length w.seats)) e h
+    (own_order_by asked (length w.queues) (length w.seats))
+
+pub next_applies_of : (asked : ℕ → Bool) (w : PlainWorld) (e : Event) → IsNextOf asked w e → Applies w e
+next_applies_of asked w e h = first_applies w (order_by asked (length w.queues) (length w.seats)) e h
+
+pub next_once_of : (asked : ℕ → Bool) (w : PlainWorld) (e f : Event) → IsNextOf asked w e → IsNextOf asked w f → e ≡ f
+next_once_of asked w e f h k = first_once w (order_by asked (length w.queues) (length w.seats)) e f h k
+
+pub next_or_quiet_of : (asked : ℕ → Bool) (w : PlainWorld) → ((e : Event) × IsNextOf asked w e) ⊎ IsQuietOf asked w
+next_or_quiet_of asked w =
+    first_or_none w (order_by asked (length w.queues) (length w.seats))
+    (own_order_by asked (length w.queues) (length w.seats))

@@ -2,7 +2,7 @@
 use Rattle.std.proofs.Common.{◌≡◌, ℕ, ◌<◌, ◌≤◌, ◌+◌, ◌-◌, ◌||◌, Bool, true, false, List, [], ◌∷◌, length, mod-lt, Option, Some, None, is_some, refl, sym, ◌∙◌, ap, subst, arith, inl, inr}
 use Rattle.std.specs.Prelude.{slice_get, ◌⊎◌}
 use Rattle.std.specs.List.{AllByRecursion}
-use Rattle.std.proofs.lemmas.Option.{slice_get_cases}
+use Rattle.std.proofs.lemmas.Option.{slice_get_cases, slice_get_within}
 use Rattle.scsi_codec.specs.declared.event_queue.Event.{Event as Report}
 use Rattle.scsi_codec.specs.EventQueue.{event_bytes}
 use Rattle.scsi_codec.specs.ControlQueue.{function_bytes}
@@ -27,7 +27,7 @@ use Rattle.deeds.specs.World.{PlainQueue, Opened, PlainWorld, owner}
 use Rattle.deeds.specs.Events.{Event}
 use Rattle.deeds.specs.Deeds.{Deed, event_of}
 use Rattle.deeds.specs.Happens.{Happens, Occurrence, Reached, SeatIs, Comes, MayStep, Holds, handed_out}
-use Rattle.deeds.specs.Applies.{Applies, MayPut, MayCheck, MayRespond}
+use Rattle.deeds.specs.Applies.{Applies, MayPut, MayCheck, MayRespond, MayTake}
 use Rattle.deeds.specs.Lawful.{AreUnits}
 use Rattle.deeds.specs.Standing.{IsOwned, SlotOwns, AreOwned, SlotIsLatest, front_of, AreBehind, FunctionOwns, IsToCommit, IsToLeave, AreAtWork, FunctionIsThere}
 use Rattle.deeds.proofs.Owning.{owned}
@@ -36,6 +36,8 @@ use Rattle.deeds.proofs.Floors.{AreOrdered, new_ordered, deed_orders, all_behind
 use Rattle.deeds.proofs.Working.{run_works, all_work}
 use Rattle.deeds.proofs.Functions.{FindsUnits, new_finds, deed_finds}
 use Rattle.settling.specs.Waking.{IsOwn, IsFetch}
+use Rattle.deeds.proofs.Rooms.{run_lists}
+use Rattle.deeds.proofs.Off.{first_off}
 
 -- what is known of a world that is reached
 record IsFit (w : PlainWorld) : Type 0 where
@@ -46,6 +48,7 @@ record IsFit (w : PlainWorld) : Type 0 where
   pub finds : FunctionIsThere (length w.units) w.function
   pub working : 1 ≤ w.workers
   pub seated : length w.seats ≡ w.workers + 1
+  pub lists : length w.handed_off ≡ length w.seats
 
 fit : (old : PlainWorld) (trace : List Occurrence) (w : PlainWorld) → Reached old trace w → IsFit w
 fit old trace w r =
@@ -66,6 +69,7 @@ fit old trace w r =
       finds = subst (λ n. FunctionIsThere n w.function) (sym listed) finds;
       working = omega (arith, a, c);
       seated = omega (arith, b, c, d);
+      lists = run_lists old trace w r.opens r.runs;
     }
 
 -- a deed of the event happens
@@ -151,12 +155,32 @@ directs w i c o q f at e =
 room_or_full : (k n : ℕ) → (k < n) ⊎ (n ≤ k)
 room_or_full k n = grind arith
 
-puts : (w : PlainWorld) (k : ℕ) → MayPut w k → Does w (Event.Put k)
-puts w k h =
-    elim (room_or_full (length w.handed_off) w.limit) [
-      | inl room ↦ (Deed.Put k h.job, refl, record { rest = h.rest; seat = h.seat; room = room })
-      | inr full ↦ (Deed.Keep k h.job, refl, record { rest = h.rest; seat = h.seat; full = full })
+puts : (w : PlainWorld) (k : ℕ) → IsFit w → MayPut w k → Does w (Event.Put k)
+puts w k f h =
+    let lt = slice_get_within w.seats k (record { hand = Hand.Free; out = h.job ∷ h.rest }) h.seat in
+    let list = there w.handed_off k (omega (arith, lt, f.lists)) in
+    elim (room_or_full (length list.0) w.limit) [
+      | inl room ↦ (
+        Deed.Put k h.job,
+        refl,
+        record { rest = h.rest; seat = h.seat; off = list.0; there = list.1; room = room },
+      )
+      | inr full ↦ (
+        Deed.Keep k h.job,
+        refl,
+        record { rest = h.rest; seat = h.seat; off = list.0; there = list.1; full = full },
+      )
     ]
+
+-- Take
+
+takes : (w : PlainWorld) (k : ℕ) → MayTake w k → Does w (Event.Take k)
+takes w k h =
+    let f = first_off w.handed_off k h.from h.job h.rest h.handed_off in (
+      Deed.Take k f.0 f.1,
+      refl,
+      record { worker = h.worker; seat = h.seat; rest = f.2; handed_off = f.3; first = f.4 },
+    )
 
 -- Commit
 
@@ -322,9 +346,8 @@ does w (Event.Hard place) f own no_fetch h = absurd own
 does w (Event.Fetch i) f own no_fetch h = absurd (no_fetch tt)
 does w (Event.Enter i) f own no_fetch (x, h) = enters w i x (can_enter w i h.0 x f h.1 h.2)
 does w (Event.Direct i) f own no_fetch (c, o, h) = directs w i c o h.0 f h.1 h.2
-does w (Event.Put k) f own no_fetch h = puts w k h
-does w (Event.Take k) f own no_fetch h =
-    (Deed.Take k h.job, refl, record { worker = h.worker; seat = h.seat; rest = h.rest; handed_off = h.handed_off })
+does w (Event.Put k) f own no_fetch h = puts w k f h
+does w (Event.Take k) f own no_fetch h = takes w k h
 does w (Event.Commit k) f own no_fetch (x, h) = commits w k x h.0 (f.at_work.seats k _ h.1).0 h.1
 does w (Event.Answer k) f own no_fetch (x, o, h) = answers w k x o h.0 (f.owned.seats k _ h.1).0.chain h.1
 does w (Event.Leave k) f own no_fetch (place, t, h) = leaves w k place t h.0 (f.at_work.seats k _ h.1).0 h.1

@@ -6,3 +6,4 @@ pub mod Lowers
 pub mod Bounds
 pub mod Runs
 pub mod Waking
+pub mod AtOnce

@@ -6,7 +6,7 @@ use Rattle.std.proofs.lemmas.List.{length_push}
 use Rattle.ring_core.specs.Writes.{all_written}
 use Rattle.history.specs.Endings.{Ending}
 use Rattle.task_set.specs.Unit.{PlainUnit}
-use Rattle.task_mgmt.specs.Functions.{PlainFunction, marking, asking, failing, checking}
+use Rattle.task_mgmt.specs.Functions.{PlainFunction, marking, next_look, asking, failing, checking}
 use Rattle.deeds.specs.Parts.{Outcome, Slot, lengths_of}
 use Rattle.deeds.specs.World.{PlainQueue, Opened, PlainWorld, change}
 use Rattle.deeds.specs.Deeds.{Deed}
@@ -105,7 +105,7 @@ lowers (Deed.Direct c o xs) w h =
     omega (arith, a, b)
 lowers (Deed.Put k x) w h = let a = held_deed owed w (Deed.Put k x) h in omega (arith, a)
 lowers (Deed.Keep k x) w h = let a = held_deed owed w (Deed.Keep k x) h in omega (arith, a)
-lowers (Deed.Take k x) w h = let a = held_deed owed w (Deed.Take k x) h in omega (arith, a)
+lowers (Deed.Take k from x) w h = let a = held_deed owed w (Deed.Take k from x) h in omega (arith, a)
 lowers (Deed.Commit k x r) w h = let a = held_deed owed w (Deed.Commit k x r) h in omega (arith, a)
 lowers (Deed.Busy k x) w h = let a = held_deed owed w (Deed.Busy k x) h in omega (arith, a)
 lowers (Deed.Abort k x why) w h = let a = held_deed owed w (Deed.Abort k x why) h in omega (arith, a)
@@ -122,8 +122,11 @@ lowers (Deed.Mark t p m jobs) w h =
     omega (arith, a, b, c, n)
 lowers (Deed.Ask t place rule found) w h =
     let a = held_deed owed w (Deed.Ask t place rule found) h in
-    let c = same_visits (asking found) w.function (λ f. refl) in
-    omega (arith, a, c)
+    let f = h.marking.opened.function in
+    let b = ap visits h.marking.there in
+    let c = ap (λ o. visits (on_function (asking found) o)) h.marking.there in
+    let n = length_push f.waits (next_look f) in
+    omega (arith, a, b, c, n)
 lowers (Deed.Fail t) w h =
     let a = held_deed owed w (Deed.Fail t) h in
     let c = same_visits failing w.function (λ f. refl) in

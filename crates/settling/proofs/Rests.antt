@@ -1,5 +1,5 @@
 -- Where no event of the order applies, nothing is outstanding.
-use Rattle.std.proofs.Common.{◌≡◌, ℕ, ◌<◌, ◌≤◌, true, not, ◌&&◌, is_some, List, [], ◌∷◌, filter, length, Option, Some, None, refl, sym, ◌∙◌, ap, subst, arith, inl, inr, zero, suc}
+use Rattle.std.proofs.Common.{◌≡◌, ℕ, ◌<◌, ◌≤◌, Bool, true, not, ◌&&◌, is_some, List, [], ◌∷◌, filter, length, Option, Some, None, refl, sym, ◌∙◌, ap, subst, arith, inl, inr, zero, suc}
 use Rattle.std.specs.Prelude.{slice_get}
 use Rattle.std.specs.List.{sum_by, list_all, AllByRecursion}
 use Rattle.std.proofs.lemmas.Option.{slice_get_within, slice_get_cases}
@@ -23,7 +23,7 @@ use Rattle.task_set.specs.Jobs.{PlainJob}
 use Rattle.task_set.specs.Unit.{PlainUnit, tasks_of_jobs, IsUnit}
 use Rattle.task_mgmt.specs.declared.function.Mark.{Mark as Place}
 use Rattle.deeds.specs.Parts.{Slot, Hand}
-use Rattle.deeds.specs.World.{PlainQueue, Seat, Opened, PlainWorld, Everywhere}
+use Rattle.deeds.specs.World.{PlainQueue, Seat, Opened, PlainWorld, Everywhere, all_off}
 use Rattle.deeds.specs.Events.{Event}
 use Rattle.deeds.specs.Happens.{Occurrence, Reached, IsOpenTo}
 use Rattle.deeds.specs.Laws.{in_hand, at_seat}
@@ -35,9 +35,10 @@ use Rattle.deeds.proofs.Owning.{owned}
 use Rattle.deeds.proofs.Tasks.{own, hand_worth, seat_worth, of_place, out_worth}
 use Rattle.deeds.proofs.Working.{run_works}
 use Rattle.deeds.proofs.Functions.{FindsUnits, new_finds, deed_finds}
-use Rattle.settling.specs.Order.{IsNext, IsQuiet, IsAtRest}
+use Rattle.settling.specs.Order.{IsNext, IsQuiet, IsAtRest, IsQuietOf, IsAtRestOf}
 use Rattle.settling.proofs.Choosing.{next_or_quiet}
-use Rattle.settling.proofs.Quiet.{Never, QuietQueue, QuietSeat, all_quiet}
+use Rattle.settling.proofs.Quiet.{Never, QuietQueue, QuietSeat, quiet_of_all, all_quiet}
+use Rattle.deeds.proofs.Off.{none_off}
 
 -- the first of both holds of all
 all_first : (P : PlainChain → Type 0) (cs : List PlainChain)
@@ -75,14 +76,15 @@ empty_seat w k s at q =
           (subst (λ h. slice_get w.seats k ≡ Some (record { hand = h; out = s.out })) free at) q;
     }
 
--- with a worker that has nothing the hand-off is empty
-none_handed_off : (w : PlainWorld) (s : Seat) (jobs : List PlainJob) → 1 ≤ w.workers → slice_get w.seats 0 ≡ Some s
-    → EmptySeat s → Never w (Event.Take 0) → w.handed_off ≡ jobs → jobs ≡ []
-none_handed_off w s [] works at e never off = refl
-none_handed_off w s (x ∷ rest) works at e never off =
+-- with a worker that has nothing each list of the hand-off is empty: whoever takes looks at all of them
+none_handed_off : (w : PlainWorld) (s : Seat) (k : ℕ) (jobs : List PlainJob) → 1 ≤ w.workers
+    → slice_get w.seats 0 ≡ Some s → EmptySeat s → Never w (Event.Take 0) → slice_get w.handed_off k ≡ Some jobs
+    → jobs ≡ []
+none_handed_off w s k [] works at e never off = refl
+none_handed_off w s k (x ∷ rest) works at e never off =
     let free = subst (λ h. slice_get w.seats 0 ≡ Some (record { hand = h; out = s.out })) e.hand at in
     let bare = subst (λ l. slice_get w.seats 0 ≡ Some (record { hand = Hand.Free; out = l })) e.out free in
-    absurd (never (record { worker = works; seat = bare; job = x; rest = rest; handed_off = off }))
+    absurd (never (record { worker = works; seat = bare; from = k; job = x; rest = rest; handed_off = off }))
 
 -- Units
 
@@ -169,11 +171,11 @@ no_function w (Some o) at there idle mark check answer =
 
 -- Queues
 
-empty_slot : (w : PlainWorld) (i : ℕ) (q : PlainQueue) (s : Slot) → slice_get w.queues i ≡ Some q → q.slot ≡ s
-    → QuietQueue w i → s ≡ Slot.Empty
-empty_slot w i q Slot.Empty at e h = refl
-empty_slot w i q (Slot.Arrived x) at e h = absurd (h.enter (x, (q, at, e)))
-empty_slot w i q (Slot.Ready c o) at e h = absurd (h.direct (c, o, (q, at, e)))
+empty_slot : (asked : ℕ → Bool) (w : PlainWorld) (i : ℕ) (q : PlainQueue) (s : Slot) → slice_get w.queues i ≡ Some q → q.slot ≡ s
+    → QuietQueue asked w i → s ≡ Slot.Empty
+empty_slot asked w i q Slot.Empty at e h = refl
+empty_slot asked w i q (Slot.Arrived x) at e h = absurd (h.enter (x, (q, at, e)))
+empty_slot asked w i q (Slot.Ready c o) at e h = absurd (h.direct (c, o, (q, at, e)))
 
 found_or_nothing : {id slots : ℕ} {parts : List Part} → Found id slots parts ≡ Nothing → ⊥
 found_or_nothing e = cc
@@ -232,10 +234,10 @@ units_there old trace w r =
     let finds = run_keeps FindsUnits deed_finds old trace w (new_finds old r.opens) r.runs in
     subst (λ n. FunctionIsThere n w.function) (sym (units_listed old trace w r.opens r.runs)) finds
 
-pub quiet_rests : (old : PlainWorld) (trace : List Occurrence) (w : PlainWorld) → Reached old trace w → IsQuiet w
-    → IsAtRest w
-quiet_rests old trace w r h =
-    let quiet = all_quiet w h in
+pub quiet_rests_of : (asked : ℕ → Bool) (old : PlainWorld) (trace : List Occurrence) (w : PlainWorld)
+    → Reached old trace w → IsQuietOf asked w → IsAtRestOf asked w
+quiet_rests_of asked old trace w r h =
+    let quiet = all_quiet asked w h in
     let parts = run_stays old trace w r.runs in
     let own = owned old trace w r.opens r.runs in
     let working = run_works old trace w r.opens r.runs in
@@ -243,12 +245,14 @@ quiet_rests old trace w r h =
     let first : 0 < length w.seats = (let a = r.opens.seated in let b = parts.seats in omega (arith, a, b)) in
     let seats : (k : ℕ) (s : Seat) → slice_get w.seats k ≡ Some s → EmptySeat s = λ k s at.
     empty_seat w k s at (quiet.seats k (slice_get_within w.seats k s at)) in
-    let off : w.handed_off ≡ [] =
+    let off : all_off w ≡ [] =
     elim (slice_get_cases w.seats 0).1 [
-      | inl q ↦ none_handed_off w q.0 w.handed_off works q.2 (seats 0 q.0 q.2) (quiet.seats 0 first).take refl
+      | inl q ↦
+          none_off w.handed_off (λ k jobs at.
+          none_handed_off w q.0 k jobs works q.2 (seats 0 q.0 q.2) (quiet.seats 0 first).take at)
       | inr q ↦ absurd (let le = q.0 in omega (arith, le, first))
     ] in
-    let under_way : (n : ℕ) → out_worth n each_one w.seats w.handed_off ≡ 0 = λ n.
+    let under_way : (n : ℕ) → out_worth n each_one w.seats (all_off w) ≡ 0 = λ n.
     let a = nothing_counts (seat_worth n each_one) w.seats (λ k s at. bare_seat n s (seats k s at)) in
     let b = ap (λ l. sum_by (of_place n each_one) l) off in
     omega (arith, a, b) in
@@ -257,7 +261,7 @@ quiet_rests old trace w r h =
     let b = under_way i in
     none_alive u (working.0 i u at) (omega (arith, a, b)) in
     let slots : (i : ℕ) (q : PlainQueue) → slice_get w.queues i ≡ Some q → q.slot ≡ Slot.Empty = λ i q at.
-    empty_slot w i q q.slot at refl (quiet.queues i (slice_get_within w.queues i q at)) in
+    empty_slot asked w i q q.slot at refl (quiet.queues i (slice_get_within w.queues i q at)) in
     let there = units_there old trace w r in
     let closed = no_function w w.function refl there idle quiet.mark quiet.check quiet.answer_tmf in
     record {
@@ -273,9 +277,21 @@ quiet_rests old trace w r h =
       buffers = all_first (IsOwned w) w.buffers own.buffers;
       closed = closed;
       waiting = no_report w w.waiting refl quiet.raise;
-      queues = λ i q at unbroken.
+      queues = λ i q at is unbroken.
           let lt = slice_get_within w.queues i q at in
-          nothing_there w i q at (slots i q at) closed (quiet.queues i lt).fetch unbroken;
+          nothing_there w i q at (slots i q at) closed ((quiet.queues i lt).fetch is) unbroken;
+    }
+
+pub quiet_rests : (old : PlainWorld) (trace : List Occurrence) (w : PlainWorld) → Reached old trace w → IsQuiet w
+    → IsAtRest w
+quiet_rests old trace w r h =
+    let rest = quiet_rests_of (λ q. true) old trace w r (quiet_of_all w h) in
+    record {
+      chains = rest.chains;
+      buffers = rest.buffers;
+      closed = rest.closed;
+      waiting = rest.waiting;
+      queues = λ i q at unbroken. rest.queues i q at refl unbroken;
     }
 
 -- where a chain is outstanding that is no event buffer, an event is next

@@ -1,5 +1,5 @@
 -- A settling is a run.
-use Rattle.std.proofs.Common.{◌≡◌, List, [], ◌∷◌, ◌++◌, map, length, refl, ap, arith}
+use Rattle.std.proofs.Common.{◌≡◌, ℕ, Bool, List, [], ◌∷◌, ◌++◌, map, length, refl, ap, arith}
 use Rattle.deeds.specs.World.{PlainWorld}
 use Rattle.deeds.specs.Deeds.{Deed}
 use Rattle.deeds.specs.After.{bit}
@@ -7,9 +7,10 @@ use Rattle.deeds.specs.Happens.{Occurrence, Runs, Reached, occurrence_of, world_
 use Rattle.deeds.specs.Turns.{count_changes}
 use Rattle.deeds.proofs.Running.{runs_on}
 use Rattle.deeds.proofs.Turning.{may, changes}
-use Rattle.settling.specs.Order.{IsQuiet, IsAtRest}
-use Rattle.settling.specs.Settling.{Settles}
-use Rattle.settling.proofs.Rests.{quiet_rests}
+use Rattle.settling.specs.Order.{IsQuiet, IsAtRest, IsQuietOf, IsAtRestOf}
+use Rattle.settling.specs.Settling.{Settles, SettlesOf}
+use Rattle.settling.proofs.Rests.{quiet_rests, quiet_rests_of}
+use Rattle.settling.proofs.Bounds.{AreOwnDeeds, settles_of_own}
 
 pub settles_run : (w : PlainWorld) (more : List Deed) → Settles w more
     → Runs w (map occurrence_of more) (world_of w more)
@@ -27,6 +28,41 @@ each_changes w (d ∷ past) s =
     let a = each_changes w past s.0 in
     let b = ap bit (changes d (world_of w past) s.1) in
     omega (arith, a, b)
+
+-- the same of the queues that are asked
+
+own_run : (w : PlainWorld) (more : List Deed) → AreOwnDeeds w more → Runs w (map occurrence_of more) (world_of w more)
+own_run w [] s = refl
+own_run w (d ∷ past) s = (
+  world_of w past,
+  own_run w past s.0,
+  record { deed = d; event = refl; action = refl; may = may d (world_of w past) s.1; is = refl },
+)
+
+own_changes : (w : PlainWorld) (more : List Deed) → AreOwnDeeds w more
+    → count_changes (map occurrence_of more) ≡ length more
+own_changes w [] s = refl
+own_changes w (d ∷ past) s =
+    let a = own_changes w past s.0 in
+    let b = ap bit (changes d (world_of w past) s.1) in
+    omega (arith, a, b)
+
+pub settles_of_run : (asked : ℕ → Bool) (w : PlainWorld) (more : List Deed) → SettlesOf asked w more
+    → Runs w (map occurrence_of more) (world_of w more)
+settles_of_run asked w more s = own_run w more (settles_of_own asked w more s)
+
+pub each_changes_of : (asked : ℕ → Bool) (w : PlainWorld) (more : List Deed) → SettlesOf asked w more
+    → count_changes (map occurrence_of more) ≡ length more
+each_changes_of asked w more s = own_changes w more (settles_of_own asked w more s)
+
+pub settles_of_to_rest : (asked : ℕ → Bool) (old : PlainWorld) (trace : List Occurrence) (w : PlainWorld)
+    (more : List Deed) → Reached old trace w → SettlesOf asked w more → IsQuietOf asked (world_of w more)
+    → IsAtRestOf asked (world_of w more)
+settles_of_to_rest asked old trace w more r s q =
+    let v = world_of w more in
+    let all = map occurrence_of more in
+    let runs = runs_on old w v trace all r.runs (settles_of_run asked w more s) in
+    quiet_rests_of asked old (all ++ trace) v (record { opens = r.opens; runs = runs }) q
 
 pub settles_to_rest : (old : PlainWorld) (trace : List Occurrence) (w : PlainWorld) (more : List Deed)
     → Reached old trace w → Settles w more → IsQuiet (world_of w more) → IsAtRest (world_of w more)

@@ -13,7 +13,7 @@ use Rattle.history.specs.Steps.{Step, alive, is_alive}
 use Rattle.history.specs.Clearing.{met_by, met_at, is_clear}
 use Rattle.task_set.specs.Jobs.{PlainJob}
 use Rattle.task_set.specs.Unit.{PlainUnit, after as stepped, parking}
-use Rattle.task_mgmt.specs.Functions.{PlainFunction, marking, asking, failing, checking}
+use Rattle.task_mgmt.specs.Functions.{PlainFunction, marking, next_look, asking, failing, checking}
 use Rattle.task_mgmt.specs.declared.function.Mark.{Mark as Place}
 use Rattle.deeds.specs.Parts.{Outcome, Slot, Hand, lengths_of}
 use Rattle.deeds.specs.World.{PlainQueue, Seat, Opened, PlainWorld, change, owner}
@@ -393,7 +393,7 @@ commit_wakes (Deed.Keep k x) w j m (y, h) =
       | inl p ↦ inr (inl (ap Event.Commit p.0))
       | inr old ↦ inl (y, old)
     ]
-commit_wakes (Deed.Take k x) w j m (y, h) =
+commit_wakes (Deed.Take k from x) w j m (y, h) =
     elim (hand_was (with_hand (Hand.Taken x)) k w.seats j (Hand.Taken y) h) [
       | inl p ↦ inr (inl (ap Event.Commit p.0))
       | inr old ↦ inl (y, old)
@@ -431,7 +431,7 @@ answer_wakes (Deed.Put k x) w j m (y, o, h) =
 answer_wakes (Deed.Keep k x) w j m (y, o, h) =
     let new = Hand.Taken x in
     inl (y, o, hand_other (without_first new) k w.seats j (Hand.Done y o) new (λ z. refl) (λ e. taken_done (sym e)) h)
-answer_wakes (Deed.Take k x) w j m (y, o, h) =
+answer_wakes (Deed.Take k from x) w j m (y, o, h) =
     let new = Hand.Taken x in
     inl (y, o, hand_other (with_hand new) k w.seats j (Hand.Done y o) new (λ z. refl) (λ e. taken_done (sym e)) h)
 answer_wakes (Deed.Commit k x r) w j m (y, o, h) =
@@ -478,7 +478,7 @@ leave_wakes (Deed.Keep k x) w j m (place, t, h) =
     let was = Hand.Answered place t in
     let new = Hand.Taken x in
     inl (place, t, hand_other (without_first new) k w.seats j was new (λ z. refl) (λ e. taken_answered (sym e)) h)
-leave_wakes (Deed.Take k x) w j m (place, t, h) =
+leave_wakes (Deed.Take k from x) w j m (place, t, h) =
     let was = Hand.Answered place t in
     let new = Hand.Taken x in
     inl (place, t, hand_other (with_hand new) k w.seats j was new (λ z. refl) (λ e. taken_answered (sym e)) h)
@@ -549,9 +549,9 @@ put_wakes (Deed.Put k x) w j m h =
 put_wakes (Deed.Keep k x) w j m h =
     let new = Hand.Taken x in
     inl (put_not (after (Deed.Keep k x) w) w (without_first new) k j new refl (λ z. refl) taken_free h)
-put_wakes (Deed.Take k x) w j m h =
+put_wakes (Deed.Take k from x) w j m h =
     let new = Hand.Taken x in
-    inl (put_not (after (Deed.Take k x) w) w (with_hand new) k j new refl (λ z. refl) taken_free h)
+    inl (put_not (after (Deed.Take k from x) w) w (with_hand new) k j new refl (λ z. refl) taken_free h)
 put_wakes (Deed.Commit k x r) w j m h =
     let new = Hand.Done x (Outcome.Ended (Ending.Replied r)) in
     inl (put_not (after (Deed.Commit k x r) w) w (with_hand new) k j new refl (λ z. refl) done_free h)
@@ -593,9 +593,10 @@ take_was v w g k j seats workers off h =
       | inr at ↦ inr (record {
         worker = subst (λ n. j < n) workers h.worker;
         seat = at;
+        from = h.from;
         job = h.job;
         rest = h.rest;
-        handed_off = sym off ∙ h.handed_off;
+        handed_off = ap (λ l. slice_get l h.from) (sym off) ∙ h.handed_off;
       })
     ]
 
@@ -625,9 +626,10 @@ take_fewer v w jobs k j seats workers off h =
           record {
             worker = subst (λ n. j < n) workers h.worker;
             seat = subst (λ l. slice_get w.seats j ≡ Some (seat Hand.Free l)) out free;
+            from = h.from;
             job = h.job;
             rest = h.rest;
-            handed_off = sym off ∙ h.handed_off;
+            handed_off = ap (λ l. slice_get l h.from) (sym off) ∙ h.handed_off;
           }
       | inr old ↦ old
     ]
@@ -638,9 +640,10 @@ take_same v w j seats workers off h =
     record {
       worker = subst (λ n. j < n) workers h.worker;
       seat = ap (λ l. slice_get l j) (sym seats) ∙ h.seat;
+      from = h.from;
       job = h.job;
       rest = h.rest;
-      handed_off = sym off ∙ h.handed_off;
+      handed_off = ap (λ l. slice_get l h.from) (sym off) ∙ h.handed_off;
     }
 
 take_wakes : (d : Deed) (w : PlainWorld) (j : ℕ) → Happens d w → Applies (after d w) (Event.Take j)
@@ -652,13 +655,14 @@ take_wakes (Deed.Put k x) w j m h = inr tt
 take_wakes (Deed.Keep k x) w j m h =
     let new = Hand.Taken x in
     inl (take_not (after (Deed.Keep k x) w) w (without_first new) k j new refl refl refl (λ z. refl) taken_free h)
-take_wakes (Deed.Take k x) w j m h =
+take_wakes (Deed.Take k from x) w j m h =
     let new = Hand.Taken x in
     elim (item_was (with_hand new) k w.seats j (seat Hand.Free []) h.seat) [
       | inl p ↦ absurd (taken_free (ap (λ (s : Seat). s.hand) (sym p.3)))
       | inr at ↦ inl (record {
         worker = h.worker;
         seat = at;
+        from = from;
         job = x;
         rest = m.rest;
         handed_off = m.handed_off;
@@ -736,7 +740,10 @@ respond_wakes (Deed.Open f g) w m h = inr (inr (inl refl))
 respond_wakes (Deed.Mark t p strike jobs) w m h =
     let was = function_was (marking p) w.function h.opened h.there in
     absurd (some_last was.0.function.waits p (ap (λ (f : PlainFunction). f.waits) (sym was.2) ∙ h.still))
-respond_wakes (Deed.Ask t place rule b) w m h = inr (inr (inl refl))
+respond_wakes (Deed.Ask t place rule b) w m h =
+    let was = function_was (asking b) w.function h.opened h.there in
+    let f = was.0.function in
+    absurd (some_last f.waits (next_look f) (ap (λ (g : PlainFunction). g.waits) (sym was.2) ∙ h.still))
 respond_wakes (Deed.Fail t) w m h = inr (inr (inl refl))
 respond_wakes (Deed.Check t p) w m h = inr (inl refl)
 respond_wakes (Deed.Respond c r xs) w m h = absurd (nothing h.there)

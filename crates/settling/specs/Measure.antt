@@ -32,7 +32,7 @@ price_at (suc (suc q)) = 7
 abbrev pub price : Ticket → ℕ
 price t = price_at t.queue
 
--- the marks that the open function waits for
+-- the marks and looks that the open function waits for
 abbrev pub visits : Option Opened → ℕ
 visits None = 0
 visits (Some o) = length o.function.waits

@@ -1,17 +1,23 @@
 -- A device that does what is first in its order, deed by deed.
-use Rattle.std.specs.Prelude.{ℕ, ◌+◌, ◌*◌, ◌≤◌, List, [], ◌∷◌, length, ⊤}
+use Rattle.std.specs.Prelude.{ℕ, Bool, ◌+◌, ◌*◌, ◌≤◌, List, [], ◌∷◌, length, ⊤}
 use Rattle.std.specs.List.{sum_by}
 use Rattle.deeds.specs.World.{PlainWorld}
 use Rattle.deeds.specs.Deeds.{Deed, event_of}
 use Rattle.deeds.specs.Happens.{Happens, world_of}
 use Rattle.deeds.specs.Places.{accepted_worth, used_worth}
-use Rattle.settling.specs.Order.{IsNext}
+use Rattle.settling.specs.Order.{IsNext, IsNextOf}
 use Rattle.settling.specs.Measure.{price, visits, answered_hand}
 
 -- from this world on each deed happens, and is of the first event that applies; the newest deed first
 abbrev pub Settles : PlainWorld → List Deed → Type 0
 Settles w [] = ⊤
 Settles w (d ∷ past) = Settles w past × Happens d (world_of w past) × IsNext (world_of w past) (event_of d)
+
+-- the same, with new chains of the queues alone that are asked
+abbrev pub SettlesOf : (ℕ → Bool) → PlainWorld → List Deed → Type 0
+SettlesOf asked w [] = ⊤
+SettlesOf asked w (d ∷ past) =
+    SettlesOf asked w past × Happens d (world_of w past) × IsNextOf asked (world_of w past) (event_of d)
 
 -- 1 for a unit that a function visits
 abbrev pub visited : Deed → ℕ

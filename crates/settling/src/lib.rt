@@ -3,20 +3,22 @@
 //! deeds.
 #![tactic(auto)]
 
-ghost use Rattle.std.specs.Prelude.{ℕ, ◌≡◌, ◌⊎◌, ◌<◌, ◌≤◌, ◌+◌, List, length, map};
+ghost use Rattle.std.specs.Prelude.{ℕ, Bool, ◌≡◌, ◌⊎◌, ◌<◌, ◌≤◌, ◌+◌, List, [], ◌∷◌, length, map};
 ghost use Rattle.std.specs.List.{sum_by};
 ghost use Rattle.ring_core.specs.declared.log.Ticket.{Ticket};
 ghost use Rattle.deeds.specs.World.{PlainWorld};
 ghost use Rattle.deeds.specs.Events.{Event};
 ghost use Rattle.deeds.specs.Deeds.{Deed, event_of};
 ghost use Rattle.deeds.specs.After.{after};
-ghost use Rattle.deeds.specs.Happens.{Occurrence, Happens, Runs, Reached, occurrence_of, world_of};
+ghost use Rattle.task_set.specs.Jobs.{PlainJob};
+ghost use Rattle.deeds.specs.Parts.{Hand};
+ghost use Rattle.deeds.specs.Happens.{Occurrence, Happens, Runs, Reached, SeatIs, OffIs, occurrence_of, world_of};
 ghost use Rattle.deeds.specs.Places.{of_chain, only, accepted_worth, used_worth};
 ghost use Rattle.deeds.specs.Turns.{count_changes};
 ghost use Rattle.deeds.specs.Applies.{Applies};
-ghost use Rattle.settling.specs.Order.{IsNext, IsQuiet, IsAtRest};
+ghost use Rattle.settling.specs.Order.{IsNext, IsQuiet, IsAtRest, IsNextOf, IsQuietOf, IsAtRestOf};
 ghost use Rattle.settling.specs.Measure.{measure, pays};
-ghost use Rattle.settling.specs.Settling.{Settles, IsShort};
+ghost use Rattle.settling.specs.Settling.{Settles, SettlesOf, IsShort};
 ghost use Rattle.settling.specs.Waking.{IsOwn, IsFetch, Wakes};
 
 /// Where no step of the device itself is left to take, nothing is left to answer: each chain that was accepted was
@@ -38,6 +40,30 @@ pub fn one_event_is_next()
     ensures one { (w : PlainWorld) (e f : Event) → IsNext w e → IsNext w f → e ≡ f }
     ensures applies { (w : PlainWorld) (e : Event) → IsNext w e → Applies w e }
     ensures own { (w : PlainWorld) (e : Event) → IsNext w e → IsOwn e }
+{}
+
+/// The same where new chains are taken from some of the queues alone: one event is next, or nothing is left but chains
+/// of the other queues that weren't accepted.
+pub fn one_event_is_next_of_some()
+    ensures some { (asked : ℕ → Bool) (w : PlainWorld) → ((e : Event) × IsNextOf asked w e) ⊎ IsQuietOf asked w }
+    ensures one { (asked : ℕ → Bool) (w : PlainWorld) (e f : Event) → IsNextOf asked w e → IsNextOf asked w f → e ≡ f }
+    ensures applies { (asked : ℕ → Bool) (w : PlainWorld) (e : Event) → IsNextOf asked w e → Applies w e }
+    ensures rest { (asked : ℕ → Bool) (old : PlainWorld) (trace : List Occurrence) (w : PlainWorld) →
+        Reached old trace w → IsQuietOf asked w → IsAtRestOf asked w }
+{}
+
+/// A device that is served so runs, each of its steps changes something, and there are no more of them than what there
+/// is to do pays for, whether it went on to the end or was left before.
+pub fn a_portion_is_a_short_run()
+    ensures runs { (asked : ℕ → Bool) (w : PlainWorld) (more : List Deed) → SettlesOf asked w more →
+        Runs w (map occurrence_of more) (world_of w more) }
+    ensures changes { (asked : ℕ → Bool) (w : PlainWorld) (more : List Deed) → SettlesOf asked w more →
+        count_changes (map occurrence_of more) ≡ length more }
+    ensures short { (asked : ℕ → Bool) (old : PlainWorld) (trace : List Occurrence) (w : PlainWorld)
+        (more : List Deed) → Reached old trace w → SettlesOf asked w more → IsShort w more }
+    ensures rest { (asked : ℕ → Bool) (old : PlainWorld) (trace : List Occurrence) (w : PlainWorld)
+        (more : List Deed) → Reached old trace w → SettlesOf asked w more → IsQuietOf asked (world_of w more) →
+        IsAtRestOf asked (world_of w more) }
 {}
 
 /// In every world that is reached, an event of the device itself that applies can be done: the unit of a job is there
@@ -86,4 +112,15 @@ pub fn a_settling_is_a_run()
 pub fn only_some_events_wake()
     ensures { (w : PlainWorld) (d : Deed) (e : Event) → IsOwn e → Happens d w → Applies (after d w) e →
         (Applies w e → ⊥) → Wakes w d e }
+{}
+
+/// A worker that has one job and nothing in hand puts it into its own list, where that is empty, and takes that very job
+/// next, since its own list comes first; together the two steps leave what keeping the job in hand would.
+pub fn a_worker_takes_what_it_put()
+    ensures puts { (w : PlainWorld) (k : ℕ) (x : PlainJob) → SeatIs w k Hand.Free (x ∷ []) → OffIs w k [] →
+        0 < w.limit → Happens (Deed.Put k x) w }
+    ensures takes { (w : PlainWorld) (k : ℕ) (x : PlainJob) → SeatIs w k Hand.Free (x ∷ []) → OffIs w k [] →
+        k < w.workers → Happens (Deed.Take k k x) (after (Deed.Put k x) w) }
+    ensures leaves { (w : PlainWorld) (k : ℕ) (x : PlainJob) → SeatIs w k Hand.Free (x ∷ []) → OffIs w k [] →
+        after (Deed.Take k k x) (after (Deed.Put k x) w) ≡ after (Deed.Keep k x) w }
 {}

@@ -1,11 +1,14 @@
 -- A function over all of its units, and over all of its marks, from any point on.
-use Rattle.std.proofs.Common.{◌≡◌, ℕ, zero, suc, Bool, true, false, ◌||◌, ◌&&◌, ◌==◌, nat_le, List, [], ◌∷◌, ◌++◌, length, map, drop, slice_index, refl, sym, ap, ◌∙◌, arith}
-use Rattle.std.specs.List.{list_any}
+use Rattle.std.proofs.Common.{◌≡◌, ℕ, zero, suc, Bool, true, false, if◌then◌else◌, not, ◌||◌, ◌&&◌, ◌==◌, nat_le, List, [], ◌∷◌, ◌++◌, length, map, drop, slice_index, refl, sym, ap, ◌∙◌, arith}
+use Rattle.std.specs.List.{list_any, list_all}
 use Rattle.std.proofs.lemmas.List.{append-nil, append_assoc}
 use Rattle.std.proofs.lemmas.Bool.Decides.{nat_tests}
 use Rattle.scsi_codec.specs.declared.control_queue.FunctionResponse.TheVariants.{Failure}
 use Rattle.task_mgmt.specs.declared.function.Mark.{Mark}
-use Rattle.task_mgmt.specs.Functions.{PlainFunction, marking, next_mark, asking, checking, failing, is_over, response_of}
+use Rattle.history.specs.Tasks.{Entry}
+use Rattle.history.specs.Steps.{Step, is_alive}
+use Rattle.history.specs.Clearing.{met_by, met_at, is_clear}
+use Rattle.task_mgmt.specs.Functions.{PlainFunction, marking, next_mark, next_look, asking, checking, failing, is_over, response_of}
 use Rattle.task_mgmt.specs.Visits.{all_marked, all_asked, all_checked}
 
 none_of : {X : Type 0} (xs : List X) → 0 ≡ length xs → xs ≡ []
@@ -47,19 +50,40 @@ marked_places (place ∷ places) f =
     ∙ ap (λ w. w ++ places) (map-push (λ (m : Mark). m.place) f.waits (next_mark place f))
     ∙ append_assoc (map (λ (m : Mark). m.place) f.waits) (place ∷ []) places
 
-asked_left : (looks : List Bool) (f : PlainFunction) → length looks ≡ length f.left → (all_asked looks f).left ≡ []
+pub asked_left : (looks : List Bool) (f : PlainFunction) → length looks ≡ length f.left → (all_asked looks f).left ≡ []
 asked_left [] f e = none_of f.left e
 asked_left (look ∷ looks) f e = asked_left looks (asking look f) (one_less (length looks) f.left e)
 
-asked_waits : (looks : List Bool) (f : PlainFunction) → (all_asked looks f).waits ≡ f.waits
-asked_waits [] f = refl
-asked_waits (look ∷ looks) f = asked_waits looks (asking look f)
+first_alone : (s : Step) → met_at 0 (s ∷ []) ≡ []
+first_alone (Step.Abort rule) = refl
+first_alone (Step.Reset c) = refl
+first_alone (Step.Enter e) = refl
+first_alone (Step.Full t) = refl
+first_alone (Step.Commit t r) = refl
+first_alone (Step.Busy t) = refl
+first_alone (Step.Leave t) = refl
 
-over_of : (f : PlainFunction) → f.left ≡ [] → f.waits ≡ [] → is_over f ≡ true
-over_of f left waits = rw (left, waits) refl
+pub asked_units : (looks : List Bool) (f : PlainFunction) → length looks ≡ length f.left
+    → map (λ (m : Mark). m.unit) (all_asked looks f).waits ≡ map (λ (m : Mark). m.unit) f.waits ++ f.left
+asked_units [] f e =
+    sym (append-nil (map (λ (m : Mark). m.unit) f.waits))
+    ∙ ap (λ w. map (λ (m : Mark). m.unit) f.waits ++ w) (sym (none_of f.left e))
+asked_units (look ∷ looks) f e =
+    asked_units looks (asking look f) (one_less (length looks) f.left e)
+    ∙ ap (λ w. w ++ drop 1 f.left) (map-push (λ (m : Mark). m.unit) f.waits (next_look f))
+    ∙ append_assoc (map (λ (m : Mark). m.unit) f.waits) (slice_index f.left 0 ∷ []) (drop 1 f.left)
+    ∙ ap (λ w. map (λ (m : Mark). m.unit) f.waits ++ w) (whole (length looks) f.left e)
 
-pub asked_over : (looks : List Bool) (f : PlainFunction) → length looks ≡ length f.left → f.waits ≡ [] → is_over (all_asked looks f) ≡ true
-asked_over looks f e none = over_of (all_asked looks f) (asked_left looks f e) (asked_waits looks f ∙ none)
+length_map : {X Y : Type 0} (g : X → Y) (xs : List X) → length (map g xs) ≡ length xs
+length_map g [] = refl
+length_map g (x ∷ xs) = ap suc (length_map g xs)
+
+asked_number : (looks : List Bool) (f : PlainFunction) → length looks ≡ length f.left → f.waits ≡ []
+    → length (all_asked looks f).waits ≡ length f.left
+asked_number looks f e none =
+    sym (length_map (λ (m : Mark). m.unit) (all_asked looks f).waits)
+    ∙ ap (λ (l : List ℕ). length l) (asked_units looks f e)
+    ∙ ap (λ (w : List Mark). length (map (λ (m : Mark). m.unit) w ++ f.left)) none
 
 either_first : (a b c : Bool) → (a || (b || c)) ≡ ((b || a) || c)
 either_first true true c = refl
@@ -82,6 +106,24 @@ le_more n (x ∷ xs) = grind (arith, nat_tests)
 pub checked_over : (n : ℕ) (f : PlainFunction) → f.left ≡ [] → is_over (all_checked n f) ≡ nat_le (length f.waits) n
 checked_over zero f e = over_where f.left f.waits e
 checked_over (suc n) f e = checked_over n (checking f) e ∙ le_more n f.waits
+
+pub asked_over : (looks : List Bool) (f : PlainFunction) (n : ℕ) → length looks ≡ length f.left → f.waits ≡ []
+    → is_over (all_checked n (all_asked looks f)) ≡ nat_le (length f.left) n
+asked_over looks f n e none =
+    checked_over n (all_asked looks f) (asked_left looks f e) ∙ ap (λ k. nat_le k n) (asked_number looks f e none)
+
+later_step : (n : ℕ) → (suc n == 0) ≡ false
+later_step n = grind (arith, nat_tests)
+
+-- the first step of a history met no task
+pub first_meets_none : (h : List Step) → met_at 0 h ≡ []
+first_meets_none [] = refl
+first_meets_none (s ∷ []) = first_alone s
+first_meets_none (s ∷ r ∷ past) =
+    ap (λ b. if b then met_by s (r ∷ past) else met_at 0 (r ∷ past)) (later_step (length past)) ∙ first_meets_none (r ∷ past)
+
+pub look_clear : (h : List Step) → is_clear 0 h ≡ true
+look_clear h = ap (λ es. list_all (λ (e : Entry). not (is_alive e.ticket h)) es) (first_meets_none h)
 
 pub checked_left : (n : ℕ) (f : PlainFunction) → (all_checked n f).left ≡ f.left
 checked_left zero f = refl

@@ -39,7 +39,7 @@ kind_of subtype id =
     else (if subtype == 7 then Some (Asking All) else None))))))
 
 -- own: what a function does, whether a look found a task, whether a mark was refused memory, the units that are left,
--- by their places in the inventory, and the marks that are still to be clear, in order
+-- by their places in the inventory, and the marks and looks that are still to be clear, in order
 pub record PlainFunction : Type 0 where
   pub kind : Kind
   pub found : Bool
@@ -59,9 +59,15 @@ marking mark f = record f { left = drop 1 f.left; waits = f.waits ++ mark ∷ []
 abbrev pub next_mark : ℕ → PlainFunction → Mark
 next_mark place f = record { unit = slice_index f.left 0; place = place }
 
+-- own: what a query waits for at the next unit is no step: place 0, before which no task entered, so that it is clear
+-- whatever is alive there, and whatever comes to stand later
+abbrev pub next_look : PlainFunction → Mark
+next_look f = next_mark 0 f
+
 -- own: a query looked at the next unit
 abbrev pub asking : Bool → PlainFunction → PlainFunction
-asking found f = record f { found = found || f.found; left = drop 1 f.left }
+asking found f =
+    record f { found = found || f.found; left = drop 1 f.left; waits = f.waits ++ next_look f ∷ [] }
 
 -- own: a mark was refused memory: no unit is left
 abbrev pub failing : PlainFunction → PlainFunction
@@ -71,7 +77,7 @@ failing f = record f { refused = true; left = [] }
 abbrev pub checking : PlainFunction → PlainFunction
 checking f = record f { waits = drop 1 f.waits }
 
--- own: every unit was visited, and every mark is clear
+-- own: every unit was visited, and every mark and look is clear
 abbrev pub is_over : PlainFunction → Bool
 is_over f = (length f.left == 0) && (length f.waits == 0)
 

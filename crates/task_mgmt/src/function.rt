@@ -9,17 +9,19 @@ use decisions::MOST_UNITS;
 use scsi_codec::FunctionResponse;
 use std::marker::Model;
 
-/// That a unit was marked: the mark is clear once every task that it met has left.
+/// That a unit was marked, or looked at: a mark is clear once every task that it met has left, a look at once.
 #[derive(Clone, Copy, Default)]
 pub struct Mark {
     /// The place of the unit in the inventory.
     pub unit: usize,
-    /// How many steps of the unit's history stand before the mark.
+    /// How many steps of the unit's history stand before the mark; 0 of a look, which stands there as no step and met
+    /// no task.
     pub place: u64,
 }
 
 /// A task management function that has begun (SAM-5 §7.1). It first visits each of its units, once and by rising
-/// LUN, then waits for each mark in that order, and then has its response. No call takes memory.
+/// LUN, then checks each of them in that order, where it waits for its mark, and then has its response. No call takes
+/// memory.
 #[derive(Drop)]
 pub struct Function {
     kind: Kind,
@@ -85,12 +87,16 @@ impl Function {
         self.waits.push(Mark { unit, place });
     }
 
-    /// A query looked at the next unit, and found a task or none. Nothing is waited for.
+    /// A query looked at the next unit, and found a task or none. Its check is still to come, and is clear at once.
     pub fn found(&mut self, yes: bool)
         requires { 0 < length self.old.left }
         ensures { self.new ≡ asking yes self.old }
     {
-        self.left.remove(0);
+        let look = Mark {
+            unit: self.left.remove(0),
+            place: 0,
+        };
+        self.waits.push(look);
         self.found = yes || self.found;
     }
 
@@ -102,14 +108,14 @@ impl Function {
         self.refused = true;
     }
 
-    /// The mark that is to be clear next; `None` where none is waited for.
+    /// The mark or look that is to be clear next; `None` where none is waited for.
     pub fn waits_for(&self) -> Option<Mark>
         ensures { result ≡ slice_get self.now.waits 0 }
     {
         self.waits.as_slice().first().copied()
     }
 
-    /// The mark that was waited for is clear.
+    /// The mark or look that was waited for is clear.
     pub fn cleared(&mut self)
         requires { 0 < length self.old.waits }
         ensures { self.new ≡ checking self.old }

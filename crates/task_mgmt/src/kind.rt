@@ -20,7 +20,7 @@ pub enum Strike {
 pub enum Kind {
     /// It marks the tasks that are alive, and waits until those that it meets have left.
     Marking(Strike),
-    /// It looks for a task that is alive (SAM-5 §7.8, §7.9), and waits for none.
+    /// It looks for a task that is alive (SAM-5 §7.8, §7.9); its checks wait for none.
     Asking(Rule),
 }
 

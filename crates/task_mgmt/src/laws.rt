@@ -2,6 +2,8 @@
 
 ghost use Rattle.std.specs.Prelude.{◌≡◌, ◌≢◌, ◌<◌, ◌≤◌, ◌==◌, nat_le, ℕ, Bool, true, false, List, [], ◌∷◌, length, map, slice_get, Option, Some, None, Ok, Err};
 ghost use Rattle.std.specs.List.{list_any};
+ghost use Rattle.history.specs.Steps.{Step};
+ghost use Rattle.history.specs.Clearing.{is_clear};
 ghost use Rattle.history.specs.declared.rule.Rule.{Rule};
 ghost use Rattle.history.specs.declared.rule.Rule.TheVariants.{Id, All};
 ghost use Rattle.scsi_codec.specs.declared.lun.Address.{Address};
@@ -14,7 +16,7 @@ ghost use Rattle.task_mgmt.specs.declared.kind.Strike.{Strike};
 ghost use Rattle.task_mgmt.specs.declared.kind.Strike.TheVariants.{Abort, Reset};
 ghost use Rattle.task_mgmt.specs.declared.function.Mark.{Mark};
 ghost use Rattle.task_mgmt.specs.declared.control.ControlDecision.TheVariants.{Direct};
-ghost use Rattle.task_mgmt.specs.Functions.{PlainFunction, kind_of, opened, failing, is_over, response_of};
+ghost use Rattle.task_mgmt.specs.Functions.{PlainFunction, kind_of, opened, next_look, failing, is_over, response_of};
 ghost use Rattle.task_mgmt.specs.Demands.{is_of_target, places_of, demanded};
 ghost use Rattle.task_mgmt.specs.Control.{decided_of};
 ghost use Rattle.task_mgmt.specs.Visits.{all_marked, all_asked, all_checked, AreRising};
@@ -75,12 +77,22 @@ pub fn each_unit_is_marked_once()
         → map (λ (m : Mark). m.place) (all_marked places (opened kind units)).waits ≡ places }
 {}
 
-/// A query looks at each of its units once, waits for none, and is answered whether a look found a task.
+/// A query looks at each of its units once, in their order, is over once each of them was checked, and not before, and
+/// is answered whether a look found a task.
 pub fn each_unit_is_asked_once()
-    ensures over { (kind : Kind) (units : List ℕ) (looks : List Bool) → length looks ≡ length units
-        → is_over (all_asked looks (opened kind units)) ≡ true }
+    ensures none_left { (kind : Kind) (units : List ℕ) (looks : List Bool) → length looks ≡ length units
+        → (all_asked looks (opened kind units)).left ≡ [] }
+    ensures units { (kind : Kind) (units : List ℕ) (looks : List Bool) → length looks ≡ length units
+        → map (λ (m : Mark). m.unit) (all_asked looks (opened kind units)).waits ≡ units }
+    ensures over { (kind : Kind) (units : List ℕ) (looks : List Bool) (n : ℕ) → length looks ≡ length units
+        → is_over (all_checked n (all_asked looks (opened kind units))) ≡ nat_le (length units) n }
     ensures found { (kind : Kind) (units : List ℕ) (looks : List Bool)
         → (all_asked looks (opened kind units)).found ≡ list_any (λ look. look) looks }
+{}
+
+/// A query's check of a unit is clear whatever the unit's history, now and later.
+pub fn looks_are_clear()
+    ensures { (f : PlainFunction) (h : List Step) → is_clear (next_look f).place h ≡ true }
 {}
 
 /// A function that has no unit left is over once each of its marks was clear, and not before.

@@ -14,6 +14,6 @@ pub use function::{Function, Mark};
 pub use kind::{Kind, Strike};
 pub use laws::{
     direct_answers, each_mark_is_waited_for, each_unit_is_asked_once, each_unit_is_marked_once,
-    kinds_by_subtype, places_are_those_of_the_target, refusals_in_order, refused_functions_fail,
-    responses_of_functions, units_of_functions,
+    kinds_by_subtype, looks_are_clear, places_are_those_of_the_target, refusals_in_order,
+    refused_functions_fail, responses_of_functions, units_of_functions,
 };

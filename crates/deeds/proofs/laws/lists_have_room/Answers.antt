@@ -1,5 +1,5 @@
 use Rattle.deeds.proofs.Working.{run_works}
-use Rattle.deeds.proofs.Rooms.{seats_room, run_room}
+use Rattle.deeds.proofs.Rooms.{seats_room, run_room, run_lists}
 use Rattle.deeds.proofs.laws.lists_have_room.Goals as goal
 
 pub returns : goal.returns
@@ -7,5 +7,6 @@ returns c =
     λ old trace w r.
     record {
       seats = seats_room w (run_works old trace w r.opens r.runs);
+      lists = run_lists old trace w r.opens r.runs;
       handed_off = run_room old trace w r.opens r.runs;
     }

@@ -1,52 +1,61 @@
-use Rattle.std.proofs.Common.{◌≡◌, ap, sym, ◌∙◌, subst, [], ◌∷◌}
-use Rattle.std.proofs.lemmas.List.{nil_from_length}
-use Rattle.crossbeam_queue.specs.Passes.{view}
-use Rattle.handoff.specs.Moves.{HandedOver}
-use Rattle.handoff.specs.Seats.{pass_view, accounts_of}
-use Rattle.handoff.proofs.Rules.{merges, settles}
-use Rattle.handoff.proofs.Seating.{none_handed}
-use Rattle.handoff.proofs.Even.{even, even_by_ticket}
-use Rattle.handoff.proofs.Gathering.{gather_start, gather_more, gather_end, gather_count, next_of}
+use Rattle.std.proofs.Common.{◌≡◌, ◌<◌, ℕ, [], ◌∷◌, length, ap, sym, ◌∙◌, subst, arith}
+use Rattle.std.proofs.lemmas.List.{nil_from_length, length-map}
+use Rattle.handoff.specs.Moves.{AreSettled}
+use Rattle.handoff.specs.Places.{PlainPlace}
+use Rattle.handoff.specs.Seats.{PlainSeat, AreSeatsFrom, IsSeated, HandedOver}
+use Rattle.handoff.proofs.Lists.{stands_at}
+use Rattle.handoff.proofs.Gathering.{AreBelow, gather_start, gather_more, has_column, knows_all, all_below, handed_over}
+use Rattle.handoff.proofs.Even.{gathered}
 use Rattle.handoff.proofs.queue.Handoff.gather.Goals as goal
 
 pub returns-in_default : goal.returns-in_default
 returns-in_default c =
     let none : c.args.seats.items ≡ [] = nil_from_length _ (sym c.args.seats.ok.0 ∙ sym c.into_iter-seats.ensures.len ∙ c.in_default.ensures.cases.0) in
-    let all = even c.args.self.now [] [] tt none_handed in
-    rw none ([], none_handed, all, even_by_ticket [] [] all)
+    rw none (λ q. [], gathered c.args.self.now [] (λ q. []) tt tt (λ q lt. absurd (omega (arith, lt))))
 
 pub loop-seat-init : goal.loop-seat-init
 loop-seat-init c =
-    let knows : view c.first.inside.pass ≡ pass_view c.in-Some.first = c.first.invariant.1 ∙ ap pass_view c.first.view_is in
+    let places = c.first.inside.places.items in
     let items : c.args.seats.items ≡ c.in-Some.first ∷ c.into_iter-seat-iterator.result.rest.items = cc (c.in-Some.ensures.items, c.into_iter-seats.ensures.rest, c.into_iter-seat-iterator.ensures.into_iter_gives) in
-    ((ap (λ p. p.queue) c.first.view_is ∙ next_of c.args.self.now _ _ _ _ c.requires.in_order items ∙ sym (ap (λ h. h.queue) c.self.view_is), c.first.invariant.0), gather_start _ _ _ _ _ c.requires.in_order items knows)
-
-pub absorb-requires-clause-queue : goal.absorb-requires-clause-queue
-absorb-requires-clause-queue c = (c.loop-seat.invariant.0, (ap (λ p. p.queue) c.seat.view_is ∙ next_of c.args.self.now _ _ _ _ c.loop-seat.invariant.1.next c.in-Some-seat.ensures.steps.0 ∙ sym (ap (λ h. h.queue) c.self.view_is), c.seat.invariant.0))
-
-pub absorb-requires-clause-rule : goal.absorb-requires-clause-rule
-absorb-requires-clause-rule c = merges _ _ _ _ (ap (λ v. v.is_chief) c.loop-seat.invariant.1.knows)
+    gather_start c.args.self.now c.in-Some.first _ c.args.seats.items places
+    (subst (λ (z : PlainSeat). IsSeated z places) c.first.view_is c.first.invariant)
+    (ap (λ (z : PlainSeat). z.queues) c.first.view_is) c.requires.in_order items
 
 pub loop-seat-preserved : goal.loop-seat-preserved
 loop-seat-preserved c =
-    let old = c.loop-seat.invariant in
-    let knows : view c.seat.inside.pass ≡ pass_view c.in-Some-seat.seat = c.seat.invariant.1 ∙ ap pass_view c.seat.view_is in
-    let queue = c.absorb.ensures.queue in
-    ((queue.0 ∙ old.0.0, queue.2 ∙ old.0.1), gather_more _ _ _ _ _ _ _ _ old.1 (c.in-Some-seat.ensures.steps.0) knows c.absorb.ensures.rule)
+    let places = c.seat.inside.places.items in
+    gather_more c.args.self.now c.in-Some-seat.seat _ c.args.seats.items places
+    (subst (λ (z : PlainSeat). IsSeated z places) c.seat.view_is c.seat.invariant)
+    (ap (λ (z : PlainSeat). z.queues) c.seat.view_is) _ c.loop-seat.chiefs.items c.absorb.new.chiefs.items
+    c.loop-seat.invariant c.in-Some-seat.ensures.steps.0 c.absorb.ensures.at c.absorb.ensures.joined
 
-pub learn_as-requires-clause-queue : goal.learn_as-requires-clause-queue
-learn_as-requires-clause-queue c = c.loop-seat.invariant.0
-
-pub learn_as-requires-clause-rule : goal.learn_as-requires-clause-rule
-learn_as-requires-clause-rule c =
+pub learn-requires-clause-all : goal.learn-requires-clause-all
+learn-requires-clause-all c =
     let none : c.loop-seat.seat-iterator.rest.items ≡ [] = nil_from_length _ (sym c.loop-seat.seat-iterator.rest.ok.0 ∙ c.in-None.ensures.steps.0) in
-    settles _ _ (ap (λ v. v.is_chief) c.loop-seat.invariant.1.knows) (gather_count _ _ _ _ c.loop-seat.invariant.1 none c.requires.count)
+    knows_all c.args.self.now c.loop-seat.chiefs.items _ c.args.seats.items c.loop-seat.invariant none c.requires.count
 
 pub returns : goal.returns
 returns c =
+    let hub = c.args.self.now in
+    let all = c.args.seats.items in
+    let chiefs = c.loop-seat.chiefs.items in
+    let g = c.loop-seat.invariant in
     let none : c.loop-seat.seat-iterator.rest.items ≡ [] = nil_from_length _ (sym c.loop-seat.seat-iterator.rest.ok.0 ∙ c.in-None.ensures.steps.0) in
-    let known = c.learn_as.ensures.rule in
-    let seats = c.args.seats.items in
-    let done : HandedOver (accounts_of seats) known.0 = subst (λ w. HandedOver w known.0) (gather_end _ _ _ _ c.loop-seat.invariant.1 none) known.1 in
-    let all = even c.args.self.now seats known.0 c.requires.in_order done in
-    (known.0, done, all, even_by_ticket seats known.0 all)
+    let items : all ≡ c.in-Some.first ∷ c.into_iter-seat-iterator.result.rest.items = cc (c.in-Some.ensures.items, c.into_iter-seats.ensures.rest, c.into_iter-seat-iterator.ensures.into_iter_gives) in
+    let order : AreSeatsFrom hub 0 (c.in-Some.first ∷ c.into_iter-seat-iterator.result.rest.items) = subst (AreSeatsFrom hub 0) items c.requires.in_order in
+    let a = ap length (ap (λ (z : PlainSeat). z.queues) c.first.view_is ∙ order.0.queues) in
+    let b = ap (λ (z : PlainSeat). z.seats) c.first.view_is in
+    let d = ap length g.places in
+    let x = length-map c.first.inside.places.items (λ (p : PlainPlace). p.queue) in
+    let y = length-map chiefs (λ (p : PlainPlace). p.queue) in
+    let many : length chiefs ≡ length all = omega (arith, a, b, d, x, y, order.0.seats, c.requires.count) in
+    let left = c.learn.ensures.0 in
+    let each : (q : ℕ) → q < length all → HandedOver all q (left q) = λ q lt.
+    let chief = stands_at chiefs q (omega (arith, lt, many)) in
+    handed_over hub all c.requires.in_order q (left q)
+    (subst (λ accounts. AreSettled accounts (left q)) (has_column hub chiefs _ all g none c.requires.count q chief.0 chief.1)
+    (c.learn.ensures.1 q chief.0 chief.1)) in (
+      left,
+      gathered hub all left c.requires.in_order
+          (subst (λ (n : ℕ). AreBelow n all) (sym c.requires.count) (all_below hub chiefs _ all g none c.requires.count)) each,
+    )

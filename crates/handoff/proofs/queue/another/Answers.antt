@@ -1,0 +1,23 @@
+use Rattle.std.proofs.Common.{◌+◌, arith}
+use Rattle.std.proofs.lemmas.Option.{slice_get_within}
+use Rattle.handoff.specs.Rule.{newcomer}
+use Rattle.handoff.specs.Lanes.{lead}
+use Rattle.handoff.proofs.Seating.{all_made}
+use Rattle.handoff.proofs.queue.another.Goals as goal
+
+pub returns-clause-chiefs : goal.returns-clause-chiefs
+returns-clause-chiefs c =
+    let lanes = c.args.lanes.now in
+    let made = c.loop-at.invariant in
+    all_made (lead (c.args.number + 1)) lanes c.loop-at.chiefs.items made.many (λ q x at.
+    let lt = slice_get_within lanes q x at in
+    made.done q x (omega (arith, lt, c.loop-at-test.false)) at)
+
+pub returns-clause-places : goal.returns-clause-places
+returns-clause-places c =
+    let lanes = c.args.lanes.now in
+    let made = c.loop-at.invariant in
+    all_made (newcomer (lead c.args.number)) lanes c.loop-at.places.items
+    (omega (arith, made.count, c.loop-at.auto.at-end, c.loop-at-test.false)) (λ q x at.
+    let lt = slice_get_within lanes q x at in
+    made.made q x (omega (arith, lt, c.loop-at-test.false)) at)
