@@ -49,6 +49,12 @@ pub const UNIT_RESET: Sent = Sent {
     writable: 1,
 };
 
+/// QUERY TASK of the task 0 of LUN 0 of target 0.
+pub const QUERY: Sent = Sent {
+    bytes: &[0, 0, 0, 0, 6, 0, 0, 0, 1, 0, 0x40],
+    ..UNIT_RESET
+};
+
 /// I_T NEXUS RESET of target 0.
 pub const NEXUS_RESET: Sent = Sent {
     bytes: &[0, 0, 0, 0, 4, 0, 0, 0, 1, 0, 0x40],

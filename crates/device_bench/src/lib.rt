@@ -7,7 +7,9 @@ mod moves;
 mod opening;
 mod steps;
 
-pub use guest::{ABSENT, BUFFER, NEXUS_RESET, ORDERED, READ, READY, REJECTED, Sent, UNIT_RESET};
+pub use guest::{
+    ABSENT, BUFFER, NEXUS_RESET, ORDERED, QUERY, READ, READY, REJECTED, Sent, UNIT_RESET,
+};
 pub use moves::Move;
 pub use opening::{NUMBERS, Numbers};
 pub use steps::{Row, Step, UNIT, first_wrong};

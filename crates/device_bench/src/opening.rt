@@ -1,36 +1,12 @@
 //! Devices, by the numbers of their configuration.
 
+use block_store::NoMemory;
 use ring_core::Layout;
 use std::alloc::Global;
 use world::{Config, StartFault, UnitSpec, VERSION_1, World};
 
-/// Four queues of 8 descriptors, each in 4,096 bytes of its own.
-static QUEUES: [Layout; 4] = [
-    Layout {
-        size: 8,
-        desc: 0,
-        driver: 1024,
-        device: 2048,
-    },
-    Layout {
-        size: 8,
-        desc: 4096,
-        driver: 5120,
-        device: 6144,
-    },
-    Layout {
-        size: 8,
-        desc: 8192,
-        driver: 9216,
-        device: 10240,
-    },
-    Layout {
-        size: 8,
-        desc: 12288,
-        driver: 13312,
-        device: 14336,
-    },
-];
+/// Where four queues lie, each in 4,096 bytes of its own.
+static AREAS: [u64; 4] = [0, 4096, 8192, 12288];
 
 /// The numbers of a configuration.
 #[derive(Clone, Copy)]
@@ -39,6 +15,7 @@ pub struct Numbers {
     pub features: u64,
     pub workers: u16,
     pub handoff: u16,
+    pub slots: u16,
 }
 
 /// Numbers that are taken, of split queues.
@@ -47,15 +24,33 @@ pub const NUMBERS: Numbers = Numbers {
     features: VERSION_1,
     workers: 2,
     handoff: 8,
+    slots: 8,
 };
 
-/// A device with `QUEUES`. It has no contract, so that what `new` promises is read once.
+/// Returns queues of so many descriptors.
+fn layouts(alloc: Global, slots: u16) -> Result<Vec<Layout>, NoMemory> {
+    let mut queues = Vec::new(alloc);
+    for area in AREAS {
+        let layout = Layout {
+            size: slots,
+            desc: area,
+            driver: area + 1024,
+            device: area + 2048,
+        };
+        if queues.push(layout).is_err() {
+            return Err(NoMemory);
+        }
+    }
+    Ok(queues)
+}
+
+/// Starts a device with four queues. It has no contract, so that what `new` promises is read once.
 pub(crate) fn start(
     alloc: Global,
     numbers: Numbers,
     units: &[UnitSpec],
 ) -> Result<World, StartFault> {
-    let Ok(queues) = Vec::from_slice(alloc, QUEUES.as_slice()) else {
+    let Ok(queues) = layouts(alloc, numbers.slots) else {
         return Err(StartFault::NoMemory);
     };
     let Ok(units) = Vec::from_slice(alloc, units) else {

@@ -31,6 +31,8 @@ pub enum Step {
     Idle(u16, u16, u16),
     /// The device settles in so many steps.
     Settle(u64),
+    /// The device serves the queues of these bits, at most so many steps: how many it takes, and whether more are left.
+    Serve(u32, u64, u64, bool),
     /// Guest memory has these bytes at an address.
     Has(u64, &'static [u8]),
     /// What the device wrote for a queue's chain of a number begins so.
@@ -77,6 +79,19 @@ fn settle(world: &mut World) -> Result<u64, NoMemory> {
     Ok(world.settle()?)
 }
 
+/// Whether the device serves some queues in so many steps, and says so whether more are left. It has no contract, so
+/// that what `serve` promises is read once.
+fn serves(
+    world: &mut World,
+    queues: u32,
+    most: u64,
+    steps: u64,
+    more: bool,
+) -> Result<bool, NoMemory> {
+    let served = world.serve(queues, most)?;
+    Ok(served.steps == steps && served.more == more)
+}
+
 /// Whether a target's LUN 0 has a block.
 fn has_block(alloc: Global, world: &World, target: u8, lba: u64) -> Result<bool, NoMemory> {
     let mut block = Vec::new(alloc);
@@ -106,6 +121,7 @@ fn takes(alloc: Global, world: &mut World, named: Step) -> Result<bool, NoMemory
         Step::Run(moves, count) => Ok(run(alloc, world, moves)? == count),
         Step::Idle(queue, seat, place) => Ok(step_all(alloc, world, queue, seat, place)? == 0),
         Step::Settle(count) => Ok(settle(world)? == count),
+        Step::Serve(queues, most, steps, more) => serves(world, queues, most, steps, more),
         Step::Block(target, lba, is_there) => Ok(has_block(alloc, world, target, lba)? == is_there),
         _ => Ok(shows(world, named)),
     }

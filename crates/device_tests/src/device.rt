@@ -2,6 +2,7 @@
 
 mod configurations;
 mod events;
+mod portions;
 mod service;
 mod views;
 
@@ -41,6 +42,11 @@ fn refuses_bad_configurations(rt: HostRuntime) -> Result<(), Fail> {
 #[test]
 fn serves_what_is_sent(rt: HostRuntime) -> Result<(), Fail> {
     play_all(&rt, rt.alloc(), &service::ROWS)
+}
+
+#[test]
+fn serves_in_portions(rt: HostRuntime) -> Result<(), Fail> {
+    play_all(&rt, rt.alloc(), &portions::ROWS)
 }
 
 #[test]

@@ -19,7 +19,7 @@ const SECOND: Ticket = Ticket {
 };
 
 /// What is amiss, and what is said of it.
-static ROWS: [(Amiss, Option<CloseFault>); 7] = [
+static ROWS: [(Amiss, Option<CloseFault>); 8] = [
     (Amiss::Nothing, None),
     (Amiss::ReceiptLost, Some(CloseFault::Outstanding(FIRST))),
     (Amiss::ReceiptTwice, Some(CloseFault::Outstanding(FIRST))),
@@ -27,6 +27,7 @@ static ROWS: [(Amiss, Option<CloseFault>); 7] = [
     (Amiss::ChainUnused, Some(CloseFault::Outstanding(SECOND))),
     (Amiss::NoteOfAnother, Some(CloseFault::Outstanding(FIRST))),
     (Amiss::BothLost, Some(CloseFault::Outstanding(FIRST))),
+    (Amiss::RunTwice, Some(CloseFault::Outstanding(FIRST))),
 ];
 
 /// The number of the first row of which something else is said, from 0.

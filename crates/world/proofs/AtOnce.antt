@@ -5,14 +5,14 @@ use Rattle.std.proofs.lemmas.Option.{slice_get_within}
 use Rattle.task_set.specs.Jobs.{PlainJob, Jobs}
 use Rattle.task_set.specs.Unit.{PlainUnit}
 use Rattle.deeds.specs.Parts.{Slot, Hand}
-use Rattle.deeds.specs.World.{PlainQueue, PlainWorld, Seat, Everywhere}
+use Rattle.deeds.specs.World.{PlainQueue, PlainWorld, Seat, Everywhere, IsBefore, change}
 use Rattle.deeds.specs.Events.{Event}
-use Rattle.deeds.specs.After.{slotted}
+use Rattle.deeds.specs.After.{slotted, with_job}
 use Rattle.deeds.specs.Applies.{Applies, MayPut, MayTake}
 use Rattle.deeds.specs.Phases.{HasHand}
 use Rattle.deeds.specs.Standing.{SlotOwns}
 use Rattle.deeds.specs.Turns.{Turns}
-use Rattle.deeds.proofs.Lists.{same}
+use Rattle.deeds.proofs.Lists.{same, get_change}
 use Rattle.settling.specs.Order.{of_seat}
 use Rattle.queues.specs.Queue.{Lent}
 use Rattle.queue_phases.specs.Queue.{with_slot}
@@ -23,7 +23,7 @@ use Rattle.phases.specs.Serving.{ServesAtOnce, OnlyEnters, Serves}
 use Rattle.world.specs.Kept.{KeptSeat, seat_of}
 use Rattle.world.specs.Sound.{AreSound, IsSound, IsWhole}
 use Rattle.world.specs.Settling.{ServesBy}
-use Rattle.world.specs.declared.cursor.Served.{Served}
+use Rattle.world.specs.declared.cursor.Progress.{Progress}
 use Rattle.world.specs.Cursors.{MayServe, served_of, StepsNext, ServesNext, TurnsFirst, NoneBefore, NoneBeforeFetch, NoFetchBelow, NoSeat, NoEnter, NoSeatBelow}
 use Rattle.world.specs.declared.cursor.Cursor.TheVariants as cursor
 use Rattle.world.proofs.Placing.{everywhere_set}
@@ -52,6 +52,18 @@ set_twice : {X : Type 0} (xs : List X) (k : ℕ) (y z : X) → slice_set (slice_
 set_twice [] k y z = refl
 set_twice (x ∷ xs) zero y z = refl
 set_twice (x ∷ xs) (suc k) y z = ap (λ l. x ∷ l) (set_twice xs k y z)
+
+-- no list comes before the first seat's on its way round
+none_before : (i : ℕ) → IsBefore 0 i 0 → ⊥
+none_before i (inl p) = elim p.1 [ inl lt ↦ omega (arith, lt) | inr lt ↦ omega (arith, lt) ]
+none_before i (inr p) = omega (arith, p.0)
+
+-- a job that was put into the first list, which was empty, and taken from it leaves the lists as they were
+put_taken : (x : PlainJob) (lists : List (List PlainJob)) → slice_get lists 0 ≡ Some []
+    → change (drop 1) 0 (change (with_job x) 0 lists) ≡ lists
+put_taken x [] e = refl
+put_taken x (l ∷ ls) e =
+    ap (λ (z : List PlainJob). z ∷ ls) (ap (λ (z : List PlainJob). drop 1 (with_job x z)) (same e) ∙ sym (same e))
 
 empty_arrived : (y : PlainJob) → Slot.Empty ≡ Slot.Arrived y → ⊥
 empty_arrived y e = cc
@@ -92,11 +104,13 @@ first_take w w' there t =
     taken (of_seat 0) (Event.Take 0) w w'
     (λ a. inr (idle.leave, inr (idle.answer, inr (idle.commit, inr (no_put, inl (a, refl)))))) t
 
-module _ (sound : AreSound) (w : PlainWorld) (whole : IsWhole w) (i : ℕ) (q : PlainQueue) (limit : ℕ) (rest : List KeptSeat)
+module _ (sound : AreSound) (asked : ℕ → Bool) (w : PlainWorld) (whole : IsWhole w) (i : ℕ) (q : PlainQueue) (limit : ℕ)
+    (rest : List KeptSeat)
     (are : w.seats ≡ map seat_of (bare Hand.Free limit ∷ rest))
     (fits : Everywhere (λ j (z : PlainQueue). z.ring.memory ≡ length w.memory) w.queues)
     (limits : Everywhere (λ k (s : KeptSeat). s.limit ≡ 64 * length w.units + 64) (bare Hand.Free limit ∷ rest))
-    (may : MayServe i w) (q_at : slice_get w.queues i ≡ Some q) (before : NoneBeforeFetch w) (below : NoFetchBelow i w)
+    (may : MayServe i w) (q_at : slice_get w.queues i ≡ Some q) (before : NoneBeforeFetch w) (below : NoFetchBelow asked i w)
+    (is_asked : asked i ≡ true)
     (x : PlainJob) (lent : Lent)
     (fetched : FetchesRequest w.inventory w.memory q (Ok true) (with_slot (Slot.Arrived x) lent)) where
   abbrev q1 : PlainQueue
@@ -108,14 +122,14 @@ module _ (sound : AreSound) (w : PlainWorld) (whole : IsWhole w) (i : ℕ) (q : 
   at1 : slice_get w1.queues i ≡ Some q1
   at1 = get_set w.queues i q1 may.there
 
-  next1 : StepsNext w (cursor.Enter i) w1
+  next1 : StepsNext asked w (cursor.Enter i) w1
   next1 =
       let turn = request_turns w i q q1 (Ok true) (sound w whole.reached) may.request q_at (fits i q q_at) fetched in
-      fetch_next w w w1 i true (cursor.Enter i) refl refl before below may.there turn
+      fetch_next asked w w w1 i true (cursor.Enter i) refl refl before below may.there is_asked turn
       (inr (refl, may.closed, (x, (q1, at1, refl))))
 
   whole1 : IsWhole w1
-  whole1 = whole_by_step w (cursor.Enter i) w1 whole next1
+  whole1 = whole_by_step asked w (cursor.Enter i) w1 whole next1
 
   lt1 : i < length w1.queues
   lt1 = omega (arith, set_length i w.queues q1, may.there)
@@ -140,9 +154,9 @@ module _ (sound : AreSound) (w : PlainWorld) (whole : IsWhole w) (i : ℕ) (q : 
       abbrev e2 : PlainWorld
       e2 = entered_in w1 (bare Hand.Free limit ∷ rest) i (slotted s' q1) x.unit u' 0 (bare Hand.Free limit)
 
-      only_next : StepsNext w1 cursor.Start e2
+      only_next : StepsNext asked w1 cursor.Start e2
       only_next =
-          enter_next w1 w1 e2 i true cursor.Start refl refl next1.4.0 next1.4.1 next1.4.2 next1.4.3 lt1
+          enter_next asked w1 w1 e2 i true cursor.Start refl refl next1.4.0 next1.4.1 next1.4.2 next1.4.3 lt1
           (enter_turn u' s' (none limit) (s.enters (none limit))) (inl refl)
 
       pub only_is : e2 ≡ set_all w m' i (with_slot s' q') x.unit u' (bare Hand.Free limit ∷ rest) (seat_with Hand.Free out')
@@ -162,11 +176,11 @@ module _ (sound : AreSound) (w : PlainWorld) (whole : IsWhole w) (i : ℕ) (q : 
           ∙ ap (λ (o : Jobs). set_all w m' i (with_slot s' q') x.unit u' (bare Hand.Free limit ∷ rest) (seat_with Hand.Free o))
           (sym s.jobs)
 
-      pub only_serves : ServesBy w 2
+      pub only_serves : ServesBy asked w 2
           (set_all w m' i (with_slot s' q') x.unit u' (bare Hand.Free limit ∷ rest) (seat_with Hand.Free out'))
       only_serves =
-          subst (λ z. ServesBy w 2 z) only_is
-          (serves_next w w1 1 cursor.Start e2 (serves_one w (cursor.Enter i) w1 next1) only_next)
+          subst (λ z. ServesBy asked w 2 z) only_is
+          (serves_next asked w w1 1 cursor.Start e2 (serves_one asked w (cursor.Enter i) w1 next1) only_next)
 
     module _ (left : Bool) (s : ServesAtOnce x u lent w.memory (none limit) left u' q' m' out') where
       abbrev w2 : PlainWorld
@@ -177,57 +191,60 @@ module _ (sound : AreSound) (w : PlainWorld) (whole : IsWhole w) (i : ℕ) (q : 
       at2 : slice_get w2.queues i ≡ Some (slotted Slot.Empty q1)
       at2 = get_set w1.queues i (slotted Slot.Empty q1) lt1
 
-      next2 : StepsNext w1 cursor.Seats w2
+      next2 : StepsNext asked w1 cursor.Seats w2
       next2 =
-          enter_next w1 w1 w2 i true cursor.Seats refl refl next1.4.0 next1.4.1 next1.4.2 next1.4.3 lt1
+          enter_next asked w1 w1 w2 i true cursor.Seats refl refl next1.4.0 next1.4.1 next1.4.2 next1.4.3 lt1
           (enter_turn s.entered Slot.Empty (with_more (x ∷ []) (none limit)) (s.enters (none limit)))
           (inr (refl, (slotted Slot.Empty q1, at2, refl)))
 
       whole2 : IsWhole w2
-      whole2 = whole_by_step w1 cursor.Seats w2 whole1 next2
+      whole2 = whole_by_step asked w1 cursor.Seats w2 whole1 next2
 
       abbrev w3 : PlainWorld
       w3 =
           record w2 {
             seats = map seat_of (bare Hand.Free limit ∷ rest);
-            handed_off = w.handed_off ++ x ∷ [];
+            handed_off = change (with_job x) 0 w.handed_off;
             limit = w.limit;
           }
 
-      room : length w.handed_off < w.limit
-      room = subst (λ (l : List PlainJob). length l < w.limit) (sym may.handed_off) may.room
-
-      next3 : StepsNext w2 cursor.Seats w3
+      next3 : StepsNext asked w2 cursor.Seats w3
       next3 =
           let put = puts w2 (record { hand = Hand.Free; jobs = x ∷ []; limit = limit } ∷ rest) refl 0
           (record { hand = Hand.Free; jobs = x ∷ []; limit = limit }) (bare Hand.Free limit) refl x
-          (record { jobs = w.handed_off ++ x ∷ []; limit = w.limit }) refl refl refl room refl in
-          seat_next w2 w2 w3 0 true cursor.Seats refl refl next2.4.0 next2.4.1 (none_below w2) (omega arith)
+          (record { lists = change (with_job x) 0 w.handed_off; limit = w.limit }) refl refl refl
+          (record { off = []; there = may.handed_off; room = may.room; after = refl }) in
+          seat_next asked w2 w2 w3 0 true cursor.Seats refl refl next2.4.0 next2.4.1 (none_below w2) (omega arith)
           (first_put w2 w3 (x ∷ [], refl) put) (inr (refl, may.closed))
 
       whole3 : IsWhole w3
-      whole3 = whole_by_step w2 cursor.Seats w3 whole2 next3
+      whole3 = whole_by_step asked w2 cursor.Seats w3 whole2 next3
 
       abbrev w4 : PlainWorld
       w4 =
           record w3 {
             seats = map seat_of (bare (Hand.Taken x) limit ∷ rest);
-            handed_off = drop 1 (w.handed_off ++ x ∷ []);
+            handed_off = change (drop 1) 0 (change (with_job x) 0 w.handed_off);
             limit = w.limit;
           }
 
-      next4 : StepsNext w3 cursor.Seats w4
+      next4 : StepsNext asked w3 cursor.Seats w4
       next4 =
           let worker : 0 < w.workers = omega (arith, (sound w whole.reached).working) in
-          let first : slice_get (w.handed_off ++ x ∷ []) 0 ≡ Some x =
-          ap (λ (l : List PlainJob). slice_get (l ++ x ∷ []) 0) may.handed_off in
           let take = takes w3 (bare Hand.Free limit ∷ rest) refl 0 (bare Hand.Free limit) (bare (Hand.Taken x) limit) refl x
-          (record { jobs = drop 1 (w.handed_off ++ x ∷ []); limit = w.limit }) worker refl refl first refl refl in
-          seat_next w3 w3 w4 0 true cursor.Seats refl refl next3.4.0 next3.4.1 (none_below w3) (omega arith)
+          (record { lists = change (drop 1) 0 (change (with_job x) 0 w.handed_off); limit = w.limit }) worker refl refl refl
+          (record {
+            from = 0;
+            rest = [];
+            there = get_change (with_job x) 0 w.handed_off [] may.handed_off;
+            first = λ i jobs before there. absurd (none_before i before);
+            after = refl;
+          }) in
+          seat_next asked w3 w3 w4 0 true cursor.Seats refl refl next3.4.0 next3.4.1 (none_below w3) (omega arith)
           (first_take w3 w4 refl take) (inr (refl, may.closed))
 
       whole4 : IsWhole w4
-      whole4 = whole_by_step w3 cursor.Seats w4 whole3 next4
+      whole4 = whole_by_step asked w3 cursor.Seats w4 whole3 next4
 
       unit_there : x.unit < length w.units
       unit_there = slice_get_within w.units x.unit u u_at
@@ -237,33 +254,33 @@ module _ (sound : AreSound) (w : PlainWorld) (whole : IsWhole w) (i : ℕ) (q : 
           with_unit_and_seat w4 x.unit s.committed (bare (Hand.Taken x) limit ∷ rest) 0
           (bare (Hand.Done x s.outcome) limit)
 
-      next5 : StepsNext w4 cursor.Seats w5
+      next5 : StepsNext asked w4 cursor.Seats w5
       next5 =
           let commit = commits w4 (bare (Hand.Taken x) limit ∷ rest) 0 x.unit (Hand.Taken x) [] limit s.entered s.committed
           (Hand.Done x s.outcome) true (sound w4 whole4.reached) refl refl refl
           (get_set w.units x.unit s.entered unit_there) s.commits in
-          seat_next w4 w4 w5 0 true cursor.Seats refl refl next4.4.0 next4.4.1 (none_below w4) (omega arith)
+          seat_next asked w4 w4 w5 0 true cursor.Seats refl refl next4.4.0 next4.4.1 (none_below w4) (omega arith)
           (stages.commits w4 w5 0 (Hand.Taken x) true ([], refl) refl commit) (inr (refl, may.closed))
 
       whole5 : IsWhole w5
-      whole5 = whole_by_step w4 cursor.Seats w5 whole4 next5
+      whole5 = whole_by_step asked w4 cursor.Seats w5 whole4 next5
 
       abbrev w6 : PlainWorld
       w6 =
           with_queue_and_seat w5 m' i (with_slot Slot.Empty q') (bare (Hand.Done x s.outcome) limit ∷ rest) 0
           (bare (Hand.Answered x.unit x.chain.ticket) limit)
 
-      next6 : StepsNext w5 cursor.Seats w6
+      next6 : StepsNext asked w5 cursor.Seats w6
       next6 =
           let answer = answers w5 (bare (Hand.Done x s.outcome) limit ∷ rest) 0 i (Hand.Done x s.outcome) [] limit Slot.Empty
           lent q' m' (Hand.Answered x.unit x.chain.ticket) true (sound w5 whole5.reached)
           (everywhere_set (λ j (z : PlainQueue). z.ring.memory ≡ length w.memory) i w1.queues (slotted Slot.Empty q1) fits1
           (fits1 i q1 at1)) refl refl (ap (λ (k : ℕ). Some k) own) at2 s.answers in
-          seat_next w5 w5 w6 0 true cursor.Seats refl refl next5.4.0 next5.4.1 (none_below w5) (omega arith)
+          seat_next asked w5 w5 w6 0 true cursor.Seats refl refl next5.4.0 next5.4.1 (none_below w5) (omega arith)
           (stages.answers w5 w6 0 (Hand.Done x s.outcome) true ([], refl) refl answer) (inr (refl, may.closed))
 
       whole6 : IsWhole w6
-      whole6 = whole_by_step w5 cursor.Seats w6 whole5 next6
+      whole6 = whole_by_step asked w5 cursor.Seats w6 whole5 next6
 
       limits6 : Everywhere (λ k (z : KeptSeat). z.limit ≡ 64 * length w6.units + 64)
           (bare (Hand.Answered x.unit x.chain.ticket) limit ∷ rest)
@@ -293,9 +310,9 @@ module _ (sound : AreSound) (w : PlainWorld) (whole : IsWhole w) (i : ℕ) (q : 
       left_so true t = t
       left_so false t = absurd (t.1 (x.unit, x.chain.ticket, ([], refl)))
 
-      next7 : StepsNext w6 cursor.Seats w7
+      next7 : StepsNext asked w6 cursor.Seats w7
       next7 =
-          seat_next w6 w6 w7 0 true cursor.Seats refl refl next6.4.0 next6.4.1 (none_below w6) (omega arith)
+          seat_next asked w6 w6 w7 0 true cursor.Seats refl refl next6.4.0 next6.4.1 (none_below w6) (omega arith)
           (stages.leaves w6 w7 0 (Hand.Answered x.unit x.chain.ticket) true ([], refl) refl (left_so left leave_turn))
           (inr (refl, may.closed))
 
@@ -311,18 +328,17 @@ module _ (sound : AreSound) (w : PlainWorld) (whole : IsWhole w) (i : ℕ) (q : 
           ∙ ap (λ (us : List PlainUnit). record w7 { queues = slice_set w.queues i (with_slot Slot.Empty q'); units = us })
           (set_twice (slice_set w.units x.unit s.entered) x.unit s.committed u'
           ∙ set_twice w.units x.unit s.entered u')
-          ∙ ap (λ (l : List PlainJob). record last { handed_off = l })
-          (ap (λ (l : List PlainJob). drop 1 (l ++ x ∷ [])) may.handed_off ∙ sym may.handed_off)
+          ∙ ap (λ (l : List (List PlainJob)). record last { handed_off = l }) (put_taken x w.handed_off may.handed_off)
 
-      pub served : ServesBy w 7 last
+      pub served : ServesBy asked w 7 last
       served =
-          subst (λ z. ServesBy w 7 z) last_is
-          (serves_next w w6 6 cursor.Seats w7
-          (serves_next w w5 5 cursor.Seats w6
-          (serves_next w w4 4 cursor.Seats w5
-          (serves_next w w3 3 cursor.Seats w4
-          (serves_next w w2 2 cursor.Seats w3
-          (serves_next w w1 1 cursor.Seats w2 (serves_one w (cursor.Enter i) w1 next1) next2) next3) next4) next5)
+          subst (λ z. ServesBy asked w 7 z) last_is
+          (serves_next asked w w6 6 cursor.Seats w7
+          (serves_next asked w w5 5 cursor.Seats w6
+          (serves_next asked w w4 4 cursor.Seats w5
+          (serves_next asked w w3 3 cursor.Seats w4
+          (serves_next asked w w2 2 cursor.Seats w3
+          (serves_next asked w w1 1 cursor.Seats w2 (serves_one asked w (cursor.Enter i) w1 next1) next2) next3) next4) next5)
           next6) next7)
 
       pub before_seats : NoneBefore cursor.Seats last
@@ -351,6 +367,7 @@ module _ (sound : AreSound) (w : PlainWorld) (whole : IsWhole w) (i : ℕ) (q : 
                         h.1.1.1.1.0 (record {
                           worker = m.worker;
                           seat = m.seat;
+                          from = m.from;
                           job = m.job;
                           rest = m.rest;
                           handed_off = m.handed_off;
@@ -375,15 +392,15 @@ module _ (sound : AreSound) (w : PlainWorld) (whole : IsWhole w) (i : ℕ) (q : 
           (before_seats.0, before_seats.1, still_seat last.seats (seats_are empty), no_enter)
 
 -- a fetch alone is one event, whatever comes behind it
-pub fetches_only : (most : ℕ) (w : PlainWorld) (i : ℕ) (q q' : PlainQueue) (r : Served) → IsSound w → 7 ≤ most → MayServe i w
-    → slice_get w.queues i ≡ Some q → q.ring.memory ≡ length w.memory → NoneBeforeFetch w → NoFetchBelow i w
-    → FetchesRequest w.inventory w.memory q (Ok true) q' → r ≡ record { next = cursor.Start; steps = 1 }
-    → ServesNext most w r (record w { queues = slice_set w.queues i q' })
-fetches_only most w i q q' r sound few may at fits before below fetched is =
+pub fetches_only : (asked : ℕ → Bool) (most : ℕ) (w : PlainWorld) (i : ℕ) (q q' : PlainQueue) (r : Progress) → IsSound w → 7 ≤ most → MayServe i w
+    → slice_get w.queues i ≡ Some q → q.ring.memory ≡ length w.memory → NoneBeforeFetch w
+    → NoFetchBelow asked i w → asked i ≡ true → FetchesRequest w.inventory w.memory q (Ok true) q' → r ≡ record { next = cursor.Start; steps = 1 }
+    → ServesNext asked most w r (record w { queues = slice_set w.queues i q' })
+fetches_only asked most w i q q' r sound few may at fits before below is_asked fetched is =
     let w' = record w { queues = slice_set w.queues i q' } in
     let turn = request_turns w i q q' (Ok true) sound may.request at fits fetched in
-    next_one most w cursor.Start r w' (omega (arith, few)) is
-    (fetch_next w w w' i true cursor.Start refl refl before below may.there turn (inl refl))
+    next_one asked most w cursor.Start r w' (omega (arith, few)) is
+    (fetch_next asked w w w' i true cursor.Start refl refl before below may.there is_asked turn (inl refl))
 
 -- the first seat has nothing in its hand and no jobs
 pub seat_bare : (w : PlainWorld) (i : ℕ) (kept : List KeptSeat) (s : KeptSeat) → w.seats ≡ map seat_of kept
@@ -410,57 +427,57 @@ serves_keeps x u u' q q' m m' s s' out out' (Some left) h = (
 )
 
 -- where to look then
-looks_so : (most : ℕ) (w v : PlainWorld) (n : ℕ) (left : Bool) (jobs : List PlainJob) → 7 ≤ most → n ≡ length jobs → ServesBy w 7 v
-    → NoneBefore cursor.Seats v → (jobs ≡ [] → NoneBefore cursor.Fetch v) → ServesNext most w (served_of (Some left) n) v
-looks_so most w v zero left [] few is serves seats fetch =
+looks_so : (asked : ℕ → Bool) (most : ℕ) (w v : PlainWorld) (n : ℕ) (left : Bool) (jobs : List PlainJob) → 7 ≤ most → n ≡ length jobs → ServesBy asked w 7 v
+    → NoneBefore cursor.Seats v → (jobs ≡ [] → NoneBefore cursor.Fetch v) → ServesNext asked most w (served_of (Some left) n) v
+looks_so asked most w v zero left [] few is serves seats fetch =
     record { some = omega arith; few = few; serves = serves; before = fetch refl }
-looks_so most w v zero left (j ∷ jobs) few is serves seats fetch = absurd (omega (arith, is))
-looks_so most w v (suc n) left jobs few is serves seats fetch =
+looks_so asked most w v zero left (j ∷ jobs) few is serves seats fetch = absurd (omega (arith, is))
+looks_so asked most w v (suc n) left jobs few is serves seats fetch =
     record { some = omega arith; few = few; serves = serves; before = seats }
 
 -- what is done of a request at once are the first events that apply, one after another
-pub serves_kept : (sound : AreSound) (w : PlainWorld) → IsWhole w → (i : ℕ) (q : PlainQueue) (limit : ℕ) (kept rest : List KeptSeat)
+pub serves_kept : (sound : AreSound) (asked : ℕ → Bool) (w : PlainWorld) → IsWhole w → (i : ℕ) (q : PlainQueue) (limit : ℕ) (kept rest : List KeptSeat)
     → kept ≡ bare Hand.Free limit ∷ rest → w.seats ≡ map seat_of kept
     → Everywhere (λ j (z : PlainQueue). z.ring.memory ≡ length w.memory) w.queues
     → Everywhere (λ k (s : KeptSeat). s.limit ≡ 64 * length w.units + 64) kept
-    → MayServe i w → slice_get w.queues i ≡ Some q → NoneBeforeFetch w → NoFetchBelow i w
-    → (x : PlainJob) (lent : Lent) → FetchesRequest w.inventory w.memory q (Ok true) (with_slot (Slot.Arrived x) lent)
+    → MayServe i w → slice_get w.queues i ≡ Some q → NoneBeforeFetch w
+    → NoFetchBelow asked i w → asked i ≡ true → (x : PlainJob) (lent : Lent) → FetchesRequest w.inventory w.memory q (Ok true) (with_slot (Slot.Arrived x) lent)
     → (u u' : PlainUnit) → slice_get w.units x.unit ≡ Some u → (s s' : Slot) (q' : Lent) (m' : List ℕ) (out' : Jobs)
     → s ≡ Slot.Empty → (done : Option Bool)
     → Serves x u lent w.memory s (record { jobs = []; limit = limit }) done u' q' m' s' out' → (most : ℕ) → 7 ≤ most
     → (n : ℕ) → n ≡ length out'.jobs
-    → ServesNext most w (served_of done n) (set_all w m' i (with_slot s' q') x.unit u' kept (seat_with Hand.Free out'))
-serves_kept a w b i q l kept rest ka are f g may at bf bl x t ft u u' ut s s' q' m' out' e None h most few n is =
+    → ServesNext asked most w (served_of done n) (set_all w m' i (with_slot s' q') x.unit u' kept (seat_with Hand.Free out'))
+serves_kept a asked w b i q l kept rest ka are f g may at bf bl is_asked x t ft u u' ut s s' q' m' out' e None h most few n is =
     let are' = are ∙ ap (λ (ks : List KeptSeat). map seat_of ks) ka in
     let limits' = subst (λ (ks : List KeptSeat). Everywhere (λ k (z : KeptSeat). z.limit ≡ 64 * length w.units + 64) ks) ka
     g in
     subst (λ (ks : List KeptSeat).
-    ServesNext most w (served_of None n) (set_all w m' i (with_slot s' q') x.unit u' ks (seat_with Hand.Free out'))) (sym ka)
+    ServesNext asked most w (served_of None n) (set_all w m' i (with_slot s' q') x.unit u' ks (seat_with Hand.Free out'))) (sym ka)
     (record {
       some = omega arith;
       few = omega (arith, few);
-      serves = only_serves a w b i q l rest are' f limits' may at bf bl x t ft u u' ut s' q'
+      serves = only_serves a asked w b i q l rest are' f limits' may at bf bl is_asked x t ft u u' ut s' q'
           m' out' h;
       before = tt;
     })
-serves_kept a w b i q l kept rest ka are f g may at bf bl x t ft u u' ut s s' q' m' out' e (Some left) h most few n is =
+serves_kept a asked w b i q l kept rest ka are f g may at bf bl is_asked x t ft u u' ut s s' q' m' out' e (Some left) h most few n is =
     let are' = are ∙ ap (λ (ks : List KeptSeat). map seat_of ks) ka in
     let limits' = subst (λ (ks : List KeptSeat). Everywhere (λ k (z : KeptSeat). z.limit ≡ 64 * length w.units + 64) ks) ka
     g in
     let slot : Slot.Empty ≡ s' = sym (h.1 ∙ e) in
     let v = set_all w m' i (with_slot Slot.Empty q') x.unit u' (bare Hand.Free l ∷ rest) (seat_with Hand.Free out') in
-    let serves : ServesBy w 7 v =
-    served a w b i q l rest are' f limits' may at bf bl x t ft u u' ut s' q' m' out' left h.0 in
+    let serves : ServesBy asked w 7 v =
+    served a asked w b i q l rest are' f limits' may at bf bl is_asked x t ft u u' ut s' q' m' out' left h.0 in
     let seats : NoneBefore cursor.Seats v =
-    before_seats a w b i q l rest are' f limits' may at bf bl x t ft u u' ut s' q' m' out'
+    before_seats a asked w b i q l rest are' f limits' may at bf bl is_asked x t ft u u' ut s' q' m' out'
     left h.0 in
     let fetch : out'.jobs ≡ [] → NoneBefore cursor.Fetch v =
-    before_fetch a w b i q l rest are' f limits' may at bf bl x t ft u u' ut s' q' m' out'
+    before_fetch a asked w b i q l rest are' f limits' may at bf bl is_asked x t ft u u' ut s' q' m' out'
     left h.0 in
     subst (λ (ks : List KeptSeat).
-    ServesNext most w (served_of (Some left) n) (set_all w m' i (with_slot s' q') x.unit u' ks (seat_with Hand.Free out')))
+    ServesNext asked most w (served_of (Some left) n) (set_all w m' i (with_slot s' q') x.unit u' ks (seat_with Hand.Free out')))
     (sym ka)
     (subst (λ (z : Slot).
-    ServesNext most w (served_of (Some left) n)
+    ServesNext asked most w (served_of (Some left) n)
     (set_all w m' i (with_slot z q') x.unit u' (bare Hand.Free l ∷ rest) (seat_with Hand.Free out'))) slot
-    (looks_so most w v n left out'.jobs few is serves seats fetch))
+    (looks_so asked most w v n left out'.jobs few is serves seats fetch))

@@ -1,12 +1,13 @@
 -- The queues, the units and the seats of a device that opens.
-use Rattle.std.proofs.Common.{◌≡◌, ◌≤◌, ℕ, Bool, true, None, Some, Option, refl, List, [], ◌∷◌, ◌++◌, ◌+◌, ◌*◌, ◌<◌, ◌&&◌, length, zero, suc, arith, ap, sym, ◌∙◌, ◌⊎◌, inl, inr, subst, map}
+use Rattle.std.proofs.Common.{◌≡◌, ◌≤◌, ◌^◌, ℕ, Bool, true, None, Some, Option, refl, List, [], ◌∷◌, ◌++◌, ◌+◌, ◌*◌, ◌<◌, ◌&&◌, length, zero, suc, arith, ap, sym, ◌∙◌, ◌⊎◌, inl, inr, subst, map}
 use Rattle.std.specs.Prelude.{slice_get, nat_le, is_none}
 use Rattle.std.specs.List.{list_all}
 use Rattle.std.proofs.lemmas.Bool.{and_parts}
 use Rattle.std.proofs.lemmas.Bool.Decides.{nat_tests}
 use Rattle.std.proofs.lemmas.List.{length-map}
 use Rattle.std.proofs.lemmas.Option.{slice_get_within}
-use Rattle.ring_core.specs.State.{opening}
+use Rattle.ring_core.specs.State.{opening, features_of}
+use Rattle.ring_core.specs.declared.layout.Features.{Features}
 use Rattle.ring_core.specs.declared.layout.Form.{Form}
 use Rattle.ring_core.specs.declared.layout.Form.TheVariants.{Split, Packed}
 use Rattle.ring_core.specs.declared.layout.Layout.{Layout}
@@ -81,7 +82,7 @@ each_made make P wanted made count each is k y at =
     subst (λ z. P k z) (same (sym (each k found.0 found.1) ∙ at)) (is k found.0)
 
 -- what stands in an image is the image of what stands there
-each_image : {X Y : Type 0} (f : X → Y) (P : Y → Type 0) (xs : List X)
+pub each_image : {X Y : Type 0} (f : X → Y) (P : Y → Type 0) (xs : List X)
     → ((k : ℕ) (x : X) → slice_get xs k ≡ Some x → P (f x)) → (k : ℕ) (y : Y)
     → slice_get (map f xs) k ≡ Some y → P y
 each_image f P [] is k y at = absurd (nothing at)
@@ -89,30 +90,31 @@ each_image f P (x ∷ xs) is zero y at = subst P (same at) (is zero x refl)
 each_image f P (x ∷ xs) is (suc k) y at = each_image f P xs (λ j z e. is (suc j) z e) k y at
 
 -- a queue that opens is new
-opens_new : (form : Form) (memory number : ℕ) (l : Layout)
-    → IsNewQueue number (with_slot Slot.Empty (opening_queue form memory number l))
+opens_new : (form : Form) (memory number : ℕ) (l : Layout) (features : Features)
+    → IsNewQueue number (with_slot Slot.Empty (opening_queue form memory number l features))
 unfolding opening
-opens_new Split memory number l =
+opens_new Split memory number l features =
     record { numbered = refl; accepted = refl; used = refl; whole = refl; slot = refl; notices = refl }
-opens_new Packed memory number l =
+opens_new Packed memory number l features =
     record { numbered = refl; accepted = refl; used = refl; whole = refl; slot = refl; notices = refl }
 
 -- and it was made with the memory that it was given
-opens_in : (form : Form) (memory number : ℕ) (l : Layout) → (opening_ring form memory number l).memory ≡ memory
+opens_in : (form : Form) (memory number : ℕ) (l : Layout) (features : Features)
+    → (opening_ring form memory number l features).memory ≡ memory
 unfolding opening
-opens_in Split memory number l = refl
-opens_in Packed memory number l = refl
+opens_in Split memory number l features = refl
+opens_in Packed memory number l features = refl
 
 -- the lists of a device that opens
-pub lists_open : (form : Form) (m : List ℕ) (layouts : List Layout) (queues : List PlainQueue) (units : List PlainUnit)
-    (count : ℕ) (seats : List KeptSeat) → AreOpening form (length m) layouts queues
+pub lists_open : (form : Form) (features : Features) (m : List ℕ) (layouts : List Layout) (queues : List PlainQueue) (units : List PlainUnit)
+    (count : ℕ) (seats : List KeptSeat) → AreOpening form (length m) features layouts queues
     → AreSeats count (64 * length units + 64) seats → HasLists m queues units seats 1025
-lists_open form m layouts queues units count seats opening is =
+lists_open form features m layouts queues units count seats opening is =
     record {
       fits =
-          each_made (λ (k : ℕ) (l : Layout). with_slot Slot.Empty (opening_queue form (length m) k l))
+          each_made (λ (k : ℕ) (l : Layout). with_slot Slot.Empty (opening_queue form (length m) k l features))
           (λ (k : ℕ) (q : PlainQueue). q.ring.memory ≡ length m) layouts queues opening.count opening.each
-          (λ k l. opens_in form (length m) k l);
+          (λ k l. opens_in form (length m) k l features);
       limits = λ k s at. ap (λ (z : KeptSeat). z.limit) (is.each k s at);
       port = refl;
     }
@@ -168,9 +170,9 @@ opens c w is o =
     let few = config_few c is in
     record {
       queues =
-          each_made (λ (k : ℕ) (l : Layout). with_slot Slot.Empty (opening_queue o.form (size_of c) k l))
+          each_made (λ (k : ℕ) (l : Layout). with_slot Slot.Empty (opening_queue o.form (size_of c) k l (features_of c.features)))
           IsNewQueue c.queues.items w.queues o.queues.count o.queues.each
-          (λ k l. opens_new o.form (size_of c) k l);
+          (λ k l. opens_new o.form (size_of c) k l (features_of c.features));
       units =
           each_made (λ (k : ℕ) (u : UnitSpec). opening_unit (map address_of c.units.items) u)
           (λ (k : ℕ) (u : PlainUnit). IsNewUnit u) c.units.items w.units o.units.count o.units.each
@@ -180,6 +182,7 @@ opens c w is o =
       working = subst (λ n. 1 ≤ n) (sym o.workers) few.1;
       seated = o.seats ∙ ap (λ n. n + 1) (sym o.workers);
       handed_off = o.handed_off;
+      lists = o.lists;
       function = o.function;
       buffers = o.buffers;
       missed = o.missed;
@@ -204,10 +207,11 @@ some_queues (Some form) memory layouts h =
     (and_parts (nat_le 3 (length layouts) && nat_le (length layouts) 18) (list_all (is_queue form memory) layouts) h).0).0
 
 -- a queue that opens lies where it was placed
-opens_at : (form : Form) (memory number : ℕ) (l : Layout) → (opening_ring form memory number l).layout ≡ l
+opens_at : (form : Form) (memory number : ℕ) (l : Layout) (features : Features)
+    → (opening_ring form memory number l features).layout ≡ l
 unfolding opening
-opens_at Split memory number l = refl
-opens_at Packed memory number l = refl
+opens_at Split memory number l features = refl
+opens_at Packed memory number l features = refl
 
 -- each of the queues that are taken has at most 1,024 descriptors
 layouts_small : (form : Option Form) (memory : ℕ) (layouts : List Layout) → are_queues form memory layouts ≡ true
@@ -219,15 +223,15 @@ layouts_small (Some form) memory layouts h k l at =
     let two = (and_parts (nat_le 2 l.size && nat_le l.size 1024) (is_none (placement_of form memory l)) one).0 in
     below l.size 1024 (and_parts (nat_le 2 l.size) (nat_le l.size 1024) two).1
 
-sizes_open : (form : Form) (memory : ℕ) (layouts : List Layout) (queues : List PlainQueue)
-    → AreOpening form memory layouts queues
+sizes_open : (form : Form) (memory : ℕ) (features : Features) (layouts : List Layout) (queues : List PlainQueue)
+    → AreOpening form memory features layouts queues
     → ((k : ℕ) (l : Layout) → slice_get layouts k ≡ Some l → l.size ≤ 1024)
     → Everywhere (λ i (n : ℕ). n ≤ 1024) (map seen.size_of queues)
-sizes_open form memory layouts queues is small =
+sizes_open form memory features layouts queues is small =
     each_image seen.size_of (λ n. n ≤ 1024) queues (λ k q at.
     let found = stands_at layouts k (omega (arith, slice_get_within queues k q at, is.count)) in
     subst (λ (z : PlainQueue). seen.size_of z ≤ 1024) (same (sym (is.each k found.0 found.1) ∙ at))
-    (subst (λ (l : Layout). l.size ≤ 1024) (sym (opens_at form memory k found.0)) (small k found.0 found.1)))
+    (subst (λ (l : Layout). l.size ≤ 1024) (sym (opens_at form memory k found.0 features)) (small k found.0 found.1)))
 
 -- each of the units that are taken has a LUN up to 16,383, and they are at most 64
 units_named : (units : List UnitSpec) → are_units units ≡ true
@@ -241,7 +245,7 @@ units_named units h =
       below (length units) 64 (and_parts (nat_le 1 (length units)) (nat_le (length units) 64) c.0).1,
       λ k u at.
           let one = each_passes is_unit units c.1 k u at in
-          let two = (and_parts (nat_le u.lun 16383 && nat_le 1 u.blocks) (nat_le u.blocks 131072) one).0 in
+          let two = (and_parts (nat_le u.lun 16383 && nat_le 1 u.blocks) (nat_le u.blocks (2 ^ 40)) one).0 in
           below u.lun 16383 (and_parts (nat_le u.lun 16383) (nat_le 1 u.blocks) two).0,
     )
 
@@ -277,7 +281,7 @@ opens_whole c w is o =
         queues = omega (arith, few.0, o.queues.count);
         seats = omega (arith, few.2, o.seats);
         units = omega (arith, units.0, o.units.count);
-        sizes = sizes_open o.form (size_of c) c.queues.items w.queues o.queues
+        sizes = sizes_open o.form (size_of c) (features_of c.features) c.queues.items w.queues o.queues
             (layouts_small (form_of c.features) (size_of c) c.queues.items tests.0);
         luns = luns_open c.units.items w.units o.units units.1;
       };

@@ -1,17 +1,18 @@
 -- A seat hands its next job off, or keeps it; a worker takes a job from the hand-off.
 use Rattle.std.proofs.Common.{◌≡◌, ◌≤◌, ◌<◌, ℕ, true, false, List, [], ◌∷◌, ◌++◌, length, Some, None, refl, sym, ap, ◌∙◌}
 use Rattle.std.specs.Prelude.{slice_get, slice_set, map, drop}
-use Rattle.task_set.specs.Jobs.{PlainJob, Jobs}
+use Rattle.task_set.specs.Jobs.{PlainJob}
 use Rattle.deeds.specs.Parts.{Hand}
 use Rattle.deeds.specs.World.{Seat, PlainWorld, change}
 use Rattle.deeds.specs.Events.{Event}
 use Rattle.deeds.specs.Deeds.{Deed}
 use Rattle.deeds.specs.After.{with_hand, without_first}
 use Rattle.deeds.specs.Happens.{SeatIs}
-use Rattle.deeds.specs.Applies.{MayPut}
+use Rattle.deeds.specs.Applies.{MayPut, MayTake}
 use Rattle.deeds.specs.Turns.{Turns}
 use Rattle.deeds.proofs.Lists.{same, nothing}
 use Rattle.world.specs.Kept.{KeptSeat, seat_of}
+use Rattle.world.specs.Off.{KeptOff, AreBare, PutsAt, IsFullAt, TakesNearest}
 use Rattle.world.proofs.Setting.{set_same, map_get, seat_change}
 
 -- a list that has a first item begins with it
@@ -23,6 +24,14 @@ begins (y ∷ xs) x e = ap (λ z. z ∷ xs) (same e)
 pub is_empty : {X : Type 0} (xs : List X) → slice_get xs 0 ≡ None → xs ≡ []
 is_empty [] e = refl
 is_empty (y ∷ xs) e = absurd (nothing (sym e))
+
+-- the lists of the hand-off as the device keeps them
+abbrev pub off_of : PlainWorld → KeptOff
+off_of w = record { lists = w.handed_off; limit = w.limit }
+
+-- what is set of the hand-off
+abbrev pub with_off : PlainWorld → List Seat → KeptOff → PlainWorld
+with_off w seats h = record w { seats = seats; handed_off = h.lists; limit = h.limit }
 
 pub no_item : {X : Type 0} {x : X} {xs : List X} → [] ≡ x ∷ xs → ⊥
 no_item e = cc
@@ -56,64 +65,65 @@ module _ (w : PlainWorld) (kept : List KeptSeat) (seats : w.seats ≡ map seat_o
       )
 
   -- the first job is handed off
-  pub puts : (x : PlainJob) (h : Jobs) → s.hand ≡ Hand.Free → slice_get s.jobs 0 ≡ Some x
-      → t ≡ record s { jobs = drop 1 s.jobs } → length w.handed_off < w.limit
-      → h ≡ record { jobs = w.handed_off ++ x ∷ []; limit = w.limit }
-      → Turns w (Event.Put k) true
-      (record w { seats = map seat_of (slice_set kept k t); handed_off = h.jobs; limit = h.limit })
-  puts x h free first is room more = (
+  pub puts : (x : PlainJob) (h : KeptOff) → s.hand ≡ Hand.Free → slice_get s.jobs 0 ≡ Some x
+      → t ≡ record s { jobs = drop 1 s.jobs } → PutsAt k x (off_of w) h
+      → Turns w (Event.Put k) true (with_off w (map seat_of (slice_set kept k t)) h)
+  puts x h free first is p = (
     Deed.Put k x,
     refl,
     record {
       rest = drop 1 s.jobs;
       seat = seat_is Hand.Free (x ∷ drop 1 s.jobs) free (begins s.jobs x first);
-      room = room;
+      off = p.off;
+      there = p.there;
+      room = p.room;
     },
-    ap (λ (l : List Seat). record w { seats = l; handed_off = h.jobs; limit = h.limit })
+    ap (λ (l : List Seat). with_off w l h)
         (seats_after (without_first Hand.Free)
         (ap seat_of is ∙ ap (λ (a : Hand). record { hand = a; out = drop 1 s.jobs }) free))
-        ∙ ap (λ (j : Jobs). record w {
-          seats = change (without_first Hand.Free) k w.seats;
-          handed_off = j.jobs;
-          limit = j.limit;
-        }) more,
+        ∙ ap (λ (j : KeptOff). with_off w (change (without_first Hand.Free) k w.seats) j) p.after,
   )
 
-  -- the first job is kept, since the hand-off is full
-  pub keeps : (x : PlainJob) → s.hand ≡ Hand.Free → slice_get s.jobs 0 ≡ Some x
-      → t ≡ record { hand = Hand.Taken x; jobs = drop 1 s.jobs; limit = s.limit } → w.limit ≤ length w.handed_off
-      → Turns w (Event.Put k) true (record w { seats = map seat_of (slice_set kept k t) })
-  keeps x free first is full = (
+  -- the first job is kept, since the own list is full
+  pub keeps : (x : PlainJob) (h : KeptOff) → s.hand ≡ Hand.Free → slice_get s.jobs 0 ≡ Some x
+      → t ≡ record { hand = Hand.Taken x; jobs = drop 1 s.jobs; limit = s.limit } → IsFullAt k (off_of w)
+      → h ≡ off_of w → Turns w (Event.Put k) true (with_off w (map seat_of (slice_set kept k t)) h)
+  keeps x h free first is f same_off = (
     Deed.Keep k x,
     refl,
     record {
       rest = drop 1 s.jobs;
       seat = seat_is Hand.Free (x ∷ drop 1 s.jobs) free (begins s.jobs x first);
-      full = full;
+      off = f.off;
+      there = f.there;
+      full = f.full;
     },
-    ap (λ (l : List Seat). record w { seats = l }) (seats_after (without_first (Hand.Taken x)) (ap seat_of is)),
+    ap (λ (l : List Seat). with_off w l h) (seats_after (without_first (Hand.Taken x)) (ap seat_of is))
+        ∙ ap (λ (j : KeptOff). with_off w (change (without_first (Hand.Taken x)) k w.seats) j) same_off,
   )
 
-  -- a worker takes the first job of the hand-off
-  pub takes : (x : PlainJob) (h : Jobs) → k < w.workers → s.hand ≡ Hand.Free → s.jobs ≡ []
-      → slice_get w.handed_off 0 ≡ Some x → t ≡ record s { hand = Hand.Taken x }
-      → h ≡ record { jobs = drop 1 w.handed_off; limit = w.limit }
-      → Turns w (Event.Take k) true
-      (record w { seats = map seat_of (slice_set kept k t); handed_off = h.jobs; limit = h.limit })
-  takes x h worker free none first is less = (
-    Deed.Take k x,
+  -- a worker takes the first job of the nearest list
+  pub takes : (x : PlainJob) (h : KeptOff) → k < w.workers → s.hand ≡ Hand.Free → s.jobs ≡ []
+      → t ≡ record s { hand = Hand.Taken x } → TakesNearest k x (off_of w) h
+      → Turns w (Event.Take k) true (with_off w (map seat_of (slice_set kept k t)) h)
+  takes x h worker free none is p = (
+    Deed.Take k p.from x,
     refl,
     record {
       worker = worker;
       seat = seat_is Hand.Free [] free none;
-      rest = drop 1 w.handed_off;
-      handed_off = begins w.handed_off x first;
+      rest = p.rest;
+      handed_off = p.there;
+      first = p.first;
     },
-    ap (λ (l : List Seat). record w { seats = l; handed_off = h.jobs; limit = h.limit })
-        (seats_after (with_hand (Hand.Taken x)) (ap seat_of is))
-        ∙ ap (λ (j : Jobs). record w {
-          seats = change (with_hand (Hand.Taken x)) k w.seats;
-          handed_off = j.jobs;
-          limit = j.limit;
-        }) less,
+    ap (λ (l : List Seat). with_off w l h) (seats_after (with_hand (Hand.Taken x)) (ap seat_of is))
+        ∙ ap (λ (j : KeptOff). with_off w (change (with_hand (Hand.Taken x)) k w.seats) j) p.after,
   )
+
+-- where each list is empty nothing is taken
+pub takes_nothing : (w : PlainWorld) (k : ℕ) (h : KeptOff) → h ≡ off_of w → AreBare w.handed_off
+    → Turns w (Event.Take k) false (with_off w w.seats h)
+takes_nothing w k h is bare = (
+  ap (λ (j : KeptOff). with_off w w.seats j) is,
+  λ (m : MayTake w k). no_item (sym (bare m.from (m.job ∷ m.rest) m.handed_off)),
+)

@@ -10,6 +10,7 @@ pub mod Fetches
 pub mod Checks
 pub mod Responds
 pub mod Pokes
+pub mod Off
 pub mod Handing
 pub mod Entering
 pub mod Marking
@@ -26,3 +27,5 @@ pub mod Resetting
 pub mod Raising
 pub mod Promising
 pub mod AtOnce
+pub mod Portions
+pub mod Looks

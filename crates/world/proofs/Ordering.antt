@@ -1,12 +1,12 @@
 -- What is first in the order.
-use Rattle.std.proofs.Common.{◌≡◌, ◌⊎◌, inl, inr, ℕ, zero, suc, ◌<◌, List, [], ◌∷◌, ◌++◌, length, subst, arith}
+use Rattle.std.proofs.Common.{◌≡◌, ◌⊎◌, inl, inr, ℕ, zero, suc, ◌<◌, Bool, true, false, if◌then◌else◌, List, [], ◌∷◌, ◌++◌, length, subst, refl, ap, ◌∙◌, arith}
 use Rattle.deeds.specs.World.{PlainWorld}
 use Rattle.deeds.specs.Events.{Event}
 use Rattle.deeds.specs.Happens.{MayWant}
 use Rattle.deeds.specs.Applies.{Applies}
-use Rattle.settling.specs.Order.{each, of_seat, order, order_of, IsFirstOf, NoneApplies, IsQuiet}
-use Rattle.world.specs.Settling.{MayWantFirst}
-use Rattle.world.specs.Cursors.{of_function, NoStart, NoDirectBelow, NoDirect, NoSeatBelow, NoSeat, NoEnterBelow, NoEnter, NoFetchBelow, NoneBeforeFetch}
+use Rattle.settling.specs.Order.{each, of_seat, fetch_of, order_by, IsFirstOf, NoneApplies, IsQuietOf}
+use Rattle.world.specs.Settling.{order_for, MayWantFirst}
+use Rattle.world.specs.Cursors.{of_function, NoStart, NoDirectBelow, NoDirect, NoSeatBelow, NoSeat, NoEnterBelow, NoEnter, NoFetchBelow, NoFetch, NoneBeforeFetch}
 
 -- of one of these events something holds, and none before it applies
 abbrev pub First : (Event → Type 0) → PlainWorld → List Event → Type 0
@@ -84,8 +84,8 @@ directs n = each (λ q. Event.Direct q ∷ []) n
 abbrev enters : ℕ → List Event
 enters n = each (λ q. Event.Enter q ∷ []) n
 
-abbrev fetches : ℕ → List Event
-fetches n = each (λ q. Event.Fetch q ∷ []) n
+abbrev fetches : (ℕ → Bool) → ℕ → List Event
+fetches asked n = each (fetch_of asked) n
 
 abbrev start : ℕ → List Event
 start n = Event.AnswerTmf ∷ Event.Check ∷ Event.Mark ∷ Event.Raise ∷ directs n
@@ -99,75 +99,106 @@ none_enters : (w : PlainWorld) → NoEnter w → NoneApplies w (enters (length w
 none_enters w s = none_each w (λ q. Event.Enter q ∷ []) (length w.queues) (λ k lt. (s k lt, tt))
 
 -- an event of the function
-pub first_function : (P : Event → Type 0) (w : PlainWorld) → First P w of_function → First P w (order_of w)
-unfolding order
-first_function P w h =
+pub first_function : (asked : ℕ → Bool) (P : Event → Type 0) (w : PlainWorld) → First P w of_function → First P w (order_for asked w)
+unfolding order_by
+first_function asked P w h =
     let qs = length w.queues in
-    let rest = each of_seat (length w.seats) ++ (enters qs ++ fetches qs) in
+    let rest = each of_seat (length w.seats) ++ (enters qs ++ fetches asked qs) in
     front P w (start qs) rest (front P w of_function (Event.Raise ∷ directs qs) h)
 
 -- an event that waits
-pub first_raise : (P : Event → Type 0) (w : PlainWorld) → NoneApplies w of_function → P Event.Raise
-    → First P w (order_of w)
-unfolding order
-first_raise P w none h =
+pub first_raise : (asked : ℕ → Bool) (P : Event → Type 0) (w : PlainWorld) → NoneApplies w of_function → P Event.Raise
+    → First P w (order_for asked w)
+unfolding order_by
+first_raise asked P w none h =
     let qs = length w.queues in
-    let rest = each of_seat (length w.seats) ++ (enters qs ++ fetches qs) in
+    let rest = each of_seat (length w.seats) ++ (enters qs ++ fetches asked qs) in
     front P w (start qs) rest (behind P w of_function (Event.Raise ∷ directs qs) none (inl h))
 
 -- what is ready on a queue
-pub first_direct : (P : Event → Type 0) (w : PlainWorld) (i : ℕ) → NoStart w → NoDirectBelow i w → i < length w.queues
-    → P (Event.Direct i) → First P w (order_of w)
-unfolding order
-first_direct P w i s below lt h =
+pub first_direct : (asked : ℕ → Bool) (P : Event → Type 0) (w : PlainWorld) (i : ℕ) → NoStart w → NoDirectBelow i w → i < length w.queues
+    → P (Event.Direct i) → First P w (order_for asked w)
+unfolding order_by
+first_direct asked P w i s below lt h =
     let qs = length w.queues in
-    let rest = each of_seat (length w.seats) ++ (enters qs ++ fetches qs) in
+    let rest = each of_seat (length w.seats) ++ (enters qs ++ fetches asked qs) in
     let here = first_each P w (λ q. Event.Direct q ∷ []) qs i lt (λ j less. (below j less, tt)) (inl h) in
     front P w (start qs) rest
     (behind P w of_function (Event.Raise ∷ directs qs) s.function (inr (s.waiting, here)))
 
 -- an event of a seat
-pub first_seat : (P : Event → Type 0) (w : PlainWorld) (k : ℕ) → NoStart w → NoDirect w → NoSeatBelow k w
-    → k < length w.seats → First P w (of_seat k) → First P w (order_of w)
-unfolding order
-first_seat P w k s d below lt h =
+pub first_seat : (asked : ℕ → Bool) (P : Event → Type 0) (w : PlainWorld) (k : ℕ) → NoStart w → NoDirect w → NoSeatBelow k w
+    → k < length w.seats → First P w (of_seat k) → First P w (order_for asked w)
+unfolding order_by
+first_seat asked P w k s d below lt h =
     let qs = length w.queues in
     let seats = each of_seat (length w.seats) in
     let here = first_each P w of_seat (length w.seats) k lt below h in
-    behind P w (start qs) (seats ++ (enters qs ++ fetches qs)) (none_start w s d)
-    (front P w seats (enters qs ++ fetches qs) here)
+    behind P w (start qs) (seats ++ (enters qs ++ fetches asked qs)) (none_start w s d)
+    (front P w seats (enters qs ++ fetches asked qs) here)
 
 -- a request that arrived
-pub first_enter : (P : Event → Type 0) (w : PlainWorld) (i : ℕ) → NoStart w → NoDirect w → NoSeat w → NoEnterBelow i w
-    → i < length w.queues → P (Event.Enter i) → First P w (order_of w)
-unfolding order
-first_enter P w i s d k below lt h =
+pub first_enter : (asked : ℕ → Bool) (P : Event → Type 0) (w : PlainWorld) (i : ℕ) → NoStart w → NoDirect w → NoSeat w → NoEnterBelow i w
+    → i < length w.queues → P (Event.Enter i) → First P w (order_for asked w)
+unfolding order_by
+first_enter asked P w i s d k below lt h =
     let qs = length w.queues in
     let seats = each of_seat (length w.seats) in
     let here = first_each P w (λ q. Event.Enter q ∷ []) qs i lt (λ j less. (below j less, tt)) (inl h) in
-    behind P w (start qs) (seats ++ (enters qs ++ fetches qs)) (none_start w s d)
-    (behind P w seats (enters qs ++ fetches qs) (none_each w of_seat (length w.seats) k)
-    (front P w (enters qs) (fetches qs) here))
+    behind P w (start qs) (seats ++ (enters qs ++ fetches asked qs)) (none_start w s d)
+    (behind P w seats (enters qs ++ fetches asked qs) (none_each w of_seat (length w.seats) k)
+    (front P w (enters qs) (fetches asked qs) here))
+
+-- what is asked of a queue's next chain
+asked_first : (P : Event → Type 0) (w : PlainWorld) (b : Bool) (i : ℕ) → b ≡ true → P (Event.Fetch i)
+    → First P w (if b then Event.Fetch i ∷ [] else [])
+asked_first P w true i e h = inl h
+asked_first P w false i e h = absurd (cc)
+
+asked_none : (w : PlainWorld) (b : Bool) (i : ℕ) → (b ≡ true → Applies w (Event.Fetch i) → ⊥)
+    → NoneApplies w (if b then Event.Fetch i ∷ [] else [])
+asked_none w true i h = (h refl, tt)
+asked_none w false i h = tt
 
 -- a queue's next chain
-pub first_fetch : (P : Event → Type 0) (w : PlainWorld) (i : ℕ) → NoneBeforeFetch w → NoFetchBelow i w
-    → i < length w.queues → P (Event.Fetch i) → First P w (order_of w)
-unfolding order
-first_fetch P w i none below lt h =
+pub first_fetch : (asked : ℕ → Bool) (P : Event → Type 0) (w : PlainWorld) (i : ℕ) → NoneBeforeFetch w
+    → NoFetchBelow asked i w → i < length w.queues → asked i ≡ true → P (Event.Fetch i) → First P w (order_for asked w)
+unfolding order_by
+first_fetch asked P w i none below lt on h =
     let qs = length w.queues in
     let seats = each of_seat (length w.seats) in
-    let here = first_each P w (λ q. Event.Fetch q ∷ []) qs i lt (λ j less. (below j less, tt)) (inl h) in
-    behind P w (start qs) (seats ++ (enters qs ++ fetches qs)) (none_start w none.0 none.1)
-    (behind P w seats (enters qs ++ fetches qs) (none_each w of_seat (length w.seats) none.2)
-    (behind P w (enters qs) (fetches qs) (none_enters w none.3) here))
+    let here = first_each P w (fetch_of asked) qs i lt (λ j less. asked_none w (asked j) j (below j less))
+    (asked_first P w (asked i) i on h) in
+    behind P w (start qs) (seats ++ (enters qs ++ fetches asked qs)) (none_start w none.0 none.1)
+    (behind P w seats (enters qs ++ fetches asked qs) (none_each w of_seat (length w.seats) none.2)
+    (behind P w (enters qs) (fetches asked qs) (none_enters w none.3) here))
 
 -- nothing at all
-pub none_left : (w : PlainWorld) → NoneBeforeFetch w → NoFetchBelow (length w.queues) w → IsQuiet w
-unfolding order
-none_left w none below =
+pub none_left : (asked : ℕ → Bool) (w : PlainWorld) → NoneBeforeFetch w → NoFetch asked w → IsQuietOf asked w
+unfolding order_by
+none_left asked w none below =
     let qs = length w.queues in
     let seats = each of_seat (length w.seats) in
-    let last = none_each w (λ q. Event.Fetch q ∷ []) qs (λ j less. (below j less, tt)) in
-    none_append w (start qs) (seats ++ (enters qs ++ fetches qs)) (none_start w none.0 none.1)
-    (none_append w seats (enters qs ++ fetches qs) (none_each w of_seat (length w.seats) none.2)
-    (none_append w (enters qs) (fetches qs) (none_enters w none.3) last))
+    let last = none_each w (fetch_of asked) qs (λ j less. asked_none w (asked j) j (below j less)) in
+    none_append w (start qs) (seats ++ (enters qs ++ fetches asked qs)) (none_start w none.0 none.1)
+    (none_append w seats (enters qs ++ fetches asked qs) (none_each w of_seat (length w.seats) none.2)
+    (none_append w (enters qs) (fetches asked qs) (none_enters w none.3) last))
+
+-- Other queues that are asked
+
+-- queues that are asked alike
+abbrev pub AskAlike : (ℕ → Bool) → (ℕ → Bool) → ℕ → Type 0
+AskAlike asked other n = (q : ℕ) → q < n → asked q ≡ other q
+
+-- have their next chains in the same order
+fetches_alike : (asked other : ℕ → Bool) (n : ℕ) → AskAlike asked other n → fetches asked n ≡ fetches other n
+fetches_alike asked other zero same = refl
+fetches_alike asked other (suc n) same =
+    ap (λ xs. xs ++ fetch_of asked n) (fetches_alike asked other n (λ q lt. same q (omega (arith, lt))))
+    ∙ ap (λ b. fetches other n ++ (if b then Event.Fetch n ∷ [] else [])) (same n (omega arith))
+
+pub order_alike : (asked other : ℕ → Bool) (queues seats : ℕ) → AskAlike asked other queues
+    → order_by asked queues seats ≡ order_by other queues seats
+unfolding order_by
+order_alike asked other queues seats same =
+    ap (λ xs. start queues ++ (each of_seat seats ++ (enters queues ++ xs))) (fetches_alike asked other queues same)

@@ -1,15 +1,16 @@
 -- What a run of the device promises.
-use Rattle.std.proofs.Common.{◌≡◌, ℕ, ◌+◌, Bool, arith, List, [], ◌∷◌, ◌++◌, map, if◌then◌else◌, Result, Ok, Err, refl, sym, ◌∙◌, subst}
+use Rattle.std.proofs.Common.{◌≡◌, ℕ, ◌+◌, Bool, arith, List, [], ◌∷◌, ◌++◌, map, if◌then◌else◌, Result, Ok, Err, refl, sym, ap, ◌∙◌, subst}
 use Rattle.block_store.specs.declared.NoMemory.{NoMemory}
 use Rattle.deeds.specs.World.{PlainWorld}
 use Rattle.deeds.specs.Events.{Event}
+use Rattle.deeds.specs.Deeds.{Deed, event_of}
 use Rattle.deeds.specs.Happens.{Occurrence, Runs, Reached, occurrence_of}
 use Rattle.deeds.specs.Turns.{count_changes}
 use Rattle.interleavings.specs.Promise.{IsPromised}
-use Rattle.settling.proofs.Runs.{settles_run, each_changes}
+use Rattle.settling.proofs.Runs.{settles_of_run, each_changes_of}
 use Rattle.world.specs.Steps.{Steps}
 use Rattle.world.specs.Settling.{ServesBy}
-use Rattle.world.specs.Promise.{GoesOn, StepsAsPromised}
+use Rattle.world.specs.Promise.{GoesOn, GoesOnInOrder, StepsAsPromised}
 
 -- the promise is kept by every trace
 abbrev pub AllArePromised : Type 0
@@ -43,12 +44,18 @@ steps_promised p g w e (Ok changed) w' h =
     (w, refl, h.step) refl (one_changes h.action.changed changed h.told)
 steps_promised p g w e (Err x) w' h = h
 
-pub settled : AllArePromised → AllGoOn → (w : PlainWorld) (count : ℕ) (w' : PlainWorld) → ServesBy w count w'
-    → (events : List Event) × GoesOn w events count w'
-settled p g w count w' h =
+-- the events of deeds
+told : (ds : List Deed) → map (λ (o : Occurrence). o.event) (map occurrence_of ds) ≡ map event_of ds
+told [] = refl
+told (d ∷ ds) = ap (λ xs. event_of d ∷ xs) (told ds)
+
+pub served : AllArePromised → AllGoOn → (asked : ℕ → Bool) (w : PlainWorld) (count : ℕ) (w' : PlainWorld)
+    → ServesBy asked w count w' → GoesOnInOrder asked w count w'
+served p g asked w count w' h =
     let more = map occurrence_of h.deeds in
-    let r : Runs w more w' = subst (λ v. Runs w more v) (sym h.is) (settles_run w h.deeds h.settles) in (
-      map (λ (o : Occurrence). o.event) more,
-      goes_on p g w w' more (map (λ (o : Occurrence). o.event) more) count r refl
-          (each_changes w h.deeds h.settles ∙ h.counted),
-    )
+    let r : Runs w more w' = subst (λ v. Runs w more v) (sym h.is) (settles_of_run asked w h.deeds h.settles) in
+    record {
+      serves = h;
+      goes_on = goes_on p g w w' more (map event_of h.deeds) count r (told h.deeds)
+          (each_changes_of asked w h.deeds h.settles ∙ h.counted);
+    }

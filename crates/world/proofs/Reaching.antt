@@ -7,7 +7,7 @@ use Rattle.deeds.specs.Events.{Event}
 use Rattle.deeds.specs.Deeds.{Deed, event_of}
 use Rattle.deeds.specs.After.{after}
 use Rattle.deeds.specs.Happens.{world_of}
-use Rattle.settling.specs.Settling.{Settles}
+use Rattle.settling.specs.Settling.{SettlesOf}
 use Rattle.world.specs.Settling.{ServesBy}
 use Rattle.deeds.specs.Lawful.{KeepsParts}
 use Rattle.deeds.specs.Turns.{Turns, IsStep}
@@ -17,7 +17,7 @@ use Rattle.world.specs.Sound.{AreFew, IsReached, IsWhole, size_of, lun_of}
 use Rattle.world.specs.Steps.{TurnsOrWants, Steps}
 use Rattle.world.specs.Cursors.{StepsNext, TurnsNext}
 use Rattle.world.specs.declared.cursor.Cursor.{Cursor}
-use Rattle.world.specs.declared.cursor.Served.{Served}
+use Rattle.world.specs.declared.cursor.Progress.{Progress}
 use Rattle.world.proofs.Keeping.{sizes_stay, luns_stay}
 
 -- by a step
@@ -51,25 +51,25 @@ whole_by w e b w' h t =
     record { reached = reached_by w e b w' h.reached (step_of w e b w' t); few = few_by w e b w' h.few t }
 
 -- by deeds, each of the first event that applied
-whole_by_deeds : (w : PlainWorld) (ds : List Deed) → IsWhole w → Settles w ds → IsWhole (world_of w ds)
-whole_by_deeds w [] h s = h
-whole_by_deeds w (d ∷ ds) h s =
-    whole_by (world_of w ds) (event_of d) true (after d (world_of w ds)) (whole_by_deeds w ds h s.0) (d, refl, s.1, refl)
+whole_by_deeds : (asked : ℕ → Bool) (w : PlainWorld) (ds : List Deed) → IsWhole w → SettlesOf asked w ds → IsWhole (world_of w ds)
+whole_by_deeds asked w [] h s = h
+whole_by_deeds asked w (d ∷ ds) h s =
+    whole_by (world_of w ds) (event_of d) true (after d (world_of w ds)) (whole_by_deeds asked w ds h s.0) (d, refl, s.1, refl)
 
 -- by what was served
-pub whole_by_serving : (w : PlainWorld) (n : ℕ) (w' : PlainWorld) → IsWhole w → ServesBy w n w' → IsWhole w'
-whole_by_serving w n w' h s = subst IsWhole (sym s.is) (whole_by_deeds w s.deeds h s.settles)
+pub whole_by_serving : (asked : ℕ → Bool) (w : PlainWorld) (n : ℕ) (w' : PlainWorld) → IsWhole w → ServesBy asked w n w' → IsWhole w'
+whole_by_serving asked w n w' h s = subst IsWhole (sym s.is) (whole_by_deeds asked w s.deeds h s.settles)
 
 -- by what was first in the order, or where nothing was left, or memory was refused
-pub whole_by_next : (most : ℕ) (w : PlainWorld) (r : Result (Option Served) NoMemory) (w' : PlainWorld) → IsWhole w
-    → TurnsNext most w r w' → IsWhole w'
-whole_by_next most w (Ok (Some s)) w' h t = whole_by_serving w s.steps w' h t.serves
-whole_by_next most w (Ok None) w' h t = subst IsWhole (sym t.0) h
-whole_by_next most w (Err x) w' h t = subst IsWhole (sym t.0) h
+pub whole_by_next : (asked : ℕ → Bool) (most : ℕ) (w : PlainWorld) (r : Result (Option Progress) NoMemory) (w' : PlainWorld) → IsWhole w
+    → TurnsNext asked most w r w' → IsWhole w'
+whole_by_next asked most w (Ok (Some s)) w' h t = whole_by_serving asked w s.steps w' h t.serves
+whole_by_next asked most w (Ok None) w' h t = subst IsWhole (sym t.0) h
+whole_by_next asked most w (Err x) w' h t = subst IsWhole (sym t.0) h
 
 -- by one event
-pub whole_by_step : (w : PlainWorld) (c : Cursor) (w' : PlainWorld) → IsWhole w → StepsNext w c w' → IsWhole w'
-whole_by_step w c w' h t = whole_by w (event_of t.0) true w' h (t.0, refl, t.1, t.3)
+pub whole_by_step : (asked : ℕ → Bool) (w : PlainWorld) (c : Cursor) (w' : PlainWorld) → IsWhole w → StepsNext asked w c w' → IsWhole w'
+whole_by_step asked w c w' h t = whole_by w (event_of t.0) true w' h (t.0, refl, t.1, t.3)
 
 -- by the turn of an event, or where memory was refused
 pub whole_by_result : (w : PlainWorld) (e : Event) (r : Result Bool NoMemory) (w' : PlainWorld) → IsWhole w

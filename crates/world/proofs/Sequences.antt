@@ -10,16 +10,13 @@ use Rattle.deeds.specs.After.{after}
 use Rattle.deeds.specs.Happens.{Happens, world_of}
 use Rattle.deeds.specs.Turns.{IsStep, count_changes}
 use Rattle.deeds.proofs.Lists.{nothing, same}
-use Rattle.settling.specs.Order.{IsNext, IsQuiet, IsAtRest}
-use Rattle.settling.specs.Settling.{Settles}
-use Rattle.settling.proofs.Runs.{settles_to_rest}
-use Rattle.settling.proofs.Bounds.{settles_short}
-use Rattle.world.specs.Sound.{IsReached}
+use Rattle.settling.specs.Order.{IsNextOf}
+use Rattle.settling.specs.Settling.{SettlesOf}
 use Rattle.world.specs.Steps.{IsRun, events_of}
-use Rattle.world.specs.Settling.{ServesBy, ServesAll}
+use Rattle.world.specs.Settling.{ServesBy}
 use Rattle.world.specs.Cursors.{StepsNext, ServesNext}
 use Rattle.world.specs.declared.cursor.Cursor.{Cursor}
-use Rattle.world.specs.declared.cursor.Served.{Served}
+use Rattle.world.specs.declared.cursor.Progress.{Progress}
 
 -- one item more
 take_suc : {X : Type 0} (n : ℕ) (xs : List X) (x : X) → slice_get xs n ≡ Some x → take (suc n) xs ≡ take n xs ++ x ∷ []
@@ -73,70 +70,59 @@ world_on w ds [] = refl
 world_on w ds (e ∷ es) = ap (λ z. after e z) (world_on w ds es)
 
 -- one deed more that was first
-pub serves_on : (w v : PlainWorld) (n : ℕ) (u : PlainWorld) (d : Deed) → ServesBy w n v → Happens d v
-    → IsNext v (event_of d) → u ≡ after d v → ServesBy w (n + 1) u
-serves_on w v n u d r h next is =
+pub serves_on : (asked : ℕ → Bool) (w v : PlainWorld) (n : ℕ) (u : PlainWorld) (d : Deed) → ServesBy asked w n v → Happens d v
+    → IsNextOf asked v (event_of d) → u ≡ after d v → ServesBy asked w (n + 1) u
+serves_on asked w v n u d r h next is =
     record {
       deeds = d ∷ r.deeds;
       settles = (
         r.settles,
         subst (λ z. Happens d z) r.is h,
-        subst (λ z. IsNext z (event_of d)) r.is next,
+        subst (λ z. IsNextOf asked z (event_of d)) r.is next,
       );
       is = is ∙ ap (λ z. after d z) r.is;
       counted = next_length (length r.deeds) n r.counted;
     }
 
 -- more deeds behind those that settled
-settles_on : (w : PlainWorld) (ds es : List Deed) → Settles w ds → Settles (world_of w ds) es → Settles w (es ++ ds)
-settles_on w ds [] h k = h
-settles_on w ds (e ∷ es) h k = (
-  settles_on w ds es h k.0,
+settles_on : (asked : ℕ → Bool) (w : PlainWorld) (ds es : List Deed) → SettlesOf asked w ds → SettlesOf asked (world_of w ds) es → SettlesOf asked w (es ++ ds)
+settles_on asked w ds [] h k = h
+settles_on asked w ds (e ∷ es) h k = (
+  settles_on asked w ds es h k.0,
   subst (λ z. Happens e z) (world_on w ds es) k.1,
-  subst (λ z. IsNext z (event_of e)) (world_on w ds es) k.2,
+  subst (λ z. IsNextOf asked z (event_of e)) (world_on w ds es) k.2,
 )
 
 -- what was served, and more that was
-pub serves_more : (w v u : PlainWorld) (n m : ℕ) → ServesBy w n v → ServesBy v m u → ServesBy w (n + m) u
-serves_more w v u n m r s =
-    let settled : Settles (world_of w r.deeds) s.deeds = subst (λ z. Settles z s.deeds) r.is s.settles in
+pub serves_more : (asked : ℕ → Bool) (w v u : PlainWorld) (n m : ℕ) → ServesBy asked w n v → ServesBy asked v m u → ServesBy asked w (n + m) u
+serves_more asked w v u n m r s =
+    let settled : SettlesOf asked (world_of w r.deeds) s.deeds = subst (λ z. SettlesOf asked z s.deeds) r.is s.settles in
     record {
       deeds = s.deeds ++ r.deeds;
-      settles = settles_on w r.deeds s.deeds r.settles settled;
+      settles = settles_on asked w r.deeds s.deeds r.settles settled;
       is = s.is ∙ ap (λ z. world_of z s.deeds) r.is ∙ world_on w r.deeds s.deeds;
       counted = omega (arith, length-append s.deeds r.deeds, r.counted, s.counted);
     }
 
 -- nothing was served yet
-pub serves_none : (w : PlainWorld) → ServesBy w 0 w
-serves_none w = record { deeds = []; settles = tt; is = refl; counted = refl }
+pub serves_none : (asked : ℕ → Bool) (w : PlainWorld) → ServesBy asked w 0 w
+serves_none asked w = record { deeds = []; settles = tt; is = refl; counted = refl }
 
 -- one deed
-pub serves_one : (w : PlainWorld) (c : Cursor) (u : PlainWorld) → StepsNext w c u → ServesBy w 1 u
-serves_one w c u t = serves_on w w 0 u t.0 (serves_none w) t.1 t.2 t.3
+pub serves_one : (asked : ℕ → Bool) (w : PlainWorld) (c : Cursor) (u : PlainWorld) → StepsNext asked w c u → ServesBy asked w 1 u
+serves_one asked w c u t = serves_on asked w w 0 u t.0 (serves_none asked w) t.1 t.2 t.3
 
 -- one deed more
-pub serves_next : (w v : PlainWorld) (n : ℕ) (c : Cursor) (u : PlainWorld) → ServesBy w n v → StepsNext v c u
-    → ServesBy w (n + 1) u
-serves_next w v n c u r t = serves_on w v n u t.0 r t.1 t.2 t.3
+pub serves_next : (asked : ℕ → Bool) (w v : PlainWorld) (n : ℕ) (c : Cursor) (u : PlainWorld) → ServesBy asked w n v → StepsNext asked v c u
+    → ServesBy asked w (n + 1) u
+serves_next asked w v n c u r t = serves_on asked w v n u t.0 r t.1 t.2 t.3
 
 -- it was one event of the order
-pub next_one : (most : ℕ) (w : PlainWorld) (c : Cursor) (s : Served) (w' : PlainWorld) → 1 ≤ most → s ≡ record { next = c; steps = 1 }
-    → StepsNext w c w' → ServesNext most w s w'
-next_one most w c s w' few is t =
-    subst (λ z. ServesNext most w z w') (sym is)
-    (record { some = omega arith; few = few; serves = serves_one w c w' t; before = t.4 })
-
--- served whole
-pub serves_all : (w : PlainWorld) (n : ℕ) (v : PlainWorld) → IsReached w → ServesBy w n v → IsQuiet v → ServesAll w n v
-serves_all w n v reached r quiet =
-    let still : IsQuiet (world_of w r.deeds) = subst (λ z. IsQuiet z) r.is quiet in
-    record {
-      serves = r;
-      quiet = quiet;
-      rest = subst (λ z. IsAtRest z) (sym r.is) (settles_to_rest reached.old reached.trace w r.deeds reached.reached r.settles still);
-      short = settles_short reached.old reached.trace w r.deeds reached.reached r.settles;
-    }
+pub next_one : (asked : ℕ → Bool) (most : ℕ) (w : PlainWorld) (c : Cursor) (s : Progress) (w' : PlainWorld) → 1 ≤ most → s ≡ record { next = c; steps = 1 }
+    → StepsNext asked w c w' → ServesNext asked most w s w'
+next_one asked most w c s w' few is t =
+    subst (λ z. ServesNext asked most w z w') (sym is)
+    (record { some = omega arith; few = few; serves = serves_one asked w c w' t; before = t.4 })
 
 -- what a step counts, where it changed something and where not
 pub counts_one : (n m : ℕ) (b : Bool) → b ≡ true → m ≡ n + 1 → n + bit b ≡ m

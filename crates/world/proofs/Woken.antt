@@ -17,12 +17,12 @@ use Rattle.deeds.specs.Turns.{Turns}
 use Rattle.deeds.proofs.Applying.{applies}
 use Rattle.deeds.proofs.Lists.{same}
 use Rattle.deeds.proofs.Staying.{deed_stays}
-use Rattle.settling.specs.Order.{of_seat, order_of, IsFirstOf, IsNext, IsQuiet, NoneApplies}
+use Rattle.settling.specs.Order.{of_seat, IsFirstOf, IsNextOf, IsQuietOf, NoneApplies}
 use Rattle.settling.specs.Waking.{IsAmong, IsFetch, IsTake, IsOwn, Wakes}
 use Rattle.queue_phases.specs.Slots.{arrived_unit}
 use Rattle.settling.proofs.Waking.{wakes}
-use Rattle.world.specs.Cursors.{TurnsFirst, of_function, NoStart, NoDirectBelow, NoDirect, NoSeatBelow, NoSeat, NoEnterBelow, NoFetchBelow, NoneBefore, NoneBeforeFetch, LeavesNext, EntersNext, FetchesNext, StepsNext, direct_from, seat_from, enter_from}
-use Rattle.world.specs.Settling.{MayWantFirst}
+use Rattle.world.specs.Cursors.{TurnsFirst, of_function, NoStart, NoDirectBelow, NoDirect, NoSeatBelow, NoSeat, NoEnterBelow, NoFetchBelow, NoFetch, NoneBefore, NoneBeforeFetch, LeavesNext, EntersNext, FetchesNext, StepsNext, direct_from, seat_from, enter_from}
+use Rattle.world.specs.Settling.{order_for, MayWantFirst}
 use Rattle.world.specs.declared.cursor.Cursor.{Cursor}
 use Rattle.world.specs.declared.cursor.Cursor.TheVariants as cursor
 use Rattle.world.proofs.Choosing.{none_open}
@@ -110,7 +110,7 @@ woken w (Deed.Stall x) e m h = absurd m
 woken w (Deed.Direct c o xs) e m h = h
 woken w (Deed.Put k x) e m h = take_after_seat e h
 woken w (Deed.Keep k x) e m h = among AfterSeat (Event.Commit k ∷ []) e (tt, tt) h
-woken w (Deed.Take k x) e m h = among AfterSeat (Event.Commit k ∷ []) e (tt, tt) h
+woken w (Deed.Take k from x) e m h = among AfterSeat (Event.Commit k ∷ []) e (tt, tt) h
 woken w (Deed.Commit k x r) e m h = among AfterSeat (Event.Answer k ∷ []) e (tt, tt) h
 woken w (Deed.Busy k x) e m h = among AfterSeat (Event.Answer k ∷ []) e (tt, tt) h
 woken w (Deed.Abort k x why) e m h = among AfterSeat (Event.Answer k ∷ []) e (tt, tt) h
@@ -256,39 +256,39 @@ after_fetch w d i y is m none lt closed arrived =
 -- What is first was done, and where to look next
 
 -- an event of the function
-pub function_next : (w w' : PlainWorld) (b : Bool) → b ≡ true → TurnsFirst of_function w b w'
-    → StepsNext w cursor.Start w'
-function_next w w' b on t =
+pub function_next : (asked : ℕ → Bool) (w w' : PlainWorld) (b : Bool) → b ≡ true → TurnsFirst of_function w b w'
+    → StepsNext asked w cursor.Start w'
+function_next asked w w' b on t =
     let u : TurnsFirst of_function w true w' = rw on at t in
     let e = event_of u.0 in
-    (u.0, u.1, is_first w e (order_of w) (first_function (Is w e) w (of_first w e of_function u.2)), u.3, tt)
+    (u.0, u.1, is_first w e (order_for asked w) (first_function asked (Is w e) w (of_first w e of_function u.2)), u.3, tt)
 
 -- an event changed something, where those before it changed nothing
 turned : (w v w' : PlainWorld) (e : Event) (b : Bool) → b ≡ true → v ≡ w → Turns v e b w' → Turns w e true w'
 turned w v w' e b on same t = subst (λ z. Turns z e true w') same (rw on at t)
 
 -- it applied, and is first where it is so by its name
-next_by : (w : PlainWorld) (d : Deed) (e : Event) → event_of d ≡ e → Happens d w
-    → (Is w e e → IsNext w e) → IsNext w (event_of d)
-next_by w d e is m f =
-    subst (λ x. IsNext w x) (sym is) (f (subst (λ x. Applies w x) is (applies d w m), refl))
+next_by : (asked : ℕ → Bool) (w : PlainWorld) (d : Deed) (e : Event) → event_of d ≡ e → Happens d w
+    → (Is w e e → IsNextOf asked w e) → IsNextOf asked w (event_of d)
+next_by asked w d e is m f =
+    subst (λ x. IsNextOf asked w x) (sym is) (f (subst (λ x. Applies w x) is (applies d w m), refl))
 
 -- the oldest event that waits
-pub raise_next : (w v w' : PlainWorld) (b : Bool) → b ≡ true → v ≡ w → NoneApplies w of_function
-    → Turns v Event.Raise b w' → StepsNext w cursor.Start w'
-raise_next w v w' b on same none t =
+pub raise_next : (asked : ℕ → Bool) (w v w' : PlainWorld) (b : Bool) → b ≡ true → v ≡ w → NoneApplies w of_function
+    → Turns v Event.Raise b w' → StepsNext asked w cursor.Start w'
+raise_next asked w v w' b on same none t =
     let u = turned w v w' Event.Raise b on same t in
-    let next = next_by w u.0 Event.Raise u.1 u.2
-    (λ a. is_first w Event.Raise (order_of w) (first_raise (Is w Event.Raise) w none a)) in
+    let next = next_by asked w u.0 Event.Raise u.1 u.2
+    (λ a. is_first w Event.Raise (order_for asked w) (first_raise asked (Is w Event.Raise) w none a)) in
     (u.0, u.2, next, u.3, tt)
 
 -- the answer that is ready on a queue
-pub direct_next : (w v w' : PlainWorld) (i : ℕ) (b : Bool) → b ≡ true → v ≡ w → NoStart w → NoDirectBelow i w
-    → i < length w.queues → Turns v (Event.Direct i) b w' → StepsNext w (cursor.Direct i) w'
-direct_next w v w' i b on same s below lt t =
+pub direct_next : (asked : ℕ → Bool) (w v w' : PlainWorld) (i : ℕ) (b : Bool) → b ≡ true → v ≡ w → NoStart w → NoDirectBelow i w
+    → i < length w.queues → Turns v (Event.Direct i) b w' → StepsNext asked w (cursor.Direct i) w'
+direct_next asked w v w' i b on same s below lt t =
     let e = Event.Direct i in
     let u = turned w v w' e b on same t in
-    let next = next_by w u.0 e u.1 u.2 (λ a. is_first w e (order_of w) (first_direct (Is w e) w i s below lt a)) in
+    let next = next_by asked w u.0 e u.1 u.2 (λ a. is_first w e (order_for asked w) (first_direct asked (Is w e) w i s below lt a)) in
     (u.0, u.2, next, u.3, subst (NoneBefore (cursor.Direct i)) (sym u.3) (after_direct w u.0 i u.1 u.2 s below))
 
 -- where the cursor is the beginning, nothing is asked
@@ -299,14 +299,14 @@ at_other : (w v : PlainWorld) (c x : Cursor) → c ≡ x → v ≡ w → NoneBef
 at_other w v c x e f h = subst (λ z. NoneBefore z v) (sym e) (subst (λ z. NoneBefore x z) (sym f) h)
 
 -- an event of a seat
-pub seat_next : (w v w' : PlainWorld) (k : ℕ) (b : Bool) (c : Cursor) → b ≡ true → v ≡ w → NoStart w → NoDirect w
+pub seat_next : (asked : ℕ → Bool) (w v w' : PlainWorld) (k : ℕ) (b : Bool) (c : Cursor) → b ≡ true → v ≡ w → NoStart w → NoDirect w
     → NoSeatBelow k w → k < length w.seats → TurnsFirst (of_seat k) v b w' → LeavesNext w' c
-    → StepsNext w c w'
-seat_next w v w' k b c on same s direct below lt t leaves =
+    → StepsNext asked w c w'
+seat_next asked w v w' k b c on same s direct below lt t leaves =
     let u : TurnsFirst (of_seat k) w true w' = subst (λ z. TurnsFirst (of_seat k) z true w') same (rw on at t) in
     let e = event_of u.0 in
-    let next = is_first w e (order_of w)
-    (first_seat (Is w e) w k s direct below lt (of_first w e (of_seat k) u.2)) in
+    let next = is_first w e (order_for asked w)
+    (first_seat asked (Is w e) w k s direct below lt (of_first w e (of_seat k) u.2)) in
     let before : NoneBefore c w' = elim leaves [
       | inl p ↦ at_start w' c p
       | inr p ↦
@@ -316,14 +316,14 @@ seat_next w v w' k b c on same s direct below lt t leaves =
     (u.0, u.1, next, u.3, before)
 
 -- a request that arrived
-pub enter_next : (w v w' : PlainWorld) (i : ℕ) (b : Bool) (c : Cursor) → b ≡ true → v ≡ w → NoStart w → NoDirect w
+pub enter_next : (asked : ℕ → Bool) (w v w' : PlainWorld) (i : ℕ) (b : Bool) (c : Cursor) → b ≡ true → v ≡ w → NoStart w → NoDirect w
     → NoSeat w → NoEnterBelow i w → i < length w.queues → Turns v (Event.Enter i) b w' → EntersNext i w' c
-    → StepsNext w c w'
-enter_next w v w' i b c on same s direct seat below lt t enters =
+    → StepsNext asked w c w'
+enter_next asked w v w' i b c on same s direct seat below lt t enters =
     let e = Event.Enter i in
     let u = turned w v w' e b on same t in
-    let next = next_by w u.0 e u.1 u.2
-    (λ a. is_first w e (order_of w) (first_enter (Is w e) w i s direct seat below lt a)) in
+    let next = next_by asked w u.0 e u.1 u.2
+    (λ a. is_first w e (order_for asked w) (first_enter asked (Is w e) w i s direct seat below lt a)) in
     let before : NoneBefore c w' = elim enters [
       | inl p ↦ at_start w' c p
       | inr p ↦
@@ -333,14 +333,14 @@ enter_next w v w' i b c on same s direct seat below lt t enters =
     (u.0, u.2, next, u.3, before)
 
 -- a queue's next chain
-pub fetch_next : (w v w' : PlainWorld) (i : ℕ) (b : Bool) (c : Cursor) → b ≡ true → v ≡ w → NoneBeforeFetch w
-    → NoFetchBelow i w → i < length w.queues → Turns v (Event.Fetch i) b w' → FetchesNext i w' c
-    → StepsNext w c w'
-fetch_next w v w' i b c on same none below lt t fetches =
+pub fetch_next : (asked : ℕ → Bool) (w v w' : PlainWorld) (i : ℕ) (b : Bool) (c : Cursor) → b ≡ true → v ≡ w → NoneBeforeFetch w
+    → NoFetchBelow asked i w → i < length w.queues → asked i ≡ true → Turns v (Event.Fetch i) b w' → FetchesNext i w' c
+    → StepsNext asked w c w'
+fetch_next asked w v w' i b c on same none below lt is_asked t fetches =
     let e = Event.Fetch i in
     let u = turned w v w' e b on same t in
-    let next = next_by w u.0 e u.1 u.2
-    (λ a. is_first w e (order_of w) (first_fetch (Is w e) w i none below lt a)) in
+    let next = next_by asked w u.0 e u.1 u.2
+    (λ a. is_first w e (order_for asked w) (first_fetch asked (Is w e) w i none below lt is_asked a)) in
     let before : NoneBefore c w' = elim fetches [
       | inl p ↦ at_start w' c p
       | inr p ↦
@@ -352,16 +352,17 @@ fetch_next w v w' i b c on same none below lt t fetches =
     (u.0, u.2, next, u.3, before)
 
 -- memory was refused for a queue's next chain
-pub queue_wants : (w v w' : PlainWorld) (i : ℕ) → v ≡ w → NoneBeforeFetch w → NoFetchBelow i w
-    → i < length w.queues → (w' ≡ v) × MayWant (Event.Fetch i) v → (w' ≡ w) × MayWantFirst w (order_of w)
-queue_wants w v w' i same none below lt t =
-    let want : MayWant (Event.Fetch i) w = subst (λ z. MayWant (Event.Fetch i) z) same t.1 in
-    (t.0 ∙ same, wants_first w (order_of w) (first_fetch (Wants w) w i none below lt want))
+pub queue_wants : (asked : ℕ → Bool) (w v w' : PlainWorld) (i : ℕ) → v ≡ w → NoneBeforeFetch w → NoFetchBelow asked i w
+    → i < length w.queues → (w' ≡ v) × (asked i ≡ true) × MayWant (Event.Fetch i) v
+    → (w' ≡ w) × MayWantFirst w (order_for asked w)
+queue_wants asked w v w' i same none below lt t =
+    let want : MayWant (Event.Fetch i) w = subst (λ z. MayWant (Event.Fetch i) z) same t.2 in
+    (t.0 ∙ same, wants_first w (order_for asked w) (first_fetch asked (Wants w) w i none below lt t.1 want))
 
 -- nothing was left
-pub nothing_next : (w v : PlainWorld) → v ≡ w → NoneBeforeFetch w → NoFetchBelow (length w.queues) w
-    → (v ≡ w) × IsQuiet w
-nothing_next w v same none below = (same, none_left w none below)
+pub nothing_next : (asked : ℕ → Bool) (w v : PlainWorld) → v ≡ w → NoneBeforeFetch w → NoFetch asked w
+    → (v ≡ w) × IsQuietOf asked w
+nothing_next asked w v same none below = (same, none_left asked w none below)
 
 -- a slot with a unit has a request that arrived
 pub arrived_there : (s : Slot) → is_some (arrived_unit s) ≡ true → (x : PlainJob) × (s ≡ Slot.Arrived x)

@@ -7,12 +7,12 @@ use Rattle.deeds.specs.World.{PlainWorld, owner}
 use Rattle.deeds.specs.Events.{Event}
 use Rattle.deeds.specs.Deeds.{Deed, event_of}
 use Rattle.deeds.specs.After.{after}
-use Rattle.deeds.specs.Happens.{Happens, MayWant, SeatIs}
+use Rattle.deeds.specs.Happens.{Happens, MayWant, SeatIs, OffIs}
 use Rattle.deeds.specs.Applies.{Applies}
 use Rattle.deeds.specs.Phases.{SlotIs}
-use Rattle.settling.specs.Order.{of_seat, order_of, IsFirstOf, IsNext, NoneApplies, IsQuiet}
-use Rattle.world.specs.Settling.{ServesBy, MayWantFirst}
-use Rattle.world.specs.declared.cursor.Served.{Served}
+use Rattle.settling.specs.Order.{of_seat, IsFirstOf, IsNextOf, NoneApplies, IsQuietOf}
+use Rattle.world.specs.Settling.{order_for, ServesBy, MayWantFirst}
+use Rattle.world.specs.declared.cursor.Progress.{Progress}
 use Rattle.world.specs.declared.cursor.Cursor.{Cursor}
 use Rattle.world.specs.declared.cursor.Cursor.TheVariants as cursor
 
@@ -48,8 +48,12 @@ NoEnterBelow n w = (i : ℕ) → i < n → Applies w (Event.Enter i) → ⊥
 abbrev pub NoEnter : PlainWorld → Type 0
 NoEnter w = NoEnterBelow (length w.queues) w
 
-abbrev pub NoFetchBelow : ℕ → PlainWorld → Type 0
-NoFetchBelow n w = (i : ℕ) → i < n → Applies w (Event.Fetch i) → ⊥
+-- of the queues that are asked
+abbrev pub NoFetchBelow : (ℕ → Bool) → ℕ → PlainWorld → Type 0
+NoFetchBelow asked n w = (i : ℕ) → i < n → asked i ≡ true → Applies w (Event.Fetch i) → ⊥
+
+abbrev pub NoFetch : (ℕ → Bool) → PlainWorld → Type 0
+NoFetch asked w = NoFetchBelow asked (length w.queues) w
 
 -- no event before the place in the order applies
 abbrev pub NoneBefore : Cursor → PlainWorld → Type 0
@@ -100,41 +104,46 @@ FetchesNext n w c =
     ⊎ ((c ≡ cursor.Enter n) × (w.function ≡ None) × ((x : PlainJob) × SlotIs w n (Slot.Arrived x)))
 
 -- what is first was done, and before a place none applies then
-abbrev pub StepsNext : PlainWorld → Cursor → PlainWorld → Type 0
-StepsNext w c w' = (d : Deed) × Happens d w × IsNext w (event_of d) × (w' ≡ after d w) × NoneBefore c w'
+abbrev pub StepsNext : (ℕ → Bool) → PlainWorld → Cursor → PlainWorld → Type 0
+StepsNext asked w c w' = (d : Deed) × Happens d w × IsNextOf asked w (event_of d) × (w' ≡ after d w) × NoneBefore c w'
 
 -- so many deeds were done, each of the first event that applied, and before a place none applies then
-pub record ServesNext (most : ℕ) (w : PlainWorld) (s : Served) (w' : PlainWorld) : Type 0 where
+pub record ServesNext (asked : ℕ → Bool) (most : ℕ) (w : PlainWorld) (s : Progress) (w' : PlainWorld) : Type 0 where
   pub some : 1 ≤ s.steps
   pub few : s.steps ≤ most
-  pub serves : ServesBy w s.steps w'
+  pub serves : ServesBy asked w s.steps w'
   pub before : NoneBefore s.next w'
 
 -- at least one was done; or none applies at all; or memory was refused for what is first
-abbrev pub TurnsNext : ℕ → PlainWorld → Result (Option Served) NoMemory → PlainWorld → Type 0
-TurnsNext most w (Ok (Some s)) w' = ServesNext most w s w'
-TurnsNext most w (Ok None) w' = (w' ≡ w) × IsQuiet w
-TurnsNext most w (Err x) w' = (w' ≡ w) × MayWantFirst w (order_of w)
+abbrev pub TurnsNext : (ℕ → Bool) → ℕ → PlainWorld → Result (Option Progress) NoMemory → PlainWorld → Type 0
+TurnsNext asked most w (Ok (Some s)) w' = ServesNext asked most w s w'
+TurnsNext asked most w (Ok None) w' = (w' ≡ w) × IsQuietOf asked w
+TurnsNext asked most w (Err x) w' = (w' ≡ w) × MayWantFirst w (order_for asked w)
 
--- the same of a queue's next chain, and what follows it; or there is none
-abbrev pub FetchesOn : ℕ → ℕ → PlainWorld → Result (Option Served) NoMemory → PlainWorld → Type 0
-FetchesOn most i w (Ok (Some s)) w' = ServesNext most w s w'
-FetchesOn most i w (Ok None) w' = (w' ≡ w) × (Applies w (Event.Fetch i) → ⊥)
-FetchesOn most i w (Err x) w' = (w' ≡ w) × MayWant (Event.Fetch i) w
+-- the same of a queue's next chain, and what follows it; or there is none, or the queue isn't asked
+abbrev pub FetchesOn : (ℕ → Bool) → ℕ → ℕ → PlainWorld → Result (Option Progress) NoMemory → PlainWorld → Type 0
+FetchesOn asked most i w (Ok (Some s)) w' = ServesNext asked most w s w'
+FetchesOn asked most i w (Ok None) w' = (w' ≡ w) × (asked i ≡ true → Applies w (Event.Fetch i) → ⊥)
+FetchesOn asked most i w (Err x) w' = (w' ≡ w) × (asked i ≡ true) × MayWant (Event.Fetch i) w
 
--- the first seat serves the requests of the queue, has nothing in hand and no job to hand off, and the hand-off is
--- empty
+-- a test of a fact is false where it holds
+abbrev pub Denies : Type 0 → Bool → Type 0
+Denies P true = P → ⊥
+Denies P false = P
+
+-- the first seat serves the requests of the queue, has nothing in hand and no job to hand off, and its list of the
+-- hand-off is empty
 pub record MayServe (i : ℕ) (w : PlainWorld) : Type 0 where
   pub request : 2 ≤ i
   pub there : i < length w.queues
   pub closed : w.function ≡ None
   pub own : owner w.workers i ≡ 0
   pub seat : SeatIs w 0 Hand.Free []
-  pub handed_off : w.handed_off ≡ []
+  pub handed_off : OffIs w 0 []
   pub room : 0 < w.limit
 
 -- what was done of a request at once, and where to look then: it only entered, or was served to its end
-abbrev pub served_of : Option Bool → ℕ → Served
+abbrev pub served_of : Option Bool → ℕ → Progress
 served_of None jobs = record { next = cursor.Start; steps = 2 }
 served_of (Some left) zero = record { next = cursor.Fetch; steps = 7 }
 served_of (Some left) (suc jobs) = record { next = cursor.Seats; steps = 7 }

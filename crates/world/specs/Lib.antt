@@ -1,4 +1,5 @@
 pub mod Kept
+pub mod Off
 pub mod Sound
 pub mod Steps
 pub mod Settling

@@ -1,5 +1,7 @@
 -- The device that a configuration opens as.
 use Rattle.std.specs.Prelude.{ℕ, ◌+◌, ◌≡◌, false, List, [], length, replicate, map, slice_get, Some, None}
+use Rattle.ring_core.specs.State.{features_of}
+use Rattle.ring_core.specs.declared.layout.Features.{Features}
 use Rattle.ring_core.specs.declared.layout.Form.{Form}
 use Rattle.ring_core.specs.declared.layout.Layout.{Layout}
 use Rattle.queues.specs.Queue.{opening_queue}
@@ -8,6 +10,7 @@ use Rattle.deeds.specs.Parts.{Slot, Hand}
 use Rattle.deeds.specs.World.{PlainQueue, PlainWorld, IsNewSeat, Everywhere}
 use Rattle.world.specs.Kept.{KeptSeat}
 use Rattle.history.specs.Contents.{Opening}
+use Rattle.task_set.specs.Jobs.{PlainJob}
 use Rattle.task_set.specs.Unit.{PlainUnit}
 use Rattle.task_set.specs.Unit as unit
 use Rattle.scsi_codec.specs.declared.lun.Address.{Address}
@@ -31,11 +34,12 @@ opening_of inventory u =
 abbrev pub opening_unit : List Address → UnitSpec → PlainUnit
 opening_unit inventory u = unit.opening_unit (opening_of inventory u) false
 
--- the queues of these layouts, of which nothing was fetched yet
-pub record AreOpening (form : Form) (memory : ℕ) (layouts : List Layout) (queues : List PlainQueue) : Type 0 where
+-- the queues of these layouts, for which these features were agreed and of which nothing was fetched yet
+pub record AreOpening
+    (form : Form) (memory : ℕ) (features : Features) (layouts : List Layout) (queues : List PlainQueue) : Type 0 where
   pub count : length queues ≡ length layouts
   pub each : (k : ℕ) (l : Layout) → slice_get layouts k ≡ Some l → slice_get queues k
-      ≡ Some (with_slot Slot.Empty (opening_queue form memory k l))
+      ≡ Some (with_slot Slot.Empty (opening_queue form memory k l features))
 
 -- the units, of which no step was taken
 pub record AreFresh (wanted : List UnitSpec) (units : List PlainUnit) : Type 0 where
@@ -54,13 +58,14 @@ pub record IsOpening (c : Config) (w : PlainWorld) : Type 0 where
   pub agreed : form_of c.features ≡ Some form
   pub memory : w.memory ≡ replicate (size_of c) 0
   pub inventory : w.inventory ≡ map address_of c.units.items
-  pub queues : AreOpening form (size_of c) c.queues.items w.queues
+  pub queues : AreOpening form (size_of c) (features_of c.features) c.queues.items w.queues
   pub units : AreFresh c.units.items w.units
   pub workers : w.workers ≡ c.workers
   pub limit : w.limit ≡ c.handoff
   pub seats : length w.seats ≡ c.workers + 1
   pub idle : Everywhere (λ (k : ℕ) (s : _). IsNewSeat s) w.seats
-  pub handed_off : w.handed_off ≡ []
+  pub handed_off : Everywhere (λ (k : ℕ) (jobs : List PlainJob). jobs ≡ []) w.handed_off
+  pub lists : length w.handed_off ≡ length w.seats
   pub function : w.function ≡ None
   pub buffers : w.buffers ≡ []
   pub missed : w.missed ≡ false

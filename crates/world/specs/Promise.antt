@@ -5,10 +5,13 @@ use Rattle.block_store.specs.declared.NoMemory.{NoMemory}
 use Rattle.deeds.specs.World.{PlainWorld}
 use Rattle.deeds.specs.Events.{Event, plain_event}
 use Rattle.deeds.specs.declared.event.Event as declared
+use Rattle.deeds.specs.Deeds.{event_of}
 use Rattle.deeds.specs.Happens.{MayWant, Occurrence, Reached}
 use Rattle.deeds.specs.Turns.{count_changes}
 use Rattle.interleavings.specs.Promise.{IsPromised}
+use Rattle.world.specs.Settling.{ServesBy, asks_all}
 use Rattle.world.specs.Steps.{events_of}
+use Rattle.world.specs.declared.service.Served.{Served}
 
 -- a trace of these events goes on from the one world to the other, and so many of its actions changed something: behind
 -- every trace that reached the one from an opening it reaches the other, and the promise is kept by both together (the
@@ -33,7 +36,16 @@ RunsAsPromised w events (Err x) w' =
     (k : ℕ) × (e : declared.Event) × (count : ℕ) × (slice_get events k ≡ Some e)
     × GoesOn w (events_of (take k events)) count w' × MayWant (plain_event e) w'
 
--- so many events of the device's own choice; or some, until memory was refused
+-- the trace is of these very events: so many, each the first that applied
+pub record GoesOnInOrder (asked : ℕ → Bool) (w : PlainWorld) (count : ℕ) (w' : PlainWorld) : Type 0 where
+  pub serves : ServesBy asked w count w'
+  pub goes_on : GoesOn w (map event_of serves.deeds) count w'
+
+-- as many as were counted; or some, until memory was refused
+abbrev pub ServesAsPromised : (ℕ → Bool) → PlainWorld → Result Served NoMemory → PlainWorld → Type 0
+ServesAsPromised asked w (Ok s) w' = GoesOnInOrder asked w s.steps w'
+ServesAsPromised asked w (Err x) w' = (count : ℕ) × GoesOnInOrder asked w count w'
+
 abbrev pub SettlesAsPromised : PlainWorld → Result ℕ NoMemory → PlainWorld → Type 0
-SettlesAsPromised w (Ok count) w' = (events : List Event) × GoesOn w events count w'
-SettlesAsPromised w (Err x) w' = (events : List Event) × (count : ℕ) × GoesOn w events count w'
+SettlesAsPromised w (Ok count) w' = GoesOnInOrder asks_all w count w'
+SettlesAsPromised w (Err x) w' = (count : ℕ) × GoesOnInOrder asks_all w count w'

@@ -1,35 +1,78 @@
--- Settling: what is first in the order is done, until nothing is left to do.
-use Rattle.std.specs.Prelude.{ℕ, ◌≡◌, ◌+◌, ◌^◌, ◌⊎◌, List, [], ◌∷◌, length, Result, Ok, Err}
+-- Serving: what is first in the order is done, with new chains of the queues alone that are asked, until nothing is left
+-- to do, or so many steps were taken.
+use Rattle.std.specs.Prelude.{ℕ, ◌≡◌, ◌+◌, ◌≤◌, ◌<◌, ◌^◌, ◌==◌, ◌⊎◌, Bool, true, false, List, [], ◌∷◌, length, Result, Ok, Err}
+use Rattle.std.specs.Int.{bit_at}
 use Rattle.block_store.specs.declared.NoMemory.{NoMemory}
 use Rattle.deeds.specs.World.{PlainWorld}
 use Rattle.deeds.specs.Events.{Event}
 use Rattle.deeds.specs.Deeds.{Deed}
 use Rattle.deeds.specs.Happens.{MayWant, world_of}
 use Rattle.deeds.specs.Applies.{Applies}
-use Rattle.settling.specs.Order.{order_of, IsQuiet, IsAtRest}
-use Rattle.settling.specs.Settling.{Settles, IsShort}
+use Rattle.settling.specs.Order.{order_of, order_by, IsQuiet, IsAtRest, IsNextOf, IsQuietOf, IsAtRestOf}
+use Rattle.settling.specs.Settling.{SettlesOf, IsShort}
+use Rattle.world.specs.declared.service.Served.{Served}
+
+-- the queues whose bit is set, that of queue 0 the lowest
+abbrev pub asks : ℕ → ℕ → Bool
+asks queues q = bit_at queues q == 1
+
+-- each queue
+abbrev pub asks_all : ℕ → Bool
+asks_all q = true
+
+-- the order, with new chains of the queues alone that are asked
+abbrev pub order_for : (ℕ → Bool) → PlainWorld → List Event
+order_for asked w = order_by asked (length w.queues) (length w.seats)
 
 -- the deeds lead from one world to the other, each of the first event that applies, and are so many
-pub record ServesBy (w : PlainWorld) (count : ℕ) (w' : PlainWorld) : Type 0 where
+pub record ServesBy (asked : ℕ → Bool) (w : PlainWorld) (count : ℕ) (w' : PlainWorld) : Type 0 where
   pub deeds : List Deed
-  pub settles : Settles w deeds
+  pub settles : SettlesOf asked w deeds
   pub is : w' ≡ world_of w deeds
   pub counted : length deeds ≡ count
-
--- served until nothing is left to do: then nothing is left to answer, and no more was done than there was to do
-pub record ServesAll (w : PlainWorld) (count : ℕ) (w' : PlainWorld) : Type 0 where
-  pub serves : ServesBy w count w'
-  pub quiet : IsQuiet w'
-  pub rest : IsAtRest w'
-  pub short : IsShort w serves.deeds
 
 -- of these events the first that applies may be refused memory
 abbrev pub MayWantFirst : PlainWorld → List Event → Type 0
 MayWantFirst w [] = ⊥
 MayWantFirst w (x ∷ xs) = MayWant x w ⊎ ((Applies w x → ⊥) × MayWantFirst w xs)
 
--- served whole; or until memory was refused for what was first, or all steps that can be counted were taken
+-- served so far, at most so many steps: either all were taken and an event is next, or nothing is left but chains of the
+-- other queues that weren't accepted; and no more was done than there was to do
+pub record ServesSome (asked : ℕ → Bool) (w : PlainWorld) (most : ℕ) (s : Served) (w' : PlainWorld) : Type 0 where
+  pub serves : ServesBy asked w s.steps w'
+  pub few : s.steps ≤ most
+  pub short : IsShort w serves.deeds
+  pub left : s.more ≡ true → (s.steps ≡ most) × ((e : Event) × IsNextOf asked w' e)
+  pub none : s.more ≡ false → IsQuietOf asked w' × IsAtRestOf asked w'
+
+-- served until memory was refused for what was first
+pub record ServesUntilRefused (asked : ℕ → Bool) (w : PlainWorld) (most : ℕ) (w' : PlainWorld) : Type 0 where
+  pub count : ℕ
+  pub serves : ServesBy asked w count w'
+  pub few : count < most
+  pub short : IsShort w serves.deeds
+  pub wants : MayWantFirst w' (order_for asked w')
+
+abbrev pub ServesSomeOrWants : (ℕ → Bool) → ℕ → PlainWorld → Result Served NoMemory → PlainWorld → Type 0
+ServesSomeOrWants asked most w (Ok s) w' = ServesSome asked w most s w'
+ServesSomeOrWants asked most w (Err x) w' = ServesUntilRefused asked w most w'
+
+-- served until nothing is left to do: then nothing is left to answer, and no more was done than there was to do
+pub record ServesAll (w : PlainWorld) (count : ℕ) (w' : PlainWorld) : Type 0 where
+  pub serves : ServesBy asks_all w count w'
+  pub quiet : IsQuiet w'
+  pub rest : IsAtRest w'
+  pub short : IsShort w serves.deeds
+
+-- served until memory was refused for what was first, or all steps that can be counted were taken; and no more was done
+-- than there was to do
+pub record ServesInPart (w : PlainWorld) (w' : PlainWorld) : Type 0 where
+  pub count : ℕ
+  pub serves : ServesBy asks_all w count w'
+  pub short : IsShort w serves.deeds
+  pub wants : MayWantFirst w' (order_of w') ⊎ (count + 1 ≡ 2 ^ 64)
+
+-- served whole, or in part
 abbrev pub ServesOrWants : PlainWorld → Result ℕ NoMemory → PlainWorld → Type 0
 ServesOrWants w (Ok count) w' = ServesAll w count w'
-ServesOrWants w (Err x) w' =
-    (count : ℕ) × ServesBy w count w' × (MayWantFirst w' (order_of w') ⊎ (count + 1 ≡ 2 ^ 64))
+ServesOrWants w (Err x) w' = ServesInPart w w'

@@ -1,5 +1,6 @@
 //! A virtqueue with its slot.
 
+use guest_mem::GuestMem;
 use phases::Slot;
 use queues::Queue;
 use std::marker::Model;
@@ -22,8 +23,10 @@ impl Model for Bay {
 }
 
 impl Bay {
-    ghost use Rattle.std.specs.Prelude.{◌≡◌};
+    ghost use Rattle.std.specs.Prelude.{◌≡◌, ◌↔◌, IsTrue, is_some, length};
     ghost use Rattle.deeds.specs.Parts as plain;
+    ghost use Rattle.queues.specs.Looking.{IsIdle};
+    ghost use Rattle.queue_phases.specs.Slots.{arrived_unit, is_ready};
     ghost use Rattle.queue_phases.specs.Queue.{with_slot};
 
     /// A queue whose slot is empty.
@@ -41,5 +44,27 @@ impl Bay {
         ensures { result ≡ self.now.notices }
     {
         self.queue.notices()
+    }
+
+    /// Returns true if a chain is ready to be answered.
+    pub(crate) fn is_ready(&self) -> bool
+        ensures { result ≡ is_ready self.now.slot }
+    {
+        self.slot.is_ready()
+    }
+
+    /// Returns true if a request arrived.
+    pub(crate) fn has_request(&self) -> bool
+        ensures { result ≡ is_some (arrived_unit self.now.slot) }
+    {
+        self.slot.unit().is_some()
+    }
+
+    /// Returns true if its slot is empty and a fetch would find a chain, or a fault.
+    pub(crate) fn has_chain(&self, memory: &GuestMem) -> bool
+        requires { length memory.now ≡ self.now.ring.memory }
+        ensures { IsTrue result ↔ ((self.now.slot ≡ plain.Slot.Empty) × (IsIdle self.now.ring memory.now → ⊥)) }
+    {
+        self.slot.is_empty() && !self.queue.is_silent(memory)
     }
 }

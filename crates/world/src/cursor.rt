@@ -20,7 +20,7 @@ pub(crate) enum Cursor {
 
 /// What was served, and from where on to look then.
 #[derive(Clone, Copy)]
-pub(crate) struct Served {
+pub(crate) struct Progress {
     /// From where on to look.
     pub(crate) next: Cursor,
     /// How many events it was.
@@ -31,18 +31,18 @@ pub(crate) struct Served {
 pub(crate) const AT_ONCE: u64 = 7;
 
 /// One event was served.
-pub(crate) fn one(next: Cursor) -> Served
+pub(crate) fn one(next: Cursor) -> Progress
     ensures { result ≡ record { next = next; steps = 1 } }
 {
-    Served { next, steps: 1 }
+    Progress { next, steps: 1 }
 }
 
 /// What was done of a request at once, where the first seat has so many jobs to hand off then.
-pub(crate) fn served_so(done: Option<bool>, jobs: usize) -> Served
+pub(crate) fn served_so(done: Option<bool>, jobs: usize) -> Progress
     ensures { result ≡ served_of done jobs }
 {
     if done.is_none() {
-        return Served {
+        return Progress {
             next: Cursor::Start,
             steps: 2,
         };
@@ -52,7 +52,7 @@ pub(crate) fn served_so(done: Option<bool>, jobs: usize) -> Served
     } else {
         Cursor::Seats
     };
-    Served {
+    Progress {
         next,
         steps: AT_ONCE,
     }

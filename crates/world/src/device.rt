@@ -1,13 +1,14 @@
 //! The parts of the device.
 
 use crate::bay::Bay;
+use crate::handed_off::HandedOff;
 use crate::seat::Seat;
 use decisions::Inventory;
 use event_queue::{EventPort, WaitingEvents};
 use guest_mem::GuestMem;
 use phases::OpenFunction;
 use std::marker::Model;
-use unit_history::{JobList, UnitState};
+use unit_history::UnitState;
 
 /// The parts of the device: memory, queues with their slots, units, seats, the hand-off, the function, the event port
 /// and the events that wait for it.
@@ -19,7 +20,7 @@ pub(crate) struct Device {
     pub(crate) units: Vec<UnitState>,
     pub(crate) seats: Vec<Seat>,
     pub(crate) workers: u16,
-    pub(crate) handed_off: JobList,
+    pub(crate) handed_off: HandedOff,
     pub(crate) function: Option<OpenFunction>,
     pub(crate) port: EventPort,
     pub(crate) waiting: WaitingEvents,
@@ -39,7 +40,7 @@ impl Model for Device {
       units = d.units.items;
       seats = map seat_of d.seats.items;
       workers = d.workers;
-      handed_off = d.handed_off.jobs;
+      handed_off = d.handed_off.lists;
       limit = d.handed_off.limit;
       function = d.function;
       buffers = d.port.buffers;

@@ -4,8 +4,10 @@
 mod bay;
 mod cursor;
 mod device;
+mod handed_off;
 mod notifications;
 mod opening;
+mod pending;
 mod seat;
 mod service;
 mod sound;
@@ -13,17 +15,19 @@ mod steps;
 mod world;
 
 pub use config::{
-    Config, ConfigFault, FEATURES, Layout, LayoutFault, RING_PACKED, StartFault, UnitSpec,
-    VERSION_1, form,
+    ACCEPTED_FEATURES, Config, ConfigFault, EVENT_IDX, FEATURES, INDIRECT_DESC, Layout,
+    LayoutFault, RING_PACKED, StartFault, UnitSpec, VERSION_1, form,
 };
 pub use deeds::Event;
 pub use notifications::Notifications;
 pub use phases::{
     Hand, Held, OpenFunction, Ready, Refusal, Slot, phase_answer, phase_answer_tmf, phase_check,
-    phase_commit, phase_direct, phase_enter, phase_fetch, phase_fetch_control, phase_leave,
-    phase_mark,
+    phase_commit, phase_direct, phase_enter, phase_fetch, phase_fetch_control, phase_fetch_event,
+    phase_hard, phase_leave, phase_mark, phase_raise,
 };
 pub use queues::{AnyRing, Queue};
 pub use ring_core::RingFault;
+pub use service::Served;
+pub use unit_attention::Code;
 pub use unit_history::{Cause, Given, Note, StepKind, UnitState};
 pub use world::World;

@@ -4,10 +4,12 @@ ghost use Rattle.std.specs.Prelude.{◌≡◌, ◌≤◌, length, map, IfOk, tru
 ghost use Rattle.decisions.specs.Inventory.{address_of};
 ghost use Rattle.std.specs.List.{list_all};
 ghost use Rattle.config.specs.Config.{is_config, is_queue};
+ghost use Rattle.ring_core.specs.State.{features_of};
 ghost use Rattle.world.specs.Opening.{AreOpening, AreFresh, AreSeats, IsOpening, opening_unit};
 
 use crate::bay::Bay;
 use crate::device::Device;
+use crate::handed_off::HandedOff;
 use crate::seat::Seat;
 use block_store::NoMemory;
 use config::{Config, MOST_DESCRIPTORS, form};
@@ -20,20 +22,28 @@ use std::alloc::Global;
 use task_set::MOST_TASKS;
 use unit_history::{JobList, UnitState};
 
-/// The queues of these layouts, of which nothing was fetched yet.
+/// Opens the queues of these layouts, for a driver that agreed to these features.
 fn open_bays(
     alloc: Global,
     form: Form,
+    features: u64,
     layouts: &[Layout],
     memory: &GuestMem,
 ) -> Result<Vec<Bay>, NoMemory>
     requires few { length layouts.now ≤ 18 }
     requires placed { list_all (is_queue form (length memory.now)) layouts.now ≡ true }
-    ensures { IfOk result (λ bays. AreOpening form (length memory.now) layouts.now bays.items) }
+    ensures { IfOk result (λ bays. AreOpening form (length memory.now) (features_of features) layouts.now bays.items) }
 {
     let mut bays = Vec::new(alloc);
     for number in 0..layouts.len() {
-        let queue = Queue::new(alloc, form, number as u16, layouts[number], memory)?;
+        let queue = Queue::new(
+            alloc,
+            form,
+            number as u16,
+            layouts[number],
+            features,
+            memory,
+        )?;
         if bays.push(Bay::new(queue)).is_err() {
             return Err(NoMemory);
         }
@@ -95,7 +105,13 @@ pub(crate) fn open_device(alloc: Global, config: &Config) -> Result<Device, NoMe
     let Ok(memory) = GuestMem::new(alloc, config.pages) else {
         return Err(NoMemory);
     };
-    let bays = open_bays(alloc, form, config.queues.as_slice(), &memory)?;
+    let bays = open_bays(
+        alloc,
+        form,
+        config.features,
+        config.queues.as_slice(),
+        &memory,
+    )?;
     let inventory = Inventory::new(config.units.as_slice());
     let units = open_units(alloc, config.units.as_slice(), &inventory)?;
     // The last seat is the operator's.
@@ -104,7 +120,7 @@ pub(crate) fn open_device(alloc: Global, config: &Config) -> Result<Device, NoMe
         config.workers as usize + 1,
         MOST_TASKS * units.len() + MOST_TASKS,
     )?;
-    let handed_off = JobList::with_limit(alloc, config.handoff as usize)?;
+    let handed_off = HandedOff::new(alloc, seats.len(), config.handoff as usize)?;
     // One place more than a queue may have chains outstanding, so that a full port keeps no fault from being found.
     let Ok(port) = EventPort::new(alloc, MOST_DESCRIPTORS as usize + 1) else {
         return Err(NoMemory);

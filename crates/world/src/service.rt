@@ -1,16 +1,17 @@
 //! The order in which a device serves what is there: the first event of it that applies, one after another. What a
 //! step can't have woken isn't looked at again.
 
-ghost use Rattle.std.specs.Prelude.{◌≤◌, ◌<◌, IsTrue, Some, slice_get, length};
+ghost use Rattle.std.specs.Prelude.{◌≡◌, ◌≤◌, ◌<◌, IsTrue, Some, true, slice_get, length};
 ghost use Rattle.settling.specs.Order.{of_seat};
 ghost use Rattle.deeds.specs.Parts.{Hand};
 ghost use Rattle.deeds.specs.Phases.{HasHand};
 ghost use Rattle.world.specs.Cursors.{TurnsFirst, of_function, TurnsNext, FetchesOn, MayServe, NoneBefore, NoneBeforeFetch, NoFetchBelow, EntersNext, FetchesNext, LeavesNext};
 ghost use Rattle.world.specs.Cursors.{NoStart, NoDirect, NoSeat};
+ghost use Rattle.world.specs.Settling.{asks, asks_all};
 ghost use Rattle.world.specs.Sound.{AreFew, IsSound, IsWhole};
 
 use crate::cursor::{
-    AT_ONCE, Cursor, Served, first_direct, first_enter, first_seat, is_fetch, is_start, one,
+    AT_ONCE, Cursor, Progress, first_direct, first_enter, first_seat, is_fetch, is_start, one,
     served_so,
 };
 use crate::device::Device;
@@ -19,6 +20,24 @@ use crate::sound::all_are_sound;
 use crate::steps::owner;
 use block_store::NoMemory;
 use phases::{Slot, Taken, serve_request, take_request};
+
+/// What a call of `World::serve` did.
+#[derive(Clone, Copy)]
+pub struct Served {
+    /// How many events changed something.
+    pub steps: u64,
+    /// Whether another event would.
+    pub more: bool,
+}
+
+/// Returns true if the bit of a queue is set.
+#[inline(always)]
+pub(crate) fn is_asked(queues: u32, number: u16) -> bool
+    requires { number < 32 }
+    ensures { result ≡ asks queues number }
+{
+    queues >> number & 1 == 1
+}
 
 impl Device {
     /// A step of the open function.
@@ -70,29 +89,39 @@ impl Device {
     /// The first event of the order that applies, from a place on; and from where on to look then. `None` where none
     /// applies.
     #[inline(always)]
-    pub(crate) fn turn(&mut self, cursor: Cursor, most: u64) -> Result<Option<Served>, NoMemory>
+    pub(crate) fn turn(
+        &mut self,
+        cursor: Cursor,
+        queues: u32,
+        most: u64,
+    ) -> Result<Option<Progress>, NoMemory>
         requires most { 1 ≤ most }
         requires whole { IsWhole self.old }
         requires sound { IsSound self.old }
         requires few { AreFew self.old }
         requires before { NoneBefore cursor self.old }
-        ensures { TurnsNext most self.old result self.new }
+        ensures { TurnsNext (asks queues) most self.old result self.new }
     {
         if is_fetch(cursor) {
-            return self.from_fetch(most);
+            return self.from_fetch(queues, most);
         }
-        self.from_start(cursor, most)
+        self.from_start(cursor, queues, most)
     }
 
     /// The same where more than the queues is to be looked at, apart so that requests served at once pass it by.
     #[inline(never)]
-    fn from_start(&mut self, cursor: Cursor, most: u64) -> Result<Option<Served>, NoMemory>
+    fn from_start(
+        &mut self,
+        cursor: Cursor,
+        queues: u32,
+        most: u64,
+    ) -> Result<Option<Progress>, NoMemory>
         requires most { 1 ≤ most }
         requires whole { IsWhole self.old }
         requires sound { IsSound self.old }
         requires few { AreFew self.old }
         requires before { NoneBefore cursor self.old }
-        ensures { TurnsNext most self.old result self.new }
+        ensures { TurnsNext (asks queues) most self.old result self.new }
     {
         if is_start(cursor) {
             if self.turn_function() {
@@ -102,31 +131,41 @@ impl Device {
                 return Ok(Some(one(Cursor::Start)));
             }
         }
-        self.from_direct(cursor, most)
+        self.from_direct(cursor, queues, most)
     }
 
     /// From the answers that are ready on, where the cursor isn't past them.
     #[inline(always)]
-    fn from_direct(&mut self, cursor: Cursor, most: u64) -> Result<Option<Served>, NoMemory>
+    fn from_direct(
+        &mut self,
+        cursor: Cursor,
+        queues: u32,
+        most: u64,
+    ) -> Result<Option<Progress>, NoMemory>
         requires most { 1 ≤ most }
         requires whole { IsWhole self.old }
         requires sound { IsSound self.old }
         requires few { AreFew self.old }
         requires start { NoStart self.old }
         requires before { NoneBefore cursor self.old }
-        ensures { TurnsNext most self.old result self.new }
+        ensures { TurnsNext (asks queues) most self.old result self.new }
     {
         for number in first_direct(cursor, self.bays.len())..self.bays.len() {
             if self.direct(number as u16) {
                 return Ok(Some(one(Cursor::Direct(number as u16))));
             }
         }
-        self.from_seats(cursor, most)
+        self.from_seats(cursor, queues, most)
     }
 
     /// From the seats on, where the cursor isn't past them.
     #[inline(always)]
-    fn from_seats(&mut self, cursor: Cursor, most: u64) -> Result<Option<Served>, NoMemory>
+    fn from_seats(
+        &mut self,
+        cursor: Cursor,
+        queues: u32,
+        most: u64,
+    ) -> Result<Option<Progress>, NoMemory>
         requires most { 1 ≤ most }
         requires whole { IsWhole self.old }
         requires sound { IsSound self.old }
@@ -134,19 +173,24 @@ impl Device {
         requires start { NoStart self.old }
         requires direct { NoDirect self.old }
         requires before { NoneBefore cursor self.old }
-        ensures { TurnsNext most self.old result self.new }
+        ensures { TurnsNext (asks queues) most self.old result self.new }
     {
         for number in first_seat(cursor, self.seats.len())..self.seats.len() {
             if self.turn_seat(number as u16) {
                 return Ok(Some(one(self.after_seat())));
             }
         }
-        self.from_enter(cursor, most)
+        self.from_enter(cursor, queues, most)
     }
 
     /// From the requests that arrived on, where the cursor isn't past them.
     #[inline(always)]
-    fn from_enter(&mut self, cursor: Cursor, most: u64) -> Result<Option<Served>, NoMemory>
+    fn from_enter(
+        &mut self,
+        cursor: Cursor,
+        queues: u32,
+        most: u64,
+    ) -> Result<Option<Progress>, NoMemory>
         requires most { 1 ≤ most }
         requires whole { IsWhole self.old }
         requires sound { IsSound self.old }
@@ -155,28 +199,28 @@ impl Device {
         requires direct { NoDirect self.old }
         requires seat { NoSeat self.old }
         requires before { NoneBefore cursor self.old }
-        ensures { TurnsNext most self.old result self.new }
+        ensures { TurnsNext (asks queues) most self.old result self.new }
     {
         for number in first_enter(cursor, self.bays.len())..self.bays.len() {
             if self.enter(number as u16) {
                 return Ok(Some(one(self.after_enter(number as u16))));
             }
         }
-        self.from_fetch(most)
+        self.from_fetch(queues, most)
     }
 
-    /// From the first queue's next chain on.
+    /// Looks for a chain on the queues that are asked, by rising number.
     #[inline(always)]
-    fn from_fetch(&mut self, most: u64) -> Result<Option<Served>, NoMemory>
+    fn from_fetch(&mut self, queues: u32, most: u64) -> Result<Option<Progress>, NoMemory>
         requires most { 1 ≤ most }
         requires whole { IsWhole self.old }
         requires sound { IsSound self.old }
         requires few { AreFew self.old }
         requires before { NoneBeforeFetch self.old }
-        ensures { TurnsNext most self.old result self.new }
+        ensures { TurnsNext (asks queues) most self.old result self.new }
     {
         for number in self.first_fetch()..self.bays.len() {
-            match self.serve_queue(number as u16, most) {
+            match self.serve_queue(number as u16, queues, most) {
                 Ok(None) => {}
                 Ok(Some(served)) => return Ok(Some(served)),
                 Err(NoMemory) => return Err(NoMemory),
@@ -189,7 +233,7 @@ impl Device {
     #[inline(always)]
     fn first_fetch(&self) -> usize
         requires sound { IsSound self.now }
-        ensures below { NoFetchBelow result self.now }
+        ensures below { NoFetchBelow asks_all result self.now }
     {
         if self.bays.len() >= 2 && self.is_silent(0) && self.is_silent(1) {
             2
@@ -198,23 +242,32 @@ impl Device {
         }
     }
 
-    /// A queue's next chain, and what may be done of it at once, where no event before it applies.
+    /// Takes a queue's next chain, where the queue is asked and no event before it applies, and does at once what may be
+    /// done of it.
     #[inline(always)]
-    fn serve_queue(&mut self, number: u16, most: u64) -> Result<Option<Served>, NoMemory>
+    fn serve_queue(
+        &mut self,
+        number: u16,
+        queues: u32,
+        most: u64,
+    ) -> Result<Option<Progress>, NoMemory>
         requires most { 1 ≤ most }
         requires whole { IsWhole self.old }
         requires sound { IsSound self.old }
         requires few { AreFew self.old }
         requires before { NoneBeforeFetch self.old }
-        requires below { NoFetchBelow number self.old }
+        requires below { NoFetchBelow (asks queues) number self.old }
         requires there { number < length self.old.queues }
-        ensures { FetchesOn most number self.old result self.new }
+        ensures { FetchesOn (asks queues) most number self.old result self.new }
     {
+        if !is_asked(queues, number) {
+            return Ok(None);
+        }
         if self.is_silent(number) {
             return Ok(None);
         }
         if most >= AT_ONCE && self.serves_at_once(number) {
-            return self.serve(number, most);
+            return self.serve(number, queues, most);
         }
         match self.fetch(number) {
             Ok(false) => Ok(None),
@@ -235,19 +288,20 @@ impl Device {
             && owner(self.workers, number) == 0
             && !self.seats.is_empty()
             && self.seats[0].is_idle()
-            && self.handed_off.len() == 0
+            && self.handed_off.is_bare(0)
             && self.handed_off.limit() > 0
     }
 
     /// A request queue's next chain is taken, and its request, if it is one that nothing blocks, is served to its end.
     #[inline(always)]
-    fn serve(&mut self, number: u16, most: u64) -> Result<Option<Served>, NoMemory>
+    fn serve(&mut self, number: u16, queues: u32, most: u64) -> Result<Option<Progress>, NoMemory>
         requires most { AT_ONCE ≤ most }
         requires whole { IsWhole self.old }
         requires before { NoneBeforeFetch self.old }
-        requires below { NoFetchBelow number self.old }
+        requires below { NoFetchBelow (asks queues) number self.old }
+        requires asked { asks queues number ≡ true }
         requires at_once { MayServe number self.old }
-        ensures { FetchesOn most number self.old result self.new }
+        ensures { FetchesOn (asks queues) most number self.old result self.new }
     {
         all_are_sound();
         let bay = &mut self.bays[number as usize];

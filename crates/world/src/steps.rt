@@ -140,7 +140,7 @@ impl Device {
         phase_direct(&mut bay.queue, &mut bay.slot, &mut self.memory).is_some()
     }
 
-    /// A seat hands its next job off, or keeps it where the hand-off is full.
+    /// A seat hands its next job off, or keeps it where its list of the hand-off is full.
     pub(crate) fn put(&mut self, number: u16) -> bool
         requires sound { IsSound self.old }
         ensures { Turns self.old (AnEvent.Put number) result self.new }
@@ -153,15 +153,14 @@ impl Device {
         let Some(job) = seat.next() else {
             return false;
         };
-        if self.handed_off.len() < self.handed_off.limit() {
-            self.handed_off.push(job);
-        } else {
-            seat.hold(job);
-        }
+        let Err(back) = self.handed_off.put(at, job) else {
+            return true;
+        };
+        seat.hold(back);
         true
     }
 
-    /// A worker takes a job from the hand-off.
+    /// A worker takes a job from the nearest list of the hand-off that isn't empty.
     pub(crate) fn take(&mut self, number: u16) -> bool
         requires sound { IsSound self.old }
         ensures { Turns self.old (AnEvent.Take number) result self.new }
@@ -173,7 +172,7 @@ impl Device {
         if !self.seats[at].is_idle() {
             return false;
         }
-        let Some(job) = self.handed_off.next() else {
+        let Some(job) = self.handed_off.take(at) else {
             return false;
         };
         self.seats[at].hold(job);

@@ -4,9 +4,10 @@ ghost use Rattle.std.specs.Prelude.{◌≡◌, ◌≤◌, [], length, IfOk, is_s
 ghost use Rattle.std.specs.List.{list_any};
 
 use crate::bay::Bay;
-use crate::cursor::{Cursor, Served};
+use crate::cursor::{Cursor, Progress};
 use crate::device::Device;
 use crate::opening::open_device;
+use crate::service::Served;
 use crate::sound::all_are_sound;
 use block_store::NoMemory;
 use config::{Config, StartFault};
@@ -17,6 +18,7 @@ use interleavings::laws::the_promise_is_kept;
 use ring_core::{QueueLog, RingFault};
 use std::alloc::Global;
 use std::marker::Model;
+use unit_attention::Code;
 use unit_history::UnitState;
 
 /// Whether a fault of the guest broke a queue.
@@ -44,21 +46,22 @@ impl Model for World {
 }
 
 impl World {
-    ghost use Rattle.std.specs.Prelude.{◌+◌, ◌*◌, true, [], IfSome, slice_get, MatchResult};
+    ghost use Rattle.std.specs.Prelude.{◌+◌, ◌*◌, true, Ok, [], IfSome, slice_get, MatchResult};
     ghost use Rattle.std.specs.Option.{option_copied, option_map};
     ghost use Rattle.ring_core.specs.State.{IsLawful};
     ghost use Rattle.deeds.specs.Events.{Event as AnEvent, plain_event};
     ghost use Rattle.deeds.specs.World as plain;
-    ghost use Rattle.history.specs.Contents.{capacity_of};
+    ghost use Rattle.history.specs.Contents.{capacity_of, pending_of};
     ghost use Rattle.config.specs.Config.{is_config, StartRefusedAs};
     ghost use Rattle.world.specs.Opening.{IsOpening};
     ghost use Rattle.world.specs.Sound.{AreFew, IsReached, IsSound};
     ghost use Rattle.deeds.specs.Happens.{Reached};
     ghost use Rattle.deeds.specs.Turns.{Turns};
     ghost use Rattle.world.specs.Steps.{Steps, RunsAll};
-    ghost use Rattle.world.specs.Settling.{ServesOrWants};
-    ghost use Rattle.world.specs.Promise.{StepsAsPromised, RunsAsPromised, SettlesAsPromised};
-    ghost use Rattle.world.specs.Cursors.{NoneBefore, TurnsNext};
+    ghost use Rattle.settling.specs.Order.{IsQuietOf};
+    ghost use Rattle.world.specs.Settling.{asks, ServesSomeOrWants, ServesOrWants};
+    ghost use Rattle.world.specs.Promise.{StepsAsPromised, RunsAsPromised, ServesAsPromised, SettlesAsPromised};
+    ghost use Rattle.world.specs.Cursors.{Denies, NoneBefore, TurnsNext};
     ghost use Rattle.world.specs.Views.{unit_at, IsPlaceOf, fault_of, device_status, GivesBlocks};
 
     /// The device of a configuration, of which nothing has happened yet. Whoever sets it up calls it once.
@@ -153,58 +156,105 @@ impl World {
         Ok(count)
     }
 
-    /// Serves what the guest made available: the first event that applies, in the order of `order` in
-    /// `settling/specs/Order.antt`, one after another until none does. Answers how many there were. Then every chain
-    /// that was accepted was used, but for event buffers that are held, nothing is left that waits, and no queue has a
-    /// chain, unless a fault broke it. It takes at most 7 steps for each request chain, 2 for each control chain, 1 for
-    /// each event buffer, 1 for each event that waits, for each queue and for each task that was answered before, and 2
-    /// for each unit that a function visits. It ends whatever the guest wrote, since each chain that it accepts
-    /// lengthens a log.
+    /// Serves what the guest made available on some queues: takes the first event that applies, in the order of
+    /// `order_by` in `settling/specs/Order.antt`, one after another, until none does or `most` steps were taken. It takes
+    /// new chains of those queues alone whose bit is set in `queues`, that of queue 0 the lowest. It goes on with whatever
+    /// was begun before, of each queue.
     ///
-    /// `NoMemory` where what was first was refused memory, or is a chain of a queue that has accepted 2^64 - 1, or
-    /// where 2^64 - 1 events were counted: what was served before stands, and nothing else changed. The promise is
-    /// kept as by `run`.
-    pub fn settle(&mut self) -> Result<u64, NoMemory>
-        ensures serves { ServesOrWants self.old result self.new }
-        ensures promise { SettlesAsPromised self.old result self.new }
+    /// `more` is true exactly where an event is left that would change something: then it took `most` steps. Where it is
+    /// false, every chain that was accepted was used, but for event buffers that are held, nothing waits, and none of
+    /// those queues has a chain, unless a fault broke it. Chains of the other queues are left as they are.
+    ///
+    /// It takes at most 7 steps for each request chain, 2 for each control chain, 1 for each event buffer, 1 for each event
+    /// that waits, for each queue and for each task that was answered before, and 2 for each unit that a function visits.
+    /// A guest whose requests make further chains available has each of these counted too, so that only `most` bounds a
+    /// call: a host that goes round its queues with a bound starves none.
+    ///
+    /// `NoMemory` where what was first was refused memory, or is a chain of a queue that has accepted 2^64 - 1: what was
+    /// served before stands, and nothing else changed. The promise is kept as by `run`.
+    #[inline(always)]
+    pub fn serve(&mut self, queues: u32, most: u64) -> Result<Served, NoMemory>
+        ensures serves { ServesSomeOrWants (asks queues) most self.old result self.new }
+        ensures promise { ServesAsPromised (asks queues) self.old result self.new }
     {
         every_run_goes_on();
         the_promise_is_kept();
         self.is_reached();
         let mut cursor = Cursor::Start;
-        let mut count = 0;
-        for _turn in 0..u64::MAX {
-            if count == u64::MAX {
-                return Err(NoMemory);
+        let mut steps = 0;
+        for _turn in 0..most {
+            if steps == most {
+                let more = self.has_step(queues);
+                return Ok(Served { steps, more });
             }
-            match self.turn(cursor, u64::MAX - count) {
+            match self.turn(cursor, queues, most - steps) {
                 Ok(Some(served)) => {
                     cursor = served.next;
-                    count += served.steps;
+                    steps += served.steps;
                 }
-                Ok(None) => return Ok(count),
+                Ok(None) => return Ok(Served { steps, more: false }),
                 Err(NoMemory) => return Err(NoMemory),
             }
         }
-        Err(NoMemory)
+        let more = self.has_step(queues);
+        Ok(Served { steps, more })
+    }
+
+    /// Serves what the guest made available, on each queue and until nothing is left: `serve` with all queues and no bound.
+    /// Answers how many steps it took. Then every chain that was accepted was used, but for event buffers that are held,
+    /// nothing is left that waits, and no queue has a chain, unless a fault broke it.
+    ///
+    /// A guest whose own requests make chains available, as a READ that writes descriptors into a ring, keeps it busy for
+    /// as long as it likes. A host that must have its thread back calls `serve` with a bound.
+    ///
+    /// `NoMemory` where what was first was refused memory, or is a chain of a queue that has accepted 2^64 - 1, or
+    /// where 2^64 - 1 events were counted: what was served before stands, and nothing else changed. The bound on its steps
+    /// holds there too (`IsShort` in `settling/specs/Settling.antt`). The promise is kept as by `run`.
+    pub fn settle(&mut self) -> Result<u64, NoMemory>
+        ensures serves { ServesOrWants self.old result self.new }
+        ensures promise { SettlesAsPromised self.old result self.new }
+    {
+        self.is_sound();
+        match self.serve(u32::MAX, u64::MAX) {
+            Ok(served) => {
+                if served.more {
+                    return Err(NoMemory);
+                }
+                Ok(served.steps)
+            }
+            Err(NoMemory) => Err(NoMemory),
+        }
     }
 
     /// The first event of the order that applies, from a place on, or a request as a whole where that may be counted.
     #[inline(always)]
-    fn turn(&mut self, cursor: Cursor, most: u64) -> Result<Option<Served>, NoMemory>
+    fn turn(&mut self, cursor: Cursor, queues: u32, most: u64) -> Result<Option<Progress>, NoMemory>
         requires most { 1 ≤ most }
         requires before { NoneBefore cursor self.old }
-        ensures { TurnsNext most self.old result self.new }
+        ensures { TurnsNext (asks queues) most self.old result self.new }
     {
         self.is_sound();
-        self.device.turn(cursor, most)
+        self.device.turn(cursor, queues, most)
+    }
+
+    /// Returns true if an event of the order applies, with new chains of the queues alone that are asked.
+    #[inline(never)]
+    fn has_step(&self, queues: u32) -> bool
+        ensures { Denies (IsQuietOf (asks queues) self.now) result }
+    {
+        self.is_sound();
+        self.device.has_step(queues)
     }
 
     /// The guest's write: puts bytes at an address. False, with nothing changed, where one of them would lie outside
-    /// memory.
+    /// memory. The promise is kept as by `step`.
     pub fn poke(&mut self, addr: u64, bytes: &[u8]) -> bool
-        ensures { Turns self.old (AnEvent.Poke (record { addr = addr; bytes = bytes.now })) result self.new }
+        ensures turns { Turns self.old (AnEvent.Poke (record { addr = addr; bytes = bytes.now })) result self.new }
+        ensures promise { StepsAsPromised self.old (AnEvent.Poke (record { addr = addr; bytes = bytes.now })) (Ok result)
+            self.new }
     {
+        every_run_goes_on();
+        the_promise_is_kept();
         self.device.poke(addr, bytes)
     }
 
@@ -300,6 +350,17 @@ impl World {
     {
         match self.unit(target, lun) {
             Some(unit) => Some(unit.capacity()),
+            None => None,
+        }
+    }
+
+    /// Returns the codes of the unit attention conditions that the unit of an address has pending, the oldest first
+    /// (SAM-5 §5.14); `None` where there is no such unit.
+    pub fn pending(&self, target: u8, lun: u16) -> Option<&[Code]>
+        ensures { option_copied result ≡ option_map (λ u. pending_of u.opening u.steps) (unit_at self.now target lun) }
+    {
+        match self.unit(target, lun) {
+            Some(unit) => Some(unit.pending()),
             None => None,
         }
     }

@@ -3,7 +3,9 @@
 use super::are_called;
 use device_bench::{NUMBERS, Numbers, Row, UNIT};
 use std::test::Fail;
-use world::{RING_PACKED, StartFault, UnitSpec, VERSION_1};
+use world::{
+    ACCEPTED_FEATURES, EVENT_IDX, INDIRECT_DESC, RING_PACKED, StartFault, UnitSpec, VERSION_1,
+};
 
 /// A unit with a power-on attention.
 const FIRST: UnitSpec = UnitSpec {
@@ -33,7 +35,7 @@ const ROW: Row = Row {
     steps: &[],
 };
 
-pub(crate) static ROWS: [Row; 13] = [
+pub(crate) static ROWS: [Row; 16] = [
     Row {
         shows: "one worker",
         numbers: Numbers {
@@ -41,6 +43,7 @@ pub(crate) static ROWS: [Row; 13] = [
             features: VERSION_1,
             workers: 1,
             handoff: 64,
+            slots: 8,
         },
         is_refused: false,
         ..ROW
@@ -52,6 +55,7 @@ pub(crate) static ROWS: [Row; 13] = [
             features: VERSION_1,
             workers: 9,
             handoff: 64,
+            slots: 8,
         },
         is_refused: true,
         ..ROW
@@ -63,6 +67,7 @@ pub(crate) static ROWS: [Row; 13] = [
             features: VERSION_1,
             workers: 8,
             handoff: 4097,
+            slots: 8,
         },
         is_refused: true,
         ..ROW
@@ -74,6 +79,7 @@ pub(crate) static ROWS: [Row; 13] = [
             features: VERSION_1,
             workers: 8,
             handoff: 4096,
+            slots: 8,
         },
         is_refused: false,
         ..ROW
@@ -85,6 +91,7 @@ pub(crate) static ROWS: [Row; 13] = [
             features: VERSION_1,
             workers: 8,
             handoff: 4096,
+            slots: 8,
         },
         is_refused: true,
         ..ROW
@@ -96,6 +103,7 @@ pub(crate) static ROWS: [Row; 13] = [
             features: 0,
             workers: 1,
             handoff: 64,
+            slots: 8,
         },
         is_refused: true,
         ..ROW
@@ -107,6 +115,7 @@ pub(crate) static ROWS: [Row; 13] = [
             features: RING_PACKED,
             workers: 1,
             handoff: 64,
+            slots: 8,
         },
         is_refused: true,
         ..ROW
@@ -118,6 +127,43 @@ pub(crate) static ROWS: [Row; 13] = [
             features: VERSION_1 + 1,
             workers: 1,
             handoff: 64,
+            slots: 8,
+        },
+        is_refused: true,
+        ..ROW
+    },
+    Row {
+        shows: "all features that are taken",
+        numbers: Numbers {
+            pages: 16,
+            features: ACCEPTED_FEATURES,
+            workers: 1,
+            handoff: 64,
+            slots: 8,
+        },
+        is_refused: false,
+        ..ROW
+    },
+    Row {
+        shows: "the features of rings without VERSION_1",
+        numbers: Numbers {
+            pages: 16,
+            features: INDIRECT_DESC + EVENT_IDX,
+            workers: 1,
+            handoff: 64,
+            slots: 8,
+        },
+        is_refused: true,
+        ..ROW
+    },
+    Row {
+        shows: "a feature between those that are taken",
+        numbers: Numbers {
+            pages: 16,
+            features: VERSION_1 + 4 * INDIRECT_DESC,
+            workers: 1,
+            handoff: 64,
+            slots: 8,
         },
         is_refused: true,
         ..ROW
@@ -129,6 +175,7 @@ pub(crate) static ROWS: [Row; 13] = [
             features: 2 * VERSION_1,
             workers: 1,
             handoff: 64,
+            slots: 8,
         },
         is_refused: true,
         ..ROW

@@ -1,8 +1,8 @@
 //! Steps of the device: how many there are, and what they leave in the rings and in a unit's history.
 
 use device_bench::{
-    ABSENT, BUFFER, Move, NEXUS_RESET, NUMBERS, Numbers, ORDERED, READ, READY, REJECTED, Row, Sent,
-    Step, UNIT, UNIT_RESET,
+    ABSENT, BUFFER, Move, NEXUS_RESET, NUMBERS, Numbers, ORDERED, QUERY, READ, READY, REJECTED,
+    Row, Sent, Step, UNIT, UNIT_RESET,
 };
 use ring_core::Ticket;
 use world::{RING_PACKED, StepKind, UnitSpec, VERSION_1};
@@ -28,7 +28,7 @@ const ATTENTION: &[u8] = &[
     18, 0, 0, 0, 0, 0, 0, 0, 0, 0, 2, 0, 0x70, 0, 6, 0, 0, 0, 0, 10, 0, 0, 0, 0, 0x29, 0,
 ];
 
-/// Three chains of queue 2, and one of queue 3.
+/// Three chains of queue 2.
 const A: Ticket = Ticket {
     queue: 2,
     number: 0,
@@ -42,11 +42,6 @@ const B: Ticket = Ticket {
 const C: Ticket = Ticket {
     queue: 2,
     number: 2,
-};
-
-const D: Ticket = Ticket {
-    queue: 3,
-    number: 0,
 };
 
 /// TEST UNIT READY on the other request queue.
@@ -174,11 +169,14 @@ pub(crate) static ROWS: [Row; 11] = [
             Step::Send(2, REJECTED),
             Step::Settle(2),
             Step::Answer(0, 2, &[11]),
+            Step::Send(3, QUERY),
+            Step::Settle(4),
+            Step::Answer(0, 3, &[0]),
             Step::Has(
                 2048,
                 &[
-                    0, 0, 3, 0, 0, 0, 0, 0, 1, 0, 0, 0, 2, 0, 0, 0, 1, 0, 0, 0, 4, 0, 0, 0, 1, 0,
-                    0, 0,
+                    0, 0, 4, 0, 0, 0, 0, 0, 1, 0, 0, 0, 2, 0, 0, 0, 1, 0, 0, 0, 4, 0, 0, 0, 1, 0,
+                    0, 0, 6, 0, 0, 0, 1, 0, 0, 0,
                 ],
             ),
             Step::History(&[StepKind::Reset, StepKind::Reset]),
@@ -299,7 +297,7 @@ pub(crate) static ROWS: [Row; 11] = [
         ],
     },
     Row {
-        shows: "a full hand-off leaves a job with its owner",
+        shows: "a full list of the hand-off leaves a job with its owner",
         numbers: Numbers {
             workers: 3,
             handoff: 1,
@@ -309,20 +307,21 @@ pub(crate) static ROWS: [Row; 11] = [
         is_refused: false,
         steps: &[
             Step::Send(0, READY),
-            Step::Send(0, OTHER),
+            Step::Send(1, READY),
             Step::Run(
                 &[
                     Move::Fetch(2),
                     Move::Enter(2),
-                    Move::Fetch(3),
-                    Move::Enter(3),
-                    Move::Put(2),
-                    Move::Put(0),
+                    Move::Fetch(2),
+                    Move::Enter(2),
                     Move::Put(1),
-                    Move::Take(1),
-                    Move::Take(3),
-                    Move::Take(2),
+                    Move::Put(0),
+                    Move::Put(0),
+                    Move::Put(0),
                     Move::Take(0),
+                    Move::Take(3),
+                    Move::Take(1),
+                    Move::Take(2),
                     Move::Commit(0),
                     Move::Commit(1),
                     Move::Commit(2),
@@ -331,20 +330,20 @@ pub(crate) static ROWS: [Row; 11] = [
             ),
             Step::Run(
                 &[
-                    Move::Answer(2),
-                    Move::Leave(2),
                     Move::Answer(1),
                     Move::Leave(1),
+                    Move::Answer(0),
+                    Move::Leave(0),
                 ],
                 4,
             ),
             Step::History(&[
                 StepKind::Enter(A),
-                StepKind::Enter(D),
-                StepKind::Commit(D),
+                StepKind::Enter(B),
+                StepKind::Commit(B),
                 StepKind::Commit(A),
                 StepKind::Leave(A),
-                StepKind::Leave(D),
+                StepKind::Leave(B),
             ]),
             Step::Settle(0),
         ],
@@ -360,26 +359,26 @@ pub(crate) static ROWS: [Row; 11] = [
         is_refused: false,
         steps: &[
             Step::Send(0, READY),
-            Step::Send(0, OTHER),
+            Step::Send(1, READY),
             Step::Run(
                 &[
                     Move::Fetch(2),
                     Move::Enter(2),
-                    Move::Fetch(3),
-                    Move::Enter(3),
+                    Move::Fetch(2),
+                    Move::Enter(2),
                     Move::Put(0),
-                    Move::Put(1),
+                    Move::Put(0),
                 ],
                 6,
             ),
             Step::Settle(7),
             Step::History(&[
                 StepKind::Enter(A),
-                StepKind::Enter(D),
+                StepKind::Enter(B),
+                StepKind::Commit(B),
+                StepKind::Leave(B),
                 StepKind::Commit(A),
                 StepKind::Leave(A),
-                StepKind::Commit(D),
-                StepKind::Leave(D),
             ]),
         ],
     },

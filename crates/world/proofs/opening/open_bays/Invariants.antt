@@ -1,5 +1,6 @@
 use Rattle.std.proofs.Common.{◌≡◌, ◌<◌, ℕ, length, Some}
 use Rattle.std.specs.Prelude.{slice_get}
+use Rattle.ring_core.specs.State.{features_of}
 use Rattle.ring_core.specs.declared.layout.Layout.{Layout}
 use Rattle.deeds.specs.Parts.{Slot}
 use Rattle.queues.specs.Queue.{opening_queue}
@@ -11,5 +12,5 @@ invariant-loop-number l =
     record {
       count : length l.bays.items ≡ l.number;
       each : (k : ℕ) (p : Layout) → k < l.number → slice_get l.layouts k ≡ Some p
-          → slice_get l.bays.items k ≡ Some (with_slot Slot.Empty (opening_queue l.form (length l.memory) k p));
+          → slice_get l.bays.items k ≡ Some (with_slot Slot.Empty (opening_queue l.form (length l.memory) k p (features_of l.features)));
     }

@@ -1,11 +1,12 @@
-use Rattle.std.proofs.Common.{◌≡◌, ℕ, ◌+◌, ◌*◌, List, map, length, refl, sym, ap, ◌∙◌, subst}
-use Rattle.std.proofs.lemmas.List.{length-replicate}
+use Rattle.std.proofs.Common.{◌≡◌, ℕ, ◌+◌, ◌*◌, List, map, length, refl, sym, ap, ◌∙◌, subst, arith}
+use Rattle.std.proofs.lemmas.List.{length-replicate, length-map}
 use Rattle.decisions.specs.Inventory.{address_of}
 use Rattle.decisions.specs.declared.inventory.UnitSpec.{UnitSpec}
+use Rattle.ring_core.specs.State.{features_of}
 use Rattle.ring_core.specs.declared.layout.Layout.{Layout}
-use Rattle.task_set.specs.Jobs.{Jobs}
 use Rattle.event_queue.specs.Port.{PlainPort}
 use Rattle.config.specs.Config.{size_of}
+use Rattle.world.specs.Kept.{seat_of}
 use Rattle.world.specs.Opening.{AreOpening, AreFresh, AreSeats}
 use Rattle.world.proofs.AtOpening.{lists_open, seats_idle, seats_many}
 use Rattle.world.proofs.opening.open_device.Goals as goal
@@ -14,7 +15,7 @@ pub invariant_of-result : goal.invariant_of-result
 invariant_of-result c =
     let is : AreSeats (c.args.config.now.workers + 1) (64 * c.len.result + 64) c.in_ok-seats.seats.items =
     c.in_ok-seats.ensures in
-    let lists = lists_open c.in-Some.form c.in-Ok.memory c.as_slice.result.now c.in_ok-bays.bays.items c.in_ok-units.units.items
+    let lists = lists_open c.in-Some.form (features_of c.args.config.now.features) c.in-Ok.memory c.as_slice.result.now c.in_ok-bays.bays.items c.in_ok-units.units.items
     (c.args.config.now.workers + 1) c.in_ok-seats.seats.items c.in_ok-bays.ensures
     (subst (λ (n : ℕ). AreSeats (c.args.config.now.workers + 1) (64 * n + 64) c.in_ok-seats.seats.items)
     (c.len.ensures ∙ c.in_ok-units.units.ok.0) is) in
@@ -29,18 +30,21 @@ returns c =
       memory = c.in-Ok.ensures.zeros;
       inventory = c.new-inventory.ensures ∙ ap (λ (us : List UnitSpec). map address_of us) c.as_slice-2.ensures.value;
       queues =
-          subst (λ (n : ℕ). AreOpening c.in-Some.form n c.args.config.now.queues.items c.in_ok-bays.bays.items) size
-          (subst (λ (ls : List Layout). AreOpening c.in-Some.form (length c.in-Ok.memory) ls c.in_ok-bays.bays.items)
+          subst (λ (n : ℕ). AreOpening c.in-Some.form n (features_of c.args.config.now.features) c.args.config.now.queues.items c.in_ok-bays.bays.items) size
+          (subst (λ (ls : List Layout). AreOpening c.in-Some.form (length c.in-Ok.memory) (features_of c.args.config.now.features) ls c.in_ok-bays.bays.items)
           c.as_slice.ensures.value c.in_ok-bays.ensures);
       units =
           subst (λ (us : List UnitSpec). AreFresh us c.in_ok-units.units.items) c.as_slice-3.ensures.value c.in_ok-units.ensures;
       workers = refl;
-      limit = ap (λ (j : Jobs). j.limit) c.in_ok-handed_off.ensures;
+      limit = c.in_ok-handed_off.ensures.limit;
       seats = seats_many _ _ c.in_ok-seats.seats.items c.in_ok-seats.ensures;
       idle = seats_idle _ _ c.in_ok-seats.seats.items c.in_ok-seats.ensures;
-      handed_off = ap (λ (j : Jobs). j.jobs) c.in_ok-handed_off.ensures;
+      handed_off = c.in_ok-handed_off.ensures.bare;
+      lists =
+          c.in_ok-handed_off.ensures.lists
+          ∙ omega (arith, c.len-2.ensures, c.in_ok-seats.seats.ok.0, length-map c.in_ok-seats.seats.items seat_of);
       function = refl;
       buffers = ap (λ (p : PlainPort). p.buffers) c.in-Ok-new.ensures;
       missed = ap (λ (p : PlainPort). p.missed) c.in-Ok-new.ensures;
-      waiting = c.new-3.ensures;
+      waiting = c.new-4.ensures;
     }

@@ -5,6 +5,7 @@ use Rattle.deeds.specs.World.{PlainWorld}
 use Rattle.world.specs.Cursors.{TurnsNext, NoStart, NoneBefore, NoDirectBelow, direct_from}
 use Rattle.world.proofs.Choosing.{idle, and_next}
 use Rattle.world.specs.declared.cursor.Cursor.TheVariants as cursor
+use Rattle.world.specs.Settling.{asks}
 use Rattle.world.proofs.Sequences.{next_one}
 use Rattle.world.proofs.Woken.{directs_from, directs_past, direct_next}
 use Rattle.world.proofs.device.Device.from_direct.Goals as goal
@@ -25,9 +26,9 @@ loop-number-init c =
 
 pub returns-then-direct : goal.returns-then-direct
 returns-then-direct c =
-    next_one c.args.most c.args.self.now (cursor.Direct c.loop-number.number) c.one.result c.direct.new.self
+    next_one (asks c.args.queues) c.args.most c.args.self.now (cursor.Direct c.loop-number.number) c.one.result c.direct.new.self
     c.requires.most c.one.ensures
-    (direct_next c.args.self.now c.loop-number.self c.direct.new.self c.loop-number.number c.direct.result
+    (direct_next (asks c.args.queues) c.args.self.now c.loop-number.self c.direct.new.self c.loop-number.number c.direct.result
     c.if-direct.true c.loop-number.invariant.same c.requires.start c.loop-number.invariant.below
     (omega (arith, c.loop-number-test.true, c.loop-number.invariant.all)) c.direct.ensures)
 
@@ -56,5 +57,5 @@ from_seats-requires-clause-before c =
 
 pub returns : goal.returns
 returns c =
-    subst (λ w. TurnsNext c.args.most w c.from_seats.result c.from_seats.new.self) c.loop-number.invariant.same
+    subst (λ w. TurnsNext (asks c.args.queues) c.args.most w c.from_seats.result c.from_seats.new.self) c.loop-number.invariant.same
     c.from_seats.ensures

@@ -3,6 +3,7 @@ use Rattle.deeds.specs.Events.{Event}
 use Rattle.deeds.specs.Applies.{Applies}
 use Rattle.deeds.specs.World.{PlainWorld}
 use Rattle.world.specs.Cursors.{TurnsNext, NoEnterBelow, enter_from}
+use Rattle.world.specs.Settling.{asks}
 use Rattle.world.proofs.Choosing.{idle, and_next}
 use Rattle.world.proofs.Sequences.{next_one}
 use Rattle.world.proofs.Woken.{enters_from, enters_past, enter_next}
@@ -25,8 +26,8 @@ loop-number-init c =
 
 pub returns-then-enter : goal.returns-then-enter
 returns-then-enter c =
-    next_one c.args.most c.args.self.now c.after_enter.result c.one.result c.enter.new.self c.requires.most c.one.ensures
-    (enter_next c.args.self.now c.loop-number.self c.enter.new.self c.loop-number.number c.enter.result
+    next_one (asks c.args.queues) c.args.most c.args.self.now c.after_enter.result c.one.result c.enter.new.self c.requires.most c.one.ensures
+    (enter_next (asks c.args.queues) c.args.self.now c.loop-number.self c.enter.new.self c.loop-number.number c.enter.result
     c.after_enter.result c.if-enter.true c.loop-number.invariant.same c.requires.start c.requires.direct c.requires.seat c.loop-number.invariant.below
     (omega (arith, c.loop-number-test.true, c.loop-number.invariant.all)) c.enter.ensures c.after_enter.ensures)
 
@@ -49,5 +50,5 @@ from_fetch-requires-clause-before c =
 
 pub returns : goal.returns
 returns c =
-    subst (λ w. TurnsNext c.args.most w c.from_fetch.result c.from_fetch.new.self) c.loop-number.invariant.same
+    subst (λ w. TurnsNext (asks c.args.queues) c.args.most w c.from_fetch.result c.from_fetch.new.self) c.loop-number.invariant.same
     c.from_fetch.ensures

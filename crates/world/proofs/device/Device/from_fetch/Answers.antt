@@ -1,9 +1,10 @@
-use Rattle.std.proofs.Common.{◌∙◌, sym, subst, ap, length, arith}
+use Rattle.std.proofs.Common.{◌≡◌, ◌∙◌, true, refl, sym, subst, ap, length, arith}
 use Rattle.deeds.specs.Events.{Event}
 use Rattle.deeds.specs.Applies.{Applies}
 use Rattle.deeds.specs.World.{PlainWorld}
 use Rattle.world.specs.Cursors.{ServesNext, NoneBeforeFetch, NoFetchBelow}
 use Rattle.world.specs.Sound.{AreFew, IsSound, IsWhole}
+use Rattle.world.specs.Settling.{asks}
 use Rattle.world.proofs.Choosing.{and_next}
 use Rattle.world.proofs.Woken.{queue_wants, nothing_next}
 use Rattle.world.proofs.device.Device.from_fetch.Goals as goal
@@ -17,7 +18,7 @@ serve_queue-requires c =
       sound = subst IsSound same c.requires.sound;
       few = subst AreFew same c.requires.few;
       before = subst NoneBeforeFetch same c.requires.before;
-      below = subst (NoFetchBelow c.loop-number.number) same c.loop-number.invariant.below;
+      below = subst (NoFetchBelow (asks c.args.queues) c.loop-number.number) same c.loop-number.invariant.below;
       there = omega (
         arith,
         c.loop-number-test.true,
@@ -28,12 +29,12 @@ serve_queue-requires c =
 
 pub returns-in-Ok-Some : goal.returns-in-Ok-Some
 returns-in-Ok-Some c =
-    subst (λ w. ServesNext c.args.most w c.in-Ok-Some.served c.serve_queue.new.self) c.loop-number.invariant.same
+    subst (λ w. ServesNext (asks c.args.queues) c.args.most w c.in-Ok-Some.served c.serve_queue.new.self) c.loop-number.invariant.same
     (rw c.in-Ok-Some.field-0-is at c.in-Ok-Some.ensures)
 
 pub returns-in-Err : goal.returns-in-Err
 returns-in-Err c =
-    queue_wants c.args.self.now c.loop-number.self c.serve_queue.new.self c.loop-number.number
+    queue_wants (asks c.args.queues) c.args.self.now c.loop-number.self c.serve_queue.new.self c.loop-number.number
     c.loop-number.invariant.same c.requires.before c.loop-number.invariant.below
     (omega (arith, c.loop-number-test.true, c.loop-number.invariant.all)) c.in-Err.ensures
 
@@ -43,12 +44,23 @@ loop-number-preserved c =
     let t = rw c.in-Ok-None.field-0-is at c.in-Ok-None.ensures in
     record {
       same = t.0 ∙ c.loop-number.invariant.same;
-      below = and_next (λ i. Applies c.args.self.now (Event.Fetch i) → ⊥) n c.loop-number.invariant.below
-          (subst (λ w. Applies w (Event.Fetch n) → ⊥) c.loop-number.invariant.same t.1);
+      below = and_next (λ i. asks c.args.queues i ≡ true → Applies c.args.self.now (Event.Fetch i) → ⊥) n
+          c.loop-number.invariant.below
+          (subst (λ w. asks c.args.queues n ≡ true → Applies w (Event.Fetch n) → ⊥) c.loop-number.invariant.same t.1);
       all = c.loop-number.invariant.all;
     }
 
 pub returns : goal.returns
 returns c =
-    nothing_next c.args.self.now c.loop-number.self c.loop-number.invariant.same c.requires.before
+    nothing_next (asks c.args.queues) c.args.self.now c.loop-number.self c.loop-number.invariant.same c.requires.before
     (λ i lt. c.loop-number.invariant.below i (omega (arith, lt, c.loop-number-test.false, c.loop-number.invariant.all)))
+
+pub loop-number-init : goal.loop-number-init
+loop-number-init c =
+    let d = c.self.inside in
+    let end : c.len-number-end.result ≡ length d.bays.items = omega (arith, d.bays.ok.0, c.len-number-end.ensures) in
+    record {
+      same = refl;
+      below = λ i lt asked. c.first_fetch-number.ensures.below i lt refl;
+      all = end ∙ ap (λ (w : PlainWorld). length w.queues) c.self.view_is;
+    }

@@ -4,6 +4,7 @@ use Rattle.deeds.specs.World.{PlainWorld}
 use Rattle.std.proofs.lemmas.List.{length-map}
 use Rattle.world.specs.Kept.{seat_of}
 use Rattle.world.specs.Cursors.{TurnsNext, NoStart, NoDirect, NoneBefore, NoSeatBelow, seat_from}
+use Rattle.world.specs.Settling.{asks}
 use Rattle.world.proofs.Choosing.{none_of, and_next}
 use Rattle.world.proofs.Sequences.{next_one}
 use Rattle.world.proofs.Woken.{seats_from, seats_past, seat_next}
@@ -26,8 +27,8 @@ loop-number-init c =
 
 pub returns-then-turn_seat : goal.returns-then-turn_seat
 returns-then-turn_seat c =
-    next_one c.args.most c.args.self.now c.after_seat.result c.one.result c.turn_seat.new.self c.requires.most c.one.ensures
-    (seat_next c.args.self.now c.loop-number.self c.turn_seat.new.self c.loop-number.number c.turn_seat.result
+    next_one (asks c.args.queues) c.args.most c.args.self.now c.after_seat.result c.one.result c.turn_seat.new.self c.requires.most c.one.ensures
+    (seat_next (asks c.args.queues) c.args.self.now c.loop-number.self c.turn_seat.new.self c.loop-number.number c.turn_seat.result
     c.after_seat.result c.if-turn_seat.true c.loop-number.invariant.same c.requires.start c.requires.direct
     c.loop-number.invariant.below (omega (arith, c.loop-number-test.true, c.loop-number.invariant.all))
     c.turn_seat.ensures c.after_seat.ensures)
@@ -60,5 +61,5 @@ from_enter-requires-clause-before c =
 
 pub returns : goal.returns
 returns c =
-    subst (λ w. TurnsNext c.args.most w c.from_enter.result c.from_enter.new.self) c.loop-number.invariant.same
+    subst (λ w. TurnsNext (asks c.args.queues) c.args.most w c.from_enter.result c.from_enter.new.self) c.loop-number.invariant.same
     c.from_enter.ensures

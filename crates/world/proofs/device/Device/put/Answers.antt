@@ -1,6 +1,7 @@
 use Rattle.std.proofs.Common.{◌≡◌, true, false, Some, refl, sym, ap, ◌∙◌, arith}
 use Rattle.std.specs.Prelude.{slice_get}
 use Rattle.std.proofs.lemmas.Option.{slice_get_read}
+use Rattle.task_set.specs.Jobs.{PlainJob}
 use Rattle.deeds.specs.Parts.{Hand}
 use Rattle.deeds.specs.Events.{Event as PlainEvent}
 use Rattle.deeds.proofs.Lists.{same}
@@ -22,8 +23,8 @@ returns-in_default c =
     (puts_nothing (seen.the_view c.self.inside) kept refl k s c.next.new.self at
     (sym c.next.ensures.first ∙ c.in_default.is) c.next.ensures.rest)
 
-pub invariant_of-self-then-len-limit : goal.invariant_of-self-then-len-limit
-invariant_of-self-then-len-limit c =
+pub invariant_of-self-in_default-put : goal.invariant_of-self-in_default-put
+invariant_of-self-in_default-put c =
     let kept = c.self.inside.seats.items in
     let k = c.args.number in
     let s = c.index_mut-seat.result.now in
@@ -33,8 +34,8 @@ invariant_of-self-then-len-limit c =
     seat_kept c.self.inside.memory c.self.inside.bays.items c.self.inside.units.items kept k s c.next.new.self
     c.self.invariant at (ap (λ (z : KeptSeat). z.limit) c.next.ensures.rest)
 
-pub invariant_of-self-else-len-limit : goal.invariant_of-self-else-len-limit
-invariant_of-self-else-len-limit c =
+pub invariant_of-self-2 : goal.invariant_of-self-2
+invariant_of-self-2 c =
     let kept = c.self.inside.seats.items in
     let k = c.args.number in
     let s = c.index_mut-seat.result.now in
@@ -45,8 +46,8 @@ invariant_of-self-else-len-limit c =
     c.self.invariant at
     (ap (λ (z : KeptSeat). z.limit) c.hold.ensures ∙ ap (λ (z : KeptSeat). z.limit) c.next.ensures.rest)
 
-pub returns-then-len-limit : goal.returns-then-len-limit
-returns-then-len-limit c =
+pub returns-in_default-put : goal.returns-in_default-put
+returns-in_default-put c =
     let kept = c.self.inside.seats.items in
     let k = c.args.number in
     let s = c.index_mut-seat.result.now in
@@ -59,12 +60,11 @@ returns-then-len-limit c =
     let free : s.hand ≡ Hand.Free =
     ap (λ (z : KeptSeat). z.hand) (same (sym at ∙ before)) ∙ c.if-not-is_free.ensures.0 refl in
     turns_seen _ _ (PlainEvent.Put k) true _ c.self.view_is
-    (puts (seen.the_view c.self.inside) kept refl k s c.next.new.self at c.in-Some.job c.push.new.self free
-    (sym c.next.ensures.first ∙ c.in-Some.is) c.next.ensures.rest
-    (omega (arith, c.if-len-limit.true, c.len-2.ensures, c.limit.ensures)) c.push.ensures)
+    (puts (seen.the_view c.self.inside) kept refl k s c.next.new.self at c.in-Some.job c.put.new.self free
+    (sym c.next.ensures.first ∙ c.in-Some.is) c.next.ensures.rest c.in_default-put.ensures.put)
 
-pub returns-else-len-limit : goal.returns-else-len-limit
-returns-else-len-limit c =
+pub returns : goal.returns
+returns c =
     let kept = c.self.inside.seats.items in
     let k = c.args.number in
     let s = c.index_mut-seat.result.now in
@@ -77,7 +77,8 @@ returns-else-len-limit c =
     let free : s.hand ≡ Hand.Free =
     ap (λ (z : KeptSeat). z.hand) (same (sym at ∙ before)) ∙ c.if-not-is_free.ensures.0 refl in
     turns_seen _ _ (PlainEvent.Put k) true _ c.self.view_is
-    (keeps (seen.the_view c.self.inside) kept refl k s c.hold.new.self at c.in-Some.job free
+    (keeps (seen.the_view c.self.inside) kept refl k s c.hold.new.self at c.in-Some.job c.put.new.self free
     (sym c.next.ensures.first ∙ c.in-Some.is)
-    (c.hold.ensures ∙ ap (λ (z : KeptSeat). record z { hand = Hand.Taken c.in-Some.job }) c.next.ensures.rest)
-    (omega (arith, c.if-len-limit.false, c.len-2.ensures, c.limit.ensures)))
+    (c.hold.ensures ∙ ap (λ (j : PlainJob). record c.next.new.self { hand = Hand.Taken j }) c.in-Err.ensures.back
+    ∙ ap (λ (z : KeptSeat). record z { hand = Hand.Taken c.in-Some.job }) c.next.ensures.rest)
+    c.in-Err.ensures.full c.in-Err.ensures.unchanged)

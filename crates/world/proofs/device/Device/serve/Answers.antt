@@ -9,12 +9,13 @@ use Rattle.queue_phases.specs.Queue.{with_slot}
 use Rattle.world.specs.Kept.{KeptSeat, seat_of}
 use Rattle.task_set.specs.Jobs.{Jobs}
 use Rattle.phases.specs.Serving.{Serves}
-use Rattle.world.specs.declared.cursor.Served.{Served}
+use Rattle.world.specs.declared.cursor.Progress.{Progress}
 use Rattle.world.specs.Sound.{IsWhole}
 use Rattle.world.specs.Cursors.{MayServe, ServesNext, NoneBeforeFetch, NoFetchBelow, served_of}
 use Rattle.world.specs.contracts.device.Device.{the_view}
 use Rattle.world.specs.contracts.bay.Bay as bay
 use Rattle.world.specs.contracts.seat.Seat as seat
+use Rattle.world.specs.Settling.{asks}
 use Rattle.world.proofs.Placing.{everywhere_set}
 use Rattle.world.proofs.Seats.{keeps_unit, keeps_queue, found, length_set, one_there}
 use Rattle.world.proofs.Fetches.{request_turns, request_memory}
@@ -38,7 +39,7 @@ returns-in-Err c =
     let fits = c.self.invariant.fits k q at in
     let t = request_turns (the_view d) k q (with_slot (slot_of c.take_request.new.slot) c.take_request.new.queue)
     (Err c.in-Err.field-0) sound may.request at fits c.in-Err.ensures.takes in
-    rw (← c.self.view_is) (t.1, t.0)
+    rw (← c.self.view_is) (t.1, c.requires.asked, t.0)
 
 pub returns-in-Ok-Nothing : goal.returns-in-Ok-Nothing
 returns-in-Ok-Nothing c =
@@ -54,9 +55,9 @@ returns-in-Ok-Nothing c =
     let sound = c.all_are_sound.ensures (the_view d) whole.reached in
     let fits = c.self.invariant.fits k q at in
     let takes = rw c.in-Ok-Nothing.field-0-is at c.in-Ok-Nothing.ensures.takes in
-    rw (← c.self.view_is)
-    (request_turns (the_view d) k q (with_slot (slot_of c.take_request.new.slot) c.take_request.new.queue) (Ok false) sound
-    may.request at fits takes)
+    let t = request_turns (the_view d) k q (with_slot (slot_of c.take_request.new.slot) c.take_request.new.queue)
+    (Ok false) sound may.request at fits takes in
+    rw (← c.self.view_is) (t.0, λ on. t.1)
 
 pub invariant_of-self-in-Ok-Other : goal.invariant_of-self-in-Ok-Other
 invariant_of-self-in-Ok-Other c =
@@ -92,10 +93,10 @@ returns-in-Ok-Other c =
     let fits = c.self.invariant.fits k q at in
     let takes = rw c.in-Ok-Other.field-0-is at c.in-Ok-Other.ensures.takes in
     let before = subst NoneBeforeFetch (sym c.self.view_is) c.requires.before in
-    let below = subst (NoFetchBelow k) (sym c.self.view_is) c.requires.below in
+    let below = subst (NoFetchBelow (asks c.args.queues) k) (sym c.self.view_is) c.requires.below in
     rw (← c.self.view_is)
-    (fetches_only c.args.most (the_view d) k q (with_slot (slot_of c.take_request.new.slot) c.take_request.new.queue)
-    c.one.result sound c.requires.most may at fits before below takes c.one.ensures)
+    (fetches_only (asks c.args.queues) c.args.most (the_view d) k q (with_slot (slot_of c.take_request.new.slot) c.take_request.new.queue)
+    c.one.result sound c.requires.most may at fits before below c.requires.asked takes c.one.ensures)
 
 pub invariant_of-self-then-place-len : goal.invariant_of-self-then-place-len
 invariant_of-self-then-place-len c =
@@ -131,10 +132,10 @@ returns-then-place-len c =
     let fits = c.self.invariant.fits k q at in
     let takes = rw c.in-Ok-Arrived.field-0-is at c.in-Ok-Arrived.ensures.takes in
     let before = subst NoneBeforeFetch (sym c.self.view_is) c.requires.before in
-    let below = subst (NoFetchBelow k) (sym c.self.view_is) c.requires.below in
+    let below = subst (NoFetchBelow (asks c.args.queues) k) (sym c.self.view_is) c.requires.below in
     rw (← c.self.view_is)
-    (fetches_only c.args.most (the_view d) k q (with_slot (Slot.Arrived c.in-Ok-Arrived.arrival) c.take_request.new.queue)
-    c.one-then-place-len.result sound c.requires.most may at fits before below takes.0 c.one-then-place-len.ensures)
+    (fetches_only (asks c.args.queues) c.args.most (the_view d) k q (with_slot (Slot.Arrived c.in-Ok-Arrived.arrival) c.take_request.new.queue)
+    c.one-then-place-len.result sound c.requires.most may at fits before below c.requires.asked takes.0 c.one-then-place-len.ensures)
 
 pub serve_request-done-requires-clause-places : goal.serve_request-done-requires-clause-places
 serve_request-done-requires-clause-places c =
@@ -200,7 +201,7 @@ returns-else-place-len c =
     let w = the_view d in
     let whole = subst IsWhole (sym c.self.view_is) c.requires.whole in
     let before = subst NoneBeforeFetch (sym c.self.view_is) c.requires.before in
-    let below = subst (NoFetchBelow k) (sym c.self.view_is) c.requires.below in
+    let below = subst (NoFetchBelow (asks c.args.queues) k) (sym c.self.view_is) c.requires.below in
     let bare_is = seat_bare w k d.seats.items s refl seat_at may in
     let kept : d.seats.items ≡ bare Hand.Free s.limit ∷ drop 1 d.seats.items =
     begins d.seats.items s seat_at ∙ ap (λ (z : KeptSeat). z ∷ drop 1 d.seats.items) bare_is in
@@ -225,17 +226,17 @@ returns-else-place-len c =
     let jobs : c.len-in-Ok-Arrived.result ≡ length out'.jobs =
     c.len-in-Ok-Arrived.ensures
     ∙ ap (λ (z : KeptSeat). length z.jobs) (one_there (slice_set d.seats.items 0 t) 0 seen t seen_at there) in
-    let base = serves_kept c.all_are_sound.ensures w whole k q s.limit d.seats.items (drop 1 d.seats.items) kept refl
-    c.self.invariant.fits c.self.invariant.limits may at before below x lent takes.0 c.index_mut.result.now done.new.unit u_at
+    let base = serves_kept c.all_are_sound.ensures (asks c.args.queues) w whole k q s.limit d.seats.items (drop 1 d.seats.items) kept refl
+    c.self.invariant.fits c.self.invariant.limits may at before below c.requires.asked x lent takes.0 c.index_mut.result.now done.new.unit u_at
     (slot_of c.take_request.new.slot) s' done.new.queue done.new.memory out' empty done.result serves' c.args.most
     c.requires.most c.len-in-Ok-Arrived.result jobs in
-    let with_hand = subst (λ (h : Hand). ServesNext c.args.most w (served_of done.result c.len-in-Ok-Arrived.result)
+    let with_hand = subst (λ (h : Hand). ServesNext (asks c.args.queues) c.args.most w (served_of done.result c.len-in-Ok-Arrived.result)
     (set_all w done.new.memory k (with_slot s' done.new.queue) x.unit done.new.unit d.seats.items (seat_with h out')))
     (sym (ap (λ (z : KeptSeat). z.hand) bare_is)) base in
-    let with_place = subst (λ (p : ℕ). ServesNext c.args.most w (served_of done.result c.len-in-Ok-Arrived.result)
+    let with_place = subst (λ (p : ℕ). ServesNext (asks c.args.queues) c.args.most w (served_of done.result c.len-in-Ok-Arrived.result)
     (set_all w done.new.memory k (with_slot s' done.new.queue) p done.new.unit d.seats.items (seat_with s.hand out')))
     (sym c.unit-place.ensures) with_hand in
     rw (← c.self.view_is)
-    (subst (λ (r : Served). ServesNext c.args.most w r
+    (subst (λ (r : Progress). ServesNext (asks c.args.queues) c.args.most w r
     (set_all w done.new.memory k (with_slot s' done.new.queue) c.unit-place.result done.new.unit d.seats.items
     (seat_with s.hand out'))) (sym c.served_so.ensures) with_place)

@@ -34,6 +34,6 @@ returns c =
     let one : s ≡ c.index.result.now = same (sym at ∙ before) in
     let idle = c.if-not-is_idle.ensures.0 refl in
     turns_seen _ _ (PlainEvent.Take k) true _ c.self.view_is
-    (takes (seen.the_view c.self.inside) kept refl k s c.hold.new.self at c.in-Some.job c.next.new.self
+    (takes (seen.the_view c.self.inside) kept refl k s c.hold.new.self at c.in-Some.job c.take.new.self
     c.if-number-self.false (ap (λ (z : KeptSeat). z.hand) one ∙ idle.0) (ap (λ (z : KeptSeat). z.jobs) one ∙ idle.1)
-    (sym c.next.ensures.first ∙ c.in-Some.is) c.hold.ensures c.next.ensures.rest)
+    c.hold.ensures (rw c.in-Some.is at c.take.ensures))

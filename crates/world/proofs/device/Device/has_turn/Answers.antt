@@ -1,0 +1,38 @@
+use Rattle.std.proofs.Common.{◌≡◌, ◌<◌, sym, ap, ◌∙◌, length, arith}
+use Rattle.std.proofs.lemmas.List.{length-map}
+use Rattle.settling.specs.Order.{of_seat, NoneApplies}
+use Rattle.deeds.specs.World.{PlainWorld}
+use Rattle.world.specs.Kept.{seat_of}
+use Rattle.world.proofs.Choosing.{and_next}
+use Rattle.world.proofs.Looks.{denied_by, told}
+use Rattle.world.proofs.device.Device.has_turn.Goals as goal
+
+pub loop-number-init : goal.loop-number-init
+loop-number-init c =
+    let d = c.self.inside in
+    let end : c.len-number-end.result ≡ length d.seats.items = omega (arith, d.seats.ok.0, c.len-number-end.ensures) in
+    record {
+      below = λ k lt. absurd (omega (arith, lt));
+      all = end ∙ sym (length-map d.seats.items seat_of) ∙ ap (λ (w : PlainWorld). length w.seats) c.self.view_is;
+    }
+
+pub returns-then-seat_goes_on : goal.returns-then-seat_goes_on
+returns-then-seat_goes_on c =
+    let n = c.loop-number.number in
+    λ none.
+    denied_by (NoneApplies c.args.self.now (of_seat n)) c.seat_goes_on.result c.if-seat_goes_on.true
+    c.seat_goes_on.ensures (none n (omega (arith, c.loop-number-test.true, c.loop-number.invariant.all)))
+
+pub loop-number-preserved : goal.loop-number-preserved
+loop-number-preserved c =
+    let n = c.loop-number.number in
+    record {
+      below = and_next (λ k. NoneApplies c.args.self.now (of_seat k)) n c.loop-number.invariant.below
+          (told (NoneApplies c.args.self.now (of_seat n)) c.seat_goes_on.result c.if-seat_goes_on.false
+          c.seat_goes_on.ensures);
+      all = c.loop-number.invariant.all;
+    }
+
+pub returns : goal.returns
+returns c k lt =
+    c.loop-number.invariant.below k (omega (arith, lt, c.loop-number-test.false, c.loop-number.invariant.all))

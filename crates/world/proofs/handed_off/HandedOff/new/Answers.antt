@@ -1,0 +1,25 @@
+use Rattle.std.proofs.Common.{◌≡◌, ◌∷◌, ◌++◌, ◌∙◌, [], refl, ap, arith, length-append}
+use Rattle.std.proofs.lemmas.List.{length-map}
+use Rattle.task_set.specs.Jobs.{PlainJob, Jobs}
+use Rattle.world.specs.Off.{jobs_of}
+use Rattle.world.proofs.AtOpening.{everywhere_more, each_image}
+use Rattle.world.proofs.handed_off.HandedOff.new.Goals as goal
+
+pub loop-number-preserved : goal.loop-number-preserved
+loop-number-preserved c =
+    let pushed : c.push.new.self.items ≡ c.loop-number.lists.items ++ c.in_ok-list.list ∷ [] =
+    rw (c.push.ensures.items, c.if-is_err.ensures.negation) refl in
+    record {
+      count =
+          rw pushed
+          (omega (arith, length-append c.loop-number.lists.items (c.in_ok-list.list ∷ []), c.loop-number.invariant.count));
+      each =
+          rw pushed
+          (everywhere_more (λ (j : Jobs). j ≡ record { jobs = []; limit = c.args.limit }) c.loop-number.lists.items
+          c.in_ok-list.list c.loop-number.invariant.each c.in_ok-list.ensures);
+    }
+
+pub returns-clause-bare : goal.returns-clause-bare
+returns-clause-bare c =
+    each_image jobs_of (λ (jobs : _). jobs ≡ []) c.loop-number.lists.items
+    (λ k l at. ap (λ (j : Jobs). j.jobs) (c.loop-number.invariant.each k l at))

@@ -1,0 +1,11 @@
+use Rattle.std.proofs.Common.{◌≡◌, ℕ, [], length}
+use Rattle.task_set.specs.Jobs.{Jobs}
+use Rattle.deeds.specs.World.{Everywhere}
+use Rattle.world.proofs.handed_off.HandedOff.new.Given as goal
+
+abbrev pub invariant-loop-number : goal.invariant-loop-number
+invariant-loop-number l =
+    record {
+      count : length l.lists.items ≡ l._number;
+      each : Everywhere (λ (k : ℕ) (j : Jobs). j ≡ record { jobs = []; limit = l.limit }) l.lists.items;
+    }

@@ -1,0 +1,150 @@
+//! Looks whether an event of the order applies, and changes nothing.
+
+ghost use Rattle.std.specs.Prelude.{◌≡◌, ◌<◌, true, length};
+ghost use Rattle.settling.specs.Order.{of_seat, IsQuietOf, NoneApplies};
+ghost use Rattle.deeds.specs.Events.{Event as AnEvent};
+ghost use Rattle.deeds.specs.Applies.{Applies};
+ghost use Rattle.deeds.specs.Happens.{IsOpenTo};
+ghost use Rattle.world.specs.Cursors.{Denies, of_function, NoDirect, NoSeat, NoEnter, NoFetch};
+ghost use Rattle.world.specs.Settling.{asks};
+ghost use Rattle.world.specs.Sound.{AreFew};
+
+use crate::device::Device;
+use crate::service::is_asked;
+
+impl Device {
+    /// Returns true if an event of the order applies, with new chains of the queues alone that are asked.
+    pub(crate) fn has_step(&self, queues: u32) -> bool
+        requires few { AreFew self.now }
+        ensures { Denies (IsQuietOf (asks queues) self.now) result }
+    {
+        if self.function_goes_on() {
+            return true;
+        }
+        if self.waiting.oldest().is_some() {
+            return true;
+        }
+        if self.has_answer() {
+            return true;
+        }
+        if self.has_turn() {
+            return true;
+        }
+        if self.has_arrival() {
+            return true;
+        }
+        self.has_chain(queues)
+    }
+
+    /// Returns true if the open function has a unit left to visit, is to be answered, or finds its next mark clear.
+    fn function_goes_on(&self) -> bool
+        ensures { Denies (NoneApplies self.now of_function) result }
+    {
+        let Some(open) = &self.function else {
+            return false;
+        };
+        if open.function().next_unit().is_some() {
+            return true;
+        }
+        let Some(mark) = open.function().waits_for() else {
+            return true;
+        };
+        if mark.unit >= self.units.len() {
+            return false;
+        }
+        self.units[mark.unit].clear_of(mark.place)
+    }
+
+    /// Returns true if a queue has a chain that is ready to be answered.
+    fn has_answer(&self) -> bool
+        ensures { Denies (NoDirect self.now) result }
+    {
+        for number in 0..self.bays.len() {
+            if self.bays[number].is_ready() {
+                return true;
+            }
+        }
+        false
+    }
+
+    /// Returns true if a seat has a step to take.
+    fn has_turn(&self) -> bool
+        requires few { AreFew self.now }
+        ensures { Denies (NoSeat self.now) result }
+    {
+        for number in 0..self.seats.len() {
+            if self.seat_goes_on(number as u16) {
+                return true;
+            }
+        }
+        false
+    }
+
+    /// Returns true if this seat has a step to take: by its hand, with a job to hand off, or with one to take.
+    fn seat_goes_on(&self, number: u16) -> bool
+        requires there { number < length self.now.seats }
+        ensures { Denies (NoneApplies self.now (of_seat number)) result }
+    {
+        let seat = &self.seats[number as usize];
+        if !seat.is_free() {
+            return true;
+        }
+        if !seat.is_idle() {
+            return true;
+        }
+        if number >= self.workers {
+            return false;
+        }
+        self.handed_off.has_job()
+    }
+
+    /// Returns true if a request arrived on a queue.
+    fn has_arrival(&self) -> bool
+        ensures { Denies (NoEnter self.now) result }
+    {
+        for number in 0..self.bays.len() {
+            if self.bays[number].has_request() {
+                return true;
+            }
+        }
+        false
+    }
+
+    /// Returns true if a queue that is asked has a chain for the device.
+    fn has_chain(&self, queues: u32) -> bool
+        requires few { AreFew self.now }
+        ensures { Denies (NoFetch (asks queues) self.now) result }
+    {
+        for number in 0..self.bays.len() {
+            if self.queue_goes_on(number as u16, queues) {
+                return true;
+            }
+        }
+        false
+    }
+
+    /// Returns true if no chain is taken from this queue now: from the control queue, while a function is open.
+    fn is_closed_to(&self, number: u16) -> bool
+        ensures { Denies (IsOpenTo self.now number) result }
+    {
+        if number != 0 {
+            return false;
+        }
+        self.function.is_some()
+    }
+
+    /// Returns true if this queue is asked and has a chain for the device.
+    fn queue_goes_on(&self, number: u16, queues: u32) -> bool
+        requires few { AreFew self.now }
+        requires there { number < length self.now.queues }
+        ensures { Denies (asks queues number ≡ true → Applies self.now (AnEvent.Fetch number) → ⊥) result }
+    {
+        if !is_asked(queues, number) {
+            return false;
+        }
+        if self.is_closed_to(number) {
+            return false;
+        }
+        self.bays[number as usize].has_chain(&self.memory)
+    }
+}
