@@ -1,11 +1,35 @@
 -- What a seat keeps of the requests that it answered.
-use Rattle.std.specs.Prelude.{ℕ, ◌≡◌, ◌≢◌, ◌+◌, ◌<◌, nat_lt, Bool, false, List, [], ◌∷◌, ◌++◌, length, slice_get, Option, Some, None, if◌then◌else◌}
+use Rattle.std.specs.Prelude.{ℕ, ◌≡◌, ◌≢◌, ◌+◌, ◌%◌, ◌<◌, nat_lt, nat_le, Bool, false, List, [], ◌∷◌, ◌++◌, length, slice_get, Option, Some, None, if◌then◌else◌}
 use Rattle.std.specs.Option.{option_map}
-use Rattle.replies.specs.PlainReply.{PlainReply}
+use Rattle.replies.specs.PlainReply.{PlainReply, plain_of}
+use Rattle.replies.specs.declared.reply.Reply.{Reply}
 use Rattle.history.specs.Receipts.{Receipt, latest_kept, longest_kept}
 use Rattle.unit_history.specs.declared.given.Given.{Given}
 use Rattle.unit_history.specs.declared.given.Given.TheVariants as given
 use Rattle.keeping.specs.declared.kept.Kept.{Kept}
+
+-- own: the reply that stands in a slot, if there is one
+abbrev pub reply_in : Option (Option Reply) → Option PlainReply
+reply_in None = None
+reply_in (Some None) = None
+reply_in (Some (Some r)) = Some (plain_of r)
+
+-- own: the reply of the receipt at a place, of so many: one of the latest, in the slot of its place
+abbrev pub reply_of : ℕ → ℕ → List (Option Reply) → Option PlainReply
+reply_of count place replies =
+    if nat_le count (place + latest_kept) then reply_in (slice_get replies (place % latest_kept)) else None
+
+-- own: receipts from a place on, with the replies that are kept
+abbrev pub with_replies : ℕ → ℕ → List Receipt → List (Option Reply) → List Receipt
+with_replies count place [] replies = []
+with_replies count place (c ∷ bare) replies =
+    record c { reply = reply_of count place replies } ∷ with_replies count (place + 1) bare replies
+
+abbrev pub receipts_of : List Receipt → List (Option Reply) → List Receipt
+receipts_of bare replies = with_replies (length bare) 0 bare replies
+
+abbrev pub receipts_in : Kept → List Receipt
+receipts_in k = receipts_of k.receipts.items k.replies.items
 
 -- own: the receipt of a Commit whose reply was let go
 abbrev pub without_reply : Receipt → Receipt
@@ -31,6 +55,6 @@ pub record KeepsReceipt (old : List Receipt) (c : Receipt) (new : List Receipt) 
 -- own: what a request left is kept
 abbrev pub KeepsGiven : Kept → Given → Kept → Type 0
 KeepsGiven old (given.Receipt c) new =
-    KeepsReceipt old.receipts.items c new.receipts.items × (new.notes.items ≡ old.notes.items)
+    KeepsReceipt (receipts_in old) c (receipts_in new) × (new.notes.items ≡ old.notes.items)
 KeepsGiven old (given.Note n) new =
-    (new.receipts.items ≡ old.receipts.items) × (new.notes.items ≡ old.notes.items ++ n ∷ [])
+    (receipts_in new ≡ receipts_in old) × (new.notes.items ≡ old.notes.items ++ n ∷ [])

@@ -3,7 +3,7 @@
 ghost use Rattle.std.specs.Prelude.{◌≡◌, ◌≤◌, vec_len, length, IfOk};
 ghost use Rattle.report.specs.Closed.{IsReport};
 
-use crate::kept::Kept;
+use crate::kept::{Kept, reply_out};
 use guest_mem::GuestMem;
 use queues::Queue;
 use report::{CloseFault, Report, examine};
@@ -28,12 +28,20 @@ fn append(
     receipts: &mut Vec<Receipt>,
     notes: &mut Vec<Note>,
 ) -> Result<(), AllocError> {
-    for receipt in kept.receipts {
-        if receipts.push(receipt).is_err() {
+    let Kept {
+        receipts: bare,
+        mut replies,
+        notes: all,
+    } = kept;
+    let count = bare.len();
+    receipts.reserve(count)?;
+    for (place, receipt) in bare.into_iter().enumerate() {
+        let reply = reply_out(&mut replies, count, place);
+        if receipts.push(receipt.with_reply(reply)).is_err() {
             return Err(AllocError);
         }
     }
-    for note in kept.notes {
+    for note in all {
         if notes.push(note).is_err() {
             return Err(AllocError);
         }

@@ -1,19 +1,24 @@
 //! What a seat keeps of the requests that it answered.
 
-ghost use Rattle.std.specs.Prelude.{◌≡◌, ◌<◌, [], vec_len};
+ghost use Rattle.std.specs.Prelude.{ℕ, ◌≡◌, ◌<◌, ◌≤◌, ◌%◌, [], ◌∷◌, ◌++◌, length, slice_get, slice_set, vec_len, None, OnOk};
 ghost use Rattle.std.specs.Bool.{OnTrue};
 ghost use Rattle.std.specs.Vec.{vec_capacity};
-ghost use Rattle.keeping.specs.Keeping.{has_long, shortened, KeepsReceipt, KeepsGiven};
+ghost use Rattle.history.specs.Receipts.{latest_kept};
+ghost use Rattle.keeping.specs.Keeping.{has_long, shortened, without_reply, reply_in, receipts_of, receipts_in, KeepsReceipt, KeepsGiven};
 ghost use Rattle.keeping.specs.Rooms.{HasRoomForOne};
 
-use std::alloc::Global;
-use unit_history::{Given, LATEST_KEPT, LONGEST_KEPT, Note, Receipt};
+use replies::Reply;
+use std::alloc::{AllocError, Global};
+use unit_history::{BareReceipt, Given, LATEST_KEPT, LONGEST_KEPT, Note, Receipt};
 
 /// The receipts and notes of the requests that a seat answered, in order. Replies are kept of its latest receipts
-/// alone, as many as a unit has of its latest steps, and of these those alone that are short enough for a unit.
+/// alone, as many as a unit has of its latest steps, and of these those alone that are short enough for a unit: at most
+/// 1 MiB. Each other receipt takes 24 bytes.
 #[derive(Drop)]
 pub struct Kept {
-    pub receipts: Vec<Receipt>,
+    pub(crate) receipts: Vec<BareReceipt>,
+    // The reply of a receipt stands at its place modulo the number of these, which are as many as are kept.
+    pub(crate) replies: Vec<Option<Reply>>,
     pub notes: Vec<Note>,
 }
 
@@ -36,26 +41,60 @@ fn shorten(receipt: &mut Receipt)
     }
 }
 
-/// Keeps a receipt, for which there is room, and lets the replies go that are kept no more.
-fn keep_receipt(receipts: &mut Vec<Receipt>, mut receipt: Receipt)
-    requires { vec_len receipts.old < vec_capacity receipts.old }
-    ensures { KeepsReceipt receipts.old.items receipt receipts.new.items }
+/// Keeps a receipt, for which there is room. Its reply takes the place of the one that is kept no more.
+fn keep_receipt(
+    receipts: &mut Vec<BareReceipt>,
+    replies: &mut Vec<Option<Reply>>,
+    mut receipt: Receipt,
+)
+    requires room { vec_len receipts.old < vec_capacity receipts.old }
+    requires slots { latest_kept ≤ vec_len replies.old }
+    ensures { KeepsReceipt (receipts_of receipts.old.items replies.old.items) receipt
+        (receipts_of receipts.new.items replies.new.items) }
 {
-    let before = receipts.len();
     shorten(&mut receipt);
-    receipts.push_reserved(receipt);
-    if before >= LATEST_KEPT {
-        let _ = receipts[before - LATEST_KEPT].take_reply();
+    let slot = receipts.len() % LATEST_KEPT;
+    let (bare, reply) = BareReceipt::of(receipt);
+    receipts.push_reserved(bare);
+    replies[slot] = reply;
+}
+
+/// Makes the places for the latest replies. Each is empty as long as no reply stands there.
+fn make_slots(replies: &mut Vec<Option<Reply>>) -> Result<(), AllocError>
+    ensures slots { OnOk result (latest_kept ≤ vec_len replies.new) }
+    ensures same { (i : ℕ) → reply_in (slice_get replies.new.items i) ≡ reply_in (slice_get replies.old.items i) }
+{
+    for _number in replies.len()..LATEST_KEPT {
+        let Ok(()) = replies.push(None) else {
+            return Err(AllocError);
+        };
+    }
+    Ok(())
+}
+
+/// Takes the reply out of the receipt at a place, of so many, where it is kept.
+pub(crate) fn reply_out(
+    replies: &mut Vec<Option<Reply>>,
+    count: usize,
+    place: usize,
+) -> Option<Reply> {
+    if count.saturating_sub(place) > LATEST_KEPT {
+        return None;
+    }
+    match replies.get_mut(place % LATEST_KEPT) {
+        Some(reply) => reply.take(),
+        None => None,
     }
 }
 
 impl Kept {
     /// None yet. Who makes a seat's work calls it once for each.
     pub fn new(alloc: Global) -> Kept
-        ensures { (result.receipts.items ≡ []) × (result.notes.items ≡ []) }
+        ensures { (receipts_in result ≡ []) × (result.notes.items ≡ []) }
     {
         Kept {
             receipts: Vec::new(alloc),
+            replies: Vec::new(alloc),
             notes: Vec::new(alloc),
         }
     }
@@ -65,8 +104,11 @@ impl Kept {
     pub fn make_room(&mut self, requests: usize) -> bool
         requires some { 0 < requests }
         ensures room { OnTrue result (HasRoomForOne self.new) }
-        ensures kept { (self.new.receipts.items ≡ self.old.receipts.items) × (self.new.notes.items ≡ self.old.notes.items) }
+        ensures kept { (receipts_in self.new ≡ receipts_in self.old) × (self.new.notes.items ≡ self.old.notes.items) }
     {
+        let Ok(()) = make_slots(&mut self.replies) else {
+            return false;
+        };
         let Ok(()) = self.receipts.reserve(requests) else {
             return false;
         };
@@ -82,7 +124,9 @@ impl Kept {
         ensures { KeepsGiven self.old given self.new }
     {
         match given {
-            Given::Receipt(receipt) => keep_receipt(&mut self.receipts, receipt),
+            Given::Receipt(receipt) => {
+                keep_receipt(&mut self.receipts, &mut self.replies, receipt);
+            }
             Given::Note(note) => self.notes.push_reserved(note),
         }
     }

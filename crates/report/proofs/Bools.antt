@@ -1,5 +1,7 @@
 -- Small facts of tests.
-use Rattle.std.proofs.Common.{◌≡◌, Bool, true, false, not, ◌&&◌, ◌||◌, List, [], ◌∷◌, refl, sym, ap, ◌∙◌}
+use Rattle.std.proofs.Common.{◌≡◌, ℕ, zero, suc, Bool, true, false, not, ◌&&◌, ◌||◌, List, [], ◌∷◌, Some, refl, sym, ap, ◌∙◌}
+use Rattle.std.proofs.lemmas.Option.{same_Some}
+use Rattle.std.specs.Prelude.{slice_get}
 use Rattle.std.specs.List.{list_any, list_all}
 
 pub or_false : (a : Bool) → (a || false) ≡ a
@@ -41,6 +43,10 @@ not_or false b = refl
 pub not_true : (a : Bool) → not a ≡ false → a ≡ true
 not_true true e = refl
 not_true false e = absurd (cc)
+
+pub not_false : (a : Bool) → not a ≡ true → a ≡ false
+not_false true e = absurd (cc)
+not_false false e = refl
 
 pub split_true : (a b : Bool) → (a && b) ≡ true → (a ≡ true) × (b ≡ true)
 split_true true b e = (refl, e)
@@ -84,3 +90,9 @@ none_where_all f g h [] k e = refl
 none_where_all f g h (x ∷ xs) k e =
     not_or (f x) (list_any f xs) ∙ ap (λ c. c && not (list_any f xs)) (e x) ∙ ap (λ c. (g x && h x) && c) (none_where_all f g h xs k e)
     ∙ shuffle (g x) (h x) (list_all g xs) (list_all h xs)
+
+-- what each item passes, one does
+pub all_at : {X : Type 0} (p : X → Bool) (xs : List X) (k : ℕ) (x : X) → list_all p xs ≡ true → slice_get xs k ≡ Some x → p x ≡ true
+all_at p [] k x all e = absurd (cc)
+all_at p (y ∷ ys) zero x all e = ap p (sym (same_Some y x e)) ∙ (split_true (p y) (list_all p ys) all).0
+all_at p (y ∷ ys) (suc k) x all e = all_at p ys k x (split_true (p y) (list_all p ys) all).1 e

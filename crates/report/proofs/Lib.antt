@@ -3,6 +3,8 @@ pub mod Slots
 pub mod Folding
 pub mod Firsts
 pub mod Histories
+pub mod Kept
+pub mod Home
 pub mod Answering
 pub mod Verdict
 pub mod Prefixes

@@ -16,7 +16,7 @@ use Rattle.task_set.specs.Unit.{PlainUnit}
 use Rattle.queues.specs.Queue.{Lent}
 use Rattle.notes.specs.Notes.{PlainNote}
 use Rattle.report.specs.declared.tally.Tally.{Tally}
-use Rattle.report.specs.Settled.{is_asked, is_used, uses, is_request, is_settled, count_accepted}
+use Rattle.report.specs.Settled.{is_asked, is_used, uses, is_request, is_settled, count_accepted, any_folded}
 use Rattle.report.specs.Closed.{IsFirst, is_outstanding}
 use Rattle.report.specs.Tallies.{tally_at, tally_of, fresh, ends_well, ends_amiss, AreTallies, lesser_of}
 use Rattle.report.specs.Sources.{unused_in, amiss_in, amiss_at, amiss_of, stray}
@@ -104,28 +104,28 @@ module _ (place : ℕ) (q : Lent) (sound : IsSound q.ring) where
         )
 
 -- one queue more
-module _ (queues : List Lent) (tables : List (Vec Tally Global)) (i : ℕ) (q : Lent) (lt : i < length queues) (is : q ≡ get_or queues i q) where
+module _ (queues : List Lent) (folded : Bool) (tables : List (Vec Tally Global)) (i : ℕ) (q : Lent) (lt : i < length queues) (is : q ≡ get_or queues i q) where
   there : slice_get queues i ≡ Some q
   there = slice_get_read queues (length queues) i q refl lt is
 
-  not_of : (k : ℕ) (t : Ticket) → eqb t.queue k ≡ false → amiss_in k q tables t ≡ false
+  not_of : (k : ℕ) (t : Ticket) → eqb t.queue k ≡ false → amiss_in k q folded tables t ≡ false
   not_of k t e =
       ap (λ b. (not (eqb k 1) && (b && (ltb t.number (length q.ring.log.accepted) && not (list_any (λ u. same_ticket u t) q.ring.log.used))))
-      || (b && (ltb t.number (length q.ring.log.accepted) && ends_amiss (tally_at tables t)))) e
+      || (b && (ltb t.number (length q.ring.log.accepted) && ends_amiss folded (tally_at tables t)))) e
       ∙ ap (λ b. b || false) (and_false (not (eqb k 1)))
 
-  by_place : (t : Ticket) → (ltb t.queue (i + 1) && amiss_of queues tables t) ≡ ((ltb t.queue i && amiss_of queues tables t) || amiss_in i q tables t)
+  by_place : (t : Ticket) → (ltb t.queue (i + 1) && amiss_of queues folded tables t) ≡ ((ltb t.queue i && amiss_of queues folded tables t) || amiss_in i q folded tables t)
   by_place t =
       elim (same_or_other t.queue i) [
         | inl e ↦
-            let at : amiss_of queues tables t ≡ amiss_in i q tables t =
-            ap (λ (k : ℕ). amiss_at (slice_get queues k) tables t) e.0 ∙ ap (λ (o : Option Lent). amiss_at o tables t) there ∙ ap (λ (k : ℕ). amiss_in k q tables t) e.0 in
-            ap (λ b. b && amiss_of queues tables t) (last_in t.queue i e.0) ∙ at
-            ∙ sym (ap (λ b. (b && amiss_of queues tables t) || amiss_in i q tables t) (last_out t.queue i e.0))
+            let at : amiss_of queues folded tables t ≡ amiss_in i q folded tables t =
+            ap (λ (k : ℕ). amiss_at (slice_get queues k) folded tables t) e.0 ∙ ap (λ (o : Option Lent). amiss_at o folded tables t) there ∙ ap (λ (k : ℕ). amiss_in k q folded tables t) e.0 in
+            ap (λ b. b && amiss_of queues folded tables t) (last_in t.queue i e.0) ∙ at
+            ∙ sym (ap (λ b. (b && amiss_of queues folded tables t) || amiss_in i q folded tables t) (last_out t.queue i e.0))
         | inr e ↦
-            ap (λ b. b && amiss_of queues tables t) (other_in t.queue i e.0)
-            ∙ sym (or_false (ltb t.queue i && amiss_of queues tables t))
-            ∙ ap (λ b. (ltb t.queue i && amiss_of queues tables t) || b) (sym (not_of i t e.1))
+            ap (λ b. b && amiss_of queues folded tables t) (other_in t.queue i e.0)
+            ∙ sym (or_false (ltb t.queue i && amiss_of queues folded tables t))
+            ∙ ap (λ b. (ltb t.queue i && amiss_of queues folded tables t) || b) (sym (not_of i t e.1))
       ]
     where
       last_in : (a b : ℕ) → a ≡ b → ltb a (b + 1) ≡ true
@@ -137,24 +137,24 @@ module _ (queues : List Lent) (tables : List (Vec Tally Global)) (i : ℕ) (q : 
       other_in : (a b : ℕ) → a ≢ b → ltb a (b + 1) ≡ ltb a b
       other_in a b e = grind (arith, nat_tests)
 
-  pub one_queue_more : (r s : Option Ticket) → IsFirst (λ t. ltb t.queue i && amiss_of queues tables t) r → IsFirst (amiss_in i q tables) s
-      → IsFirst (λ t. ltb t.queue (i + 1) && amiss_of queues tables t) (lesser_of r s)
+  pub one_queue_more : (r s : Option Ticket) → IsFirst (λ t. ltb t.queue i && amiss_of queues folded tables t) r → IsFirst (amiss_in i q folded tables) s
+      → IsFirst (λ t. ltb t.queue (i + 1) && amiss_of queues folded tables t) (lesser_of r s)
   one_queue_more r s old new =
-      same_first (λ t. (ltb t.queue i && amiss_of queues tables t) || amiss_in i q tables t) (λ t. ltb t.queue (i + 1) && amiss_of queues tables t) (lesser_of r s)
-      by_place (lesser_first (λ t. ltb t.queue i && amiss_of queues tables t) (amiss_in i q tables) r s old new)
+      same_first (λ t. (ltb t.queue i && amiss_of queues folded tables t) || amiss_in i q folded tables t) (λ t. ltb t.queue (i + 1) && amiss_of queues folded tables t) (lesser_of r s)
+      by_place (lesser_first (λ t. ltb t.queue i && amiss_of queues folded tables t) (amiss_in i q folded tables) r s old new)
 
 past_none : {X : Type 0} (xs : List X) (k : ℕ) → length xs ≤ k → slice_get xs k ≡ None
 past_none [] k le = refl
 past_none (x ∷ xs) zero le = absurd (omega arith)
 past_none (x ∷ xs) (suc k) le = past_none xs k (omega arith)
 
-pub all_queues : (queues : List Lent) (tables : List (Vec Tally Global)) (i : ℕ) (r : Option Ticket) → length queues ≤ i
-    → IsFirst (λ t. ltb t.queue i && amiss_of queues tables t) r → IsFirst (amiss_of queues tables) r
-all_queues queues tables i r le is =
-    same_first (λ t. ltb t.queue i && amiss_of queues tables t) (amiss_of queues tables) r
-    (λ t. (elim (ltb t.queue i) as (λ b. (ltb t.queue i ≡ b) → amiss_of queues tables t ≡ (b && amiss_of queues tables t)) [
+pub all_queues : (queues : List Lent) (folded : Bool) (tables : List (Vec Tally Global)) (i : ℕ) (r : Option Ticket) → length queues ≤ i
+    → IsFirst (λ t. ltb t.queue i && amiss_of queues folded tables t) r → IsFirst (amiss_of queues folded tables) r
+all_queues queues folded tables i r le is =
+    same_first (λ t. ltb t.queue i && amiss_of queues folded tables t) (amiss_of queues folded tables) r
+    (λ t. (elim (ltb t.queue i) as (λ b. (ltb t.queue i ≡ b) → amiss_of queues folded tables t ≡ (b && amiss_of queues folded tables t)) [
       | true ↦ λ e. refl
-      | false ↦ λ e. ap (λ (o : Option Lent). amiss_at o tables t) (past_none queues t.queue (far t.queue i (length queues) e le))
+      | false ↦ λ e. ap (λ (o : Option Lent). amiss_at o folded tables t) (past_none queues t.queue (far t.queue i (length queues) e le))
     ]) refl)
     is
   where
@@ -176,9 +176,9 @@ some_if : (b : Bool) (s : Tally) → is_some (cond b (Some s) None) ≡ b
 some_if true s = refl
 some_if false s = refl
 
-amiss_if : (b w : Bool) (s : Tally) → ends_well s ≡ w → ends_amiss (cond b (Some s) None) ≡ (b && not w)
-amiss_if true w s e = ap not e
-amiss_if false w s e = refl
+amiss_if : (g b w : Bool) (s : Tally) → ends_well g s ≡ w → ends_amiss g (cond b (Some s) None) ≡ (b && not w)
+amiss_if g true w s e = ap not e
+amiss_if g false w s e = refl
 
 none_below : (n : ℕ) → ltb n 0 ≡ false
 none_below n = grind (arith, nat_tests)
@@ -192,6 +192,9 @@ module _ (units : List PlainUnit) (queues : List Lent) (receipts : List Receipt)
   abbrev settled_here : Ticket → Bool
   settled_here t = is_settled units receipts notes t
 
+  abbrev folded : Bool
+  folded = any_folded units
+
   module _ (first second last : List (Vec Tally Global)) (t : Ticket)
       (at_first : tally_at first t ≡ cond (is_request queues t) (Some fresh) None)
       (at_second : is_some (tally_at second t) ≡ is_some (tally_at first t))
@@ -203,10 +206,10 @@ module _ (units : List PlainUnit) (queues : List Lent) (receipts : List Receipt)
     abbrev asked : Bool
     asked = is_asked queues t && not (is_used queues t)
 
-    unsettled_is : ends_amiss (tally_at last t) ≡ (is_request queues t && not (settled_here t))
-    unsettled_is = ap ends_amiss at_last ∙ amiss_if (is_request queues t) (settled_here t) (tally_of units receipts notes t) (ends_settled units receipts notes t stand)
+    unsettled_is : ends_amiss folded (tally_at last t) ≡ (is_request queues t && not (settled_here t))
+    unsettled_is = ap (ends_amiss folded) at_last ∙ amiss_if folded (is_request queues t) (settled_here t) (tally_of units receipts notes t) (ends_settled units receipts notes t stand)
 
-    queue_is : (o : Option Lent) → slice_get queues t.queue ≡ o → amiss_at o last t ≡ (by_queue o || (is_request queues t && not (settled_here t)))
+    queue_is : (o : Option Lent) → slice_get queues t.queue ≡ o → amiss_at o folded last t ≡ (by_queue o || (is_request queues t && not (settled_here t)))
     queue_is None e =
         sym (ap (λ (w : Option Lent). by_queue None || ((leb 2 t.queue && ltb t.number (count_accepted w)) && not (settled_here t))) e
         ∙ ap (λ b. ((not (eqb t.queue 1) && b) && true) || ((leb 2 t.queue && b) && not (settled_here t))) (none_below t.number)
@@ -215,16 +218,16 @@ module _ (units : List PlainUnit) (queues : List Lent) (receipts : List Receipt)
     queue_is (Some q) e =
         let n : ℕ = length q.ring.log.accepted in
         let request : is_request queues t ≡ (leb 2 t.queue && ltb t.number n) = ap (λ (w : Option Lent). leb 2 t.queue && ltb t.number (count_accepted w)) e in
-        let unsettled : (ltb t.number n && ends_amiss (tally_at last t)) ≡ (is_request queues t && not (settled_here t)) =
+        let unsettled : (ltb t.number n && ends_amiss folded (tally_at last t)) ≡ (is_request queues t && not (settled_here t)) =
         ap (λ b. ltb t.number n && b) unsettled_is
         ∙ ap (λ b. ltb t.number n && (b && not (settled_here t))) request
         ∙ inner (ltb t.number n) (leb 2 t.queue) (not (settled_here t))
         ∙ ap (λ b. b && not (settled_here t)) (sym request) in
-        ap (λ b. (not (eqb t.queue 1) && (b && (ltb t.number n && not (uses (Some q) t)))) || (b && (ltb t.number n && ends_amiss (tally_at last t)))) (same_number t.queue)
+        ap (λ b. (not (eqb t.queue 1) && (b && (ltb t.number n && not (uses (Some q) t)))) || (b && (ltb t.number n && ends_amiss folded (tally_at last t)))) (same_number t.queue)
         ∙ ap (λ b. (not (eqb t.queue 1) && (ltb t.number n && not (uses (Some q) t))) || b) unsettled
         ∙ ap (λ b. b || (is_request queues t && not (settled_here t))) (sym (and_over (not (eqb t.queue 1)) (ltb t.number n) (not (uses (Some q) t))))
 
-    all_sources : (amiss_of queues last t || (stray (λ (c : Receipt). c.ticket) first receipts t || stray (λ (n : PlainNote). n.ticket) second notes t))
+    all_sources : (amiss_of queues folded last t || (stray (λ (c : Receipt). c.ticket) first receipts t || stray (λ (n : PlainNote). n.ticket) second notes t))
         ≡ is_outstanding units queues receipts notes t
     all_sources =
         let known : is_some (tally_at first t) ≡ is_request queues t = ap is_some at_first ∙ some_if (is_request queues t) fresh in
@@ -240,12 +243,12 @@ module _ (units : List PlainUnit) (queues : List Lent) (receipts : List Receipt)
       → AreTallies queues (λ t. fresh) first
       → ((t : Ticket) → is_some (tally_at second t) ≡ is_some (tally_at first t))
       → AreTallies queues (λ t. tally_of units receipts notes t) last
-      → IsFirst (amiss_of queues last) a → IsFirst (stray (λ (z : Receipt). z.ticket) first receipts) b → IsFirst (stray (λ (z : PlainNote). z.ticket) second notes) c
+      → IsFirst (amiss_of queues folded last) a → IsFirst (stray (λ (z : Receipt). z.ticket) first receipts) b → IsFirst (stray (λ (z : PlainNote). z.ticket) second notes) c
       → IsFirst (is_outstanding units queues receipts notes) (lesser_of a (lesser_of b c))
   found_first first second last a b c opened kept tallied of_queues of_receipts of_notes =
       same_first
-      (λ t. amiss_of queues last t || (stray (λ (z : Receipt). z.ticket) first receipts t || stray (λ (z : PlainNote). z.ticket) second notes t))
+      (λ t. amiss_of queues folded last t || (stray (λ (z : Receipt). z.ticket) first receipts t || stray (λ (z : PlainNote). z.ticket) second notes t))
       (is_outstanding units queues receipts notes) (lesser_of a (lesser_of b c))
       (λ t. sym (all_sources first second last t (opened t) (kept t) (tallied t)))
-      (lesser_first (amiss_of queues last) (λ t. stray (λ (z : Receipt). z.ticket) first receipts t || stray (λ (z : PlainNote). z.ticket) second notes t) a (lesser_of b c) of_queues
+      (lesser_first (amiss_of queues folded last) (λ t. stray (λ (z : Receipt). z.ticket) first receipts t || stray (λ (z : PlainNote). z.ticket) second notes t) a (lesser_of b c) of_queues
       (lesser_first (stray (λ (z : Receipt). z.ticket) first receipts) (stray (λ (z : PlainNote). z.ticket) second notes) b c of_receipts of_notes))

@@ -1,15 +1,13 @@
 -- The tally of a request ends well where the request is settled.
-use Rattle.std.proofs.Common.{◌≡◌, ℕ, suc, ◌≤◌, Bool, true, false, not, ◌&&◌, ◌||◌, eqb, List, [], ◌∷◌, refl, sym, ap, subst, ◌∙◌, arith, count_by, zero-add}
+use Rattle.std.proofs.Common.{◌≡◌, ℕ, suc, ◌+◌, ◌-◌, ◌<◌, ◌≤◌, Bool, true, false, not, ◌&&◌, ◌||◌, eqb, List, [], ◌∷◌, length, Some, None, refl, sym, ap, subst, ◌∙◌, arith, count_by, zero-add}
 use Rattle.std.proofs.lemmas.Bool.Decides.{nat_tests}
+use Rattle.std.specs.Prelude.{slice_get}
 use Rattle.std.specs.List.{fold, list_any}
 use Rattle.ring_core.specs.declared.log.Ticket.{Ticket}
-use Rattle.history.specs.Tasks.{same_ticket}
-use Rattle.history.specs.Steps.{Step, has_entered, has_left, done}
-use Rattle.history.specs.Marks.{marked}
-use Rattle.history.specs.Contents.{Opening}
-use Rattle.history.specs.Lawful.{IsLawful}
+use Rattle.history.specs.Tasks.{Entry, same_ticket}
+use Rattle.history.specs.Steps.{alive, has_entered, has_left}
+use Rattle.history.specs.Base.{base_of, kept_steps}
 use Rattle.history.specs.Receipts.{Receipt}
-use Rattle.history.proofs.Marking.{left_marked, marked_undone}
 use Rattle.task_set.specs.Unit.{PlainUnit}
 use Rattle.notes.specs.Notes.{PlainNote}
 use Rattle.notes.specs.declared.note.Cause.{Cause}
@@ -17,126 +15,117 @@ use Rattle.notes.specs.declared.note.Cause.TheVariants as cause
 use Rattle.report.specs.declared.tally.Answer.{Answer}
 use Rattle.report.specs.declared.tally.Answer.TheVariants as answer
 use Rattle.report.specs.declared.tally.Tally.{Tally}
-use Rattle.report.specs.Words.{has_busy, has_full}
-use Rattle.report.specs.Settled.{answers, any_entered, any_full, where_entered, is_of, is_founded, is_right, are_right, is_settled}
-use Rattle.report.specs.Tallies.{fresh, is_wrong, is_fine, ends_well, with_receipt, with_note, with_unit, tally_of}
+use Rattle.report.specs.Words.{has_busy, has_full, has_run, has_step, in_two}
+use Rattle.report.specs.Settled.{answers, any_folded, any_entered, any_run, any_full, is_astray, all_left, where_entered, is_of, is_founded, is_right, are_right, has_run_there, is_settled}
+use Rattle.report.specs.Tallies.{fresh, elsewhere, home_at, read_alive, is_ground, is_end, is_fine, ends_well, with_receipt, with_note, with_units, tally_of}
 use Rattle.report.specs.Unconfirmed.{AllStand}
-use Rattle.report.proofs.Bools.{or_false, or_true, and_true, and_false, or_over, or_comm, not_or, is_false, clash}
-use Rattle.report.proofs.Histories.{shut, closed, read_closed}
+use Rattle.report.proofs.Bools.{all_at, or_false, or_true, and_true, and_false, not_or, unless_true}
+use Rattle.report.proofs.Histories.{home_by, closed, read_closed, entered_step, run_step, busy_step}
+use Rattle.report.proofs.Kept.{run_kept, busy_kept, marked_kept, entered_latest, gone_is}
+use Rattle.report.proofs.Home.{two_any, where_one}
 use Rattle.report.proofs.Answering.{Amounts, Answered, receipts_read, notes_read}
 
-abbrev off : Tally → Bool
-off s = s.amiss || s.open_now
+-- a unit keeps a step of the task, or its Busy; its task is alive there
+abbrev steps_in : Ticket → PlainUnit → Bool
+steps_in t u = has_step t (kept_steps u.steps)
 
--- in a unit the ticket entered, and hasn't left or was answered otherwise than it ended
-abbrev fails : Answer → Ticket → PlainUnit → Bool
-fails a t u = has_entered t u.steps && (not (has_left t u.steps) || is_wrong a (has_busy t u.steps) (done t u.steps))
+abbrev rests_in : Ticket → PlainUnit → Bool
+rests_in t u = has_busy t (kept_steps u.steps)
 
-off_more : (x l w : Bool) → ((x || (l && w)) || not l) ≡ (x || (not l || w))
-off_more true l w = refl
-off_more false true w = or_false w
-off_more false false w = refl
+abbrev lives_in : Ticket → PlainUnit → Bool
+lives_in t u = list_any (λ (e : Entry). same_ticket e.ticket t) (alive u.steps)
 
-shut_off : (e f l b d : Bool) (s : Tally) → off (shut e f l b d s) ≡ (off s || (e && (not l || is_wrong s.answer b d)))
-shut_off true f l b d s = off_more (off s) l (is_wrong s.answer b d)
-shut_off false f l b d s = sym (or_false (off s))
+abbrev unit_closed : Ticket → ℕ → PlainUnit → Tally → Tally
+unit_closed t k u s = read_alive t (alive u.steps) (closed t k (kept_steps u.steps) s)
 
-shut_answer : (e f l b d : Bool) (s : Tally) → (shut e f l b d s).answer ≡ s.answer
-shut_answer true f l b d s = refl
-shut_answer false f l b d s = refl
-
-shut_entered : (e f l b d : Bool) (s : Tally) → (shut e f l b d s).entered ≡ (s.entered || e)
-shut_entered true f l b d s = sym (or_true s.entered)
-shut_entered false f l b d s = sym (or_false s.entered)
-
-shut_full : (e f l b d : Bool) (s : Tally) → (shut e f l b d s).full ≡ (s.full || f)
-shut_full true f l b d s = or_comm f s.full
-shut_full false f l b d s = or_comm f s.full
+unit_read : (t : Ticket) (k : ℕ) (u : PlainUnit) (us : List PlainUnit) (s : Tally) → with_units t k (u ∷ us) s ≡ with_units t (k + 1) us (unit_closed t k u s)
+unit_read t k u us s = ap (λ (z : Tally). with_units t (k + 1) us (read_alive t (alive u.steps) z)) (read_closed t k (kept_steps u.steps) s)
 
 -- what the units leave of a tally
 pub record ReadAll (t : Ticket) (units : List PlainUnit) (s r : Tally) : Type 0 where
   pub answer_is : r.answer ≡ s.answer
-  pub entered_is : r.entered ≡ (s.entered || any_entered units t)
-  pub full_is : r.full ≡ (s.full || any_full units t)
-  pub off_is : off r ≡ (off s || list_any (fails s.answer t) units)
+  pub entered_is : r.entered ≡ (any_entered units t || s.entered)
+  pub full_is : r.full ≡ (any_full units t || s.full)
+  pub ran_is : r.ran ≡ (any_run units t || s.ran)
+  pub busy_is : r.busy ≡ (list_any (rests_in t) units || s.busy)
+  pub alive_is : r.alive ≡ (list_any (lives_in t) units || s.alive)
 
-one_more : (a b c x y : Bool) → x ≡ (y || c) → y ≡ (a || b) → x ≡ (a || (b || c))
-one_more a b c x y e f = e ∙ ap (λ z. z || c) f ∙ or_over a b c
+more : (e m s : Bool) → (m || (e || s)) ≡ ((e || m) || s)
+more true m s = or_true m
+more false m s = refl
 
-read_all : (t : Ticket) (units : List PlainUnit) (s : Tally) → AllStand units → ReadAll t units s (fold (with_unit t) s units)
-read_all t [] s stand =
-    record { answer_is = refl; entered_is = sym (or_false s.entered); full_is = sym (or_false s.full); off_is = sym (or_false (off s)) }
-read_all t (u ∷ us) s stand =
-    let h : List Step = u.steps in
-    let x : Tally = closed t h s in
-    let r = read_all t us x (λ k v e. stand (suc k) v e) in
-    let same : fold (with_unit t) s (u ∷ us) ≡ fold (with_unit t) x us = ap (λ z. fold (with_unit t) z us) (read_closed u.opening t h s (stand 0 u refl).lawful) in
-    let answer_x = shut_answer (has_entered t h) (has_full t h) (has_left t h) (has_busy t h) (done t h) s in
-    rw same
+read_all : (t : Ticket) (k : ℕ) (units : List PlainUnit) (s : Tally) → ReadAll t units s (with_units t k units s)
+read_all t k [] s = record { answer_is = refl; entered_is = refl; full_is = refl; ran_is = refl; busy_is = refl; alive_is = refl }
+read_all t k (u ∷ us) s =
+    let x : Tally = unit_closed t k u s in
+    let r = read_all t (k + 1) us x in
+    subst (λ (z : Tally). ReadAll t (u ∷ us) s z) (sym (unit_read t k u us s))
     (record {
-      answer_is = r.answer_is ∙ answer_x;
-      entered_is = one_more s.entered (has_entered t h) (any_entered us t) (fold (with_unit t) x us).entered x.entered r.entered_is (shut_entered (has_entered t h) (has_full t h) (has_left t h) (has_busy t h) (done t h) s);
-      full_is = one_more s.full (has_full t h) (any_full us t) (fold (with_unit t) x us).full x.full r.full_is (shut_full (has_entered t h) (has_full t h) (has_left t h) (has_busy t h) (done t h) s);
-      off_is = one_more (off s) (fails s.answer t u) (list_any (fails s.answer t) us) (off (fold (with_unit t) x us)) (off x)
-          (r.off_is ∙ ap (λ a. off x || list_any (fails a t) us) answer_x)
-          (shut_off (has_entered t h) (has_full t h) (has_left t h) (has_busy t h) (done t h) s);
+      answer_is = r.answer_is;
+      entered_is = r.entered_is ∙ more (has_entered t (kept_steps u.steps)) (any_entered us t) s.entered;
+      full_is = r.full_is ∙ more (has_full t (kept_steps u.steps)) (any_full us t) s.full;
+      ran_is = r.ran_is ∙ more (has_run t (kept_steps u.steps)) (any_run us t) s.ran;
+      busy_is = r.busy_is ∙ more (rests_in t u) (list_any (rests_in t) us) s.busy;
+      alive_is = r.alive_is ∙ more (lives_in t u) (list_any (lives_in t) us) s.alive;
     })
 
--- where it left, an answer is wrong that is not of what became of the task
-marked_is : (o : Opening) (t : Ticket) (h : List Step) → IsLawful o h → has_left t h ≡ true → not (done t h) ≡ marked t h
-marked_is o t h l k =
-    elim (done t h) as (λ b. (done t h ≡ b) → not b ≡ marked t h) [
-      | true ↦ λ e. sym (is_false (marked t h) (λ m. clash (sym e ∙ marked_undone o t h l m)))
-      | false ↦ λ e. sym (left_marked o t h l k e)
-    ] refl
+home_stays : (b : Bool) (k j : ℕ) → home_by b k (Some j) ≡ Some j
+home_stays true k j = refl
+home_stays false k j = refl
 
-not_not : (b : Bool) → not (not b) ≡ b
-not_not true = refl
-not_not false = refl
+other_test : (j k : ℕ) → j < k → eqb j k ≡ false
+other_test j k lt = grind (arith, nat_tests)
 
-right_end : (o : Opening) (t : Ticket) (h : List Step) (c : Cause) → IsLawful o h → has_left t h ≡ true → not (is_wrong (answer.Note c) (has_busy t h) (done t h)) ≡ is_of c t h
-right_end o t h cause.Busy l k = not_not (has_busy t h)
-right_end o t h cause.Aborted l k = marked_is o t h l k
-right_end o t h cause.Full l k = refl
-right_end o t h cause.Direct l k = refl
-right_end o t h cause.Stale l k = refl
-right_end o t h cause.Unknown l k = refl
+next : (j k : ℕ) → j < k → j < k + 1
+next j k lt = omega (arith, lt)
 
-by_leave : (e l w p : Bool) → (l ≡ true → not w ≡ p) → not (e && (not l || w)) ≡ ((not e || l) && (not e || p))
-by_leave true true w p f = f refl
-by_leave true false w p f = refl
-by_leave false l w p f = refl
+last : (k : ℕ) → k < k + 1
+last k = omega arith
 
--- no unit fails a note exactly where each has its Leave and its end
-no_note_fails : (t : Ticket) (c : Cause) (units : List PlainUnit) → AllStand units
-    → not (list_any (fails (answer.Note c) t) units) ≡ (where_entered units t (λ h. has_left t h) && where_entered units t (λ h. is_of c t h))
-no_note_fails t c [] stand = refl
-no_note_fails t c (u ∷ us) stand =
-    let h : List Step = u.steps in
-    not_or (fails (answer.Note c) t u) (list_any (fails (answer.Note c) t) us)
-    ∙ ap (λ b. b && not (list_any (fails (answer.Note c) t) us)) (by_leave (has_entered t h) (has_left t h) (is_wrong (answer.Note c) (has_busy t h) (done t h)) (is_of c t h) (λ k. right_end u.opening t h c (stand 0 u refl).lawful k))
-    ∙ ap (λ b. ((not (has_entered t h) || has_left t h) && (not (has_entered t h) || is_of c t h)) && b) (no_note_fails t c us (λ k v e. stand (suc k) v e))
-    ∙ shuffle (not (has_entered t h) || has_left t h) (not (has_entered t h) || is_of c t h) (where_entered us t (λ g. has_left t g)) (where_entered us t (λ g. is_of c t g))
-  where
-    shuffle : (a b c d : Bool) → ((a && b) && (c && d)) ≡ ((a && c) && (b && d))
-    shuffle true true c d = refl
-    shuffle true false true d = refl
-    shuffle true false false d = refl
-    shuffle false b c d = refl
+-- once a unit was found that keeps a step of it
+astray_some : (t : Ticket) (k : ℕ) (units : List PlainUnit) (s : Tally) (j : ℕ) → s.home ≡ Some j → j < k
+    → (with_units t k units s).astray ≡ (list_any (steps_in t) units || s.astray)
+astray_some t k [] s j at lt = refl
+astray_some t k (u ∷ us) s j at lt =
+    let x : Tally = unit_closed t k u s in
+    let off : elsewhere k s.home ≡ true = ap (elsewhere k) at ∙ ap not (other_test j k lt) in
+    let its : x.astray ≡ (steps_in t u || s.astray) = ap (λ b. (steps_in t u && b) || s.astray) off ∙ ap (λ b. b || s.astray) (and_true (steps_in t u)) in
+    ap (λ (z : Tally). z.astray) (unit_read t k u us s)
+    ∙ astray_some t (k + 1) us x j (ap (home_by (steps_in t u) k) at ∙ home_stays (steps_in t u) k j) (next j k lt)
+    ∙ ap (λ b. list_any (steps_in t) us || b) its
+    ∙ more (steps_in t u) (list_any (steps_in t) us) s.astray
 
-by_leave_alone : (e l : Bool) → not (e && (not l || false)) ≡ (not e || l)
-by_leave_alone true true = refl
-by_leave_alone true false = refl
-by_leave_alone false l = refl
+-- and before one was
+astray_none : (t : Ticket) (k : ℕ) (units : List PlainUnit) (s : Tally) → s.home ≡ None
+    → (with_units t k units s).astray ≡ (in_two (steps_in t) units || s.astray)
+astray_none t k [] s at = refl
+astray_none t k (u ∷ us) s at =
+    let x : Tally = unit_closed t k u s in
+    let its : x.astray ≡ s.astray = ap (λ h. (steps_in t u && elsewhere k h) || s.astray) at ∙ ap (λ b. b || s.astray) (and_false (steps_in t u)) in
+    ap (λ (z : Tally). z.astray) (unit_read t k u us s)
+    ∙ (elim (steps_in t u) as (λ b. (steps_in t u ≡ b) → (with_units t (k + 1) us x).astray ≡ (((b && list_any (steps_in t) us) || in_two (steps_in t) us) || s.astray)) [
+      | true ↦ λ e.
+          astray_some t (k + 1) us x k (ap (λ b. home_by b k s.home) e ∙ ap (home_at k) at) (last k)
+          ∙ ap (λ b. list_any (steps_in t) us || b) its
+          ∙ ap (λ b. b || s.astray) (sym (two_any (steps_in t) us))
+      | false ↦ λ e.
+          astray_none t (k + 1) us x (ap (λ b. home_by b k s.home) e ∙ at)
+          ∙ ap (λ b. in_two (steps_in t) us || b) its
+    ]) refl
 
-no_receipt_fails : (t : Ticket) (units : List PlainUnit) → not (list_any (fails answer.Receipt t) units) ≡ where_entered units t (λ h. has_left t h)
-no_receipt_fails t [] = refl
-no_receipt_fails t (u ∷ us) =
-    not_or (fails answer.Receipt t u) (list_any (fails answer.Receipt t) us)
-    ∙ ap (λ b. b && not (list_any (fails answer.Receipt t) us)) (by_leave_alone (has_entered t u.steps) (has_left t u.steps))
-    ∙ ap (λ b. (not (has_entered t u.steps) || has_left t u.steps) && b) (no_receipt_fails t us)
+-- no task of the ticket is alive exactly where it left where it entered
+none_lives : (t : Ticket) (units : List PlainUnit) → AllStand units → not (list_any (lives_in t) units) ≡ all_left units t
+none_lives t [] stand = refl
+none_lives t (u ∷ us) stand =
+    not_or (lives_in t u) (list_any (lives_in t) us)
+    ∙ ap (λ b. b && not (list_any (lives_in t) us)) (gone_is u.opening t u.steps (stand 0 u refl).lawful)
+    ∙ ap (λ b. (not (has_entered t u.steps) || has_left t u.steps) && b) (none_lives t us (λ k v e. stand (suc k) v e))
 
-founded : (units : List PlainUnit) (c : Cause) (t : Ticket) → is_fine (answer.Note c) (any_entered units t) (any_full units t) ≡ is_founded units c t
+left_in : (t : Ticket) (units : List PlainUnit) → all_left units t ≡ true → (k : ℕ) (u : PlainUnit) → slice_get units k ≡ Some u
+    → (not (has_entered t u.steps) || has_left t u.steps) ≡ true
+left_in t units all k u at = all_at (λ (v : PlainUnit). not (has_entered t v.steps) || has_left t v.steps) units k u all at
+
+founded : (units : List PlainUnit) (c : Cause) (t : Ticket) → is_ground c (any_entered units t) (any_full units t) (any_folded units) ≡ is_founded units c t
 founded units cause.Aborted t = refl
 founded units cause.Full t = refl
 founded units cause.Busy t = refl
@@ -144,59 +133,108 @@ founded units cause.Direct t = refl
 founded units cause.Stale t = refl
 founded units cause.Unknown t = refl
 
-turn : (l w f : Bool) → ((l && w) && f) ≡ (l && (f && w))
-turn true true true = refl
-turn true true false = refl
-turn true false true = refl
-turn true false false = refl
-turn false w f = refl
+-- Where one unit alone has steps of the task:
+module _ (t : Ticket) (units : List PlainUnit) (stand : AllStand units) where
+  run_is : is_astray units t ≡ false → where_entered units t (λ h. has_run t h) ≡ (not (any_entered units t) || any_run units t)
+  run_is one =
+      where_one (λ (u : PlainUnit). has_entered t (kept_steps u.steps)) (λ (u : PlainUnit). has_run t (kept_steps u.steps)) (rests_in t) (steps_in t)
+      (λ (u : PlainUnit). has_run t u.steps) (λ r b. r)
+      (λ u e. entered_step t (kept_steps u.steps) e) (λ u e. run_step t (kept_steps u.steps) e) (λ u e. busy_step t (kept_steps u.steps) e)
+      units
+      (λ k u at e. run_kept u.opening t (length u.steps - base_of u.steps) u.steps (stand k u at).lawful e)
+      one
+
+  ends_there : (c : Cause) → all_left units t ≡ true → (k : ℕ) (u : PlainUnit) → slice_get units k ≡ Some u → has_entered t (kept_steps u.steps) ≡ true
+      → is_of c t u.steps ≡ is_end c (has_run t (kept_steps u.steps)) (rests_in t u)
+  ends_there cause.Busy left k u at e = busy_kept u.opening t (length u.steps - base_of u.steps) u.steps (stand k u at).lawful e
+  ends_there cause.Aborted left k u at e =
+      marked_kept u.opening t (length u.steps - base_of u.steps) u.steps (stand k u at).lawful e
+      (unless_true (has_entered t u.steps) (has_left t u.steps) (left_in t units left k u at) (entered_latest t (length u.steps - base_of u.steps) u.steps e))
+  ends_there cause.Full left k u at e = refl
+  ends_there cause.Direct left k u at e = refl
+  ends_there cause.Stale left k u at e = refl
+  ends_there cause.Unknown left k u at e = refl
+
+  end_is : (c : Cause) → all_left units t ≡ true → is_astray units t ≡ false
+      → where_entered units t (λ h. is_of c t h) ≡ (not (any_entered units t) || is_end c (any_run units t) (list_any (rests_in t) units))
+  end_is c left one =
+      where_one (λ (u : PlainUnit). has_entered t (kept_steps u.steps)) (λ (u : PlainUnit). has_run t (kept_steps u.steps)) (rests_in t) (steps_in t)
+      (λ (u : PlainUnit). is_of c t u.steps) (is_end c)
+      (λ u e. entered_step t (kept_steps u.steps) e) (λ u e. run_step t (kept_steps u.steps) e) (λ u e. busy_step t (kept_steps u.steps) e)
+      units (ends_there c left) one
+
+  right_is : (c : Cause) → all_left units t ≡ true → is_astray units t ≡ false
+      → is_fine (answer.Note c) (any_entered units t) (any_full units t) (any_run units t) (list_any (rests_in t) units) (any_folded units) ≡ is_right units t c
+  right_is c left one =
+      ap (λ b. b && (not (any_run units t) && (not (any_entered units t) || is_end c (any_run units t) (list_any (rests_in t) units)))) (founded units c t)
+      ∙ ap (λ b. is_founded units c t && (not (any_run units t) && b)) (sym (end_is c left one))
+
+  abbrev fine : Answer → Bool
+  fine a = is_fine a (any_entered units t) (any_full units t) (any_run units t) (list_any (rests_in t) units) (any_folded units)
+
+both_hold : (l a x y : Bool) → (l ≡ true → a ≡ false → x ≡ y) → (l && (not a && x)) ≡ (l && (not a && y))
+both_hold true true x y f = refl
+both_hold true false x y f = f refl refl
+both_hold false a x y f = refl
+
+never : (l a : Bool) → (l && (not a && false)) ≡ false
+never true true = refl
+never true false = refl
+never false a = refl
 
 many : (n : ℕ) → 2 ≤ n → eqb n 1 ≡ false
 many n le = grind (arith, nat_tests)
 
 -- by its answer
-by_answer : (t : Ticket) (units : List PlainUnit) (a : Answer) (n : ℕ) (right : Bool) → AllStand units → Amounts (λ c. is_right units t c) a n right
-    → (not (list_any (fails a t) units) && is_fine a (any_entered units t) (any_full units t)) ≡ (eqb n 1 && (where_entered units t (λ h. has_left t h) && right))
-by_answer t units answer.Missing n right stand is =
-    and_false (not (list_any (fails answer.Missing t) units)) ∙ sym (ap (λ k. eqb k 1 && (where_entered units t (λ h. has_left t h) && right)) is.0)
-by_answer t units answer.Receipt n right stand is =
-    and_true (not (list_any (fails answer.Receipt t) units)) ∙ no_receipt_fails t units
-    ∙ sym (ap (λ k. eqb k 1 && (where_entered units t (λ h. has_left t h) && right)) is.0 ∙ ap (λ r. where_entered units t (λ h. has_left t h) && r) is.1 ∙ and_true (where_entered units t (λ h. has_left t h)))
-by_answer t units (answer.Note c) n right stand is =
-    ap (λ b. b && is_fine (answer.Note c) (any_entered units t) (any_full units t)) (no_note_fails t c units stand)
-    ∙ ap (λ b. (where_entered units t (λ h. has_left t h) && where_entered units t (λ h. is_of c t h)) && b) (founded units c t)
-    ∙ turn (where_entered units t (λ h. has_left t h)) (where_entered units t (λ h. is_of c t h)) (is_founded units c t)
-    ∙ sym (ap (λ k. eqb k 1 && (where_entered units t (λ h. has_left t h) && right)) is.0 ∙ ap (λ r. where_entered units t (λ h. has_left t h) && r) is.1)
-by_answer t units answer.Several n right stand is =
-    and_false (not (list_any (fails answer.Several t) units)) ∙ sym (ap (λ b. b && (where_entered units t (λ h. has_left t h) && right)) (many n is))
+by_answer : (t : Ticket) (units : List PlainUnit) (stand : AllStand units) (a : Answer) (n : ℕ) (right : Bool)
+    → Amounts (where_entered units t (λ h. has_run t h)) (λ c. is_right units t c) a n right
+    → (all_left units t && (not (is_astray units t) && fine t units stand a)) ≡ (eqb n 1 && (all_left units t && (not (is_astray units t) && right)))
+by_answer t units stand answer.Missing n right is =
+    never (all_left units t) (is_astray units t) ∙ sym (ap (λ k. eqb k 1 && (all_left units t && (not (is_astray units t) && right))) is.0)
+by_answer t units stand answer.Receipt n right is =
+    both_hold (all_left units t) (is_astray units t) (fine t units stand answer.Receipt) (where_entered units t (λ h. has_run t h)) (λ l one. sym (run_is t units stand one))
+    ∙ sym (ap (λ k. eqb k 1 && (all_left units t && (not (is_astray units t) && right))) is.0 ∙ ap (λ r. all_left units t && (not (is_astray units t) && r)) is.1)
+by_answer t units stand (answer.Note c) n right is =
+    both_hold (all_left units t) (is_astray units t) (fine t units stand (answer.Note c)) (is_right units t c) (λ l one. right_is t units stand c l one)
+    ∙ sym (ap (λ k. eqb k 1 && (all_left units t && (not (is_astray units t) && right))) is.0 ∙ ap (λ r. all_left units t && (not (is_astray units t) && r)) is.1)
+by_answer t units stand answer.Several n right is =
+    never (all_left units t) (is_astray units t) ∙ sym (ap (λ b. b && (all_left units t && (not (is_astray units t) && right))) (many n is))
 
 -- what was answered, before any unit is read
 answered : (units : List PlainUnit) (receipts : List Receipt) (notes : List PlainNote) (t : Ticket)
-    → Answered (λ c. is_right units t c) fresh (fold (with_note t) (fold (with_receipt t) fresh receipts) notes) (answers receipts notes t) (are_right units notes t)
+    → Answered (where_entered units t (λ h. has_run t h)) (λ c. is_right units t c) fresh (fold (with_note t) (fold (with_receipt t) fresh receipts) notes)
+    (answers receipts notes t) (has_run_there units receipts t && are_right units notes t)
 answered units receipts notes t =
+    let q : Bool = where_entered units t (λ h. has_run t h) in
     let p : Cause → Bool = λ c. is_right units t c in
     let one : Tally = fold (with_receipt t) fresh receipts in
-    let r = receipts_read p t receipts fresh 0 true (refl, refl) in
+    let r = receipts_read q p t receipts fresh 0 true (refl, refl) in
     let m : ℕ = count_by (λ (c : Receipt). same_ticket c.ticket t) receipts in
-    let amount : Amounts p one.answer m true = subst (λ n. Amounts p one.answer n true) (zero-add m) r.1 in
-    let s = notes_read p t notes one m true amount in
+    let amount : Amounts q p one.answer m (has_run_there units receipts t) = subst (λ n. Amounts q p one.answer n (has_run_there units receipts t)) (zero-add m) r.1 in
+    let s = notes_read q p t notes one m (has_run_there units receipts t) amount in
     (s.0 ∙ ap (λ (z : Tally). record z { answer = (fold (with_note t) one notes).answer }) r.0, s.1)
 
 pub ends_settled : (units : List PlainUnit) (receipts : List Receipt) (notes : List PlainNote) (t : Ticket) → AllStand units
-    → ends_well (tally_of units receipts notes t) ≡ is_settled units receipts notes t
+    → ends_well (any_folded units) (tally_of units receipts notes t) ≡ is_settled units receipts notes t
 ends_settled units receipts notes t stand =
     let one : Tally = fold (with_note t) (fold (with_receipt t) fresh receipts) notes in
     let two : Tally = tally_of units receipts notes t in
+    let g : Bool = any_folded units in
     let a = answered units receipts notes t in
-    let r = read_all t units one stand in
-    let no_off : off one ≡ false = ap off a.0 in
-    let not_entered : one.entered ≡ false = ap (λ (z : Tally). z.entered) a.0 in
-    let not_full : one.full ≡ false = ap (λ (z : Tally). z.full) a.0 in
-    let off_two : off two ≡ list_any (fails one.answer t) units = r.off_is ∙ ap (λ b. b || list_any (fails one.answer t) units) no_off in
-    let entered_two : two.entered ≡ any_entered units t = r.entered_is ∙ ap (λ b. b || any_entered units t) not_entered in
-    let full_two : two.full ≡ any_full units t = r.full_is ∙ ap (λ b. b || any_full units t) not_full in
-    ap (λ b. not b && is_fine two.answer two.entered two.full) off_two
-    ∙ ap (λ x. not (list_any (fails one.answer t) units) && is_fine x two.entered two.full) r.answer_is
-    ∙ ap (λ x. not (list_any (fails one.answer t) units) && is_fine one.answer x two.full) entered_two
-    ∙ ap (λ x. not (list_any (fails one.answer t) units) && is_fine one.answer (any_entered units t) x) full_two
-    ∙ by_answer t units one.answer (answers receipts notes t) (are_right units notes t) stand a.1
+    let r = read_all t 0 units one in
+    let alive_two : two.alive ≡ list_any (lives_in t) units = r.alive_is ∙ ap (λ (z : Tally). list_any (lives_in t) units || z.alive) a.0 ∙ or_false (list_any (lives_in t) units) in
+    let astray_two : two.astray ≡ is_astray units t =
+    astray_none t 0 units one (ap (λ (z : Tally). z.home) a.0) ∙ ap (λ (z : Tally). is_astray units t || z.astray) a.0 ∙ or_false (is_astray units t) in
+    let entered_two : two.entered ≡ any_entered units t = r.entered_is ∙ ap (λ (z : Tally). any_entered units t || z.entered) a.0 ∙ or_false (any_entered units t) in
+    let full_two : two.full ≡ any_full units t = r.full_is ∙ ap (λ (z : Tally). any_full units t || z.full) a.0 ∙ or_false (any_full units t) in
+    let ran_two : two.ran ≡ any_run units t = r.ran_is ∙ ap (λ (z : Tally). any_run units t || z.ran) a.0 ∙ or_false (any_run units t) in
+    let busy_two : two.busy ≡ list_any (rests_in t) units = r.busy_is ∙ ap (λ (z : Tally). list_any (rests_in t) units || z.busy) a.0 ∙ or_false (list_any (rests_in t) units) in
+    ap (λ x. not x && (not two.astray && is_fine two.answer two.entered two.full two.ran two.busy g)) alive_two
+    ∙ ap (λ x. x && (not two.astray && is_fine two.answer two.entered two.full two.ran two.busy g)) (none_lives t units stand)
+    ∙ ap (λ x. all_left units t && (not x && is_fine two.answer two.entered two.full two.ran two.busy g)) astray_two
+    ∙ ap (λ x. all_left units t && (not (is_astray units t) && is_fine x two.entered two.full two.ran two.busy g)) r.answer_is
+    ∙ ap (λ x. all_left units t && (not (is_astray units t) && is_fine one.answer x two.full two.ran two.busy g)) entered_two
+    ∙ ap (λ x. all_left units t && (not (is_astray units t) && is_fine one.answer (any_entered units t) x two.ran two.busy g)) full_two
+    ∙ ap (λ x. all_left units t && (not (is_astray units t) && is_fine one.answer (any_entered units t) (any_full units t) x two.busy g)) ran_two
+    ∙ ap (λ x. all_left units t && (not (is_astray units t) && is_fine one.answer (any_entered units t) (any_full units t) (any_run units t) x g)) busy_two
+    ∙ by_answer t units stand one.answer (answers receipts notes t) (has_run_there units receipts t && are_right units notes t) a.1

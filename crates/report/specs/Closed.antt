@@ -1,9 +1,9 @@
 -- What is known of a report that a closed host gives, and why none is given.
-use Rattle.std.specs.Prelude.{ℕ, ◌≡◌, Bool, true, false, not, ◌&&◌, ◌||◌, List, Option, Some, None, slice_get, Result, Ok, Err, ⊤}
-use Rattle.std.specs.List.{list_any}
+use Rattle.std.specs.Prelude.{ℕ, ◌≡◌, Bool, true, false, not, nat_le, ◌&&◌, ◌||◌, List, Option, Some, None, slice_get, Result, Ok, Err, ⊤}
 use Rattle.ring_core.specs.declared.log.Ticket.{Ticket}
 use Rattle.ring_core.specs.Sound.{IsSound}
 use Rattle.history.specs.Steps.{has_entered, has_left}
+use Rattle.history.specs.Base.{base_of, kept_steps}
 use Rattle.history.specs.Receipts.{Receipt, IsConfirmed}
 use Rattle.task_set.specs.Unit.{PlainUnit, IsUnit}
 use Rattle.queues.specs.Queue.{Lent}
@@ -12,18 +12,25 @@ use Rattle.notes.specs.declared.note.Cause.TheVariants as cause
 use Rattle.report.specs.declared.report.Report.{Report}
 use Rattle.report.specs.declared.fault.CloseFault.{CloseFault}
 use Rattle.report.specs.declared.fault.CloseFault.TheVariants as fault
-use Rattle.report.specs.Words.{has_full, is_before}
-use Rattle.report.specs.Settled.{is_asked, is_used, is_request, is_settled, has_answer, answers, is_of}
+use Rattle.report.specs.Words.{has_run, is_before}
+use Rattle.report.specs.Settled.{is_asked, is_used, is_request, is_settled, is_astray, has_answer, answers, is_of, any_entered, any_run, any_full, any_folded}
 
 -- a ticket is the first, by queue and number, that passes a test; or none passes it
 abbrev pub IsFirst : (Ticket → Bool) → Option Ticket → Type 0
 IsFirst test None = (t : Ticket) → test t ≡ false
 IsFirst test (Some t) = (test t ≡ true) × ((u : Ticket) → is_before u t ≡ true → test u ≡ false)
 
--- the Commit of a receipt stands at its place in the history of its unit, which is one of these
+-- own: a unit can say of a place whether a Commit stands there: it keeps receipts' replies, or the place isn't folded
+abbrev pub has_commits : PlainUnit → ℕ → Bool
+has_commits u place = u.keeps_replies || nat_le (base_of u.steps) place
+
+-- a unit can say so of a receipt's place, and the Commit of the receipt stands there in its history
+abbrev pub ConfirmsOne : PlainUnit → Receipt → Type 0
+ConfirmsOne u c = (has_commits u c.place ≡ true) × IsConfirmed u.opening u.keeps_replies u.steps c
+
+-- one of these units confirms the receipt
 abbrev pub IsConfirmedBy : List PlainUnit → Receipt → Type 0
-IsConfirmedBy units c =
-    (k : ℕ) × (u : PlainUnit) × (slice_get units k ≡ Some u) × IsConfirmed u.opening u.keeps_replies u.steps c
+IsConfirmedBy units c = (k : ℕ) × (u : PlainUnit) × (slice_get units k ≡ Some u) × ConfirmsOne u c
 
 abbrev pub AreConfirmed : List PlainUnit → List Receipt → Type 0
 AreConfirmed units receipts = (k : ℕ) (c : Receipt) → slice_get receipts k ≡ Some c → IsConfirmedBy units c
@@ -61,14 +68,21 @@ pub record IsReport (units : List PlainUnit) (queues : List Lent) (receipts : Li
   -- each request that entered has left there
   pub left : (t : Ticket) (k : ℕ) (u : PlainUnit) → is_request queues t ≡ true → slice_get units k ≡ Some u
       → has_entered t u.steps ≡ true → has_left t u.steps ≡ true
-  -- and a note of it is of its Busy or its mark there
+  -- no two units keep steps of one request
+  pub in_one : (t : Ticket) → is_request queues t ≡ true → is_astray units t ≡ false
+  -- a unit that keeps the Enter of what has a receipt has its Commit, too
+  pub ran : (j k : ℕ) (c : Receipt) (u : PlainUnit) → slice_get receipts j ≡ Some c → slice_get units k ≡ Some u
+      → has_entered c.ticket (kept_steps u.steps) ≡ true → has_run c.ticket u.steps ≡ true
+  -- where a unit keeps its Enter, a note is of its Busy or its mark there; and no note is of what has a Commit that is
+  -- kept
   pub of_its_end : (j k : ℕ) (n : PlainNote) (u : PlainUnit) → slice_get notes j ≡ Some n → slice_get units k ≡ Some u
-      → has_entered n.ticket u.steps ≡ true → is_of n.cause n.ticket u.steps ≡ true
-  -- what has no Enter has no note Aborted, and a note Full only with a Full
+      → has_entered n.ticket (kept_steps u.steps) ≡ true → is_of n.cause n.ticket u.steps ≡ true
+  pub of_no_commit : (j : ℕ) (n : PlainNote) → slice_get notes j ≡ Some n → any_run units n.ticket ≡ false
+  -- where nothing is folded, what has no Enter has no note Aborted, and a note Full only with a Full
   pub aborted_entered : (j : ℕ) (n : PlainNote) → slice_get notes j ≡ Some n → n.cause ≡ cause.Aborted
-      → list_any (λ (u : PlainUnit). has_entered n.ticket u.steps) units ≡ true
+      → (any_entered units n.ticket || any_folded units) ≡ true
   pub full_stands : (j : ℕ) (n : PlainNote) → slice_get notes j ≡ Some n → n.cause ≡ cause.Full
-      → list_any (λ (u : PlainUnit). has_full n.ticket u.steps) units ≡ true
+      → (any_full units n.ticket || any_folded units) ≡ true
 
 -- own: why a report is refused, and which ticket is named: the first
 abbrev pub Refuses : Report → CloseFault → Type 0

@@ -4,6 +4,7 @@ use Rattle.std.specs.List.{list_any, list_all}
 use Rattle.ring_core.specs.declared.log.Ticket.{Ticket}
 use Rattle.history.specs.Tasks.{same_ticket}
 use Rattle.history.specs.Steps.{Step, has_entered, has_left}
+use Rattle.history.specs.Base.{base_of, kept_steps}
 use Rattle.history.specs.Marks.{marked}
 use Rattle.history.specs.Receipts.{Receipt}
 use Rattle.task_set.specs.Unit.{PlainUnit}
@@ -11,7 +12,7 @@ use Rattle.queues.specs.Queue.{Lent}
 use Rattle.notes.specs.Notes.{PlainNote}
 use Rattle.notes.specs.declared.note.Cause.{Cause}
 use Rattle.notes.specs.declared.note.Cause.TheVariants as cause
-use Rattle.report.specs.Words.{has_busy, has_full}
+use Rattle.report.specs.Words.{has_busy, has_full, has_run, has_step, in_two}
 
 -- how many chains a queue accepted, if there is one
 abbrev pub count_accepted : Option Lent → ℕ
@@ -44,16 +45,32 @@ answers receipts notes t =
     count_by (λ (c : Receipt). same_ticket c.ticket t) receipts
     + count_by (λ (n : PlainNote). same_ticket n.ticket t) notes
 
--- own: the task has an Enter in some history; the request has a Full in some history
+-- own: some unit's oldest steps are folded
+abbrev pub any_folded : List PlainUnit → Bool
+any_folded units = list_any (λ (u : PlainUnit). nat_lt 0 (base_of u.steps)) units
+
+-- own: among the steps that some unit keeps one by one are the task's Enter, its Commit, the request's Full
 abbrev pub any_entered : List PlainUnit → Ticket → Bool
-any_entered units t = list_any (λ (u : PlainUnit). has_entered t u.steps) units
+any_entered units t = list_any (λ (u : PlainUnit). has_entered t (kept_steps u.steps)) units
+
+abbrev pub any_run : List PlainUnit → Ticket → Bool
+any_run units t = list_any (λ (u : PlainUnit). has_run t (kept_steps u.steps)) units
 
 abbrev pub any_full : List PlainUnit → Ticket → Bool
-any_full units t = list_any (λ (u : PlainUnit). has_full t u.steps) units
+any_full units t = list_any (λ (u : PlainUnit). has_full t (kept_steps u.steps)) units
 
--- own: each history that has the Enter of a ticket passes a test
+-- own: two units keep steps of the task
+abbrev pub is_astray : List PlainUnit → Ticket → Bool
+is_astray units t = in_two (λ (u : PlainUnit). has_step t (kept_steps u.steps)) units
+
+-- own: the task left each unit that it entered
+abbrev pub all_left : List PlainUnit → Ticket → Bool
+all_left units t = list_all (λ (u : PlainUnit). not (has_entered t u.steps) || has_left t u.steps) units
+
+-- own: the history of each unit that keeps the Enter of a ticket passes a test
 abbrev pub where_entered : List PlainUnit → Ticket → (List Step → Bool) → Bool
-where_entered units t test = list_all (λ (u : PlainUnit). not (has_entered t u.steps) || test u.steps) units
+where_entered units t test =
+    list_all (λ (u : PlainUnit). not (has_entered t (kept_steps u.steps)) || test u.steps) units
 
 -- own: a cause is of what became of a task in a history: BUSY of its Busy, an abort of its mark, and no other
 abbrev pub is_of : Cause → Ticket → List Step → Bool
@@ -64,27 +81,37 @@ is_of cause.Direct t h = false
 is_of cause.Stale t h = false
 is_of cause.Unknown t h = false
 
--- own: what a note of a cause has to have: an abort the Enter of its task, TASK SET FULL its Full; two causes never
--- occur
+-- own: what a note of a cause has to have: an abort the Enter of its task, TASK SET FULL its Full, unless that may be
+-- folded; two causes never occur
 abbrev pub is_founded : List PlainUnit → Cause → Ticket → Bool
-is_founded units cause.Aborted t = any_entered units t
-is_founded units cause.Full t = any_full units t
+is_founded units cause.Aborted t = any_entered units t || any_folded units
+is_founded units cause.Full t = any_full units t || any_folded units
 is_founded units cause.Busy t = true
 is_founded units cause.Direct t = true
 is_founded units cause.Stale t = false
 is_founded units cause.Unknown t = false
 
--- own: a note of that cause is right for a ticket: it is founded, and is of what became of its task where that entered
+-- own: a note of that cause is right for a ticket: it is founded, no Commit of the ticket is kept, and it is of what
+-- became of its task where that entered
 abbrev pub is_right : List PlainUnit → Ticket → Cause → Bool
-is_right units t why = is_founded units why t && where_entered units t (λ h. is_of why t h)
+is_right units t why =
+    is_founded units why t && (not (any_run units t) && where_entered units t (λ h. is_of why t h))
 
 abbrev pub are_right : List PlainUnit → List PlainNote → Ticket → Bool
 are_right units notes t = list_all (λ (n : PlainNote). not (same_ticket n.ticket t) || is_right units t n.cause) notes
 
--- own: a request is settled: it has one receipt or note, it left where it entered, and its note is right
+-- own: where a task with a receipt entered, it ran
+abbrev pub has_run_there : List PlainUnit → List Receipt → Ticket → Bool
+has_run_there units receipts t =
+    list_all (λ (c : Receipt). not (same_ticket c.ticket t) || where_entered units t (λ h. has_run t h)) receipts
+
+-- own: a request is settled: it has one receipt or note, it left where it entered, no two units have steps of it, and
+-- its receipt or its note is right
 abbrev pub is_settled : List PlainUnit → List Receipt → List PlainNote → Ticket → Bool
 is_settled units receipts notes t =
-    (answers receipts notes t == 1) && (where_entered units t (λ h. has_left t h) && are_right units notes t)
+    (answers receipts notes t == 1)
+    && (all_left units t
+    && (not (is_astray units t) && (has_run_there units receipts t && are_right units notes t)))
 
 -- own: a receipt or a note has this ticket
 abbrev pub has_answer : List Receipt → List PlainNote → Ticket → Bool

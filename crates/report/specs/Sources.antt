@@ -15,21 +15,22 @@ unused_in place q t =
     && (nat_lt t.number (length q.ring.log.accepted)
     && not (list_any (λ (u : Ticket). same_ticket u t) q.ring.log.used))
 
--- a request of the queue at a place, of which these are the tallies, that is not settled
-abbrev pub unsettled_in : ℕ → ℕ → List (Vec Tally Global) → Ticket → Bool
-unsettled_in place count tables t = (t.queue == place) && (nat_lt t.number count && ends_amiss (tally_at tables t))
+-- a request of the queue at a place, of which these are the tallies, that is not settled; and whether steps are folded
+abbrev pub unsettled_in : ℕ → ℕ → Bool → List (Vec Tally Global) → Ticket → Bool
+unsettled_in place count folded tables t =
+    (t.queue == place) && (nat_lt t.number count && ends_amiss folded (tally_at tables t))
 
-abbrev pub amiss_in : ℕ → Lent → List (Vec Tally Global) → Ticket → Bool
-amiss_in place q tables t =
-    (not (place == 1) && unused_in place q t) || unsettled_in place (length q.ring.log.accepted) tables t
+abbrev pub amiss_in : ℕ → Lent → Bool → List (Vec Tally Global) → Ticket → Bool
+amiss_in place q folded tables t =
+    (not (place == 1) && unused_in place q t) || unsettled_in place (length q.ring.log.accepted) folded tables t
 
 -- the same of the queue that a ticket names, if there is one
-abbrev pub amiss_at : Option Lent → List (Vec Tally Global) → Ticket → Bool
-amiss_at None tables t = false
-amiss_at (Some q) tables t = amiss_in t.queue q tables t
+abbrev pub amiss_at : Option Lent → Bool → List (Vec Tally Global) → Ticket → Bool
+amiss_at None folded tables t = false
+amiss_at (Some q) folded tables t = amiss_in t.queue q folded tables t
 
-abbrev pub amiss_of : List Lent → List (Vec Tally Global) → Ticket → Bool
-amiss_of queues tables t = amiss_at (slice_get queues t.queue) tables t
+abbrev pub amiss_of : List Lent → Bool → List (Vec Tally Global) → Ticket → Bool
+amiss_of queues folded tables t = amiss_at (slice_get queues t.queue) folded tables t
 
 -- what has an answer and is no request of these
 abbrev pub stray : {A : Type 0} → (A → Ticket) → List (Vec Tally Global) → List A → Ticket → Bool

@@ -4,20 +4,37 @@ ghost use Rattle.std.specs.Prelude.{◌≡◌, ◌↔◌, IsTrue, Some, slice_ge
 ghost use Rattle.task_set.specs.Unit.{IsUnit};
 ghost use Rattle.ring_core.specs.Sound.{IsSound};
 ghost use Rattle.report.specs.Words.{is_before as comes_before};
-ghost use Rattle.report.specs.Closed.{IsConfirmedBy};
+ghost use Rattle.report.specs.Closed.{IsConfirmedBy, ConfirmsOne, has_commits};
 ghost use Rattle.report.specs.Unconfirmed.{Confirms, with_unconfirmed, AllStand, AllSound};
 
 use crate::least::lesser;
 use queues::Queue;
 use ring_core::Ticket;
-use unit_history::{Receipt, UnitState};
+use unit_history::{Place, Receipt, UnitState};
+
+/// Returns whether a unit can say of a place whether a Commit stands there.
+fn has_commits(unit: &UnitState, place: Place) -> bool
+    ensures { result ≡ has_commits unit.now place }
+{
+    unit.keeps_replies() || unit.base() <= place
+}
+
+/// Returns whether a unit can say so, and the Commit of a receipt stands at its place in its history.
+fn is_confirmed_by(unit: &UnitState, receipt: &Receipt) -> bool
+    ensures { IsTrue result ↔ ConfirmsOne unit.now receipt.now }
+{
+    if !has_commits(unit, receipt.place()) {
+        return false;
+    }
+    unit.confirm(receipt)
+}
 
 /// Whether the Commit of a receipt stands at its place in the history of its unit.
 fn is_confirmed(units: &[UnitState], receipt: &Receipt) -> bool
     ensures { IsTrue result ↔ IsConfirmedBy units.now receipt.now }
 {
     for unit in units {
-        if unit.confirm(receipt) {
+        if is_confirmed_by(unit, receipt) {
             return true;
         }
     }

@@ -9,7 +9,7 @@ ghost use Rattle.report.specs.Unconfirmed.{AllStand};
 use crate::confirming::{are_sound, first_unconfirmed, stand};
 use crate::fault::CloseFault;
 use crate::least::{first_of, lesser};
-use crate::reading::{read_notes, read_receipts, read_units};
+use crate::reading::{are_any_folded, read_notes, read_receipts, read_units};
 use crate::report::Report;
 use crate::tables::Tables;
 use block_store::NoMemory;
@@ -28,7 +28,7 @@ fn first_outstanding(alloc: Global, report: &Report) -> Result<Option<Ticket>, N
     let of_receipts = read_receipts(&mut tables, report.receipts.as_slice());
     let of_notes = read_notes(&mut tables, report.notes.as_slice());
     read_units(&mut tables, units);
-    let of_queues = first_of(queues, &tables);
+    let of_queues = first_of(queues, are_any_folded(units), &tables);
     Ok(lesser(of_queues, lesser(of_receipts, of_notes)))
 }
 

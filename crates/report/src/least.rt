@@ -70,16 +70,16 @@ fn first_accepted(place: u16, count: u64) -> Option<Ticket>
     }
 }
 
-/// The first of so many requests of a queue that isn't settled.
-fn first_unsettled(place: u16, count: u64, tables: &Tables) -> Option<Ticket>
-    ensures { IsFirst (unsettled_in place count tables.now.tables.items) result }
+/// The first of so many requests of a queue that isn't settled. Some unit's steps may be folded.
+fn first_unsettled(place: u16, count: u64, folded: bool, tables: &Tables) -> Option<Ticket>
+    ensures { IsFirst (unsettled_in place count folded tables.now.tables.items) result }
 {
     for number in 0..count {
         let ticket = Ticket {
             queue: place,
             number,
         };
-        if tables.ends_amiss(ticket) {
+        if tables.ends_amiss(ticket, folded) {
             return Some(ticket);
         }
     }
@@ -87,8 +87,8 @@ fn first_unsettled(place: u16, count: u64, tables: &Tables) -> Option<Ticket>
 }
 
 /// The first ticket of a queue that is outstanding. The event queue's chains aren't asked for (VIRTIO 1.2, 5.6.2).
-fn first_in(place: u16, queue: &Queue, tables: &Tables) -> Option<Ticket>
-    ensures { IsFirst (amiss_in place queue.now tables.now.tables.items) result }
+fn first_in(place: u16, queue: &Queue, folded: bool, tables: &Tables) -> Option<Ticket>
+    ensures { IsFirst (amiss_in place queue.now folded tables.now.tables.items) result }
 {
     let unused = if place == 1 {
         None
@@ -97,18 +97,18 @@ fn first_in(place: u16, queue: &Queue, tables: &Tables) -> Option<Ticket>
     };
     lesser(
         unused,
-        first_unsettled(place, queue.log().accepted(), tables),
+        first_unsettled(place, queue.log().accepted(), folded, tables),
     )
 }
 
 /// The first ticket of these queues that is outstanding.
-pub(crate) fn first_of(queues: &[Queue], tables: &Tables) -> Option<Ticket>
+pub(crate) fn first_of(queues: &[Queue], folded: bool, tables: &Tables) -> Option<Ticket>
     requires { length queues.now ≤ 65536 }
-    ensures { IsFirst (amiss_of queues.now tables.now.tables.items) result }
+    ensures { IsFirst (amiss_of queues.now folded tables.now.tables.items) result }
 {
     let mut first = None;
     for (place, queue) in queues.iter().enumerate() {
-        first = lesser(first, first_in(place as u16, queue, tables));
+        first = lesser(first, first_in(place as u16, queue, folded, tables));
     }
     first
 }

@@ -1,17 +1,19 @@
 //! The tallies of all requests, by one pass over what answered them and one over each history.
 
-ghost use Rattle.std.specs.Prelude.{◌≡◌, ◌||◌, Option, IfOk};
+ghost use Rattle.std.specs.Prelude.{◌≡◌, nat_lt, Option};
 ghost use Rattle.std.specs.Option.{option_map};
 ghost use Rattle.std.specs.List.{fold};
 ghost use Rattle.ring_core.specs.declared.log.Ticket.{Ticket as ATicket};
 ghost use Rattle.report.specs.Closed.{IsFirst};
-ghost use Rattle.report.specs.Settled.{is_request};
-ghost use Rattle.report.specs.Tallies.{read, with_receipt, with_note, with_unit, tally_at, tally_of, AreTallies};
+ghost use Rattle.history.specs.Base.{base_of, kept_steps};
+ghost use Rattle.history.specs.Steps.{alive};
+ghost use Rattle.report.specs.Settled.{any_folded};
+ghost use Rattle.report.specs.Tallies.{read, read_alive, with_receipt, with_note, with_units, tally_at};
 ghost use Rattle.report.specs.Sources.{stray, stray_one};
 
 use crate::least::lesser;
 use crate::tables::Tables;
-use crate::tally::{Answer, Fact, fact_of_one};
+use crate::tally::{Answer, Fact, fact_of_alive, fact_of_one};
 use ring_core::Ticket;
 use unit_history::{Note, Receipt, UnitState};
 
@@ -52,22 +54,47 @@ pub(crate) fn read_notes(tables: &mut Tables, notes: &[Note]) -> Option<Ticket>
     first
 }
 
-/// Marks what the steps of a unit tell, from the oldest on.
-fn read_unit(tables: &mut Tables, unit: &UnitState)
+/// Marks what the steps tell that a unit keeps, from the oldest on. It stands at an index among the units.
+fn read_unit(tables: &mut Tables, index: usize, unit: &UnitState)
     ensures { (t : ATicket) → tally_at tables.new.tables.items t
-        ≡ option_map (read t unit.now.steps) (tally_at tables.old.tables.items t) }
+        ≡ option_map (read t index (kept_steps unit.now.steps)) (tally_at tables.old.tables.items t) }
 {
-    for place in 0..unit.steps() {
-        tables.tell(fact_of_one(unit.step(place)));
+    for place in unit.base()..unit.steps() {
+        tables.tell(fact_of_one(index, unit.step(place)));
     }
 }
 
-/// Marks what the steps of all units tell.
+/// Marks the tasks that are alive in a unit.
+fn read_alive(tables: &mut Tables, unit: &UnitState)
+    ensures { (t : ATicket) → tally_at tables.new.tables.items t
+        ≡ option_map (read_alive t (alive unit.now.steps)) (tally_at tables.old.tables.items t) }
+{
+    for number in 0..unit.alive_count() {
+        tables.tell(fact_of_alive(unit.alive_ticket(number)));
+    }
+}
+
+/// Marks what all units tell.
 pub(crate) fn read_units(tables: &mut Tables, units: &[UnitState])
     ensures { (t : ATicket) → tally_at tables.new.tables.items t
-        ≡ option_map (λ s. fold (with_unit t) s units.now) (tally_at tables.old.tables.items t) }
+        ≡ option_map (with_units t 0 units.now) (tally_at tables.old.tables.items t) }
 {
-    for unit in units {
-        read_unit(tables, unit);
+    for (index, unit) in units.iter().enumerate() {
+        read_unit(tables, index, unit);
+        read_alive(tables, unit);
     }
+}
+
+/// Returns whether steps of a unit are folded.
+fn are_folded(unit: &UnitState) -> bool
+    ensures { result ≡ nat_lt 0 (base_of unit.now.steps) }
+{
+    unit.base() > 0
+}
+
+/// Returns whether steps of some unit are folded.
+pub(crate) fn are_any_folded(units: &[UnitState]) -> bool
+    ensures { result ≡ any_folded units.now }
+{
+    units.iter().any(|unit| are_folded(unit))
 }

@@ -97,15 +97,15 @@ impl Tables {
         }
     }
 
-    /// Whether the request of a ticket isn't settled.
-    pub(crate) fn ends_amiss(&self, ticket: Ticket) -> bool
-        ensures { result ≡ ends_amiss (tally_at self.now.tables.items ticket) }
+    /// Whether the request of a ticket isn't settled. Some unit's steps may be folded.
+    pub(crate) fn ends_amiss(&self, ticket: Ticket, folded: bool) -> bool
+        ensures { result ≡ ends_amiss folded (tally_at self.now.tables.items ticket) }
     {
         match self.tables.get(ticket.queue as usize) {
             None => false,
             Some(table) => match table.get(ticket.number as usize) {
                 None => false,
-                Some(tally) => !tally.ends_well(),
+                Some(tally) => !tally.ends_well(folded),
             },
         }
     }

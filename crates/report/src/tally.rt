@@ -1,7 +1,7 @@
 //! What is kept of a request while a report is examined.
 
 ghost use Rattle.std.specs.Prelude.{◌≡◌, Option};
-ghost use Rattle.report.specs.Tallies.{joined, is_wrong, fresh, after, is_fine, ends_well, fact_of, fact_of_one};
+ghost use Rattle.report.specs.Tallies.{joined, fresh, home_at, elsewhere, visited, stepped, after, is_ground, is_end, is_fine, ends_well, told, fact_of, fact_of_one, fact_of_alive};
 
 use ring_core::Ticket;
 use unit_history::{Cause, StepKind};
@@ -30,30 +30,50 @@ impl Answer {
         }
     }
 
-    /// Whether it isn't of what became of its task, by whether that has a Busy and is done.
-    fn is_wrong(self, busy: bool, done: bool) -> bool
-        ensures { result ≡ is_wrong self busy done }
+    /// Returns whether it is one answer, and of what the kept steps tell of the task: that it entered, met TASK SET
+    /// FULL, ran, was answered BUSY. Steps that are folded may have been its Enter or its Full.
+    fn is_fine(self, entered: bool, full: bool, ran: bool, busy: bool, folded: bool) -> bool
+        ensures { result ≡ is_fine self entered full ran busy folded }
     {
         match self {
-            Answer::Note(Cause::Busy) => !busy,
-            Answer::Note(Cause::Aborted) => done,
-            Answer::Note(Cause::Full | Cause::Direct | Cause::Stale | Cause::Unknown) => true,
-            Answer::Missing | Answer::Receipt | Answer::Several => false,
-        }
-    }
-
-    /// Whether it is one answer, and founded, by whether the request has an Enter and a Full.
-    fn is_fine(self, entered: bool, full: bool) -> bool
-        ensures { result ≡ is_fine self entered full }
-    {
-        match self {
-            Answer::Receipt | Answer::Note(Cause::Busy | Cause::Direct) => true,
-            Answer::Note(Cause::Aborted) => entered,
-            Answer::Note(Cause::Full) => full,
-            Answer::Note(Cause::Stale | Cause::Unknown) => false,
+            Answer::Receipt => !entered || ran,
+            Answer::Note(why) => is_ground(why, entered, full, folded)
+                && (!ran && (!entered || is_end(why, ran, busy))),
             Answer::Missing | Answer::Several => false,
         }
     }
+}
+
+/// Returns whether a note of this cause has what it has to have.
+fn is_ground(why: Cause, entered: bool, full: bool, folded: bool) -> bool
+    ensures { result ≡ is_ground why entered full folded }
+{
+    match why {
+        Cause::Busy | Cause::Direct => true,
+        Cause::Aborted => entered || folded,
+        Cause::Full => full || folded,
+        Cause::Stale | Cause::Unknown => false,
+    }
+}
+
+/// Returns whether a note of this cause is of what became of a task that entered.
+fn is_end(why: Cause, ran: bool, busy: bool) -> bool
+    ensures { result ≡ is_end why ran busy }
+{
+    match why {
+        Cause::Busy => busy,
+        Cause::Aborted => !(ran || busy),
+        Cause::Full | Cause::Direct | Cause::Stale | Cause::Unknown => false,
+    }
+}
+
+/// A step of a task.
+#[derive(Clone, Copy)]
+pub enum TaskStep {
+    Enter,
+    Commit,
+    Busy,
+    Leave,
 }
 
 /// What is told of a request.
@@ -61,12 +81,12 @@ impl Answer {
 pub enum Fact {
     /// A receipt or a note.
     Answered(Answer),
-    /// A step of a history.
-    Enter,
+    /// It met TASK SET FULL.
     Full,
-    Commit,
-    Busy,
-    Leave,
+    /// The unit of this index keeps a step of its task.
+    Step(usize, TaskStep),
+    /// Its task is alive in some unit.
+    Alive,
 }
 
 /// What a step tells, and of which request.
@@ -76,62 +96,94 @@ pub struct TicketFact {
     pub fact: Fact,
 }
 
-/// What a step tells.
-fn fact_of(kind: StepKind) -> Option<TicketFact>
-    ensures { result ≡ fact_of kind }
+/// Returns what a step of a task in a unit tells.
+fn told(unit: usize, what: TaskStep, ticket: Ticket) -> Option<TicketFact>
+    ensures { result ≡ told unit what ticket }
+{
+    Some(TicketFact {
+        ticket,
+        fact: Fact::Step(unit, what),
+    })
+}
+
+/// Returns what a step of a unit tells.
+fn fact_of(unit: usize, kind: StepKind) -> Option<TicketFact>
+    ensures { result ≡ fact_of unit kind }
 {
     match kind {
-        StepKind::Enter(ticket) => Some(TicketFact {
-            ticket,
-            fact: Fact::Enter,
-        }),
+        StepKind::Enter(ticket) => told(unit, TaskStep::Enter, ticket),
         StepKind::Full(ticket) => Some(TicketFact {
             ticket,
             fact: Fact::Full,
         }),
-        StepKind::Commit(ticket) => Some(TicketFact {
-            ticket,
-            fact: Fact::Commit,
-        }),
-        StepKind::Busy(ticket) => Some(TicketFact {
-            ticket,
-            fact: Fact::Busy,
-        }),
+        StepKind::Commit(ticket) => told(unit, TaskStep::Commit, ticket),
+        StepKind::Busy(ticket) => told(unit, TaskStep::Busy, ticket),
         StepKind::Abort(_) | StepKind::Reset => None,
-        StepKind::Leave(ticket) => Some(TicketFact {
-            ticket,
-            fact: Fact::Leave,
-        }),
+        StepKind::Leave(ticket) => told(unit, TaskStep::Leave, ticket),
     }
 }
 
-/// What a step tells, if there is one.
-pub(crate) fn fact_of_one(step: Option<StepKind>) -> Option<TicketFact>
-    ensures { result ≡ fact_of_one step }
+/// Returns what a step of a unit tells, if there is one.
+pub(crate) fn fact_of_one(unit: usize, step: Option<StepKind>) -> Option<TicketFact>
+    ensures { result ≡ fact_of_one unit step }
 {
     match step {
         None => None,
-        Some(kind) => fact_of(kind),
+        Some(kind) => fact_of(unit, kind),
     }
 }
 
-/// What is known of a request, as its answers and then the histories are read, one after another, each from its oldest
-/// step on.
+/// Returns what a task tells that is alive, if there is one.
+pub(crate) fn fact_of_alive(ticket: Option<Ticket>) -> Option<TicketFact>
+    ensures { result ≡ fact_of_alive ticket }
+{
+    match ticket {
+        None => None,
+        Some(ticket) => Some(TicketFact {
+            ticket,
+            fact: Fact::Alive,
+        }),
+    }
+}
+
+/// Returns the first of the units that keep a step of a task, once a further one was read.
+fn home_at(unit: usize, home: Option<usize>) -> Option<usize>
+    ensures { result ≡ home_at unit home }
+{
+    match home {
+        None => Some(unit),
+        Some(first) => Some(first),
+    }
+}
+
+/// Returns whether another unit than this one keeps a step of a task.
+fn is_elsewhere(unit: usize, home: Option<usize>) -> bool
+    ensures { result ≡ elsewhere unit home }
+{
+    match home {
+        None => false,
+        Some(first) => first != unit,
+    }
+}
+
+/// What is known of a request, as its answers and then the units are read.
 #[derive(Clone, Copy)]
 pub struct Tally {
     answer: Answer,
-    /// It has an Enter in some history.
+    /// The first unit that keeps a step of its task.
+    home: Option<usize>,
+    /// Another unit keeps one, too.
+    astray: bool,
+    /// A unit keeps its Enter.
     entered: bool,
-    /// It has a Full in some history.
+    /// A unit keeps its Full.
     full: bool,
-    /// Since its latest Enter it hasn't left.
-    open_now: bool,
-    /// Since its latest Enter it has a Busy.
+    /// A unit keeps its Commit.
+    ran: bool,
+    /// A unit keeps its Busy.
     busy: bool,
-    /// Since its latest Enter it has a Commit or a Busy.
-    done: bool,
-    /// In an earlier history it hasn't left, or its note isn't of what became of it in some history.
-    amiss: bool,
+    /// Its task is alive in some unit.
+    alive: bool,
 }
 
 impl Tally {
@@ -141,12 +193,39 @@ impl Tally {
     {
         Tally {
             answer: Answer::Missing,
+            home: None,
+            astray: false,
             entered: false,
             full: false,
-            open_now: false,
+            ran: false,
             busy: false,
-            done: false,
-            amiss: false,
+            alive: false,
+        }
+    }
+
+    /// Returns the tally once a step of the task was read in a unit.
+    fn visited(self, unit: usize) -> Tally
+        ensures { result ≡ visited unit self }
+    {
+        Tally {
+            home: home_at(unit, self.home),
+            astray: is_elsewhere(unit, self.home) || self.astray,
+            ..self
+        }
+    }
+
+    /// Returns the tally with a step of the task.
+    fn stepped(self, what: TaskStep) -> Tally
+        ensures { result ≡ stepped what self }
+    {
+        match what {
+            TaskStep::Enter => Tally {
+                entered: true,
+                ..self
+            },
+            TaskStep::Commit => Tally { ran: true, ..self },
+            TaskStep::Busy => Tally { busy: true, ..self },
+            TaskStep::Leave => self,
         }
     }
 
@@ -159,33 +238,23 @@ impl Tally {
                 answer: self.answer.and(more),
                 ..self
             },
-            Fact::Enter => Tally {
-                entered: true,
-                open_now: true,
-                busy: false,
-                done: false,
-                amiss: self.amiss || self.open_now,
-                ..self
-            },
             Fact::Full => Tally { full: true, ..self },
-            Fact::Commit => Tally { done: true, ..self },
-            Fact::Busy => Tally {
-                busy: true,
-                done: true,
-                ..self
-            },
-            Fact::Leave => Tally {
-                open_now: false,
-                amiss: self.amiss || self.answer.is_wrong(self.busy, self.done),
+            Fact::Step(unit, what) => self.visited(unit).stepped(what),
+            Fact::Alive => Tally {
+                alive: true,
                 ..self
             },
         }
     }
 
-    /// Whether the request is settled, once all was read.
-    pub(crate) fn ends_well(self) -> bool
-        ensures { result ≡ ends_well self }
+    /// Whether the request is settled, once all was read. Some unit's steps may be folded.
+    pub(crate) fn ends_well(self, folded: bool) -> bool
+        ensures { result ≡ ends_well folded self }
     {
-        !(self.amiss || self.open_now) && self.answer.is_fine(self.entered, self.full)
+        !self.alive
+            && (!self.astray
+                && self
+                    .answer
+                    .is_fine(self.entered, self.full, self.ran, self.busy, folded))
     }
 }

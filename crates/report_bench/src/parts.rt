@@ -79,7 +79,7 @@ fn queue(alloc: Global, number: u16, memory: &GuestMem) -> Option<Queue> {
     if !is_placed(Form::Split, memory.size(), &layout) {
         return None;
     }
-    Queue::new(alloc, Form::Split, number, layout, memory).ok()
+    Queue::new(alloc, Form::Split, number, layout, 0, memory).ok()
 }
 
 /// The queues; `None` where memory was refused.

@@ -1,7 +1,7 @@
 //! Reports with something amiss, and what is said of them.
 
 use crate::parts::Parts;
-use crate::serving::{REFUSED, REFUSED_FIRST, RUN};
+use crate::serving::{REFUSED, REFUSED_FIRST, RUN, RUN_ELSEWHERE};
 use report::{CloseFault, Report, examine};
 use std::alloc::Global;
 use unit_history::{Given, Note, Receipt};
@@ -24,6 +24,8 @@ pub enum Amiss {
     NoteOfAnother,
     /// The note of the second is lost, and so is the receipt of the first.
     BothLost,
+    /// In place of the second unit stands one where the first ran, too.
+    RunTwice,
 }
 
 /// A device that was closed, and what its requests were answered with.
@@ -82,6 +84,12 @@ fn closed_with(alloc: Global, amiss: Amiss) -> Option<Closed> {
         Amiss::NoteOfAnother => {
             closed.receipts.clear();
             closed.notes.push(another_note(alloc)?).ok()?;
+        }
+        Amiss::RunTwice => {
+            let mut other = Parts::new(alloc)?;
+            other.serve(alloc, &RUN_ELSEWHERE)?;
+            closed.parts.units.pop()?;
+            closed.parts.units.push(other.units.pop()?).ok()?;
         }
         Amiss::BothLost => {
             closed.receipts.clear();

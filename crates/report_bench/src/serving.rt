@@ -12,23 +12,29 @@ use phases::{Hand, OpenFunction, Slot};
 use std::alloc::Global;
 use unit_history::{Cause, Given, Job, JobList, Note};
 
-/// What a guest asks for: TEST UNIT READY of LUN 0 on a queue.
+/// What a guest asks for: TEST UNIT READY of a unit on a queue.
 #[derive(Clone, Copy)]
 pub(crate) struct Asked {
     pub queue: u16,
     pub target: u8,
+    pub lun: u8,
 }
 
 /// One that is run.
 pub(crate) const RUN: Asked = Asked {
     queue: 2,
     target: 0,
+    lun: 0,
 };
+
+/// The same of the other unit.
+pub(crate) const RUN_ELSEWHERE: Asked = Asked { lun: 1, ..RUN };
 
 /// One of a target that isn't there.
 pub(crate) const REFUSED: Asked = Asked {
     queue: 3,
     target: 7,
+    lun: 0,
 };
 
 /// The same on the queue of the first.
@@ -42,6 +48,7 @@ fn request(asked: &Asked) -> [u8; 51] {
     let mut bytes = [0; 51];
     bytes[0] = 1;
     bytes[1] = asked.target;
+    bytes[3] = asked.lun;
     bytes
 }
 

@@ -1,14 +1,15 @@
-use Rattle.std.proofs.Common.{◌∙◌}
-use Rattle.keeping.proofs.Keeping.{keeps_all, keeps_latest}
+use Rattle.std.proofs.Common.{◌≡◌, ℕ, ◌%◌, List, length, set, sym, ◌∙◌, subst, arith}
+use Rattle.history.specs.Receipts.{Receipt}
+use Rattle.keeping.specs.Keeping.{receipts_of, KeepsReceipt}
+use Rattle.keeping.proofs.Keeping.{keeps_one}
 use Rattle.keeping.proofs.kept.keep_receipt.Goals as goal
 
-pub returns-then-before-ge-LATEST_KEPT : goal.returns-then-before-ge-LATEST_KEPT
-returns-then-before-ge-LATEST_KEPT c =
-    keeps_latest c.args.receipts.now.items c.push_reserved.new.self.items c.args.receipt c.shorten.new.receipt c.len-before.result
-    c.push_reserved.ensures.items c.shorten.ensures (c.len-before.ensures ∙ c.args.receipts.now.ok.0) c.index_mut.result.now c.take_reply.new.self
-    c.if-before-ge-LATEST_KEPT.true c.index_mut.ensures.value c.take_reply.ensures.rest
-
-pub returns-else-before-ge-LATEST_KEPT : goal.returns-else-before-ge-LATEST_KEPT
-returns-else-before-ge-LATEST_KEPT c =
-    keeps_all c.args.receipts.now.items c.push_reserved.new.self.items c.args.receipt c.shorten.new.receipt c.len-before.result
-    c.push_reserved.ensures.items c.shorten.ensures (c.len-before.ensures ∙ c.args.receipts.now.ok.0) c.if-before-ge-LATEST_KEPT.false
+pub returns : goal.returns
+returns c =
+    let cs : List Receipt = c.args.receipts.now.items in
+    let rs = c.args.replies.now.items in
+    let count : c.len-slot.result ≡ length cs = c.len-slot.ensures ∙ c.args.receipts.now.ok.0 in
+    subst (λ (n : ℕ). KeepsReceipt (receipts_of cs rs) c.args.receipt (receipts_of c.push_reserved.new.self.items (set rs (n % 256) c.of-bare.result.1))) (sym count)
+    (subst (λ (xs : List Receipt). KeepsReceipt (receipts_of cs rs) c.args.receipt (receipts_of xs (set rs (length cs % 256) c.of-bare.result.1))) (sym c.push_reserved.ensures.items)
+    (keeps_one cs rs c.args.receipt c.shorten.new.receipt c.of-bare.result.0 c.of-bare.result.1 c.shorten.ensures c.of-bare.ensures.bare c.of-bare.ensures.reply
+    (omega (arith, c.requires.slots, c.args.replies.now.ok.0))))

@@ -1,4 +1,4 @@
-use Rattle.std.proofs.Common.{subst, List, Vec}
+use Rattle.std.proofs.Common.{subst, ap, ◌∙◌, Bool, List, Vec}
 use Rattle.std.specs.List.{fold}
 use Rattle.std.specs.declared.alloc.Global.{Global}
 use Rattle.history.specs.Receipts.{Receipt}
@@ -6,9 +6,10 @@ use Rattle.queues.specs.Queue.{Lent}
 use Rattle.notes.specs.Notes.{PlainNote}
 use Rattle.report.specs.declared.tally.Tally.{Tally}
 use Rattle.report.specs.Closed.{IsFirst}
-use Rattle.report.specs.Settled.{is_request}
+use Rattle.task_set.specs.Unit.{PlainUnit}
+use Rattle.report.specs.Settled.{is_request, any_folded}
 use Rattle.report.specs.Sources.{amiss_of, stray}
-use Rattle.report.specs.Tallies.{fresh, AreTallies, tally_at, with_receipt, with_note, with_unit}
+use Rattle.report.specs.Tallies.{fresh, AreTallies, tally_at, with_receipt, with_note, with_units}
 use Rattle.report.proofs.Folding.{known_kept}
 use Rattle.report.proofs.Sourcing.{found_first, read_on}
 use Rattle.report.proofs.examining.first_outstanding.Goals as goal
@@ -31,12 +32,14 @@ returns c =
     opened
     (λ t. known_kept _ _ _ (c.read_receipts-of_receipts.ensures.tallied t))
     (λ t.
-    read_on (λ s. fold (with_receipt t) s r.receipts.items) (λ s. fold (with_note t) s r.notes.items) (λ s. fold (with_unit t) s r.units.items) (is_request r.queues.items t)
+    read_on (λ s. fold (with_receipt t) s r.receipts.items) (λ s. fold (with_note t) s r.notes.items) (with_units t 0 r.units.items) (is_request r.queues.items t)
     (tally_at first t) (tally_at second t) (tally_at third t) (tally_at last t)
     (opened t)
     (rw receipts at (c.read_receipts-of_receipts.ensures.tallied t))
     (rw notes at (c.read_notes-of_notes.ensures.tallied t))
     (rw units at (c.read_units.ensures t)))
-    (subst (λ (qs : List Lent). IsFirst (amiss_of qs last) c.first_of-of_queues.result) queues c.first_of-of_queues.ensures)
+    (subst (λ (qs : List Lent). IsFirst (amiss_of qs (any_folded r.units.items) last) c.first_of-of_queues.result) queues
+    (subst (λ (g : Bool). IsFirst (amiss_of c.as_slice-queues.result.now g last) c.first_of-of_queues.result)
+    (c.are_any_folded.ensures ∙ ap (λ (us : List PlainUnit). any_folded us) units) c.first_of-of_queues.ensures))
     (subst (λ (xs : List Receipt). IsFirst (stray (λ (z : Receipt). z.ticket) first xs) c.read_receipts-of_receipts.result) receipts c.read_receipts-of_receipts.ensures.strays)
     (subst (λ (xs : List PlainNote). IsFirst (stray (λ (z : PlainNote). z.ticket) second xs) c.read_notes-of_notes.result) notes c.read_notes-of_notes.ensures.strays))

@@ -4,4 +4,4 @@ use Rattle.report.specs.Sources.{amiss_of}
 use Rattle.report.proofs.least.first_of.Given as goal
 
 abbrev pub invariant-loop-place : goal.invariant-loop-place
-invariant-loop-place l = IsFirst (λ t. ltb t.queue l.place && amiss_of l.queues l.tables.tables.items t) l.first
+invariant-loop-place l = IsFirst (λ t. ltb t.queue l.place && amiss_of l.queues l.folded l.tables.tables.items t) l.first
