@@ -54,7 +54,7 @@ fn the_operator_resets_a_unit(rt: HostRuntime) {
 }
 
 #[test]
-fn two_workers_serve_at_once(rt: HostRuntime) {
+fn workers_serve_at_once(rt: HostRuntime) {
     let five = Together {
         missed: Some(0),
         answered: true,
@@ -65,7 +65,9 @@ fn two_workers_serve_at_once(rt: HostRuntime) {
         commits: (3, 2),
         written: true,
     };
-    assert!(rt; serve_together(rt, rt.alloc()) == Some(five));
+    for workers in [2, 8] {
+        assert!(rt; serve_together(rt, rt.alloc(), workers) == Some(five));
+    }
 }
 
 #[test]
@@ -80,7 +82,9 @@ fn two_units_are_held_at_once(rt: HostRuntime) {
         commits: (1, 1),
         written: false,
     };
-    assert!(rt; meet(rt, rt.alloc()) == Some(two));
+    for workers in [2, 8] {
+        assert!(rt; meet(rt, rt.alloc(), workers) == Some(two));
+    }
 }
 
 #[test]
@@ -95,5 +99,7 @@ fn one_unit_is_held_by_one_worker(rt: HostRuntime) {
         commits: (2, 0),
         written: false,
     };
-    assert!(rt; contend(rt, rt.alloc()) == Some(two));
+    for workers in [2, 8] {
+        assert!(rt; contend(rt, rt.alloc(), workers) == Some(two));
+    }
 }

@@ -27,6 +27,8 @@ use denote.Param.Send.{given_send}
 use mir.Syntax.{Ty}
 use Prim.Native.Nat.{ℕ}
 use Rattle.crossbeam_queue.proofs.array_queue.Slotted.TheSendSync as slotted
+use Rattle.handoff.specs.contracts.lane.Lane.{the_row as lane_row}
+use Rattle.handoff.specs.contracts.lane.Lane.TheInside as lane
 use Rattle.handoff.specs.contracts.queue.Handoff.{the_row as handoff_row}
 use Rattle.handoff.specs.contracts.queue.Handoff.TheInside as handoff
 use Rattle.workers.specs.contracts.shared.Shared.{the_row as shared_row, the_type as shared_type}
@@ -55,16 +57,28 @@ hand_sends = enum_send (enum_shape hand_type) (tt, ((held_sends, tt), ((search s
 pub post_sends : IsSend post_field.row
 post_sends = struct_send (shape post_type) (seat_sends, (list_sends, (hand_sends, (kept_sends, tt))))
 
+lane_fields_sync : IsSync lane.the_row
+lane_fields_sync = declared_sync lane.the_type
+    (search (sendable, slotted.the_sync, option.the_send, job_sends, send, sync, frees) depth 20, tt)
+
+lane_syncs : IsSync lane_row
+lane_syncs = search (sendable, lane_fields_sync)
+
 handoff_fields_sync : IsSync handoff.the_row
-handoff_fields_sync = declared_sync handoff.the_type
-    (search (sendable, slotted.the_sync, option.the_send, job_sends, send, sync, frees) depth 20, (search sendable, tt))
+handoff_fields_sync = declared_sync handoff.the_type (search (crosses, lane_syncs), (search sendable, tt))
 
 handoff_syncs : IsSync handoff_row
 handoff_syncs = search (sendable, handoff_fields_sync)
 
+lane_fields_send : IsSend lane.the_row
+lane_fields_send = declared_send lane.the_type
+    (search (sendable, slotted.the_send, option.the_send, job_sends, send, frees) depth 20, tt)
+
+lane_sends : IsSend lane_row
+lane_sends = search (sendable, lane_fields_send)
+
 handoff_fields_send : IsSend handoff.the_row
-handoff_fields_send = declared_send handoff.the_type
-    (search (sendable, slotted.the_send, option.the_send, job_sends, send, frees) depth 20, (search sendable, tt))
+handoff_fields_send = declared_send handoff.the_type (search (crosses, lane_sends), (search sendable, tt))
 
 handoff_sends : IsSend handoff_row
 handoff_sends = search (sendable, handoff_fields_send)

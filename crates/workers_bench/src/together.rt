@@ -1,4 +1,4 @@
-//! Two workers that serve at once.
+//! Workers that serve at once.
 
 use crate::guest::{Asked, are_answered, ask};
 use crate::meeting::{LONG, Meeting, SHORT, Seen};
@@ -132,11 +132,13 @@ fn ask_all<R: Wait>(rt: &R, host: &Host<Meeting>, all: &[Asked], counts: (u8, u8
     are_answered(rt, host, 2, counts.0) && are_answered(rt, host, 3, counts.1)
 }
 
-/// How two workers serve what a guest asks for on two queues, so many on each, of which the first requests are held up
-/// at these points, where a unit's lock is held for so many turns at most; `None` where memory was refused, or the closed host doesn't add up.
+/// Serves what a guest asks for on two queues, so many on each, by so many workers. The first requests of both are held
+/// up at these points, where a unit's lock is held for so many turns at most. `None` where memory was refused, or the
+/// closed host doesn't add up.
 fn serve_all<R: Threads + Wait + Copy + Send + 'static>(
     rt: R,
     alloc: Global,
+    workers: u16,
     all: &[Asked],
     counts: (u8, u8),
     points: &'static [Point],
@@ -148,7 +150,7 @@ fn serve_all<R: Threads + Wait + Copy + Send + 'static>(
         points,
         turns,
     };
-    let host = start(rt, alloc, gate, 2, 8)?;
+    let host = start(rt, alloc, gate, workers, 8)?;
     let answered = ask_all(&rt, &host, all, counts);
     match host.close(&rt) {
         Ok(report) => told(alloc, &report, seen.missed(points), answered),
@@ -156,29 +158,35 @@ fn serve_all<R: Threads + Wait + Copy + Send + 'static>(
     }
 }
 
-/// How two workers serve five requests for two units, where each of the first two is held up once it entered, once it
-/// was taken, and once it ran, until the other has come there.
+/// Serves five requests for two units by so many workers, 2 to 8. Each of the first two is held up once it entered, once
+/// it was taken, and once it ran, until the other has come there.
 pub fn serve_together<R: Threads + Wait + Copy + Send + 'static>(
     rt: R,
     alloc: Global,
+    workers: u16,
 ) -> Option<Together> {
     let points = &[Point::Entered, Point::Taken, Point::Committed];
-    serve_all(rt, alloc, &FIVE, (3, 2), points, LONG)
+    serve_all(rt, alloc, workers, &FIVE, (3, 2), points, LONG)
 }
 
-/// How two workers serve a request for each of two units, where each is held up once it entered, and with its unit's
-/// lock held, until the other has come there.
-pub fn meet<R: Threads + Wait + Copy + Send + 'static>(rt: R, alloc: Global) -> Option<Together> {
+/// Serves a request for each of two units by so many workers, 2 to 8. Each is held up once it entered, and with its
+/// unit's lock held, until the other has come there.
+pub fn meet<R: Threads + Wait + Copy + Send + 'static>(
+    rt: R,
+    alloc: Global,
+    workers: u16,
+) -> Option<Together> {
     let points = &[Point::Entered, Point::Locked];
-    serve_all(rt, alloc, &TWO, (1, 1), points, LONG)
+    serve_all(rt, alloc, workers, &TWO, (1, 1), points, LONG)
 }
 
-/// The same of one unit, for which both requests are: where one has its lock the other can't come, so that it goes on
-/// alone.
+/// Serves two requests for one unit by so many workers, 2 to 8. Where one has the unit's lock the other can't come, so
+/// that it goes on alone.
 pub fn contend<R: Threads + Wait + Copy + Send + 'static>(
     rt: R,
     alloc: Global,
+    workers: u16,
 ) -> Option<Together> {
     let points = &[Point::Entered, Point::Locked];
-    serve_all(rt, alloc, &ONE, (1, 1), points, SHORT)
+    serve_all(rt, alloc, workers, &ONE, (1, 1), points, SHORT)
 }
