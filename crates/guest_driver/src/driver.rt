@@ -2,13 +2,15 @@
 
 ghost use Rattle.std.specs.Prelude.{◌≤◌, ◌^◌};
 
-use crate::guest::{Buffer, put, put_bytes};
+use crate::guest::{put, put_bytes};
 use crate::memory::GuestMemory;
 use crate::packed_queue::PackedQueue;
-use crate::requests::{Buffers, FUNCTION_BYTES, Space, Used, function_request, request_head};
+use crate::requests::{
+    Buffers, Chain, FUNCTION_BYTES, Space, Table, Used, function_request, request_head,
+};
 use crate::split_queue::SplitQueue;
 use ring_core::Form;
-use script_lines::{LineFault, Send, Stop, TaskManagement};
+use script_lines::{Features, LineFault, Send, Stop, TaskManagement};
 use scsi_codec::{EVENT_BYTES, REQUEST_BYTES, RESPONSE_BYTES};
 use slab::Slab;
 use std::alloc::{AllocError, Global};
@@ -40,7 +42,7 @@ impl Ring {
         })
     }
 
-    /// Whether there is no room for a chain of two buffers, or of one alone.
+    /// Whether there is no room for a chain of two descriptors, or of one alone.
     fn is_full(&self, alone: bool) -> bool {
         match self {
             Ring::Split(ring) => ring.is_full(),
@@ -52,12 +54,12 @@ impl Ring {
     fn offer<M: GuestMemory>(
         &mut self,
         memory: &mut M,
-        buffers: Buffers,
+        chain: Chain,
         key: usize,
     ) -> Result<(), Stop> {
         match self {
-            Ring::Split(ring) => ring.offer(memory, buffers, key),
-            Ring::Packed(ring) => ring.offer(memory, buffers, key),
+            Ring::Split(ring) => ring.offer(memory, chain, key),
+            Ring::Packed(ring) => ring.offer(memory, chain, key),
         }
     }
 
@@ -88,6 +90,24 @@ enum Open {
     EventBuffer(u64),
 }
 
+/// The chain of a request or a function, as it was placed in memory.
+#[derive(Clone, Copy)]
+struct Placed {
+    /// Where its table lies, if it has one.
+    table: Option<Table>,
+    buffers: Buffers,
+}
+
+impl Placed {
+    /// Returns the chain.
+    fn chain(self) -> Chain {
+        match self.table {
+            Some(table) => Chain::Indirect(table, self.buffers),
+            None => Chain::Direct(self.buffers),
+        }
+    }
+}
+
 /// What a chain asks for.
 #[derive(Clone, Copy)]
 pub enum Asks {
@@ -114,6 +134,8 @@ pub struct Sent {
 #[derive(Drop)]
 pub struct Driver {
     alloc: Global,
+    /// The features that it agreed to.
+    features: Features,
     queues: Vec<Queue>,
     space: Space,
     /// What is open.
@@ -125,12 +147,13 @@ pub struct Driver {
 }
 
 impl Driver {
-    /// A driver of so many queues, each of so many descriptors, which sent nothing. Beside it stands a
-    /// device whose queues have this form and lie where `layout_of` says. It fails where memory runs
-    /// out.
+    /// Returns a driver of so many queues, each of so many descriptors, which sent nothing. Beside it stands a
+    /// device whose queues have this form and lie where `layout_of` says, and for which these features were agreed.
+    /// It fails where memory runs out.
     pub fn new(
         alloc: Global,
         form: Form,
+        features: Features,
         count: u16,
         size: NonZeroU16,
     ) -> Result<Driver, AllocError> {
@@ -145,6 +168,7 @@ impl Driver {
         }
         Ok(Driver {
             alloc,
+            features,
             queues,
             space: Space::START,
             open: Slab::new(alloc),
@@ -153,8 +177,8 @@ impl Driver {
         })
     }
 
-    /// Places the buffers of a chain that goes to a queue under a name, in a memory of that size: so many bytes to
-    /// read, and so many to write. The faults are those of `send`.
+    /// Places a chain that goes to a queue under a name, in a memory of that size: so many bytes to read, and so many
+    /// to write; where indirect descriptors were agreed, a table before them. The faults are those of `send`.
     fn place(
         &mut self,
         memory: u64,
@@ -162,7 +186,7 @@ impl Driver {
         name: &str,
         readable: u64,
         writable: u64,
-    ) -> Result<(Buffer, Buffer), Stop>
+    ) -> Result<Placed, Stop>
         requires { memory ≤ 2 ^ 44 }
     {
         let Some(queue) = self.queues.get(queue as usize) else {
@@ -171,21 +195,30 @@ impl Driver {
         if self.sent.contains_key(name) {
             return Err(Stop::Fault(LineFault::NameTaken));
         }
-        if queue.ring.is_full(false) {
+        if queue.ring.is_full(self.features.indirect) {
             return Err(Stop::Fault(LineFault::QueueFull));
         }
+        let table = if self.features.indirect {
+            let table = self.space.place(u64::from(Table::BYTES), memory)?;
+            Some(Table::at(table.at))
+        } else {
+            None
+        };
         let readable = self.space.place(readable, memory)?;
         let writable = self.space.place(writable, memory)?;
-        Ok((readable, writable))
+        Ok(Placed {
+            table,
+            buffers: Buffers { readable, writable },
+        })
     }
 
-    /// Makes the chain of buffers that were written available under a name.
+    /// Makes the chain available, under a name, whose buffers were written.
     fn offer<M: GuestMemory>(
         &mut self,
         memory: &mut M,
         queue: u16,
         name: &str,
-        (readable, writable): (Buffer, Buffer),
+        placed: Placed,
         asks: Asks,
     ) -> Result<(), Stop> {
         let Some(chains) = self.queues.get_mut(queue as usize) else {
@@ -194,16 +227,12 @@ impl Driver {
         let key = self
             .open
             .insert(Open::Named(String::from_str(self.alloc, name)?))?;
-        let buffers = Buffers {
-            readable: Some(readable),
-            writable,
-        };
-        chains.ring.offer(memory, buffers, key)?;
+        chains.ring.offer(memory, placed.chain(), key)?;
         chains.offered.push(String::from_str(self.alloc, name)?)?;
         let sent = Sent {
             asks,
             queue,
-            response: writable.at,
+            response: placed.buffers.writable.at,
             used: None,
         };
         self.sent.insert(String::from_str(self.alloc, name)?, sent)?;
@@ -217,12 +246,12 @@ impl Driver {
     pub fn send<M: GuestMemory>(&mut self, memory: &mut M, send: &Send<'_>) -> Result<(), Stop> {
         let readable = send.out.length().saturating_add(REQUEST_BYTES as u64);
         let writable = u64::from(send.room) + RESPONSE_BYTES as u64;
-        let buffers = self.place(memory.size(), send.queue, send.name, readable, writable)?;
-        let at = buffers.0.at;
+        let placed = self.place(memory.size(), send.queue, send.name, readable, writable)?;
+        let at = placed.buffers.readable.at;
         put(memory, at, request_head(self.alloc, send)?.as_slice())?;
         let data = at.saturating_add(REQUEST_BYTES as u64);
         put_bytes(self.alloc, memory, data, &send.out)?;
-        self.offer(memory, send.queue, send.name, buffers, Asks::Command)
+        self.offer(memory, send.queue, send.name, placed, Asks::Command)
     }
 
     /// Sends a task management function on the control queue, as `send` does a request, and with its faults.
@@ -231,21 +260,16 @@ impl Driver {
         memory: &mut M,
         function: &TaskManagement<'_>,
     ) -> Result<(), Stop> {
-        let buffers = self.place(
+        let placed = self.place(
             memory.size(),
             CONTROL_QUEUE,
             function.name,
             FUNCTION_BYTES as u64,
             FUNCTION_RESPONSE_BYTES,
         )?;
-        put(memory, buffers.0.at, &function_request(function))?;
-        self.offer(
-            memory,
-            CONTROL_QUEUE,
-            function.name,
-            buffers,
-            Asks::Function,
-        )
+        let at = placed.buffers.readable.at;
+        put(memory, at, &function_request(function))?;
+        self.offer(memory, CONTROL_QUEUE, function.name, placed, Asks::Function)
     }
 
     /// Makes an event buffer available: one writable buffer of the bytes of an event. `QueueFull` where the event
@@ -260,11 +284,7 @@ impl Driver {
         }
         let writable = self.space.place(EVENT_BYTES as u64, memory.size())?;
         let key = self.open.insert(Open::EventBuffer(writable.at))?;
-        let buffers = Buffers {
-            readable: None,
-            writable,
-        };
-        queue.ring.offer(memory, buffers, key)
+        queue.ring.offer(memory, Chain::EventBuffer(writable), key)
     }
 
     /// Finds what was used since the last look, by reading guest memory alone. What was used is free

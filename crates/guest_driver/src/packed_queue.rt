@@ -7,7 +7,7 @@ ghost use Rattle.guest_driver.specs.Places.{HasPassed, avail_flag, used_flag};
 use crate::areas::layout_of;
 use crate::guest::{descriptor, put, u16_at, u32_at};
 use crate::memory::GuestMemory;
-use crate::requests::{Buffers, Used};
+use crate::requests::{Chain, Used};
 use script_lines::{LineFault, Stop};
 use std::alloc::{AllocError, Global};
 use std::collections::BTreeSet;
@@ -18,6 +18,9 @@ const NEXT: u16 = 1;
 
 /// VIRTQ_DESC_F_WRITE: the device writes the buffer.
 const WRITE: u16 = 2;
+
+/// VIRTQ_DESC_F_INDIRECT: the buffer is a table of descriptors.
+const INDIRECT: u16 = 4;
 
 /// VIRTQ_DESC_F_AVAIL.
 const AVAILABLE: u16 = 1 << 7;
@@ -84,7 +87,7 @@ impl Position {
     }
 }
 
-/// A packed queue, as its driver keeps it. A chain takes a slot for each of its buffers.
+/// A packed queue, as its driver keeps it. A chain takes a slot for each of its descriptors in the ring.
 #[derive(Drop)]
 pub struct PackedQueue {
     queue: u16,
@@ -119,7 +122,7 @@ impl PackedQueue {
         })
     }
 
-    /// Whether fewer slots are free than a chain takes that has two buffers, or has one alone.
+    /// Whether fewer slots are free than a chain takes that has two descriptors in the ring, or has one alone.
     pub fn is_full(&self, alone: bool) -> bool
         ensures two { alone ≡ false → (IsTrue result ↔ (self.now.free_slots < 2)) }
         ensures one { alone ≡ true → (IsTrue result ↔ (self.now.free_slots < 1)) }
@@ -127,18 +130,16 @@ impl PackedQueue {
         self.free_slots < if alone { 1 } else { CHAIN_SLOTS }
     }
 
-    /// Makes a chain of its buffers available, under a key. The flags of the first descriptor are
-    /// written last.
+    /// Makes a chain available, under a key. The flags of the first descriptor are written last.
     pub fn offer<M: GuestMemory>(
         &mut self,
         memory: &mut M,
-        buffers: Buffers,
+        chain: Chain,
         key: usize,
     ) -> Result<(), Stop> {
-        let slots = if buffers.readable.is_some() {
-            CHAIN_SLOTS
-        } else {
-            1
+        let slots = match chain {
+            Chain::Direct(_) => CHAIN_SLOTS,
+            Chain::EventBuffer(_) | Chain::Indirect(..) => 1,
         };
         let Some(free_slots) = self.free_slots.checked_sub(slots) else {
             return Err(Stop::Fault(LineFault::QueueFull));
@@ -153,15 +154,21 @@ impl PackedQueue {
         let layout = layout_of(self.queue, self.size.get());
         let first = self.next;
         let at = layout.desc + 16 * u64::from(first.slot);
-        let (buffer, flags, last) = match buffers.readable {
-            Some(readable) => {
+        let (buffer, flags, last) = match chain {
+            Chain::EventBuffer(writable) => (writable, WRITE, first),
+            Chain::Direct(buffers) => {
                 let second = first.next(self.size);
                 let flags = WRITE | second.available();
                 let at = layout.desc + 16 * u64::from(second.slot);
                 put(memory, at, &descriptor(buffers.writable, id, flags))?;
-                (readable, NEXT, second)
+                (buffers.readable, NEXT, second)
             }
-            None => (buffers.writable, WRITE, first),
+            Chain::Indirect(table, buffers) => {
+                let readable = descriptor(buffers.readable, 0, 0);
+                let writable = descriptor(buffers.writable, 0, WRITE);
+                table.put(memory, &readable, &writable)?;
+                (table.buffer(), INDIRECT, first)
+            }
         };
         let flags = flags | first.available();
         put(memory, at, &descriptor(buffer, id, 0)[..14])?;

@@ -4,7 +4,8 @@ ghost use Rattle.std.specs.Prelude.{◌≡◌, ◌≤◌, ◌<◌, ◌+◌, ◌^
 ghost use Rattle.guest_mem.specs.Memory.{LiesIn};
 ghost use Rattle.guest_driver.specs.Requests.{IsFunction, IsHead, IsNextPlace};
 
-use crate::guest::Buffer;
+use crate::guest::{Buffer, put};
+use crate::memory::GuestMemory;
 use script_lines::{LineFault, Send, TaskManagement};
 use scsi_codec::REQUEST_BYTES;
 use std::alloc::{AllocError, Global};
@@ -38,13 +39,64 @@ pub fn function_request(function: &TaskManagement<'_>) -> [u8; FUNCTION_BYTES]
     bytes
 }
 
-/// The buffers of a chain.
+/// The buffers of a request or of a function.
 #[derive(Clone, Copy)]
 pub struct Buffers {
-    /// What the device reads, of a request or of a function; none of an event buffer.
-    pub readable: Option<Buffer>,
+    /// What the device reads.
+    pub readable: Buffer,
     /// What the device writes.
     pub writable: Buffer,
+}
+
+/// A chain that goes to the device, by the descriptors that it takes in the ring.
+#[derive(Clone, Copy)]
+pub enum Chain {
+    /// One descriptor: a buffer that the device writes.
+    EventBuffer(Buffer),
+    /// Two descriptors, one of each buffer.
+    Direct(Buffers),
+    /// One descriptor, which names a table of two.
+    Indirect(Table, Buffers),
+}
+
+/// The bytes of a descriptor.
+const DESCRIPTOR_BYTES: u64 = 16;
+
+/// Where a table of two descriptors lies in guest memory.
+#[derive(Clone, Copy)]
+pub struct Table {
+    at: u64,
+}
+
+impl Table {
+    /// The bytes of the table.
+    pub const BYTES: u32 = 32;
+
+    /// Returns the table at an address.
+    pub fn at(at: u64) -> Table {
+        Table { at }
+    }
+
+    /// Returns the buffer that a descriptor in the ring names.
+    pub fn buffer(self) -> Buffer
+        ensures { result ≡ record { at = self.at; len = 32 } }
+    {
+        Buffer {
+            at: self.at,
+            len: Table::BYTES,
+        }
+    }
+
+    /// Writes both descriptors of the table.
+    pub fn put<M: GuestMemory>(
+        self,
+        memory: &mut M,
+        first: &[u8; 16],
+        second: &[u8; 16],
+    ) -> Result<(), LineFault> {
+        put(memory, self.at, first)?;
+        put(memory, self.at.saturating_add(DESCRIPTOR_BYTES), second)
+    }
 }
 
 /// What a queue says of a chain that was used.

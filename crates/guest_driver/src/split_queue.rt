@@ -5,7 +5,7 @@ ghost use Rattle.std.specs.Prelude.{◌≡◌, [], IsTrue, ◌↔◌};
 use crate::areas::layout_of;
 use crate::guest::{descriptor, put, u16_at, u32_at};
 use crate::memory::GuestMemory;
-use crate::requests::{Buffers, Used};
+use crate::requests::{Chain, Used};
 use script_lines::{LineFault, Stop};
 use std::alloc::{AllocError, Global};
 use std::collections::BTreeSet;
@@ -16,6 +16,9 @@ const NEXT: u16 = 1;
 
 /// VIRTQ_DESC_F_WRITE: the device writes the buffer.
 const WRITE: u16 = 2;
+
+/// VIRTQ_DESC_F_INDIRECT: the buffer is a table of descriptors.
+const INDIRECT: u16 = 4;
 
 /// A split queue, as its driver keeps it. A chain takes a pair of descriptors, an even one and the
 /// next, also where it needs one alone.
@@ -57,11 +60,11 @@ impl SplitQueue {
         self.free.is_empty()
     }
 
-    /// Makes a chain of its buffers available, under a key. The index is written last.
+    /// Makes a chain available, under a key. The index is written last.
     pub fn offer<M: GuestMemory>(
         &mut self,
         memory: &mut M,
-        buffers: Buffers,
+        chain: Chain,
         key: usize,
     ) -> Result<(), Stop> {
         let Some(head) = self.free.pop_first() else {
@@ -72,16 +75,21 @@ impl SplitQueue {
         };
         *place = Some(key);
         let layout = layout_of(self.queue, self.size.get());
-        let last = match buffers.readable {
-            Some(readable) => {
-                let at = layout.desc + 16 * u64::from(head);
-                put(memory, at, &descriptor(readable, NEXT, head | 1))?;
-                head | 1
+        let first = match chain {
+            Chain::EventBuffer(writable) => descriptor(writable, WRITE, 0),
+            Chain::Direct(buffers) => {
+                let at = layout.desc + 16 * u64::from(head | 1);
+                put(memory, at, &descriptor(buffers.writable, WRITE, 0))?;
+                descriptor(buffers.readable, NEXT, head | 1)
             }
-            None => head,
+            Chain::Indirect(table, buffers) => {
+                let first = descriptor(buffers.readable, NEXT, 1);
+                let last = descriptor(buffers.writable, WRITE, 0);
+                table.put(memory, &first, &last)?;
+                descriptor(table.buffer(), INDIRECT, 0)
+            }
         };
-        let at = layout.desc + 16 * u64::from(last);
-        put(memory, at, &descriptor(buffers.writable, WRITE, 0))?;
+        put(memory, layout.desc + 16 * u64::from(head), &first)?;
         let slot = self.available % self.size.get();
         let at = layout.driver + 4 + 2 * u64::from(slot);
         put(memory, at, &head.to_le_bytes())?;

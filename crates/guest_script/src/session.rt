@@ -71,12 +71,13 @@ impl Session {
             known,
             form,
             size,
+            features,
         } = wanted;
         let world = match World::new(alloc, &config) {
             Ok(world) => world,
             Err(fault) => return Err(stop_of(fault)),
         };
-        let driver = Driver::new(alloc, form, known.queues, size)?;
+        let driver = Driver::new(alloc, form, features, known.queues, size)?;
         Ok(Session {
             alloc,
             machine: Machine { world },

@@ -1,10 +1,10 @@
 //! The header of a script, and what it asks for.
 
 use crate::known::Known;
-use config::{Config, RING_PACKED, StartFault, UnitSpec, VERSION_1};
+use config::{Config, EVENT_IDX, INDIRECT_DESC, RING_PACKED, StartFault, UnitSpec, VERSION_1};
 use guest_driver::layout_of;
 use ring_core::{Form, Layout};
-use script_lines::{Disk, HeaderLine, LineFault, LineText, Queues, Stop, text_of};
+use script_lines::{Disk, Features, HeaderLine, LineFault, LineText, Queues, Stop, text_of};
 use std::alloc::{AllocError, Global};
 use std::num::NonZeroU16;
 
@@ -25,6 +25,7 @@ pub(crate) struct Header {
     queues: Option<Queues>,
     workers: Option<u16>,
     handoff: Option<u16>,
+    features: Option<Features>,
     units: Vec<UnitSpec>,
 }
 
@@ -37,6 +38,7 @@ impl Header {
             queues: None,
             workers: None,
             handoff: None,
+            features: None,
             units: Vec::new(alloc),
         }
     }
@@ -69,6 +71,7 @@ impl Header {
             HeaderLine::Queues(queues) => set_once(&mut self.queues, queues)?,
             HeaderLine::Workers(workers) => set_once(&mut self.workers, workers)?,
             HeaderLine::Handoff(handoff) => set_once(&mut self.handoff, handoff)?,
+            HeaderLine::Features(features) => set_once(&mut self.features, features)?,
             HeaderLine::Unit(disk) => self.units.push(unit_of(disk))?,
         }
         Ok(())
@@ -85,13 +88,14 @@ impl Header {
         let Some(size) = NonZeroU16::new(queues.size) else {
             return Err(Stop::Fault(LineFault::BadConfig));
         };
+        let features = self.features.unwrap_or(Features::NONE);
         let known = Known {
             queues: queues.count,
             units: self.units.iter().copied().collect(alloc)?,
         };
         let config = Config {
             pages,
-            features: features_of(form),
+            features: features_of(form, features),
             queues: layouts(alloc, queues)?,
             workers,
             handoff,
@@ -102,6 +106,7 @@ impl Header {
             known,
             form,
             size,
+            features,
         })
     }
 }
@@ -117,6 +122,8 @@ pub struct Wanted {
     pub form: Form,
     /// How many descriptors each queue has.
     pub size: NonZeroU16,
+    /// The features that the driver agrees to, beside those that each driver of the form does.
+    pub features: Features,
 }
 
 /// Why a script ends whose device wasn't had.
@@ -137,12 +144,15 @@ fn unit_of(disk: Disk) -> UnitSpec {
     }
 }
 
-/// The feature bits of a device whose queues have this form.
-fn features_of(form: Form) -> u64 {
-    match form {
-        Form::Split => VERSION_1,
-        Form::Packed => VERSION_1 | RING_PACKED,
-    }
+/// Returns the feature bits of a device whose queues have this form and whose header asks for these features.
+fn features_of(form: Form, features: Features) -> u64 {
+    let form = match form {
+        Form::Split => 0,
+        Form::Packed => RING_PACKED,
+    };
+    let indirect = if features.indirect { INDIRECT_DESC } else { 0 };
+    let event_idx = if features.event_idx { EVENT_IDX } else { 0 };
+    VERSION_1 | form | indirect | event_idx
 }
 
 /// Where the queues lie.

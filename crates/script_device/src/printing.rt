@@ -129,7 +129,7 @@ fn print_step<W: Write>(out: &mut W, driver: &Driver, step: StepKind) -> Result<
     }
 }
 
-/// Prints the steps of a unit, in order.
+/// Prints the steps of a unit that stand one by one, in order. Where older ones are folded, prints first how many.
 fn history<W: Write>(
     out: &mut W,
     driver: &Driver,
@@ -138,7 +138,11 @@ fn history<W: Write>(
 ) -> Result<(), Stop> {
     let Address { target, lun } = address;
     written(write!(out, "history {target}:{lun}:"))?;
-    for place in 0..unit.steps() {
+    let base = unit.base();
+    if base > 0 {
+        written(write!(out, " base {base}"))?;
+    }
+    for place in base..unit.steps() {
         if let Some(step) = unit.step(place) {
             let before = if place == 0 { " " } else { ", " };
             written(write!(out, "{before}"))?;

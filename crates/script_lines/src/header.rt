@@ -1,6 +1,6 @@
 //! The lines of a script's header.
 
-ghost use Rattle.std.specs.Prelude.{◌≡◌, length, [], ◌∷◌, IsOk, IfOk, IfErr, ◌↔◌};
+ghost use Rattle.std.specs.Prelude.{◌≡◌, ◌⊎◌, length, [], ◌∷◌, true, Ok, codes, IsOk, IfOk, IfErr, ◌↔◌};
 
 use crate::fault::LineFault;
 use crate::values::{number, unit};
@@ -30,6 +30,43 @@ pub struct Disk {
     pub calm: bool,
 }
 
+/// The features that a header asks for, beside those that each device of its form has.
+#[derive(Clone, Copy)]
+pub struct Features {
+    /// Indirect descriptors.
+    pub indirect: bool,
+    /// Event indices.
+    pub event_idx: bool,
+}
+
+impl Features {
+    /// Asks for no feature.
+    pub const NONE: Features = Features {
+        indirect: false,
+        event_idx: false,
+    };
+
+    /// Returns these features and the one of a word. `BadValue` where no feature has that word.
+    fn with(self, word: &str) -> Result<Features, LineFault>
+        ensures indirect { word.now ≡ codes "indirect" → result ≡ Ok (record self { indirect = true }) }
+        ensures event_idx { word.now ≡ codes "event_idx" → result ≡ Ok (record self { event_idx = true }) }
+        ensures named { IsOk result → (word.now ≡ codes "indirect") ⊎ (word.now ≡ codes "event_idx") }
+        ensures fault { IfErr result (λ fault. fault ≡ LineFault.BadValue) }
+    {
+        match word {
+            "indirect" => Ok(Features {
+                indirect: true,
+                ..self
+            }),
+            "event_idx" => Ok(Features {
+                event_idx: true,
+                ..self
+            }),
+            _ => Err(LineFault::BadValue),
+        }
+    }
+}
+
 /// A header line. Which of its numbers the device takes isn't known here.
 #[derive(Clone, Copy)]
 pub enum HeaderLine {
@@ -43,6 +80,8 @@ pub enum HeaderLine {
     Workers(u16),
     /// How many jobs the hand-off holds.
     Handoff(u16),
+    /// Features beside those that each device of its form has.
+    Features(Features),
     /// A disk.
     Unit(Disk),
 }
@@ -72,6 +111,18 @@ fn read_queues(values: &[&str]) -> Result<Queues, LineFault> {
     Ok(Queues { count, size })
 }
 
+/// Reads the words of features, one at least.
+fn read_features(words: &[&str]) -> Result<Features, LineFault> {
+    if words.is_empty() {
+        return Err(LineFault::BadValue);
+    }
+    let mut features = Features::NONE;
+    for word in words {
+        features = features.with(word)?;
+    }
+    Ok(features)
+}
+
 /// The one value of a line that has one.
 pub fn only<'a>(values: &[&'a str]) -> Result<&'a str, LineFault>
     ensures one { IsOk result ↔ (length values.now ≡ 1) }
@@ -99,6 +150,7 @@ impl HeaderLine {
             "queues" => HeaderLine::Queues(read_queues(values)?),
             "workers" => HeaderLine::Workers(number::<u16>(only(values)?)?),
             "handoff" => HeaderLine::Handoff(number::<u16>(only(values)?)?),
+            "features" => HeaderLine::Features(read_features(values)?),
             "unit" => HeaderLine::Unit(read_disk(values)?),
             _ => return Ok(None),
         };

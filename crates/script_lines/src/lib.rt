@@ -15,7 +15,7 @@ mod values;
 pub use command::Command;
 pub use fault::{LineFault, ScriptFault, Stop};
 pub use guest_line::GuestLine;
-pub use header::{Disk, HeaderLine, Queues};
+pub use header::{Disk, Features, HeaderLine, Queues};
 pub use lines::{LineText, lines_of, text_of};
 pub use print_line::PrintLine;
 pub use send::{Send, TaskManagement};

@@ -104,13 +104,14 @@ impl Service {
             known,
             form,
             size,
+            features,
         } = wanted;
         let pages = config.pages;
         let host = match Host::start(rt, alloc, config, Open, workers) {
             Ok(host) => host,
             Err(fault) => return Err(stop_of(fault)),
         };
-        match Driver::new(alloc, form, known.queues, size) {
+        match Driver::new(alloc, form, features, known.queues, size) {
             Ok(driver) => Ok(Service {
                 alloc,
                 host,
