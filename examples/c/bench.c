@@ -4,8 +4,10 @@
 //     bench KIND RING DEPTH ROUNDS    prints how many requests ended well, and the nanoseconds that all rounds took
 //     bench                           serves a few rounds of each kind on each ring, and prints how many ended well
 //
-// RING is split or packed, DEPTH a power of two up to 256. The status is 1 where a request wasn't answered well, 2 where the
-// words name no work, 3 for want of memory.
+// RING is split or packed; or split-3 or packed-3, where the data that a request gets have a descriptor of their own; or
+// split-table or packed-table, where these stand in a table that one descriptor of the ring names (VIRTIO 1.2, 2.7.5.3 and
+// 2.8.7). DEPTH is a power of two up to 256, and 2 or more for packed-table. The status is 1 where a request wasn't answered
+// well, 2 where the words name no work, 3 for want of memory.
 #define _POSIX_C_SOURCE 199309L
 #include <stdio.h>
 #include <stdlib.h>
@@ -17,11 +19,17 @@
 enum { QUEUES = 3, MOST_DEPTH = 256, REQUEST = 51, RESPONSE = 108, LARGE = 128, FEW_ROUNDS = 3, FEW_REQUESTS = 4 };
 
 // Descriptor flags (VIRTIO 1.2, 2.7.5 and 2.8.1).
-enum { NEXT = 1, WRITE = 2, AVAILABLE = 0x80, USED = 0x8000 };
+enum { NEXT = 1, WRITE = 2, INDIRECT = 4, AVAILABLE = 0x80, USED = 0x8000 };
+
+// The descriptors of a request at the most.
+enum { MOST_PARTS = 3 };
 
 // The areas of the request queue; those of the other two queues lie behind them, and then the requests, each with its
 // response in an area of its own.
-enum { DRIVER = 0x2000, DEVICE = 0x4000, OTHER_QUEUES = 0x8000, AREAS = 0x10000, SMALL_AREA = 0x1000, LARGE_AREA = 0x11000 };
+enum { DRIVER = 0x4000, DEVICE = 0x6000, OTHER_QUEUES = 0xa000, AREAS = 0x10000, SMALL_AREA = 0x1000, LARGE_AREA = 0x11000 };
+
+// A request's table stands so far before the end of its area.
+enum { TABLE = 0x400 };
 
 // The steps of a request that nothing blocks: it is fetched, enters, is put, taken, committed and answered, and leaves.
 enum { STEPS = 7 };
@@ -32,9 +40,15 @@ enum kind { NONE, TUR, READ_512, WRITE_512, READ_64K, WRITE_64K, COMPARE_AND_WRI
 
 static const char *const names[KINDS] = {"none", "tur", "read512", "write512", "read64k", "write64k", "compare-and-write", "mixed"};
 
+// The rings of the words, and how each has its requests.
+enum ring { PLAIN, APART, TABLES, WAYS };
+
+static const char *const rings[2][WAYS] = {{"split", "split-3", "split-table"}, {"packed", "packed-3", "packed-table"}};
+
 struct work {
   enum kind kind;
   bool packed;
+  enum ring way;
   unsigned depth;
   uint64_t rounds;
 };
@@ -46,7 +60,7 @@ struct request {
 };
 
 static struct vscsi device;
-static uint8_t even[MOST_DEPTH * 32], odd[MOST_DEPTH * 32];
+static uint8_t even[MOST_DEPTH * 16 * MOST_PARTS], odd[MOST_DEPTH * 16 * MOST_PARTS];
 static uint64_t responses[MOST_DEPTH];
 
 static bool is_large(enum kind kind) { return kind == READ_64K || kind == WRITE_64K; }
@@ -111,31 +125,73 @@ static void descriptor(uint8_t *into, uint64_t addr, uint32_t length, unsigned f
   little(into + 14, second, 2);
 }
 
+// A part of a request: an area of memory, which the device writes or reads.
+struct part {
+  uint64_t addr;
+  uint32_t length;
+  bool written;
+};
+
+// The parts of a request, whose response goes right behind it, at a multiple of 64. How many there are.
+static unsigned parts_of(const struct work *work, unsigned number, struct part *parts) {
+  const struct request request = request_of(work->kind, number);
+  uint64_t at = request_at(work->kind, number);
+  uint32_t sent = REQUEST + request.sent;
+  bool apart = work->way != PLAIN && request.taken;
+  responses[number] = at + (sent / 64 + 1) * 64;
+  parts[0] = (struct part){at, sent, false};
+  parts[1] = (struct part){responses[number], RESPONSE + (apart ? 0 : request.taken), true};
+  parts[2] = (struct part){responses[number] + RESPONSE, request.taken, true};
+  return apart ? 3 : 2;
+}
+
+// The descriptors in a ring that a request takes, and the entries of a queue, of which a split one has more than its
+// requests take.
+static unsigned slots_of(const struct work *work) { return work->way == TABLES ? 1 : work->way == APART ? 3 : 2; }
+
+static unsigned size_of(const struct work *work) { return (work->packed ? slots_of(work) : 4) * work->depth; }
+
+// The descriptors of a request's parts: those of a table, of a split ring from a number on, or of a packed ring with an id and
+// these flags.
+static void chain(const struct work *work, const struct part *parts, unsigned count, unsigned number, unsigned flags, uint8_t *into) {
+  for (unsigned i = 0; i < count; i++) {
+    unsigned its = flags | (parts[i].written ? WRITE : 0) | (i + 1 < count ? NEXT : 0);
+    if (work->packed) descriptor(into + 16 * i, parts[i].addr, parts[i].length, number, its);
+    else descriptor(into + 16 * i, parts[i].addr, parts[i].length, its, i + 1 < count ? number + i + 1 : 0);
+  }
+}
+
+// Puts the table of a request into memory, in the place of its parts.
+static void put_table(const struct work *work, unsigned number, struct part *parts, unsigned count) {
+  uint64_t at = request_at(work->kind, number + 1) - TABLE;
+  uint8_t entries[16 * MOST_PARTS];
+  chain(work, parts, count, 0, 0, entries);
+  poke(at, entries, 16 * count);
+  parts[0] = (struct part){at, 16 * count, false};
+}
+
 // Puts a request into memory: its bytes, and its chain into the table of a split queue and into its available ring, or into
 // the descriptors of a packed queue as the driver writes them in rounds with an even and with an odd number.
 static void put(const struct work *work, unsigned number) {
   const struct request request = request_of(work->kind, number);
-  uint64_t at = request_at(work->kind, number);
-  uint32_t sent = REQUEST + request.sent, taken = RESPONSE + request.taken;
-  uint8_t slots[32], head[2];
-  // The response goes right behind the request, at a multiple of 64.
-  responses[number] = at + (sent / 64 + 1) * 64;
-  poke(at, request.bytes, REQUEST);
+  struct part parts[MOST_PARTS];
+  unsigned count = parts_of(work, number, parts), slots = slots_of(work), extra = 0;
+  uint8_t ring[16 * MOST_PARTS], head[2];
+  poke(request_at(work->kind, number), request.bytes, REQUEST);
+  if (work->way == TABLES) {
+    put_table(work, number, parts, count);
+    count = 1;
+    extra = INDIRECT;
+  }
   if (work->packed) {
-    for (unsigned round = 0; round < 2; round++) {
-      uint8_t *into = (round ? odd : even) + 32 * number;
-      descriptor(into, at, sent, number, NEXT | (round ? USED : AVAILABLE));
-      descriptor(into + 16, responses[number], taken, number, WRITE | (round ? USED : AVAILABLE));
-    }
+    chain(work, parts, count, number, extra | AVAILABLE, even + 16 * slots * number);
+    chain(work, parts, count, number, extra | USED, odd + 16 * slots * number);
     return;
   }
-  descriptor(slots, at, sent, NEXT, 2 * number + 1);
-  descriptor(slots + 16, responses[number], taken, WRITE, 0);
-  poke(32 * number, slots, sizeof slots);
-  // The ring has twice as many entries as there are requests.
-  little(head, 2 * number, 2);
-  poke(DRIVER + 4 + 2 * number, head, 2);
-  poke(DRIVER + 4 + 2 * (number + work->depth), head, 2);
+  chain(work, parts, count, slots * number, extra, ring);
+  poke(16 * slots * number, ring, 16 * count);
+  little(head, slots * number, 2);
+  for (unsigned entry = number; entry < size_of(work); entry += work->depth) poke(DRIVER + 4 + 2 * entry, head, 2);
 }
 
 // Makes the device, with two calm units and one request queue, and puts all requests into its memory.
@@ -143,10 +199,11 @@ static void begin(const struct work *work) {
   const struct vscsi_queue queues[QUEUES] = {
       {.desc = OTHER_QUEUES, .driver = OTHER_QUEUES + 0x400, .device = OTHER_QUEUES + 0x800, .size = 2},
       {.desc = OTHER_QUEUES + 0x1000, .driver = OTHER_QUEUES + 0x1400, .device = OTHER_QUEUES + 0x1800, .size = 2},
-      {.desc = 0, .driver = DRIVER, .device = DEVICE, .size = (uint16_t)(2 * work->depth)}};
+      {.desc = 0, .driver = DRIVER, .device = DEVICE, .size = (uint16_t)size_of(work)}};
   const uint64_t blocks = MOST_DEPTH * (uint64_t)blocks_of(work->kind) + 1;
   const struct vscsi_unit units[2] = {{.blocks = blocks, .lun = 0, .calm = 1}, {.blocks = blocks, .lun = 1, .calm = 1}};
-  const struct vscsi_config config = {.features = work->packed ? VSCSI_FEATURES : VSCSI_F_VERSION_1,
+  const struct vscsi_config config = {.features = VSCSI_F_VERSION_1 | (work->packed ? VSCSI_F_RING_PACKED : 0) |
+                                                  (work->way == TABLES ? VSCSI_F_INDIRECT_DESC : 0),
                                       .queues = queues,
                                       .queue_count = QUEUES,
                                       .units = units,
@@ -161,7 +218,7 @@ static void begin(const struct work *work) {
 static void send(const struct work *work, uint64_t round) {
   uint8_t index[2];
   if (work->packed) {
-    poke(0, round % 2 ? odd : even, 32 * work->depth);
+    poke(0, round % 2 ? odd : even, 16 * slots_of(work) * work->depth);
     return;
   }
   little(index, (round + 1) * work->depth, 2);
@@ -210,15 +267,21 @@ static uint64_t now(void) {
   return (uint64_t)time.tv_sec * 1000000000 + (uint64_t)time.tv_nsec;
 }
 
+// Whether a ring has such requests: a packed one is written whole in each round, so each takes all slots that it may.
+static bool has(bool packed, enum ring way, enum kind kind) {
+  return !packed || way != APART || kind == NONE || kind == READ_512 || kind == READ_64K;
+}
+
 // The work that the words name. Whether they name one.
 static bool named(char **words, struct work *work) {
   char *end;
-  unsigned kind = 0;
+  unsigned kind = 0, ring = 0;
   while (kind < KINDS && strcmp(words[0], names[kind]) != 0) kind++;
-  work->kind = (enum kind)kind;
-  work->packed = strcmp(words[1], "packed") == 0;
-  if (kind == KINDS || (!work->packed && strcmp(words[1], "split") != 0)) return false;
+  while (ring < 2 * WAYS && strcmp(words[1], rings[ring / WAYS][ring % WAYS]) != 0) ring++;
+  if (kind == KINDS || ring == 2 * WAYS) return false;
+  *work = (struct work){.kind = (enum kind)kind, .packed = ring / WAYS, .way = (enum ring)(ring % WAYS)};
   work->depth = (unsigned)strtoul(words[2], &end, 10);
+  if (size_of(work) < 2 || !has(work->packed, work->way, work->kind)) return false;
   if (*end || work->depth == 0 || work->depth > MOST_DEPTH || (work->depth & (work->depth - 1))) return false;
   work->rounds = strtoull(words[3], &end, 10);
   return *end == 0 && words[3][0] >= '0' && words[3][0] <= '9';
@@ -235,11 +298,12 @@ int main(int count, char **words) {
     return 0;
   }
   if (count != 1) return 2;
-  for (unsigned packed = 0; packed < 2; packed++) {
+  for (unsigned ring = 0; ring < 2 * WAYS; ring++) {
     for (unsigned kind = 0; kind < KINDS; kind++) {
-      work = (struct work){.kind = (enum kind)kind, .packed = packed, .depth = FEW_REQUESTS, .rounds = FEW_ROUNDS};
+      work = (struct work){.kind = (enum kind)kind, .packed = ring / WAYS, .way = (enum ring)(ring % WAYS), .depth = FEW_REQUESTS, .rounds = FEW_ROUNDS};
+      if (!has(work.packed, work.way, work.kind)) continue;
       begin(&work);
-      printf("%s %s: %llu\n", names[kind], packed ? "packed" : "split", (unsigned long long)serve(&work));
+      printf("%s %s: %llu\n", names[kind], rings[ring / WAYS][ring % WAYS], (unsigned long long)serve(&work));
       must(vscsi_destroy(&device));
     }
   }

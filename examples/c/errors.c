@@ -53,6 +53,8 @@ static void causes(void) {
   config.pages = 65537, refused(__LINE__, VSCSI_PAGES, 0, 0);
   config.features = VSCSI_F_RING_PACKED, refused(__LINE__, VSCSI_BAD_FEATURES, 0, 0);
   config.features = VSCSI_FEATURES | 1, refused(__LINE__, VSCSI_BAD_FEATURES, 0, 0);
+  config.features = VSCSI_ACCEPTED_FEATURES | UINT64_C(1) << 30, refused(__LINE__, VSCSI_BAD_FEATURES, 0, 0);
+  config.features = VSCSI_F_INDIRECT_DESC | VSCSI_F_EVENT_IDX, refused(__LINE__, VSCSI_BAD_FEATURES, 0, 0);
   config.queue_count = 2, refused(__LINE__, VSCSI_QUEUE_COUNT, 0, 0);
   config.queues = 0, config.queue_count = 0, refused(__LINE__, VSCSI_QUEUE_COUNT, 0, 0);
   queues[1].size = 1, queues[2].size = 1, refused(__LINE__, VSCSI_QUEUE_SIZE, 1, 0);
@@ -63,7 +65,7 @@ static void causes(void) {
   config.unit_count = 0, refused(__LINE__, VSCSI_UNIT_COUNT, 0, 0);
   units[1].lun = 16384, refused(__LINE__, VSCSI_UNIT_LUN, 1, 0);
   units[0].blocks = 0, units[1].blocks = 0, refused(__LINE__, VSCSI_UNIT_BLOCKS, 0, 0);
-  units[1].blocks = 131073, refused(__LINE__, VSCSI_UNIT_BLOCKS, 1, 0);
+  units[1].blocks = VSCSI_MOST_BLOCKS + 1, refused(__LINE__, VSCSI_UNIT_BLOCKS, 1, 0);
   units[1].target = 0, refused(__LINE__, VSCSI_UNIT_ORDER, 1, 0);
   units[1].lun = 1, refused(__LINE__, VSCSI_NO_LUN_0, 1, 0);
 }

@@ -53,14 +53,27 @@ enum vscsi_answer {
   VSCSI_NULL = 9        /* a pointer is null */
 };
 
-/* The features that the device offers. A driver has to agree to the first, and chooses by the second between split
- * queues and packed ones (VIRTIO 1.2, 6). */
+/* The features that the device knows (VIRTIO 1.2, 6). A driver has to agree to VSCSI_F_VERSION_1. By VSCSI_F_RING_PACKED
+ * it chooses packed queues in place of split ones, by VSCSI_F_INDIRECT_DESC chains that end in a table of descriptors,
+ * by VSCSI_F_EVENT_IDX notifications of the completions alone that it names. */
+#define VSCSI_F_INDIRECT_DESC (UINT64_C(1) << 28)
+#define VSCSI_F_EVENT_IDX (UINT64_C(1) << 29)
 #define VSCSI_F_VERSION_1 (UINT64_C(1) << 32)
 #define VSCSI_F_RING_PACKED (UINT64_C(1) << 34)
-#define VSCSI_FEATURES (VSCSI_F_VERSION_1 | VSCSI_F_RING_PACKED)
+
+/* The features that any host may offer. */
+#define VSCSI_FEATURES (VSCSI_F_VERSION_1 | VSCSI_F_RING_PACKED | VSCSI_F_INDIRECT_DESC)
+
+/* All features that vscsi_create takes. The device never writes `avail_event` or its event area. A driver of a split
+ * queue that agreed to VSCSI_F_EVENT_IDX notifies only of the chain that `avail_event` names, so it stops after its
+ * first request. Offer that feature for packed queues alone, or write the guest's `avail_event` behind each call. */
+#define VSCSI_ACCEPTED_FEATURES (VSCSI_FEATURES | VSCSI_F_EVENT_IDX)
 
 #define VSCSI_PAGE 4096u
 #define VSCSI_BLOCK 512u
+
+/* The most blocks of a disk: 512 tebibytes. A disk takes memory for what was written to it, and none for its size. */
+#define VSCSI_MOST_BLOCKS (UINT64_C(1) << 40)
 
 /* Where the driver put a queue: its descriptors, its driver area and its device area, by guest addresses, and how many
  * descriptors it has, 2 to 1,024. Of a split queue the driver area is the available ring, and the device area the used
@@ -72,7 +85,7 @@ struct vscsi_queue {
   uint16_t size;
 };
 
-/* A disk: a target of 0 to 255 and a LUN of 0 to 16,383, with 1 to 131,072 blocks of 512 zeros. Where `calm` is 0
+/* A disk: a target of 0 to 255 and a LUN of 0 to 16,383, with 1 to VSCSI_MOST_BLOCKS blocks of 512 zeros. Where `calm` is 0
  * the power on (29/00) is pending, which its first command meets that isn't INQUIRY, REPORT LUNS or REQUEST SENSE. */
 struct vscsi_unit {
   uint64_t blocks;
@@ -100,7 +113,7 @@ struct vscsi_config {
  * other for 4 and 5, and units for 9 and 10. Of a queue or a unit `place` says which, from 0. */
 enum vscsi_cause {
   VSCSI_PAGES = 1,        /* no pages, or more than 65,536 */
-  VSCSI_BAD_FEATURES = 2, /* not VSCSI_F_VERSION_1, alone or with VSCSI_F_RING_PACKED */
+  VSCSI_BAD_FEATURES = 2, /* no VSCSI_F_VERSION_1, or one that isn't among VSCSI_ACCEPTED_FEATURES */
   VSCSI_QUEUE_COUNT = 3,  /* fewer than 3 queues, or more than 18 */
   VSCSI_QUEUE_SIZE = 4,   /* a queue of fewer than 2 descriptors, or of more than 1,024 */
   VSCSI_QUEUE_LAYOUT = 5, /* a queue can't lie so: `detail` is an `enum vscsi_layout` */
@@ -108,7 +121,7 @@ enum vscsi_cause {
   VSCSI_HANDOFF = 7,      /* never: there is room for 64 */
   VSCSI_UNIT_COUNT = 8,   /* no units, or more than 64 */
   VSCSI_UNIT_LUN = 9,     /* a LUN above 16,383 */
-  VSCSI_UNIT_BLOCKS = 10, /* no blocks, or more than 131,072 */
+  VSCSI_UNIT_BLOCKS = 10, /* no blocks, or more than VSCSI_MOST_BLOCKS */
   VSCSI_UNIT_ORDER = 11,  /* a unit that doesn't stand above the one before it */
   VSCSI_NO_LUN_0 = 12     /* a unit whose target has no LUN 0 */
 };
@@ -135,7 +148,7 @@ enum vscsi_broken {
   VSCSI_BUFFER_OUTSIDE = 5,          /* a buffer isn't in guest memory */
   VSCSI_READABLE_AFTER_WRITABLE = 6, /* a readable buffer behind a writable one */
   VSCSI_ALREADY_OUTSTANDING = 7,     /* a head or id that the device still has */
-  VSCSI_BAD_INDIRECT = 8,            /* an indirect table, which wasn't agreed */
+  VSCSI_BAD_INDIRECT = 8,            /* an indirect table that is malformed, or wasn't agreed to */
   VSCSI_RING_OVERRUN = 9             /* more descriptors than the ring has */
 };
 
@@ -178,7 +191,8 @@ static inline enum vscsi_answer vscsi_destroy(struct vscsi *device) {
 /* Serves all that the guest made available on all queues, until nothing is left to do, and counts the steps. Called when a
  * driver notified a queue, or whenever; where there is nothing to do it costs a look at each queue. It ends whatever the
  * guest wrote. The control and the request queues then have no chain outstanding; event buffers are held until an event
- * wants them.
+ * wants them. A unit takes pages of its disk as they are first written, and about 100 KiB for its latest steps as the first
+ * 1,400 requests come; a request after these leaves nothing behind.
  * VSCSI_NO_DEVICE; VSCSI_NO_MEMORY where malloc refused what was next: what was served before stands, its notifications
  * are owed, and a later call goes on from there. */
 static inline enum vscsi_answer vscsi_settle(struct vscsi *device, uint64_t *steps) {
