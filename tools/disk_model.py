@@ -36,6 +36,8 @@ class Request:
     cdb: bytes
     out: bytes = b""
     room: int = 0
+    # Which of its queue's requests it is; -1 where its name says so behind a letter.
+    place: int = -1
 
 
 @dataclass
@@ -61,6 +63,11 @@ def shown(name, residual=0, response=0, status=0, sense="-", data=b""):
             f"residual={residual} sense={sense} data={runs(data)}")
 
 
+def busy(request):
+    """The line of a request that was answered BUSY (SAM-5 §5.3.1)."""
+    return shown(request.name, len(request.out) + request.room, status=8)
+
+
 @dataclass
 class Disk:
     """A disk, and what its history did so far."""
@@ -77,13 +84,15 @@ class Disk:
     ran: dict = field(default_factory=dict)
     left: dict = field(default_factory=dict)
     functions: list = field(default_factory=list)
+    # The tasks that each abort is for, by their names, in order: none where it is for all.
+    aims: list = field(default_factory=list)
 
     def __post_init__(self):
         self.blocks = bytearray(BLOCK * self.capacity)
 
     def comes(self, request, at):
         """A request enters or is refused: each once, those of one queue in order."""
-        place = int(request.name[1:])
+        place = request.place if request.place >= 0 else int(request.name[1:])
         if self.last.get(request.queue, -1) >= place:
             raise Wrong(f"{request.name} came twice, or behind a later one of its queue")
         self.last[request.queue] = place
@@ -123,8 +132,16 @@ class Disk:
         self.ran[request.name] = at
         self.lines[request.name] = self.answer(request)
 
+    def busy(self, request, at):
+        """A command was refused memory: nothing changed."""
+        task = self.tasks.get(request.name)
+        if not task or not task.is_enabled or task.is_done or task.mark:
+            raise Wrong(f"{request.name} was refused memory where it doesn't run: {task}")
+        task.is_done = True
+        self.lines[request.name] = busy(request)
+
     def leave(self, request, at):
-        """A task leaves: it ran, or it was marked."""
+        """A task leaves: it ran, was refused memory, or was marked."""
         task = self.tasks.pop(request.name, None)
         if not task or not (task.is_done or task.mark):
             raise Wrong(f"{request.name} left where it may not")
@@ -134,10 +151,11 @@ class Disk:
         self.enable()
 
     def mark(self, kind, at):
-        """All tasks that haven't run are aborted, or the unit is reset."""
+        """Tasks that haven't run are aborted, or the unit is reset."""
         self.functions.append((at, kind, list(self.tasks)))
-        for task in self.tasks.values():
-            task.mark = task.mark or ("" if task.is_done else kind)
+        aim = self.aims.pop(0) if kind == "abort" and self.aims else None
+        for name, task in self.tasks.items():
+            task.mark = task.mark or ("" if task.is_done or aim not in (None, name) else kind)
         if kind == "reset" and BUS_RESET not in self.pending:
             self.pending.append(BUS_RESET)
 
@@ -194,7 +212,7 @@ class Disk:
 
     def replay(self, steps, requests):
         """Takes all steps of a printed history."""
-        kinds = {"enter": self.enter, "full": self.full, "commit": self.commit, "leave": self.leave}
+        kinds = {"enter": self.enter, "full": self.full, "commit": self.commit, "busy": self.busy, "leave": self.leave}
         for at, step in enumerate(steps):
             kind, _, name = step.partition(" ")
             if kind in ("abort", "reset") and not name:
