@@ -1,32 +1,26 @@
 -- What the ring's own functions answer to one another. No promise stands on these: public clauses cite what ring_core
 -- defines.
-use Rattle.std.specs.Prelude.{ℕ, ◌≡◌, ◌+◌, ◌*◌, ◌/◌, ◌<◌, ◌≤◌, ◌^◌, List, length, None, Result, Ok, Err}
+use Rattle.std.specs.Prelude.{ℕ, ◌≡◌, ◌/◌, ◌++◌, ◌∷◌, [], List, length, None, Result, Ok, Err}
 use Rattle.ring_core.specs.State.{RingState}
-use Rattle.ring_core.specs.Walk.{nothing_before, Sequence}
-use Rattle.ring_core.specs.Packed.{slot_at, packed_wrong, packed_slots, packed_table, PackedChain, PackedFails}
+use Rattle.ring_core.specs.Walk.{nothing_before, part_of}
+use Rattle.ring_core.specs.Walking.{Walks}
+use Rattle.ring_core.specs.Packed.{slot_at, packed_wrong, packed_table, PackedChain, PackedFails}
 use Rattle.ring_core.specs.Offer.{PackedOffers, Found, Refused, BeginsInForm}
 use Rattle.ring_core.specs.declared.layout.Features.{Features}
 use Rattle.ring_core.specs.declared.layout.Form.TheVariants.{Packed}
 use Rattle.ring_core.specs.declared.layout.Layout.{Layout}
+use Rattle.ring_core.specs.declared.descriptor.Part.{Part}
+use Rattle.ring_core.specs.declared.descriptor.Descriptor.{Descriptor}
+use Rattle.ring_core.specs.declared.before.Before.{Before}
+use Rattle.ring_core.specs.declared.run.Run.{Run}
 use Rattle.packed_ring.specs.declared.walk.Candidate.{Candidate}
-use Rattle.packed_ring.specs.declared.walk.Along.{Along}
-use Rattle.packed_ring.specs.declared.walk.Along.TheVariants.{Slots, Entries}
 use Rattle.ring_core.specs.declared.fault.RingFault.{RingFault}
 use Rattle.ring_core.specs.declared.fault.RingFault.TheVariants.{NoMemory}
 
--- what a run goes along, as a sequence
-abbrev pub sequence_of : List ℕ → Along → Sequence
-sequence_of m (Slots l t features) = packed_slots features m l t
-sequence_of m (Entries d) = packed_table m d
-
-abbrev pub count_of : Along → ℕ
-count_of (Slots l t features) = l.size
-count_of (Entries d) = d.len / 16
-
--- it lies in a memory of this size
-abbrev pub LiesIn : ℕ → Along → Type 0
-LiesIn memory (Slots l t features) = (0 < l.size) × (l.desc + 16 * l.size ≤ memory) × (t < 2 ^ 100)
-LiesIn memory (Entries d) = d.addr + 16 * (d.len / 16) ≤ memory
+-- the entries of the table that a descriptor names are a run, and these are its parts, behind earlier ones
+abbrev pub EndsInTable : List ℕ → Descriptor → Before → List Part → List Part → Type 0
+EndsInTable m d first earlier parts =
+    (run : Run) × Walks (packed_table m d) (d.len / 16) first earlier run × (parts ≡ run.draft ++ part_of run.last ∷ [])
 
 -- this is the chain in the slots from there on
 abbrev pub IsFound : Features → List ℕ → Layout → ℕ → Candidate → Type 0

@@ -1,38 +1,58 @@
-use Rattle.std.proofs.Common.{◌+◌, [], refl}
-use Rattle.ring_core.specs.Walk.{nothing_before}
-use Rattle.ring_core.specs.Walking.{Walks}
+use Rattle.std.proofs.Common.{◌≡◌, ◌++◌, ◌∷◌, [], arith, rules}
+use Rattle.ring_core.specs.Walk.{nothing_before, part_of}
 use Rattle.ring_core.specs.Packed.{packed_slots, packed_table}
-use Rattle.ring_core.proofs.Walking.{ring_fails}
-use Rattle.packed_ring.proofs.BySlot.{as_packed, alone, table_lies, fails, ended}
+use Rattle.ring_core.specs.declared.fault.RingFault.TheVariants.{NoMemory}
+use Rattle.ring_core.proofs.Walking.{packed_walk, walked_start, walked_more, walked_first, walked_wrong, ring_fails}
+use Rattle.packed_ring.proofs.BySlot.{as_packed, last_alone, named_lies, named_fails, named_ends}
 use Rattle.packed_ring.proofs.walk.walk.Goals as goal
 
-pub returns-then-not-is_indirect : goal.returns-then-not-is_indirect
-returns-then-not-is_indirect c =
-    let w : Walks (packed_slots c.args.features c.args.memory.now c.args.layout.now c.args.passed) c.args.layout.now.size nothing_before [] c.in-Ok.run' = rw (c.nothing.ensures, c.requires.empty) at c.in-Ok.ensures in
-    alone c.args.features c.args.memory.now c.args.layout.now c.args.passed c.in-Ok.run' w c.in-Ok.run'.last.next_or_id (c.in-Ok.run'.before.count + 1) refl refl (rw c.is_indirect.ensures at c.if-not-is_indirect.true) c.of.result c.of.ensures
-
-pub walk_run-requires-2-clause-lies : goal.walk_run-requires-2-clause-lies
-walk_run-requires-2-clause-lies c =
-    let w : Walks (packed_slots c.args.features c.args.memory.now c.args.layout.now c.args.passed) c.args.layout.now.size nothing_before [] c.in-Ok.run' = rw (c.nothing.ensures, c.requires.empty) at c.in-Ok.ensures in
-    (table_lies c.args.features c.args.memory.now c.args.layout.now c.args.passed c.in-Ok.run' w (rw c.is_indirect.ensures at c.if-not-is_indirect.false)).0
-
-pub walk_run-requires-2-clause-some : goal.walk_run-requires-2-clause-some
-walk_run-requires-2-clause-some c =
-    let w : Walks (packed_slots c.args.features c.args.memory.now c.args.layout.now c.args.passed) c.args.layout.now.size nothing_before [] c.in-Ok.run' = rw (c.nothing.ensures, c.requires.empty) at c.in-Ok.ensures in
-    (table_lies c.args.features c.args.memory.now c.args.layout.now c.args.passed c.in-Ok.run' w (rw c.is_indirect.ensures at c.if-not-is_indirect.false)).1
-
-pub returns-in-Err-walk_run : goal.returns-in-Err-walk_run
-returns-in-Err-walk_run c =
-    let w : Walks (packed_slots c.args.features c.args.memory.now c.args.layout.now c.args.passed) c.args.layout.now.size nothing_before [] c.in-Ok.run' = rw (c.nothing.ensures, c.requires.empty) at c.in-Ok.ensures in
-    fails c.args.features c.args.memory.now c.args.layout.now c.args.passed c.in-Ok.run' w (rw c.is_indirect.ensures at c.if-not-is_indirect.false) c.in-Err-walk_run.fault c.in-Err-walk_run.ensures
-
-pub returns-in-Ok-walk_run : goal.returns-in-Ok-walk_run
-returns-in-Ok-walk_run c =
-    let w : Walks (packed_slots c.args.features c.args.memory.now c.args.layout.now c.args.passed) c.args.layout.now.size nothing_before [] c.in-Ok.run' = rw (c.nothing.ensures, c.requires.empty) at c.in-Ok.ensures in
-    ended c.args.features c.args.memory.now c.args.layout.now c.args.passed c.in-Ok.run' w (rw c.is_indirect.ensures at c.if-not-is_indirect.false) c.in-Ok-walk_run.further c.in-Ok-walk_run.ensures c.in-Ok.run'.last.next_or_id (c.in-Ok.run'.before.count + 1) refl refl
-    c.of-in-Ok-walk_run.result c.of-in-Ok-walk_run.ensures
+pub along-init : goal.along-init
+along-init c =
+    rw (c.requires.empty, c.nothing-before.ensures)
+    (walked_start (packed_slots c.args.features c.args.memory.now c.args.layout.now c.args.passed) c.args.layout.now.size (packed_walk c.args.features c.args.memory.now c.args.layout.now c.args.passed) nothing_before [] c.requires.some (omega arith))
 
 pub returns-in-Err : goal.returns-in-Err
 returns-in-Err c =
-    as_packed c.args.features c.args.memory.now c.args.layout.now c.args.passed c.in-Err.fault
-    (ring_fails (packed_slots c.args.features c.args.memory.now c.args.layout.now c.args.passed) (packed_table c.args.memory.now) c.in-Err.fault (rw c.nothing.ensures at c.in-Err.ensures))
+    as_packed c.args.features c.args.memory.now c.args.layout.now c.args.passed c.in-Err.fault (ring_fails (packed_slots c.args.features c.args.memory.now c.args.layout.now c.args.passed) (packed_table c.args.memory.now) c.in-Err.fault
+    (walked_wrong (packed_slots c.args.features c.args.memory.now c.args.layout.now c.args.passed) c.args.layout.now.size (packed_walk c.args.features c.args.memory.now c.args.layout.now c.args.passed) nothing_before [] c.along.step c.along.before c.along.draft c.descriptor_at-d.result
+    c.along.invariant c.descriptor_at-d.ensures c.in-Err.fault (rw c.size-bytes.ensures.size at c.in-Err.ensures)))
+
+pub walk_table-requires-clause-some : goal.walk_table-requires-clause-some
+walk_table-requires-clause-some c =
+    (named_lies c.args.features c.args.memory.now c.args.layout.now c.args.passed c.along.step c.along.before c.along.draft c.descriptor_at-d.result
+    c.along.invariant c.descriptor_at-d.ensures (rw c.size-bytes.ensures.size at c.in_default.ensures) (rw c.is_indirect.ensures at c.if-is_indirect.true)).1
+
+pub walk_table-requires-clause-lies : goal.walk_table-requires-clause-lies
+walk_table-requires-clause-lies c =
+    (named_lies c.args.features c.args.memory.now c.args.layout.now c.args.passed c.along.step c.along.before c.along.draft c.descriptor_at-d.result
+    c.along.invariant c.descriptor_at-d.ensures (rw c.size-bytes.ensures.size at c.in_default.ensures) (rw c.is_indirect.ensures at c.if-is_indirect.true)).0
+
+pub returns-in-Err-walk_table : goal.returns-in-Err-walk_table
+returns-in-Err-walk_table c =
+    named_fails c.args.features c.args.memory.now c.args.layout.now c.args.passed c.along.step c.along.before c.along.draft c.descriptor_at-d.result
+    c.along.invariant c.descriptor_at-d.ensures (rw c.size-bytes.ensures.size at c.in_default.ensures) (rw c.is_indirect.ensures at c.if-is_indirect.true) c.in-Err-walk_table.fault c.in-Err-walk_table.ensures
+
+pub returns-in-Ok : goal.returns-in-Ok
+returns-in-Ok c =
+    named_ends c.args.features c.args.memory.now c.args.layout.now c.args.passed c.along.step c.along.before c.along.draft c.descriptor_at-d.result
+    c.along.invariant c.descriptor_at-d.ensures (rw c.size-bytes.ensures.size at c.in_default.ensures) (rw c.is_indirect.ensures at c.if-is_indirect.true) c.in-Ok.draft c.in-Ok.ensures
+
+pub returns-then-is_err : goal.returns-then-is_err
+returns-then-is_err c =
+    as_packed c.args.features c.args.memory.now c.args.layout.now c.args.passed NoMemory (ring_fails (packed_slots c.args.features c.args.memory.now c.args.layout.now c.args.passed) (packed_table c.args.memory.now) NoMemory
+    (walked_first (packed_slots c.args.features c.args.memory.now c.args.layout.now c.args.passed) c.args.layout.now.size (packed_walk c.args.features c.args.memory.now c.args.layout.now c.args.passed) nothing_before [] c.along.step c.along.before c.along.draft c.descriptor_at-d.result
+    c.along.invariant c.descriptor_at-d.ensures (rw c.size-bytes.ensures.size at c.in_default.ensures)))
+
+pub returns-then-not-goes_on : goal.returns-then-not-goes_on
+returns-then-not-goes_on c =
+    let pushed : c.push.new.self ≡ c.along.draft ++ part_of c.descriptor_at-d.result ∷ [] = search rules in
+    rw pushed
+    (last_alone c.args.features c.args.memory.now c.args.layout.now c.args.passed c.along.step c.along.before c.along.draft c.descriptor_at-d.result
+    c.along.invariant c.descriptor_at-d.ensures (rw c.size-bytes.ensures.size at c.in_default.ensures) (rw c.goes_on.ensures at c.if-not-goes_on.true) (rw c.is_indirect.ensures at c.if-is_indirect.false))
+
+pub along-preserved : goal.along-preserved
+along-preserved c =
+    let pushed : c.push.new.self ≡ c.along.draft ++ part_of c.descriptor_at-d.result ∷ [] = search rules in
+    rw (pushed, c.with-before.ensures)
+    (walked_more (packed_slots c.args.features c.args.memory.now c.args.layout.now c.args.passed) c.args.layout.now.size (packed_walk c.args.features c.args.memory.now c.args.layout.now c.args.passed) nothing_before [] c.along.step c.along.before c.along.draft c.descriptor_at-d.result
+    c.along.invariant c.descriptor_at-d.ensures (rw c.size-bytes.ensures.size at c.in_default.ensures) (rw c.goes_on.ensures at c.if-not-goes_on.false))
