@@ -1,9 +1,11 @@
 -- A step along the slots of a chain, and the table that the last of them names.
-use Rattle.std.proofs.Common.{◌≡◌, ℕ, ◌+◌, ◌*◌, ◌/◌, ◌%◌, ◌≤◌, List, [], ◌∷◌, ◌++◌, length, true, false, map, None, refl, sym, ap, ◌∙◌, subst, arith}
+use Rattle.std.proofs.Common.{◌≡◌, ℕ, suc, ◌+◌, ◌*◌, ◌/◌, ◌%◌, ◌≤◌, List, [], ◌∷◌, ◌++◌, length, true, false, map, None, refl, sym, ap, ◌∙◌, subst, arith}
 use Rattle.std.proofs.lemmas.Grind.{common_steps}
+use Rattle.std.proofs.Math.Nat.{suc-mod}
+use Rattle.guest_mem.specs.Memory.{bytes_at}
 use Rattle.ring_core.specs.Walk.{nothing_before, goes_on, is_indirect, part_of, amount, table_wrong, Sequence, IsRun, IsChain}
 use Rattle.ring_core.specs.Walking.{Walks, RunFailsOrLacks, ChainFailsOrLacks}
-use Rattle.ring_core.specs.Packed.{slot_at, packed_wrong, packed_slots, packed_table, PackedChain}
+use Rattle.ring_core.specs.Packed.{packed_descriptor, slot_at, packed_wrong, packed_slots, packed_table, PackedChain}
 use Rattle.ring_core.specs.declared.layout.Features.{Features}
 use Rattle.ring_core.specs.declared.layout.Layout.{Layout}
 use Rattle.ring_core.specs.declared.descriptor.Part.{Part}
@@ -29,6 +31,16 @@ names_last features memory d e = grind (arith, common_steps)
 pub as_packed : (features : Features) (m : List ℕ) (l : Layout) (t : ℕ) (f : RingFault) → ChainFailsOrLacks (packed_slots features m l t) (packed_table m) f → PackedFailsOrLacks features m l t f
 as_packed features m l t NoMemory lacks = let e : t + 0 ≡ t = omega arith in rw e at lacks
 as_packed features m l t f bad = bad
+
+-- the slot that is reached once t + n were passed, and the one behind it
+pub at_slot : (l : Layout) (m : List ℕ) (t n slot : ℕ) (d : Descriptor) → slot ≡ (t + n) % l.size → d ≡ packed_descriptor (bytes_at m (l.desc + 16 * slot) 16) → d ≡ slot_at l m (t + n)
+at_slot l m t n slot d here is = is ∙ ap (λ (k : ℕ). packed_descriptor (bytes_at m (l.desc + 16 * k) 16)) here
+
+pub slot_moves : (size t n slot : ℕ) → slot ≡ (t + n) % size → (slot + 1) % size ≡ (t + (n + 1)) % size
+slot_moves size t n slot here =
+    let after : t + (n + 1) ≡ suc (t + n) = omega arith in
+    let next : (t + n) % size + 1 ≡ suc ((t + n) % size) = omega arith in
+    ap (λ (k : ℕ). (k + 1) % size) here ∙ ap (λ (k : ℕ). k % size) next ∙ sym (suc-mod (t + n) size) ∙ ap (λ (k : ℕ). k % size) (sym after)
 
 -- The chain that a run in the ring gives.
 module _ (features : Features) (m : List ℕ) (l : Layout) (t : ℕ) (run : Run) (w : Walks (packed_slots features m l t) l.size nothing_before [] run) where
@@ -73,7 +85,7 @@ module _ (features : Features) (m : List ℕ) (l : Layout) (t : ℕ) (run : Run)
 
 -- A walk along the ring that stands at a slot with nothing wrong.
 module _ (features : Features) (m : List ℕ) (l : Layout) (t n : ℕ) (b : Before) (parts : List Part) (d : Descriptor)
-  (w : Walked (packed_slots features m l t) l.size nothing_before [] n b parts) (is : d ≡ slot_at l m (t + n)) (right : packed_wrong features (length m) l.size b d ≡ None) where
+    (w : Walked (packed_slots features m l t) l.size nothing_before [] n b parts) (is : d ≡ slot_at l m (t + n)) (right : packed_wrong features (length m) l.size b d ≡ None) where
   abbrev here : Run
   here = record { last = d; before = b; draft = parts }
 

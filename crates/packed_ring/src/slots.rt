@@ -28,7 +28,7 @@ pub(crate) fn number_at(memory: &GuestMem, addr: u64) -> u16
 
 /// The slot that is reached once so many slots were passed. Counts below 2^64 are divided as such,
 /// which is far cheaper.
-fn slot_after(passed: u128, size: u16) -> u16
+pub(crate) fn slot_after(passed: u128, size: u16) -> u16
     requires { 0 < size }
     ensures { result ≡ passed % size }
 {
@@ -37,6 +37,15 @@ fn slot_after(passed: u128, size: u16) -> u16
     } else {
         (passed % size as u128) as u16
     }
+}
+
+/// The slot behind one, round and round: a walk along the ring divides once.
+pub(crate) fn slot_behind(slot: u16, size: u16) -> u16
+    requires { slot < size }
+    ensures { result ≡ (slot + 1) % size }
+{
+    let next = slot + 1;
+    if next == size { 0 } else { next }
 }
 
 /// Where the slot lies that is reached once so many slots were passed.
@@ -74,6 +83,17 @@ fn read_descriptor(memory: &GuestMem, addr: u64) -> Descriptor
         flags: LittleEndian::read_u16(&bytes[14..]),
         next_or_id: LittleEndian::read_u16(&bytes[12..]),
     }
+}
+
+/// The descriptor in a slot.
+#[inline(always)]
+pub(crate) fn in_slot(memory: &GuestMem, layout: &Layout, slot: u16) -> Descriptor
+    requires there { slot < layout.now.size }
+    requires inside { layout.now.desc + 16 * layout.now.size ≤ length memory.now }
+    requires small { length memory.now ≤ 2 ^ 28 }
+    ensures { result ≡ packed_descriptor (bytes_at memory.now (layout.now.desc + 16 * slot) 16) }
+{
+    read_descriptor(memory, layout.desc + 16 * slot as u64)
 }
 
 /// The descriptor in the slot that is reached once so many slots were passed.

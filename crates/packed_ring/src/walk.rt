@@ -6,7 +6,7 @@ ghost use Rattle.ring_core.specs.Walking.{RunFailsOrLacks};
 ghost use Rattle.ring_core.specs.Packed.{packed_wrong, packed_table};
 ghost use Rattle.packed_ring.specs.Inner.{EndsInTable, IsFound, PackedFailsOrLacks};
 
-use crate::slots::{descriptor_at, entry_at};
+use crate::slots::{descriptor_at, entry_at, in_slot, slot_after, slot_behind};
 use guest_mem::GuestMem;
 use ring_core::{Before, Descriptor, Draft, Features, Layout, RingFault};
 
@@ -113,7 +113,6 @@ pub(crate) fn walk(
     requires some { 0 < layout.now.size }
     requires inside { layout.now.desc + 16 * layout.now.size ≤ length memory.now }
     requires small { length memory.now ≤ 2 ^ 28 }
-    requires passed { passed < 2 ^ 100 }
     requires empty { draft ≡ [] }
     ensures { MatchResult result
         (λ found. IsFound features memory.now layout.now passed found)
@@ -121,8 +120,9 @@ pub(crate) fn walk(
 {
     let bytes = memory.size();
     let mut before = Before::nothing();
+    let mut slot = slot_after(passed, layout.size);
     'along: for step in 0..layout.size {
-        let d = descriptor_at(memory, layout, passed + step as u128);
+        let d = in_slot(memory, layout, slot);
         if let Err(fault) = check_slot(&before, &d, bytes, layout.size, &features) {
             return Err(fault);
         }
@@ -141,6 +141,7 @@ pub(crate) fn walk(
             return Ok(Candidate { id, slots, draft });
         }
         before = before.with(&d);
+        slot = slot_behind(slot, layout.size);
     }
     unreachable!()
 }

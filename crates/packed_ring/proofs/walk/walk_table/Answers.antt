@@ -1,4 +1,4 @@
-use Rattle.std.proofs.Common.{◌≡◌, ◌+◌, ◌/◌, ◌<◌, ◌++◌, ◌∷◌, [], false, nat_lt, refl, arith, rules}
+use Rattle.std.proofs.Common.{◌≡◌, ◌/◌, ◌++◌, ◌∷◌, [], refl, arith, rules}
 use Rattle.std.proofs.lemmas.Bool.Decides.{nat_tests}
 use Rattle.ring_core.specs.Walk.{part_of}
 use Rattle.ring_core.specs.Packed.{packed_table}
@@ -24,11 +24,12 @@ returns-then-is_err c =
 pub returns-then-before-entries : goal.returns-then-before-entries
 returns-then-before-entries c =
     let pushed : c.push.new.self ≡ c.along.draft ++ part_of c.entry_at-d.result ∷ [] = search rules in
-    let run : Run = record { last = c.entry_at-d.result; before = c.along.before; draft = c.along.draft } in
-    (run,
-    walked_end (packed_table c.args.memory.now c.args.named) (c.args.named.len / 16) (entries_walk c.args.memory.now c.args.named) c.args.first c.args.draft c.along.place c.along.before c.along.draft c.entry_at-d.result
-    c.along.invariant c.entry_at-d.ensures run refl refl refl (rw c.size-bytes.ensures.size at c.in_default.ensures) (grind (arith, nat_tests)),
-    pushed)
+    let run : Run = record { last = c.entry_at-d.result; before = c.along.before; draft = c.along.draft } in (
+      run,
+      walked_end (packed_table c.args.memory.now c.args.named) (c.args.named.len / 16) (entries_walk c.args.memory.now c.args.named) c.args.first c.args.draft c.along.place c.along.before c.along.draft c.entry_at-d.result
+          c.along.invariant c.entry_at-d.ensures run refl refl refl (rw c.size-bytes.ensures.size at c.in_default.ensures) (grind (arith, nat_tests)),
+      pushed,
+    )
 
 pub along-preserved : goal.along-preserved
 along-preserved c =
