@@ -1,10 +1,9 @@
 //! What lends a phase what it works on.
 
 ghost use Rattle.std.specs.Prelude.{◌≡◌, ◌<◌, List, ℕ};
-ghost use Rattle.std.specs.Fn.{FnOnceReturnsAtMut};
 ghost use Rattle.task_set.specs.Unit.{PlainUnit};
 ghost use Rattle.queues.specs.Queue.{Lent};
-ghost use Rattle.bays.specs.Lending.{OnceAtThree, OnceAtFour};
+ghost use Rattle.bays.specs.Lending.{OnceAtTwo, OnceAtThree, OnceAtFour};
 
 use guest_mem::GuestMem;
 use queues::Queue;
@@ -79,11 +78,15 @@ pub trait Bays {
         ensures units { units self.new ≡ units self.old }
         ensures queues { queues self.new ≡ queues self.old };
 
-    /// Runs what reads or writes the memory alone.
-    fn memory<T, F: FnOnce(&mut GuestMem) -> T>(&mut self, phase: F) -> T
+    /// Runs what reads or writes the memory alone, with room for bytes of the caller, which stays where it is.
+    fn memory<T, F: FnOnce(&mut GuestMem, &mut [u8]) -> T>(
+        &mut self,
+        room: &mut [u8],
+        phase: F,
+    ) -> T
         requires phase { F.IsAlwaysCallable phase }
         ensures did { (m : List ℕ) × (n : List ℕ) × lends_memory self.old m
-            × FnOnceReturnsAtMut F.FnOnce phase m result n × keeps_memory self.old n self.new }
+            × OnceAtTwo F.FnOnce phase m room.old result n room.new × keeps_memory self.old n self.new }
         ensures units { units self.new ≡ units self.old }
         ensures queues { queues self.new ≡ queues self.old };
 }

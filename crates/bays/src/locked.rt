@@ -1,8 +1,8 @@
 //! The parts of a device that threads share, each under a lock.
 
-ghost use Rattle.std.specs.Prelude.{◌≡◌, ⊤, length};
+ghost use Rattle.std.specs.Prelude.{◌≡◌, length};
 ghost use Rattle.task_set.specs.Unit.{IsUnit};
-ghost use Rattle.bays.specs.Lending.{IsQueue};
+ghost use Rattle.bays.specs.Lending.{IsQueue, IsMemory};
 
 use crate::holding::hold;
 use crate::lend::Bays;
@@ -15,7 +15,7 @@ use unit_history::UnitState;
 /// unit's lock is never held with another. A queue's lock has the memory's inside it, and the memory's is also held
 /// alone. So no thread waits for a lock that waits for one of its own. What a lock held at a moment can't be said;
 /// but whenever it is free, a unit's history is lawful, its blocks and what it has pending are those of that history,
-/// and a queue's log is lawful.
+/// a queue's log is lawful, and the memory has at most 2^28 bytes.
 #[derive(Drop)]
 pub struct Locked<'a, R: Wait> {
     /// What lets a thread wait.
@@ -37,9 +37,9 @@ impl<'a, R: Wait> Bays for Locked<'a, R> {
 
     ghost keeps_queue = { λ s at r n t. IsQueue r × (t ≡ s) };
 
-    ghost lends_memory = { λ s m. ⊤ };
+    ghost lends_memory = { λ s m. IsMemory m };
 
-    ghost keeps_memory = { λ s n t. t ≡ s };
+    ghost keeps_memory = { λ s n t. IsMemory n × (t ≡ s) };
 
     ghost units = { λ s. length s.units.now };
 
@@ -85,9 +85,16 @@ impl<'a, R: Wait> Bays for Locked<'a, R> {
         answer
     }
 
-    fn memory<T, F: FnOnce(&mut GuestMem) -> T>(&mut self, phase: F) -> T {
+    fn memory<T, F: FnOnce(&mut GuestMem, &mut [u8]) -> T>(
+        &mut self,
+        room: &mut [u8],
+        phase: F,
+    ) -> T {
         let mut held = hold(self.rt, self.memory);
         let memory = &mut *held;
-        phase(memory)
+        let _before = memory.size();
+        let answer = phase(memory, room);
+        let _behind = memory.size();
+        answer
     }
 }

@@ -65,7 +65,11 @@ impl<'a> Bays for Plain<'a> {
         phase(&mut self.queues[at], self.memory, one, other)
     }
 
-    fn memory<T, F: FnOnce(&mut GuestMem) -> T>(&mut self, phase: F) -> T {
-        phase(self.memory)
+    fn memory<T, F: FnOnce(&mut GuestMem, &mut [u8]) -> T>(
+        &mut self,
+        room: &mut [u8],
+        phase: F,
+    ) -> T {
+        phase(self.memory, room)
     }
 }

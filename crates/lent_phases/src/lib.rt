@@ -1,9 +1,11 @@
 //! Each phase in one hold of what it works on, whoever lends that.
 #![tactic(auto)]
 
+mod at_memory;
 mod at_queues;
 mod at_units;
 
+pub use at_memory::{peek_on, poke_on};
 pub use at_queues::{
     answer_on, answer_tmf_on, direct_on, fetch_control_on, fetch_event_on, fetch_on, raise_on,
 };
