@@ -4,6 +4,7 @@ ghost use Rattle.std.specs.Prelude.{◌≡◌, ◌≤◌, vec_len, length, IfOk}
 ghost use Rattle.report.specs.Closed.{IsReport};
 
 use crate::kept::{Kept, reply_out};
+use decisions::UnitSpec;
 use guest_mem::GuestMem;
 use queues::Queue;
 use report::{CloseFault, Report, examine};
@@ -59,20 +60,22 @@ fn together(alloc: Global, kept: Vec<Kept>) -> Result<(Vec<Receipt>, Vec<Note>),
     Ok((receipts, notes))
 }
 
-/// The report of the units and queues, at most 65,536 of these, and of the memory, which stood under locks, and of what
-/// each seat kept. Who closes a host calls it, once no thread shares the locks. `Unconfirmed`: the least ticket of a
-/// receipt whose Commit doesn't stand in its unit's history. `Outstanding`: the least ticket of a chain of the control
-/// queue or of a request that wasn't answered, once and as its unit's history says. `NoMemory` where a growth was
-/// refused.
+/// The report of a host that was opened with these units: of its units and queues, at most 65,536 of these, and of its
+/// memory, which stood under locks, and of what each seat kept. Who closes a host calls it, once no thread shares the
+/// locks. `Unconfirmed`: the least ticket of a receipt whose Commit doesn't stand in its unit's history. `Outstanding`: the
+/// least ticket of a chain of the control queue or of a request that wasn't answered, once and as its unit's history says;
+/// or, where there is none, a ticket as [`examine`] names it of what stood under a lock and isn't the host's. `NoMemory`
+/// where a growth was refused.
 pub fn report(
     alloc: Global,
+    specs: &[UnitSpec],
     units: Vec<Mutex<UnitState>>,
     queues: Vec<Mutex<Queue>>,
     memory: Mutex<GuestMem>,
     kept: Vec<Kept>,
 ) -> Result<Report, CloseFault>
     requires few { vec_len queues ≤ 65536 }
-    ensures report { IfOk result (λ r. IsReport r.units.items r.queues.items r.receipts.items r.notes.items) }
+    ensures report { IfOk result (λ r. IsReport specs.now r.units.items r.queues.items r.receipts.items r.notes.items) }
     ensures units { IfOk result (λ r. vec_len r.units ≡ vec_len units) }
     ensures queues { IfOk result (λ r. vec_len r.queues ≡ vec_len queues) }
 {
@@ -92,5 +95,5 @@ pub fn report(
         receipts,
         notes,
     };
-    examine(alloc, report)
+    examine(alloc, specs, report)
 }

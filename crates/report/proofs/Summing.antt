@@ -11,12 +11,14 @@ use Rattle.history.specs.Base.{kept_steps}
 use Rattle.history.specs.Receipts.{Receipt}
 use Rattle.history.proofs.Tickets.{itself}
 use Rattle.task_set.specs.Unit.{PlainUnit}
+use Rattle.decisions.specs.declared.inventory.UnitSpec.{UnitSpec}
 use Rattle.queues.specs.Queue.{Lent}
 use Rattle.notes.specs.Notes.{PlainNote}
 use Rattle.notes.specs.declared.note.Cause.{Cause}
 use Rattle.notes.specs.declared.note.Cause.TheVariants as cause
 use Rattle.report.specs.Words.{has_run}
 use Rattle.report.specs.Settled.{answers, is_asked, is_used, is_request, is_settled, is_astray, has_answer, all_left, where_entered, any_run, has_run_there, is_of, is_founded, is_right, are_right}
+use Rattle.report.specs.Opened.{AreOpenedAs, AreInPlace}
 use Rattle.report.specs.Closed.{IsReport, AreConfirmed, is_outstanding}
 use Rattle.report.specs.Unconfirmed.{AllStand, AllSound}
 use Rattle.report.proofs.Bools.{all_at, split_true, split_false, only_true, unless_true, not_false, is_true, clash, or_true}
@@ -126,9 +128,12 @@ module _ (units : List PlainUnit) (queues : List Lent) (receipts : List Receipt)
     ground_by : (w : Cause) → n.cause ≡ w → is_founded units w n.ticket ≡ true
     ground_by w e = subst (λ (z : Cause). is_founded units z n.ticket ≡ true) e its_ground
 
-  pub adds_up : AllStand units → AllSound queues → AreConfirmed units receipts → IsReport units queues receipts notes
-  adds_up stand sound confirmed =
+  pub adds_up : (specs : List UnitSpec) → AreOpenedAs specs units → AreInPlace queues → AllStand units → AllSound queues
+      → AreConfirmed units receipts → IsReport specs units queues receipts notes
+  adds_up specs opened in_place stand sound confirmed =
       record {
+        opened = opened;
+        in_place = in_place;
         units_stand = stand;
         logs_lawful = sound;
         used = λ t e. only_true (is_asked queues t) (is_used queues t) (split_false (unused t) (unsettled t || stray t) (nothing t)).0 e;

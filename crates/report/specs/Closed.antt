@@ -1,7 +1,8 @@
 -- What is known of a report that a closed host gives, and why none is given.
-use Rattle.std.specs.Prelude.{ℕ, ◌≡◌, Bool, true, false, not, nat_le, ◌&&◌, ◌||◌, List, Option, Some, None, slice_get, Result, Ok, Err, ⊤}
+use Rattle.std.specs.Prelude.{ℕ, ◌≡◌, Bool, true, false, not, nat_le, ◌&&◌, ◌||◌, List, Option, Some, None, slice_get, Result, Ok, Err, ⊤, ◌⊎◌}
 use Rattle.ring_core.specs.declared.log.Ticket.{Ticket}
 use Rattle.ring_core.specs.Sound.{IsSound}
+use Rattle.decisions.specs.declared.inventory.UnitSpec.{UnitSpec}
 use Rattle.history.specs.Steps.{has_entered, has_left}
 use Rattle.history.specs.Base.{base_of, kept_steps}
 use Rattle.history.specs.Receipts.{Receipt, IsConfirmed}
@@ -12,6 +13,7 @@ use Rattle.notes.specs.declared.note.Cause.TheVariants as cause
 use Rattle.report.specs.declared.report.Report.{Report}
 use Rattle.report.specs.declared.fault.CloseFault.{CloseFault}
 use Rattle.report.specs.declared.fault.CloseFault.TheVariants as fault
+use Rattle.report.specs.Opened.{AreOpenedAs, AreInPlace, IsForeign}
 use Rattle.report.specs.Words.{has_run, is_before}
 use Rattle.report.specs.Settled.{is_asked, is_used, is_request, is_settled, is_astray, has_answer, answers, is_of, any_entered, any_run, any_full, any_folded}
 
@@ -49,8 +51,11 @@ is_outstanding units queues receipts notes t =
     || ((is_request queues t && not (is_settled units receipts notes t))
     || (not (is_request queues t) && has_answer receipts notes t))
 
-pub record IsReport (units : List PlainUnit) (queues : List Lent) (receipts : List Receipt)
+pub record IsReport (specs : List UnitSpec) (units : List PlainUnit) (queues : List Lent) (receipts : List Receipt)
     (notes : List PlainNote) : Type 0 where
+  -- the units are those that were wanted, and each queue stands at the place of its number
+  pub opened : AreOpenedAs specs units
+  pub in_place : AreInPlace queues
   -- each history is lawful, and its unit is what it says
   pub units_stand : (k : ℕ) (u : PlainUnit) → slice_get units k ≡ Some u → IsUnit u
   -- each log is lawful
@@ -84,17 +89,20 @@ pub record IsReport (units : List PlainUnit) (queues : List Lent) (receipts : Li
   pub full_stands : (j : ℕ) (n : PlainNote) → slice_get notes j ≡ Some n → n.cause ≡ cause.Full
       → (any_full units n.ticket || any_folded units) ≡ true
 
--- own: why a report is refused, and which ticket is named: the first
-abbrev pub Refuses : Report → CloseFault → Type 0
-Refuses r fault.NoMemory = ⊤
-Refuses r (fault.Unconfirmed t) = IsFirstUnconfirmed r.units.items r.receipts.items t
-Refuses r (fault.Outstanding t) =
+-- own: why a report of a host with these units is refused, and which ticket is named: the first that is outstanding; or,
+-- where none is, that of a unit or a queue of another host
+abbrev pub Refuses : List UnitSpec → Report → CloseFault → Type 0
+Refuses specs r fault.NoMemory = ⊤
+Refuses specs r (fault.Unconfirmed t) = IsFirstUnconfirmed r.units.items r.receipts.items t
+Refuses specs r (fault.Outstanding t) =
     AreConfirmed r.units.items r.receipts.items
-    × IsFirst (is_outstanding r.units.items r.queues.items r.receipts.items r.notes.items) (Some t)
+    × (IsFirst (is_outstanding r.units.items r.queues.items r.receipts.items r.notes.items) (Some t)
+    ⊎ (IsFirst (is_outstanding r.units.items r.queues.items r.receipts.items r.notes.items) None
+    × IsForeign specs r.units.items r.queues.items t))
 
--- own: a report is given as it was where nothing is outstanding; nothing is where it is given
-abbrev pub Examines : Report → Result Report CloseFault → Type 0
-Examines r (Ok given) =
-    (given ≡ r) × IsReport r.units.items r.queues.items r.receipts.items r.notes.items
+-- own: a report is given as it was where nothing is outstanding, and it is of this host; nothing is where it is given
+abbrev pub Examines : List UnitSpec → Report → Result Report CloseFault → Type 0
+Examines specs r (Ok given) =
+    (given ≡ r) × IsReport specs r.units.items r.queues.items r.receipts.items r.notes.items
     × IsFirst (is_outstanding r.units.items r.queues.items r.receipts.items r.notes.items) None
-Examines r (Err f) = Refuses r f
+Examines specs r (Err f) = Refuses specs r f

@@ -1,5 +1,7 @@
 pub mod Words
 pub mod Settled
+pub mod Opened
+pub mod Belonging
 pub mod Closed
 pub mod Tallies
 pub mod Opening

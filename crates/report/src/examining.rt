@@ -6,6 +6,7 @@ ghost use Rattle.report.specs.Closed.{Examines, IsFirst, is_outstanding};
 ghost use Rattle.report.specs.Finding.{Finds};
 ghost use Rattle.report.specs.Unconfirmed.{AllStand};
 
+use crate::belonging::first_foreign;
 use crate::confirming::{are_sound, first_unconfirmed, stand};
 use crate::fault::CloseFault;
 use crate::least::{first_of, lesser};
@@ -13,6 +14,7 @@ use crate::reading::{are_any_folded, read_notes, read_receipts, read_units};
 use crate::report::Report;
 use crate::tables::Tables;
 use block_store::NoMemory;
+use decisions::UnitSpec;
 use ring_core::Ticket;
 use std::alloc::Global;
 
@@ -32,14 +34,17 @@ fn first_outstanding(alloc: Global, report: &Report) -> Result<Option<Ticket>, N
     Ok(lesser(of_queues, lesser(of_receipts, of_notes)))
 }
 
-/// Looks whether a report adds up, and gives it back as it was where it does. Whoever closes a host calls it, with at
-/// most 65,536 queues. Refused are, in this order, a receipt that its unit doesn't confirm (`Unconfirmed`), and a chain
-/// of a request queue or of the control queue that isn't used, a request that isn't settled, or a receipt or note of
-/// what is no accepted request (`Outstanding`); each names the first such ticket by queue and number. `NoMemory` where
-/// the tallies were refused memory. It takes time for each receipt, note, step and accepted chain.
-pub fn examine(alloc: Global, report: Report) -> Result<Report, CloseFault>
+/// Looks whether a report of a host with these units adds up, and gives it back as it was where it does. Whoever closes
+/// a host calls it, with at most 65,536 queues. Refused are, in this order, a receipt that its unit doesn't confirm
+/// (`Unconfirmed`), and a chain of a request queue or of the control queue that isn't used, a request that isn't settled,
+/// or a receipt or note of what is no accepted request (`Outstanding`); each names the first such ticket by queue and
+/// number. Where none is outstanding, `Outstanding` names ticket 0/0 of other units than those of the host: another
+/// number of them, or one that opened with another address or capacity, or keeps no replies; and, where the units are
+/// those, the first ticket of the first place at which a queue of another number stands. `NoMemory` where the tallies were
+/// refused memory. It takes time for each receipt, note, step and accepted chain.
+pub fn examine(alloc: Global, specs: &[UnitSpec], report: Report) -> Result<Report, CloseFault>
     requires { vec_len report.queues ≤ 65536 }
-    ensures { Examines report result }
+    ensures { Examines specs.now report result }
 {
     if let Some(ticket) = first_unconfirmed(report.units.as_slice(), report.receipts.as_slice()) {
         return Err(CloseFault::Unconfirmed(ticket));
@@ -49,6 +54,9 @@ pub fn examine(alloc: Global, report: Report) -> Result<Report, CloseFault>
     match first_outstanding(alloc, &report) {
         Err(_) => Err(CloseFault::NoMemory),
         Ok(Some(ticket)) => Err(CloseFault::Outstanding(ticket)),
-        Ok(None) => Ok(report),
+        Ok(None) => match first_foreign(specs, report.units.as_slice(), report.queues.as_slice()) {
+            Some(ticket) => Err(CloseFault::Outstanding(ticket)),
+            None => Ok(report),
+        },
     }
 }

@@ -2,6 +2,7 @@
 //! what became of its command in a unit's history.
 #![tactic(auto)]
 
+mod belonging;
 mod confirming;
 mod examining;
 mod fault;

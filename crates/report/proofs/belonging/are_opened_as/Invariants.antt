@@ -1,0 +1,5 @@
+use Rattle.report.specs.Belonging.{AreOpenedTo}
+use Rattle.report.proofs.belonging.are_opened_as.Given as goal
+
+abbrev pub invariant-loop-place : goal.invariant-loop-place
+invariant-loop-place l = AreOpenedTo l.specs l.units l.place
