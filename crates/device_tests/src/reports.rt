@@ -2,7 +2,7 @@
 
 use crate::device::are_called;
 use report::CloseFault;
-use report_bench::{Amiss, fault_of, refuses_plain, serves_plain};
+use report_bench::{Amiss, Other, fault_of, refuses_plain, serves_plain};
 use ring_core::Ticket;
 use std::alloc::Global;
 use std::test::Fail;
@@ -18,8 +18,20 @@ const SECOND: Ticket = Ticket {
     number: 0,
 };
 
+/// The first ticket of all, which tells that the units aren't those that were wanted.
+const OTHER_UNITS: Ticket = Ticket {
+    queue: 0,
+    number: 0,
+};
+
+/// The first ticket of the event queue.
+const EVENT: Ticket = Ticket {
+    queue: 1,
+    number: 0,
+};
+
 /// What is amiss, and what is said of it.
-static ROWS: [(Amiss, Option<CloseFault>); 8] = [
+static ROWS: [(Amiss, Option<CloseFault>); 14] = [
     (Amiss::Nothing, None),
     (Amiss::ReceiptLost, Some(CloseFault::Outstanding(FIRST))),
     (Amiss::ReceiptTwice, Some(CloseFault::Outstanding(FIRST))),
@@ -28,6 +40,24 @@ static ROWS: [(Amiss, Option<CloseFault>); 8] = [
     (Amiss::NoteOfAnother, Some(CloseFault::Outstanding(FIRST))),
     (Amiss::BothLost, Some(CloseFault::Outstanding(FIRST))),
     (Amiss::RunTwice, Some(CloseFault::Outstanding(FIRST))),
+    (Amiss::UnitGone, Some(CloseFault::Outstanding(OTHER_UNITS))),
+    (
+        Amiss::OtherUnit(Other::Target),
+        Some(CloseFault::Outstanding(OTHER_UNITS)),
+    ),
+    (
+        Amiss::OtherUnit(Other::Lun),
+        Some(CloseFault::Outstanding(OTHER_UNITS)),
+    ),
+    (
+        Amiss::OtherUnit(Other::Capacity),
+        Some(CloseFault::Outstanding(OTHER_UNITS)),
+    ),
+    (
+        Amiss::OtherUnit(Other::Replies),
+        Some(CloseFault::Outstanding(OTHER_UNITS)),
+    ),
+    (Amiss::OtherQueue, Some(CloseFault::Outstanding(EVENT))),
 ];
 
 /// The number of the first row of which something else is said, from 0.

@@ -7,5 +7,5 @@ mod parts;
 mod reports;
 mod serving;
 
-pub use reports::{Amiss, fault_of};
+pub use reports::{Amiss, Other, fault_of};
 pub use serving::{refuses_plain, serves_plain};

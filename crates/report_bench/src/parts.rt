@@ -24,7 +24,7 @@ const NEXT: u16 = 1;
 const WRITE: u16 = 2;
 
 /// The units, of which LUN 1 is the second.
-const UNITS: [UnitSpec; 2] = [
+pub(crate) const UNITS: [UnitSpec; 2] = [
     UnitSpec {
         target: 0,
         lun: 0,
@@ -56,19 +56,22 @@ fn inventory() -> Option<Inventory> {
     Some(Inventory::new(&UNITS))
 }
 
+/// A unit of the target, which keeps replies or doesn't; `None` where memory was refused.
+pub(crate) fn unit(alloc: Global, spec: &UnitSpec, keeps_replies: bool) -> Option<UnitState> {
+    UnitState::new(alloc, spec, &[0, 1], keeps_replies).ok()
+}
+
 /// The units; `None` where memory was refused.
 fn units(alloc: Global) -> Option<Vec<UnitState>> {
     let mut units = Vec::new(alloc);
     for spec in &UNITS {
-        units
-            .push(UnitState::new(alloc, spec, &[0, 1], true).ok()?)
-            .ok()?;
+        units.push(unit(alloc, spec, true)?).ok()?;
     }
     Some(units)
 }
 
 /// The queue of a number, in its page.
-fn queue(alloc: Global, number: u16, memory: &GuestMem) -> Option<Queue> {
+pub(crate) fn queue(alloc: Global, number: u16, memory: &GuestMem) -> Option<Queue> {
     let page = PAGE * u64::from(number);
     let layout = Layout {
         size: 8,

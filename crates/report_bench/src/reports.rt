@@ -1,10 +1,11 @@
 //! Reports with something amiss, and what is said of them.
 
-use crate::parts::Parts;
+use crate::parts::{Parts, UNITS, queue, unit};
 use crate::serving::{REFUSED, REFUSED_FIRST, RUN, RUN_ELSEWHERE};
+use decisions::UnitSpec;
 use report::{CloseFault, Report, examine};
 use std::alloc::Global;
-use unit_history::{Given, Note, Receipt};
+use unit_history::{Given, Note, Receipt, UnitState};
 
 /// What is amiss in a report of a device whose queue 2 had a request that ran, and whose queue 3 had one that was
 /// refused.
@@ -26,6 +27,25 @@ pub enum Amiss {
     BothLost,
     /// In place of the second unit stands one where the first ran, too.
     RunTwice,
+    /// The second unit, of which nothing was asked, is gone.
+    UnitGone,
+    /// In place of the second unit stands another.
+    OtherUnit(Other),
+    /// In place of the event queue stands a second control queue.
+    OtherQueue,
+}
+
+/// What another unit in place of the second has.
+#[derive(Clone, Copy)]
+pub enum Other {
+    /// Another target.
+    Target,
+    /// Another LUN.
+    Lun,
+    /// Another capacity.
+    Capacity,
+    /// No replies that it keeps.
+    Replies,
 }
 
 /// A device that was closed, and what its requests were answered with.
@@ -64,6 +84,41 @@ fn another_note(alloc: Global) -> Option<Note> {
     Parts::new(alloc)?.refuse(&REFUSED_FIRST)
 }
 
+/// How the unit is wanted that stands in place of the second.
+fn spec_of(other: Other) -> UnitSpec {
+    let second = UNITS[1];
+    match other {
+        Other::Target => UnitSpec {
+            target: 1,
+            ..second
+        },
+        Other::Lun => UnitSpec { lun: 2, ..second },
+        Other::Capacity => UnitSpec {
+            blocks: 9,
+            ..second
+        },
+        Other::Replies => second,
+    }
+}
+
+/// The unit that stands in place of the second.
+fn other_unit(alloc: Global, other: Other) -> Option<UnitState> {
+    unit(alloc, &spec_of(other), !matches!(other, Other::Replies))
+}
+
+/// In place of the last unit stands this one.
+fn put_last(units: &mut Vec<UnitState>, unit: UnitState) -> Option<()> {
+    units.pop()?;
+    units.push(unit).ok()
+}
+
+/// In place of the event queue stands a second control queue.
+fn put_queue(alloc: Global, parts: &mut Parts) -> Option<()> {
+    let other = queue(alloc, 0, &parts.memory)?;
+    *parts.queues.get_mut(1)? = other;
+    Some(())
+}
+
 /// With what is amiss.
 fn closed_with(alloc: Global, amiss: Amiss) -> Option<Closed> {
     let mut closed = with_both(alloc)?;
@@ -88,9 +143,15 @@ fn closed_with(alloc: Global, amiss: Amiss) -> Option<Closed> {
         Amiss::RunTwice => {
             let mut other = Parts::new(alloc)?;
             other.serve(alloc, &RUN_ELSEWHERE)?;
-            closed.parts.units.pop()?;
-            closed.parts.units.push(other.units.pop()?).ok()?;
+            put_last(&mut closed.parts.units, other.units.pop()?)?;
         }
+        Amiss::UnitGone => {
+            closed.parts.units.pop()?;
+        }
+        Amiss::OtherUnit(other) => {
+            put_last(&mut closed.parts.units, other_unit(alloc, other)?)?;
+        }
+        Amiss::OtherQueue => put_queue(alloc, &mut closed.parts)?,
         Amiss::BothLost => {
             closed.receipts.clear();
             closed.notes.clear();
@@ -112,7 +173,7 @@ pub fn fault_of(alloc: Global, amiss: Amiss) -> Option<Option<CloseFault>> {
     if report.queues.len() > 65536 {
         return None;
     }
-    match examine(alloc, report) {
+    match examine(alloc, &UNITS, report) {
         Ok(_) => Some(None),
         Err(CloseFault::NoMemory) => None,
         Err(fault) => Some(Some(fault)),

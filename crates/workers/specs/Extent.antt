@@ -1,18 +1,19 @@
 -- How large a host is, and when one starts.
-use Rattle.std.specs.Prelude.{◌≡◌, ℕ, true, false, length, Result, Ok, Err}
+use Rattle.std.specs.Prelude.{◌≡◌, ℕ, true, false, List, length, Result, Ok, Err}
+use Rattle.decisions.specs.declared.inventory.UnitSpec.{UnitSpec}
 use Rattle.config.specs.declared.config.Config.{Config}
 use Rattle.config.specs.declared.config.StartFault.{StartFault}
 use Rattle.config.specs.declared.config.StartFault.TheVariants.{BadConfig, NoMemory}
 use Rattle.config.specs.Config.{is_config}
 
--- own: how many workers, units and queues it has
+-- own: how many workers and queues it has, and the units that it was opened with
 pub record Extent : Type 0 where
   pub workers : ℕ
-  pub units : ℕ
+  pub units : List UnitSpec
   pub queues : ℕ
 
 abbrev pub extent_of : Config → Extent
-extent_of c = record { workers = c.workers; units = length c.units.items; queues = length c.queues.items }
+extent_of c = record { workers = c.workers; units = c.units.items; queues = length c.queues.items }
 
 -- own: the configuration with so many workers in place of its own
 abbrev pub with_workers : ℕ → Config → Config

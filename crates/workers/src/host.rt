@@ -1,24 +1,27 @@
 //! The host: its threads, from start to close.
 
-ghost use Rattle.std.specs.Prelude.{◌≡◌, ◌<◌, ◌≤◌, true, length, IfOk};
+ghost use Rattle.std.specs.Prelude.{◌≡◌, ◌<◌, ◌≤◌, true, length, vec_len, IfOk, OnOk, OnErr};
 ghost use Rattle.std.specs.Arc.{arc_value};
+ghost use Rattle.std.specs.Bool.{OnTrue};
 ghost use Rattle.handoff.specs.Seats.{IsSeatOf, IsSameSeat};
 ghost use Rattle.config.specs.Config.{is_config};
 ghost use Rattle.workers.specs.Extent.{Starts, extent_of};
+ghost use Rattle.workers.specs.Resetting.{WasReset};
 
 use crate::control::raise;
 use crate::post::{Post, clear, finish};
 use crate::shared::Shared;
 use crate::worker::{Worker, work};
-use bays::{Gate, hold};
+use bays::Gate;
 use block_store::NoMemory;
 use config::{Config, StartFault};
 use crew::{Crew, Worked, Works, hire, unshared};
+use decisions::UnitSpec;
 use event_queue::WaitingEvents;
 use guest_mem::MemFault;
 use handoff::{Handoff, Seat};
 use keeping::{Kept, report};
-use lent_phases::hard_on;
+use lent_phases::{hard_on, peek_on, poke_on};
 use parts::Parts;
 use report::{CloseFault, Report};
 use std::alloc::{AllocError, Global};
@@ -63,17 +66,17 @@ fn share<T: Drop>(alloc: Global, value: T) -> Result<Arc<T>, NoMemory>
 }
 
 /// The parts of a host of a valid configuration, with its threads.
-fn started<R, G>(rt: R, alloc: Global, config: &Config, gate: G) -> Result<Host<G>, NoMemory>
+fn started<R, G>(rt: R, alloc: Global, config: Config, gate: G) -> Result<Host<G>, NoMemory>
 where
     R: Threads + Wait + Copy + Send + 'static,
     G: Gate + Drop + Send + Sync + 'static,
-    requires valid { is_config config.now ≡ true }
-    ensures { IfOk result (λ h. h ≡ extent_of config.now) }
+    requires valid { is_config config ≡ true }
+    ensures { IfOk result (λ h. h ≡ extent_of config) }
 {
     let seats = config.workers as usize + 1;
     let (handoff, seats) = Handoff::new(alloc, config.handoff as usize, seats)?;
     let limit = MOST_TASKS * config.units.len() + MOST_TASKS;
-    let parts = Parts::open(alloc, config)?;
+    let parts = Parts::open(alloc, &config)?;
     let shared = share(alloc, Shared::new(parts, handoff, gate))?;
     let (crew, post) = hire(rt, alloc, &shared, seats, limit)?;
     Ok(Host {
@@ -82,10 +85,31 @@ where
         crew,
         post,
         waiting: WaitingEvents::new(alloc),
+        specs: config.units,
     })
 }
 
-/// A unit is reset by the operator, and the guest is told. What the operator's seat had is served first.
+/// A unit is reset, in one hold of its lock. Whether it was: not where memory was refused, or where the list has no room
+/// for the jobs that this releases.
+fn reset_one<R: Wait, G: Gate + Drop>(
+    rt: &R,
+    shared: &Shared<G>,
+    at: usize,
+    post: &mut Post,
+    waiting: &mut WaitingEvents,
+) -> bool
+    requires at { at < vec_len shared.now.units }
+    ensures reset { OnTrue result WasReset }
+    ensures seat { post.new.seat ≡ post.old.seat }
+{
+    match hard_on(&mut shared.bays(rt), at, &mut post.out, waiting) {
+        Ok(was_reset) => was_reset,
+        Err(NoMemory) => false,
+    }
+}
+
+/// A unit is reset by the operator, and the guest is told. What the operator's seat had is served first. A unit that isn't
+/// there changes nothing. `NoMemory` where a growth was refused: the unit wasn't reset then.
 fn reset<R: Wait, G: Gate + Drop>(
     rt: &R,
     shared: &Shared<G>,
@@ -95,6 +119,8 @@ fn reset<R: Wait, G: Gate + Drop>(
 ) -> Result<(), NoMemory>
     requires seat { IsSeatOf shared.now.handoff post.old.seat }
     ensures seat { IsSameSeat post.old.seat post.new.seat }
+    ensures reset { OnOk result (at < vec_len shared.now.units → WasReset) }
+    ensures there { OnErr result (at < vec_len shared.now.units) }
 {
     clear(rt, shared, post);
     if at >= shared.units.len() {
@@ -103,14 +129,16 @@ fn reset<R: Wait, G: Gate + Drop>(
     if !post.is_free() {
         return Err(NoMemory);
     }
-    hard_on(&mut shared.bays(rt), at, &mut post.out, waiting)?;
+    if !reset_one(rt, shared, at, post, waiting) {
+        return Err(NoMemory);
+    }
     raise(rt, shared, waiting);
     clear(rt, shared, post);
     Ok(())
 }
 
-/// A device that threads serve. Clauses see how many workers, units and queues it has. It isn't `Drop`: who starts one
-/// closes it, which ends its threads.
+/// A device that threads serve. Clauses see how many workers and queues it has, and the units that it was opened with. It
+/// isn't `Drop`: who starts one closes it, which ends its threads.
 pub struct Host<G: Gate + Drop> {
     alloc: Global,
     shared: Arc<Shared<G>>,
@@ -118,6 +146,8 @@ pub struct Host<G: Gate + Drop> {
     // What the operator's seat has, and the events that wait.
     post: Post,
     waiting: WaitingEvents,
+    // What its report is held against.
+    specs: Vec<UnitSpec>,
 }
 
 impl<G: Gate + Drop> Model for Host<G> {
@@ -130,18 +160,22 @@ impl<G: Gate + Drop> Model for Host<G> {
 
     ghost view = { λ h. record {
       workers = h.crew.threads;
-      units = vec_len (arc_value h.shared).units;
+      units = h.specs.items;
       queues = vec_len (arc_value h.shared).queues;
     } };
 
     ghost invariant = { λ h. (vec_len (arc_value h.shared).queues ≤ 18)
+        × (vec_len (arc_value h.shared).units ≡ vec_len h.specs)
         × (h.crew.hub ≡ (arc_value h.shared).handoff) × IsLastSeat (arc_value h.shared).handoff h.post.seat };
 }
 
 impl<G: Gate + Drop> Host<G> {
-    ghost use Rattle.std.specs.Prelude.{◌≡◌, IfOk, IfErr, OnErr, vec_len};
-    ghost use Rattle.report.specs.Closed.{IsReport};
+    ghost use Rattle.std.specs.Prelude.{◌≡◌, ◌<◌, List, ℕ, length, IfOk, IfErr, OnOk, OnErr, vec_len};
     ghost use Rattle.guest_mem.specs.declared.memory.MemFault.TheVariants as MemFault;
+    ghost use Rattle.bays.specs.Lending.{IsMemory};
+    ghost use Rattle.lent_phases.specs.Memory.{Writes, Reads};
+    ghost use Rattle.report.specs.Closed.{IsReport};
+    ghost use Rattle.workers.specs.Resetting.{WasReset};
 
     /// Starts `n` workers, 1 to 8, in place of the number that the configuration has. Who embeds the device calls it
     /// once. `BadConfig` exactly where the device doesn't take such a configuration; else `NoMemory` where a growth
@@ -164,33 +198,37 @@ impl<G: Gate + Drop> Host<G> {
         if !wanted.is_valid() {
             return Err(StartFault::BadConfig);
         }
-        match started(rt, alloc, &wanted, gate) {
+        match started(rt, alloc, wanted, gate) {
             Ok(host) => Ok(host),
             Err(NoMemory) => Err(StartFault::NoMemory),
         }
     }
 
-    /// The guest writes bytes, beside the workers, in one hold of the memory. `Outside`, with nothing changed, where
-    /// one of them lies behind the end.
+    /// The guest writes bytes, beside the workers, in one hold of the memory. `Outside`, with nothing changed, exactly
+    /// where one of them would lie behind the end.
     pub fn poke<R: Wait>(&self, rt: &R, addr: u64, bytes: &[u8]) -> Result<(), MemFault>
-        ensures { IfErr result (λ fault. fault ≡ MemFault.Outside) }
+        ensures did { (m : List ℕ) × (n : List ℕ) × IsMemory m × Writes m addr bytes.now result n × IsMemory n }
+        ensures fault { IfErr result (λ fault. fault ≡ MemFault.Outside) }
     {
-        hold(rt, &self.shared.memory).write(addr, bytes)
+        poke_on(&mut self.shared.bays(rt), addr, bytes)
     }
 
-    /// The guest reads bytes, beside the workers, in one hold of the memory. `Outside`, with nothing read, where one
-    /// of them lies behind the end.
+    /// The guest reads bytes, beside the workers, in one hold of the memory. `Outside`, with nothing read, exactly where
+    /// one of them lies behind the end.
     pub fn peek<R: Wait>(&self, rt: &R, addr: u64, out: &mut [u8]) -> Result<(), MemFault>
+        ensures did { (m : List ℕ) × IsMemory m × Reads m addr out.old result out.new }
         ensures fault { IfErr result (λ fault. fault ≡ MemFault.Outside) }
         ensures unchanged { OnErr result (out.new ≡ out.old) }
     {
-        hold(rt, &self.shared.memory).read(addr, out)
+        peek_on(&mut self.shared.bays(rt), addr, out)
     }
 
     /// The operator resets the unit at a place of the configuration, and the guest is told (TRANSPORT_RESET). A unit
     /// that isn't there changes nothing. `NoMemory` where a growth was refused: the unit wasn't reset then.
     pub fn operator<R: Wait>(&mut self, rt: &R, place: u16) -> Result<(), NoMemory>
-        ensures { self.new ≡ self.old }
+        ensures same { self.new ≡ self.old }
+        ensures reset { OnOk result (place < length self.old.units → WasReset) }
+        ensures there { OnErr result (place < length self.old.units) }
     {
         reset(
             rt,
@@ -204,11 +242,12 @@ impl<G: Gate + Drop> Host<G> {
     /// Ends the workers once nothing is left to them, waits for that, and says what became of every chain that was
     /// accepted. `Unconfirmed`: the least ticket of a receipt whose Commit doesn't stand in its unit's history.
     /// `Outstanding`: the least ticket of a chain of the control queue or of a request that wasn't answered, once and
-    /// as its unit's history says. `NoMemory` where a growth was refused. The host is gone afterwards, also at an
-    /// `Err`.
+    /// as its unit's history says; or, where there is none, a ticket that tells of a unit that isn't as it was opened
+    /// (0/0), or of a queue in another's place (the first of that place). `NoMemory` where a growth was refused. The host
+    /// is gone afterwards, also at an `Err`.
     pub fn close<R: Threads + Wait>(self, rt: &R) -> Result<Report, CloseFault>
-        ensures report { IfOk result (λ r. IsReport r.units.items r.queues.items r.receipts.items r.notes.items) }
-        ensures units { IfOk result (λ r. vec_len r.units ≡ self.units) }
+        ensures report { IfOk result (λ r. IsReport self.units r.units.items r.queues.items r.receipts.items r.notes.items) }
+        ensures units { IfOk result (λ r. vec_len r.units ≡ length self.units) }
         ensures queues { IfOk result (λ r. vec_len r.queues ≡ self.queues) }
     {
         let Host {
@@ -217,6 +256,7 @@ impl<G: Gate + Drop> Host<G> {
             crew,
             mut post,
             waiting: _,
+            specs,
         } = self;
         finish(rt, &*shared, &mut post);
         let Post { seat, kept, .. } = post;
@@ -232,6 +272,6 @@ impl<G: Gate + Drop> Host<G> {
             ..
         } = unshared(rt, shared);
         handoff.gather(seats);
-        report(alloc, units, queues, memory, all)
+        report(alloc, specs.as_slice(), units, queues, memory, all)
     }
 }

@@ -1,0 +1,24 @@
+-- The operator's reset of a unit that a lock lent.
+use Rattle.std.proofs.Common.{Bool, true, false, List, Ok}
+use Rattle.std.specs.Bool.{OnTrue}
+use Rattle.scsi_codec.specs.declared.event_queue.Event.{Event as Report}
+use Rattle.task_set.specs.Jobs.{Jobs}
+use Rattle.task_set.specs.Unit.{PlainUnit, IsUnit}
+use Rattle.phases.specs.Resetting.{Resets}
+use Rattle.workers.specs.Resetting.{WasReset}
+
+pub was_reset : (b : Bool) (u v : PlainUnit) (out out' : Jobs) (w w' : List Report) → IsUnit u → Resets u out w (Ok b) v out' w' → IsUnit v
+    → OnTrue b WasReset
+was_reset true u v out out' w w' before did behind =
+    record {
+      unit = u;
+      jobs = out;
+      waiting = w;
+      unit_after = v;
+      jobs_after = out';
+      waiting_after = w';
+      stands = before;
+      reset = did;
+      stands_after = behind;
+    }
+was_reset false u v out out' w w' before did behind = tt

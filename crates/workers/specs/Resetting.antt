@@ -1,0 +1,19 @@
+-- The operator's reset of a unit that a lock lent.
+use Rattle.std.specs.Prelude.{true, List, Ok}
+use Rattle.scsi_codec.specs.declared.event_queue.Event.{Event as Report}
+use Rattle.task_set.specs.Jobs.{Jobs}
+use Rattle.task_set.specs.Unit.{PlainUnit, IsUnit}
+use Rattle.phases.specs.Resetting.{Resets}
+
+-- own: some unit was reset: the jobs that this released, and the event that tells the guest, stand behind those that
+-- were there
+pub record WasReset : Type 0 where
+  pub unit : PlainUnit
+  pub jobs : Jobs
+  pub waiting : List Report
+  pub unit_after : PlainUnit
+  pub jobs_after : Jobs
+  pub waiting_after : List Report
+  pub stands : IsUnit unit
+  pub reset : Resets unit jobs waiting (Ok true) unit_after jobs_after waiting_after
+  pub stands_after : IsUnit unit_after
