@@ -116,6 +116,7 @@ pub(crate) fn entry_at(memory: &GuestMem, addr: u64, place: u32) -> Descriptor
 }
 
 /// Whether one of so many slots, from where so many were passed, is the one that an offset and wrap names.
+#[inline(never)]
 pub(crate) fn names_one(size: u16, place: u16, passed: u128, slots: u16) -> bool
     requires some { 0 < size }
     requires few { slots ≤ size }
