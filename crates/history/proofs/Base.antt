@@ -13,6 +13,7 @@ pub base_low : (h : List Step) → base_of h ≤ length h - 4095
 base_low [] = omega arith
 base_low (Step.Enter e ∷ past) = omega arith
 base_low (Step.Full t ∷ past) = omega arith
+base_low (Step.Resize blocks ∷ past) = omega arith
 base_low (Step.Abort rule ∷ past) = omega arith
 base_low (Step.Reset c ∷ past) = omega arith
 base_low (Step.Commit t r ∷ past) = let low = base_low past in omega (arith, low)
@@ -26,6 +27,7 @@ base_within h = let low = base_low h in omega (arith, low)
 pub base_grows : (s : Step) (past : List Step) → base_of past ≤ base_of (s ∷ past)
 base_grows (Step.Enter e) past = base_low past
 base_grows (Step.Full t) past = base_low past
+base_grows (Step.Resize blocks) past = base_low past
 base_grows (Step.Abort rule) past = base_low past
 base_grows (Step.Reset c) past = base_low past
 base_grows (Step.Commit t r) past = omega arith
@@ -48,6 +50,7 @@ with_owed : (o : Opening) (h : List Step) → IsLawful o h → length h + owed (
 with_owed o [] l = omega arith
 with_owed o (Step.Enter e ∷ past) l = let most = alive_owed o (Step.Enter e ∷ past) l in omega (arith, most)
 with_owed o (Step.Full t ∷ past) l = let most = alive_owed o (Step.Full t ∷ past) l in omega (arith, most)
+with_owed o (Step.Resize blocks ∷ past) l = let most = alive_owed o (Step.Resize blocks ∷ past) l in omega (arith, most)
 with_owed o (Step.Abort rule ∷ past) l = let most = alive_owed o (Step.Abort rule ∷ past) l in omega (arith, most)
 with_owed o (Step.Reset c ∷ past) l = let most = alive_owed o (Step.Reset c ∷ past) l in omega (arith, most)
 with_owed o (Step.Commit t r ∷ past) l = let was = with_owed o past l.0 in let took = commit_owed o t r past l in omega (arith, was, took)
@@ -60,6 +63,7 @@ kept_few o h l = let all = with_owed o h l in omega (arith, all)
 pub before_few : (s : Step) (past : List Step) → folds s ≡ true → length past ≤ base_of (s ∷ past) + 4095
 before_few (Step.Enter e) past is = omega arith
 before_few (Step.Full t) past is = omega arith
+before_few (Step.Resize blocks) past is = omega arith
 before_few (Step.Abort rule) past is = omega arith
 before_few (Step.Reset c) past is = omega arith
 before_few (Step.Commit t r) past is = absurd (cc)

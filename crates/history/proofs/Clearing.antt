@@ -63,6 +63,7 @@ was_on (Step.Leave u) past e q =
       | false ↦ λ k. ap (λ x. is_some x || has_left e.ticket past) (task_without_other e.ticket u (alive past) k) ∙ q
     ] refl
 was_on (Step.Full u) past e q = q
+was_on (Step.Resize blocks) past e q = q
 was_on (Step.Commit u r) past e q = q
 was_on (Step.Busy u) past e q = q
 was_on (Step.Abort rule) past e q = q
@@ -76,6 +77,7 @@ met_was (Step.Abort rule) past = each_filter (IsOrWas past) (meets rule) (alive 
 met_was (Step.Reset c) past = alive_was past
 met_was (Step.Enter f) past = tt
 met_was (Step.Full u) past = tt
+met_was (Step.Resize blocks) past = tt
 met_was (Step.Commit u r) past = tt
 met_was (Step.Busy u) past = tt
 met_was (Step.Leave u) past = tt
@@ -120,6 +122,7 @@ left_entered : (o : Opening) (t : Ticket) (h : List Step) → IsLawful o h → h
 left_entered o t [] l k = absurd (cc)
 left_entered o t (Step.Enter e ∷ past) l k = or_right (same_ticket e.ticket t) (has_entered t past) (left_entered o t past l.0 k)
 left_entered o t (Step.Full u ∷ past) l k = left_entered o t past l.0 k
+left_entered o t (Step.Resize blocks ∷ past) l k = left_entered o t past l.0 k
 left_entered o t (Step.Commit u r ∷ past) l k = left_entered o t past l.0 k
 left_entered o t (Step.Busy u ∷ past) l k = left_entered o t past l.0 k
 left_entered o t (Step.Abort rule ∷ past) l k = left_entered o t past l.0 k
@@ -144,6 +147,7 @@ left_not_alive o t [] l k = refl
 left_not_alive o t (Step.Enter e ∷ past) l k =
     ap (λ x. is_some x) (task_push_other t e (alive past) (enters_once o e t past l (left_entered o t past l.0 k))) ∙ left_not_alive o t past l.0 k
 left_not_alive o t (Step.Full u ∷ past) l k = left_not_alive o t past l.0 k
+left_not_alive o t (Step.Resize blocks ∷ past) l k = left_not_alive o t past l.0 k
 left_not_alive o t (Step.Commit u r ∷ past) l k = left_not_alive o t past l.0 k
 left_not_alive o t (Step.Busy u ∷ past) l k = left_not_alive o t past l.0 k
 left_not_alive o t (Step.Abort rule ∷ past) l k = left_not_alive o t past l.0 k

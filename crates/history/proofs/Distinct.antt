@@ -49,6 +49,7 @@ pub alive_distinct : (o : Opening) (h : List Step) → IsLawful o h → AreDisti
 alive_distinct o [] l = tt
 alive_distinct o (Step.Enter e ∷ past) l = distinct_push e (alive past) (none_of e.ticket (alive past) (fresh e.ticket past (above_fresh o e.ticket past l.0 l.1.1))) (alive_distinct o past l.0)
 alive_distinct o (Step.Full t ∷ past) l = alive_distinct o past l.0
+alive_distinct o (Step.Resize blocks ∷ past) l = alive_distinct o past l.0
 alive_distinct o (Step.Commit t r ∷ past) l = alive_distinct o past l.0
 alive_distinct o (Step.Busy t ∷ past) l = alive_distinct o past l.0
 alive_distinct o (Step.Abort rule ∷ past) l = alive_distinct o past l.0

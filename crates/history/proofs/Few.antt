@@ -16,6 +16,7 @@ pub alive_few : (o : Opening) (h : List Step) → IsLawful o h → length (alive
 alive_few o [] l = omega arith
 alive_few o (Step.Enter e ∷ past) l = let lt = l.1.0 in omega (arith, length_push (alive past) e, lt)
 alive_few o (Step.Full t ∷ past) l = alive_few o past l.0
+alive_few o (Step.Resize blocks ∷ past) l = alive_few o past l.0
 alive_few o (Step.Commit t r ∷ past) l = alive_few o past l.0
 alive_few o (Step.Busy t ∷ past) l = alive_few o past l.0
 alive_few o (Step.Abort rule ∷ past) l = alive_few o past l.0

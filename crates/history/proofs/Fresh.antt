@@ -30,6 +30,7 @@ pub fresh : (t : Ticket) (h : List Step) → has_entered t h ≡ false → Other
 fresh t [] n = tt
 fresh t (Step.Enter e ∷ past) n = others_push t (alive past) e (left_off (same_ticket e.ticket t) (has_entered t past) n) (fresh t past (right_off (same_ticket e.ticket t) (has_entered t past) n))
 fresh t (Step.Full u ∷ past) n = fresh t past n
+fresh t (Step.Resize blocks ∷ past) n = fresh t past n
 fresh t (Step.Commit u r ∷ past) n = fresh t past n
 fresh t (Step.Busy u ∷ past) n = fresh t past n
 fresh t (Step.Reset c ∷ past) n = fresh t past n
@@ -68,6 +69,7 @@ above_fresh o t (Step.Commit u r ∷ past) l le = above_fresh o t past l.0 le
 above_fresh o t (Step.Busy u ∷ past) l le = above_fresh o t past l.0 le
 above_fresh o t (Step.Abort rule ∷ past) l le = above_fresh o t past l.0 le
 above_fresh o t (Step.Reset c ∷ past) l le = above_fresh o t past l.0 le
+above_fresh o t (Step.Resize blocks ∷ past) l le = above_fresh o t past l.0 le
 above_fresh o t (Step.Leave u ∷ past) l le = above_fresh o t past l.0 le
 
 nothing : {X : Type 0} {x : X} → None ≡ Some x → ⊥
@@ -84,6 +86,7 @@ pub fresh_undone : (o : Opening) (t : Ticket) (h : List Step) → IsLawful o h �
 fresh_undone o t [] l n = refl
 fresh_undone o t (Step.Enter e ∷ past) l n = fresh_undone o t past l.0 (right_off (same_ticket e.ticket t) (has_entered t past) n)
 fresh_undone o t (Step.Full u ∷ past) l n = fresh_undone o t past l.0 n
+fresh_undone o t (Step.Resize blocks ∷ past) l n = fresh_undone o t past l.0 n
 fresh_undone o t (Step.Commit u r ∷ past) l n = ap (λ b. b || done t past) (not_there t u past l.1.0 n l.1.1.is_there) ∙ fresh_undone o t past l.0 n
 fresh_undone o t (Step.Busy u ∷ past) l n = ap (λ b. b || done t past) (not_there t u past l.1.0 n l.1.1.is_there) ∙ fresh_undone o t past l.0 n
 fresh_undone o t (Step.Abort rule ∷ past) l n = fresh_undone o t past l.0 n
@@ -97,6 +100,7 @@ pub fresh_unmarked : (t : Ticket) (h : List Step) → has_entered t h ≡ false 
 fresh_unmarked t [] n = refl
 fresh_unmarked t (Step.Enter e ∷ past) n = fresh_unmarked t past (right_off (same_ticket e.ticket t) (has_entered t past) n)
 fresh_unmarked t (Step.Full u ∷ past) n = fresh_unmarked t past n
+fresh_unmarked t (Step.Resize blocks ∷ past) n = fresh_unmarked t past n
 fresh_unmarked t (Step.Commit u r ∷ past) n = fresh_unmarked t past n
 fresh_unmarked t (Step.Busy u ∷ past) n = fresh_unmarked t past n
 fresh_unmarked t (Step.Abort rule ∷ past) n =
@@ -109,6 +113,7 @@ fresh_unmarked t (Step.Leave u ∷ past) n = fresh_unmarked t past n
 pub entered_before : (s : Step) (t : Ticket) (past : List Step) → has_entered t (s ∷ past) ≡ false → has_entered t past ≡ false
 entered_before (Step.Enter e) t past n = right_off (same_ticket e.ticket t) (has_entered t past) n
 entered_before (Step.Full u) t past n = n
+entered_before (Step.Resize blocks) t past n = n
 entered_before (Step.Commit u r) t past n = n
 entered_before (Step.Busy u) t past n = n
 entered_before (Step.Abort rule) t past n = n

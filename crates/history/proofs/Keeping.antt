@@ -89,6 +89,13 @@ tasks_full t (r ∷ past) =
     same_maps (seen (Step.Full t ∷ h)) (seen h) (alive h)
     (of_all _ (alive h) (λ e. ap (λ b. kept e b (done e.ticket h) (mark_of e.ticket h) (entered_at e.ticket h)) (enabled_same e (Step.Full t) r past refl refl)))
 
+pub tasks_resize : (blocks : ℕ) (past : List Step) → tasks_of (Step.Resize blocks ∷ past) ≡ tasks_of past
+tasks_resize blocks [] = refl
+tasks_resize blocks (r ∷ past) =
+    let h = r ∷ past in
+    same_maps (seen (Step.Resize blocks ∷ h)) (seen h) (alive h)
+    (of_all _ (alive h) (λ e. ap (λ b. kept e b (done e.ticket h) (mark_of e.ticket h) (entered_at e.ticket h)) (enabled_same e (Step.Resize blocks) r past refl refl)))
+
 pub tasks_commit : (t : Ticket) (r : PlainReply) (past : List Step) → tasks_of (Step.Commit t r ∷ past) ≡ map (finished t) (tasks_of past)
 tasks_commit t r [] = refl
 tasks_commit t r (s ∷ past) =

@@ -43,6 +43,7 @@ done_enabled o (Step.Busy u ∷ past) e l at d =
       | false ↦ λ k q. enabled_on e (Step.Busy u) past (done_enabled o past e l.0 at q)
     ]) refl d
 done_enabled o (Step.Full t ∷ past) e l at d = enabled_on e (Step.Full t) past (done_enabled o past e l.0 at d)
+done_enabled o (Step.Resize blocks ∷ past) e l at d = enabled_on e (Step.Resize blocks) past (done_enabled o past e l.0 at d)
 done_enabled o (Step.Abort rule ∷ past) e l at d = enabled_on e (Step.Abort rule) past (done_enabled o past e l.0 at d)
 done_enabled o (Step.Reset c ∷ past) e l at d = enabled_on e (Step.Reset c) past (done_enabled o past e l.0 at d)
 done_enabled o (Step.Leave u ∷ past) e l at d =

@@ -34,6 +34,7 @@ pub marked_undone : (o : Opening) (t : Ticket) (h : List Step) → IsLawful o h 
 marked_undone o t [] l m = refl
 marked_undone o t (Step.Enter e ∷ past) l m = marked_undone o t past l.0 m
 marked_undone o t (Step.Full u ∷ past) l m = marked_undone o t past l.0 m
+marked_undone o t (Step.Resize blocks ∷ past) l m = marked_undone o t past l.0 m
 marked_undone o t (Step.Commit u r ∷ past) l m = ap (λ b. b || done t past) (not_its u t past m l.1.1.is_unmarked) ∙ marked_undone o t past l.0 m
 marked_undone o t (Step.Busy u ∷ past) l m = ap (λ b. b || done t past) (not_its u t past m l.1.1.is_unmarked) ∙ marked_undone o t past l.0 m
 marked_undone o t (Step.Abort rule ∷ past) l m =
@@ -48,6 +49,7 @@ stays_first m b now r h = ap (λ x. first_mark x b now) h
 pub mark_on : (s : Step) (t : Ticket) (r : Reason) (past : List Step) → mark_of t past ≡ Some r → mark_of t (s ∷ past) ≡ Some r
 mark_on (Step.Enter e) t r past h = h
 mark_on (Step.Full u) t r past h = h
+mark_on (Step.Resize blocks) t r past h = h
 mark_on (Step.Commit u x) t r past h = h
 mark_on (Step.Busy u) t r past h = h
 mark_on (Step.Abort rule) t r past h = stays_first (mark_of t past) (strikes rule t past) reason.Aborted r h
@@ -62,6 +64,7 @@ mark_lasts t r (s ∷ later) past h = mark_on s t r (later ++ past) (mark_lasts 
 pub done_on : (s : Step) (t : Ticket) (past : List Step) → done t past ≡ true → done t (s ∷ past) ≡ true
 done_on (Step.Enter e) t past h = h
 done_on (Step.Full u) t past h = h
+done_on (Step.Resize blocks) t past h = h
 done_on (Step.Commit u x) t past h = or_right (same_ticket u t) (done t past) h
 done_on (Step.Busy u) t past h = or_right (same_ticket u t) (done t past) h
 done_on (Step.Abort rule) t past h = h
@@ -80,6 +83,7 @@ some_stays None b now h = absurd (cc)
 marked_on : (s : Step) (t : Ticket) (past : List Step) → marked t past ≡ true → marked t (s ∷ past) ≡ true
 marked_on (Step.Enter e) t past h = h
 marked_on (Step.Full u) t past h = h
+marked_on (Step.Resize blocks) t past h = h
 marked_on (Step.Commit u x) t past h = h
 marked_on (Step.Busy u) t past h = h
 marked_on (Step.Abort rule) t past h = some_stays (mark_of t past) (strikes rule t past) reason.Aborted h
@@ -111,6 +115,7 @@ pub left_marked : (o : Opening) (t : Ticket) (h : List Step) → IsLawful o h �
 left_marked o t [] l k n = absurd (cc)
 left_marked o t (Step.Enter e ∷ past) l k n = left_marked o t past l.0 k n
 left_marked o t (Step.Full u ∷ past) l k n = left_marked o t past l.0 k n
+left_marked o t (Step.Resize blocks ∷ past) l k n = left_marked o t past l.0 k n
 left_marked o t (Step.Commit u r ∷ past) l k n = left_marked o t past l.0 k (right_off (same_ticket u t) (done t past) n)
 left_marked o t (Step.Busy u ∷ past) l k n = left_marked o t past l.0 k (right_off (same_ticket u t) (done t past) n)
 left_marked o t (Step.Abort rule ∷ past) l k n = marked_on (Step.Abort rule) t past (left_marked o t past l.0 k n)

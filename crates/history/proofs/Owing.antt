@@ -16,7 +16,7 @@ use Rattle.history.proofs.Tickets.{same-true, eq-same}
 use Rattle.history.proofs.Few.{alive_few}
 use Rattle.history.proofs.Leaving.{task_ticket}
 use Rattle.history.proofs.Kept.{length_tasks, seen_there}
-use Rattle.history.proofs.Keeping.{tasks_enter, tasks_full, tasks_commit, tasks_busy, tasks_abort, tasks_reset, tasks_leave}
+use Rattle.history.proofs.Keeping.{tasks_enter, tasks_full, tasks_resize, tasks_commit, tasks_busy, tasks_abort, tasks_reset, tasks_leave}
 
 nothing : {X : Type 0} {x : X} → None ≡ Some x → ⊥
 nothing e = cc
@@ -134,6 +134,9 @@ reset_owed o c past l = ap owed (tasks_reset o c past l) ∙ owed_struck rules.A
 
 pub full_owed : (t : Ticket) (past : List Step) → owed (tasks_of (Step.Full t ∷ past)) ≡ owed (tasks_of past)
 full_owed t past = ap owed (tasks_full t past)
+
+pub resize_owed : (blocks : ℕ) (past : List Step) → owed (tasks_of (Step.Resize blocks ∷ past)) ≡ owed (tasks_of past)
+resize_owed blocks past = ap owed (tasks_resize blocks past)
 
 pub alive_owed : (o : Opening) (h : List Step) → IsLawful o h → owed (tasks_of h) ≤ 128
 alive_owed o h l = let few = alive_few o h l in let same = length_tasks h in owed_few (tasks_of h) (omega (arith, few, same))

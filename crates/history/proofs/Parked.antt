@@ -48,6 +48,9 @@ parked_busy p t h = same_parked p (Step.Busy t) h (λ u. refl) (λ u. refl) refl
 pub parked_full : (p : Ticket → ℕ) (t : Ticket) (h : List Step) → parked_worth p (Step.Full t ∷ h) ≡ parked_worth p h
 parked_full p t h = same_parked p (Step.Full t) h (λ u. refl) (λ u. refl) refl
 
+pub parked_resize : (p : Ticket → ℕ) (blocks : ℕ) (h : List Step) → parked_worth p (Step.Resize blocks ∷ h) ≡ parked_worth p h
+parked_resize p blocks h = same_parked p (Step.Resize blocks) h (λ u. refl) (λ u. refl) refl
+
 -- whether there is a mark, the earlier one or this
 pub some_mark : (m : Option Reason) (b : Bool) (now : Reason) → is_some (first_mark m b now) ≡ (is_some m || b)
 some_mark (Some r) b now = refl

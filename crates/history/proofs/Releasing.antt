@@ -163,6 +163,7 @@ released_parked (Step.Abort rule) past = marked_parked (Step.Abort rule) past
 released_parked (Step.Reset c) past = marked_parked (Step.Reset c) past
 released_parked (Step.Enter e) past = tt
 released_parked (Step.Full t) past = tt
+released_parked (Step.Resize blocks) past = tt
 released_parked (Step.Commit t r) past = tt
 released_parked (Step.Busy t) past = tt
 
@@ -185,5 +186,6 @@ none_released (Step.Reset c) t past h =
     filter_none (λ e. not (marked e.ticket past) && (marked e.ticket (Step.Reset c ∷ past) && not (enabled e past))) t (alive past) h
 none_released (Step.Enter e) t past h = refl
 none_released (Step.Full u) t past h = refl
+none_released (Step.Resize blocks) t past h = refl
 none_released (Step.Commit u r) t past h = refl
 none_released (Step.Busy u) t past h = refl

@@ -46,6 +46,7 @@ before_now t (Step.Enter e ∷ past) n =
       | false ↦ λ k. let lt = before_now t past k in omega (arith, lt)
     ]) n
 before_now t (Step.Full u ∷ past) n = let lt = before_now t past n in omega (arith, lt)
+before_now t (Step.Resize blocks ∷ past) n = let lt = before_now t past n in omega (arith, lt)
 before_now t (Step.Commit u r ∷ past) n = let lt = before_now t past n in omega (arith, lt)
 before_now t (Step.Busy u ∷ past) n = let lt = before_now t past n in omega (arith, lt)
 before_now t (Step.Abort rule ∷ past) n = let lt = before_now t past n in omega (arith, lt)
@@ -55,6 +56,7 @@ before_now t (Step.Leave u ∷ past) n = let lt = before_now t past n in omega (
 entered_on : (s : Step) (past : List Step) (e : Entry) → HasEntered past e → HasEntered (s ∷ past) e
 entered_on (Step.Enter f) past e n = or_right (same_ticket f.ticket e.ticket) (has_entered e.ticket past) n
 entered_on (Step.Full u) past e n = n
+entered_on (Step.Resize blocks) past e n = n
 entered_on (Step.Commit u r) past e n = n
 entered_on (Step.Busy u) past e n = n
 entered_on (Step.Abort rule) past e n = n
@@ -66,6 +68,7 @@ met_entered (Step.Abort rule) past = each_filter (HasEntered past) (meets rule) 
 met_entered (Step.Reset c) past = all_entered past
 met_entered (Step.Enter f) past = tt
 met_entered (Step.Full u) past = tt
+met_entered (Step.Resize blocks) past = tt
 met_entered (Step.Commit u r) past = tt
 met_entered (Step.Busy u) past = tt
 met_entered (Step.Leave u) past = tt
@@ -131,6 +134,7 @@ at_step (Step.Abort now) past rule r = subst (λ w. Agree (length past) w (Step.
 at_step (Step.Reset c) past rule r = subst (λ w. Agree (length past) w (Step.Reset c ∷ past) (met_by (Step.Reset c) past)) (one_rule r) (at_reset past)
 at_step (Step.Enter f) past rule r = absurd (nothing r)
 at_step (Step.Full u) past rule r = absurd (nothing r)
+at_step (Step.Resize blocks) past rule r = absurd (nothing r)
 at_step (Step.Commit u x) past rule r = absurd (nothing r)
 at_step (Step.Busy u) past rule r = absurd (nothing r)
 at_step (Step.Leave u) past rule r = absurd (nothing r)
@@ -191,6 +195,7 @@ agree_on : (o : Opening) (place : ℕ) (rule : Rule) (s : Step) (past : List Ste
     → Agree place rule past met → Agree place rule (s ∷ past) met
 agree_on o place rule (Step.Enter f) past met l le n h = lives_enter o f past met l n ∙ h ∙ sym (earlier_enter o place rule f past l le)
 agree_on o place rule (Step.Full u) past met l le n h = h
+agree_on o place rule (Step.Resize blocks) past met l le n h = h
 agree_on o place rule (Step.Commit u r) past met l le n h = h
 agree_on o place rule (Step.Busy u) past met l le n h = h
 agree_on o place rule (Step.Abort now) past met l le n h = h
@@ -224,6 +229,7 @@ none_by (Step.Abort rule) past r = absurd (nothing (sym r))
 none_by (Step.Reset c) past r = absurd (nothing (sym r))
 none_by (Step.Enter f) past r = refl
 none_by (Step.Full u) past r = refl
+none_by (Step.Resize blocks) past r = refl
 none_by (Step.Commit u x) past r = refl
 none_by (Step.Busy u) past r = refl
 none_by (Step.Leave u) past r = refl

@@ -18,6 +18,7 @@ folds (Step.Enter e) = true
 folds (Step.Full t) = true
 folds (Step.Abort rule) = true
 folds (Step.Reset c) = true
+folds (Step.Resize blocks) = true
 folds (Step.Commit t r) = false
 folds (Step.Busy t) = false
 folds (Step.Leave t) = false

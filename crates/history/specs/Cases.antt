@@ -11,7 +11,7 @@ use Rattle.history.specs.Contents.{Opening}
 
 -- a calm unit of 1,000 blocks at address 0:0
 abbrev pub calm_unit : Opening
-calm_unit = record { target = 0; lun = 0; luns = 0 ∷ []; blocks = 1000; calm = true }
+calm_unit = record { target = 0; lun = 0; luns = 0 ∷ []; blocks = 1000; calm = true; content = [] }
 
 -- the chain of this number of queue 2
 abbrev pub nth : ℕ → Ticket

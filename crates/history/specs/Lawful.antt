@@ -5,7 +5,7 @@ use Rattle.history.specs.Tasks.{Entry, task_of}
 use Rattle.history.specs.Steps.{Step, alive, floor, done}
 use Rattle.history.specs.Marks.{marked}
 use Rattle.history.specs.Enabling.{enabled}
-use Rattle.history.specs.Contents.{Opening, reply_after}
+use Rattle.history.specs.Contents.{Opening, is_capacity, reply_after}
 
 -- the task of a ticket may run (SAM-5 §8.5): it is alive, enabled, unmarked and not done
 pub record IsReady (t : Ticket) (e : Entry) (past : List Step) : Type 0 where
@@ -16,7 +16,8 @@ pub record IsReady (t : Ticket) (e : Entry) (past : List Step) : Type 0 where
 
 -- the step may come next. A task enters where fewer than 64 are alive, which is own, and is refused with TASK
 -- SET FULL (SAM-5 §5.3.1) where 64 are; the tickets of a queue rise. A command that may run does, with the reply to it
--- after this past, or is answered BUSY (SAM-5 §5.3.1). A task leaves once it is done or marked.
+-- after this past, or is answered BUSY (SAM-5 §5.3.1). A unit is given a capacity that a unit may have. A task leaves
+-- once it is done or marked.
 abbrev pub May : Opening → Step → List Step → Type 0
 May o (Step.Enter e) past = (length (alive past) < 64) × (floor e.ticket.queue past ≤ e.ticket.number)
 May o (Step.Full t) past = (length (alive past) ≡ 64) × (floor t.queue past ≤ t.number)
@@ -24,6 +25,7 @@ May o (Step.Commit t r) past = (e : Entry) × IsReady t e past × (r ≡ reply_a
 May o (Step.Busy t) past = (e : Entry) × IsReady t e past
 May o (Step.Abort rule) past = ⊤
 May o (Step.Reset c) past = ⊤
+May o (Step.Resize blocks) past = is_capacity blocks ≡ true
 May o (Step.Leave t) past = (e : Entry) × (task_of t (alive past) ≡ Some e) × ((done t past || marked t past) ≡ true)
 
 -- own: each step of the history may come after those before it

@@ -7,7 +7,8 @@ use Rattle.history.specs.declared.rule.Rule.{Rule}
 use Rattle.history.specs.Tasks.{Entry, same_ticket, task_of, without}
 
 -- own: a task enters, or is refused with TASK SET FULL; its command runs, or is refused memory and answered
--- BUSY; tasks are aborted; the unit is reset and raises this code; a task leaves, once it was answered
+-- BUSY; tasks are aborted; the unit is reset and raises this code; it has so many blocks from now on; a task leaves, once
+-- it was answered
 pub data Step : Type 0 where
   Enter : Entry → Step
   Full : Ticket → Step
@@ -15,6 +16,7 @@ pub data Step : Type 0 where
   Busy : Ticket → Step
   Abort : Rule → Step
   Reset : Code → Step
+  Resize : ℕ → Step
   Leave : Ticket → Step
 
 -- the tasks that are alive, the oldest first (SAM-5 §5.5): they entered and did not leave

@@ -16,7 +16,10 @@ pub use cases::{
     abort_of_a_committed_task, abort_of_a_parked_task, abort_of_a_taken_task, either_may_be_first,
     ordered_stands_between, what_was_written_is_read,
 };
-pub use contents::{attention_is_taken_by_its_taker, commits_alone_change_blocks, resets_raise};
+pub use contents::{
+    attention_is_taken_by_its_taker, commits_alone_change_blocks, resets_raise,
+    resizes_keep_the_blocks_below,
+};
 pub use handing::{
     a_leave_hands_out_what_was_parked, an_enter_parks_what_is_blocked, fewer_are_parked_than_alive,
     marks_hand_out_what_was_parked, other_steps_hand_out_nothing,

@@ -72,6 +72,7 @@ is_found keeps steps place given t (Step.Full u) k = absurd (unlike (ap is_of_co
 is_found keeps steps place given t (Step.Busy u) k = absurd (unlike (ap is_of_commit k.0))
 is_found keeps steps place given t (Step.Abort rule) k = absurd (unlike (ap is_of_commit k.0))
 is_found keeps steps place given t (Step.Reset c) k = absurd (unlike (ap is_of_commit k.0))
+is_found keeps steps place given t (Step.Resize blocks) k = absurd (unlike (ap is_of_commit k.0))
 is_found keeps steps place given t (Step.Leave u) k = absurd (unlike (ap is_of_commit k.0))
 
 some_same : (a b : Step) → Some a ≡ Some b → a ≡ b
@@ -119,6 +120,7 @@ not_kept true (Step.Full t) = refl
 not_kept true (Step.Busy t) = refl
 not_kept true (Step.Abort rule) = refl
 not_kept true (Step.Reset c) = refl
+not_kept true (Step.Resize blocks) = refl
 not_kept true (Step.Leave t) = refl
 
 kept_nowhere : (steps place : ℕ) (o : Option NotedStep) → None ≡ kept_one false steps place (option_map step_noted o)

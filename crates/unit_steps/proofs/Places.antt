@@ -89,6 +89,7 @@ met_by_kind (Step.Commit t r) = refl
 met_by_kind (Step.Busy t) = refl
 met_by_kind (Step.Abort rule) = refl
 met_by_kind (Step.Reset c) = refl
+met_by_kind (Step.Resize blocks) = refl
 met_by_kind (Step.Leave t) = refl
 
 pub rule_there : (place : ℕ) (h : List Step) → met_one (option_map kind_of (step_at place h)) ≡ rule_at place h

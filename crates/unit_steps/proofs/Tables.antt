@@ -206,6 +206,7 @@ folds_nothing false place o tables none = λ q. refl
 pub mark_commits_none : (k : StepKind) (o : Option Rule) → o ≡ met_kind k → is_some o ≡ true → committed k ≡ None
 mark_commits_none (kind.Abort rule) o is some = refl
 mark_commits_none kind.Reset o is some = refl
+mark_commits_none kind.Resize o is some = refl
 mark_commits_none (kind.Enter t) o is some = refl
 mark_commits_none (kind.Full t) o is some = refl
 mark_commits_none (kind.Busy t) o is some = refl
@@ -220,6 +221,7 @@ of_kind : (k : StepKind) (t : Ticket) → committed k ≡ Some t → k ≡ kind.
 of_kind (kind.Commit u) t e = ap (λ w. kind.Commit w) (let h : u ≡ t = cc in h)
 of_kind (kind.Abort rule) t e = absurd (nothing e)
 of_kind kind.Reset t e = absurd (nothing e)
+of_kind kind.Resize t e = absurd (nothing e)
 of_kind (kind.Enter u) t e = absurd (nothing e)
 of_kind (kind.Full u) t e = absurd (nothing e)
 of_kind (kind.Busy u) t e = absurd (nothing e)

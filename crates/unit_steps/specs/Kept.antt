@@ -17,6 +17,7 @@ kind_of (Step.Commit t r) = kind.Commit t
 kind_of (Step.Busy t) = kind.Busy t
 kind_of (Step.Abort rule) = kind.Abort rule
 kind_of (Step.Reset c) = kind.Reset
+kind_of (Step.Resize blocks) = kind.Resize
 kind_of (Step.Leave t) = kind.Leave t
 
 -- own: what is kept of a reply, where replies are: all of it, or nothing where its data are longer than what is kept

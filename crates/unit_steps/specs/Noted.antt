@@ -22,6 +22,7 @@ step_noted (noted.Commit t r) = Step.Commit t r
 step_noted (noted.Busy t) = Step.Busy t
 step_noted (noted.Abort rule) = Step.Abort rule
 step_noted (noted.Reset c) = Step.Reset c
+step_noted (noted.Resize blocks) = Step.Resize blocks
 step_noted (noted.Leave t) = Step.Leave t
 
 -- the steps, the newest first

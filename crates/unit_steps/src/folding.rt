@@ -52,7 +52,7 @@ fn rule_of_kind(kind: StepKind) -> Option<Rule>
         StepKind::Abort(rule) => Some(rule),
         StepKind::Reset => Some(Rule::All),
         StepKind::Enter(_) | StepKind::Full(_) | StepKind::Commit(_) => None,
-        StepKind::Busy(_) | StepKind::Leave(_) => None,
+        StepKind::Busy(_) | StepKind::Leave(_) | StepKind::Resize => None,
     }
 }
 
@@ -129,7 +129,7 @@ fn committed(kind: StepKind) -> Option<Ticket>
     match kind {
         StepKind::Commit(ticket) => Some(ticket),
         StepKind::Enter(_) | StepKind::Full(_) | StepKind::Busy(_) => None,
-        StepKind::Abort(_) | StepKind::Reset | StepKind::Leave(_) => None,
+        StepKind::Abort(_) | StepKind::Reset | StepKind::Resize | StepKind::Leave(_) => None,
     }
 }
 
@@ -141,6 +141,7 @@ fn only_counts(kind: StepKind, keeps: bool) -> bool
 {
     match kind {
         StepKind::Enter(_) | StepKind::Full(_) | StepKind::Busy(_) | StepKind::Leave(_) => true,
+        StepKind::Resize => true,
         StepKind::Commit(_) => !keeps,
         StepKind::Abort(_) | StepKind::Reset => false,
     }

@@ -3,7 +3,8 @@
 use history::Rule;
 use ring_core::Ticket;
 
-/// What a step of a unit's history was, and of which chain. A Reset's code and a Commit's reply aren't told.
+/// What a step of a unit's history was, and of which chain. A Reset's code, a Resize's
+/// capacity and a Commit's reply aren't told.
 #[derive(Clone, Copy, PartialEq, Eq)]
 pub enum StepKind {
     /// A task entered the task set (SAM-5 §8.1).
@@ -18,6 +19,8 @@ pub enum StepKind {
     Abort(Rule),
     /// The unit was reset (SAM-5 §7.6, §7.7).
     Reset,
+    /// The unit was given another capacity (SBC-3 §4.5).
+    Resize,
     /// A task left, once it was answered.
     Leave(Ticket),
 }

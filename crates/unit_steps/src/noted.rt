@@ -90,7 +90,7 @@ impl NotedReply {
 }
 
 /// A step, by what it is and of which chain, as [`StepKind`] tells it; with the task that entered, the reply of the
-/// command that ran, and the code that a reset raised.
+/// command that ran, the code that a reset raised, and the capacity that a resize gave.
 #[derive(Drop)]
 pub enum NotedStep {
     /// A task entered the task set.
@@ -105,6 +105,8 @@ pub enum NotedStep {
     Abort(Rule),
     /// The unit was reset.
     Reset(Code),
+    /// The unit has so many blocks from now on.
+    Resize(u64),
     /// A task left, once it was answered.
     Leave(Ticket),
 }
@@ -121,6 +123,7 @@ impl NotedStep {
             NotedStep::Busy(ticket) => StepKind::Busy(*ticket),
             NotedStep::Abort(rule) => StepKind::Abort(*rule),
             NotedStep::Reset(_) => StepKind::Reset,
+            NotedStep::Resize(_) => StepKind::Resize,
             NotedStep::Leave(ticket) => StepKind::Leave(*ticket),
         }
     }

@@ -65,7 +65,7 @@ fn is_mark(kind: StepKind) -> bool
     match kind {
         StepKind::Abort(_) | StepKind::Reset => true,
         StepKind::Enter(_) | StepKind::Full(_) | StepKind::Commit(_) => false,
-        StepKind::Busy(_) | StepKind::Leave(_) => false,
+        StepKind::Busy(_) | StepKind::Leave(_) | StepKind::Resize => false,
     }
 }
 

@@ -44,7 +44,7 @@ pub fn abort_of_a_parked_task()
     ensures handed_out { (bytes : List ℕ) →
         newly_marked (Step.Abort (Id 7)) (parked_write bytes) ≡ write_of_3 1 bytes ∷ [] }
     ensures not_met { (bytes : List ℕ) → mark_of (nth 0) (Step.Abort (Id 7) ∷ parked_write bytes) ≡ None }
-    ensures unwritten { (bytes : List ℕ) → blocks_of (Step.Abort (Id 7) ∷ parked_write bytes) 3 ≡ zero_block }
+    ensures unwritten { (bytes : List ℕ) → blocks_of calm_unit (Step.Abort (Id 7) ∷ parked_write bytes) 3 ≡ zero_block }
     ensures lawful { (bytes : List ℕ) →
         IsLawful calm_unit (leaves 0 ∷ runs 0 ∷ leaves 1 ∷ Step.Abort (Id 7) ∷ parked_write bytes) }
 {}
@@ -57,7 +57,7 @@ pub fn abort_of_a_taken_task()
     ensures never_runs { (bytes : List ℕ) (r : PlainReply) →
         May calm_unit (Step.Commit (nth 1) r) (Step.Abort (Id 7) ∷ taken_write bytes) → ⊥ }
     ensures none_handed_out { (bytes : List ℕ) → newly_marked (Step.Abort (Id 7)) (taken_write bytes) ≡ [] }
-    ensures unwritten { (bytes : List ℕ) → blocks_of (Step.Abort (Id 7) ∷ taken_write bytes) 3 ≡ zero_block }
+    ensures unwritten { (bytes : List ℕ) → blocks_of calm_unit (Step.Abort (Id 7) ∷ taken_write bytes) 3 ≡ zero_block }
     ensures waits { (bytes : List ℕ) → is_clear 1 (Step.Abort (Id 7) ∷ taken_write bytes) ≡ false }
     ensures goes_on { (bytes : List ℕ) → is_clear 1 (leaves 1 ∷ Step.Abort (Id 7) ∷ taken_write bytes) ≡ true }
 {}
@@ -67,7 +67,7 @@ pub fn abort_of_a_committed_task()
     ensures unmarked { (bytes : List ℕ) → mark_of (nth 1) (Step.Abort (Id 7) ∷ committed_write bytes) ≡ None }
     ensures lawful { (bytes : List ℕ) → IsLawful calm_unit (leaves 1 ∷ Step.Abort (Id 7) ∷ committed_write bytes) }
     ensures written { (bytes : List ℕ) → length bytes ≡ 512 →
-        blocks_of (Step.Abort (Id 7) ∷ committed_write bytes) 3 ≡ bytes }
+        blocks_of calm_unit (Step.Abort (Id 7) ∷ committed_write bytes) 3 ≡ bytes }
     ensures waits { (bytes : List ℕ) → is_clear 2 (Step.Abort (Id 7) ∷ committed_write bytes) ≡ false }
     ensures goes_on { (bytes : List ℕ) → is_clear 2 (leaves 1 ∷ Step.Abort (Id 7) ∷ committed_write bytes) ≡ true }
 {}

@@ -47,4 +47,6 @@ pub fn other_steps_hand_out_nothing()
         parked_worth p (Step.Busy t ∷ past) ≡ parked_worth p past }
     ensures full { (p : Ticket → ℕ) (t : Ticket) (past : List Step) →
         parked_worth p (Step.Full t ∷ past) ≡ parked_worth p past }
+    ensures resize { (p : Ticket → ℕ) (blocks : ℕ) (past : List Step) →
+        parked_worth p (Step.Resize blocks ∷ past) ≡ parked_worth p past }
 {}

@@ -1,6 +1,6 @@
 //! What a task set keeps of its tasks after each step, told by what it kept before: it needs no history.
 
-ghost use Rattle.std.specs.Prelude.{◌≡◌, ◌∷◌, ◌++◌, List, [], length, map, Some};
+ghost use Rattle.std.specs.Prelude.{ℕ, ◌≡◌, ◌∷◌, ◌++◌, List, [], length, map, Some};
 ghost use Rattle.std.specs.Option.{option_map};
 ghost use Rattle.ring_core.specs.declared.log.Ticket.{Ticket};
 ghost use Rattle.unit_attention.specs.declared.code.Code.{Code};
@@ -24,11 +24,12 @@ pub fn what_is_kept_is_alive()
     ensures others { (t : Ticket) (h : List Step) → entries (others t (tasks_of h)) ≡ without t (alive h) }
 {}
 
-/// An Enter appends its task and changes no other; a Full changes none.
+/// An Enter appends its task and changes no other; a Full and a Resize change none.
 pub fn an_enter_appends()
     ensures enter { (o : Opening) (e : Entry) (past : List Step) → IsLawful o (Step.Enter e ∷ past) →
         tasks_of (Step.Enter e ∷ past) ≡ tasks_of past ++ joined (length past) (alive past ++ e ∷ []) e ∷ [] }
     ensures full { (t : Ticket) (past : List Step) → tasks_of (Step.Full t ∷ past) ≡ tasks_of past }
+    ensures resize { (blocks : ℕ) (past : List Step) → tasks_of (Step.Resize blocks ∷ past) ≡ tasks_of past }
 {}
 
 /// A task is done after its Commit or Busy, and no other changes.

@@ -1,7 +1,7 @@
 //! How many steps the tasks alive may still take. A log with room for these never lacks it when one of them runs,
 //! is answered BUSY or leaves.
 
-ghost use Rattle.std.specs.Prelude.{◌≡◌, ◌<◌, ◌≤◌, ◌+◌, ◌∷◌, List, true};
+ghost use Rattle.std.specs.Prelude.{ℕ, ◌≡◌, ◌<◌, ◌≤◌, ◌+◌, ◌∷◌, List, true};
 ghost use Rattle.ring_core.specs.declared.log.Ticket.{Ticket};
 ghost use Rattle.unit_attention.specs.declared.code.Code.{Code};
 ghost use Rattle.replies.specs.PlainReply.{PlainReply};
@@ -23,6 +23,8 @@ pub fn each_step_is_owed()
     ensures leave { (o : Opening) (t : Ticket) (past : List Step) → IsLawful o (Step.Leave t ∷ past) →
         owed (tasks_of (Step.Leave t ∷ past)) + 1 ≤ owed (tasks_of past) }
     ensures full { (t : Ticket) (past : List Step) → owed (tasks_of (Step.Full t ∷ past)) ≡ owed (tasks_of past) }
+    ensures resize { (blocks : ℕ) (past : List Step) →
+        owed (tasks_of (Step.Resize blocks ∷ past)) ≡ owed (tasks_of past) }
     ensures abort { (o : Opening) (rule : ARule) (past : List Step) → IsLawful o past →
         owed (tasks_of (Step.Abort rule ∷ past)) ≡ owed (tasks_of past) }
     ensures reset { (o : Opening) (c : Code) (past : List Step) → IsLawful o past →

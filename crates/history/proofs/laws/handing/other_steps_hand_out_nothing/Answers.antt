@@ -1,4 +1,4 @@
-use Rattle.history.proofs.Parked.{parked_commit, parked_busy, parked_full}
+use Rattle.history.proofs.Parked.{parked_commit, parked_busy, parked_full, parked_resize}
 use Rattle.history.proofs.laws.handing.other_steps_hand_out_nothing.Goals as goal
 
 pub returns-clause-commit : goal.returns-clause-commit
@@ -9,3 +9,6 @@ returns-clause-busy c = parked_busy
 
 pub returns-clause-full : goal.returns-clause-full
 returns-clause-full c = parked_full
+
+pub returns-clause-resize : goal.returns-clause-resize
+returns-clause-resize c = parked_resize

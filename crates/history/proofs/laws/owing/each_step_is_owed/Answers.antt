@@ -1,4 +1,4 @@
-use Rattle.history.proofs.Owing.{enter_owed, commit_owed, busy_owed, leave_owed, full_owed, abort_owed, reset_owed}
+use Rattle.history.proofs.Owing.{enter_owed, commit_owed, busy_owed, leave_owed, full_owed, resize_owed, abort_owed, reset_owed}
 use Rattle.history.proofs.laws.owing.each_step_is_owed.Goals as goal
 
 pub returns-clause-enter : goal.returns-clause-enter
@@ -21,3 +21,6 @@ returns-clause-abort c = abort_owed
 
 pub returns-clause-reset : goal.returns-clause-reset
 returns-clause-reset c = reset_owed
+
+pub returns-clause-resize : goal.returns-clause-resize
+returns-clause-resize c = resize_owed
