@@ -57,6 +57,7 @@ alive_on : (s : Step) (t : Ticket) (past : List Step) (e : Entry) → Spares s t
 alive_on (Step.Enter f) t past e sp h = found_push t f (alive past) e h
 alive_on (Step.Leave u) t past e sp h = task_without_other t u (alive past) sp ∙ h
 alive_on (Step.Full u) t past e sp h = h
+alive_on (Step.Resize blocks) t past e sp h = h
 alive_on (Step.Commit u r) t past e sp h = h
 alive_on (Step.Busy u) t past e sp h = h
 alive_on (Step.Abort rule) t past e sp h = h
@@ -67,6 +68,7 @@ undone_on (Step.Commit u r) t past sp h = ap (λ b. b || done t past) sp ∙ h
 undone_on (Step.Busy u) t past sp h = ap (λ b. b || done t past) sp ∙ h
 undone_on (Step.Enter f) t past sp h = h
 undone_on (Step.Full u) t past sp h = h
+undone_on (Step.Resize blocks) t past sp h = h
 undone_on (Step.Leave u) t past sp h = h
 undone_on (Step.Abort rule) t past sp h = h
 undone_on (Step.Reset c) t past sp h = h
@@ -228,6 +230,7 @@ given o (Step.Abort rule) past e l may h k = given_by_mark o (Step.Abort rule) p
 given o (Step.Reset c) past e l may h k = given_by_mark o (Step.Reset c) past e l refl refl h k
 given o (Step.Enter f) past e l may h k = absurd (clash (sym k))
 given o (Step.Full u) past e l may h k = absurd (clash (sym k))
+given o (Step.Resize blocks) past e l may h k = absurd (clash (sym k))
 given o (Step.Commit u r) past e l may h k = absurd (clash (sym k))
 given o (Step.Busy u) past e l may h k = absurd (clash (sym k))
 

@@ -229,6 +229,7 @@ goes o (Step.Enter e) past l may free =
     ∙ sym (append-nil (filter (is_parked past) (alive past)))
     ∙ sym (entered e past false (above_fresh o e.ticket past l may.1) free)
 goes o (Step.Full t) past l may free = calm (Step.Full t) past refl refl (λ u. refl) (λ u. refl)
+goes o (Step.Resize blocks) past l may free = calm (Step.Resize blocks) past refl refl (λ u. refl) (λ u. refl)
 goes o (Step.Commit t r) past l may free = calm (Step.Commit t r) past refl refl (λ u. refl) (λ u. refl)
 goes o (Step.Busy t) past l may free = calm (Step.Busy t) past refl refl (λ u. refl) (λ u. refl)
 goes o (Step.Abort rule) past l may free = goes_abort o rule past l

@@ -13,6 +13,7 @@ left_on : (s : Step) (t : Ticket) (past : List Step) → has_left t past ≡ tru
 left_on (Step.Leave u) t past h = or_right (same_ticket u t) (has_left t past) h
 left_on (Step.Enter e) t past h = h
 left_on (Step.Full u) t past h = h
+left_on (Step.Resize blocks) t past h = h
 left_on (Step.Commit u r) t past h = h
 left_on (Step.Busy u) t past h = h
 left_on (Step.Abort rule) t past h = h
@@ -59,6 +60,7 @@ left_stands t (Step.Leave u ∷ past) e =
     ]) refl e
 left_stands t (Step.Enter x ∷ past) e = inr (left_stands t past e)
 left_stands t (Step.Full u ∷ past) e = inr (left_stands t past e)
+left_stands t (Step.Resize blocks ∷ past) e = inr (left_stands t past e)
 left_stands t (Step.Commit u r ∷ past) e = inr (left_stands t past e)
 left_stands t (Step.Busy u ∷ past) e = inr (left_stands t past e)
 left_stands t (Step.Abort rule ∷ past) e = inr (left_stands t past e)

@@ -115,6 +115,7 @@ read_closed t k (Step.Busy u ∷ past) s =
     ]
 read_closed t k (Step.Abort rule ∷ past) s = read_closed t k past s
 read_closed t k (Step.Reset c ∷ past) s = read_closed t k past s
+read_closed t k (Step.Resize blocks ∷ past) s = read_closed t k past s
 read_closed t k (Step.Leave u ∷ past) s =
     ap (seen (fact.Step k step.Leave) (same_ticket u t)) (read_closed t k past s)
     ∙ elim (same_ticket u t) as (λ c. seen (fact.Step k step.Leave) c (closed t k past s)
@@ -137,6 +138,7 @@ module _ (t : Ticket) where
   entered_step [] w = w
   entered_step (Step.Enter e ∷ past) w = left_of (same_ticket e.ticket t) (has_entered t past) (has_step t past) (entered_step past) w
   entered_step (Step.Full u ∷ past) w = entered_step past w
+  entered_step (Step.Resize blocks ∷ past) w = entered_step past w
   entered_step (Step.Commit u r ∷ past) w = right_of (same_ticket u t) (has_entered t past) (has_step t past) (entered_step past) w
   entered_step (Step.Busy u ∷ past) w = right_of (same_ticket u t) (has_entered t past) (has_step t past) (entered_step past) w
   entered_step (Step.Abort rule ∷ past) w = entered_step past w
@@ -147,6 +149,7 @@ module _ (t : Ticket) where
   run_step [] w = w
   run_step (Step.Enter e ∷ past) w = right_of (same_ticket e.ticket t) (has_run t past) (has_step t past) (run_step past) w
   run_step (Step.Full u ∷ past) w = run_step past w
+  run_step (Step.Resize blocks ∷ past) w = run_step past w
   run_step (Step.Commit u r ∷ past) w = left_of (same_ticket u t) (has_run t past) (has_step t past) (run_step past) w
   run_step (Step.Busy u ∷ past) w = right_of (same_ticket u t) (has_run t past) (has_step t past) (run_step past) w
   run_step (Step.Abort rule ∷ past) w = run_step past w
@@ -157,6 +160,7 @@ module _ (t : Ticket) where
   busy_step [] w = w
   busy_step (Step.Enter e ∷ past) w = right_of (same_ticket e.ticket t) (has_busy t past) (has_step t past) (busy_step past) w
   busy_step (Step.Full u ∷ past) w = busy_step past w
+  busy_step (Step.Resize blocks ∷ past) w = busy_step past w
   busy_step (Step.Commit u r ∷ past) w = right_of (same_ticket u t) (has_busy t past) (has_step t past) (busy_step past) w
   busy_step (Step.Busy u ∷ past) w = left_of (same_ticket u t) (has_busy t past) (has_step t past) (busy_step past) w
   busy_step (Step.Abort rule ∷ past) w = busy_step past w

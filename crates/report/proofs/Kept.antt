@@ -25,6 +25,7 @@ pub done_is : (t : Ticket) (h : List Step) → done t h ≡ (has_run t h || has_
 done_is t [] = refl
 done_is t (Step.Enter e ∷ past) = done_is t past
 done_is t (Step.Full u ∷ past) = done_is t past
+done_is t (Step.Resize blocks ∷ past) = done_is t past
 done_is t (Step.Commit u r ∷ past) = ap (λ b. same_ticket u t || b) (done_is t past) ∙ sym (or_over (same_ticket u t) (has_run t past) (has_busy t past))
 done_is t (Step.Busy u ∷ past) = ap (λ b. same_ticket u t || b) (done_is t past) ∙ or_between (same_ticket u t) (has_run t past) (has_busy t past)
 done_is t (Step.Abort rule ∷ past) = done_is t past
@@ -36,6 +37,7 @@ run_split t zero h = refl
 run_split t (suc n) [] = refl
 run_split t (suc n) (Step.Enter e ∷ past) = run_split t n past
 run_split t (suc n) (Step.Full u ∷ past) = run_split t n past
+run_split t (suc n) (Step.Resize blocks ∷ past) = run_split t n past
 run_split t (suc n) (Step.Commit u r ∷ past) =
     ap (λ b. same_ticket u t || b) (run_split t n past) ∙ sym (or_over (same_ticket u t) (has_run t (take n past)) (has_run t (drop n past)))
 run_split t (suc n) (Step.Busy u ∷ past) = run_split t n past
@@ -48,6 +50,7 @@ busy_split t zero h = refl
 busy_split t (suc n) [] = refl
 busy_split t (suc n) (Step.Enter e ∷ past) = busy_split t n past
 busy_split t (suc n) (Step.Full u ∷ past) = busy_split t n past
+busy_split t (suc n) (Step.Resize blocks ∷ past) = busy_split t n past
 busy_split t (suc n) (Step.Commit u r ∷ past) = busy_split t n past
 busy_split t (suc n) (Step.Busy u ∷ past) =
     ap (λ b. same_ticket u t || b) (busy_split t n past) ∙ sym (or_over (same_ticket u t) (has_busy t (take n past)) (has_busy t (drop n past)))
@@ -69,6 +72,7 @@ entered_latest t (suc n) (Step.Enter f ∷ past) e =
       | false ↦ λ w. entered_latest t n past w
     ]) e
 entered_latest t (suc n) (Step.Full u ∷ past) e = entered_latest t n past e
+entered_latest t (suc n) (Step.Resize blocks ∷ past) e = entered_latest t n past e
 entered_latest t (suc n) (Step.Commit u r ∷ past) e = entered_latest t n past e
 entered_latest t (suc n) (Step.Busy u ∷ past) e = entered_latest t n past e
 entered_latest t (suc n) (Step.Abort rule ∷ past) e = entered_latest t n past e
@@ -85,6 +89,7 @@ fresh_behind o t (suc n) (Step.Enter f ∷ past) l e =
       | false ↦ λ q w. fresh_behind o t n past l.0 w
     ]) refl e
 fresh_behind o t (suc n) (Step.Full u ∷ past) l e = fresh_behind o t n past l.0 e
+fresh_behind o t (suc n) (Step.Resize blocks ∷ past) l e = fresh_behind o t n past l.0 e
 fresh_behind o t (suc n) (Step.Commit u r ∷ past) l e = fresh_behind o t n past l.0 e
 fresh_behind o t (suc n) (Step.Busy u ∷ past) l e = fresh_behind o t n past l.0 e
 fresh_behind o t (suc n) (Step.Abort rule ∷ past) l e = fresh_behind o t n past l.0 e
@@ -137,6 +142,7 @@ entered_or t (Step.Enter f ∷ past) e =
       | false ↦ λ q w. ap (λ (x : Option Entry). is_some x || has_left t past) (task_push_other t f (alive past) q) ∙ entered_or t past w
     ]) refl e
 entered_or t (Step.Full u ∷ past) e = entered_or t past e
+entered_or t (Step.Resize blocks ∷ past) e = entered_or t past e
 entered_or t (Step.Commit u r ∷ past) e = entered_or t past e
 entered_or t (Step.Busy u ∷ past) e = entered_or t past e
 entered_or t (Step.Abort rule ∷ past) e = entered_or t past e

@@ -118,7 +118,7 @@ fn fact_of(unit: usize, kind: StepKind) -> Option<TicketFact>
         }),
         StepKind::Commit(ticket) => told(unit, TaskStep::Commit, ticket),
         StepKind::Busy(ticket) => told(unit, TaskStep::Busy, ticket),
-        StepKind::Abort(_) | StepKind::Reset => None,
+        StepKind::Abort(_) | StepKind::Reset | StepKind::Resize => None,
         StepKind::Leave(ticket) => told(unit, TaskStep::Leave, ticket),
     }
 }

@@ -125,6 +125,7 @@ fn print_step<W: Write>(out: &mut W, driver: &Driver, step: StepKind) -> Result<
         StepKind::Busy(ticket) => print_named(out, driver, "busy", ticket),
         StepKind::Abort(_) => written(write!(out, "abort")),
         StepKind::Reset => written(write!(out, "reset")),
+        StepKind::Resize => written(write!(out, "resize")),
         StepKind::Leave(ticket) => print_named(out, driver, "leave", ticket),
     }
 }

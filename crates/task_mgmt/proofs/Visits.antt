@@ -59,6 +59,7 @@ first_alone (Step.Abort rule) = refl
 first_alone (Step.Reset c) = refl
 first_alone (Step.Enter e) = refl
 first_alone (Step.Full t) = refl
+first_alone (Step.Resize blocks) = refl
 first_alone (Step.Commit t r) = refl
 first_alone (Step.Busy t) = refl
 first_alone (Step.Leave t) = refl

@@ -8,7 +8,7 @@ use Rattle.history.specs.Tasks.{same_ticket, meets}
 use Rattle.history.specs.Steps.{Step}
 use Rattle.history.specs.Base.{folds, base_of}
 use Rattle.history.specs.Clearing.{rule_at, is_clear}
-use Rattle.history.specs.Contents.{Opening}
+use Rattle.history.specs.Contents.{Opening, capacity_of}
 use Rattle.history.specs.Lawful.{IsLawful}
 use Rattle.history.proofs.Waiting.{clear_is, clear_none}
 use Rattle.history.specs.Seen.{Seen, any_before, tasks_of, others}
@@ -101,6 +101,11 @@ based_on base base' n n' s past steps' tasks tasks' k brings is same steps on =
 pub ran_folds : (t : Ticket) (p : Option Performed) → folds (step_for t p) ≡ false
 ran_folds t None = refl
 ran_folds t (Some p) = refl
+
+-- a command leaves the capacity
+pub ran_sized : (o : Opening) (t : Ticket) (p : Option Performed) (past steps : List Step) → steps ≡ step_for t p ∷ past → capacity_of o steps ≡ capacity_of o past
+ran_sized o t None past steps is = ap (λ w. capacity_of o w) is
+ran_sized o t (Some p) past steps is = ap (λ w. capacity_of o w) is
 
 -- a place is clear where no Abort and no Reset stands, and where what these met is forgotten
 pub clear_forgotten_place : (o : Opening) (n place : ℕ) (steps : List Step) → IsLawful o steps → AreBehind n (tasks_of steps)

@@ -152,6 +152,9 @@ parked_busy o past blocks pending tasks lasts room t k = finish_keeps t tasks k.
 pub parked_full : (past : List Step) (tasks : List PlainTask) (t : Ticket) → parked_of tasks ≡ but_tasks (released (Step.Full t) past) (parked_of tasks)
 parked_full past tasks t = sym (nothing_taken (parked_of tasks))
 
+pub parked_resize : (past : List Step) (tasks : List PlainTask) (blocks : ℕ) → parked_of tasks ≡ but_tasks (released (Step.Resize blocks) past) (parked_of tasks)
+parked_resize past tasks blocks = sym (nothing_taken (parked_of tasks))
+
 -- the job of a task that enters is kept where the task is blocked
 pub parked_enter : (o : Opening) (past : List Step) (blocks : Blocks) (pending : List Code) (tasks : List PlainTask) (lasts : List (Option ℕ)) (room place : ℕ) (j : PlainJob)
     → AreKept o past blocks pending tasks lasts room
@@ -280,6 +283,7 @@ pub each_released : (o : Opening) (s : Step) (past : List Step) (jobs : List Pla
     → tasks_of_jobs (of_tasks (released s past) jobs) ≡ released s past
 each_released o (Step.Enter e) past jobs l holds = no_jobs jobs
 each_released o (Step.Full t) past jobs l holds = no_jobs jobs
+each_released o (Step.Resize blocks) past jobs l holds = no_jobs jobs
 each_released o (Step.Commit t r) past jobs l holds = no_jobs jobs
 each_released o (Step.Busy t) past jobs l holds = no_jobs jobs
 each_released o (Step.Abort rule) past jobs l holds = each_marked o (Step.Abort rule) past jobs l.0 holds

@@ -1,9 +1,10 @@
 -- What the parts of a unit are after each of its steps.
-use Rattle.std.proofs.Common.{◌≡◌, ℕ, ◌+◌, ◌<◌, ◌≤◌, true, false, ◌||◌, eqb, cond, List, [], ◌∷◌, ◌++◌, map, length, Option, Some, None, is_some, refl, sym, ◌∙◌, ap, subst, arith}
+use Rattle.std.proofs.Common.{◌≡◌, ℕ, ◌+◌, ◌<◌, ◌≤◌, min, nat_lt, true, false, ◌||◌, eqb, cond, List, [], ◌∷◌, ◌++◌, map, length, Option, Some, None, is_some, refl, sym, ◌∙◌, ap, subst, arith}
 use Rattle.std.specs.Option.{option_map}
 use Rattle.ring_core.specs.declared.log.Ticket.{Ticket}
 use Rattle.sense.specs.declared.Sense.{Sense}
 use Rattle.block_store.specs.Blocks.{Blocks, zero_block}
+use Rattle.block_store.specs.Pages.{blocks_in}
 use Rattle.unit_attention.specs.declared.code.Code.{Code}
 use Rattle.unit_attention.specs.Pending.{raised}
 use Rattle.cdb.specs.declared.commands.Command.{Command}
@@ -23,13 +24,13 @@ use Rattle.history.specs.Steps.{Step, alive, done, floor}
 use Rattle.history.specs.Marks.{marked}
 use Rattle.history.specs.Enabling.{enabled}
 use Rattle.history.specs.Seen.{Seen, seen, tasks_of, entries, seen_at, others, joined, finished, struck, freed, owed}
-use Rattle.history.specs.Contents.{Opening, blocks_of, block_with, pending_at_start, pending_of, taken_by, oldest, facts_after, reply_after}
+use Rattle.history.specs.Contents.{Opening, is_capacity, capacity_of, capacity_changed, blocks_of, block_with, pending_at_start, pending_of, taken_by, oldest, facts_after, reply_after}
 use Rattle.history.specs.Lawful.{IsReady, May, IsLawful}
 use Rattle.history.proofs.Fresh as never
 use Rattle.history.proofs.Few.{alive_few}
 use Rattle.history.proofs.Leaving.{task_ticket}
 use Rattle.history.proofs.Kept.{entries_tasks, length_tasks, seen_at_tasks, seen_is}
-use Rattle.history.proofs.Keeping.{tasks_enter, tasks_full, tasks_commit, tasks_busy, tasks_abort, tasks_reset, tasks_leave}
+use Rattle.history.proofs.Keeping.{tasks_enter, tasks_full, tasks_resize, tasks_commit, tasks_busy, tasks_abort, tasks_reset, tasks_leave}
 use Rattle.history.proofs.Owing.{owed_some, alive_owed, commit_owed, busy_owed, leave_owed}
 use Rattle.task_set.specs.Jobs.{PlainJob}
 use Rattle.task_set.specs.Tasks.{PlainTask, seen_of, entries_of, moved, without, task_at, entering}
@@ -39,7 +40,7 @@ use Rattle.unit_steps.specs.Performing.{taken, told}
 use Rattle.unit_history.proofs.KeepingSet.{entries_seen, length_seen, seen_task, seen_without, seen_moved, seen_push, finished_waits, struck_waits, freed_waits, fit_moved, fit_without, fit_entering}
 
 pub keep_new : (o : Opening) (block_at : Blocks) (pending : List Code) (lasts : List (Option ℕ)) (room : ℕ)
-    → pending ≡ pending_at_start o.calm → ((b : ℕ) → b < o.blocks → block_at b ≡ zero_block) → ((q : ℕ) → floor_kept lasts q ≡ 0)
+    → pending ≡ pending_at_start o.calm → ((b : ℕ) → block_at b ≡ blocks_in o.content b) → ((q : ℕ) → floor_kept lasts q ≡ 0)
     → AreKept o [] block_at pending [] lasts room
 keep_new o block_at pending lasts room pends stored floors =
     record { lawful = tt; stored = stored; pends = pends; set = refl; fit = tt; floors = floors; reserved = omega arith }
@@ -126,13 +127,13 @@ module _ {o : Opening} {past : List Step} {block_at : Blocks} {pending : List Co
   pub replies_after : (e : Entry) → reply_of (facts_after o past) e.command e.data_out block_at ≡ reply_after o e past
   replies_after e =
       ap (λ a. reported (met e.command (facts_after o past).pending) (replied e.command a))
-      (answer_of-agree (facts_after o past) e.command e.data_out block_at (blocks_of past) k.stored)
+      (answer_of-agree (facts_after o past) e.command e.data_out block_at (blocks_of o past) (λ b below. k.stored b))
 
   -- what a command is told is what the history says of the unit
-  pub told_is : (facts : UnitFacts) (size : ℕ) → facts.target ≡ o.target → facts.lun ≡ o.lun → facts.luns.items ≡ o.luns → size ≡ o.blocks
+  pub told_is : (facts : UnitFacts) (size : ℕ) → facts.target ≡ o.target → facts.lun ≡ o.lun → facts.luns.items ≡ o.luns → size ≡ capacity_of o past
       → facts_of (told facts pending) size ≡ facts_after o past
   told_is facts size target lun luns blocks =
-      same_facts facts.target o.target facts.lun o.lun facts.luns.items o.luns size o.blocks (oldest pending) (oldest (pending_of o past))
+      same_facts facts.target o.target facts.lun o.lun facts.luns.items o.luns size (capacity_of o past) (oldest pending) (oldest (pending_of o past))
       target lun luns blocks (ap oldest k.pends)
 
   -- parts that say the same, with no less room
@@ -142,7 +143,7 @@ module _ {o : Opening} {past : List Step} {block_at : Blocks} {pending : List Co
   keep_same block_at' pending' lasts' room' stored pends floors reserve =
       record {
         lawful = k.lawful;
-        stored = λ b below. stored b ∙ k.stored b below;
+        stored = λ b. stored b ∙ k.stored b;
         pends = pends ∙ k.pends;
         set = k.set;
         fit = k.fit;
@@ -220,9 +221,9 @@ module _ {o : Opening} {past : List Step} {block_at : Blocks} {pending : List Co
       let set = seen_moved (finished t) tasks ∙ ap (map (finished t)) k.set ∙ sym (tasks_commit t r past) in
       record {
         lawful = lawful;
-        stored = λ b below.
-            stored b ∙ after_same e.command e.data_out r.status block_at (blocks_of past) b (k.stored b below)
-            ∙ ap (λ x. block_with x r.status (blocks_of past) b) (sym ready.is_there);
+        stored = λ b.
+            stored b ∙ after_same e.command e.data_out r.status block_at (blocks_of o past) b (k.stored b)
+            ∙ ap (λ x. block_with x r.status (blocks_of o past) b) (sym ready.is_there);
         pends = pends ∙ ap (λ w. taken e.command w) k.pends ∙ ap (λ x. taken_by x (pending_of o past)) (sym ready.is_there);
         set = set;
         fit = fit_moved (finished t) (finished_waits t) (λ s. refl) tasks k.fit;
@@ -240,7 +241,7 @@ module _ {o : Opening} {past : List Step} {block_at : Blocks} {pending : List Co
       let set = seen_moved (finished t) tasks ∙ ap (map (finished t)) k.set ∙ sym (tasks_busy t past) in
       record {
         lawful = lawful;
-        stored = λ b below. stored b ∙ k.stored b below;
+        stored = λ b. stored b ∙ k.stored b;
         pends = pends ∙ k.pends;
         set = set;
         fit = fit_moved (finished t) (finished_waits t) (λ s. refl) tasks k.fit;
@@ -278,6 +279,25 @@ module _ {o : Opening} {past : List Step} {block_at : Blocks} {pending : List Co
         fit = fit_moved (struck rules.All reason.Reset) (struck_waits rules.All reason.Reset) (λ s. refl) tasks k.fit;
         floors = k.floors;
         reserved = let same = ap owed set in let most = alive_owed o (Step.Reset c ∷ past) lawful in omega (arith, same, most, reserve);
+      }
+
+  pub may_resize : (blocks : ℕ) → is_capacity blocks ≡ true → May o (Step.Resize blocks) past
+  may_resize blocks is = is
+
+  pub keep_resize : (blocks : ℕ) (block_at' : Blocks) (pending' : List Code) (room' : ℕ) → is_capacity blocks ≡ true
+      → ((b : ℕ) → block_at' b ≡ cond (nat_lt b (min (capacity_of o past) blocks)) (block_at b) zero_block) → pending' ≡ raised pending capacity_changed → 128 ≤ room'
+      → AreKept o (Step.Resize blocks ∷ past) block_at' pending' tasks lasts room'
+  keep_resize blocks block_at' pending' room' is stored pends reserve =
+      let lawful : IsLawful o (Step.Resize blocks ∷ past) = (k.lawful, may_resize blocks is) in
+      let set = k.set ∙ sym (tasks_resize blocks past) in
+      record {
+        lawful = lawful;
+        stored = λ b. stored b ∙ ap (λ w. cond (nat_lt b (min (capacity_of o past) blocks)) w zero_block) (k.stored b);
+        pends = pends ∙ ap (λ w. raised w capacity_changed) k.pends;
+        set = set;
+        fit = k.fit;
+        floors = k.floors;
+        reserved = let same = ap owed set in let most = alive_owed o (Step.Resize blocks ∷ past) lawful in omega (arith, same, most, reserve);
       }
 
   set_leave : (t : Ticket) → seen_of (map (moved (freed (entries_of (without t tasks)))) (without t tasks)) ≡ tasks_of (Step.Leave t ∷ past)

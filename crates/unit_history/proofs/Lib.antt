@@ -7,3 +7,4 @@ pub mod Stepping
 pub mod Entering
 pub mod Committing
 pub mod Alone
+pub mod Opening

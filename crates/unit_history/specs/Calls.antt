@@ -1,10 +1,10 @@
 -- What the calls of a unit answer, by cases.
-use Rattle.std.specs.Prelude.{◌≡◌, ◌<◌, ◌≤◌, true, false, ◌||◌, List, ◌∷◌, Option, Some, None, IsTrue, ⊤}
+use Rattle.std.specs.Prelude.{ℕ, ◌≡◌, ◌<◌, ◌≤◌, true, false, ◌||◌, List, ◌∷◌, Option, Some, None, IsTrue, ⊤}
 use Rattle.ring_core.specs.declared.log.Ticket.{Ticket}
 use Rattle.history.specs.Tasks.{Entry, task_of, is_blocked}
 use Rattle.history.specs.Steps.{Step, alive, done, floor}
 use Rattle.history.specs.Marks.{mark_of, marked}
-use Rattle.history.specs.Contents.{facts_after, reply_after}
+use Rattle.history.specs.Contents.{is_capacity, facts_after, reply_after}
 use Rattle.history.specs.Lawful.{IsReady, May}
 use Rattle.history.specs.Receipts.{receipt_of}
 use Rattle.task_set.specs.Jobs.{PlainJob}
@@ -15,6 +15,8 @@ use Rattle.unit_history.specs.declared.answers.Entered.{Entered}
 use Rattle.unit_history.specs.declared.answers.Entered.TheVariants as entered
 use Rattle.unit_history.specs.declared.answers.Outcome.{Outcome}
 use Rattle.unit_history.specs.declared.answers.Outcome.TheVariants as outcome
+use Rattle.unit_history.specs.declared.answers.ResizeFault.{ResizeFault}
+use Rattle.unit_history.specs.declared.answers.ResizeFault.TheVariants as resize_fault
 
 -- own: a task entered: its job, where that is to be committed
 abbrev pub entered_of : Option PlainJob → Entered
@@ -51,6 +53,11 @@ Commits old j outcome.Busy new =
     × IsTrue (may_run_short old.keeps_replies (facts_after old.opening old.steps) e.command)
     × Steps old (Step.Busy j.entry.ticket) new
 Commits old j outcome.Unknown new = CannotCommit (task_of j.entry.ticket (alive old.steps)) j old.steps × (new ≡ old)
+
+-- own: a capacity is refused where no unit may have it, and memory only for one that it may have
+abbrev pub ResizeRefused : ℕ → ResizeFault → Type 0
+ResizeRefused blocks resize_fault.BadCapacity = is_capacity blocks ≡ false
+ResizeRefused blocks resize_fault.NoMemory = is_capacity blocks ≡ true
 
 -- own: no task of the ticket is alive, or it is neither done nor marked
 abbrev pub CannotLeave : Option Entry → Ticket → List Step → Type 0

@@ -1,10 +1,18 @@
 -- What a unit keeps. Only private functions and models cite it: no promise stands on it.
+use Rattle.std.specs.Prelude.{ℕ, ◌≡◌, List, [], ◌∷◌}
+use Rattle.block_store.specs.Blocks.{run}
 use Rattle.block_store.specs.Kept as pages
-use Rattle.history.specs.Contents.{Opening}
+use Rattle.block_store.specs.declared.paged.PagedStore.{PagedStore}
+use Rattle.history.specs.Contents.{Opening, capacity_of}
 use Rattle.task_set.specs.Tasks.{parked_of, seen_of}
 use Rattle.unit_history.specs.Parts.{AreKept, AreBased}
 use Rattle.task_set.specs.Unit.{PlainUnit}
 use Rattle.unit_history.specs.declared.unit.UnitState.TheInside.{Inside}
+
+-- own: the bytes of all blocks of the store that was handed in, if one was
+abbrev pub content_of : List PagedStore → List ℕ
+content_of [] = []
+content_of (s ∷ more) = run (pages.blocks_of s.pages) 0 s.capacity
 
 abbrev pub opening_of : Inside → Opening
 opening_of u =
@@ -12,8 +20,9 @@ opening_of u =
       target = u.facts.target;
       lun = u.facts.lun;
       luns = u.facts.luns.items;
-      blocks = u.store.capacity;
+      blocks = u.opening_blocks;
       calm = u.calm;
+      content = content_of u.opened.items;
     }
 
 abbrev pub plain_unit : Inside → PlainUnit
@@ -28,3 +37,4 @@ plain_unit u =
 pub record IsTold (u : Inside) : Type 0 where
   pub kept : AreKept (opening_of u) u.log.steps (pages.blocks_of u.store.pages) u.attentions u.tasks u.lasts u.log.room
   pub based : AreBased u.log.base u.log.forgotten u.log.steps (seen_of u.tasks)
+  pub sized : u.store.capacity ≡ capacity_of (opening_of u) u.log.steps

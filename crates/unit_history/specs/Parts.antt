@@ -23,7 +23,7 @@ AreFit (t ∷ tasks) =
 pub record AreKept (o : Opening) (steps : List Step) (block_at : Blocks) (pending : List Code) (tasks : List PlainTask)
     (lasts : List (Option ℕ)) (room : ℕ) : Type 0 where
   pub lawful : IsLawful o steps
-  pub stored : (b : ℕ) → b < o.blocks → block_at b ≡ blocks_of steps b
+  pub stored : (b : ℕ) → block_at b ≡ blocks_of o steps b
   pub pends : pending ≡ pending_of o steps
   pub set : seen_of tasks ≡ tasks_of steps
   pub fit : AreFit tasks

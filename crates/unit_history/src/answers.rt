@@ -41,6 +41,15 @@ impl Entered {
     }
 }
 
+/// Why a unit isn't resized. Nothing changed.
+#[derive(Clone, Copy, Debug, PartialEq, Eq)]
+pub enum ResizeFault {
+    /// No unit may have so many blocks: 0, or more than 2^40.
+    BadCapacity,
+    /// Memory was refused.
+    NoMemory,
+}
+
 /// What became of a job at its commit.
 #[derive(Drop)]
 pub enum Outcome {

@@ -9,7 +9,7 @@ mod turn;
 mod unit;
 
 pub use answering::Answering;
-pub use answers::{BareReceipt, Entered, Outcome, Receipt, Unknown};
+pub use answers::{BareReceipt, Entered, Outcome, Receipt, ResizeFault, Unknown};
 pub use given::Given;
 pub use notes::{Cause, Note};
 pub use task_set::{Arrival, Job, JobList};

@@ -5,17 +5,19 @@ ghost use Rattle.cdb.specs.Need.{need_of};
 ghost use Rattle.unit_history.specs.Endings.{FitsNeed};
 ghost use Rattle.history.specs.Seen.{finished};
 ghost use Rattle.history.specs.Base.{most_before};
+ghost use Rattle.history.specs.Contents.{is_capacity as may_have};
 ghost use Rattle.task_set.specs.Tasks.{moved, seen_of};
 ghost use Rattle.unit_history.specs.Parts.{AreClear};
 ghost use Rattle.unit_steps.specs.Performing.{IsKeptReply, step_for};
 ghost use Rattle.unit_history.specs.Outcomes.{outcome_for};
 
-use crate::answers::{Entered, Outcome, Receipt, Unknown};
+use crate::answers::{Entered, Outcome, Receipt, ResizeFault, Unknown};
 use crate::turn::{Turn, is_ended, turn_of};
 use block_commands::UnitFacts;
 use block_store::{NoMemory, PagedStore, Store};
 use decisions::UnitSpec;
 use history::{Reason, Rule};
+use record::Record;
 use replies::Reply;
 use ring_core::{Answered, Ticket};
 use scsi_codec::Address;
@@ -31,6 +33,9 @@ use unit_steps::{
 /// How many steps stand before a step of a unit's history.
 pub type Place = u64;
 
+/// The most blocks of a unit.
+const MOST_BLOCKS: u64 = 1 << 40;
+
 /// Of how many bytes room is kept from one command for the next, at most.
 const MOST_ROOM: usize = 4096;
 
@@ -43,6 +48,9 @@ pub struct UnitState {
     pub(crate) calm: bool,
     pub(crate) attentions: Attentions,
     pub(crate) store: PagedStore,
+    // The store that was handed in at the opening, as it was then.
+    pub(crate) opened: Record<PagedStore>,
+    pub(crate) opening_blocks: u64,
     pub(crate) tasks: TaskSet,
     pub(crate) log: StepLog,
     pub(crate) lasts: Lasts,
@@ -68,6 +76,13 @@ pub(crate) fn noted_entry(arrival: &Arrival) -> NotedEntry
     ensures { result ≡ arrival.now.entry }
 {
     NotedEntry::new(arrival.ticket(), arrival.request())
+}
+
+/// Returns whether a unit may have so many blocks.
+fn is_capacity(blocks: u64) -> bool
+    ensures { result ≡ may_have blocks }
+{
+    1 <= blocks && blocks <= MOST_BLOCKS
 }
 
 /// Makes way in a unit's log for a step that brings more, and for those ahead. What the oldest folded Abort or Reset met
@@ -136,7 +151,7 @@ fn record_run(
 }
 
 impl UnitState {
-    ghost use Rattle.std.specs.Prelude.{◌≡◌, ◌+◌, ◌*◌, ◌<◌, ◌≤◌, ◌⊎◌, ◌++◌, true, length, slice_get, IfOk, OnOk, OnErr, IsTrue, ◌↔◌};
+    ghost use Rattle.std.specs.Prelude.{ℕ, ◌≡◌, ◌+◌, ◌*◌, ◌<◌, ◌≤◌, ◌⊎◌, ◌++◌, [], true, length, slice_get, IfOk, IfErr, OnOk, OnErr, IsTrue, ◌↔◌};
     ghost use Rattle.std.specs.Option.{option_map};
     ghost use Rattle.block_store.specs.Blocks.{run};
     ghost use Rattle.unit_attention.specs.Code.{IsKnown};
@@ -149,7 +164,7 @@ impl UnitState {
     ghost use Rattle.history.specs.Receipts.{IsConfirmed};
     ghost use Rattle.unit_steps.specs.Kept.{kind_of};
     ghost use Rattle.task_set.specs.Unit.{opening_unit, handing, Steps, IsUnit};
-    ghost use Rattle.unit_history.specs.Calls.{Enters, Commits, CannotLeave};
+    ghost use Rattle.unit_history.specs.Calls.{Enters, Commits, ResizeRefused, CannotLeave};
 
     /// A unit as it is specified, with the LUNs of its target by rising number, of which no step was taken. Whoever
     /// sets the device up calls it, and says whether the replies of its Commits are kept, for receipts to be compared
@@ -168,10 +183,10 @@ impl UnitState {
           luns = luns.now;
           blocks = spec.now.blocks;
           calm = spec.now.calm;
+          content = [];
         }) keeps_replies) }
     {
         let luns = Vec::from_slice(alloc, luns)?;
-        let store = PagedStore::new(alloc, spec.blocks);
         Ok(UnitState {
             alloc,
             facts: UnitFacts {
@@ -182,12 +197,66 @@ impl UnitState {
             },
             calm: spec.calm,
             attentions: attentions_at_start(spec.calm),
-            store,
+            store: PagedStore::new(alloc, spec.blocks),
+            opened: Record::new(),
+            opening_blocks: spec.blocks,
             tasks: TaskSet::new(),
             log: StepLog::new(alloc, keeps_replies),
             lasts: Lasts::new(alloc),
             room: Vec::new(alloc),
         })
+    }
+
+    /// Returns a unit as [`UnitState::new`] does, but with the blocks of a store, as many as it has, in place of zeros
+    /// and of the specified capacity. Takes no memory. Who keeps a disk beyond its device calls it, with what
+    /// [`UnitState::into_store`] gave.
+    pub fn open_with(
+        alloc: Global,
+        spec: &UnitSpec,
+        luns: Vec<u16>,
+        keeps_replies: bool,
+        mut store: PagedStore,
+    ) -> UnitState
+        requires { length luns.items ≤ 16384 }
+        ensures { result ≡ opening_unit (record {
+          target = spec.now.target;
+          lun = spec.now.lun;
+          luns = luns.items;
+          blocks = ⟦<PagedStore as Store>⟧.size store;
+          calm = spec.now.calm;
+          content = run (⟦<PagedStore as Store>⟧.block_at store) 0 (⟦<PagedStore as Store>⟧.size store);
+        }) keeps_replies }
+    {
+        let opened = Record::new().and(&store);
+        let blocks = store.capacity();
+        // What the store has behind its end is no block of the disk.
+        store.resize(blocks);
+        UnitState {
+            alloc,
+            facts: UnitFacts {
+                target: spec.target,
+                lun: spec.lun,
+                luns,
+                pending: None,
+            },
+            calm: spec.calm,
+            attentions: attentions_at_start(spec.calm),
+            store,
+            opened,
+            opening_blocks: blocks,
+            tasks: TaskSet::new(),
+            log: StepLog::new(alloc, keeps_replies),
+            lasts: Lasts::new(alloc),
+            room: Vec::new(alloc),
+        }
+    }
+
+    /// Returns the unit's blocks, as its commands and resizes left them. The rest of the unit is gone.
+    pub fn into_store(self) -> PagedStore
+        ensures size { ⟦<PagedStore as Store>⟧.size result ≡ capacity_of self.opening self.steps }
+        ensures blocks { (b : ℕ) → ⟦<PagedStore as Store>⟧.block_at result b ≡ blocks_of self.opening self.steps b }
+    {
+        self.store
     }
 
     /// What every unit is between calls.
@@ -334,6 +403,28 @@ impl UnitState {
         Ok(place)
     }
 
+    /// Gives the unit another capacity, in blocks of 512 bytes, and raises CAPACITY DATA HAS CHANGED (SPC-4 §4.5.6). The
+    /// blocks above it are lost: where the unit grows again, they are zeros. Answers the place of the step. `BadCapacity`
+    /// for 0 and for more than 2^40 blocks, `NoMemory` where way for the step couldn't be made; after both all is as before.
+    pub fn resize(&mut self, blocks: u64) -> Result<Place, ResizeFault>
+        ensures step { OnOk result (Steps self.old (Step.Resize blocks) self.new) }
+        ensures place { IfOk result (λ place. place ≡ length self.old.steps) }
+        ensures err { OnErr result (self.new ≡ self.old) }
+        ensures cause { IfErr result (λ fault. ResizeRefused blocks fault) }
+    {
+        if !is_capacity(blocks) {
+            return Err(ResizeFault::BadCapacity);
+        }
+        let Ok(()) = make_way(&mut self.log, &self.tasks) else {
+            return Err(ResizeFault::NoMemory);
+        };
+        let place = self.log.len();
+        self.log.push(NotedStep::Resize(blocks), None);
+        self.attentions.raise(Code::CAPACITY_DATA_CHANGED);
+        self.store.resize(blocks);
+        Ok(place)
+    }
+
     /// The task of a chain that was completed leaves, and what it alone blocked is handed out. It takes no memory. The
     /// list has 64 places free, which the caller sees to. `Unknown`, with nothing changed, where no task of the ticket
     /// is alive, or it neither ran, nor was answered BUSY, nor was marked.
@@ -447,6 +538,13 @@ impl UnitState {
         self.facts.lun
     }
 
+    /// Returns how many blocks it opened with.
+    pub fn opening_blocks(&self) -> u64
+        ensures { result ≡ self.now.opening.blocks }
+    {
+        self.opening_blocks
+    }
+
     /// Its capacity in blocks of 512 bytes.
     pub fn capacity(&self) -> u64
         ensures { result ≡ capacity_of self.now.opening self.now.steps }
@@ -465,7 +563,7 @@ impl UnitState {
     /// with the list as it was where that can't grow.
     pub fn read_blocks(&self, first: u64, count: u32, into: &mut Vec<u8>) -> Result<(), NoMemory>
         requires { first + count ≤ capacity_of self.now.opening self.now.steps }
-        ensures ok { OnOk result (into.new.items ≡ into.old.items ++ run (blocks_of self.now.steps) first count) }
+        ensures ok { OnOk result (into.new.items ≡ into.old.items ++ run (blocks_of self.now.opening self.now.steps) first count) }
         ensures len { OnOk result (length into.new.items ≡ length into.old.items + 512 * count) }
         ensures err { OnErr result (into.new.items ≡ into.old.items) }
         ensures want { OnErr result (0 < count) }

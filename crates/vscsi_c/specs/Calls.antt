@@ -139,7 +139,7 @@ GivesFrom (Some u) first count old answer.Outside new = (capacity_of u.opening u
 GivesFrom (Some u) first count old answer.NoMemory new = (first + count ≤ capacity_of u.opening u.steps)
     × (0 < count) × (new ≡ old)
 GivesFrom (Some u) first count old answer.Done new = (first + count ≤ capacity_of u.opening u.steps)
-    × (new ≡ run (blocks_of u.steps) first count)
+    × (new ≡ run (blocks_of u.opening u.steps) first count)
 GivesFrom u first count old a new = ⊥
 
 -- before all else the room is measured

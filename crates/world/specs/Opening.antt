@@ -28,6 +28,7 @@ opening_of inventory u =
       luns = luns_of inventory u.target;
       blocks = u.blocks;
       calm = u.calm;
+      content = [];
     }
 
 -- a unit of which no step was taken. It keeps no replies, since no receipt outlives a chain's service

@@ -32,7 +32,7 @@ device_status w = cond (list_any (λ q. is_some q.ring.broken) w.queues) 64 0
 abbrev pub GivesBlocks : Option PlainUnit → ℕ → ℕ → List ℕ → Result Bool NoMemory → List ℕ → Type 0
 GivesBlocks None first count old (Ok true) new = ⊥
 GivesBlocks (Some u) first count old (Ok true) new = (first + count ≤ capacity_of u.opening u.steps) × (new
-    ≡ old ++ run (blocks_of u.steps) first count)
+    ≡ old ++ run (blocks_of u.opening u.steps) first count)
 GivesBlocks None first count old (Ok false) new = new ≡ old
 GivesBlocks (Some u) first count old (Ok false) new = (capacity_of u.opening u.steps < first + count) × (new ≡ old)
 GivesBlocks None first count old (Err e) new = ⊥

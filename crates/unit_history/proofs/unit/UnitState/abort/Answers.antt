@@ -29,6 +29,7 @@ invariant_of-self-2 c =
           (c.push.ensures.steps ∙ ap (λ w. Step.Abort c.args.rule ∷ w) c.make_way.ensures.steps)
           (λ le b. subst (λ ts. AreBehind n (seen_of ts)) (sym c.mark.ensures.tasks) (behind_moved (struck c.args.rule reason.Aborted) n c.self.inside.tasks (λ s. refl) b))
           (c.make_way.ensures.clear c.self.invariant.based.clear);
+      sized = c.self.invariant.sized ∙ rw (c.push.ensures.steps, c.in_ok-make_way.ensures.steps) refl;
     }
 
 pub returns-clause-step : goal.returns-clause-step

@@ -1,10 +1,11 @@
 use Rattle.std.proofs.Common.{◌≡◌, true, false, ap, sym, subst, ◌∙◌, refl}
 use Rattle.history.specs.Seen.{finished}
 use Rattle.unit_history.specs.Parts.{AreBehind}
-use Rattle.unit_history.proofs.Basing.{based_on, behind_moved, ran_folds}
+use Rattle.unit_history.proofs.Basing.{based_on, behind_moved, ran_folds, ran_sized}
 use Rattle.std.specs.Option.{option_copied}
 use Rattle.block_store.specs.Kept as pages
 use Rattle.block_commands.specs.Told.{facts_of}
+use Rattle.unit_history.specs.Fields.{opening_of}
 use Rattle.unit_steps.specs.Performing.{told, step_for}
 use Rattle.task_set.specs.Tasks.{task_at, seen_of}
 use Rattle.unit_history.proofs.Keeping.{has_room, is_ready, told_is}
@@ -27,16 +28,17 @@ invariant_of-self c =
     let n = c.self.inside.log.forgotten in
     record {
       kept =
-          rw (c.record_run.ensures.tasks, c.record_run.ensures.steps, c.perform-performed.ensures.facts, c.perform-performed.ensures.size)
+          rw (c.record_run.ensures.tasks, c.record_run.ensures.steps, c.perform-performed.ensures.facts)
           (keep_run c.self.invariant.kept c.ticket-ticket.result c.in-Some.task.now.seen.entry true
           (facts_of (told c.self.inside.facts c.self.inside.attentions) (c.self.inside.store.capacity)) c.perform-performed.result _ _ _
           (is_ready c.self.invariant.kept c.ticket-ticket.result c.in-Some.task.now at turns.1 turns.2 turns.3)
-          (told_is c.self.invariant.kept c.self.inside.facts (c.self.inside.store.capacity) refl refl refl refl)
+          (told_is c.self.invariant.kept c.self.inside.facts (c.self.inside.store.capacity) refl refl refl c.self.invariant.sized)
           (rw (c.command-command.ensures, c.data-bytes.ensures.data) at c.perform-performed.ensures.performed) c.record_run.ensures.room);
       based =
           based_on _ _ n _ (step_for c.ticket-ticket.result _) c.self.inside.log.steps _ (seen_of c.self.inside.tasks) _ c.self.invariant.based (ran_folds c.ticket-ticket.result _)
           c.record_run.ensures.base c.record_run.ensures.forgotten c.record_run.ensures.steps
           (λ b. subst (λ ts. AreBehind n (seen_of ts)) (sym c.record_run.ensures.tasks) (behind_moved (finished c.ticket-ticket.result) n c.self.inside.tasks (λ s. refl) b));
+      sized = c.perform-performed.ensures.size ∙ c.self.invariant.sized ∙ sym (ran_sized (opening_of c.self.inside) c.ticket-ticket.result _ c.self.inside.log.steps _ c.record_run.ensures.steps);
     }
 
 pub returns-in-Unknown-clause-step : goal.returns-in-Unknown-clause-step
@@ -67,15 +69,14 @@ returns-then-keeps_replies-clause-step c =
       c.record_run.ensures.steps,
       c.record_run.ensures.keeps,
       c.perform-performed.ensures.facts,
-      c.perform-performed.ensures.size,
-      c.ticket-ticket.ensures.entry,
+        c.ticket-ticket.ensures.entry,
     )
     (commits_run c.self.invariant.kept c.args.job.now c.in-Some.task.now.seen.entry c.self.inside.log.keeps
     (facts_of (told c.self.inside.facts c.self.inside.attentions) (c.self.inside.store.capacity)) c.perform-performed.result
     (pages.blocks_of c.perform-performed.new.store.pages) c.perform-performed.new.attentions
     (is_of c.self.invariant.kept c.args.job.now c.in-Some.task.now at turns.0)
     (is_ready c.self.invariant.kept c.args.job.now.entry.ticket c.in-Some.task.now at turns.1 turns.2 turns.3)
-    (told_is c.self.invariant.kept c.self.inside.facts (c.self.inside.store.capacity) refl refl refl refl)
+    (told_is c.self.invariant.kept c.self.inside.facts (c.self.inside.store.capacity) refl refl refl c.self.invariant.sized)
     (rw keeps (rw (c.command-command.ensures, c.data-bytes.ensures.data) at c.perform-performed.ensures.performed)))
 
 pub returns-else-keeps_replies-clause-step : goal.returns-else-keeps_replies-clause-step
@@ -90,15 +91,14 @@ returns-else-keeps_replies-clause-step c =
       c.record_run-else-keeps_replies.ensures.steps,
       c.record_run-else-keeps_replies.ensures.keeps,
       c.perform-performed-else-keeps_replies.ensures.facts,
-      c.perform-performed-else-keeps_replies.ensures.size,
-      c.ticket-ticket.ensures.entry,
+        c.ticket-ticket.ensures.entry,
     )
     (commits_run c.self.invariant.kept c.args.job.now c.in-Some.task.now.seen.entry c.self.inside.log.keeps
     (facts_of (told c.self.inside.facts c.self.inside.attentions) (c.self.inside.store.capacity)) c.perform-performed-else-keeps_replies.result
     (pages.blocks_of c.perform-performed-else-keeps_replies.new.store.pages) c.perform-performed-else-keeps_replies.new.attentions
     (is_of c.self.invariant.kept c.args.job.now c.in-Some.task.now at turns.0)
     (is_ready c.self.invariant.kept c.args.job.now.entry.ticket c.in-Some.task.now at turns.1 turns.2 turns.3)
-    (told_is c.self.invariant.kept c.self.inside.facts (c.self.inside.store.capacity) refl refl refl refl)
+    (told_is c.self.invariant.kept c.self.inside.facts (c.self.inside.store.capacity) refl refl refl c.self.invariant.sized)
     (rw keeps (rw (c.command-command.ensures, c.data-bytes.ensures.data) at c.perform-performed-else-keeps_replies.ensures.performed)))
 
 pub record_run-requires-else-keeps_replies-clause-room : goal.record_run-requires-else-keeps_replies-clause-room
@@ -112,14 +112,15 @@ invariant_of-self-else-keeps_replies c =
     let n = c.self.inside.log.forgotten in
     record {
       kept =
-          rw (c.record_run-else-keeps_replies.ensures.tasks, c.record_run-else-keeps_replies.ensures.steps, c.perform-performed-else-keeps_replies.ensures.facts, c.perform-performed-else-keeps_replies.ensures.size)
+          rw (c.record_run-else-keeps_replies.ensures.tasks, c.record_run-else-keeps_replies.ensures.steps, c.perform-performed-else-keeps_replies.ensures.facts)
           (keep_run c.self.invariant.kept c.ticket-ticket.result c.in-Some.task.now.seen.entry false
           (facts_of (told c.self.inside.facts c.self.inside.attentions) (c.self.inside.store.capacity)) c.perform-performed-else-keeps_replies.result _ _ _
           (is_ready c.self.invariant.kept c.ticket-ticket.result c.in-Some.task.now at turns.1 turns.2 turns.3)
-          (told_is c.self.invariant.kept c.self.inside.facts (c.self.inside.store.capacity) refl refl refl refl)
+          (told_is c.self.invariant.kept c.self.inside.facts (c.self.inside.store.capacity) refl refl refl c.self.invariant.sized)
           (rw (c.command-command.ensures, c.data-bytes.ensures.data) at c.perform-performed-else-keeps_replies.ensures.performed) c.record_run-else-keeps_replies.ensures.room);
       based =
           based_on _ _ n _ (step_for c.ticket-ticket.result _) c.self.inside.log.steps _ (seen_of c.self.inside.tasks) _ c.self.invariant.based (ran_folds c.ticket-ticket.result _)
           c.record_run-else-keeps_replies.ensures.base c.record_run-else-keeps_replies.ensures.forgotten c.record_run-else-keeps_replies.ensures.steps
           (λ b. subst (λ ts. AreBehind n (seen_of ts)) (sym c.record_run-else-keeps_replies.ensures.tasks) (behind_moved (finished c.ticket-ticket.result) n c.self.inside.tasks (λ s. refl) b));
+      sized = c.perform-performed-else-keeps_replies.ensures.size ∙ c.self.invariant.sized ∙ sym (ran_sized (opening_of c.self.inside) c.ticket-ticket.result _ c.self.inside.log.steps _ c.record_run-else-keeps_replies.ensures.steps);
     }

@@ -31,6 +31,7 @@ invariant_of-self-in-Err c =
           (c.push.ensures.steps ∙ ap (λ w. Step.Full c.ticket-ticket.result ∷ w) c.make_way.ensures.steps)
           (λ le b. subst (λ ts. AreBehind n (seen_of ts)) (sym full.1) b)
           (c.make_way.ensures.clear c.self.invariant.based.clear);
+      sized = c.self.invariant.sized ∙ rw (c.push.ensures.steps, c.in-Ok-make_way.ensures.steps) refl;
     }
 
 pub invariant_of-self-in-Ok-enter : goal.invariant_of-self-in-Ok-enter
@@ -55,6 +56,7 @@ invariant_of-self-in-Ok-enter c =
           ∙ ap (λ w. Step.Enter c.args.arrival.entry ∷ w) c.make_way.ensures.steps)
           (λ le b. subst (λ ts. AreBehind n (seen_of ts)) (sym entered.1) (behind_entering c.len-place.result n c.self.inside.tasks c.args.arrival (omega (arith, at, le)) b))
           (c.make_way.ensures.clear c.self.invariant.based.clear);
+      sized = c.self.invariant.sized ∙ rw (c.push-in-Ok-enter.ensures.steps, c.in-Ok-make_way.ensures.steps) refl;
     }
 
 pub returns-in-Err : goal.returns-in-Err

@@ -41,6 +41,7 @@ invariant_of-self c =
           c.push.ensures.base c.push.ensures.forgotten c.push.ensures.steps
           (λ b. subst (λ ts. AreBehind n (seen_of ts)) (sym c.leave.ensures.tasks)
           (behind_moved (freed (entries_of (without t c.self.inside.tasks))) n (without t c.self.inside.tasks) (λ s. refl) (behind_without t n c.self.inside.tasks b)));
+      sized = c.self.invariant.sized ∙ rw (c.push.ensures.steps) refl;
     }
 
 pub returns-clause-step : goal.returns-clause-step

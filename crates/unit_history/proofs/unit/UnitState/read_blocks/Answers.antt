@@ -2,7 +2,7 @@ use Rattle.std.proofs.Common.{◌+◌, ◌≤◌, ◌++◌, ap, sym, ◌∙◌, 
 use Rattle.block_store.specs.Blocks.{run}
 use Rattle.block_store.specs.Kept as pages
 use Rattle.block_commands.proofs.Ranges.{run-agree}
-use Rattle.history.specs.Contents.{blocks_of}
+use Rattle.history.specs.Contents.{blocks_of, capacity_of}
 use Rattle.unit_history.specs.Fields.{opening_of}
 use Rattle.task_set.specs.Unit.{PlainUnit}
 use Rattle.unit_history.proofs.unit.UnitState.read_blocks.Goals as goal
@@ -10,8 +10,9 @@ use Rattle.unit_history.proofs.unit.UnitState.read_blocks.Goals as goal
 pub returns-clause-ok : goal.returns-clause-ok
 returns-clause-ok c =
     let u = c.self.inside in
-    let within : c.args.first + c.args.count ≤ (opening_of u).blocks = subst (λ (v : PlainUnit). c.args.first + c.args.count ≤ v.opening.blocks) (sym c.self.view_is) c.requires in
+    let within : c.args.first + c.args.count ≤ capacity_of (opening_of u) u.log.steps =
+    subst (λ (v : PlainUnit). c.args.first + c.args.count ≤ capacity_of v.opening v.steps) (sym c.self.view_is) c.requires in
     rw (← c.self.view_is)
     (c.read_blocks.ensures.bytes
     ∙ ap (λ w. w ++ run (pages.blocks_of u.store.pages) c.args.first c.args.count) c.reserve.ensures.items
-    ∙ ap (λ w. c.args.into.now.items ++ w) (run-agree (pages.blocks_of u.store.pages) (blocks_of u.log.steps) c.args.first c.args.count _ within c.self.invariant.kept.stored))
+    ∙ ap (λ w. c.args.into.now.items ++ w) (run-agree (pages.blocks_of u.store.pages) (blocks_of (opening_of u) u.log.steps) c.args.first c.args.count _ within (λ b below. c.self.invariant.kept.stored b)))

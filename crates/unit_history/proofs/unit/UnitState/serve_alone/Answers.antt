@@ -10,7 +10,7 @@ use Rattle.unit_history.proofs.Alone.{no_tasks, ends_as, all_steps, kept_served,
 use Rattle.unit_history.proofs.Entering.{not_stale, came_then}
 use Rattle.unit_history.proofs.Keeping.{CameTo, told_is}
 use Rattle.task_set.specs.Tasks.{seen_of}
-use Rattle.unit_history.proofs.Basing.{based_way, based_on, ran_folds}
+use Rattle.unit_history.proofs.Basing.{based_way, based_on, ran_folds, ran_sized}
 use Rattle.unit_history.proofs.unit.UnitState.serve_alone.Goals as goal
 
 pub invariant_of-self-2 : goal.invariant_of-self-2
@@ -37,17 +37,20 @@ invariant_of-self-2 g c =
     c.record_run.ensures.base c.record_run.ensures.forgotten c.record_run.ensures.steps (λ b. b) in
     record {
       kept =
-          rw (c.run-ran.ensures.facts, c.run-ran.ensures.size)
+          rw (c.run-ran.ensures.facts)
           (kept_served (opening_of u) u.log.steps (pages.blocks_of u.store.pages) u.attentions u.tasks u.lasts u.log.room
           c.self.invariant.kept (no_tasks u.tasks (omega (arith, c.len.ensures.value, c.if-len-gt0.false))) c.args.arrival
           c.came.new.self le came c.push.new.self.room (omega (arith, room, c.push.ensures.room))
           (facts_of (told u.facts u.attentions) (u.store.capacity)) (unkept c.run-ran.result) (pages.blocks_of c.run-ran.new.store.pages)
-          c.run-ran.new.attentions (told_is c.self.invariant.kept u.facts (u.store.capacity) refl refl refl refl)
+          c.run-ran.new.attentions (told_is c.self.invariant.kept u.facts (u.store.capacity) refl refl refl c.self.invariant.sized)
           (rw (c.command.ensures, c.data.ensures.data) at c.run-ran.ensures.performed) c.push-2.new.self.steps steps
           c.record_run.new.log.room c.push-2.new.self.room c.record_run.ensures.room c.push-2.ensures.room);
       based =
           based_on _ _ _ _ (Step.Leave c.ticket.result) c.record_run.new.log.steps _ (seen_of u.tasks) (seen_of u.tasks) two refl
           c.push-2.ensures.base c.push-2.ensures.forgotten c.push-2.ensures.steps (λ b. b);
+      sized =
+          c.run-ran.ensures.size ∙ c.self.invariant.sized
+          ∙ sym (rw steps (ran_sized (opening_of u) c.args.arrival.entry.ticket (unkept c.run-ran.result) (Step.Enter c.args.arrival.entry ∷ u.log.steps) _ refl));
     }
 
 pub returns-clause-serves : goal.returns-clause-serves
@@ -66,12 +69,12 @@ returns-clause-serves g c =
     c.in-Ok-make_way.ensures.steps c.push.ensures.steps c.noted_entry.ensures c.record_run.ensures.steps own c.push-2.ensures.steps used in
     let keeps : c.self.inside.log.keeps ≡ false = sym c.keeps_replies.ensures ∙ c.if-keeps_replies.false in
     let answers = (λ (e : Ending). g.A.Answering.answers c.args.answering.now c.args.arrival e c.answer-answered.new.self) in
-    rw (c.keep_data.ensures, ← c.self.view_is, c.run-ran.ensures.facts, c.run-ran.ensures.size)
+    rw (c.keep_data.ensures, ← c.self.view_is, c.run-ran.ensures.facts)
     (serves_alone (opening_of u) u.log.steps (pages.blocks_of u.store.pages) u.attentions u.tasks u.lasts u.log.room
     c.self.invariant.kept (no_tasks u.tasks (omega (arith, c.len.ensures.value, c.if-len-gt0.false))) c.args.arrival
     c.came.new.self le came c.push.new.self.room (omega (arith, room, c.push.ensures.room))
     (facts_of (told u.facts u.attentions) (u.store.capacity)) (unkept c.run-ran.result) (pages.blocks_of c.run-ran.new.store.pages)
-    c.run-ran.new.attentions (told_is c.self.invariant.kept u.facts (u.store.capacity) refl refl refl refl)
+    c.run-ran.new.attentions (told_is c.self.invariant.kept u.facts (u.store.capacity) refl refl refl c.self.invariant.sized)
     (rw (c.command.ensures, c.data.ensures.data) at c.run-ran.ensures.performed) c.push-2.new.self.steps steps
     answers c.self.inside.log.keeps c.push-2.new.self.keeps keeps
     (c.push-2.ensures.keeps ∙ c.record_run.ensures.keeps ∙ c.push.ensures.keeps ∙ c.in-Ok-make_way.ensures.keeps ∙ keeps)

@@ -1,0 +1,40 @@
+use Rattle.std.proofs.Common.{◌≡◌, ◌≤◌, ◌∷◌, true, refl, sym, ap, ◌∙◌, arith, cond, nat_lt, min}
+use Rattle.block_store.specs.Blocks.{zero_block}
+use Rattle.block_store.specs.Kept as pages
+use Rattle.history.specs.Contents.{is_capacity}
+use Rattle.history.specs.Steps.{Step}
+use Rattle.task_set.specs.Tasks.{seen_of}
+use Rattle.unit_history.proofs.Basing.{based_way}
+use Rattle.unit_history.proofs.Keeping.{may_resize, keep_resize}
+use Rattle.unit_history.proofs.Handing.{parked_resize}
+use Rattle.unit_history.proofs.Stepping.{steps_is}
+use Rattle.unit_history.proofs.unit.UnitState.resize.Goals as goal
+
+pub invariant_of-self-2 : goal.invariant_of-self-2
+invariant_of-self-2 c =
+    let u = c.self.inside in
+    let is : is_capacity c.args.blocks ≡ true = sym c.is_capacity.ensures ∙ c.if-not-is_capacity.false in
+    let ahead : 129 ≤ c.make_way.new.log.room = c.in-Ok.ensures.room in
+    let left = c.push.ensures.room in
+    let n = c.make_way.new.log.forgotten in
+    record {
+      kept =
+          rw (c.push.ensures.steps, c.make_way.ensures.steps)
+          (keep_resize c.self.invariant.kept c.args.blocks _ _ _ is
+          (λ b. c.resize.ensures.blocks b ∙ ap (λ k. cond (nat_lt b (min k c.args.blocks)) (pages.blocks_of u.store.pages b) zero_block) c.self.invariant.sized)
+          c.raise.ensures (omega (arith, ahead, left)));
+      based =
+          based_way _ n _ (Step.Resize c.args.blocks) u.log.steps _ (seen_of u.tasks) _ refl
+          (c.push.ensures.base ∙ c.in-Ok.ensures.base) c.push.ensures.forgotten
+          (c.push.ensures.steps ∙ ap (λ w. Step.Resize c.args.blocks ∷ w) c.make_way.ensures.steps)
+          (λ le b. b) (c.make_way.ensures.clear c.self.invariant.based.clear);
+      sized = rw (c.push.ensures.steps) c.resize.ensures.size;
+    }
+
+pub returns-clause-step : goal.returns-clause-step
+returns-clause-step c =
+    let is : is_capacity c.args.blocks ≡ true = sym c.is_capacity.ensures ∙ c.if-not-is_capacity.false in
+    rw (← c.self.view_is)
+    (steps_is _ (Step.Resize c.args.blocks) _ _ _ _ _ _ (may_resize c.self.invariant.kept c.args.blocks is)
+    (c.push.ensures.steps ∙ ap (λ w. Step.Resize c.args.blocks ∷ w) c.make_way.ensures.steps)
+    (parked_resize c.self.inside.log.steps c.self.inside.tasks c.args.blocks) (c.push.ensures.keeps ∙ c.make_way.ensures.keeps))
