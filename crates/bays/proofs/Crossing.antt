@@ -122,7 +122,7 @@ lasts_sends = search (sendable, lasts_fields)
 
 unit_fields : IsSend unit.the_row
 unit_fields = declared_send unit.the_type
-    (search sendable, (as_row_send facts_field facts_sends, (search sendable, (attentions.the_send, (store.the_send, (set_sends, (steps_sends, (lasts_sends, (search crosses depth 30, tt)))))))))
+    (search sendable, (as_row_send facts_field facts_sends, (search sendable, (attentions.the_send, (store.the_send, (search crosses depth 30, (search sendable, (set_sends, (steps_sends, (lasts_sends, (search crosses depth 30, tt)))))))))))
 
 pub unit_sends : IsSend unit_row
 unit_sends = search (sendable, unit_fields)

@@ -15,20 +15,13 @@ const FIRST: Ticket = Ticket {
     number: 0,
 };
 
-/// Returns the capacity that a unit opened with, in blocks.
-fn opening_blocks(unit: &UnitState) -> u64
-    ensures { result ≡ unit.now.opening.blocks }
-{
-    unit.capacity()
-}
-
 /// Returns whether a unit opened with this address and capacity, and keeps replies for receipts to be compared with.
 fn is_opened_as(spec: &UnitSpec, unit: &UnitState) -> bool
     ensures { IsTrue result ↔ IsOpenedAs spec.now unit.now }
 {
     unit.target() == spec.target
         && unit.lun() == spec.lun
-        && opening_blocks(unit) == spec.blocks
+        && unit.opening_blocks() == spec.blocks
         && unit.keeps_replies()
 }
 

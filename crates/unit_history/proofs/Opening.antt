@@ -44,11 +44,11 @@ pub content_blocks : (f : Blocks) (n b : ℕ) → ((k : ℕ) → length (f k) �
 content_blocks f n b whole =
     (elim (nat_lt b n) as (λ x. nat_lt b n ≡ x → cond x (f b) zero_block ≡ blocks_in (run f 0 n) b) [
       | true ↦ λ e.
-        let zeroth : 0 + b ≡ b = omega arith in
-        let is = nth-run f 0 n b whole (ltb-true b n e) ∙ ap f zeroth in
-        sym (blocks_in-whole (run f 0 n) b (ap (λ (l : List ℕ). length l) is ∙ whole b) ∙ is)
+          let zeroth : 0 + b ≡ b = omega arith in
+          let is = nth-run f 0 n b whole (ltb-true b n e) ∙ ap f zeroth in
+          sym (blocks_in-whole (run f 0 n) b (ap (λ (l : List ℕ). length l) is ∙ whole b) ∙ is)
       | false ↦ λ e.
-        sym (ap (λ l. take 512 (l ++ zero_block)) (nth-behind f n b whole (ltb-false b n e) ∙ sym (nth_none b)) ∙ blocks_in-none b)
+          sym (ap (λ l. take 512 (l ++ zero_block)) (nth-behind f n b whole (ltb-false b n e) ∙ sym (nth_none b)) ∙ blocks_in-none b)
     ]) refl
   where
     nth_none : (k : ℕ) → nth_block [] k ≡ []

@@ -69,7 +69,7 @@ returns-then-keeps_replies-clause-step c =
       c.record_run.ensures.steps,
       c.record_run.ensures.keeps,
       c.perform-performed.ensures.facts,
-        c.ticket-ticket.ensures.entry,
+      c.ticket-ticket.ensures.entry,
     )
     (commits_run c.self.invariant.kept c.args.job.now c.in-Some.task.now.seen.entry c.self.inside.log.keeps
     (facts_of (told c.self.inside.facts c.self.inside.attentions) (c.self.inside.store.capacity)) c.perform-performed.result
@@ -91,7 +91,7 @@ returns-else-keeps_replies-clause-step c =
       c.record_run-else-keeps_replies.ensures.steps,
       c.record_run-else-keeps_replies.ensures.keeps,
       c.perform-performed-else-keeps_replies.ensures.facts,
-        c.ticket-ticket.ensures.entry,
+      c.ticket-ticket.ensures.entry,
     )
     (commits_run c.self.invariant.kept c.args.job.now c.in-Some.task.now.seen.entry c.self.inside.log.keeps
     (facts_of (told c.self.inside.facts c.self.inside.attentions) (c.self.inside.store.capacity)) c.perform-performed-else-keeps_replies.result

@@ -18,8 +18,8 @@ invariant_of-result-2 c =
       kept =
           kept_new _ _ _ _ _ _ _ c.new-3.ensures.steps c.new-2.ensures c.attentions_at_start.ensures
           (λ b.
-            c.resize.ensures.blocks b ∙ ap (λ n. cond (nat_lt b n) (f b) zero_block) all ∙ content_blocks f s.capacity b whole
-            ∙ ap (λ w. blocks_in (content_of w) b) (sym opened))
+          c.resize.ensures.blocks b ∙ ap (λ n. cond (nat_lt b n) (f b) zero_block) all ∙ content_blocks f s.capacity b whole
+          ∙ ap (λ w. blocks_in (content_of w) b) (sym opened))
           c.new-4.ensures;
       based = based_new _ _ _ _ c.new-3.ensures.steps c.new-2.ensures c.new-3.ensures.base c.new-3.ensures.forgotten;
       sized = rw (c.new-3.ensures.steps) c.resize.ensures.size;
