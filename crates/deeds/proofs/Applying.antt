@@ -117,6 +117,7 @@ applies (Deed.Respond c r xs) w h =
     let g = h.waiting in
     record { opened = g.opened; there = g.there; left = g.left; still = g.still }
 applies (Deed.Hard p jobs) w h = (h.unit, h.there)
+applies (Deed.Resize place blocks) w h = (h.unit, h.there, h.may)
 applies (Deed.Give e c xs) w h = (e, h.later, h.waits)
 applies (Deed.Miss e) w h = (e, h.later, h.waits)
 applies (Deed.Idle e) w h = absurd h

@@ -331,6 +331,8 @@ places v (Deed.Hard p jobs) w m b h =
       h.4,
       h.5,
     )
+places v (Deed.Resize place blocks) w m b h =
+    (h.0, steps v (Step.Resize blocks) place w.units h.1, h.2, h.3, h.4, h.5)
 places v (Deed.Give e c xs) w m b h =
     let g = completing (all_written w.memory xs) c in (
       slots v g c.ticket.queue w.queues (λ q old. old) h.0,

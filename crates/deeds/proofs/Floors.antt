@@ -324,6 +324,8 @@ deed_orders (Deed.Mark t p s jobs) w m h =
     units_on (length w.inventory) (step_by s) p.unit w.units w.queues (strike_floor s) h
 deed_orders (Deed.Hard p jobs) w m h =
     units_on (length w.inventory) (Step.Reset hard_code) p.unit w.units w.queues (λ i l. refl) h
+deed_orders (Deed.Resize place blocks) w m h =
+    units_on (length w.inventory) (Step.Resize blocks) place w.units w.queues (λ i l. refl) h
 deed_orders d w m h = h
 
 -- a new queue has accepted none, and a new unit has no history

@@ -257,6 +257,9 @@ held_deed f w (Deed.Hard p jobs) h =
     let u = steps f.kept (Step.Reset hard_code) p.unit w.units h.unit h.there in
     let j = ap (λ l. sum_by (of_job f.kept) l) h.releases in
     omega (arith, s, u, j)
+held_deed f w (Deed.Resize place blocks) h =
+    let u = stays f.kept (Step.Resize blocks) place w.units h.unit h.there refl in
+    omega (arith, u)
 held_deed f w (Deed.Give e c xs) h =
     let q = same_sum (in_queue f) (completing (all_written w.memory xs) c) c.ticket.queue w.queues (λ z. refl) in
     let a = ap (λ l. sum_by (of_chain f.port) l) h.held in
@@ -316,6 +319,9 @@ entered_deed p (Deed.Mark t i m jobs) w a h =
 entered_deed p (Deed.Hard i jobs) w a h =
     let u = same_sum (entered_worth p) (stepped (Step.Reset hard_code)) i.unit w.units (λ v. refl) in
     omega (arith, u)
+entered_deed p (Deed.Resize place blocks) w a h =
+    let u = same_sum (entered_worth p) (stepped (Step.Resize blocks)) place w.units (λ v. refl) in
+    omega (arith, u)
 entered_deed p d w a h = omega (arith)
 
 alive_deed : (p : Ticket → ℕ) (d : Deed) (w : PlainWorld) → AreOwned w → May d w
@@ -350,6 +356,9 @@ alive_deed p (Deed.Mark t i m jobs) w a h =
     omega (arith, u)
 alive_deed p (Deed.Hard i jobs) w a h =
     let u = same_sum (living_worth p) (stepped (Step.Reset hard_code)) i.unit w.units (λ v. refl) in
+    omega (arith, u)
+alive_deed p (Deed.Resize place blocks) w a h =
+    let u = same_sum (living_worth p) (stepped (Step.Resize blocks)) place w.units (λ v. refl) in
     omega (arith, u)
 alive_deed p d w a h = omega (arith)
 

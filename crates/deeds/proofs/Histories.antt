@@ -72,4 +72,5 @@ deed_units (Deed.Mark t p s jobs) w m h =
     let u = m.marking.unit in
     one_goes (step_by s) p.unit w.units u m.marking.unit_there (may_strike s u) (free_strike s u) h
 deed_units (Deed.Hard p jobs) w m h = one_goes (Step.Reset hard_code) p.unit w.units m.unit m.there tt tt h
+deed_units (Deed.Resize place blocks) w m h = one_goes (Step.Resize blocks) place w.units m.unit m.there m.may tt h
 deed_units d w m h = h

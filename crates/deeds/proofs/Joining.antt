@@ -120,6 +120,7 @@ joins (Deed.Respond c r xs) w s u q =
     }
 joins (Deed.Hard p jobs) w s u q =
     record { unit = u.0; there = u.1; before = u.2.0; releases = u.2.1; seat = s.0; seat_there = s.1 }
+joins (Deed.Resize place blocks) w s u q = record { unit = u.0; there = u.1; may = u.2 }
 joins (Deed.Give e c xs) w s u q =
     record {
       later = s.later;

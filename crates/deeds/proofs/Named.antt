@@ -158,6 +158,7 @@ units_after (Deed.Busy k x) w m h = steps (Step.Busy x.entry.ticket) x.unit w.un
 units_after (Deed.Leave k place t jobs) w m h = steps (Step.Leave t) place w.units h.1
 units_after (Deed.Mark t p s jobs) w m h = steps (step_by s) p.unit w.units h.1
 units_after (Deed.Hard p jobs) w m h = steps (Step.Reset hard_code) p.unit w.units h.1
+units_after (Deed.Resize place blocks) w m h = steps (Step.Resize blocks) place w.units h.1
 units_after d w m h = h.1
 
 -- The seats and the hand-off

@@ -51,6 +51,8 @@ unit_part (Deed.Hard p jobs) w h = (
   (h.before, h.releases),
   get_change (stepped (Step.Reset hard_code)) p.unit w.units h.unit h.there,
 )
+unit_part (Deed.Resize place blocks) w h =
+    (h.unit, h.there, h.may, get_change (stepped (Step.Resize blocks)) place w.units h.unit h.there)
 unit_part (Deed.Stall x) w h = absurd h
 unit_part (Deed.Lose k x) w h = absurd h
 unit_part (Deed.Idle e) w h = absurd h

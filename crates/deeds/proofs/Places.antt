@@ -248,6 +248,9 @@ moves p (Deed.Hard m jobs) w h =
     let j = ap (λ l. sum_by (of_job p) l) h.releases in
     let k = kept (of_job p) (Deed.Hard m jobs) w h in
     record { accepted = omega (arith); used = omega (arith); standing = omega (arith, s, j, k) }
+moves p (Deed.Resize place blocks) w h =
+    let s = stays p (Step.Resize blocks) place w.units h.unit h.there refl in
+    record { accepted = omega (arith); used = omega (arith); standing = omega (arith, s) }
 moves p (Deed.Ask t place rule b) w h =
     let f = goes_on p (asking b) w.function in
     record { accepted = omega (arith); used = omega (arith); standing = omega (arith, f) }

@@ -133,6 +133,7 @@ so_many_after (Deed.Mark t p m jobs) w =
     (refl, stepped_many (step_by m) p.unit w, many (with_jobs jobs) 0 w.seats)
 so_many_after (Deed.Hard p jobs) w =
     (refl, stepped_many (Step.Reset hard_code) p.unit w, many (with_jobs jobs) w.workers w.seats)
+so_many_after (Deed.Resize place blocks) w = (refl, stepped_many (Step.Resize blocks) place w, refl)
 so_many_after (Deed.Respond c r xs) w = (used_many c xs w, refl, refl)
 so_many_after (Deed.Give e c xs) w = (used_many c xs w, refl, refl)
 so_many_after d w = (refl, refl, refl)
@@ -197,3 +198,38 @@ pub long_after : (m : List ℕ) (trace : List Occurrence) → AllLieIn (length m
 long_after m [] h = refl
 long_after m (e ∷ past) h =
     long_written (memory_after m past) (length m) e.action.writes (long_after m past h.1) h.0
+
+-- no deed changes whether the driver is told of capacities
+pub tells_after : (d : Deed) (w : PlainWorld) → (after d w).tells_changes ≡ w.tells_changes
+tells_after (Deed.Poke a) w = refl
+tells_after (Deed.Arrive a b) w = refl
+tells_after (Deed.Refuse a b) w = refl
+tells_after (Deed.Open a b) w = refl
+tells_after (Deed.Hold a) w = refl
+tells_after (Deed.Spend a b) w = refl
+tells_after (Deed.Break a b) w = refl
+tells_after (Deed.Run a) w = refl
+tells_after (Deed.Park a) w = refl
+tells_after (Deed.Full a) w = refl
+tells_after (Deed.Shed a) w = refl
+tells_after (Deed.Stall a) w = refl
+tells_after (Deed.Direct a b c) w = refl
+tells_after (Deed.Put a b) w = refl
+tells_after (Deed.Keep a b) w = refl
+tells_after (Deed.Take a b c) w = refl
+tells_after (Deed.Commit a b c) w = refl
+tells_after (Deed.Busy a b) w = refl
+tells_after (Deed.Abort a b c) w = refl
+tells_after (Deed.Lose a b) w = refl
+tells_after (Deed.Answer a b c d) w = refl
+tells_after (Deed.Leave a b c d) w = refl
+tells_after (Deed.Mark a b c d) w = refl
+tells_after (Deed.Ask a b c d) w = refl
+tells_after (Deed.Fail a) w = refl
+tells_after (Deed.Check a b) w = refl
+tells_after (Deed.Respond a b c) w = refl
+tells_after (Deed.Hard a b) w = refl
+tells_after (Deed.Resize a b) w = refl
+tells_after (Deed.Give a b c) w = refl
+tells_after (Deed.Miss a) w = refl
+tells_after (Deed.Idle a) w = refl

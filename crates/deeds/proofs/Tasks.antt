@@ -318,6 +318,9 @@ deed_balances (Deed.Hard i jobs) w m names h n p =
     let out' = out_worth n p (after d w).seats (all_off (after d w)) in
     gives n p (Step.Reset hard_code) i.unit w.units m.unit jobs out out' m.there refl m.releases names.1
     (flows n p d w m names) (h n p)
+deed_balances (Deed.Resize place blocks) w m names h n p =
+    let out = out_worth n p w.seats (all_off w) in
+    calm n p (Step.Resize blocks) place w.units m.unit out out m.there refl refl refl (h n p)
 deed_balances d w m names h n p =
     let f = flows n p d w m names in
     λ u at. let b = h n p u at in omega (arith, b, f)

@@ -37,6 +37,7 @@ may (Deed.Fail t) w h = h
 may (Deed.Check t p) w h = h
 may (Deed.Respond c r xs) w h = h
 may (Deed.Hard p jobs) w h = h
+may (Deed.Resize place blocks) w h = h
 may (Deed.Give e c xs) w h = h
 may (Deed.Miss e) w h = h
 may (Deed.Idle e) w h = absurd h
@@ -72,6 +73,7 @@ changes (Deed.Fail t) w h = refl
 changes (Deed.Check t p) w h = refl
 changes (Deed.Respond c r xs) w h = refl
 changes (Deed.Hard p jobs) w h = refl
+changes (Deed.Resize place blocks) w h = refl
 changes (Deed.Give e c xs) w h = refl
 changes (Deed.Miss e) w h = refl
 

@@ -472,6 +472,10 @@ deed_works (Deed.Hard p jobs) w m us names b h =
     let more = given s p.unit w.units m.unit jobs m.there tt (us p.unit m.unit m.there) names.1 m.releases in
     gets s p.unit w.units new w.workers w.seats (all_off w) m.seat jobs
     (goes s (stepped s) p.unit w.units (λ v. refl)) (λ t. tt) m.seat_there more h
+deed_works (Deed.Resize place blocks) w m us names b h =
+    let s = Step.Resize blocks in
+    stays s place w.units (change (stepped s) place w.units) w.seats (all_off w)
+    (goes s (stepped s) place w.units (λ v. refl)) (λ t. tt) h
 deed_works d w m us names b h = h
 
 -- Every world that is reached

@@ -1,7 +1,7 @@
 -- The world after a deed.
 use Rattle.std.specs.Prelude.{ℕ, ◌+◌, ◌&&◌, Bool, true, List, [], ◌∷◌, ◌++◌, drop, Option, Some, None, slice_get, if◌then◌else◌}
 use Rattle.scsi_codec.specs.declared.event_queue.Event.{Event as Report}
-use Rattle.scsi_codec.specs.EventQueue.{transport_reset}
+use Rattle.scsi_codec.specs.EventQueue.{transport_reset, param_change}
 use Rattle.unit_attention.specs.declared.code.Code.{Code}
 use Rattle.unit_attention.specs.Code.{code}
 use Rattle.ring_core.specs.State.{RingState, PlainChain, accepting, using, breaking}
@@ -91,6 +91,16 @@ hard_report u = record { event = transport_reset; address = Some (unit_address u
 abbrev pub reports_of : Option PlainUnit → List Report
 reports_of None = []
 reports_of (Some u) = hard_report u ∷ []
+
+-- a change of a parameter of the unit, CAPACITY DATA HAS CHANGED: the reason has the ASC, 2a, and above it the ASCQ, 09
+-- (VIRTIO 1.2 §5.6.6.3)
+abbrev pub change_report : PlainUnit → Report
+change_report u = record { event = param_change; address = Some (unit_address u.opening); reason = 0x092a }
+
+-- of the unit at a place, if there is one, where the driver is told
+abbrev pub change_reports : Bool → Option PlainUnit → List Report
+change_reports told None = []
+change_reports told (Some u) = if told then (change_report u ∷ []) else []
 
 -- the chain of a queue is used, by these writes
 abbrev pub completed : PlainChain → List Write → PlainWorld → List PlainQueue
@@ -193,6 +203,11 @@ after (Deed.Hard p jobs) w =
       units = change (stepped (Step.Reset hard_code)) p.unit w.units;
       seats = change (with_jobs jobs) w.workers w.seats;
       waiting = w.waiting ++ reports_of (slice_get w.units p.unit);
+    }
+after (Deed.Resize place blocks) w =
+    record w {
+      units = change (stepped (Step.Resize blocks)) place w.units;
+      waiting = w.waiting ++ change_reports w.tells_changes (slice_get w.units place);
     }
 after (Deed.Give e c xs) w =
     record w {

@@ -12,7 +12,8 @@ use Rattle.task_mgmt.specs.declared.function.Mark.{Mark as Place}
 use Rattle.deeds.specs.Parts.{Outcome, Slot, Hand}
 use Rattle.deeds.specs.World.{PlainQueue, Opened, PlainWorld}
 use Rattle.deeds.specs.Events.{Event}
-use Rattle.deeds.specs.Happens.{QueueIs, UnitIs, SeatIs, OffIs, IsOpenTo}
+use Rattle.history.specs.Steps.{Step}
+use Rattle.deeds.specs.Happens.{QueueIs, UnitIs, SeatIs, OffIs, MayStep, IsOpenTo}
 use Rattle.deeds.specs.Phases.{SlotIs, HasHand}
 
 -- a queue whose slot is empty and that no fault broke has something for the device
@@ -72,6 +73,7 @@ Applies w (Event.Enter i) = (x : PlainJob) × SlotIs w i (Slot.Arrived x)
 Applies w (Event.Direct i) = (c : PlainChain) × (o : Outcome) × SlotIs w i (Slot.Ready c o)
 Applies w (Event.Put k) = MayPut w k
 Applies w (Event.Take k) = MayTake w k
+Applies w (Event.Prepare k) = ⊥
 Applies w (Event.Commit k) = (x : PlainJob) × HasHand w k (Hand.Taken x)
 Applies w (Event.Answer k) = (x : PlainJob) × (o : Outcome) × HasHand w k (Hand.Done x o)
 Applies w (Event.Leave k) = (place : ℕ) × (t : Ticket) × HasHand w k (Hand.Answered place t)
@@ -79,4 +81,5 @@ Applies w Event.Mark = MayMark w
 Applies w Event.Check = MayCheck w
 Applies w Event.AnswerTmf = MayRespond w
 Applies w (Event.Hard place) = (u : PlainUnit) × UnitIs w place u
+Applies w (Event.Resize place blocks) = (u : PlainUnit) × UnitIs w place u × MayStep u (Step.Resize blocks)
 Applies w Event.Raise = (e : Report) × (later : List Report) × (w.waiting ≡ e ∷ later)

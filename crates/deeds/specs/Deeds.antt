@@ -56,6 +56,8 @@ pub data Deed : Type 0 where
   -- AnswerTmf
   Respond : PlainChain → FunctionResponse → List Write → Deed
   Hard : Place → List PlainJob → Deed
+  -- the unit, and its blocks from now on
+  Resize : ℕ → ℕ → Deed
   -- Raise: into the oldest buffer, or missed
   Give : Report → PlainChain → List Write → Deed
   Miss : Report → Deed
@@ -97,6 +99,7 @@ event_of (Deed.Fail t) = Event.Mark
 event_of (Deed.Check t p) = Event.Check
 event_of (Deed.Respond c r xs) = Event.AnswerTmf
 event_of (Deed.Hard p jobs) = Event.Hard p.unit
+event_of (Deed.Resize place blocks) = Event.Resize place blocks
 event_of (Deed.Give e c xs) = Event.Raise
 event_of (Deed.Miss e) = Event.Raise
 event_of (Deed.Idle e) = e

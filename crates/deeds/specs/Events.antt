@@ -12,6 +12,7 @@ pub data Event : Type 0 where
   Direct : ℕ → Event
   Put : ℕ → Event
   Take : ℕ → Event
+  Prepare : ℕ → Event
   Commit : ℕ → Event
   Answer : ℕ → Event
   Leave : ℕ → Event
@@ -19,6 +20,7 @@ pub data Event : Type 0 where
   Check : Event
   AnswerTmf : Event
   Hard : ℕ → Event
+  Resize : ℕ → ℕ → Event
   Raise : Event
 
 -- an event of the code
@@ -29,6 +31,7 @@ plain_event (event.Enter q) = Event.Enter q
 plain_event (event.Direct q) = Event.Direct q
 plain_event (event.Put k) = Event.Put k
 plain_event (event.Take k) = Event.Take k
+plain_event (event.Prepare k) = Event.Prepare k
 plain_event (event.Commit k) = Event.Commit k
 plain_event (event.Answer k) = Event.Answer k
 plain_event (event.Leave k) = Event.Leave k
@@ -36,4 +39,5 @@ plain_event event.Mark = Event.Mark
 plain_event event.Check = Event.Check
 plain_event event.AnswerTmf = Event.AnswerTmf
 plain_event (event.Hard place) = Event.Hard place
+plain_event (event.Resize place blocks) = Event.Resize place blocks
 plain_event event.Raise = Event.Raise

@@ -294,6 +294,11 @@ pub record Resets (w : PlainWorld) (p : Place) (jobs : List PlainJob) : Type 0 w
   pub seat : Seat
   pub seat_there : slice_get w.seats w.workers ≡ Some seat
 
+pub record Resizes (w : PlainWorld) (place blocks : ℕ) : Type 0 where
+  pub unit : PlainUnit
+  pub there : UnitIs w place unit
+  pub may : MayStep unit (Step.Resize blocks)
+
 pub record Gives (w : PlainWorld) (e : Report) (c : PlainChain) (xs : List Write) : Type 0 where
   pub later : List Report
   pub waits : w.waiting ≡ e ∷ later
@@ -338,6 +343,7 @@ Happens (Deed.Fail t) w = Fails w t
 Happens (Deed.Check t p) w = Checks w t p
 Happens (Deed.Respond c r xs) w = Responds w c r xs
 Happens (Deed.Hard p jobs) w = Resets w p jobs
+Happens (Deed.Resize place blocks) w = Resizes w place blocks
 Happens (Deed.Give e c xs) w = Gives w e c xs
 Happens (Deed.Miss e) w = Misses w e
 Happens (Deed.Idle e) w = ⊥
@@ -375,6 +381,7 @@ pub record WantsFetch (w : PlainWorld) (i : ℕ) : Type 0 where
 abbrev pub MayWant : Event → PlainWorld → Type 0
 MayWant (Event.Fetch i) w = WantsFetch w i
 MayWant (Event.Hard place) w = (u : PlainUnit) × UnitIs w place u
+MayWant (Event.Resize place blocks) w = (u : PlainUnit) × UnitIs w place u × MayStep u (Step.Resize blocks)
 MayWant e w = ⊥
 
 -- an event and its action

@@ -49,6 +49,7 @@ unit_of (Deed.Mark t p m jobs) = Some p.unit
 unit_of (Deed.Ask t place rule b) = Some place
 unit_of (Deed.Check t p) = Some p.unit
 unit_of (Deed.Hard p jobs) = Some p.unit
+unit_of (Deed.Resize place blocks) = Some place
 unit_of d = None
 
 -- what it asks of the unit
@@ -70,6 +71,7 @@ AsksUnit (Deed.Mark t p m jobs) u = (p.place ≡ length u.steps) × (jobs ≡ ha
 AsksUnit (Deed.Ask t place rule b) u = b ≡ any_met rule (alive u.steps)
 AsksUnit (Deed.Check t p) u = is_clear p.place u.steps ≡ true
 AsksUnit (Deed.Hard p jobs) u = (p.place ≡ length u.steps) × (jobs ≡ handed_out u (Step.Reset hard_code))
+AsksUnit (Deed.Resize place blocks) u = MayStep u (Step.Resize blocks)
 AsksUnit d u = ⊥
 
 -- and what it leaves
@@ -82,6 +84,7 @@ unit_after (Deed.Busy k x) u = stepped (Step.Busy x.entry.ticket) u
 unit_after (Deed.Leave k place t jobs) u = stepped (Step.Leave t) u
 unit_after (Deed.Mark t p m jobs) u = stepped (step_by m) u
 unit_after (Deed.Hard p jobs) u = stepped (Step.Reset hard_code) u
+unit_after (Deed.Resize place blocks) u = stepped (Step.Resize blocks) u
 unit_after d u = u
 
 -- the queue whose lock the deed takes, with the memory's inside it
@@ -203,6 +206,7 @@ StandsFor (Deed.Fail t) w = Fails w t
 StandsFor (Deed.Check t p) w = (later : List Place) × IsWaiting w t (p ∷ later)
 StandsFor (Deed.Respond c r xs) w = (g : IsDone w c) × (r ≡ response_of g.waiting.opened.function)
 StandsFor (Deed.Hard p jobs) w = HasSeat w w.workers
+StandsFor (Deed.Resize place blocks) w = ⊤
 StandsFor (Deed.Give e c xs) w = IsPort w e c
 StandsFor (Deed.Miss e) w = Misses w e
 StandsFor (Deed.Stall x) w = ⊥

@@ -43,6 +43,8 @@ pub record PlainWorld : Type 0 where
   pub missed : Bool
   -- events that are to be raised
   pub waiting : List Report
+  -- the driver is told of capacities that change
+  pub tells_changes : Bool
 
 -- the item of a number, changed
 abbrev pub change : {X : Type 0} → (X → X) → ℕ → List X → List X

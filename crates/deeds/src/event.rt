@@ -16,6 +16,8 @@ pub enum Event {
     Put(u16),
     /// A worker takes a job from the hand-off.
     Take(u16),
+    /// The pages of a WRITE in a seat's hand are made ahead of its commit. It changes nothing but how long that takes.
+    Prepare(u16),
     /// The job in a seat's hand is committed.
     Commit(u16),
     /// The job in a seat's hand is answered.
@@ -30,6 +32,8 @@ pub enum Event {
     AnswerTmf,
     /// The operator resets the unit at a place of the inventory.
     Hard(u16),
+    /// The operator gives the unit at a place of the inventory so many blocks.
+    Resize(u16, u64),
     /// The oldest event that waits goes to the guest, or is missed.
     Raise,
 }

@@ -1,17 +1,18 @@
 -- Buffers are given in the order in which they came.
 use Rattle.std.specs.Prelude.{slice_get}
-use Rattle.std.proofs.Common.{◌≡◌, Some, ◌||◌, ◌&&◌, List, [], ◌∷◌, ◌++◌, drop, refl, sym, ◌∙◌, ap}
+use Rattle.std.proofs.Common.{◌≡◌, Bool, true, false, Some, ◌||◌, ◌&&◌, List, [], ◌∷◌, ◌++◌, drop, refl, sym, ◌∙◌, ap}
 use Rattle.std.proofs.lemmas.List.{append_assoc, append-nil}
 use Rattle.ring_core.specs.State.{PlainChain}
 use Rattle.scsi_codec.specs.declared.event_queue.Event.{Event as Report}
-use Rattle.scsi_codec.specs.EventQueue.{transport_reset}
+use Rattle.scsi_codec.specs.EventQueue.{transport_reset, param_change}
 use Rattle.history.specs.Receipts.{unit_address}
 use Rattle.task_set.specs.Unit.{PlainUnit}
 use Rattle.deeds.specs.Parts.{is_short}
 use Rattle.deeds.specs.World.{PlainWorld, Opens}
 use Rattle.deeds.specs.Deeds.{Deed}
-use Rattle.deeds.specs.After.{hard_report, reports_of, after}
+use Rattle.deeds.specs.After.{hard_report, reports_of, change_report, change_reports, after}
 use Rattle.deeds.specs.Happens.{May, Leads, world_of}
+use Rattle.deeds.proofs.Staying.{tells_after}
 use Rattle.interleavings.specs.Events.{arrived_of, given_of, raised_of, reported_of, missed_of, AreEvents}
 use Rattle.interleavings.proofs.Traces.{leads_beginning}
 use Rattle.interleavings.proofs.Saying.{Says}
@@ -48,25 +49,44 @@ same_report : (u v : PlainUnit) → u.opening ≡ v.opening → hard_report u �
 same_report u v e =
     ap (λ o. record { event = transport_reset; address = Some (unit_address o); reason = 0 } ∷ []) e
 
-turn_deed : (old : PlainWorld) (d : Deed) (ds : List Deed) (w : PlainWorld) → Says old ds w → InTurn old ds w → May d w
-    → InTurn old (d ∷ ds) (after d w)
-turn_deed old (Deed.Give e c xs) ds w says s h =
+same_change : (told : Bool) (u v : PlainUnit) → u.opening ≡ v.opening
+    → change_reports told (Some u) ≡ change_reports told (Some v)
+same_change false u v e = refl
+same_change true u v e =
+    ap (λ o. record { event = param_change; address = Some (unit_address o); reason = 0x092a } ∷ []) e
+
+-- the driver is told as at the opening
+tells_as : (old : PlainWorld) (ds : List Deed) → (world_of old ds).tells_changes ≡ old.tells_changes
+tells_as old [] = refl
+tells_as old (d ∷ ds) = tells_after d (world_of old ds) ∙ tells_as old ds
+
+turn_deed : (old : PlainWorld) (d : Deed) (ds : List Deed) (w : PlainWorld) → Says old ds w
+    → w.tells_changes ≡ old.tells_changes → InTurn old ds w → May d w → InTurn old (d ∷ ds) (after d w)
+turn_deed old (Deed.Give e c xs) ds w says told_as s h =
     first_gone (reported_of ds) w.waiting (raised_of old ds) e h.later h.waits s
-turn_deed old (Deed.Miss e) ds w says s h =
+turn_deed old (Deed.Miss e) ds w says told_as s h =
     first_gone (reported_of ds) w.waiting (raised_of old ds) e h.later h.waits s
-turn_deed old (Deed.Hard p jobs) ds w says s h =
+turn_deed old (Deed.Hard p jobs) ds w says told_as s h =
     let told = (says.units p.unit h.unit h.there).0 in
     let now = ap (λ u. reports_of u) h.there ∙ same_report h.unit told.opened told.opening
     ∙ ap (λ u. reports_of u) (sym told.there) in
     ap (λ z. reported_of ds ++ (w.waiting ++ z)) now
     ∙ sym (append_assoc (reported_of ds) w.waiting (reports_of (slice_get old.units p.unit)))
     ∙ ap (λ z. z ++ reports_of (slice_get old.units p.unit)) s
-turn_deed old d ds w says s h = s
+turn_deed old (Deed.Resize place blocks) ds w says told_as s h =
+    let told = (says.units place h.unit h.there).0 in
+    let tells = old.tells_changes in
+    let now = ap (λ b. change_reports b (slice_get w.units place)) told_as ∙ ap (λ u. change_reports tells u) h.there
+    ∙ same_change tells h.unit told.opened told.opening ∙ ap (λ u. change_reports tells u) (sym told.there) in
+    ap (λ z. reported_of ds ++ (w.waiting ++ z)) now
+    ∙ sym (append_assoc (reported_of ds) w.waiting (change_reports tells (slice_get old.units place)))
+    ∙ ap (λ z. z ++ change_reports tells (slice_get old.units place)) s
+turn_deed old d ds w says told_as s h = s
 
 in_turn : (old : PlainWorld) (ds : List Deed) → Opens old → Leads old ds → InTurn old ds (world_of old ds)
 in_turn old [] o l = o.waiting
 in_turn old (d ∷ ds) o l =
-    turn_deed old d ds (world_of old ds) (says_at old ds o l.0) (in_turn old ds o l.0) l.1
+    turn_deed old d ds (world_of old ds) (says_at old ds o l.0) (tells_as old ds) (in_turn old ds o l.0) l.1
 
 missed_deed : (d : Deed) (ds : List Deed) (w : PlainWorld) → w.missed ≡ missed_of ds
     → (after d w).missed ≡ missed_of (d ∷ ds)

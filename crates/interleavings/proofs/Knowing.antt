@@ -126,6 +126,7 @@ unit_in (Deed.Leave k place t jobs) w s m e = (m.holds.unit, m.holds.there)
 unit_in (Deed.Mark t p (Abort rule) jobs) w s m e = (m.marking.unit, m.marking.unit_there)
 unit_in (Deed.Mark t p (Reset c) jobs) w s m e = (m.marking.unit, m.marking.unit_there)
 unit_in (Deed.Hard p jobs) w s m e = (m.unit, m.there)
+unit_in (Deed.Resize place blocks) w s m e = (m.unit, m.there)
 unit_in d w s m e = absurd (nothing e)
 
 stands_there : (old : PlainWorld) (ds : List Deed) (place : ℕ) (s : Step) → Leads old ds

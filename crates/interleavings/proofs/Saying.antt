@@ -443,6 +443,14 @@ says_deed old (Deed.Hard p jobs) ds w e n m h =
       handed_off = older_jobs (all_off w) d ds h.handed_off;
       units = steps old d ds s p.unit w.units (λ i. refl) h.units;
     }
+says_deed old (Deed.Resize place blocks) ds w e n m h =
+    let d = Deed.Resize place blocks in
+    record {
+      slots = old_slots old.inventory d ds w.queues h.slots;
+      seats = old_seats d ds w.seats h.seats;
+      handed_off = older_jobs (all_off w) d ds h.handed_off;
+      units = steps old d ds (Step.Resize blocks) place w.units (λ i. refl) h.units;
+    }
 says_deed old (Deed.Give r c xs) ds w e n m h =
     let d = Deed.Give r c xs in
     let g = completing (all_written w.memory xs) c in

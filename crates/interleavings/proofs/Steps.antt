@@ -44,6 +44,7 @@ step_in (Deed.Leave k i t jobs) = Some (Step.Leave t)
 step_in (Deed.Mark t p (Abort rule) jobs) = Some (Step.Abort rule)
 step_in (Deed.Mark t p (Reset c) jobs) = Some (Step.Reset c)
 step_in (Deed.Hard p jobs) = Some (Step.Reset hard_code)
+step_in (Deed.Resize place blocks) = Some (Step.Resize blocks)
 step_in d = None
 
 abbrev pub place_in : Deed → ℕ
@@ -55,6 +56,7 @@ place_in (Deed.Busy k x) = x.unit
 place_in (Deed.Leave k i t jobs) = i
 place_in (Deed.Mark t p m jobs) = p.unit
 place_in (Deed.Hard p jobs) = p.unit
+place_in (Deed.Resize place blocks) = place
 place_in d = 0
 
 pub step_is : (place : ℕ) (d : Deed) (r : Step) → step_of place d ≡ Some r
@@ -68,6 +70,7 @@ step_is place (Deed.Leave k i t jobs) r e = at_place_is place i (Step.Leave t) r
 step_is place (Deed.Mark t p (Abort rule) jobs) r e = at_place_is place p.unit (Step.Abort rule) r e
 step_is place (Deed.Mark t p (Reset c) jobs) r e = at_place_is place p.unit (Step.Reset c) r e
 step_is place (Deed.Hard p jobs) r e = at_place_is place p.unit (Step.Reset hard_code) r e
+step_is place (Deed.Resize k blocks) r e = at_place_is place k (Step.Resize blocks) r e
 step_is place d r e = absurd (nothing e)
 
 -- What the step of a deed says of the deed

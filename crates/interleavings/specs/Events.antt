@@ -7,7 +7,7 @@ use Rattle.ring_core.specs.Writes.{Write}
 use Rattle.deeds.specs.Parts.{PlainFetch, answer_writes, is_short}
 use Rattle.deeds.specs.World.{PlainQueue, PlainWorld}
 use Rattle.deeds.specs.Deeds.{Deed}
-use Rattle.deeds.specs.After.{with_chain, reports_of}
+use Rattle.deeds.specs.After.{with_chain, reports_of, change_reports}
 use Rattle.deeds.specs.Happens.{QueueIs, spent_bytes, world_of}
 use Rattle.interleavings.specs.Happened.{IsBeginning}
 
@@ -23,11 +23,13 @@ given_of [] = []
 given_of (Deed.Give e c xs ∷ past) = given_of past ++ c ∷ []
 given_of (d ∷ past) = given_of past
 
--- the events that the resets of the operator raised, and those that were given or missed, the first one first
+-- the events that the resets and the resizes of the operator raised, and those that were given or missed, the first one first
 
 abbrev pub raised_of : PlainWorld → List Deed → List Report
 raised_of old [] = []
 raised_of old (Deed.Hard p jobs ∷ past) = raised_of old past ++ reports_of (slice_get old.units p.unit)
+raised_of old (Deed.Resize place blocks ∷ past) =
+    raised_of old past ++ change_reports old.tells_changes (slice_get old.units place)
 raised_of old (d ∷ past) = raised_of old past
 
 abbrev pub reported_of : List Deed → List Report

@@ -23,6 +23,7 @@ step_of place (Deed.Busy k x) = at_place place x.unit (Step.Busy x.entry.ticket)
 step_of place (Deed.Leave k i t jobs) = at_place place i (Step.Leave t)
 step_of place (Deed.Mark t p m jobs) = at_place place p.unit (step_by m)
 step_of place (Deed.Hard p jobs) = at_place place p.unit (Step.Reset hard_code)
+step_of place (Deed.Resize k blocks) = at_place place k (Step.Resize blocks)
 step_of place d = None
 
 abbrev pub pushed : Option Step → List Step → List Step

@@ -134,6 +134,7 @@ owed_at_start old trace w r =
 own_pays : (d : Deed) (w : PlainWorld) → Happens d w → IsOwn (event_of d) → pays d ≡ fetches price d + 2 * visited d
 own_pays (Deed.Poke x) w h o = absurd o
 own_pays (Deed.Hard p jobs) w h o = absurd o
+own_pays (Deed.Resize place blocks) w h o = absurd o
 own_pays (Deed.Idle e) w h o = absurd h
 own_pays d w h o = omega (arith)
 

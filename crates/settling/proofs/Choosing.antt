@@ -353,6 +353,8 @@ decided w (Event.Leave k) own = leave_decided w k (slice_get w.seats k) refl
 decided w Event.Mark own = mark_decided w w.function refl
 decided w Event.Check own = check_decided w w.function refl
 decided w Event.AnswerTmf own = respond_decided w w.function refl
+decided w (Event.Prepare k) own = absurd own
+decided w (Event.Resize place blocks) own = absurd own
 decided w (Event.Hard place) own = absurd own
 decided w Event.Raise own = raise_decided w w.waiting refl
 

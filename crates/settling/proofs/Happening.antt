@@ -342,6 +342,8 @@ raises w e later (c ∷ more) f waits held =
 
 does : (w : PlainWorld) (e : Event) → IsFit w → IsOwn e → (IsFetch e → ⊥) → Applies w e → Does w e
 does w (Event.Poke x) f own no_fetch h = absurd own
+does w (Event.Prepare k) f own no_fetch h = absurd own
+does w (Event.Resize place blocks) f own no_fetch h = absurd own
 does w (Event.Hard place) f own no_fetch h = absurd own
 does w (Event.Fetch i) f own no_fetch h = absurd (no_fetch tt)
 does w (Event.Enter i) f own no_fetch (x, h) = enters w i x (can_enter w i h.0 x f h.1 h.2)

@@ -1,5 +1,5 @@
 -- Each deed lowers what is owed, but for what it pays.
-use Rattle.std.proofs.Common.{◌≡◌, ℕ, ◌+◌, ◌≤◌, drop, length, length-append, Option, Some, None, refl, ap, arith, inl, inr, zero, suc}
+use Rattle.std.proofs.Common.{Bool, true, false, ◌≡◌, ℕ, ◌+◌, ◌≤◌, drop, length, length-append, Option, Some, None, refl, ap, arith, inl, inr, zero, suc}
 use Rattle.std.specs.Prelude.{◌⊎◌, slice_get}
 use Rattle.std.specs.List.{sum_by}
 use Rattle.std.proofs.lemmas.List.{length_push}
@@ -10,7 +10,7 @@ use Rattle.task_mgmt.specs.Functions.{PlainFunction, marking, next_look, asking,
 use Rattle.deeds.specs.Parts.{Outcome, Slot, lengths_of}
 use Rattle.deeds.specs.World.{PlainQueue, Opened, PlainWorld, change}
 use Rattle.deeds.specs.Deeds.{Deed}
-use Rattle.deeds.specs.After.{arriving, taking, slotted, broken_by, completing, directing, spending, on_function, reports_of, after}
+use Rattle.deeds.specs.After.{arriving, taking, slotted, broken_by, completing, directing, spending, on_function, reports_of, change_reports, after}
 use Rattle.deeds.specs.Happens.{Happens}
 use Rattle.deeds.proofs.Deciding.{opened_there}
 use Rattle.deeds.proofs.Jobs.{sum_change}
@@ -42,6 +42,11 @@ same_visits g (Some o) e = e o.function
 reports_few : (o : Option PlainUnit) → length (reports_of o) ≤ 1
 reports_few None = omega (arith)
 reports_few (Some u) = omega (arith)
+
+changes_few : (told : Bool) (o : Option PlainUnit) → length (change_reports told o) ≤ 1
+changes_few told None = omega (arith)
+changes_few true (Some u) = omega (arith)
+changes_few false (Some u) = omega (arith)
 
 abbrev pub Lowers : Deed → PlainWorld → Type 0
 Lowers d w = measure (after d w) + 1 ≤ measure w + pays d
@@ -146,6 +151,11 @@ lowers (Deed.Hard p jobs) w h =
     let a = held_deed owed w (Deed.Hard p jobs) h in
     let n = length-append w.waiting (reports_of (slice_get w.units p.unit)) in
     let m = reports_few (slice_get w.units p.unit) in
+    omega (arith, a, n, m)
+lowers (Deed.Resize place blocks) w h =
+    let a = held_deed owed w (Deed.Resize place blocks) h in
+    let n = length-append w.waiting (change_reports w.tells_changes (slice_get w.units place)) in
+    let m = changes_few w.tells_changes (slice_get w.units place) in
     omega (arith, a, n, m)
 lowers (Deed.Give e c xs) w h =
     let a = held_deed owed w (Deed.Give e c xs) h in

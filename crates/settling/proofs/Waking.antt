@@ -890,6 +890,9 @@ check_wakes (Deed.Mark t p strike jobs) w m h = inr (inr (inl refl))
 check_wakes (Deed.Hard p jobs) w m h =
     let s = Step.Reset hard_code in
     inl (check_before (after (Deed.Hard p jobs) w) w (stepped s) s p.unit refl refl (λ u. refl) (λ past t k. k) h)
+check_wakes (Deed.Resize place blocks) w m h =
+    let s = Step.Resize blocks in
+    inl (check_before (after (Deed.Resize place blocks) w) w (stepped s) s place refl refl (λ u. refl) (λ past t k. k) h)
 check_wakes (Deed.Ask t place rule b) w m h = inr (inl refl)
 check_wakes (Deed.Fail t) w m h = inr (inl refl)
 check_wakes (Deed.Check t p) w m h = inl (applies (Deed.Check t p) w m)
@@ -900,6 +903,7 @@ check_wakes d w m h = inl (check_same (after d w) w refl refl h)
 
 raise_wakes : (d : Deed) (w : PlainWorld) → Happens d w → Applies (after d w) Event.Raise → Either w d Event.Raise
 raise_wakes (Deed.Hard p jobs) w m h = inr (inr (inl refl))
+raise_wakes (Deed.Resize place blocks) w m h = inr (inl refl)
 raise_wakes (Deed.Give e c xs) w m h = inl (applies (Deed.Give e c xs) w m)
 raise_wakes (Deed.Miss e) w m h = inl (applies (Deed.Miss e) w m)
 raise_wakes d w m h = inl h
@@ -919,6 +923,8 @@ either d w (Event.Leave k) own m h = leave_wakes d w k m h
 either d w Event.Mark own m h = mark_wakes d w m h
 either d w Event.Check own m h = check_wakes d w m h
 either d w Event.AnswerTmf own m h = respond_wakes d w m h
+either d w (Event.Prepare k) own m h = absurd own
+either d w (Event.Resize place blocks) own m h = absurd own
 either d w (Event.Hard place) own m h = absurd own
 either d w Event.Raise own m h = raise_wakes d w m h
 

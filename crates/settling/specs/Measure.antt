@@ -48,12 +48,13 @@ whole q = if_whole q.ring.broken
 abbrev pub measure : PlainWorld → ℕ
 measure w = held owed w + visits w.function + length w.waiting + sum_by whole w.queues
 
--- a chain pays its price, a unit that a function visits 2, a hard reset 2, a write of the guest 1
+-- a chain pays its price, a unit that a function visits 2, a hard reset and a resize 2, a write of the guest 1
 abbrev pub pays : Deed → ℕ
 pays (Deed.Mark t p m jobs) = 2
 pays (Deed.Ask t place rule b) = 2
 pays (Deed.Fail t) = 2
 pays (Deed.Hard p jobs) = 2
+pays (Deed.Resize place blocks) = 2
 pays (Deed.Poke x) = 1
 pays d = fetches price d
 

@@ -21,7 +21,9 @@ IsTake e = ⊥
 -- the device takes it, not its guest or its operator
 abbrev pub IsOwn : Event → Type 0
 IsOwn (Event.Poke x) = ⊥
+IsOwn (Event.Prepare k) = ⊥
 IsOwn (Event.Hard place) = ⊥
+IsOwn (Event.Resize place blocks) = ⊥
 IsOwn e = ⊤
 
 -- whoever writes memory wakes each Fetch, since the guest's rings lie there; a job that was put wakes each Take
@@ -51,5 +53,6 @@ Wakes w (Deed.Fail t) e = IsAmong (Event.Check ∷ Event.AnswerTmf ∷ []) e
 Wakes w (Deed.Check t p) e = IsAmong (Event.AnswerTmf ∷ []) e
 Wakes w (Deed.Respond c r xs) e = IsFetch e
 Wakes w (Deed.Hard p jobs) e = IsAmong (Event.Put w.workers ∷ Event.Raise ∷ []) e
+Wakes w (Deed.Resize place blocks) e = IsAmong (Event.Raise ∷ []) e
 Wakes w (Deed.Give report c xs) e = IsFetch e
 Wakes w d e = ⊥
