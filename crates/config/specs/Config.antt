@@ -11,10 +11,10 @@ use Rattle.config.specs.declared.config.Config.{Config}
 use Rattle.config.specs.declared.config.StartFault.{StartFault}
 use Rattle.config.specs.declared.config.StartFault.TheVariants.{BadConfig, NoMemory}
 
--- the features that the device knows (VIRTIO 1.2, 6): VIRTIO_F_INDIRECT_DESC, VIRTIO_F_EVENT_IDX, VIRTIO_F_VERSION_1 and
--- VIRTIO_F_RING_PACKED
+-- the features that the device knows (VIRTIO 1.2, 5.6.3 and 6): VIRTIO_SCSI_F_CHANGE, VIRTIO_F_INDIRECT_DESC,
+-- VIRTIO_F_EVENT_IDX, VIRTIO_F_VERSION_1 and VIRTIO_F_RING_PACKED
 abbrev pub known_features : ℕ
-known_features = 2 ^ 28 + 2 ^ 29 + 2 ^ 32 + 2 ^ 34
+known_features = 2 ^ 2 + 2 ^ 28 + 2 ^ 29 + 2 ^ 32 + 2 ^ 34
 
 -- a feature bit is set
 abbrev pub has_bit : ℕ → ℕ → Bool

@@ -1,7 +1,7 @@
 //! Which device is wanted.
 
 ghost use Rattle.std.specs.Prelude.{◌≡◌, ◌&&◌, nat_le, is_none, IfSome};
-ghost use Rattle.config.specs.Config.{form_of, is_config};
+ghost use Rattle.config.specs.Config.{form_of, has_bit, is_config};
 ghost use Rattle.config.specs.ConfigFault.{IsFault};
 
 use crate::config_fault::{ConfigFault, fault_of_queues, fault_of_units};
@@ -22,8 +22,11 @@ pub const INDIRECT_DESC: u64 = 1 << 28;
 /// VIRTIO_F_EVENT_IDX: the driver names the completion behind which it wants a notice.
 pub const EVENT_IDX: u64 = 1 << 29;
 
+/// VIRTIO_SCSI_F_CHANGE: the driver is told of capacities that change (VIRTIO 1.2, 5.6.3).
+pub const CHANGE: u64 = 1 << 2;
+
 /// Names the features that any host may offer. Of these a driver has to agree to `VERSION_1` (VIRTIO 1.2, 6.1).
-pub const FEATURES: u64 = VERSION_1 + RING_PACKED + INDIRECT_DESC;
+pub const FEATURES: u64 = VERSION_1 + RING_PACKED + INDIRECT_DESC + CHANGE;
 
 /// Names all features that the device takes: `FEATURES` and `EVENT_IDX`.
 ///
@@ -81,6 +84,13 @@ pub fn form(features: u64) -> Option<Form>
     } else {
         Some(Form::Split)
     }
+}
+
+/// Returns whether a driver that agreed to these features is told of capacities that change.
+pub fn tells_changes(features: u64) -> bool
+    ensures { result ≡ has_bit features 2 }
+{
+    features & CHANGE == CHANGE
 }
 
 /// Whether a number is at least the one and at most the other.

@@ -5,8 +5,8 @@ mod config;
 mod config_fault;
 
 pub use config::{
-    ACCEPTED_FEATURES, Config, EVENT_IDX, FEATURES, INDIRECT_DESC, RING_PACKED, StartFault,
-    VERSION_1, form,
+    ACCEPTED_FEATURES, CHANGE, Config, EVENT_IDX, FEATURES, INDIRECT_DESC, RING_PACKED, StartFault,
+    VERSION_1, form, tells_changes,
 };
 pub use config_fault::{ConfigFault, MOST_BLOCKS, MOST_DESCRIPTORS};
 pub use decisions::UnitSpec;

@@ -8,15 +8,16 @@ ghost use Rattle.phases.specs.Parts.{hand_of};
 ghost use Rattle.phases.specs.Units.{Enters, Commits, Leaves, Marks, Checks};
 ghost use Rattle.phases.specs.Giving.{KeepsOutcome};
 ghost use Rattle.phases.specs.Resetting.{Resets};
+ghost use Rattle.phases.specs.Resizing.{ResizesUnit};
 
 use bays::{Bays, Gate, Point};
 use block_store::NoMemory;
 use event_queue::WaitingEvents;
 use phases::{
     Hand, OpenFunction, Slot, phase_check, phase_commit, phase_enter, phase_hard, phase_leave,
-    phase_mark,
+    phase_mark, phase_resize,
 };
-use unit_history::JobList;
+use unit_history::{JobList, ResizeFault};
 
 /// The request that arrived comes to its unit (`phase_enter`), in one hold of that. The owner of its queue calls, with
 /// its place from `Slot::unit`. Whether something changed.
@@ -157,5 +158,29 @@ pub fn hard_on<B: Bays>(
         |unit, out, waiting| -> Result<bool, NoMemory>
             ensures { Resets unit.old out.old waiting.old result unit.new out.new waiting.new }
         { phase_hard(unit, out, waiting) },
+    )
+}
+
+/// A unit is given another capacity (`phase_resize`), in one hold of it. The operator's seat calls. Answers as the phase.
+pub fn resize_on<B: Bays>(
+    bays: &mut B,
+    at: usize,
+    blocks: u64,
+    told: bool,
+    waiting: &mut WaitingEvents,
+) -> Result<bool, ResizeFault>
+    requires there { at < B.units bays.old }
+    ensures did { (u : PlainUnit) × (v : PlainUnit) × B.lends_unit bays.old at u
+        × ResizesUnit u blocks told waiting.old result v waiting.new × B.keeps_unit bays.old at v bays.new }
+    ensures units { B.units bays.new ≡ B.units bays.old }
+    ensures queues { B.queues bays.new ≡ B.queues bays.old }
+{
+    bays.unit(
+        at,
+        waiting,
+        &mut (),
+        move |unit, waiting, _nothing| -> Result<bool, ResizeFault>
+            ensures { ResizesUnit unit.old blocks told waiting.old result unit.new waiting.new }
+        { phase_resize(unit, blocks, told, waiting) },
     )
 }

@@ -5,4 +5,5 @@ pub mod Doing
 pub mod Units
 pub mod Answering
 pub mod Resetting
+pub mod Resizing
 pub mod Serving

@@ -11,6 +11,7 @@ mod hand;
 mod held;
 mod marking;
 mod resetting;
+mod resizing;
 mod serving;
 
 pub use answering::phase_answer;
@@ -24,4 +25,5 @@ pub use queue_phases::{
     phase_fetch_control, phase_fetch_event, phase_raise, take_request,
 };
 pub use resetting::phase_hard;
+pub use resizing::phase_resize;
 pub use serving::serve_request;

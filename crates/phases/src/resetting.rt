@@ -12,7 +12,7 @@ use unit_attention::Code;
 use unit_history::{JobList, UnitState};
 
 /// How many LUNs an event may name.
-const LUNS: u16 = 16384;
+pub(crate) const LUNS: u16 = 16384;
 
 /// That a unit was reset (VIRTIO 1.2 §5.6.6.3).
 fn reset_event(unit: &UnitState) -> Event

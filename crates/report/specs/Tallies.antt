@@ -84,6 +84,7 @@ fact_of k (kind.Commit t) = told k step.Commit t
 fact_of k (kind.Busy t) = told k step.Busy t
 fact_of k (kind.Abort rule) = None
 fact_of k kind.Reset = None
+fact_of k kind.Resize = None
 fact_of k (kind.Leave t) = told k step.Leave t
 
 abbrev pub tells : Option TicketFact → Ticket → Tally → Tally

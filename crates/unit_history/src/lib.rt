@@ -13,5 +13,5 @@ pub use answers::{BareReceipt, Entered, Outcome, Receipt, ResizeFault, Unknown};
 pub use given::Given;
 pub use notes::{Cause, Note};
 pub use task_set::{Arrival, Job, JobList};
-pub use unit::{Place, UnitState};
+pub use unit::{Place, UnitState, is_capacity};
 pub use unit_steps::{LATEST_KEPT, LONGEST_KEPT, StepKind};

@@ -78,8 +78,8 @@ pub(crate) fn noted_entry(arrival: &Arrival) -> NotedEntry
     NotedEntry::new(arrival.ticket(), arrival.request())
 }
 
-/// Returns whether a unit may have so many blocks.
-fn is_capacity(blocks: u64) -> bool
+/// Returns whether a unit may have so many blocks: 1 to 2^40.
+pub fn is_capacity(blocks: u64) -> bool
     ensures { result ≡ may_have blocks }
 {
     1 <= blocks && blocks <= MOST_BLOCKS

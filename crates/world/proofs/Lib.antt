@@ -24,6 +24,7 @@ pub mod AtOpening
 pub mod Keeping
 pub mod Buffering
 pub mod Resetting
+pub mod Resizing
 pub mod Raising
 pub mod Promising
 pub mod AtOnce

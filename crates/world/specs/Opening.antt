@@ -16,7 +16,7 @@ use Rattle.task_set.specs.Unit as unit
 use Rattle.scsi_codec.specs.declared.lun.Address.{Address}
 use Rattle.decisions.specs.Inventory.{address_of, luns_of}
 use Rattle.decisions.specs.declared.inventory.UnitSpec.{UnitSpec}
-use Rattle.config.specs.Config.{form_of, size_of}
+use Rattle.config.specs.Config.{form_of, has_bit, size_of}
 use Rattle.config.specs.declared.config.Config.{Config}
 
 -- what a unit opens with
@@ -71,3 +71,4 @@ pub record IsOpening (c : Config) (w : PlainWorld) : Type 0 where
   pub buffers : w.buffers ≡ []
   pub missed : w.missed ≡ false
   pub waiting : w.waiting ≡ []
+  pub tells_changes : w.tells_changes ≡ has_bit c.features 2

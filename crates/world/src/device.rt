@@ -24,6 +24,8 @@ pub(crate) struct Device {
     pub(crate) function: Option<OpenFunction>,
     pub(crate) port: EventPort,
     pub(crate) waiting: WaitingEvents,
+    // Whether the driver is told of capacities that change.
+    pub(crate) tells_changes: bool,
 }
 
 impl Model for Device {
@@ -46,6 +48,7 @@ impl Model for Device {
       buffers = d.port.buffers;
       missed = d.port.missed;
       waiting = d.waiting;
+      tells_changes = d.tells_changes;
     } };
 
     ghost invariant = { λ d. HasLists d.memory d.bays.items d.units.items d.seats.items d.port.limit };

@@ -12,7 +12,7 @@ use crate::device::Device;
 use crate::handed_off::HandedOff;
 use crate::seat::Seat;
 use block_store::NoMemory;
-use config::{Config, MOST_DESCRIPTORS, form};
+use config::{Config, MOST_DESCRIPTORS, form, tells_changes};
 use decisions::{Inventory, UnitSpec};
 use event_queue::{EventPort, WaitingEvents};
 use guest_mem::GuestMem;
@@ -136,5 +136,6 @@ pub(crate) fn open_device(alloc: Global, config: &Config) -> Result<Device, NoMe
         function: None,
         port,
         waiting: WaitingEvents::new(alloc),
+        tells_changes: tells_changes(config.features),
     })
 }

@@ -13,8 +13,9 @@ use block_store::NoMemory;
 use phases::{
     phase_answer, phase_answer_tmf, phase_check, phase_commit, phase_direct, phase_enter,
     phase_fetch, phase_fetch_control, phase_fetch_event, phase_hard, phase_leave, phase_mark,
-    phase_raise,
+    phase_raise, phase_resize,
 };
+use unit_history::ResizeFault;
 
 /// The seat that serves a request queue.
 pub(crate) fn owner(workers: u16, queue: u16) -> usize
@@ -273,6 +274,14 @@ impl Device {
         phase_check(&self.units[mark.unit], function)
     }
 
+    /// Makes pages ahead of a commit, which changes nothing that the device's contract sees.
+    pub(crate) fn prepare(&mut self, seat: u16) -> bool
+        ensures { Turns self.old (AnEvent.Prepare seat) result self.new }
+    {
+        let _ = seat;
+        false
+    }
+
     /// The open function is answered.
     pub(crate) fn answer_tmf(&mut self) -> bool
         requires sound { IsSound self.old }
@@ -303,6 +312,24 @@ impl Device {
             &mut self.seats[seat].out,
             &mut self.waiting,
         )
+    }
+
+    /// Gives the unit at a place so many blocks; nothing changes where there is none, or no unit may have so many.
+    pub(crate) fn resize(&mut self, place: u16, blocks: u64) -> Result<bool, NoMemory>
+        requires sound { IsSound self.old }
+        requires few { AreFew self.old }
+        ensures { TurnsOrWants self.old (AnEvent.Resize place blocks) result self.new }
+    {
+        let at = place as usize;
+        if at >= self.units.len() {
+            return Ok(false);
+        }
+        let told = self.tells_changes;
+        match phase_resize(&mut self.units[at], blocks, told, &mut self.waiting) {
+            Ok(changed) => Ok(changed),
+            Err(ResizeFault::BadCapacity) => Ok(false),
+            Err(ResizeFault::NoMemory) => Err(NoMemory),
+        }
     }
 
     /// The oldest event that waits goes to the guest, or is missed.

@@ -110,6 +110,7 @@ impl World {
             Event::Direct(queue) => Ok(self.device.direct(*queue)),
             Event::Put(seat) => Ok(self.device.put(*seat)),
             Event::Take(seat) => Ok(self.device.take(*seat)),
+            Event::Prepare(seat) => Ok(self.device.prepare(*seat)),
             Event::Commit(seat) => Ok(self.device.commit(*seat)),
             Event::Answer(seat) => Ok(self.device.answer(*seat)),
             Event::Leave(seat) => Ok(self.device.leave(*seat)),
@@ -117,12 +118,13 @@ impl World {
             Event::Check => Ok(self.device.check()),
             Event::AnswerTmf => Ok(self.device.answer_tmf()),
             Event::Hard(place) => self.device.hard(*place),
+            Event::Resize(place, blocks) => self.device.resize(*place, *blocks),
             Event::Raise => Ok(self.device.raise()),
         }
     }
 
-    /// One event. Whether it changed something; one that doesn't apply changes nothing. Only a Fetch and a Hard can
-    /// answer `NoMemory`, and have changed nothing then. Behind every trace that led here from an opening, the
+    /// One event. Whether it changed something; one that doesn't apply changes nothing. Only a Fetch, a Hard and a
+    /// Resize can answer `NoMemory`, and have changed nothing then. Behind every trace that led here from an opening, the
     /// promise is kept.
     pub fn step(&mut self, event: Event) -> Result<bool, NoMemory>
         ensures steps { Steps self.old (plain_event event) result self.new }

@@ -113,3 +113,19 @@ returns-in-Hard c =
 pub returns-in-Raise : goal.returns-in-Raise
 returns-in-Raise c =
     rw (c.in-Raise.is, ← c.self.view_is) (steps_by c.self.inside.device Event.Raise c.raise.result c.raise.new.self c.raise.ensures)
+
+pub invariant_of-self-in-Prepare : goal.invariant_of-self-in-Prepare
+invariant_of-self-in-Prepare c =
+    whole_by c.self.inside.device (Event.Prepare c.in-Prepare.seat) c.prepare.result c.prepare.new.self c.self.invariant c.prepare.ensures
+
+pub returns-in-Prepare : goal.returns-in-Prepare
+returns-in-Prepare c =
+    rw (c.in-Prepare.is, ← c.self.view_is) (steps_by c.self.inside.device (Event.Prepare c.in-Prepare.seat) c.prepare.result c.prepare.new.self c.prepare.ensures)
+
+pub invariant_of-self-in-Resize : goal.invariant_of-self-in-Resize
+invariant_of-self-in-Resize c =
+    whole_by_result c.self.inside.device (Event.Resize c.in-Resize.place c.in-Resize.blocks) c.resize.result c.resize.new.self c.self.invariant c.resize.ensures
+
+pub returns-in-Resize : goal.returns-in-Resize
+returns-in-Resize c =
+    rw (c.in-Resize.is, ← c.self.view_is) (steps_by_result c.self.inside.device (Event.Resize c.in-Resize.place c.in-Resize.blocks) c.resize.result c.resize.new.self c.resize.ensures)
