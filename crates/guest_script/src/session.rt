@@ -44,6 +44,7 @@ fn event_of(step: Step) -> Event {
         Step::Direct(queue) => Event::Direct(queue),
         Step::Put(seat) => Event::Put(seat),
         Step::Take(seat) => Event::Take(seat),
+        Step::Prepare(seat) => Event::Prepare(seat),
         Step::Commit(seat) => Event::Commit(seat),
         Step::Answer(seat) => Event::Answer(seat),
         Step::Leave(seat) => Event::Leave(seat),
@@ -103,6 +104,7 @@ impl Session {
                 run_guest_line(self.alloc, &mut self.driver, &mut self.machine, &line)
             }
             Command::Hard(unit) => self.hard(unit),
+            Command::Resize(unit, blocks) => self.resize(unit, blocks),
             Command::Settle => {
                 let _steps = self.machine.world.settle()?;
                 Ok(())
@@ -120,6 +122,14 @@ impl Session {
     fn hard(&mut self, unit: Address) -> Result<(), Stop> {
         if let Some(place) = self.known.place(unit) {
             let _applies = self.machine.world.step(Event::Hard(place))?;
+        }
+        Ok(())
+    }
+
+    /// The operator gives a unit so many blocks; where it isn't there, or no unit may have so many, nothing happens.
+    fn resize(&mut self, unit: Address, blocks: u64) -> Result<(), Stop> {
+        if let Some(place) = self.known.place(unit) {
+            let _applies = self.machine.world.step(Event::Resize(place, blocks))?;
         }
         Ok(())
     }

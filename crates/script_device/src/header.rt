@@ -1,7 +1,9 @@
 //! The header of a script, and what it asks for.
 
 use crate::known::Known;
-use config::{Config, EVENT_IDX, INDIRECT_DESC, RING_PACKED, StartFault, UnitSpec, VERSION_1};
+use config::{
+    CHANGE, Config, EVENT_IDX, INDIRECT_DESC, RING_PACKED, StartFault, UnitSpec, VERSION_1,
+};
 use guest_driver::layout_of;
 use ring_core::{Form, Layout};
 use script_lines::{Disk, Features, HeaderLine, LineFault, LineText, Queues, Stop, text_of};
@@ -152,7 +154,8 @@ fn features_of(form: Form, features: Features) -> u64 {
     };
     let indirect = if features.indirect { INDIRECT_DESC } else { 0 };
     let event_idx = if features.event_idx { EVENT_IDX } else { 0 };
-    VERSION_1 | form | indirect | event_idx
+    let change = if features.change { CHANGE } else { 0 };
+    VERSION_1 | form | indirect | event_idx | change
 }
 
 /// Where the queues lie.

@@ -5,7 +5,7 @@ use crate::guest_line::GuestLine;
 use crate::header::{HeaderLine, only};
 use crate::print_line::PrintLine;
 use crate::step::Step;
-use crate::values::{name, unit_pair};
+use crate::values::{name, number, unit_pair};
 use scsi_codec::Address;
 use std::alloc::Global;
 
@@ -16,6 +16,8 @@ pub enum Command<'a> {
     Guest(GuestLine<'a>),
     /// The operator resets a unit. Whether it is there isn't known here.
     Hard(Address),
+    /// The operator gives a unit so many blocks. Whether it is there isn't known here.
+    Resize(Address, u64),
     /// The device runs until nothing is left to do.
     Settle,
     /// The device takes one step, if it applies.
@@ -44,6 +46,7 @@ impl<'a> Command<'a> {
         }
         match keyword {
             "hard" => Ok(Command::Hard(unit_pair(only(values)?)?)),
+            "resize" => Ok(resize(values)?),
             "settle" => Ok(alone(values, Command::Settle)?),
             "wait" => Ok(Command::Wait(name(only(values)?)?)),
             "close" => Ok(alone(values, Command::Close)?),
@@ -59,6 +62,16 @@ fn no_command(keyword: &str, values: &[&str]) -> Stop {
         Ok(None) => Stop::Fault(LineFault::UnknownLine),
         Err(fault) => Stop::Fault(fault),
     }
+}
+
+/// Reads the values of a resize.
+fn resize<'a>(values: &[&str]) -> Result<Command<'a>, LineFault> {
+    let [unit, blocks] = values else {
+        return Err(LineFault::BadValue);
+    };
+    let unit = unit_pair(unit)?;
+    let blocks = number::<u64>(blocks)?;
+    Ok(Command::Resize(unit, blocks))
 }
 
 /// A line that has no values.

@@ -37,6 +37,8 @@ pub struct Features {
     pub indirect: bool,
     /// Event indices.
     pub event_idx: bool,
+    /// Events of capacities that change.
+    pub change: bool,
 }
 
 impl Features {
@@ -44,13 +46,16 @@ impl Features {
     pub const NONE: Features = Features {
         indirect: false,
         event_idx: false,
+        change: false,
     };
 
     /// Returns these features and the one of a word. `BadValue` where no feature has that word.
     fn with(self, word: &str) -> Result<Features, LineFault>
         ensures indirect { word.now ≡ codes "indirect" → result ≡ Ok (record self { indirect = true }) }
         ensures event_idx { word.now ≡ codes "event_idx" → result ≡ Ok (record self { event_idx = true }) }
-        ensures named { IsOk result → (word.now ≡ codes "indirect") ⊎ (word.now ≡ codes "event_idx") }
+        ensures change { word.now ≡ codes "change" → result ≡ Ok (record self { change = true }) }
+        ensures named { IsOk result →
+            (word.now ≡ codes "indirect") ⊎ (word.now ≡ codes "event_idx") ⊎ (word.now ≡ codes "change") }
         ensures fault { IfErr result (λ fault. fault ≡ LineFault.BadValue) }
     {
         match word {
@@ -60,6 +65,10 @@ impl Features {
             }),
             "event_idx" => Ok(Features {
                 event_idx: true,
+                ..self
+            }),
+            "change" => Ok(Features {
+                change: true,
                 ..self
             }),
             _ => Err(LineFault::BadValue),

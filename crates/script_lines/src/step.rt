@@ -17,6 +17,8 @@ pub enum Step {
     Put(u16),
     /// A worker takes a job from the hand-off.
     Take(u16),
+    /// Pages are made for the WRITE in a seat's hand.
+    Prepare(u16),
     /// The job in a seat's hand runs.
     Commit(u16),
     /// The job in a seat's hand is answered.
@@ -57,6 +59,7 @@ impl Step {
             "direct" => Step::Direct(place(values)?),
             "put" => Step::Put(place(values)?),
             "take" => Step::Take(place(values)?),
+            "prepare" => Step::Prepare(place(values)?),
             "commit" => Step::Commit(place(values)?),
             "answer" => Step::Answer(place(values)?),
             "leave" => Step::Leave(place(values)?),

@@ -14,7 +14,7 @@ use std::io::{Read, Write};
 use std::sync::Wait;
 use std::thread;
 use std::thread::Threads;
-use workers::{CloseFault, Host, Open, Report};
+use workers::{CloseFault, Host, Open, Report, ResizeFault};
 
 /// How often the guest looks for an answer that a line waits for.
 const LOOKS: u32 = 1_000_000;
@@ -161,6 +161,7 @@ impl Service {
                 run_guest_line(self.alloc, &mut self.driver, &mut memory, &line)
             }
             Command::Hard(unit) => self.hard(rt, unit),
+            Command::Resize(unit, blocks) => self.resize(rt, unit, blocks),
             Command::Wait(name) => self.wait(rt, name),
             Command::Settle | Command::Step(_) | Command::Print(_) | Command::Close => {
                 Err(Stop::Fault(LineFault::OutOfPlace))
@@ -172,6 +173,17 @@ impl Service {
     fn hard<R: Wait>(&mut self, rt: &R, unit: Address) -> Result<(), Stop> {
         if let Some(place) = self.known.place(unit) {
             self.host.operator(rt, place)?;
+        }
+        Ok(())
+    }
+
+    /// The operator gives a unit so many blocks; where it isn't there, or no unit may have so many, nothing happens.
+    fn resize<R: Wait>(&mut self, rt: &R, unit: Address, blocks: u64) -> Result<(), Stop> {
+        if let Some(place) = self.known.place(unit) {
+            match self.host.resize(rt, place, blocks) {
+                Ok(()) | Err(ResizeFault::BadCapacity) => {}
+                Err(ResizeFault::NoMemory) => return Err(Stop::NoMemory),
+            }
         }
         Ok(())
     }

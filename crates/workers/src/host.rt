@@ -1,12 +1,14 @@
 //! The host: its threads, from start to close.
 
-ghost use Rattle.std.specs.Prelude.{◌≡◌, ◌<◌, ◌≤◌, true, length, vec_len, IfOk, OnOk, OnErr};
+ghost use Rattle.std.specs.Prelude.{◌≡◌, ◌<◌, ◌≤◌, true, length, vec_len, IfOk, IfErr, OnOk, OnErr};
 ghost use Rattle.std.specs.Arc.{arc_value};
 ghost use Rattle.std.specs.Bool.{OnTrue};
 ghost use Rattle.handoff.specs.Seats.{IsSeatOf, IsSameSeat};
 ghost use Rattle.config.specs.Config.{is_config};
 ghost use Rattle.workers.specs.Extent.{Starts, extent_of};
 ghost use Rattle.workers.specs.Resetting.{WasReset};
+ghost use Rattle.workers.specs.Resizing.{WasResized};
+ghost use Rattle.unit_history.specs.Calls.{ResizeRefused};
 
 use crate::control::raise;
 use crate::post::{Post, clear, finish};
@@ -14,14 +16,14 @@ use crate::shared::Shared;
 use crate::worker::{Worker, work};
 use bays::Gate;
 use block_store::NoMemory;
-use config::{Config, StartFault};
+use config::{Config, StartFault, tells_changes};
 use crew::{Crew, Worked, Works, hire, unshared};
 use decisions::UnitSpec;
 use event_queue::WaitingEvents;
 use guest_mem::MemFault;
 use handoff::{Handoff, Seat};
 use keeping::{Kept, report};
-use lent_phases::{hard_on, peek_on, poke_on};
+use lent_phases::{hard_on, peek_on, poke_on, resize_on};
 use parts::Parts;
 use report::{CloseFault, Report};
 use std::alloc::{AllocError, Global};
@@ -29,6 +31,7 @@ use std::marker::Model;
 use std::sync::{Arc, Wait};
 use std::thread::Threads;
 use task_set::MOST_TASKS;
+use unit_history::{ResizeFault, is_capacity};
 
 impl<G: Gate + Drop> Works<Post, Kept> for Shared<G> {
     ghost hub = { λ s. s.handoff };
@@ -85,6 +88,7 @@ where
         crew,
         post,
         waiting: WaitingEvents::new(alloc),
+        told: tells_changes(config.features),
         specs: config.units,
     })
 }
@@ -137,6 +141,52 @@ fn reset<R: Wait, G: Gate + Drop>(
     Ok(())
 }
 
+/// A unit is given so many blocks, in one hold of its lock. Answers as the phase.
+fn resize_one<R: Wait, G: Gate + Drop>(
+    rt: &R,
+    shared: &Shared<G>,
+    at: usize,
+    blocks: u64,
+    told: bool,
+    waiting: &mut WaitingEvents,
+) -> Result<bool, ResizeFault>
+    requires at { at < vec_len shared.now.units }
+    ensures resized { IfOk result (λ was. OnTrue was (WasResized blocks)) }
+    ensures cause { IfErr result (λ fault. ResizeRefused blocks fault) }
+{
+    match resize_on(&mut shared.bays(rt), at, blocks, told, waiting) {
+        Ok(was_resized) => Ok(was_resized),
+        Err(fault) => Err(fault),
+    }
+}
+
+/// A unit is given so many blocks by the operator, and the guest is told where it asked for that. A unit that isn't there
+/// changes nothing. `BadCapacity` where no unit may have so many blocks, `NoMemory` where a growth was refused: the unit
+/// wasn't resized then.
+fn resize<R: Wait, G: Gate + Drop>(
+    rt: &R,
+    shared: &Shared<G>,
+    at: usize,
+    blocks: u64,
+    told: bool,
+    waiting: &mut WaitingEvents,
+) -> Result<(), ResizeFault>
+    ensures resized { OnOk result (at < vec_len shared.now.units → WasResized blocks) }
+    ensures cause { IfErr result (λ fault. ResizeRefused blocks fault) }
+{
+    if !is_capacity(blocks) {
+        return Err(ResizeFault::BadCapacity);
+    }
+    if at >= shared.units.len() {
+        return Ok(());
+    }
+    if !resize_one(rt, shared, at, blocks, told, waiting)? {
+        return Err(ResizeFault::NoMemory);
+    }
+    raise(rt, shared, waiting);
+    Ok(())
+}
+
 /// A device that threads serve. Clauses see how many workers and queues it has, and the units that it was opened with. It
 /// isn't `Drop`: who starts one closes it, which ends its threads.
 pub struct Host<G: Gate + Drop> {
@@ -146,6 +196,8 @@ pub struct Host<G: Gate + Drop> {
     // What the operator's seat has, and the events that wait.
     post: Post,
     waiting: WaitingEvents,
+    // Whether the guest is told of capacities that change.
+    told: bool,
     // What its report is held against.
     specs: Vec<UnitSpec>,
 }
@@ -176,6 +228,8 @@ impl<G: Gate + Drop> Host<G> {
     ghost use Rattle.lent_phases.specs.Memory.{Writes, Reads};
     ghost use Rattle.report.specs.Closed.{IsReport};
     ghost use Rattle.workers.specs.Resetting.{WasReset};
+    ghost use Rattle.workers.specs.Resizing.{WasResized};
+    ghost use Rattle.unit_history.specs.Calls.{ResizeRefused};
 
     /// Starts `n` workers, 1 to 8, in place of the number that the configuration has. Who embeds the device calls it
     /// once. `BadConfig` exactly where the device doesn't take such a configuration; else `NoMemory` where a growth
@@ -239,6 +293,26 @@ impl<G: Gate + Drop> Host<G> {
         )
     }
 
+    /// The operator gives the unit at a place of the configuration another capacity, in blocks of 512 bytes, and the guest
+    /// is told (PARAM_CHANGE) where its driver agreed to `CHANGE`. A unit that isn't there changes nothing.
+    /// `BadCapacity` for 0 and for more than 2^40 blocks, `NoMemory` where a growth was refused: the unit wasn't resized
+    /// then. It may wait.
+    pub fn resize<R: Wait>(&mut self, rt: &R, place: u16, blocks: u64) -> Result<(), ResizeFault>
+        ensures same { self.new ≡ self.old }
+        ensures resized { OnOk result (place < length self.old.units → WasResized blocks) }
+        ensures cause { IfErr result (λ fault. ResizeRefused blocks fault) }
+    {
+        let told = self.told;
+        resize(
+            rt,
+            &*self.shared,
+            place as usize,
+            blocks,
+            told,
+            &mut self.waiting,
+        )
+    }
+
     /// Ends the workers once nothing is left to them, waits for that, and says what became of every chain that was
     /// accepted. `Unconfirmed`: the least ticket of a receipt whose Commit doesn't stand in its unit's history.
     /// `Outstanding`: the least ticket of a chain of the control queue or of a request that wasn't answered, once and
@@ -256,6 +330,7 @@ impl<G: Gate + Drop> Host<G> {
             crew,
             mut post,
             waiting: _,
+            told: _,
             specs,
         } = self;
         finish(rt, &*shared, &mut post);

@@ -13,4 +13,4 @@ pub use bays::{Gate, Open, Point};
 pub use config::{Config, StartFault};
 pub use host::Host;
 pub use report::{CloseFault, Report};
-pub use unit_history::{Cause, Note, Receipt};
+pub use unit_history::{Cause, Note, Receipt, ResizeFault};

@@ -15,7 +15,7 @@ mod steps;
 mod world;
 
 pub use config::{
-    ACCEPTED_FEATURES, Config, ConfigFault, EVENT_IDX, FEATURES, INDIRECT_DESC, Layout,
+    ACCEPTED_FEATURES, CHANGE, Config, ConfigFault, EVENT_IDX, FEATURES, INDIRECT_DESC, Layout,
     LayoutFault, RING_PACKED, StartFault, UnitSpec, VERSION_1, form,
 };
 pub use deeds::Event;
