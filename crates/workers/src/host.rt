@@ -177,7 +177,7 @@ fn resize<R: Wait, G: Gate + Drop>(
     if !is_capacity(blocks) {
         return Err(ResizeFault::BadCapacity);
     }
-    if at >= shared.units.len() {
+    if shared.units.len() <= at {
         return Ok(());
     }
     if !resize_one(rt, shared, at, blocks, told, waiting)? {
