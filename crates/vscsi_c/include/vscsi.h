@@ -192,7 +192,7 @@ enum vscsi_answer vscsi_settle(struct vscsi *device, uint64_t *steps);
 
 /* Serves in portions: as vscsi_settle, but it takes new chains of those queues alone whose bit is set in `queues` (bit 0 is
  * queue 0), and at most `most` steps. What was begun before goes on, of whichever queue. It ends whatever the guest wrote. A
- * request takes 7 steps at most, a control request 2 and what it does at each task, an event buffer 1.
+ * request takes 7 steps at most, a control request 2 and 2 more for each unit that it visits, an event buffer 1.
  *
  * `more` tells whether a step is left, of these queues or of what was begun: then `most` steps were taken, and the same call
  * goes on from there. Where it is false those queues have no chain left, unless a fault broke one. Within one call lower
