@@ -202,15 +202,15 @@ static void begin(const struct work *work) {
       {.desc = 0, .driver = DRIVER, .device = DEVICE, .size = (uint16_t)size_of(work)}};
   const uint64_t blocks = MOST_DEPTH * (uint64_t)blocks_of(work->kind) + 1;
   const struct vscsi_unit units[2] = {{.blocks = blocks, .lun = 0, .calm = 1}, {.blocks = blocks, .lun = 1, .calm = 1}};
-  const struct vscsi_config config = {.features = VSCSI_F_VERSION_1 | (work->packed ? VSCSI_F_RING_PACKED : 0) |
+  const struct vscsi_config config = {.size = sizeof config,
+                                      .features = VSCSI_F_VERSION_1 | (work->packed ? VSCSI_F_RING_PACKED : 0) |
                                                   (work->way == TABLES ? VSCSI_F_INDIRECT_DESC : 0),
                                       .queues = queues,
                                       .queue_count = QUEUES,
                                       .units = units,
                                       .unit_count = 2,
                                       .pages = (uint32_t)(request_at(work->kind, work->depth) / VSCSI_PAGE + 1)};
-  struct vscsi_fault fault;
-  must(vscsi_create(&device, &config, &fault));
+  must(vscsi_create(&device, &config, NULL));
   for (unsigned number = 0; number < work->depth; number++) put(work, number);
 }
 

@@ -31,8 +31,13 @@ static void begin(void) {
     queues[q] = (struct vscsi_queue){.desc = area(q), .driver = area(q) + 0x400, .device = area(q) + 0x800, .size = SIZE};
   units[0] = (struct vscsi_unit){.blocks = 1000, .calm = 1};
   units[1] = (struct vscsi_unit){.blocks = 1, .target = 4};
-  config = (struct vscsi_config){
-      .features = VSCSI_F_VERSION_1, .queues = queues, .queue_count = QUEUES, .units = units, .unit_count = 2, .pages = PAGES};
+  config = (struct vscsi_config){.size = sizeof config,
+                                 .features = VSCSI_F_VERSION_1,
+                                 .queues = queues,
+                                 .queue_count = QUEUES,
+                                 .units = units,
+                                 .unit_count = 2,
+                                 .pages = PAGES};
 }
 
 // That the configuration as it is now is refused for this cause.
@@ -49,25 +54,25 @@ static void refused(int line, uint32_t cause, uint64_t place, uint32_t detail) {
 
 static void causes(void) {
   begin();
-  config.pages = 0, refused(__LINE__, VSCSI_PAGES, 0, 0);
-  config.pages = 65537, refused(__LINE__, VSCSI_PAGES, 0, 0);
-  config.features = VSCSI_F_RING_PACKED, refused(__LINE__, VSCSI_BAD_FEATURES, 0, 0);
-  config.features = VSCSI_FEATURES | 1, refused(__LINE__, VSCSI_BAD_FEATURES, 0, 0);
-  config.features = VSCSI_ACCEPTED_FEATURES | UINT64_C(1) << 30, refused(__LINE__, VSCSI_BAD_FEATURES, 0, 0);
-  config.features = VSCSI_F_INDIRECT_DESC | VSCSI_F_EVENT_IDX, refused(__LINE__, VSCSI_BAD_FEATURES, 0, 0);
-  config.queue_count = 2, refused(__LINE__, VSCSI_QUEUE_COUNT, 0, 0);
-  config.queues = 0, config.queue_count = 0, refused(__LINE__, VSCSI_QUEUE_COUNT, 0, 0);
-  queues[1].size = 1, queues[2].size = 1, refused(__LINE__, VSCSI_QUEUE_SIZE, 1, 0);
-  queues[2].size = 2048, refused(__LINE__, VSCSI_QUEUE_SIZE, 2, 0);
-  queues[0].size = 6, refused(__LINE__, VSCSI_QUEUE_LAYOUT, 0, VSCSI_SIZE);
-  queues[1].desc += 8, refused(__LINE__, VSCSI_QUEUE_LAYOUT, 1, VSCSI_ALIGNMENT);
-  queues[2].device = PAGES * VSCSI_PAGE - 64, refused(__LINE__, VSCSI_QUEUE_LAYOUT, 2, VSCSI_AREA);
-  config.unit_count = 0, refused(__LINE__, VSCSI_UNIT_COUNT, 0, 0);
-  units[1].lun = 16384, refused(__LINE__, VSCSI_UNIT_LUN, 1, 0);
-  units[0].blocks = 0, units[1].blocks = 0, refused(__LINE__, VSCSI_UNIT_BLOCKS, 0, 0);
-  units[1].blocks = VSCSI_MOST_BLOCKS + 1, refused(__LINE__, VSCSI_UNIT_BLOCKS, 1, 0);
-  units[1].target = 0, refused(__LINE__, VSCSI_UNIT_ORDER, 1, 0);
-  units[1].lun = 1, refused(__LINE__, VSCSI_NO_LUN_0, 1, 0);
+  config.pages = 0, refused(__LINE__, VSCSI_CAUSE_PAGES, 0, 0);
+  config.pages = 65537, refused(__LINE__, VSCSI_CAUSE_PAGES, 0, 0);
+  config.features = VSCSI_F_RING_PACKED, refused(__LINE__, VSCSI_CAUSE_FEATURES, 0, 0);
+  config.features = VSCSI_FEATURES | 1, refused(__LINE__, VSCSI_CAUSE_FEATURES, 0, 0);
+  config.features = VSCSI_ACCEPTED_FEATURES | UINT64_C(1) << 30, refused(__LINE__, VSCSI_CAUSE_FEATURES, 0, 0);
+  config.features = VSCSI_F_INDIRECT_DESC | VSCSI_F_EVENT_IDX, refused(__LINE__, VSCSI_CAUSE_FEATURES, 0, 0);
+  config.queue_count = 2, refused(__LINE__, VSCSI_CAUSE_QUEUE_COUNT, 0, 0);
+  config.queues = 0, config.queue_count = 0, refused(__LINE__, VSCSI_CAUSE_QUEUE_COUNT, 0, 0);
+  queues[1].size = 1, queues[2].size = 1, refused(__LINE__, VSCSI_CAUSE_QUEUE_SIZE, 1, 0);
+  queues[2].size = 2048, refused(__LINE__, VSCSI_CAUSE_QUEUE_SIZE, 2, 0);
+  queues[0].size = 6, refused(__LINE__, VSCSI_CAUSE_QUEUE_LAYOUT, 0, VSCSI_LAYOUT_SIZE);
+  queues[1].desc += 8, refused(__LINE__, VSCSI_CAUSE_QUEUE_LAYOUT, 1, VSCSI_LAYOUT_ALIGNMENT);
+  queues[2].device = PAGES * VSCSI_PAGE - 64, refused(__LINE__, VSCSI_CAUSE_QUEUE_LAYOUT, 2, VSCSI_LAYOUT_AREA);
+  config.unit_count = 0, refused(__LINE__, VSCSI_CAUSE_UNIT_COUNT, 0, 0);
+  units[1].lun = 16384, refused(__LINE__, VSCSI_CAUSE_UNIT_LUN, 1, 0);
+  units[0].blocks = 0, units[1].blocks = 0, refused(__LINE__, VSCSI_CAUSE_UNIT_BLOCKS, 0, 0);
+  units[1].blocks = VSCSI_MOST_BLOCKS + 1, refused(__LINE__, VSCSI_CAUSE_UNIT_BLOCKS, 1, 0);
+  units[1].target = 0, refused(__LINE__, VSCSI_CAUSE_UNIT_ORDER, 1, 0);
+  units[1].lun = 1, refused(__LINE__, VSCSI_CAUSE_NO_LUN_0, 1, 0);
 }
 
 static void nulls(void) {
@@ -76,16 +81,16 @@ static void nulls(void) {
   uint64_t n = 5;
   uint32_t bits = 5;
   uint8_t byte = 5;
+  bool more = true;
   begin();
   IS(vscsi_create(0, &config, &fault), VSCSI_NULL);
   IS(vscsi_create(&device, 0, &fault), VSCSI_NULL);
-  IS(vscsi_create(&device, &config, 0), VSCSI_NULL);
   config.queues = 0, IS(vscsi_create(&device, &config, &fault), VSCSI_NULL);
   begin(), config.units = 0, IS(vscsi_create(&device, &config, &fault), VSCSI_NULL);
   begin(), config.unit_count = (size_t)-1, IS(vscsi_create(&device, &config, &fault), VSCSI_BAD_LENGTH);
   IS(vscsi_destroy(0), VSCSI_NULL);
   IS(vscsi_settle(0, &n), VSCSI_NULL);
-  IS(vscsi_settle(&device, 0), VSCSI_NULL);
+  IS(vscsi_serve(0, 7, 1, &n, &more), VSCSI_NULL);
   IS(vscsi_poke(0, 0, &byte, 1), VSCSI_NULL);
   IS(vscsi_poke(&device, 0, 0, 1), VSCSI_NULL);
   IS(vscsi_peek(0, 0, &byte, 1), VSCSI_NULL);
@@ -97,8 +102,6 @@ static void nulls(void) {
   IS(vscsi_broken(0, 0, &bits), VSCSI_NULL);
   IS(vscsi_broken(&device, 0, 0), VSCSI_NULL);
   IS(vscsi_progress(0, 0, &n, &n), VSCSI_NULL);
-  IS(vscsi_progress(&device, 0, 0, &n), VSCSI_NULL);
-  IS(vscsi_progress(&device, 0, &n, 0), VSCSI_NULL);
   IS(vscsi_reset(0, 0, 0), VSCSI_NULL);
   IS(vscsi_capacity(0, 0, 0, &n), VSCSI_NULL);
   IS(vscsi_capacity(&device, 0, 0, 0), VSCSI_NULL);
@@ -107,6 +110,7 @@ static void nulls(void) {
   IS(n, 5);
   IS(bits, 5);
   IS(byte, 5);
+  IS(more, true);
 }
 
 static void no_device(void) {
@@ -114,20 +118,26 @@ static void no_device(void) {
   uint64_t n = 5;
   uint32_t bits = 5;
   uint8_t bytes[512] = {5};
+  bool more = true;
   IS(vscsi_destroy(&device), VSCSI_NO_DEVICE);
   IS(vscsi_settle(&device, &n), VSCSI_NO_DEVICE);
+  IS(vscsi_settle(&device, 0), VSCSI_NO_DEVICE);
+  IS(vscsi_serve(&device, 7, 1, &n, &more), VSCSI_NO_DEVICE);
+  IS(vscsi_serve(&device, 7, 1, 0, 0), VSCSI_NO_DEVICE);
   IS(vscsi_poke(&device, 0, bytes, 1), VSCSI_NO_DEVICE);
   IS(vscsi_peek(&device, 0, bytes, 1), VSCSI_NO_DEVICE);
   IS(vscsi_owed(&device, &bits), VSCSI_NO_DEVICE);
   IS(vscsi_status(&device, bytes), VSCSI_NO_DEVICE);
   IS(vscsi_broken(&device, 0, &bits), VSCSI_NO_DEVICE);
   IS(vscsi_progress(&device, 0, &n, &n), VSCSI_NO_DEVICE);
+  IS(vscsi_progress(&device, 0, 0, 0), VSCSI_NO_DEVICE);
   IS(vscsi_reset(&device, 0, 0), VSCSI_NO_DEVICE);
   IS(vscsi_capacity(&device, 0, 0, &n), VSCSI_NO_DEVICE);
   IS(vscsi_blocks(&device, 0, 0, 0, 1, bytes, 512), VSCSI_NO_DEVICE);
   IS(n, 5);
   IS(bits, 5);
   IS(bytes[0], 5);
+  IS(more, true);
 }
 
 static void calls(struct vscsi *device) {
@@ -160,6 +170,8 @@ static void calls(struct vscsi *device) {
   IS(vscsi_progress(device, 2, &n, &used), VSCSI_DONE);
   IS(n, 0);
   IS(used, 0);
+  IS(vscsi_progress(device, 2, 0, 0), VSCSI_DONE);
+  IS(vscsi_progress(device, QUEUES, 0, 0), VSCSI_NO_QUEUE);
   // units
   IS(vscsi_capacity(device, 4, 0, &n), VSCSI_DONE);
   IS(n, 1);
@@ -190,16 +202,16 @@ static void broken(struct vscsi *device) {
   IS(vscsi_status(device, &status), VSCSI_DONE);
   IS(status, 0);
   IS(vscsi_broken(device, 2, &fault), VSCSI_DONE);
-  IS(fault, VSCSI_WHOLE);
+  IS(fault, VSCSI_BROKEN_NOT);
   // nine entries of eight
   IS(vscsi_poke(device, area(2) + 0x402, nine, 2), VSCSI_DONE);
   IS(vscsi_settle(device, &steps), VSCSI_DONE);
   IS(vscsi_status(device, &status), VSCSI_DONE);
   IS(status, 64);
   IS(vscsi_broken(device, 2, &fault), VSCSI_DONE);
-  IS(fault, VSCSI_INDEX_JUMP);
+  IS(fault, VSCSI_BROKEN_INDEX_JUMP);
   IS(vscsi_broken(device, 1, &fault), VSCSI_DONE);
-  IS(fault, VSCSI_WHOLE);
+  IS(fault, VSCSI_BROKEN_NOT);
   IS(vscsi_owed(device, &owed), VSCSI_DONE);
   IS(owed, 0);
   // an event buffer of no bytes is taken and given back at once, and its driver is owed one notification
@@ -214,12 +226,89 @@ static void broken(struct vscsi *device) {
   IS(owed, 0);
 }
 
+// A configuration of another size than the library's is refused, whatever else it says and whether its cause is asked for or not.
+static void sizes(void) {
+  struct vscsi device = {0};
+  struct vscsi_fault fault = {77, 77, 77};
+  begin();
+  config.size = 0, IS(vscsi_create(&device, &config, &fault), VSCSI_BAD_LENGTH);
+  config.size = sizeof config - 8, IS(vscsi_create(&device, &config, &fault), VSCSI_BAD_LENGTH);
+  config.size = sizeof config + 8, config.queues = 0, IS(vscsi_create(&device, &config, 0), VSCSI_BAD_LENGTH);
+  IS(fault.cause, 77);
+  begin(), config.pages = 0, IS(vscsi_create(&device, &config, 0), VSCSI_BAD_CONFIG);
+  IS(vscsi_destroy(&device), VSCSI_NO_DEVICE);
+}
+
+// Chains are served in portions: those of the queues that are asked, in as many steps as are given.
+static void portions(void) {
+  static const uint8_t three[2] = {3, 0};
+  struct vscsi device = {0};
+  uint64_t steps = 5, accepted, used;
+  bool more = false;
+  begin();
+  IS(vscsi_create(&device, &config, 0), VSCSI_DONE);
+  IS(vscsi_serve(&device, 7, 100, &steps, &more), VSCSI_DONE);
+  IS(steps, 0);
+  IS(more, false);
+  // three event buffers of no bytes, which are given back at once
+  IS(vscsi_poke(&device, area(1) + 0x402, three, 2), VSCSI_DONE);
+  for (unsigned entry = 0; entry < 3; entry++) IS(vscsi_poke(&device, area(1) + 0x404 + 2 * entry, &(uint8_t){(uint8_t)entry}, 1), VSCSI_DONE);
+  IS(vscsi_serve(&device, 2, 0, &steps, &more), VSCSI_DONE);
+  IS(steps, 0);
+  IS(more, true);
+  IS(vscsi_serve(&device, 5, 100, &steps, &more), VSCSI_DONE);
+  IS(steps, 0);
+  IS(more, false);
+  IS(vscsi_serve(&device, 2, 1, &steps, &more), VSCSI_DONE);
+  IS(steps, 1);
+  IS(more, true);
+  IS(vscsi_progress(&device, 1, &accepted, 0), VSCSI_DONE);
+  IS(accepted, 1);
+  IS(vscsi_serve(&device, 2, 1, 0, 0), VSCSI_DONE);
+  IS(vscsi_serve(&device, UINT32_MAX, UINT64_MAX, &steps, &more), VSCSI_DONE);
+  IS(more, false);
+  IS(vscsi_progress(&device, 1, &accepted, &used), VSCSI_DONE);
+  IS(accepted, 3);
+  IS(used, 3);
+  IS(vscsi_destroy(&device), VSCSI_DONE);
+}
+
+// Each number has a text, a different one where it means something.
+static void texts(void) {
+  for (uint32_t i = 0; i < 20; i++) {
+    for (uint32_t j = 0; j < i; j++) {
+      IS(strcmp(vscsi_answer_text((enum vscsi_answer)i), vscsi_answer_text((enum vscsi_answer)j)) != 0 || j > VSCSI_NULL, true);
+      IS(strcmp(vscsi_broken_text(i), vscsi_broken_text(j)) != 0 || j > VSCSI_BROKEN_RING_OVERRUN, true);
+      IS(strcmp(vscsi_cause_text(i), vscsi_cause_text(j)) != 0 || j == 0 || j == 6 || j == 7 || j > VSCSI_CAUSE_NO_LUN_0, true);
+    }
+  }
+  IS(strcmp(vscsi_answer_text(VSCSI_NO_MEMORY), "no memory"), 0);
+  IS(strcmp(vscsi_cause_text(0), vscsi_cause_text(UINT32_MAX)), 0);
+  IS(vscsi_broken_text(UINT32_MAX)[0] != 0, true);
+  IS(vscsi_version(), VSCSI_VERSION);
+  IS(vscsi_version(), VSCSI_VERSION_MAJOR << 16 | VSCSI_VERSION_MINOR << 8 | VSCSI_VERSION_PATCH);
+  IS(vscsi_features(), VSCSI_FEATURES);
+}
+
+// Devices come and go. Whether they left memory behind is for others to see.
+static void many(void) {
+  struct vscsi device = {0};
+  begin();
+  for (unsigned round = 0; round < 10000; round++) {
+    IS(vscsi_create(&device, &config, 0), VSCSI_DONE);
+    IS(vscsi_destroy(&device), VSCSI_DONE);
+  }
+}
+
 int main(void) {
   struct vscsi device = {0};
   struct vscsi_fault fault;
   causes();
+  sizes();
   nulls();
   no_device();
+  portions();
+  texts();
   for (int round = 0; round < 2; round++) {
     begin();
     IS(vscsi_create(&device, &config, &fault), VSCSI_DONE);
@@ -228,6 +317,7 @@ int main(void) {
     IS(vscsi_destroy(&device), VSCSI_DONE);
     IS(vscsi_destroy(&device), VSCSI_NO_DEVICE);
   }
+  many();
   printf("errors: %u as they should be\n", tests);
   return 0;
 }

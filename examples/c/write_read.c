@@ -14,7 +14,7 @@ static struct vscsi device;
 // Ends the example where a call didn't do what it was asked for.
 static void must(const char *call, enum vscsi_answer answer) {
   if (answer == VSCSI_DONE) return;
-  fprintf(stderr, "write_read: %s answered %d\n", call, answer);
+  fprintf(stderr, "write_read: %s answered %d: %s\n", call, answer, vscsi_answer_text(answer));
   vscsi_destroy(&device);
   exit(answer == VSCSI_NO_MEMORY ? 3 : 1);
 }
@@ -46,11 +46,10 @@ static void descriptor(unsigned at, uint64_t addr, uint32_t length, unsigned fla
 
 // Makes the chain that begins with descriptor 0 available on queue 2, and has it served: the `count`th so far.
 static void send(unsigned count) {
-  uint64_t steps;
   uint32_t owed;
   put(area(2) + 0x404 + 2 * ((count - 1) % SIZE), 0, 2);
   put(area(2) + 0x402, count, 2);
-  must("settle", vscsi_settle(&device, &steps));
+  must("settle", vscsi_settle(&device, NULL));
   must("owed", vscsi_owed(&device, &owed));
   if (get(area(2) + 0x802, 2) != count) must("used index", VSCSI_NO_DEVICE);
   printf("notify=%x ", owed);
@@ -80,14 +79,13 @@ int main(void) {
   static const uint8_t write_10[] = {0x2a, 0, 0, 0, 0, 3, 0, 0, 1, 0}, read_10[] = {0x28, 0, 0, 0, 0, 3, 0, 0, 1, 0};
   const struct vscsi_unit unit = {.blocks = 1000, .calm = 1};
   struct vscsi_queue queues[QUEUES];
-  struct vscsi_fault fault;
   uint8_t data[512], found[512];
 
   for (unsigned q = 0; q < QUEUES; q++)
     queues[q] = (struct vscsi_queue){.desc = area(q), .driver = area(q) + 0x400, .device = area(q) + 0x800, .size = SIZE};
   const struct vscsi_config config = {
-      .features = VSCSI_F_VERSION_1, .queues = queues, .queue_count = QUEUES, .units = &unit, .unit_count = 1, .pages = 16};
-  must("create", vscsi_create(&device, &config, &fault));
+      .size = sizeof config, .features = VSCSI_F_VERSION_1, .queues = queues, .queue_count = QUEUES, .units = &unit, .unit_count = 1, .pages = 16};
+  must("create", vscsi_create(&device, &config, NULL));
 
   // WRITE(10) of one block at block 3: 512 bytes of ab.
   memset(data, 0xab, sizeof data);

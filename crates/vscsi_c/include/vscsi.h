@@ -8,21 +8,26 @@
  * this library looks at its fields. What the device needs is taken from malloc by vscsi_create, and goes back by
  * vscsi_destroy, once, or never. Whatever else is passed to a call is looked at during that call alone.
  *
- * Which calls may run side by side. On one device none: the caller orders them, and hands a device to another thread
- * as it would hand over any memory. Devices have nothing in common. No call is made from a signal handler, or by the
- * child of a fork of a process with threads.
+ * Which calls may run side by side. On one device none, not even those that only look (`const struct vscsi *`): the
+ * caller orders them, and hands a device to another thread as it would hand over any memory. Devices have nothing in
+ * common. No call is made from a signal handler, or by the child of a fork of a process with threads.
  *
  * What a call answers. One of `enum vscsi_answer`. Each call says below what else but VSCSI_DONE it may answer; then it
- * changed nothing, the room that it would write included, but for what is said of vscsi_settle and of the fault that
- * vscsi_create tells. No call ends the process. Of each call VSCSI_NULL is answered where a pointer is null (a run of no
- * bytes, queues or units may be), and VSCSI_BAD_LENGTH where a length is more than memory can have.
+ * changed nothing, the room that it would write included, but for what is said of vscsi_settle, vscsi_serve and of the
+ * fault that vscsi_create tells. No call ends the process. Of each call VSCSI_NULL is answered where a pointer is null (a
+ * run of no bytes, queues or units may be, and what is called optional below), and VSCSI_BAD_LENGTH where a length is
+ * more than memory can have.
  *
  * What can't be checked, and is the caller's: a `struct vscsi` that isn't zeros and that no call left; a pointer to room
  * that is shorter than was said, or that another argument points into; two calls on one device at a time. Then anything
  * may happen.
  *
  * Guest memory is one run of bytes that begins at guest address 0. The device has its own: what a guest wrote is copied
- * in by vscsi_poke, what the device wrote is copied out by vscsi_peek. docs/EMBEDDING.md says which bytes, and when. */
+ * in by vscsi_poke, what the device wrote is copied out by vscsi_peek. docs/EMBEDDING.md says which bytes, and when.
+ *
+ * Versions. VSCSI_VERSION is that of this header, vscsi_version() that of the library. With one major version programs
+ * that were built with an older header go on working: numbers keep their meaning, and calls, numbers and fields at a
+ * structure's end are only added. */
 #ifndef VSCSI_H
 #define VSCSI_H
 
@@ -33,6 +38,12 @@
 #ifdef __cplusplus
 extern "C" {
 #endif
+
+/* The version of this header: 1.0.0. VSCSI_VERSION is major * 65,536 + minor * 256 + patch. */
+#define VSCSI_VERSION_MAJOR 1
+#define VSCSI_VERSION_MINOR 0
+#define VSCSI_VERSION_PATCH 0
+#define VSCSI_VERSION ((uint32_t)VSCSI_VERSION_MAJOR << 16 | (uint32_t)VSCSI_VERSION_MINOR << 8 | (uint32_t)VSCSI_VERSION_PATCH)
 
 /* A device, or none. Made of zeros: `struct vscsi device = {0};`. */
 struct vscsi {
@@ -49,7 +60,7 @@ enum vscsi_answer {
   VSCSI_OUTSIDE = 5,    /* a byte isn't in guest memory, or a block isn't on the unit */
   VSCSI_NO_QUEUE = 6,   /* there is no such queue */
   VSCSI_NO_UNIT = 7,    /* there is no such unit */
-  VSCSI_BAD_LENGTH = 8, /* the room isn't as long as what goes there */
+  VSCSI_BAD_LENGTH = 8, /* the room isn't as long as what goes there, or a structure has another size */
   VSCSI_NULL = 9        /* a pointer is null */
 };
 
@@ -98,9 +109,12 @@ struct vscsi_unit {
  * its queues, of which 0 is the control queue, 1 the event queue, and the others, 1 to 16, request queues; 1 to 64 units
  * in rising order of target and LUN, each target with LUN 0. All of it is known once the driver has set DRIVER_OK.
  *
+ * `size` is sizeof (struct vscsi_config), by which the library knows the fields that the caller has.
+ *
  * Firmware that sets up queue 2 alone leaves queues 0 and 1 without areas. Give the device some pages more than the guest
  * has, and let those queues lie there: an area of zeros is an empty ring, and nothing ever changes it. */
 struct vscsi_config {
+  size_t size;
   uint64_t features;
   const struct vscsi_queue *queues;
   size_t queue_count;
@@ -110,28 +124,28 @@ struct vscsi_config {
 };
 
 /* Why a configuration isn't taken: the first of these, in this order, that is so; but queues are looked at one after the
- * other for 4 and 5, and units for 9 and 10. Of a queue or a unit `place` says which, from 0. */
+ * other for 4 and 5, and units for 9 and 10. Of a queue or a unit `place` says which, from 0. No cause has number 6 or 7. */
 enum vscsi_cause {
-  VSCSI_PAGES = 1,        /* no pages, or more than 65,536 */
-  VSCSI_BAD_FEATURES = 2, /* no VSCSI_F_VERSION_1, or one that isn't among VSCSI_ACCEPTED_FEATURES */
-  VSCSI_QUEUE_COUNT = 3,  /* fewer than 3 queues, or more than 18 */
-  VSCSI_QUEUE_SIZE = 4,   /* a queue of fewer than 2 descriptors, or of more than 1,024 */
-  VSCSI_QUEUE_LAYOUT = 5, /* a queue can't lie so: `detail` is an `enum vscsi_layout` */
-  VSCSI_WORKERS = 6,      /* never: there is one */
-  VSCSI_HANDOFF = 7,      /* never: there is room for 64 */
-  VSCSI_UNIT_COUNT = 8,   /* no units, or more than 64 */
-  VSCSI_UNIT_LUN = 9,     /* a LUN above 16,383 */
-  VSCSI_UNIT_BLOCKS = 10, /* no blocks, or more than VSCSI_MOST_BLOCKS */
-  VSCSI_UNIT_ORDER = 11,  /* a unit that doesn't stand above the one before it */
-  VSCSI_NO_LUN_0 = 12     /* a unit whose target has no LUN 0 */
+  VSCSI_CAUSE_PAGES = 1,        /* no pages, or more than 65,536 */
+  VSCSI_CAUSE_FEATURES = 2,     /* no VSCSI_F_VERSION_1, or one that isn't among VSCSI_ACCEPTED_FEATURES */
+  VSCSI_CAUSE_QUEUE_COUNT = 3,  /* fewer than 3 queues, or more than 18 */
+  VSCSI_CAUSE_QUEUE_SIZE = 4,   /* a queue of fewer than 2 descriptors, or of more than 1,024 */
+  VSCSI_CAUSE_QUEUE_LAYOUT = 5, /* a queue can't lie so: `detail` is an `enum vscsi_layout` */
+  VSCSI_CAUSE_UNIT_COUNT = 8,   /* no units, or more than 64 */
+  VSCSI_CAUSE_UNIT_LUN = 9,     /* a LUN above 16,383 */
+  VSCSI_CAUSE_UNIT_BLOCKS = 10, /* no blocks, or more than VSCSI_MOST_BLOCKS */
+  VSCSI_CAUSE_UNIT_ORDER = 11,  /* a unit that doesn't stand above the one before it */
+  VSCSI_CAUSE_NO_LUN_0 = 12     /* a unit whose target has no LUN 0 */
 };
 
+/* Why a queue can't lie where the configuration says. */
 enum vscsi_layout {
-  VSCSI_SIZE = 1,      /* of a split queue a size that isn't a power of two */
-  VSCSI_ALIGNMENT = 2, /* an area isn't aligned: a split queue's to 16, 2 and 4, a packed one's to 16, 4 and 4 */
-  VSCSI_AREA = 3       /* an area isn't in guest memory */
+  VSCSI_LAYOUT_SIZE = 1,      /* of a split queue a size that isn't a power of two */
+  VSCSI_LAYOUT_ALIGNMENT = 2, /* an area isn't aligned: a split queue's to 16, 2 and 4, a packed one's to 16, 4 and 4 */
+  VSCSI_LAYOUT_AREA = 3       /* an area isn't in guest memory */
 };
 
+/* What vscsi_create tells of a configuration that isn't taken: `cause` is an `enum vscsi_cause`. */
 struct vscsi_fault {
   uint64_t place;
   uint32_t cause;
@@ -140,138 +154,113 @@ struct vscsi_fault {
 
 /* What a guest did that broke a queue. */
 enum vscsi_broken {
-  VSCSI_WHOLE = 0,
-  VSCSI_INDEX_JUMP = 1,              /* the available index ran too far ahead */
-  VSCSI_HEAD_OUT_OF_RANGE = 2,       /* an available entry names no descriptor */
-  VSCSI_NEXT_OUT_OF_RANGE = 3,       /* a descriptor goes on with none that there is */
-  VSCSI_CHAIN_TOO_LONG = 4,          /* a chain goes round, or has over 2^32 bytes */
-  VSCSI_BUFFER_OUTSIDE = 5,          /* a buffer isn't in guest memory */
-  VSCSI_READABLE_AFTER_WRITABLE = 6, /* a readable buffer behind a writable one */
-  VSCSI_ALREADY_OUTSTANDING = 7,     /* a head or id that the device still has */
-  VSCSI_BAD_INDIRECT = 8,            /* an indirect table that is malformed, or wasn't agreed to */
-  VSCSI_RING_OVERRUN = 9             /* more descriptors than the ring has */
+  VSCSI_BROKEN_NOT = 0,                     /* nothing: the queue is whole */
+  VSCSI_BROKEN_INDEX_JUMP = 1,              /* the available index ran too far ahead */
+  VSCSI_BROKEN_HEAD_OUT_OF_RANGE = 2,       /* an available entry names no descriptor */
+  VSCSI_BROKEN_NEXT_OUT_OF_RANGE = 3,       /* a descriptor goes on with none that there is */
+  VSCSI_BROKEN_CHAIN_TOO_LONG = 4,          /* a chain goes round, or has over 2^32 bytes */
+  VSCSI_BROKEN_BUFFER_OUTSIDE = 5,          /* a buffer isn't in guest memory */
+  VSCSI_BROKEN_READABLE_AFTER_WRITABLE = 6, /* a readable buffer behind a writable one */
+  VSCSI_BROKEN_ALREADY_OUTSTANDING = 7,     /* a head or id that the device still has */
+  VSCSI_BROKEN_BAD_INDIRECT = 8,            /* an indirect table that is malformed, or wasn't agreed to */
+  VSCSI_BROKEN_RING_OVERRUN = 9             /* more descriptors than the ring has */
 };
 
-/* What the library exports. Callers use what stands below, which also tests for null and for lengths. */
-uint32_t vscsi_raw_create(struct vscsi *device, uint32_t pages, uint64_t features, const struct vscsi_queue *queues, size_t queue_count,
-                          const struct vscsi_unit *units, size_t unit_count, struct vscsi_fault *fault);
-uint32_t vscsi_raw_destroy(struct vscsi *device);
-uint32_t vscsi_raw_settle(struct vscsi *device, uint64_t *steps);
-uint32_t vscsi_raw_poke(struct vscsi *device, uint64_t addr, const uint8_t *bytes, size_t count);
-uint32_t vscsi_raw_peek(struct vscsi *device, uint64_t addr, uint8_t *into, size_t count);
-uint32_t vscsi_raw_owed(struct vscsi *device, uint32_t *queues);
-uint32_t vscsi_raw_status(struct vscsi *device, uint8_t *status);
-uint32_t vscsi_raw_broken(struct vscsi *device, uint16_t queue, uint32_t *fault);
-uint32_t vscsi_raw_progress(struct vscsi *device, uint16_t queue, uint64_t *accepted, uint64_t *used);
-uint32_t vscsi_raw_reset(struct vscsi *device, uint8_t target, uint16_t lun);
-uint32_t vscsi_raw_capacity(struct vscsi *device, uint8_t target, uint16_t lun, uint64_t *blocks);
-uint32_t vscsi_raw_blocks(struct vscsi *device, uint8_t target, uint16_t lun, uint64_t first, uint32_t count, uint8_t *into, size_t length);
-
-/* Whether so many items of a size are more than memory has room for. */
-static inline bool vscsi_is_long(size_t count, size_t size) { return count > PTRDIFF_MAX / size; }
-
 /* Makes the device of a configuration, with zeros for guest memory, of which nothing has happened yet. A guest that had
- * written its queues already: copy guest memory in before the first vscsi_settle.
- * VSCSI_IN_USE; VSCSI_BAD_CONFIG, and then `fault` says why; VSCSI_NO_MEMORY, also in the place of VSCSI_BAD_CONFIG. */
-static inline enum vscsi_answer vscsi_create(struct vscsi *device, const struct vscsi_config *config, struct vscsi_fault *fault) {
-  static const struct vscsi_queue no_queue = {0, 0, 0, 0};
-  static const struct vscsi_unit no_unit = {0, 0, 0, 0};
-  if (!device || !config || !fault || (!config->queues && config->queue_count) || (!config->units && config->unit_count)) return VSCSI_NULL;
-  if (vscsi_is_long(config->queue_count, sizeof no_queue) || vscsi_is_long(config->unit_count, sizeof no_unit)) return VSCSI_BAD_LENGTH;
-  return (enum vscsi_answer)vscsi_raw_create(device, config->pages, config->features, config->queues ? config->queues : &no_queue,
-                                             config->queue_count, config->units ? config->units : &no_unit, config->unit_count, fault);
-}
+ * written its queues already: copy guest memory in before the device first serves. `fault` is optional.
+ * VSCSI_BAD_LENGTH where the size of the configuration isn't the library's; VSCSI_IN_USE; VSCSI_BAD_CONFIG, and then `fault`
+ * says why; VSCSI_NO_MEMORY, also in the place of VSCSI_BAD_CONFIG. */
+enum vscsi_answer vscsi_create(struct vscsi *device, const struct vscsi_config *config, struct vscsi_fault *fault);
 
 /* Lets go of a device and of all its memory; then there is none here, and another may be made.
  * VSCSI_NO_DEVICE. */
-static inline enum vscsi_answer vscsi_destroy(struct vscsi *device) {
-  return device ? (enum vscsi_answer)vscsi_raw_destroy(device) : VSCSI_NULL;
-}
+enum vscsi_answer vscsi_destroy(struct vscsi *device);
 
 /* Serves all that the guest made available on all queues, until nothing is left to do, and counts the steps. Called when a
- * driver notified a queue, or whenever; where there is nothing to do it costs a look at each queue. It ends whatever the
- * guest wrote. The control and the request queues then have no chain outstanding; event buffers are held until an event
- * wants them. A unit takes pages of its disk as they are first written, and about 100 KiB for its latest steps as the first
- * 1,400 requests come; a request after these leaves nothing behind.
+ * driver notified a queue, or whenever; where there is nothing to do it costs a look at each queue. The control and the
+ * request queues then have no chain outstanding; event buffers are held until an event wants them. `steps` is optional.
+ *
+ * A guest can keep this call busy for ever: its own requests may make chains available, as a READ whose data the guest has
+ * written into a ring. A host whose guests aren't trusted, or that wants its thread back, uses vscsi_serve.
+ *
+ * A unit takes pages of its disk as they are first written, and about 100 KiB for its latest steps as the first 1,400
+ * requests come. While it works, the call takes room for the descriptors and the data of what it serves, and gives that
+ * back; a request leaves nothing behind otherwise.
  * VSCSI_NO_DEVICE; VSCSI_NO_MEMORY where malloc refused what was next: what was served before stands, its notifications
  * are owed, and a later call goes on from there. */
-static inline enum vscsi_answer vscsi_settle(struct vscsi *device, uint64_t *steps) {
-  return device && steps ? (enum vscsi_answer)vscsi_raw_settle(device, steps) : VSCSI_NULL;
-}
+enum vscsi_answer vscsi_settle(struct vscsi *device, uint64_t *steps);
+
+/* Serves in portions: as vscsi_settle, but it takes new chains of those queues alone whose bit is set in `queues` (bit 0 is
+ * queue 0), and at most `most` steps. What was begun before goes on, of whichever queue. It ends whatever the guest wrote. A
+ * request takes 7 steps at most, a control request 2 and 2 more for each unit that it visits, an event buffer 1.
+ *
+ * `more` tells whether a step is left, of these queues or of what was begun: then `most` steps were taken, and the same call
+ * goes on from there. Where it is false those queues have no chain left, unless a fault broke one. Within one call lower
+ * queue numbers are fetched first, so a queue that feeds itself holds up those above it. A host that must be fair gives one
+ * bit at a time, and goes round. `steps`, how many were taken, and `more` are optional.
+ * VSCSI_NO_DEVICE; VSCSI_NO_MEMORY where malloc refused what was next: what was served before stands, its notifications
+ * are owed, and a later call goes on from there; how many steps these were isn't told. */
+enum vscsi_answer vscsi_serve(struct vscsi *device, uint32_t queues, uint64_t most, uint64_t *steps, bool *more);
 
 /* Copies bytes into guest memory at an address.
  * VSCSI_NO_DEVICE; VSCSI_OUTSIDE where one would lie outside. */
-static inline enum vscsi_answer vscsi_poke(struct vscsi *device, uint64_t addr, const void *bytes, size_t count) {
-  static const uint8_t nothing = 0;
-  if (!device || (!bytes && count)) return VSCSI_NULL;
-  if (vscsi_is_long(count, 1)) return VSCSI_BAD_LENGTH;
-  return (enum vscsi_answer)vscsi_raw_poke(device, addr, bytes ? (const uint8_t *)bytes : &nothing, count);
-}
+enum vscsi_answer vscsi_poke(struct vscsi *device, uint64_t addr, const void *bytes, size_t count);
 
 /* Copies bytes of guest memory out.
  * VSCSI_NO_DEVICE; VSCSI_OUTSIDE where one lies outside. */
-static inline enum vscsi_answer vscsi_peek(struct vscsi *device, uint64_t addr, void *into, size_t count) {
-  uint8_t nothing = 0;
-  if (!device || (!into && count)) return VSCSI_NULL;
-  if (vscsi_is_long(count, 1)) return VSCSI_BAD_LENGTH;
-  return (enum vscsi_answer)vscsi_raw_peek(device, addr, into ? (uint8_t *)into : &nothing, count);
-}
+enum vscsi_answer vscsi_peek(const struct vscsi *device, uint64_t addr, void *into, size_t count);
 
-/* Whose drivers are owed a notification since this was last asked: bit 0 is queue 0. Asked after each vscsi_settle, also
- * after one that answered VSCSI_NO_MEMORY; the host then notifies the driver of each of these queues (VIRTIO 1.2, 2.3).
+/* Whose drivers are owed a notification since this was last asked: bit 0 is queue 0. Asked after each vscsi_settle and
+ * vscsi_serve, also after one that answered VSCSI_NO_MEMORY; the host then notifies the driver of each of these queues
+ * (VIRTIO 1.2, 2.3).
  *
  * The device decides by the driver's flag as its own copy has it. A host that copies memory therefore looks at the flag
  * in the guest's memory once more, after it copied the used ring out there, and notifies where the driver has asked in
  * the meantime; or it notifies of every queue whose count of used chains rose (vscsi_progress), which is always right.
  * VSCSI_NO_DEVICE. */
-static inline enum vscsi_answer vscsi_owed(struct vscsi *device, uint32_t *queues) {
-  return device && queues ? (enum vscsi_answer)vscsi_raw_owed(device, queues) : VSCSI_NULL;
-}
+enum vscsi_answer vscsi_owed(struct vscsi *device, uint32_t *queues);
 
 /* The device's status: 64, DEVICE_NEEDS_RESET (VIRTIO 1.2, 2.1), where a guest broke a queue, else 0. The host sets that
  * bit in the status that the driver sees, and tells it by a configuration change notification.
  * VSCSI_NO_DEVICE. */
-static inline enum vscsi_answer vscsi_status(struct vscsi *device, uint8_t *status) {
-  return device && status ? (enum vscsi_answer)vscsi_raw_status(device, status) : VSCSI_NULL;
-}
+enum vscsi_answer vscsi_status(const struct vscsi *device, uint8_t *status);
 
 /* What broke a queue: an `enum vscsi_broken`. A broken queue takes no more chains; other queues go on. Nothing mends it
  * but a reset by the driver, for which the host destroys the device and makes another.
  * VSCSI_NO_DEVICE; VSCSI_NO_QUEUE. */
-static inline enum vscsi_answer vscsi_broken(struct vscsi *device, uint16_t queue, uint32_t *fault) {
-  return device && fault ? (enum vscsi_answer)vscsi_raw_broken(device, queue, fault) : VSCSI_NULL;
-}
+enum vscsi_answer vscsi_broken(const struct vscsi *device, uint16_t queue, uint32_t *fault);
 
-/* How many chains a queue took, and how many of them it gave back. Modulo 2^16 these are a split queue's position in the
- * available ring and its used index.
+/* How many chains a queue took, and how many of them it gave back; both are optional. Modulo 2^16 these are a split queue's
+ * position in the available ring and its used index.
  * VSCSI_NO_DEVICE; VSCSI_NO_QUEUE. */
-static inline enum vscsi_answer vscsi_progress(struct vscsi *device, uint16_t queue, uint64_t *accepted, uint64_t *used) {
-  return device && accepted && used ? (enum vscsi_answer)vscsi_raw_progress(device, queue, accepted, used) : VSCSI_NULL;
-}
+enum vscsi_answer vscsi_progress(const struct vscsi *device, uint16_t queue, uint64_t *accepted, uint64_t *used);
 
 /* The operator's hard reset of a unit: its tasks that haven't run end with response RESET, its next command is told
- * (29/00), and an event goes to the event queue. vscsi_settle does what follows.
+ * (29/00), and an event goes to the event queue. vscsi_settle or vscsi_serve does what follows.
  * VSCSI_NO_DEVICE; VSCSI_NO_UNIT; VSCSI_NO_MEMORY. */
-static inline enum vscsi_answer vscsi_reset(struct vscsi *device, uint8_t target, uint16_t lun) {
-  return device ? (enum vscsi_answer)vscsi_raw_reset(device, target, lun) : VSCSI_NULL;
-}
+enum vscsi_answer vscsi_reset(struct vscsi *device, uint8_t target, uint16_t lun);
 
 /* How many blocks a unit has.
  * VSCSI_NO_DEVICE; VSCSI_NO_UNIT. */
-static inline enum vscsi_answer vscsi_capacity(struct vscsi *device, uint8_t target, uint16_t lun, uint64_t *blocks) {
-  return device && blocks ? (enum vscsi_answer)vscsi_raw_capacity(device, target, lun, blocks) : VSCSI_NULL;
-}
+enum vscsi_answer vscsi_capacity(const struct vscsi *device, uint8_t target, uint16_t lun, uint64_t *blocks);
 
 /* Copies blocks of a unit out, as its commands left them; `length` is `count` times 512.
  * The first of these, in this order, that is so: VSCSI_NO_DEVICE; VSCSI_BAD_LENGTH; VSCSI_NO_UNIT; VSCSI_OUTSIDE;
  * VSCSI_NO_MEMORY, never where `count` is 0. */
-static inline enum vscsi_answer vscsi_blocks(struct vscsi *device, uint8_t target, uint16_t lun, uint64_t first, uint32_t count, void *into,
-                                             size_t length) {
-  uint8_t nothing = 0;
-  if (!device || (!into && length)) return VSCSI_NULL;
-  if (vscsi_is_long(length, 1)) return VSCSI_BAD_LENGTH;
-  return (enum vscsi_answer)vscsi_raw_blocks(device, target, lun, first, count, into ? (uint8_t *)into : &nothing, length);
-}
+enum vscsi_answer vscsi_blocks(const struct vscsi *device, uint8_t target, uint16_t lun, uint64_t first, uint32_t count, void *into,
+                               size_t length);
+
+/* The version of the library, as VSCSI_VERSION tells that of the header. */
+uint32_t vscsi_version(void);
+
+/* The features that any host may offer with this library: the VSCSI_FEATURES of its own header. */
+uint64_t vscsi_features(void);
+
+/* The text of an answer, of an `enum vscsi_cause`, and of an `enum vscsi_broken`, in English, without an end of line. Any
+ * number has one, and it stays. */
+const char *vscsi_answer_text(enum vscsi_answer answer);
+const char *vscsi_cause_text(uint32_t cause);
+const char *vscsi_broken_text(uint32_t fault);
 
 #ifdef __cplusplus
 }

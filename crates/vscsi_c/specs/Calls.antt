@@ -15,8 +15,9 @@ use Rattle.deeds.specs.Turns.{Turns, IsStep}
 use Rattle.config.specs.Config.{is_config}
 use Rattle.world.specs.Opening.{IsOpening}
 use Rattle.config.specs.ConfigFault.{IsFault}
-use Rattle.world.specs.Settling.{ServesOrWants}
-use Rattle.world.specs.Promise.{SettlesAsPromised}
+use Rattle.world.specs.Settling.{asks, ServesSomeOrWants, ServesOrWants}
+use Rattle.world.specs.Promise.{ServesAsPromised, SettlesAsPromised}
+use Rattle.world.specs.declared.service.Served.{Served as Portion}
 use Rattle.world.specs.Views.{unit_at, IsPlaceOf, fault_of, device_status}
 use Rattle.world.specs.Notifications.{binary, owed_of, IsAsked}
 use Rattle.config.specs.declared.config.Config.{Config}
@@ -46,6 +47,20 @@ SettlesWorld w old a new w' = ⊥
 
 abbrev pub Settles : ℕ → ℕ → Served → Answer → Served → Type 0
 Settles old new d a d' = SettlesWorld d.world old a new d'.world × (d'.told ≡ d.told)
+
+-- as `World::serve`; of what was served before memory was refused nothing is told
+abbrev pub ServesWorld : ℕ → ℕ → PlainWorld → Portion → Answer → Portion → PlainWorld → Type 0
+ServesWorld queues most w old answer.Done new w' = ServesSomeOrWants (asks queues) most w (Ok new) w'
+    × ServesAsPromised (asks queues) w (Ok new) w'
+ServesWorld queues most w old answer.NoMemory new w' =
+    (x : NoMemory) × ServesSomeOrWants (asks queues) most w (Err x) w' × ServesAsPromised (asks queues) w (Err x) w'
+    × (new ≡ old)
+ServesWorld queues most w old a new w' = ⊥
+
+abbrev pub ServesPortion : ℕ → ℕ → ℕ → Bool → ℕ → Bool → Served → Answer → Served → Type 0
+ServesPortion queues most steps more steps' more' d a d' =
+    ServesWorld queues most d.world (record { steps = steps; more = more }) a (record { steps = steps'; more = more' }) d'.world
+    × (d'.told ≡ d.told)
 
 -- as `World::poke`
 abbrev pub PokesWorld : PlainWorld → Write → Answer → PlainWorld → Type 0

@@ -2,7 +2,7 @@
 
 ghost use Rattle.std.specs.Prelude.{◌≡◌};
 ghost use Rattle.vscsi_c.specs.Kept.{kept_in};
-ghost use Rattle.vscsi_c.specs.Calls.{Serving, Settles, Pokes, Peeks, Owes, IsStatus, Breaks, Counts, Resets, Holds, Gives, Creates, Destroys};
+ghost use Rattle.vscsi_c.specs.Calls.{Serving, Settles, ServesPortion, Pokes, Peeks, Owes, IsStatus, Breaks, Counts, Resets, Holds, Gives, Creates, Destroys};
 
 use crate::answer::Answer;
 use crate::device::Device;
@@ -69,6 +69,27 @@ pub(crate) fn settle(device: &mut Device, alloc: Global, steps: &mut u64) -> Ans
         return Answer::NoDevice;
     };
     let answer = served.settle(steps);
+    device.put(served);
+    answer
+}
+
+/// Serves some queues in at most so many steps, and says in how many, and whether more is left to do.
+#[tactic(auto, using(crate::proofs::Serve::serving, crate::proofs::Serve::without))]
+pub(crate) fn serve(
+    device: &mut Device,
+    alloc: Global,
+    queues: u32,
+    most: u64,
+    steps: &mut u64,
+    more: &mut bool,
+) -> Answer
+    ensures { Serving (ServesPortion queues most steps.old more.old steps.new more.new)
+        ((steps.new ≡ steps.old) × (more.new ≡ more.old)) (kept_in device.old) result (kept_in device.new) }
+{
+    let Some(mut served) = device.take(alloc) else {
+        return Answer::NoDevice;
+    };
+    let answer = served.serve(queues, most, steps, more);
     device.put(served);
     answer
 }

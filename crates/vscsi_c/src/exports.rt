@@ -4,7 +4,7 @@
 ghost use Rattle.std.specs.Prelude.{◌≡◌};
 ghost use Rattle.vscsi_c.specs.Answers.{Tells};
 ghost use Rattle.vscsi_c.specs.Kept.{kept_in};
-ghost use Rattle.vscsi_c.specs.Calls.{Serving, Settles, Pokes, Peeks, Owes, IsStatus, Breaks, Counts, Resets, Holds, Gives, Creates, Destroys};
+ghost use Rattle.vscsi_c.specs.Calls.{Serving, Settles, ServesPortion, Pokes, Peeks, Owes, IsStatus, Breaks, Counts, Resets, Holds, Gives, Creates, Destroys};
 
 use crate::calls;
 use crate::device::Device;
@@ -43,6 +43,22 @@ pub extern "C" fn vscsi_raw_settle(device: &mut Device, alloc: Global, steps: &m
         (kept_in device.new)) }
 {
     calls::settle(device, alloc, steps).code()
+}
+
+/// Serves some queues in at most so many steps, and says in how many, and whether more is left to do.
+#[unsafe(no_mangle)]
+pub extern "C" fn vscsi_raw_serve(
+    device: &mut Device,
+    alloc: Global,
+    queues: u32,
+    most: u64,
+    steps: &mut u64,
+    more: &mut bool,
+) -> u32
+    ensures { Tells result (λ a. Serving (ServesPortion queues most steps.old more.old steps.new more.new)
+        ((steps.new ≡ steps.old) × (more.new ≡ more.old)) (kept_in device.old) a (kept_in device.new)) }
+{
+    calls::serve(device, alloc, queues, most, steps, more).code()
 }
 
 /// The guest's write.

@@ -1,7 +1,7 @@
 //! What each call does with a device.
 
 ghost use Rattle.std.specs.Prelude.{◌≡◌};
-ghost use Rattle.vscsi_c.specs.Calls.{Settles, Pokes, Peeks, Owes, IsStatus, Breaks, Counts, Resets, Holds, Gives, number_of};
+ghost use Rattle.vscsi_c.specs.Calls.{Settles, ServesPortion, Pokes, Peeks, Owes, IsStatus, Breaks, Counts, Resets, Holds, Gives, number_of};
 
 use crate::answer::Answer;
 use deeds::Event;
@@ -42,6 +42,26 @@ impl Served {
         match self.world.settle() {
             Ok(count) => {
                 *steps = count;
+                Answer::Done
+            }
+            Err(_) => Answer::NoMemory,
+        }
+    }
+
+    /// Serves some queues in at most so many steps, and says in how many, and whether more is left to do.
+    pub(crate) fn serve(
+        &mut self,
+        queues: u32,
+        most: u64,
+        steps: &mut u64,
+        more: &mut bool,
+    ) -> Answer
+        ensures { ServesPortion queues most steps.old more.old steps.new more.new self.old result self.new }
+    {
+        match self.world.serve(queues, most) {
+            Ok(served) => {
+                *steps = served.steps;
+                *more = served.more;
                 Answer::Done
             }
             Err(_) => Answer::NoMemory,

@@ -1,0 +1,162 @@
+/* The calls of vscsi.h. Each tests what C alone can test, that a pointer isn't null and that a length is one, and hands the
+ * rest to an export of the device. The exports' names are hidden in the finished library. */
+#include "vscsi.h"
+
+/* What the device exports (`src/exports.rt`). */
+uint32_t vscsi_raw_create(struct vscsi *device, uint32_t pages, uint64_t features, const struct vscsi_queue *queues, size_t queue_count,
+                          const struct vscsi_unit *units, size_t unit_count, struct vscsi_fault *fault);
+uint32_t vscsi_raw_destroy(struct vscsi *device);
+uint32_t vscsi_raw_settle(struct vscsi *device, uint64_t *steps);
+uint32_t vscsi_raw_serve(struct vscsi *device, uint32_t queues, uint64_t most, uint64_t *steps, bool *more);
+uint32_t vscsi_raw_poke(struct vscsi *device, uint64_t addr, const uint8_t *bytes, size_t count);
+uint32_t vscsi_raw_peek(struct vscsi *device, uint64_t addr, uint8_t *into, size_t count);
+uint32_t vscsi_raw_owed(struct vscsi *device, uint32_t *queues);
+uint32_t vscsi_raw_status(struct vscsi *device, uint8_t *status);
+uint32_t vscsi_raw_broken(struct vscsi *device, uint16_t queue, uint32_t *fault);
+uint32_t vscsi_raw_progress(struct vscsi *device, uint16_t queue, uint64_t *accepted, uint64_t *used);
+uint32_t vscsi_raw_reset(struct vscsi *device, uint8_t target, uint16_t lun);
+uint32_t vscsi_raw_capacity(struct vscsi *device, uint8_t target, uint16_t lun, uint64_t *blocks);
+uint32_t vscsi_raw_blocks(struct vscsi *device, uint8_t target, uint16_t lun, uint64_t first, uint32_t count, uint8_t *into, size_t length);
+
+/* Returns true if so many items of a size are more than memory has room for. */
+static bool is_long(size_t count, size_t size) { return count > PTRDIFF_MAX / size; }
+
+/* Returns the device of a call that only looks. An export takes the device out of where it stands and puts it back, so it
+ * writes there; afterwards all is as it was. */
+static struct vscsi *looked_at(const struct vscsi *device) { return (struct vscsi *)(uintptr_t)device; }
+
+enum vscsi_answer vscsi_create(struct vscsi *device, const struct vscsi_config *config, struct vscsi_fault *fault) {
+  static const struct vscsi_queue no_queue = {0, 0, 0, 0};
+  static const struct vscsi_unit no_unit = {0, 0, 0, 0};
+  struct vscsi_fault unread = {0, 0, 0};
+  if (!device || !config) return VSCSI_NULL;
+  if (config->size != sizeof *config) return VSCSI_BAD_LENGTH;
+  if ((!config->queues && config->queue_count) || (!config->units && config->unit_count)) return VSCSI_NULL;
+  if (is_long(config->queue_count, sizeof no_queue) || is_long(config->unit_count, sizeof no_unit)) return VSCSI_BAD_LENGTH;
+  return (enum vscsi_answer)vscsi_raw_create(device, config->pages, config->features, config->queues ? config->queues : &no_queue,
+                                             config->queue_count, config->units ? config->units : &no_unit, config->unit_count,
+                                             fault ? fault : &unread);
+}
+
+enum vscsi_answer vscsi_destroy(struct vscsi *device) { return device ? (enum vscsi_answer)vscsi_raw_destroy(device) : VSCSI_NULL; }
+
+enum vscsi_answer vscsi_settle(struct vscsi *device, uint64_t *steps) {
+  uint64_t unread = 0;
+  return device ? (enum vscsi_answer)vscsi_raw_settle(device, steps ? steps : &unread) : VSCSI_NULL;
+}
+
+enum vscsi_answer vscsi_serve(struct vscsi *device, uint32_t queues, uint64_t most, uint64_t *steps, bool *more) {
+  uint64_t taken = 0;
+  bool left = false;
+  if (!device) return VSCSI_NULL;
+  enum vscsi_answer answer = (enum vscsi_answer)vscsi_raw_serve(device, queues, most, &taken, &left);
+  if (answer == VSCSI_DONE && steps) *steps = taken;
+  if (answer == VSCSI_DONE && more) *more = left;
+  return answer;
+}
+
+enum vscsi_answer vscsi_poke(struct vscsi *device, uint64_t addr, const void *bytes, size_t count) {
+  static const uint8_t nothing = 0;
+  if (!device || (!bytes && count)) return VSCSI_NULL;
+  if (is_long(count, 1)) return VSCSI_BAD_LENGTH;
+  return (enum vscsi_answer)vscsi_raw_poke(device, addr, bytes ? (const uint8_t *)bytes : &nothing, count);
+}
+
+enum vscsi_answer vscsi_peek(const struct vscsi *device, uint64_t addr, void *into, size_t count) {
+  uint8_t nothing = 0;
+  if (!device || (!into && count)) return VSCSI_NULL;
+  if (is_long(count, 1)) return VSCSI_BAD_LENGTH;
+  return (enum vscsi_answer)vscsi_raw_peek(looked_at(device), addr, into ? (uint8_t *)into : &nothing, count);
+}
+
+enum vscsi_answer vscsi_owed(struct vscsi *device, uint32_t *queues) {
+  return device && queues ? (enum vscsi_answer)vscsi_raw_owed(device, queues) : VSCSI_NULL;
+}
+
+enum vscsi_answer vscsi_status(const struct vscsi *device, uint8_t *status) {
+  return device && status ? (enum vscsi_answer)vscsi_raw_status(looked_at(device), status) : VSCSI_NULL;
+}
+
+enum vscsi_answer vscsi_broken(const struct vscsi *device, uint16_t queue, uint32_t *fault) {
+  return device && fault ? (enum vscsi_answer)vscsi_raw_broken(looked_at(device), queue, fault) : VSCSI_NULL;
+}
+
+enum vscsi_answer vscsi_progress(const struct vscsi *device, uint16_t queue, uint64_t *accepted, uint64_t *used) {
+  uint64_t unread[2] = {0, 0};
+  if (!device) return VSCSI_NULL;
+  return (enum vscsi_answer)vscsi_raw_progress(looked_at(device), queue, accepted ? accepted : &unread[0], used ? used : &unread[1]);
+}
+
+enum vscsi_answer vscsi_reset(struct vscsi *device, uint8_t target, uint16_t lun) {
+  return device ? (enum vscsi_answer)vscsi_raw_reset(device, target, lun) : VSCSI_NULL;
+}
+
+enum vscsi_answer vscsi_capacity(const struct vscsi *device, uint8_t target, uint16_t lun, uint64_t *blocks) {
+  return device && blocks ? (enum vscsi_answer)vscsi_raw_capacity(looked_at(device), target, lun, blocks) : VSCSI_NULL;
+}
+
+enum vscsi_answer vscsi_blocks(const struct vscsi *device, uint8_t target, uint16_t lun, uint64_t first, uint32_t count, void *into, size_t length) {
+  uint8_t nothing = 0;
+  if (!device || (!into && length)) return VSCSI_NULL;
+  if (is_long(length, 1)) return VSCSI_BAD_LENGTH;
+  return (enum vscsi_answer)vscsi_raw_blocks(looked_at(device), target, lun, first, count, into ? (uint8_t *)into : &nothing, length);
+}
+
+uint32_t vscsi_version(void) { return VSCSI_VERSION; }
+
+uint64_t vscsi_features(void) { return VSCSI_FEATURES; }
+
+/* Returns the text of a number among so many, or the text for any other number. */
+static const char *text_of(const char *const *texts, size_t count, uint32_t number, const char *other) {
+  return number < count && texts[number] ? texts[number] : other;
+}
+
+#define TEXT_OF(texts, number, other) text_of(texts, sizeof texts / sizeof *texts, number, other)
+
+const char *vscsi_answer_text(enum vscsi_answer answer) {
+  static const char *const texts[] = {
+      [VSCSI_DONE] = "done",
+      [VSCSI_NO_MEMORY] = "no memory",
+      [VSCSI_BAD_CONFIG] = "the device doesn't take the configuration",
+      [VSCSI_NO_DEVICE] = "there is no device",
+      [VSCSI_IN_USE] = "there is a device already",
+      [VSCSI_OUTSIDE] = "a byte outside guest memory, or a block outside the unit",
+      [VSCSI_NO_QUEUE] = "there is no such queue",
+      [VSCSI_NO_UNIT] = "there is no such unit",
+      [VSCSI_BAD_LENGTH] = "a wrong length",
+      [VSCSI_NULL] = "a null pointer",
+  };
+  return TEXT_OF(texts, (uint32_t)answer, "an unknown answer");
+}
+
+const char *vscsi_cause_text(uint32_t cause) {
+  static const char *const texts[] = {
+      [VSCSI_CAUSE_PAGES] = "no pages of guest memory, or too many",
+      [VSCSI_CAUSE_FEATURES] = "features without VIRTIO_F_VERSION_1, or with one that the device doesn't know",
+      [VSCSI_CAUSE_QUEUE_COUNT] = "too few queues, or too many",
+      [VSCSI_CAUSE_QUEUE_SIZE] = "a queue of too few descriptors, or of too many",
+      [VSCSI_CAUSE_QUEUE_LAYOUT] = "a queue that can't lie where it should",
+      [VSCSI_CAUSE_UNIT_COUNT] = "no units, or too many",
+      [VSCSI_CAUSE_UNIT_LUN] = "a LUN that is too high",
+      [VSCSI_CAUSE_UNIT_BLOCKS] = "a unit of no blocks, or of too many",
+      [VSCSI_CAUSE_UNIT_ORDER] = "a unit that doesn't stand above the one before it",
+      [VSCSI_CAUSE_NO_LUN_0] = "a unit whose target has no LUN 0",
+  };
+  return TEXT_OF(texts, cause, "an unknown cause");
+}
+
+const char *vscsi_broken_text(uint32_t fault) {
+  static const char *const texts[] = {
+      [VSCSI_BROKEN_NOT] = "not broken",
+      [VSCSI_BROKEN_INDEX_JUMP] = "the available index ran too far ahead",
+      [VSCSI_BROKEN_HEAD_OUT_OF_RANGE] = "an available entry names no descriptor",
+      [VSCSI_BROKEN_NEXT_OUT_OF_RANGE] = "a descriptor goes on with none that there is",
+      [VSCSI_BROKEN_CHAIN_TOO_LONG] = "a chain goes round, or is too long",
+      [VSCSI_BROKEN_BUFFER_OUTSIDE] = "a buffer isn't in guest memory",
+      [VSCSI_BROKEN_READABLE_AFTER_WRITABLE] = "a readable buffer behind a writable one",
+      [VSCSI_BROKEN_ALREADY_OUTSTANDING] = "a head or id that the device still has",
+      [VSCSI_BROKEN_BAD_INDIRECT] = "an indirect table that is malformed, or wasn't agreed to",
+      [VSCSI_BROKEN_RING_OVERRUN] = "more descriptors than the ring has",
+  };
+  return TEXT_OF(texts, fault, "an unknown fault");
+}

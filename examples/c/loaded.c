@@ -1,0 +1,88 @@
+// A host that loads the library as it runs, and finds each call of vscsi.h there by its name.
+//
+//     loaded FILE    FILE is the shared library
+#include <dlfcn.h>
+#include <stdio.h>
+#include <stdlib.h>
+
+#include "vscsi.h"
+
+enum { QUEUES = 3, SIZE = 8, PAGES = 16 };
+
+// The calls, by their names.
+#define EACH(of)                                                                                                                 \
+  of(vscsi_create) of(vscsi_destroy) of(vscsi_settle) of(vscsi_serve) of(vscsi_poke) of(vscsi_peek) of(vscsi_owed) of(vscsi_status) \
+      of(vscsi_broken) of(vscsi_progress) of(vscsi_reset) of(vscsi_capacity) of(vscsi_blocks) of(vscsi_version) of(vscsi_features) \
+          of(vscsi_answer_text) of(vscsi_cause_text) of(vscsi_broken_text)
+
+#define FIELD(name) __typeof__(&name) name;
+#define LOAD(name) library.name = (__typeof__(&name))found(handle, #name);
+
+static struct {
+  EACH(FIELD)
+} library;
+
+static unsigned calls;
+
+static void *found(void *handle, const char *name) {
+  void *at = dlsym(handle, name);
+  if (!at) {
+    fprintf(stderr, "loaded: %s\n", dlerror());
+    exit(1);
+  }
+  calls++;
+  return at;
+}
+
+static void must(const char *call, enum vscsi_answer answer) {
+  if (answer == VSCSI_DONE) return;
+  fprintf(stderr, "loaded: %s: %s\n", call, library.vscsi_answer_text(answer));
+  exit(1);
+}
+
+static uint64_t area(unsigned queue) { return 0x1000 * (queue + 1); }
+
+int main(int count, char **words) {
+  void *handle = count == 2 ? dlopen(words[1], RTLD_NOW | RTLD_LOCAL) : NULL;
+  if (!handle) {
+    fprintf(stderr, "loaded: %s\n", count == 2 ? dlerror() : "no library");
+    return 1;
+  }
+  EACH(LOAD)
+  if (library.vscsi_version() >> 16 != VSCSI_VERSION_MAJOR) {
+    fprintf(stderr, "loaded: the library has another major version\n");
+    return 1;
+  }
+
+  struct vscsi device = {0};
+  const struct vscsi_unit unit = {.blocks = 1000, .calm = 1};
+  struct vscsi_queue queues[QUEUES];
+  for (unsigned q = 0; q < QUEUES; q++)
+    queues[q] = (struct vscsi_queue){.desc = area(q), .driver = area(q) + 0x400, .device = area(q) + 0x800, .size = SIZE};
+  struct vscsi_config config = {.size = sizeof config,
+                                .features = VSCSI_F_VERSION_1 & library.vscsi_features(),
+                                .queues = queues,
+                                .queue_count = QUEUES,
+                                .units = &unit,
+                                .unit_count = 1};
+  struct vscsi_fault fault;
+  uint64_t blocks;
+  bool more;
+  if (library.vscsi_create(&device, &config, &fault) != VSCSI_BAD_CONFIG) return 1;
+  printf("refused: %s\n", library.vscsi_cause_text(fault.cause));
+  config.pages = PAGES;
+  must("create", library.vscsi_create(&device, &config, &fault));
+
+  // a queue whose available index ran too far ahead
+  must("poke", library.vscsi_poke(&device, area(2) + 0x402, "\x09", 1));
+  must("serve", library.vscsi_serve(&device, 1u << 2, 100, NULL, &more));
+  uint32_t broken;
+  must("broken", library.vscsi_broken(&device, 2, &broken));
+  printf("queue 2: %s\n", library.vscsi_broken_text(broken));
+  must("capacity", library.vscsi_capacity(&device, 0, 0, &blocks));
+  printf("blocks: %u\n", (unsigned)blocks);
+  must("destroy", library.vscsi_destroy(&device));
+  printf("destroyed twice: %s\n", library.vscsi_answer_text(library.vscsi_destroy(&device)));
+  printf("calls: %u\n", calls);
+  return dlclose(handle) ? 1 : 0;
+}
