@@ -66,14 +66,16 @@ enum vscsi_answer {
 
 /* The features that the device knows (VIRTIO 1.2, 6). A driver has to agree to VSCSI_F_VERSION_1. By VSCSI_F_RING_PACKED
  * it chooses packed queues in place of split ones, by VSCSI_F_INDIRECT_DESC chains that end in a table of descriptors,
- * by VSCSI_F_EVENT_IDX notifications of the completions alone that it names. */
+ * by VSCSI_F_EVENT_IDX notifications of the completions alone that it names, and by VSCSI_F_CHANGE (5.6.3) to be told of
+ * capacities that change. */
+#define VSCSI_F_CHANGE (UINT64_C(1) << 2)
 #define VSCSI_F_INDIRECT_DESC (UINT64_C(1) << 28)
 #define VSCSI_F_EVENT_IDX (UINT64_C(1) << 29)
 #define VSCSI_F_VERSION_1 (UINT64_C(1) << 32)
 #define VSCSI_F_RING_PACKED (UINT64_C(1) << 34)
 
 /* The features that any host may offer. */
-#define VSCSI_FEATURES (VSCSI_F_VERSION_1 | VSCSI_F_RING_PACKED | VSCSI_F_INDIRECT_DESC)
+#define VSCSI_FEATURES (VSCSI_F_VERSION_1 | VSCSI_F_RING_PACKED | VSCSI_F_INDIRECT_DESC | VSCSI_F_CHANGE)
 
 /* All features that vscsi_create takes. The device never writes `avail_event` or its event area. A driver of a split
  * queue that agreed to VSCSI_F_EVENT_IDX notifies only of the chain that `avail_event` names, so it stops after its

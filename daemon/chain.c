@@ -1,0 +1,70 @@
+#include "chain.h"
+
+#include <stdlib.h>
+#include <string.h>
+
+#include "bytes.h"
+#include "moves.h"
+
+bool source_load(const struct source *source, uint64_t addr, void *into, size_t count) {
+  return source->device ? device_peek(source->device, addr, into, count) : memory_load(source->memory, addr, into, count);
+}
+
+bool source_descriptor(const struct source *source, uint64_t addr, struct descriptor *descriptor) {
+  uint8_t bytes[DESCRIPTOR];
+  if (!source_load(source, addr, bytes, sizeof bytes)) return false;
+  *descriptor = (struct descriptor){.addr = little_get(bytes, 8),
+                                    .length = (uint32_t)little_get(bytes + 8, 4),
+                                    .third = (uint16_t)little_get(bytes + 12, 2),
+                                    .fourth = (uint16_t)little_get(bytes + 14, 2)};
+  return true;
+}
+
+enum fetched chain_add(struct chain *chain, uint64_t addr, uint32_t length, bool writable) {
+  if (chain->count == MOST_SEGMENTS || (!writable && chain->out) || addr > UINT64_MAX - length) return BROKEN;
+  if (chain->count % 16 == 0) {
+    struct segment *more = realloc(chain->segments, (chain->count + 16) * sizeof *more);
+    if (!more) return NO_ROOM;
+    chain->segments = more;
+  }
+  chain->segments[chain->count++] = (struct segment){addr, length, writable};
+  if (writable) chain->out += length;
+  else chain->in += length;
+  return chain->in + chain->out > UINT32_MAX ? BROKEN : FETCHED;
+}
+
+enum fetched chain_add_table(struct chain *chain, const struct source *source, uint64_t addr, uint32_t length, bool packed) {
+  uint32_t entries = length / DESCRIPTOR;
+  if (length == 0 || length % DESCRIPTOR || entries > MOST_SEGMENTS || addr > UINT64_MAX - length) return BROKEN;
+  // The device's copy has a table only once it is brought there.
+  if (source->device && !move_in(source->memory, addr, source->device, addr, length)) return BROKEN;
+  for (uint32_t at = 0, seen = 0; seen < entries; seen++) {
+    struct descriptor it;
+    if (!source_descriptor(source, addr + (uint64_t)at * DESCRIPTOR, &it)) return BROKEN;
+    uint16_t flags = packed ? it.fourth : it.third;
+    if (!packed && flags & FLAG_INDIRECT) return BROKEN;
+    enum fetched added = chain_add(chain, it.addr, it.length, flags & FLAG_WRITE);
+    if (added != FETCHED) return added;
+    // A packed table has no NEXT: all of its descriptors are the chain's (VIRTIO 1.2, 2.8.7).
+    if (packed && seen + 1 == entries) return FETCHED;
+    if (!packed && !(flags & FLAG_NEXT)) return FETCHED;
+    at = packed ? at + 1 : it.fourth;
+    if (at >= entries) return BROKEN;
+  }
+  return BROKEN;
+}
+
+size_t chain_look(const struct chain *chain, const struct source *source, uint8_t *into, size_t room) {
+  size_t done = 0;
+  for (size_t i = 0; i < chain->count && done < room && !chain->segments[i].writable; i++) {
+    size_t here = least(chain->segments[i].length, room - done);
+    if (!source_load(source, chain->segments[i].addr, into + done, here)) memset(into + done, 0, here);
+    done += here;
+  }
+  return done;
+}
+
+void chain_free(struct chain *chain) {
+  if (chain) free(chain->segments);
+  free(chain);
+}

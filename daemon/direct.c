@@ -1,0 +1,139 @@
+#include <stdio.h>
+
+#include "backend.h"
+#include "bytes.h"
+#include "chain.h"
+#include "moves.h"
+
+// Behind the guest's memory lie the daemon's queue, and a page of zeros for queues that the driver didn't set up: enough for the
+// areas of a queue of two descriptors.
+static uint64_t private_at(const struct backend *backend) {
+  return (memory_end(&backend->memory) + DEVICE_PAGE - 1) / DEVICE_PAGE * DEVICE_PAGE;
+}
+
+bool direct_fits(const struct backend *backend) {
+  if (private_at(backend) + INTERIM_BYTES + DEVICE_PAGE > (uint64_t)DEVICE_MOST_PAGES * DEVICE_PAGE) return false;
+  for (unsigned q = 0; q < backend->count; q++) {
+    const struct ring *ring = &backend->queues[q].ring;
+    bool begins = ring->next == 0 && ring->used == 0 && (!ring->packed || (ring->next_wrap && ring->used_wrap));
+    if (backend->queues[q].ready && (!begins || ring->broken || ring->packed != backend->packed)) return false;
+  }
+  return true;
+}
+
+bool direct_begin(struct backend *backend, char *why, size_t room) {
+  struct vscsi_queue queues[DEVICE_MOST_QUEUES];
+  uint64_t at = private_at(backend), zeros = at + INTERIM_BYTES;
+  for (unsigned q = 0; q < backend->count; q++) {
+    const struct ring *ring = &backend->queues[q].ring;
+    queues[q] = backend->queues[q].ready
+                    ? (struct vscsi_queue){.desc = ring->desc, .driver = ring->driver, .device = ring->device, .size = ring->size}
+                    : (struct vscsi_queue){.desc = zeros, .driver = zeros + 0x100, .device = zeros + 0x200, .size = 2};
+  }
+  queues[backend->count] = interim_queue(at);
+  uint64_t features = (backend->packed ? VSCSI_F_RING_PACKED : 0) | (backend->event_index ? VSCSI_F_EVENT_IDX : 0) |
+                      (backend->indirect ? VSCSI_F_INDIRECT_DESC : 0);
+  return backend_make(backend, queues, (uint32_t)((zeros + DEVICE_PAGE) / DEVICE_PAGE), features, at, why, room);
+}
+
+// Copies a chain's readable bytes in, as many as a command looks at.
+static bool bring(struct backend *backend, const struct chain *chain) {
+  uint64_t left = HEAD + MOST_DATA;
+  for (size_t i = 0; i < chain->count && left && !chain->segments[i].writable; i++) {
+    const struct segment *it = &chain->segments[i];
+    uint64_t here = it->length < left ? it->length : left;
+    if (!move_in(&backend->memory, it->addr, &backend->device, it->addr, here)) return false;
+    left -= here;
+  }
+  return true;
+}
+
+// Whether a part of a chain lies in the pages that are the daemon's. Past these the device breaks the queue by itself.
+static bool is_private(const struct backend *backend, const struct chain *chain) {
+  uint64_t from = private_at(backend), end = from + INTERIM_BYTES + DEVICE_PAGE;
+  for (size_t i = 0; i < chain->count; i++) {
+    uint64_t behind = chain->segments[i].addr + chain->segments[i].length;
+    if (behind > from && behind <= end) return true;
+  }
+  return false;
+}
+
+static bool fetch(struct backend *backend, unsigned q, char *why, size_t room) {
+  const struct source source = {.memory = &backend->memory, .device = &backend->device};
+  struct backend_queue *queue = &backend->queues[q];
+  struct chain *chain;
+  snprintf(why, room, "queue %u: no memory", q);
+  if (!ring_copy(&queue->ring, &backend->device)) return false;
+  for (;;) {
+    enum fetched fetched = ring_fetch(&queue->ring, &source, &chain);
+    if (fetched != FETCHED) return fetched != NO_ROOM;
+    uint8_t bytes[INTERIM_LOOKS_AT];
+    queue->taken++;
+    if (is_private(backend, chain)) return snprintf(why, room, "queue %u: a buffer behind the guest's memory", q), false;
+    if (!bring(backend, chain)) {
+      // A part that isn't in the device's memory: there the device breaks the queue.
+      queue->ring.broken = true;
+      return true;
+    }
+    if (!interim_note(&backend->interim, bytes, chain_look(chain, &source, bytes, sizeof bytes))) return false;
+  }
+}
+
+// The used element of a chain that the device gave back: of a split queue by its number, of a packed one where the ring stands.
+static bool element(struct backend *backend, const struct backend_queue *queue, uint64_t number, uint16_t *id, uint32_t *length) {
+  const struct ring *ring = &queue->ring;
+  uint8_t bytes[8];
+  uint64_t at = ring->packed ? ring->desc + (uint64_t)ring->used * DESCRIPTOR + 8 : ring->device + 4 + 8 * (number % ring->size);
+  if (!device_peek(&backend->device, at, bytes, sizeof bytes)) return false;
+  *id = (uint16_t)little_get(bytes + (ring->packed ? 4 : 0), 2);
+  *length = (uint32_t)little_get(bytes + (ring->packed ? 0 : 4), 4);
+  return true;
+}
+
+static bool answer(struct backend *backend, struct backend_queue *queue, uint64_t number) {
+  uint16_t id;
+  uint32_t length;
+  if (!element(backend, queue, number, &id, &length)) return false;
+  struct chain *chain = ring_take(&queue->ring, id);
+  if (!chain) return false;
+  uint32_t left = length;
+  for (size_t i = 0; i < chain->count && left; i++) {
+    const struct segment *it = &chain->segments[i];
+    if (!it->writable) continue;
+    uint32_t here = it->length < left ? it->length : left;
+    move_out(&backend->memory, it->addr, &backend->device, it->addr, here);
+    left -= here;
+  }
+  ring_use(&queue->ring, chain, length);
+  chain_free(chain);
+  return true;
+}
+
+static bool complete(struct backend *backend, unsigned q, char *why, size_t room) {
+  struct backend_queue *queue = &backend->queues[q];
+  uint64_t taken, used;
+  if (!device_progress(&backend->device, q, &taken, &used)) return false;
+  if (taken > queue->taken) {
+    // The device wrote what it took: a disk's blocks that it changed so aren't known.
+    snprintf(why, room, "queue %u: the guest had the device write requests into a ring", q);
+    return false;
+  }
+  for (; queue->used < used; queue->used++)
+    if (!answer(backend, queue, queue->used)) return snprintf(why, room, "queue %u: an answer to no request", q), false;
+  if (device_broken(&backend->device, q)) queue->ring.broken = true;
+  return true;
+}
+
+enum served direct_serve(struct backend *backend, uint32_t queues, uint32_t *owed, char *why, size_t room) {
+  for (unsigned q = 0; q < backend->count; q++) {
+    struct backend_queue *queue = &backend->queues[q];
+    if (queues >> q & 1 && queue->ready && !queue->ring.broken && !fetch(backend, q, why, room)) return FAILED;
+  }
+  bool served = device_serve(&backend->device);
+  if (!interim_keep(&backend->interim)) return snprintf(why, room, "a disk's file couldn't be written"), FAILED;
+  for (unsigned q = 0; q < backend->count; q++)
+    if (backend->queues[q].ready && !complete(backend, q, why, room)) return FAILED;
+  backend_publish(backend, owed);
+  if (!served) return snprintf(why, room, "no memory"), FAILED;
+  return SERVED;
+}

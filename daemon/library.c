@@ -1,0 +1,53 @@
+#include "library.h"
+
+#include <stdio.h>
+
+// The queues that a call serves, the steps of one call, and the calls behind one notification.
+enum { MOST_STEPS = 65536, MOST_TURNS = 64 };
+static const uint32_t ALL_QUEUES = UINT32_MAX;
+
+bool device_create(struct device *device, const struct vscsi_config *config, char *why, size_t room) {
+  struct vscsi_fault fault = {0};
+  enum vscsi_answer answer = vscsi_create(&device->vscsi, config, &fault);
+  device->live = answer == VSCSI_DONE;
+  if (answer == VSCSI_BAD_CONFIG) snprintf(why, room, "cause %u, detail %u, place %llu", fault.cause, fault.detail, (unsigned long long)fault.place);
+  else if (!device->live) snprintf(why, room, "%s", answer == VSCSI_NO_MEMORY ? "no memory" : "the call was refused");
+  return device->live;
+}
+
+void device_destroy(struct device *device) {
+  if (device->live) vscsi_destroy(&device->vscsi);
+  device->live = false;
+}
+
+bool device_serve(struct device *device) {
+  uint32_t owed = 0;
+  bool more = true;
+  // A guest whose requests make chains available would keep one call busy for ever. No other comes near this bound.
+  for (int turn = 0; turn < MOST_TURNS && more; turn++)
+    if (vscsi_serve(&device->vscsi, ALL_QUEUES, MOST_STEPS, NULL, &more) != VSCSI_DONE) return false;
+  // The daemon decides by the guest's own flags whom it notifies; this only takes back what the device would have said.
+  vscsi_owed(&device->vscsi, &owed);
+  return true;
+}
+
+bool device_poke(struct device *device, uint64_t addr, const void *bytes, size_t count) {
+  return vscsi_poke(&device->vscsi, addr, bytes, count) == VSCSI_DONE;
+}
+
+bool device_peek(struct device *device, uint64_t addr, void *into, size_t count) {
+  return vscsi_peek(&device->vscsi, addr, into, count) == VSCSI_DONE;
+}
+
+bool device_progress(struct device *device, unsigned queue, uint64_t *taken, uint64_t *used) {
+  return vscsi_progress(&device->vscsi, (uint16_t)queue, taken, used) == VSCSI_DONE;
+}
+
+bool device_broken(struct device *device, unsigned queue) {
+  uint32_t fault = 0;
+  return vscsi_broken(&device->vscsi, (uint16_t)queue, &fault) == VSCSI_DONE && fault != VSCSI_BROKEN_NOT;
+}
+
+bool device_blocks(struct device *device, uint8_t target, uint16_t lun, uint64_t first, uint32_t count, void *into) {
+  return vscsi_blocks(&device->vscsi, target, lun, first, count, into, (size_t)count * DEVICE_BLOCK) == VSCSI_DONE;
+}

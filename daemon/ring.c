@@ -1,0 +1,113 @@
+#include "ring.h"
+
+#include <stdlib.h>
+
+void ring_begin(struct ring *ring) {
+  *ring = (struct ring){.next_wrap = true, .used_wrap = true};
+  ring->last = &ring->first;
+}
+
+uint64_t ring_desc_bytes(const struct ring *ring) { return (uint64_t)DESCRIPTOR * ring->size; }
+uint64_t ring_driver_bytes(const struct ring *ring) { return ring->packed ? 4 : 4 + 2 * (uint64_t)ring->size + (ring->event_index ? 2 : 0); }
+uint64_t ring_device_bytes(const struct ring *ring) { return ring->packed ? 4 : 4 + 8 * (uint64_t)ring->size + (ring->event_index ? 2 : 0); }
+
+bool ring_find(struct ring *ring, const struct memory *memory) {
+  if (ring->size < 2 || ring->size > DEVICE_MOST_SIZE || (!ring->packed && (ring->size & (ring->size - 1)))) return false;
+  if (ring->desc % 16 || ring->driver % (ring->packed ? 4 : 2) || ring->device % 4) return false;
+  ring->desc_at = memory_at(memory, ring->desc, ring_desc_bytes(ring));
+  ring->driver_at = memory_at(memory, ring->driver, ring_driver_bytes(ring));
+  ring->device_at = memory_at(memory, ring->device, ring_device_bytes(ring));
+  return ring->desc_at && ring->driver_at && ring->device_at;
+}
+
+bool ring_has(const struct ring *ring) { return !ring->broken && (ring->packed ? packed_has(ring) : split_has(ring)); }
+
+bool ring_copy(const struct ring *ring, struct device *device) { return ring->packed ? packed_copy(ring, device) : split_copy(ring, device); }
+
+enum fetched ring_fetch(struct ring *ring, const struct source *source, struct chain **chain) {
+  if (ring->broken) return BROKEN;
+  if (ring->outstanding == ring->size) return NOTHING;
+  struct chain *its = calloc(1, sizeof *its);
+  if (!its) return NO_ROOM;
+  its->next_before = ring->next;
+  its->wrap_before = ring->next_wrap;
+  enum fetched fetched = ring->packed ? packed_fetch(ring, source, its) : split_fetch(ring, source, its);
+  if (fetched == FETCHED) {
+    *ring->last = its;
+    ring->last = &its->next;
+    ring->outstanding++;
+    *chain = its;
+    return FETCHED;
+  }
+  ring->next = its->next_before;
+  ring->next_wrap = its->wrap_before;
+  ring->broken = fetched == BROKEN;
+  chain_free(its);
+  return fetched;
+}
+
+struct chain *ring_take(struct ring *ring, uint16_t id) {
+  for (struct chain **at = &ring->first; *at; at = &(*at)->next) {
+    struct chain *chain = *at;
+    if (chain->id != id) continue;
+    *at = chain->next;
+    if (!chain->next) ring->last = at;
+    ring->outstanding--;
+    return chain;
+  }
+  return NULL;
+}
+
+void ring_unfetch(struct ring *ring, struct chain *chain) {
+  ring->next = chain->next_before;
+  ring->next_wrap = chain->wrap_before;
+  for (struct chain **at = &ring->first; *at; at = &(*at)->next) {
+    if (*at != chain) continue;
+    *at = NULL;
+    ring->last = at;
+    ring->outstanding--;
+    break;
+  }
+  chain_free(chain);
+}
+
+void ring_use(struct ring *ring, const struct chain *chain, uint32_t length) {
+  if (ring->packed) packed_use(ring, chain, length);
+  else split_use(ring, chain, length);
+}
+
+bool ring_publish(struct ring *ring) {
+  if (!ring->unpublished) return false;
+  ring->unpublished = false;
+  return ring->packed ? packed_publish(ring) : split_publish(ring);
+}
+
+bool ring_ask(struct ring *ring) {
+  if (!ring->packed && ring->event_index) {
+    uint16_t *event = (uint16_t *)(void *)(ring->device_at + 4 + 8 * (size_t)ring->size);
+    __atomic_store_n(event, ring->next, __ATOMIC_RELAXED);
+  }
+  __atomic_thread_fence(__ATOMIC_SEQ_CST);
+  return ring->outstanding < ring->size && ring_has(ring);
+}
+
+uint32_t ring_base(const struct ring *ring) {
+  if (!ring->packed) return ring->next;
+  return (uint32_t)ring->next | (uint32_t)ring->next_wrap << 15 | (uint32_t)ring->used << 16 | (uint32_t)ring->used_wrap << 31;
+}
+
+void ring_set_base(struct ring *ring, uint32_t base) {
+  ring->next = (uint16_t)(ring->packed ? base & 0x7fff : base);
+  ring->next_wrap = base >> 15 & 1;
+  ring->used = (uint16_t)(base >> 16 & 0x7fff);
+  ring->used_wrap = base >> 31;
+  ring->told = ring->next;
+}
+
+void ring_drop(struct ring *ring) {
+  if (ring->first) {
+    ring->next = ring->first->next_before;
+    ring->next_wrap = ring->first->wrap_before;
+  }
+  while (ring->first) chain_free(ring_take(ring, ring->first->id));
+}

@@ -1,0 +1,214 @@
+#include "session.h"
+
+#include <stdio.h>
+#include <string.h>
+#include <sys/epoll.h>
+#include <unistd.h>
+
+#include "bytes.h"
+#include "space.h"
+
+#define OFFERED ((VSCSI_ACCEPTED_FEATURES & ~VSCSI_F_CHANGE) | F_PROTOCOL_FEATURES)
+// What QEMU has a driver agree to by itself: events of disks that come, go or change (VIRTIO 1.2, 5.6.3). The device tells none of these.
+#define IGNORED (UINT64_C(1) << 1 | UINT64_C(1) << 2)
+#define OFFERED_PROTOCOL (P_MQ | P_REPLY_ACK | P_CONFIG | P_RESET_DEVICE)
+
+// How often a session is served before others of the daemon's descriptors are looked at.
+enum { MOST_ROUNDS = 64, WHY = 200, REGION_BYTES = 32, SPACE_HEAD = 12, MOST_SPACE = 256 };
+
+static void say(const struct session *session, const char *what, const char *why) {
+  if (!session->quiet) fprintf(stderr, "vscsi-vhost-user: %s: %s\n", what, why);
+}
+
+bool session_begin(struct session *session, int socket, int epoll, struct disks *disks, unsigned request_queues, bool only_shadow, bool quiet) {
+  struct epoll_event event = {.events = EPOLLIN, .data.u32 = EVENT_SOCKET};
+  memset(session, 0, sizeof *session);
+  session->socket = socket;
+  session->epoll = epoll;
+  session->request_queues = request_queues;
+  session->quiet = quiet;
+  session->backend.disks = disks;
+  session->backend.count = FIXED_QUEUES + request_queues;
+  session->backend.only_shadow = only_shadow;
+  reader_begin(&session->reader);
+  queues_begin(session);
+  if (!epoll_ctl(epoll, EPOLL_CTL_ADD, socket, &event)) return true;
+  close(socket);
+  session->socket = -1;
+  return false;
+}
+
+void session_end(struct session *session) {
+  backend_end(&session->backend);
+  queues_end(session);
+  memory_clear(&session->backend.memory);
+  reader_end(&session->reader);
+  if (session->socket >= 0) {
+    epoll_ctl(session->epoll, EPOLL_CTL_DEL, session->socket, NULL);
+    close(session->socket);
+  }
+  session->socket = -1;
+}
+
+static bool reply_number(const struct session *session, const struct message *message, uint64_t number) {
+  uint8_t payload[8];
+  little_put(payload, number, 8);
+  return protocol_reply(session->socket, message, payload, sizeof payload);
+}
+
+static bool set_features(struct session *session, const struct message *message) {
+  uint64_t features = little_get(message->payload, 8);
+  if (message->size != 8 || features & ~(OFFERED | IGNORED)) return false;
+  // QEMU says them again when a log of writes begins or ends: the rings stand.
+  for (unsigned q = 0; q < session->backend.count; q++)
+    if (session->queues[q].started && features != session->features) return false;
+  session->features = features;
+  return true;
+}
+
+static bool set_protocol(struct session *session, const struct message *message) {
+  uint64_t features = little_get(message->payload, 8);
+  if (message->size != 8 || features & ~OFFERED_PROTOCOL) return false;
+  session->protocol = features;
+  return true;
+}
+
+static bool set_memory(struct session *session, const struct message *message) {
+  struct memory memory = {0};
+  if (message->size < 8) return false;
+  uint64_t count = little_get(message->payload, 4);
+  if (count > MOST_REGIONS || message->fd_count != count || message->size < 8 + REGION_BYTES * count) return false;
+  for (size_t i = 0; i < count; i++) {
+    const uint8_t *at = message->payload + 8 + REGION_BYTES * i;
+    if (memory_add(&memory, little_get(at, 8), little_get(at + 8, 8), little_get(at + 16, 8), little_get(at + 24, 8), message->fds[i])) continue;
+    memory_clear(&memory);
+    return false;
+  }
+  struct backend *backend = &session->backend;
+  // The device of direct mode has as much memory as the guest had.
+  if (backend->device.live && !backend->shadow && memory_end(&memory) != memory_end(&backend->memory)) backend_end(backend);
+  memory_clear(&backend->memory);
+  backend->memory = memory;
+  queues_find(session);
+  session->more = true;
+  return true;
+}
+
+static bool reset(struct session *session) {
+  backend_end(&session->backend);
+  queues_end(session);
+  return true;
+}
+
+static bool get_config(const struct session *session, const struct message *message) {
+  uint8_t payload[SPACE_HEAD + MOST_SPACE] = {0}, space[MOST_SPACE] = {0};
+  uint64_t offset = little_get(message->payload, 4), size = little_get(message->payload + 4, 4);
+  if (message->size < SPACE_HEAD || size > MOST_SPACE || offset > MOST_SPACE - size || message->size != SPACE_HEAD + size)
+    return protocol_reply(session->socket, message, payload, 0);
+  space_fill(space, session->backend.disks, session->request_queues);
+  memcpy(payload, message->payload, SPACE_HEAD);
+  memcpy(payload + SPACE_HEAD, space + offset, size);
+  return protocol_reply(session->socket, message, payload, SPACE_HEAD + size);
+}
+
+// Whether the daemon knows this message, and whether it answers it itself: then there is no acknowledgement.
+static bool is_answered(uint32_t request) {
+  return request == GET_FEATURES || request == GET_PROTOCOL_FEATURES || request == GET_QUEUE_NUM || request == GET_VRING_BASE || request == GET_CONFIG;
+}
+
+static bool take(struct session *session, struct message *message) {
+  switch (message->request) {
+    case GET_FEATURES: return reply_number(session, message, OFFERED);
+    case SET_FEATURES: return set_features(session, message);
+    case SET_OWNER: return true;
+    case RESET_OWNER:
+    case RESET_DEVICE: return reset(session);
+    case SET_MEM_TABLE: return set_memory(session, message);
+    case SET_VRING_NUM: return queue_set_size(session, message);
+    case SET_VRING_ADDR: return queue_set_addresses(session, message);
+    case SET_VRING_BASE: return queue_set_base(session, message);
+    case GET_VRING_BASE: return queue_get_base(session, message);
+    case SET_VRING_KICK: return queue_set_kick(session, message);
+    case SET_VRING_CALL: return queue_set_call(session, message);
+    case SET_VRING_ERR: return queue_set_err(session, message);
+    case GET_PROTOCOL_FEATURES: return reply_number(session, message, OFFERED_PROTOCOL);
+    case SET_PROTOCOL_FEATURES: return set_protocol(session, message);
+    case GET_QUEUE_NUM: return reply_number(session, message, session->backend.count);
+    case SET_VRING_ENABLE: return queue_set_enable(session, message);
+    case GET_CONFIG: return get_config(session, message);
+    case SET_CONFIG: return message->size >= SPACE_HEAD;  // no field of a driver's is kept
+    default: return false;
+  }
+}
+
+bool session_read(struct session *session) {
+  // A front end that sends on and on has its rings served in between.
+  for (unsigned i = 0; i < MOST_ROUNDS; i++) {
+    struct message message = {0};
+    enum read_answer answer = reader_next(&session->reader, session->socket, &message);
+    if (answer != READ_MESSAGE) return answer == READ_WAITS;
+    bool taken = take(session, &message), stands = taken;
+    message_close(&message);
+    if (session->protocol & P_REPLY_ACK && message.flags & NEEDS_REPLY && !is_answered(message.request)) stands = reply_number(session, &message, !taken);
+    if (!taken) {
+      char why[WHY];
+      unsigned long long first = (unsigned long long)little_get(message.payload, 8);
+      snprintf(why, sizeof why, "%u of %u bytes, %llx, isn't taken", message.request, message.size, first);
+      say(session, "a message", why);
+    }
+    if (!stands) return false;
+  }
+  return true;
+}
+
+static void signal_fd(int fd) {
+  const uint64_t one = 1;
+  if (fd >= 0 && write(fd, &one, sizeof one) < 0) return;  // its count is full: the front end hasn't looked yet
+}
+
+void session_kicked(struct session *session, unsigned q) {
+  uint64_t count;
+  if (q >= session->backend.count || session->queues[q].kick < 0) return;
+  ssize_t got = read(session->queues[q].kick, &count, sizeof count);
+  if (got == 0) epoll_ctl(session->epoll, EPOLL_CTL_DEL, session->queues[q].kick, NULL);  // no eventfd, and at its end
+  session->more = true;
+}
+
+static void notify(struct session *session, uint32_t owed) {
+  for (unsigned q = 0; q < session->backend.count; q++) {
+    struct session_queue *queue = &session->queues[q];
+    if (owed >> q & 1) signal_fd(queue->call);
+    if (!queue->started || !session->backend.queues[q].ring.broken || queue->told) continue;
+    char why[WHY];
+    snprintf(why, sizeof why, "queue %u", q);
+    say(session, "the guest broke a ring", why);
+    signal_fd(queue->err);
+    queue->told = true;
+  }
+}
+
+bool session_serve(struct session *session) {
+  struct backend *backend = &session->backend;
+  char why[WHY] = "";
+  uint32_t queues = 0, owed = 0;
+  for (unsigned q = 0; q < backend->count; q++)
+    if (session->queues[q].started && session->queues[q].enabled) queues |= UINT32_C(1) << q;
+  session->more = false;
+  if (!backend->device.live) {
+    if (!backend_has(backend, queues)) return true;
+    if (!backend_begin(backend, why, sizeof why)) {
+      say(session, "no device", why);
+      return false;
+    }
+    say(session, "a device", backend->shadow ? "shadow mode" : "direct mode");
+  }
+  enum served served = MORE;
+  for (unsigned i = 0; served == MORE && i < MOST_ROUNDS; i++) {
+    owed = 0;
+    served = backend_serve(backend, queues, &owed, why, sizeof why);
+    notify(session, owed);
+  }
+  session->more = served == MORE;
+  if (served == FAILED) say(session, "the session ends", why);
+  return served != FAILED;
+}

@@ -1,0 +1,60 @@
+// A front end's connection: what it said, and the rings that it gave.
+#ifndef DAEMON_SESSION_H
+#define DAEMON_SESSION_H
+
+#include "backend.h"
+#include "protocol.h"
+
+struct session_queue {
+  int kick, call, err;
+  bool enabled, started, addressed;
+  bool told;  // of a broken ring, by its error descriptor
+  uint64_t desc, driver, device;  // by the front end's own addresses
+  uint32_t base;
+  uint16_t size;
+};
+
+struct session {
+  int socket, epoll;
+  unsigned request_queues;
+  struct reader reader;
+  struct backend backend;
+  struct session_queue queues[MOST_QUEUES];
+  uint64_t features, protocol;
+  bool more, quiet;
+};
+
+// What an epoll event of this session's is about: its socket, or a queue's kick.
+enum { EVENT_SOCKET = 1000 };
+
+// Begins over a connected socket, which is the session's from then on. Returns false, without it, where epoll doesn't take it.
+bool session_begin(struct session *session, int socket, int epoll, struct disks *disks, unsigned request_queues, bool only_shadow, bool quiet);
+
+// Lets go of all that the front end gave. The disks stay.
+void session_end(struct session *session);
+
+// Reads and does what messages there are. Returns false where the connection is over.
+bool session_read(struct session *session);
+
+// Takes a queue's kick.
+void session_kicked(struct session *session, unsigned q);
+
+// Serves what the driver made available. Returns false where the connection has to end. Sets `more` where another call is wanted.
+bool session_serve(struct session *session);
+
+// Of queues.c: what messages of one queue do. Each returns false where the message can't be taken.
+bool queue_set_size(struct session *session, const struct message *message);
+bool queue_set_addresses(struct session *session, const struct message *message);
+bool queue_set_base(struct session *session, const struct message *message);
+bool queue_set_enable(struct session *session, const struct message *message);
+bool queue_set_kick(struct session *session, struct message *message);
+bool queue_set_call(struct session *session, struct message *message);
+bool queue_set_err(struct session *session, struct message *message);
+bool queue_get_base(struct session *session, const struct message *message);
+
+// Looks for the areas of all started rings in the guest's memory, after it changed.
+void queues_find(struct session *session);
+void queues_begin(struct session *session);
+void queues_end(struct session *session);
+
+#endif

@@ -1,0 +1,190 @@
+#include <stdio.h>
+
+#include "backend.h"
+#include "bytes.h"
+#include "chain.h"
+#include "moves.h"
+
+// The device's memory: an area for each queue, with the descriptors, the driver area and the device area; the daemon's own
+// queue; a slot for each event buffer; and the rest for the requests of a round.
+enum { RING = 256, AREA = 0x3000, DRIVER_AT = 0x1000, DEVICE_AT = 0x2000, PRIVATE_AT = 0x40000, EVENTS_AT = 0x58000, EVENT_ROOM = 64 };
+enum { ROOM_AT = 0x60000, MEMORY = 16 << 20, PARTS = 4, MOST_READ = HEAD + MOST_DATA, MOST_WRITTEN = RESPONSE + MOST_DATA };
+
+static uint64_t area(unsigned q) { return (uint64_t)q * AREA; }
+
+// A round: how many chains it has, and where in the device's memory the next one goes.
+struct round {
+  unsigned count;
+  uint64_t at;
+  bool full;
+};
+
+bool shadow_begin(struct backend *backend, char *why, size_t room) {
+  struct vscsi_queue queues[DEVICE_MOST_QUEUES];
+  for (unsigned q = 0; q < backend->count; q++)
+    queues[q] = (struct vscsi_queue){.desc = area(q), .driver = area(q) + DRIVER_AT, .device = area(q) + DEVICE_AT, .size = RING};
+  queues[backend->count] = interim_queue(PRIVATE_AT);
+  return backend_make(backend, queues, MEMORY / DEVICE_PAGE, 0, PRIVATE_AT, why, room);
+}
+
+// Writes the descriptors of a chain into the device's memory: its bytes as far as a command moves any, and behind them, so that
+// lengths are what the guest gave, the device's memory once more, which no command reaches.
+static bool put_descriptors(struct backend *backend, unsigned q, const struct chain *chain) {
+  uint8_t bytes[PARTS * DESCRIPTOR];
+  const uint64_t lengths[PARTS] = {chain->in < MOST_READ ? chain->in : MOST_READ, chain->in > MOST_READ ? chain->in - MOST_READ : 0,
+                                   chain->out < MOST_WRITTEN ? chain->out : MOST_WRITTEN, chain->out > MOST_WRITTEN ? chain->out - MOST_WRITTEN : 0};
+  const uint64_t addrs[PARTS] = {chain->in_at, 0, chain->out_at, 0};
+  unsigned count = 0, first = chain->place * PARTS;
+  for (unsigned i = 0; i < PARTS; i++) {
+    if (!lengths[i]) continue;
+    uint8_t *at = bytes + (size_t)count++ * DESCRIPTOR;
+    little_put(at, addrs[i], 8);
+    little_put(at + 8, lengths[i], 4);
+    little_put(at + 12, FLAG_NEXT | (i >= 2 ? FLAG_WRITE : 0), 2);
+    little_put(at + 14, first + count, 2);
+  }
+  if (!count) {
+    // A chain of no bytes.
+    little_put(bytes, 0, 8);
+    little_put(bytes + 8, 0, 8);
+    count = 1;
+  }
+  bytes[(size_t)(count - 1) * DESCRIPTOR + 12] &= (uint8_t)~FLAG_NEXT;
+  return device_poke(&backend->device, area(q) + (uint64_t)first * DESCRIPTOR, bytes, (size_t)count * DESCRIPTOR);
+}
+
+// Makes a chain available in the device's ring.
+static bool offer(struct backend *backend, unsigned q, const struct chain *chain) {
+  struct backend_queue *queue = &backend->queues[q];
+  uint8_t bytes[2];
+  little_put(bytes, (uint64_t)chain->place * PARTS, 2);
+  if (!device_poke(&backend->device, area(q) + DRIVER_AT + 4 + 2 * (queue->taken % RING), bytes, 2)) return false;
+  queue->taken++;
+  little_put(bytes, queue->taken & 0xffff, 2);
+  return device_poke(&backend->device, area(q) + DRIVER_AT + 2, bytes, 2);
+}
+
+static bool bring(struct backend *backend, const struct chain *chain) {
+  uint64_t done = 0;
+  for (size_t i = 0; i < chain->count && done < MOST_READ && !chain->segments[i].writable; i++) {
+    const struct segment *it = &chain->segments[i];
+    uint64_t here = it->length < MOST_READ - done ? it->length : MOST_READ - done;
+    if (!move_in(&backend->memory, it->addr, &backend->device, chain->in_at + done, here)) return false;
+    done += here;
+  }
+  return true;
+}
+
+static bool note(struct backend *backend, const struct chain *chain) {
+  uint8_t bytes[INTERIM_LOOKS_AT];
+  size_t count = chain->in < sizeof bytes ? (size_t)chain->in : sizeof bytes;
+  return device_peek(&backend->device, chain->in_at, bytes, count) && interim_note(&backend->interim, bytes, count);
+}
+
+// Whether all parts lie in the guest's memory, and the rest behind what a command moves in the device's.
+static bool is_sound(const struct backend *backend, const struct chain *chain) {
+  if (chain->in > MOST_READ + (uint64_t)MEMORY || chain->out > MOST_WRITTEN + (uint64_t)MEMORY) return false;
+  for (size_t i = 0; i < chain->count; i++)
+    if (!memory_has(&backend->memory, chain->segments[i].addr, chain->segments[i].length)) return false;
+  return true;
+}
+
+static bool place_event(struct backend *backend, struct chain *chain) {
+  for (unsigned slot = 0; slot < SLOTS; slot++) {
+    if (backend->held[slot]) continue;
+    backend->held[slot] = true;
+    chain->place = slot;
+    // No command has an event's chain: the device writes 16 bytes of it at the most.
+    chain->in_at = chain->out_at = EVENTS_AT + (uint64_t)slot * EVENT_ROOM;
+    if (chain->in > EVENT_ROOM) chain->in = EVENT_ROOM;
+    if (chain->out > EVENT_ROOM) chain->out = EVENT_ROOM;
+    return true;
+  }
+  return false;
+}
+
+static bool place_request(struct chain *chain, struct round *round) {
+  uint64_t in = (chain->in < MOST_READ ? chain->in : MOST_READ) + 63, out = (chain->out < MOST_WRITTEN ? chain->out : MOST_WRITTEN) + 63;
+  in -= in % 64;
+  out -= out % 64;
+  if (round->count == SLOTS || in + out > MEMORY - round->at) return false;
+  chain->place = round->count++;
+  chain->in_at = round->at;
+  chain->out_at = round->at + in;
+  round->at += in + out;
+  return true;
+}
+
+// Takes what a queue has into the round. Returns false where memory is wanted.
+static bool fetch(struct backend *backend, unsigned q, struct round *round) {
+  const struct source source = {.memory = &backend->memory};
+  struct ring *ring = &backend->queues[q].ring;
+  struct chain *chain;
+  while (!ring->broken) {
+    enum fetched fetched = ring_fetch(ring, &source, &chain);
+    if (fetched != FETCHED) return fetched != NO_ROOM;
+    if (!is_sound(backend, chain)) {
+      ring_unfetch(ring, chain);
+      ring->broken = true;
+      return true;
+    }
+    if (!(q == EVENT_QUEUE ? place_event(backend, chain) : place_request(chain, round))) {
+      round->full = round->full || q != EVENT_QUEUE;
+      ring_unfetch(ring, chain);
+      return true;
+    }
+    if (!bring(backend, chain) || (q != EVENT_QUEUE && !note(backend, chain)) || !put_descriptors(backend, q, chain) || !offer(backend, q, chain))
+      return false;
+  }
+  return true;
+}
+
+static struct chain *take(struct ring *ring, uint64_t place) {
+  for (const struct chain *chain = ring->first; chain; chain = chain->next)
+    if (chain->place == place) return ring_take(ring, chain->id);
+  return NULL;
+}
+
+static bool answer(struct backend *backend, unsigned q, uint64_t number) {
+  struct ring *ring = &backend->queues[q].ring;
+  uint8_t element[8];
+  if (!device_peek(&backend->device, area(q) + DEVICE_AT + 4 + 8 * (number % RING), element, sizeof element)) return false;
+  struct chain *chain = take(ring, little_get(element, 4) / PARTS);
+  if (!chain) return false;
+  uint64_t length = little_get(element + 4, 4), done = 0;
+  for (size_t i = 0; i < chain->count && done < length; i++) {
+    const struct segment *it = &chain->segments[i];
+    if (!it->writable) continue;
+    uint64_t here = it->length < length - done ? it->length : length - done;
+    move_out(&backend->memory, it->addr, &backend->device, chain->out_at + done, here);
+    done += here;
+  }
+  if (q == EVENT_QUEUE) backend->held[chain->place] = false;
+  ring_use(ring, chain, (uint32_t)length);
+  chain_free(chain);
+  return true;
+}
+
+static bool complete(struct backend *backend, unsigned q) {
+  struct backend_queue *queue = &backend->queues[q];
+  uint64_t taken, used;
+  if (!device_progress(&backend->device, q, &taken, &used)) return false;
+  for (; queue->used < used; queue->used++)
+    if (!answer(backend, q, queue->used)) return false;
+  // All but event buffers come back at once.
+  return taken == queue->taken && (q == EVENT_QUEUE || used == taken);
+}
+
+enum served shadow_serve(struct backend *backend, uint32_t queues, uint32_t *owed, char *why, size_t room) {
+  struct round round = {.at = ROOM_AT};
+  for (unsigned q = 0; q < backend->count; q++) {
+    struct backend_queue *queue = &backend->queues[q];
+    if (queues >> q & 1 && queue->ready && !fetch(backend, q, &round)) return snprintf(why, room, "queue %u: no memory", q), FAILED;
+  }
+  if (!device_serve(&backend->device)) return snprintf(why, room, "no memory"), FAILED;
+  if (!interim_keep(&backend->interim)) return snprintf(why, room, "a disk's file couldn't be written"), FAILED;
+  for (unsigned q = 0; q < backend->count; q++)
+    if (!complete(backend, q)) return snprintf(why, room, "queue %u: an answer to no request", q), FAILED;
+  backend_publish(backend, owed);
+  return round.full ? MORE : SERVED;
+}

@@ -1,0 +1,81 @@
+// A front end and a driver in it, over a socket pair, with a session of the daemon's at the other end.
+#ifndef DAEMON_TEST_FRONT_H
+#define DAEMON_TEST_FRONT_H
+
+#include "../session.h"
+
+enum { GUEST_BYTES = 8 << 20, HALF = GUEST_BYTES / 2, SIZE = 16, QUEUES = 5, USER = 0x7000000, FAR_USER = 0x70000000 };
+
+// How a session is: which form its rings have and which features, and how the guest's memory lies.
+struct way {
+  bool packed, event_index, indirect, shadow, far;
+};
+
+struct driver_queue {
+  uint16_t next, seen, free;  // of a split ring counts; of a packed one places
+  bool next_wrap, seen_wrap;
+};
+
+struct front {
+  struct way way;
+  struct session session;
+  struct disks *disks;
+  int socket, epoll, memory_fd;
+  uint8_t *memory;
+  bool alive;
+  int kick[QUEUES], call[QUEUES], err[QUEUES];
+  struct driver_queue queues[QUEUES];
+};
+
+// A message as a front end sends it.
+struct sent {
+  uint8_t bytes[HEADER + MOST_PAYLOAD];
+  size_t length;
+  int fds[2];
+  size_t fd_count;
+};
+
+// Ends the test where something isn't so.
+#define MUST(is_so) ((is_so) ? (void)0 : fail(__FILE__, __LINE__, #is_so))
+_Noreturn void fail(const char *file, int line, const char *what);
+
+void front_begin(struct front *front, struct disks *disks, struct way way);
+void front_end(struct front *front);
+
+// Runs the daemon's session until it has nothing to do.
+void pump(struct front *front);
+
+bool front_send(const struct front *front, const struct sent *sent, size_t from, size_t to);
+
+// Fills the messages that set all queues up, from `base` on, and returns how many there are.
+size_t front_set_up(const struct front *front, struct sent *sent, uint32_t base);
+
+// Sends these messages, and expects each acknowledgement.
+void front_agree(struct front *front);
+
+// Takes a reply. Returns its payload's length, or 0.
+size_t front_reply(struct front *front, uint8_t *payload, size_t room);
+
+// Stops a queue, and gives its base.
+uint32_t front_stop(struct front *front, unsigned q);
+
+// Where the guest's bytes stand: by their place, and by the address that the guest has for it.
+uint64_t guest_of(const struct front *front, uint64_t place);
+uint64_t place_of(unsigned q, unsigned part);
+
+// Makes a chain of these parts available, without a kick. Parts are (place, length, writable).
+struct part {
+  uint64_t place;
+  uint32_t length;
+  bool writable;
+};
+void driver_put(struct front *front, unsigned q, const struct part *parts, unsigned count);
+void driver_kick(struct front *front, unsigned q);
+
+// Takes the next used element, if there is one.
+bool driver_take(struct front *front, unsigned q, uint32_t *length);
+
+// Runs a command of disk 0:0, and returns its status, or -1 where there was no answer.
+int command(struct front *front, unsigned q, const uint8_t *block, size_t length, const void *out, uint32_t out_length, void *in, uint32_t in_length);
+
+#endif

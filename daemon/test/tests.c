@@ -1,0 +1,298 @@
+// What a front end and its driver may do, and what then stands.
+#include <dirent.h>
+#include <fcntl.h>
+#include <stdio.h>
+#include <stdlib.h>
+#include <string.h>
+#include <unistd.h>
+
+#include "../bytes.h"
+#include "../chain.h"
+#include "front.h"
+
+static const uint8_t write_10[] = {0x2a, 0, 0, 0, 0, 3, 0, 0, 16, 0}, read_10[] = {0x28, 0, 0, 0, 0, 3, 0, 0, 16, 0};
+static const uint8_t inquiry[] = {0x12, 0, 0, 0, 36, 0}, same_10[] = {0x41, 0, 0, 0, 0, 40, 0, 0, 5, 0}, ready[] = {0, 0, 0, 0, 0, 0};
+static const uint8_t compare_16[16] = {0x89, 0, 0, 0, 0, 0, 0, 0, 0, 41, 0, 0, 0, 1};
+static const uint8_t unmap_10[] = {0x42, 0, 0, 0, 0, 0, 0, 0, 24, 0};
+
+enum { BYTES = 16 * 512, MOST_MESSAGES = 64, CHANGES = 700 };
+
+static struct way way_of(unsigned number) {
+  return (struct way){.packed = number & 1, .event_index = number & 2, .indirect = number & 4, .shadow = number & 8, .far = number & 16};
+}
+
+static unsigned open_files(void) {
+  unsigned count = 0;
+  DIR *folder = opendir("/proc/self/fd");
+  while (readdir(folder)) count++;
+  closedir(folder);
+  return count;
+}
+
+static void make_disks(struct disks *disks, const char *words) {
+  char why[200];
+  MUST(disks_add(disks, words, why, sizeof why));
+  MUST(disks_are_whole(disks));
+}
+
+// Commands of every kind that changes blocks; what they leave is looked at by each later session.
+static void work(struct front *front, uint8_t *kept) {
+  uint8_t data[BYTES], found[BYTES], list[24] = {0, 22, 0, 16};
+  for (size_t i = 0; i < sizeof data; i++) data[i] = (uint8_t)(rand() >> 7);
+  MUST(command(front, 2, write_10, sizeof write_10, data, BYTES, NULL, 0) == 0);
+  MUST(command(front, 3, read_10, sizeof read_10, NULL, 0, found, BYTES) == 0 && !memcmp(data, found, BYTES));
+  MUST(command(front, 4, same_10, sizeof same_10, data, 512, NULL, 0) == 0);
+  memcpy(found, data, 512);
+  memcpy(found + 512, data + 512, 512);
+  MUST(command(front, 2, compare_16, 16, found, 1024, NULL, 0) == 0);
+  MUST(command(front, 2, compare_16, 16, found, 1024, NULL, 0) == 2);
+  little_put(list + 8, 0, 7);
+  list[15] = 3;
+  list[19] = 1;
+  MUST(command(front, 3, unmap_10, sizeof unmap_10, list, sizeof list, NULL, 0) == 0);
+  memset(data, 0, 512);
+  memcpy(kept, data, BYTES);
+  MUST(command(front, 4, inquiry, sizeof inquiry, NULL, 0, found, 36) == 0 && !memcmp(found + 8, "VSCSI", 5));
+}
+
+static void look(struct front *front, const uint8_t *kept) {
+  uint8_t found[BYTES], five[5 * 512];
+  const uint8_t read_five[] = {0x28, 0, 0, 0, 0, 40, 0, 0, 5, 0};
+  MUST(command(front, 2, read_10, sizeof read_10, NULL, 0, found, BYTES) == 0 && !memcmp(kept, found, BYTES));
+  MUST(command(front, 3, read_five, sizeof read_five, NULL, 0, five, sizeof five) == 0);
+  MUST(!memcmp(five + 512, kept + 512, 512));
+  MUST(!memcmp(five, five + 1024, 512));
+  MUST(five[0] + five[1] + five[2]);
+}
+
+// Requests of all queues at once, and event buffers that stay with the device.
+static void crowd(struct front *front) {
+  uint32_t length;
+  const struct part event = {0x300000, 16, true};
+  for (unsigned i = 0; i < 3; i++) driver_put(front, EVENT_QUEUE, &event, 1);
+  driver_kick(front, EVENT_QUEUE);
+  pump(front);
+  MUST(front->alive && !driver_take(front, EVENT_QUEUE, &length));
+  for (unsigned i = 0; i < 40; i++) MUST(command(front, 2 + i % 3, ready, sizeof ready, NULL, 0, NULL, 0) == 0);
+  MUST(!driver_take(front, EVENT_QUEUE, &length));
+}
+
+// Every form, every feature, both modes, near and far memory: two sessions, and a restart of the rings in the second.
+static void test_ways(void) {
+  for (unsigned number = 0; number < 32; number++) {
+    struct disks disks = {0};
+    struct front front;
+    uint8_t kept[BYTES];
+    make_disks(&disks, "0:0=1M");
+    front_begin(&front, &disks, way_of(number));
+    front_agree(&front);
+    crowd(&front);
+    MUST(front.session.backend.shadow == (front.way.shadow || front.way.far));
+    work(&front, kept);
+    look(&front, kept);
+    // The driver's reset: new rings of zeros.
+    for (unsigned q = 0; q < QUEUES; q++) front_stop(&front, q);
+    memset(front.memory, 0, GUEST_BYTES);
+    for (unsigned q = 0; q < QUEUES; q++) front.queues[q] = (struct driver_queue){.next_wrap = true, .seen_wrap = true};
+    front_agree(&front);
+    look(&front, kept);
+    MUST(front.session.backend.shadow == (front.way.shadow || front.way.far));
+    front_end(&front);
+    front_begin(&front, &disks, way_of(number));
+    front_agree(&front);
+    look(&front, kept);
+    work(&front, kept);
+    front_end(&front);
+    disks_close(&disks);
+  }
+}
+
+// A ring that begins where another session left it.
+static void test_bases(void) {
+  for (unsigned number = 0; number < 8; number++) {
+    struct disks disks = {0};
+    struct front front;
+    uint8_t kept[BYTES];
+    static struct sent sent[MOST_MESSAGES];
+    make_disks(&disks, "0:0=1M");
+    front_begin(&front, &disks, way_of(number));
+    front_agree(&front);
+    crowd(&front);
+    work(&front, kept);
+    uint32_t bases[QUEUES];
+    for (unsigned q = 0; q < QUEUES; q++) bases[q] = front_stop(&front, q);
+    size_t count = front_set_up(&front, sent, 0);
+    uint8_t payload[MOST_PAYLOAD];
+    for (size_t i = 8; i < count; i++) {
+      uint8_t *at = sent[i].bytes + HEADER;
+      if (little_get(sent[i].bytes, 4) == SET_VRING_BASE) little_put(at + 4, bases[little_get(at, 4)], 4);
+      MUST(front_send(&front, &sent[i], 0, sent[i].length));
+      pump(&front);
+      MUST(front_reply(&front, payload, sizeof payload) == 8 && little_get(payload, 8) == 0);
+    }
+    look(&front, kept);
+    MUST(front.session.backend.shadow);
+    front_end(&front);
+    disks_close(&disks);
+  }
+}
+
+// Messages that are cut, go on later, or whose front end dies there.
+static void test_cuts(void) {
+  static struct sent sent[MOST_MESSAGES];
+  struct disks disks = {0};
+  make_disks(&disks, "0:0=1M");
+  unsigned files = open_files();
+  for (unsigned dies = 0; dies < 2; dies++) {
+    size_t place = 0, count = MOST_MESSAGES;
+    for (size_t whole = 0; whole < count; whole++, place = 0) {
+      do {
+        struct front front;
+        front_begin(&front, &disks, way_of(0));
+        count = front_set_up(&front, sent, 0);
+        size_t cut = place < sent[whole].length ? place : sent[whole].length;
+        for (size_t i = 0; i < whole; i++) MUST(front_send(&front, &sent[i], 0, sent[i].length));
+        MUST(front_send(&front, &sent[whole], 0, cut));
+        pump(&front);
+        MUST(front.alive);
+        if (!dies) {
+          MUST(front_send(&front, &sent[whole], cut, sent[whole].length));
+          pump(&front);
+          MUST(front.alive);
+        }
+        front_end(&front);
+        place++;
+      } while (place <= sent[whole].length);
+    }
+  }
+  MUST(open_files() == files);
+  disks_close(&disks);
+}
+
+// Messages whose fields are anything. The session ends or stands; nothing else happens.
+static void test_fields(void) {
+  static const uint64_t numbers[] = {0, 1, 2, 256, 1025, 0x80000000, UINT32_MAX};
+  static struct sent sent[MOST_MESSAGES];
+  struct disks disks = {0};
+  make_disks(&disks, "0:0=1M");
+  unsigned files = open_files();
+  size_t count = MOST_MESSAGES;
+  for (size_t which = 0; which < count; which++) {
+    for (size_t field = 0; field < HEADER + 72; field += 4) {
+      for (size_t n = 0; n < sizeof numbers / sizeof *numbers; n++) {
+        struct front front;
+        front_begin(&front, &disks, way_of((unsigned)n));
+        count = front_set_up(&front, sent, 0);
+        if (which >= count || field >= sent[which].length) {
+          front_end(&front);
+          break;
+        }
+        little_put(sent[which].bytes + field, numbers[n], 4);
+        // The last queue's messages come after all others have been taken.
+        for (size_t i = 0; i < count; i++) front_send(&front, &sent[i], 0, sent[i].length);
+        pump(&front);
+        if (front.alive && front.session.backend.queues[2].ready) {
+          driver_put(&front, 2, &(struct part){0x300000, 108, true}, 1);
+          driver_kick(&front, 2);
+          pump(&front);
+        }
+        front_end(&front);
+      }
+    }
+  }
+  MUST(open_files() == files);
+  disks_close(&disks);
+}
+
+// Descriptors and indices that are anything, whole rings of them too.
+static void test_rings(void) {
+  struct disks disks = {0};
+  unsigned ended = 0, broke = 0, stood = 0;
+  make_disks(&disks, "0:0=1M");
+  unsigned files = open_files();
+  srand(7);
+  for (unsigned number = 0; number < CHANGES; number++) {
+    struct front front;
+    front_begin(&front, &disks, way_of(number % 32));
+    front_agree(&front);
+    MUST(command(&front, 2, ready, sizeof ready, NULL, 0, NULL, 0) == 0);
+    const struct part parts[] = {{0x202000, 51, false}, {0x202400, 108, true}, {0x203000, 512, true}};
+    for (unsigned i = 0; i < 3; i++) driver_put(&front, 2 + number % 2, parts, 3);
+    unsigned changes = 1 + (unsigned)rand() % 4;
+    for (unsigned i = 0; i < changes; i++) {
+      static const uint64_t places[] = {0, 1, 15, 16, 0xffff, 0x7fff, HALF - 1, GUEST_BYTES - 4, GUEST_BYTES, 0x10000000, UINT32_MAX, UINT64_MAX - 8};
+      uint64_t area = place_of(2 + number % 2, (unsigned)rand() % 2);
+      if (front.way.indirect && rand() % 2) area = 0x180000 + 0x10000 * (uint64_t)(2 + number % 2);
+      uint64_t at = area + (unsigned)rand() % 128 * 2;
+      if (rand() % 3) little_put(front.memory + at, places[(unsigned)rand() % 12], rand() % 2 ? 2 : 8);
+      else little_put(front.memory + at, (uint64_t)rand(), 4);
+    }
+    for (unsigned q = 0; q < QUEUES; q++) MUST(write(front.kick[q], &(uint64_t){1}, 8) == 8);
+    pump(&front);
+    bool is_broken = front.alive && (front.session.backend.queues[2].ring.broken || front.session.backend.queues[3].ring.broken);
+    ended += !front.alive;
+    broke += is_broken;
+    stood += front.alive && !is_broken;
+    // Other queues go on.
+    if (front.alive) MUST(command(&front, 4, ready, sizeof ready, NULL, 0, NULL, 0) == 0);
+    front_end(&front);
+  }
+  MUST(open_files() == files);
+  MUST(broke > CHANGES / 20 && stood > CHANGES / 20);
+  printf("rings: %u broke a queue, %u ended the session, %u stood\n", broke, ended, stood);
+  disks_close(&disks);
+}
+
+// A disk on a file: another daemon finds it, and one that is read only leaves the file alone.
+static void test_files(void) {
+  char path[] = "/tmp/vscsi-disk-XXXXXX", words[100], why[200];
+  uint8_t kept[BYTES], other[BYTES], found[BYTES];
+  close(mkstemp(path));
+  for (unsigned turn = 0; turn < 4; turn++) {
+    struct disks disks = {0};
+    struct front front;
+    snprintf(words, sizeof words, "0:0=1M,file=%s%s", path, turn == 2 ? ",ro" : "");
+    make_disks(&disks, words);
+    struct disks second = {0};
+    if (turn == 0) MUST(!disks_add(&second, words, why, sizeof why));
+    front_begin(&front, &disks, way_of(turn));
+    front_agree(&front);
+    if (turn) look(&front, kept);
+    if (turn != 2) work(&front, kept);
+    else work(&front, other);
+    front_end(&front);
+    int file = open(path, O_RDONLY | O_CLOEXEC);
+    MUST(pread(file, found, BYTES, 3 * 512) == BYTES && !memcmp(found, kept, BYTES));
+    close(file);
+    disks_close(&disks);
+  }
+  unlink(path);
+}
+
+static void test_words(void) {
+  static const char *const wrong[] = {"", "0", "0:0", "0:0=", "0:0=0", "0:0=513", "0:0=1M,", "0:0=1M,rw", "0:0=1M,ro", "256:0=1M", "0:16384=1M", "0:0=1P",
+                                      "0:0=9999999999999999999999", "0:0=1M,file=", "0:0=1M,file=/", "0:0=1M,file=/nowhere/x", "-1:0=1M", "0:0=1025T"};
+  char why[300];
+  struct disks disks = {0};
+  for (size_t i = 0; i < sizeof wrong / sizeof *wrong; i++) MUST(!disks_add(&disks, wrong[i], why, sizeof why) && *why);
+  MUST(!disks_are_whole(&disks));
+  MUST(disks_add(&disks, "1:1=512", why, sizeof why) && !disks_are_whole(&disks) && !disks_add(&disks, "1:1=512", why, sizeof why));
+  MUST(disks_add(&disks, "1:0=4G", why, sizeof why) && disks_are_whole(&disks) && disks.disks[0].lun == 0 && disks.disks[0].blocks == 4 << 21);
+  disks_close(&disks);
+}
+
+int main(void) {
+  static const struct {
+    const char *name;
+    void (*run)(void);
+  } tests[] = {{"words", test_words}, {"ways", test_ways},     {"bases", test_bases}, {"files", test_files},
+               {"cuts", test_cuts},   {"fields", test_fields}, {"rings", test_rings}};
+  unsigned files = open_files();
+  for (size_t i = 0; i < sizeof tests / sizeof *tests; i++) {
+    tests[i].run();
+    MUST(open_files() == files);
+    printf("%s: passed\n", tests[i].name);
+    fflush(stdout);
+  }
+  return 0;
+}
