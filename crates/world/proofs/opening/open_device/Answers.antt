@@ -47,4 +47,5 @@ returns c =
       buffers = ap (λ (p : PlainPort). p.buffers) c.in-Ok-new.ensures;
       missed = ap (λ (p : PlainPort). p.missed) c.in-Ok-new.ensures;
       waiting = c.new-4.ensures;
+      tells_changes = c.tells_changes.ensures;
     }
