@@ -23,7 +23,7 @@ pub use notifications::Notifications;
 pub use phases::{
     Hand, Held, OpenFunction, Ready, Refusal, Slot, phase_answer, phase_answer_tmf, phase_check,
     phase_commit, phase_direct, phase_enter, phase_fetch, phase_fetch_control, phase_fetch_event,
-    phase_hard, phase_leave, phase_mark, phase_raise,
+    phase_hard, phase_leave, phase_mark, phase_raise, phase_resize,
 };
 pub use queues::{AnyRing, Queue};
 pub use ring_core::RingFault;
