@@ -129,7 +129,9 @@ impl Session {
     /// The operator gives a unit so many blocks; where it isn't there, or no unit may have so many, nothing happens.
     fn resize(&mut self, unit: Address, blocks: u64) -> Result<(), Stop> {
         if let Some(place) = self.known.place(unit) {
-            let _applies = self.machine.world.step(Event::Resize(place, blocks))?;
+            if self.machine.world.step(Event::Resize(place, blocks))? {
+                self.known.resize(place, blocks);
+            }
         }
         Ok(())
     }

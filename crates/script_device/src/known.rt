@@ -54,6 +54,13 @@ impl Known {
         false
     }
 
+    /// Takes down that the unit at a place has so many blocks from now on.
+    pub fn resize(&mut self, place: u16, blocks: u64) {
+        if let Some(known) = self.units.get_mut(place as usize) {
+            known.blocks = blocks;
+        }
+    }
+
     /// The place of a unit, by which the operator names it; `None` where it isn't there.
     pub fn place(&self, unit: Address) -> Option<u16> {
         let place = self.units.iter().position(|known| known.target == unit.target

@@ -181,7 +181,8 @@ impl Service {
     fn resize<R: Wait>(&mut self, rt: &R, unit: Address, blocks: u64) -> Result<(), Stop> {
         if let Some(place) = self.known.place(unit) {
             match self.host.resize(rt, place, blocks) {
-                Ok(()) | Err(ResizeFault::BadCapacity) => {}
+                Ok(()) => self.known.resize(place, blocks),
+                Err(ResizeFault::BadCapacity) => {}
                 Err(ResizeFault::NoMemory) => return Err(Stop::NoMemory),
             }
         }
