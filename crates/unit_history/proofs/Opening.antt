@@ -62,6 +62,16 @@ kept_new o block_at pending lasts room steps tasks none idle pends stored floors
     subst (λ w. AreKept o w block_at pending tasks lasts room) (sym none)
     (subst (λ ts. AreKept o [] block_at pending ts lasts room) (sym idle) (keep_new o block_at pending lasts room pends stored floors))
 
+-- a unit of which no step was taken opens with other blocks
+pub opens_again : (o : Opening) (blocks : ℕ) (content : List ℕ) (old new : Blocks) (pending : List Code) (lasts : List (Option ℕ)) (room : ℕ)
+    (steps : List Step) (tasks : List PlainTask) → steps ≡ [] → AreKept o steps old pending tasks lasts room
+    → ((b : ℕ) → new b ≡ blocks_in content b)
+    → AreKept (record o { blocks = blocks; content = content }) steps new pending tasks lasts room
+opens_again o blocks content old new pending lasts room steps tasks none is stored =
+    subst (λ w. AreKept (record o { blocks = blocks; content = content }) w new pending tasks lasts room) (sym none)
+    (let here = subst (λ w. AreKept o w old pending tasks lasts room) none is in
+    record { lawful = tt; stored = stored; pends = here.pends; set = here.set; fit = here.fit; floors = here.floors; reserved = here.reserved })
+
 pub based_new : (base forgotten : ℕ) (steps : List Step) (tasks : List PlainTask) → steps ≡ [] → tasks ≡ [] → base ≡ 0 → forgotten ≡ 0
     → AreBased base forgotten steps (seen_of tasks)
 based_new base forgotten steps tasks none idle low all =

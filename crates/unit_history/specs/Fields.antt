@@ -1,10 +1,10 @@
 -- What a unit keeps. Only private functions and models cite it: no promise stands on it.
 use Rattle.std.specs.Prelude.{ℕ, ◌≡◌, List, [], ◌∷◌}
-use Rattle.block_store.specs.Blocks.{run}
 use Rattle.block_store.specs.Kept as pages
 use Rattle.block_store.specs.declared.paged.PagedStore.{PagedStore}
 use Rattle.history.specs.Contents.{Opening, capacity_of}
 use Rattle.task_set.specs.Tasks.{parked_of, seen_of}
+use Rattle.unit_history.specs.Disks.{disk_bytes}
 use Rattle.unit_history.specs.Parts.{AreKept, AreBased}
 use Rattle.task_set.specs.Unit.{PlainUnit}
 use Rattle.unit_history.specs.declared.unit.UnitState.TheInside.{Inside}
@@ -12,7 +12,7 @@ use Rattle.unit_history.specs.declared.unit.UnitState.TheInside.{Inside}
 -- own: the bytes of all blocks of the store that was handed in, if one was
 abbrev pub content_of : List PagedStore → List ℕ
 content_of [] = []
-content_of (s ∷ more) = run (pages.blocks_of s.pages) 0 s.capacity
+content_of (disk ∷ more) = disk_bytes disk
 
 abbrev pub opening_of : Inside → Opening
 opening_of u =

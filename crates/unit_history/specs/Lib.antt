@@ -4,4 +4,5 @@ pub mod Turns
 pub mod Outcomes
 pub mod Endings
 pub mod Serving
+pub mod Disks
 pub mod Fields

@@ -164,6 +164,7 @@ impl UnitState {
     ghost use Rattle.history.specs.Receipts.{IsConfirmed};
     ghost use Rattle.unit_steps.specs.Kept.{kind_of};
     ghost use Rattle.task_set.specs.Unit.{opening_unit, handing, Steps, IsUnit};
+    ghost use Rattle.unit_history.specs.Disks.{opening_over, IsDiskOf};
     ghost use Rattle.unit_history.specs.Calls.{Enters, Commits, ResizeRefused, CannotLeave};
 
     /// A unit as it is specified, with the LUNs of its target by rising number, of which no step was taken. Whoever
@@ -207,54 +208,23 @@ impl UnitState {
         })
     }
 
-    /// Returns a unit as [`UnitState::new`] does, but with the blocks of a store, as many as it has, in place of zeros
-    /// and of the specified capacity. Takes no memory. Who keeps a disk beyond its device calls it, with what
-    /// [`UnitState::into_store`] gave.
-    pub fn open_with(
-        alloc: Global,
-        spec: &UnitSpec,
-        luns: Vec<u16>,
-        keeps_replies: bool,
-        mut store: PagedStore,
-    ) -> UnitState
-        requires { length luns.items ≤ 16384 }
-        ensures { result ≡ opening_unit (record {
-          target = spec.now.target;
-          lun = spec.now.lun;
-          luns = luns.items;
-          blocks = ⟦<PagedStore as Store>⟧.size store;
-          calm = spec.now.calm;
-          content = run (⟦<PagedStore as Store>⟧.block_at store) 0 (⟦<PagedStore as Store>⟧.size store);
-        }) keeps_replies }
+    /// Gives a unit of which no step was taken the blocks of a store in place of its zeros, and as many as the store has.
+    /// Takes no memory. Who keeps a disk beyond its device calls it, with what [`UnitState::into_store`] gave.
+    pub fn hand_in(&mut self, mut store: PagedStore)
+        requires { self.old.steps ≡ [] }
+        ensures { self.new ≡ record self.old { opening = opening_over store self.old.opening } }
     {
-        let opened = Record::new().and(&store);
+        self.opened = Record::new().and(&store);
         let blocks = store.capacity();
         // What the store has behind its end is no block of the disk.
         store.resize(blocks);
-        UnitState {
-            alloc,
-            facts: UnitFacts {
-                target: spec.target,
-                lun: spec.lun,
-                luns,
-                pending: None,
-            },
-            calm: spec.calm,
-            attentions: attentions_at_start(spec.calm),
-            store,
-            opened,
-            opening_blocks: blocks,
-            tasks: TaskSet::new(),
-            log: StepLog::new(alloc, keeps_replies),
-            lasts: Lasts::new(alloc),
-            room: Vec::new(alloc),
-        }
+        self.opening_blocks = blocks;
+        self.store = store;
     }
 
     /// Returns the unit's blocks, as its commands and resizes left them. The rest of the unit is gone.
     pub fn into_store(self) -> PagedStore
-        ensures size { ⟦<PagedStore as Store>⟧.size result ≡ capacity_of self.opening self.steps }
-        ensures blocks { (b : ℕ) → ⟦<PagedStore as Store>⟧.block_at result b ≡ blocks_of self.opening self.steps b }
+        ensures { IsDiskOf self result }
     {
         self.store
     }

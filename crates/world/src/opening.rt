@@ -5,13 +5,13 @@ ghost use Rattle.decisions.specs.Inventory.{address_of};
 ghost use Rattle.std.specs.List.{list_all};
 ghost use Rattle.config.specs.Config.{is_config, is_queue};
 ghost use Rattle.ring_core.specs.State.{features_of};
-ghost use Rattle.world.specs.Opening.{AreOpening, AreFresh, AreSeats, IsOpening, opening_unit};
+ghost use Rattle.world.specs.Opening.{AreOpening, AreFresh, AreSeats, IsOpening, IsOpeningOver, opening_unit, are_disks};
 
 use crate::bay::Bay;
 use crate::device::Device;
 use crate::handed_off::HandedOff;
 use crate::seat::Seat;
-use block_store::NoMemory;
+use block_store::{NoMemory, PagedStore, Store};
 use config::{Config, MOST_DESCRIPTORS, form, tells_changes};
 use decisions::{Inventory, UnitSpec};
 use event_queue::{EventPort, WaitingEvents};
@@ -138,4 +138,35 @@ pub(crate) fn open_device(alloc: Global, config: &Config) -> Result<Device, NoMe
         waiting: WaitingEvents::new(alloc),
         tells_changes: tells_changes(config.features),
     })
+}
+
+/// Whether there is a disk for each unit, of its capacity.
+pub(crate) fn are_disks_of(wanted: &[UnitSpec], disks: &[PagedStore]) -> bool
+    ensures { result ≡ are_disks wanted.now disks.now }
+{
+    if wanted.len() != disks.len() {
+        return false;
+    }
+    for number in 0..wanted.len() {
+        if disks[number].capacity() != wanted[number].blocks {
+            return false;
+        }
+    }
+    true
+}
+
+impl Device {
+    ghost use Rattle.std.specs.Prelude.{[]};
+
+    /// Gives each unit its disk, for a device of which nothing has happened yet.
+    pub(crate) fn hand_in(&mut self, config: &Config, disks: &mut Vec<PagedStore>)
+        requires opening { IsOpening config.now self.old }
+        requires disks { are_disks config.now.units.items disks.old.items ≡ true }
+        ensures over { IsOpeningOver config.now disks.old.items self.new }
+        ensures none { disks.new.items ≡ [] }
+    {
+        while let Some(disk) = disks.pop() {
+            self.units[disks.len()].hand_in(disk);
+        }
+    }
 }

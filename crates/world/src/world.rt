@@ -6,10 +6,10 @@ ghost use Rattle.std.specs.List.{list_any};
 use crate::bay::Bay;
 use crate::cursor::{Cursor, Progress};
 use crate::device::Device;
-use crate::opening::open_device;
+use crate::opening::{are_disks_of, open_device};
 use crate::service::Served;
 use crate::sound::all_are_sound;
-use block_store::NoMemory;
+use block_store::{NoMemory, PagedStore};
 use config::{Config, StartFault};
 use deeds::Event;
 use deeds::laws::every_run_goes_on;
@@ -53,7 +53,7 @@ impl World {
     ghost use Rattle.deeds.specs.World as plain;
     ghost use Rattle.history.specs.Contents.{capacity_of, pending_of};
     ghost use Rattle.config.specs.Config.{is_config, StartRefusedAs};
-    ghost use Rattle.world.specs.Opening.{IsOpening};
+    ghost use Rattle.world.specs.Opening.{IsOpening, IsOpeningOver, OverRefusedAs, AreDisksOf, are_disks};
     ghost use Rattle.world.specs.Sound.{AreFew, IsReached, IsSound};
     ghost use Rattle.deeds.specs.Happens.{Reached};
     ghost use Rattle.deeds.specs.Turns.{Turns};
@@ -80,6 +80,47 @@ impl World {
             Ok(device) => Ok(World { device }),
             Err(NoMemory) => Err(StartFault::NoMemory),
         }
+    }
+
+    /// Opens a device as `new` does, but over disks: each unit, in the order of the configuration, has the blocks of its
+    /// disk in place of zeros. Whoever keeps disks beyond their devices calls it with those that [`World::close`] gave;
+    /// the device takes them all. `BadConfig` exactly where the configuration isn't valid, or the disks aren't as many as
+    /// its units, each of its unit's capacity; else `NoMemory` where a growth was refused. Then the disks are as they
+    /// were.
+    pub fn new_with(
+        alloc: Global,
+        config: &Config,
+        disks: &mut Vec<PagedStore>,
+    ) -> Result<World, StartFault>
+        ensures opening { MatchResult result
+            (λ w. (is_config config.now ≡ true) × (are_disks config.now.units.items disks.old.items ≡ true)
+            × IsOpeningOver config.now disks.old.items w × (disks.new.items ≡ []))
+            (λ fault. OverRefusedAs config.now disks.old.items fault × (disks.new.items ≡ disks.old.items)) }
+        ensures opens { IfOk result (λ w. plain.Opens w) }
+        ensures reaches { IfOk result (λ w. Reached w [] w) }
+    {
+        if !config.is_valid() || !are_disks_of(config.units.as_slice(), disks.as_slice()) {
+            return Err(StartFault::BadConfig);
+        }
+        match open_device(alloc, config) {
+            Ok(mut device) => {
+                device.hand_in(config, disks);
+                Ok(World { device })
+            }
+            Err(NoMemory) => Err(StartFault::NoMemory),
+        }
+    }
+
+    /// Ends the device, and returns the disks of its units, in their order, as its histories left them: blocks and
+    /// capacities. Guest memory, queues, tasks and attentions are gone. The device as it was, where memory for the list
+    /// of disks was refused.
+    pub fn close(self, alloc: Global) -> Result<Vec<PagedStore>, World>
+        ensures disks { MatchResult result (λ disks. AreDisksOf self.units disks.items) (λ left. left ≡ self) }
+    {
+        let Ok(disks) = Vec::with_capacity(alloc, self.device.units.len()) else {
+            return Err(self);
+        };
+        Ok(self.device.into_disks(disks))
     }
 
     /// That some trace led here from an opening: every law over reached traces holds of it.
