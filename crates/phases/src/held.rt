@@ -6,13 +6,14 @@ ghost use Rattle.unit_history.specs.Calls.{Commits};
 use crate::answer::write_outcome;
 use guest_mem::GuestMem;
 use std::marker::Model;
-use unit_history::{Job, Outcome, UnitState};
+use unit_history::{Job, Outcome, PreparedWrite, StartedWrite, UnitState};
 
-/// A job in hand, and what came of its commit once that is over. The commit changes it in place, so that the job
-/// doesn't move.
+/// A job in hand, the pages of its WRITE once they are made, and what came of its commit once that is over. The commit
+/// changes it in place, so that the job doesn't move.
 #[derive(Drop)]
 pub struct Held {
     job: Job,
+    pages: Option<PreparedWrite>,
     outcome: Option<Outcome>,
 }
 
@@ -38,7 +39,11 @@ impl Held {
     pub fn new(job: Job) -> Held
         ensures { result ≡ record { job = job; outcome = None } }
     {
-        Held { job, outcome: None }
+        Held {
+            job,
+            pages: None,
+            outcome: None,
+        }
     }
 
     /// The job.
@@ -55,12 +60,19 @@ impl Held {
         self.outcome.is_some()
     }
 
-    /// The job is committed at its unit.
+    /// The pages of its WRITE are made of what was copied for them; none where memory was refused.
+    pub(crate) fn prepare(&mut self, started: StartedWrite)
+        ensures { self.new ≡ self.old }
+    {
+        self.pages = started.prepare();
+    }
+
+    /// The job is committed at its unit, with the pages of its WRITE, if they were made.
     pub(crate) fn commit(&mut self, unit: &mut UnitState)
         ensures { (o : answers.Outcome) × Commits unit.old self.old.job o unit.new
             × (self.new ≡ record { job = self.old.job; outcome = Some o }) }
     {
-        self.outcome = Some(unit.commit(&self.job));
+        self.outcome = Some(unit.commit_with(&self.job, self.pages.take()));
     }
 
     /// Writes what answers the job over the writable parts of its chain, where its commit is over: how many bytes it
@@ -82,7 +94,7 @@ impl Held {
         ensures job { result.0 ≡ self.job }
         ensures outcome { result.1 ≡ self.outcome }
     {
-        let Held { job, outcome } = self;
+        let Held { job, outcome, .. } = self;
         (job, outcome)
     }
 }

@@ -10,6 +10,7 @@ mod entering;
 mod hand;
 mod held;
 mod marking;
+mod preparing;
 mod resetting;
 mod resizing;
 mod serving;
@@ -20,6 +21,7 @@ pub use entering::phase_enter;
 pub use hand::Hand;
 pub use held::Held;
 pub use marking::{phase_check, phase_mark};
+pub use preparing::{phase_prepare, phase_start_pages};
 pub use queue_phases::{
     OpenFunction, Ready, Refusal, Slot, Taken, phase_answer_tmf, phase_direct, phase_fetch,
     phase_fetch_control, phase_fetch_event, phase_raise, take_request,

@@ -20,6 +20,11 @@ abbrev pub entry_of_request : Ticket → Option PlainRequest → Entry
 entry_of_request t (Some r) = entry_of t r
 entry_of_request t None = record { ticket = t; id = 0; attribute = Simple; command = TestUnitReady; data_out = [] }
 
+-- own: the request of a task, its own or shared
+abbrev pub request_of : Option PlainRequest → Option PlainRequest → Option PlainRequest
+request_of (Some r) shared = Some r
+request_of None shared = shared
+
 -- own: what is kept of each task
 abbrev pub seen_of : List PlainTask → List Seen
 seen_of tasks = map (λ (t : PlainTask). t.seen) tasks

@@ -4,9 +4,11 @@
 mod blocking;
 mod job;
 mod set;
+mod shared;
 mod task;
 mod walks;
 
 pub use job::{Arrival, Job, JobList};
 pub use set::{Full, MOST_TASKS, TaskSet};
+pub use shared::SharedRequest;
 pub use task::Task;

@@ -1,18 +1,20 @@
 //! The tasks of a logical unit that are alive.
 
-ghost use Rattle.std.specs.Prelude.{◌≡◌, ◌+◌, ◌<◌, ◌≤◌, ◌++◌, ◌∷◌, [], length, map, slice_get, None, OnOk, OnErr, IfOk, IfErr};
+ghost use Rattle.std.specs.Prelude.{◌≡◌, ◌+◌, ◌<◌, ◌≤◌, ◌++◌, ◌∷◌, [], length, map, slice_get, None, OnOk, OnErr, IfOk, IfErr, IfSome};
 ghost use Rattle.std.specs.Option.{option_copied, option_map};
-ghost use Rattle.history.specs.Tasks.{task_of};
+ghost use Rattle.history.specs.Tasks.{entry_of, task_of};
 ghost use Rattle.history.specs.Seen.{any_met, any_before, finished, struck, freed};
 ghost use Rattle.task_set.specs.Tasks.{PlainTask, entries_of, seen_of, moved, all_given, task_at, without, entering, run_at_once, may_run};
 
 use crate::blocking::block_next;
 use crate::job::{Arrival, Job, JobList};
+use crate::shared::SharedRequest;
 use crate::task::Task;
 use crate::walks::{finish_all, free_all, has_met, has_met_before, place_of, strike_all};
 use arrayvec::ArrayVec;
 use history::{Reason, Rule};
 use ring_core::Ticket;
+use std::alloc::Global;
 use std::marker::Model;
 
 /// The most tasks of a logical unit that are alive at once.
@@ -77,6 +79,17 @@ impl TaskSet {
         let tasks = self.tasks.as_slice();
         let place = place_of(tasks, ticket)?;
         Some(&tasks[place])
+    }
+
+    /// Shares the request of the task of a ticket. Whoever prepares the pages of its write calls it, in the hold of the
+    /// unit's lock. `None` where it isn't alive, or memory was refused.
+    pub fn share(&mut self, ticket: Ticket, alloc: Global) -> Option<SharedRequest>
+        ensures same { self.new ≡ self.old }
+        ensures shared { IfSome result (λ r. IfSome (task_at ticket self.old) (λ t. t.seen.entry ≡ entry_of t.seen.entry.ticket r)) }
+    {
+        let tasks = self.tasks.as_mut_slice();
+        let place = place_of(tasks, ticket)?;
+        tasks[place].share(alloc)
     }
 
     /// Whether the task of a ticket may run (SAM-5 §8.6); `false` where it isn't alive. A worker asks it before it

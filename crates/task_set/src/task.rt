@@ -1,17 +1,19 @@
 //! A task that is alive.
 
-ghost use Rattle.std.specs.Prelude.{◌≡◌, ◌+◌, ◌<◌, ◌≤◌, ◌++◌, length, true, false, Some, None};
-ghost use Rattle.std.specs.Option.{option_to_list};
+ghost use Rattle.std.specs.Prelude.{◌≡◌, ◌+◌, ◌<◌, ◌≤◌, ◌++◌, length, true, false, Some, None, IfSome};
+ghost use Rattle.std.specs.Option.{option_copied, option_to_list};
 ghost use Rattle.cdb.specs.Need.{need_of};
-ghost use Rattle.history.specs.Tasks.{meets};
+ghost use Rattle.history.specs.Tasks.{entry_of, meets};
 ghost use Rattle.history.specs.Seen.{finished, struck};
-ghost use Rattle.task_set.specs.Tasks.{moved, given, enabled_unless};
+ghost use Rattle.task_set.specs.Tasks.{moved, given, enabled_unless, entry_of_request};
 
 use crate::job::{Arrival, Job, JobList};
+use crate::shared::SharedRequest;
 use cdb::Command;
 use decisions::{TaskAttribute, UnitRequest};
 use history::{Reason, Rule};
 use ring_core::Ticket;
+use std::alloc::Global;
 use std::marker::Model;
 
 /// A task that is alive: from when its command entered the task set until its answer is written (SAM-5 §5.5).
@@ -19,7 +21,9 @@ use std::marker::Model;
 #[derive(Drop)]
 pub struct Task {
     ticket: Ticket,
+    // Its request: the task's own until the pages of its write are prepared, and shared with these from then on.
     request: Option<UnitRequest>,
+    shared: Option<SharedRequest>,
     enabled: bool,
     done: bool,
     mark: Option<Reason>,
@@ -28,13 +32,13 @@ pub struct Task {
 }
 
 impl Model for Task {
-    ghost use Rattle.task_set.specs.Tasks.{PlainTask, entry_of_request, IsKept};
+    ghost use Rattle.task_set.specs.Tasks.{PlainTask, entry_of_request, request_of, IsKept};
 
     ghost Value = { PlainTask };
 
     ghost view = { λ t. record {
       seen = record {
-        entry = entry_of_request t.ticket t.request;
+        entry = entry_of_request t.ticket (request_of t.request t.shared);
         enabled = t.enabled;
         done = t.done;
         mark = t.mark;
@@ -43,7 +47,7 @@ impl Model for Task {
       parked = t.parked;
     } };
 
-    ghost invariant = { λ t. IsKept (entry_of_request t.ticket t.request) t.enabled t.mark t.parked };
+    ghost invariant = { λ t. IsKept (entry_of_request t.ticket (request_of t.request t.shared)) t.enabled t.mark t.parked };
 }
 
 impl Default for Task {
@@ -55,6 +59,7 @@ impl Default for Task {
                 number: 0,
             },
             request: None,
+            shared: None,
             enabled: true,
             done: false,
             mark: None,
@@ -72,11 +77,45 @@ impl Task {
         self.ticket
     }
 
+    /// Its request; `None` in a free place of a task set.
+    #[inline(always)]
+    fn request(&self) -> Option<&UnitRequest>
+        ensures { self.now.seen.entry ≡ entry_of_request self.now.seen.entry.ticket (option_copied result) }
+    {
+        match &self.request {
+            Some(request) => Some(request),
+            None => match &self.shared {
+                Some(shared) => Some(shared.request()),
+                None => None,
+            },
+        }
+    }
+
+    /// Shares its request with whoever prepares the pages of its write; `None` where memory was refused.
+    pub(crate) fn share(&mut self, alloc: Global) -> Option<SharedRequest>
+        ensures same { self.new ≡ self.old }
+        ensures shared { IfSome result (λ r. self.old.seen.entry ≡ entry_of self.old.seen.entry.ticket r) }
+    {
+        if let Some(request) = self.request.take() {
+            match SharedRequest::new(alloc, request) {
+                Ok(shared) => self.shared = Some(shared),
+                Err(back) => {
+                    self.request = Some(back);
+                    return None;
+                }
+            }
+        }
+        match &self.shared {
+            Some(shared) => shared.again(),
+            None => None,
+        }
+    }
+
     /// The driver's identifier of the command.
     pub fn id(&self) -> u64
         ensures { result ≡ self.now.seen.entry.id }
     {
-        match &self.request {
+        match self.request() {
             Some(request) => request.id(),
             None => 0,
         }
@@ -86,7 +125,7 @@ impl Task {
     pub fn attribute(&self) -> TaskAttribute
         ensures { result ≡ self.now.seen.entry.attribute }
     {
-        match &self.request {
+        match self.request() {
             Some(request) => request.attribute(),
             None => TaskAttribute::Simple,
         }
@@ -96,7 +135,7 @@ impl Task {
     pub fn command(&self) -> Command
         ensures { result ≡ self.now.seen.entry.command }
     {
-        match &self.request {
+        match self.request() {
             Some(request) => request.command(),
             None => Command::TestUnitReady,
         }
@@ -107,7 +146,7 @@ impl Task {
         ensures data { result.now ≡ self.now.seen.entry.data_out }
         ensures len { length result.now ≡ (need_of self.now.seen.entry.command).out }
     {
-        match &self.request {
+        match self.request() {
             Some(request) => request.data(),
             None => &[],
         }
@@ -163,6 +202,7 @@ impl Task {
         let task = Task {
             ticket: job.ticket(),
             request: Some(request),
+            shared: None,
             enabled: true,
             done: false,
             mark: None,
@@ -183,6 +223,7 @@ impl Task {
         Task {
             ticket: job.ticket(),
             request: Some(request),
+            shared: None,
             enabled: false,
             done: false,
             mark: None,

@@ -4,6 +4,7 @@
 mod answering;
 mod answers;
 mod given;
+mod pages;
 mod serving;
 mod turn;
 mod unit;
@@ -12,6 +13,7 @@ pub use answering::Answering;
 pub use answers::{BareReceipt, Entered, Outcome, Receipt, ResizeFault, Unknown};
 pub use given::Given;
 pub use notes::{Cause, Note};
+pub use pages::{PreparedWrite, StartedWrite};
 pub use task_set::{Arrival, Job, JobList};
 pub use unit::{Place, UnitState, is_capacity};
 pub use unit_steps::{LATEST_KEPT, LONGEST_KEPT, StepKind};

@@ -12,9 +12,11 @@ ghost use Rattle.unit_steps.specs.Performing.{IsKeptReply, step_for};
 ghost use Rattle.unit_history.specs.Outcomes.{outcome_for};
 
 use crate::answers::{Entered, Outcome, Receipt, ResizeFault, Unknown};
+use crate::pages::{PreparedWrite, StartedWrite, pages_for};
 use crate::turn::{Turn, is_ended, turn_of};
 use block_commands::UnitFacts;
 use block_store::{NoMemory, PagedStore, Store};
+use cdb::Command;
 use decisions::UnitSpec;
 use history::{Reason, Rule};
 use record::Record;
@@ -269,7 +271,45 @@ impl UnitState {
     /// Runs the command of a job's task whole, in one hold of the unit's lock. Tested first to last: `Unknown`; the
     /// mark, which answers `Aborted`; `Busy`, where memory was refused to the command itself or, where replies are
     /// kept, to the copy of its reply, which is made where its data are short enough to be kept.
+    #[inline(always)]
     pub fn commit(&mut self, job: &Job) -> Outcome
+        ensures step { Commits self.old job.now result self.new }
+        ensures fits { FitsNeed (need_of job.now.entry.command).into result }
+    {
+        self.commit_with(job, None)
+    }
+
+    /// Copies what the pages of a job's WRITE need, in one hold of the unit's lock: the pages that its range covers in
+    /// part. Whoever has the job calls it before it commits that, makes the pages with no lock held, and gives them to
+    /// [`UnitState::commit_with`]. `None` where the job's task couldn't run now, its command isn't a WRITE of blocks below
+    /// the capacity, or memory was refused: then it is committed without pages.
+    pub fn start_pages(&mut self, job: &Job) -> Option<StartedWrite>
+        ensures { self.new ≡ self.old }
+    {
+        let ticket = job.ticket();
+        let Turn::Ready = turn_of(self.tasks.task(ticket)?, job) else {
+            return None;
+        };
+        let request = self.tasks.share(ticket, self.alloc)?;
+        match request.command() {
+            Command::Write { lba, blocks } => {
+                let capacity = self.store.capacity();
+                if lba > capacity || u64::from(blocks) > capacity - lba {
+                    return None;
+                }
+                match self.store.edges(lba, u32::from(blocks)) {
+                    Ok(edges) => Some(StartedWrite::new(edges, request)),
+                    Err(NoMemory) => None,
+                }
+            }
+            _ => None,
+        }
+    }
+
+    /// Runs the command of a job's task as [`UnitState::commit`] does, with the pages of its WRITE, if they were made. They
+    /// are put in place where they are of this very command and its data and nothing beside its range has changed in
+    /// them since; else the command writes its blocks as ever.
+    pub fn commit_with(&mut self, job: &Job, prepared: Option<PreparedWrite>) -> Outcome
         ensures step { Commits self.old job.now result self.new }
         ensures fits { FitsNeed (need_of job.now.entry.command).into result }
     {
@@ -287,6 +327,7 @@ impl UnitState {
                 };
                 let command = task.command();
                 let bytes = task.data();
+                let pages = pages_for(prepared, task);
                 if self.log.keeps_replies() {
                     let performed = perform(
                         self.alloc,
@@ -296,7 +337,7 @@ impl UnitState {
                         &mut self.store,
                         &command,
                         bytes,
-                        None,
+                        pages,
                         true,
                     );
                     record_run(&mut self.log, &mut self.tasks, unit, ticket, performed)
@@ -309,7 +350,7 @@ impl UnitState {
                         &mut self.store,
                         &command,
                         bytes,
-                        None,
+                        pages,
                         false,
                     );
                     record_run(&mut self.log, &mut self.tasks, unit, ticket, performed)

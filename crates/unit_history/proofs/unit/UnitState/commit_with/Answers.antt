@@ -10,7 +10,7 @@ use Rattle.unit_steps.specs.Performing.{told, step_for}
 use Rattle.task_set.specs.Tasks.{task_at, seen_of}
 use Rattle.unit_history.proofs.Keeping.{has_room, is_ready, told_is}
 use Rattle.unit_history.proofs.Committing.{cannot_none, cannot_turn, is_of, is_aborted, keep_run, commits_run}
-use Rattle.unit_history.proofs.unit.UnitState.commit.Goals as goal
+use Rattle.unit_history.proofs.unit.UnitState.commit_with.Goals as goal
 
 pub returns-in_default-clause-step : goal.returns-in_default-clause-step
 returns-in_default-clause-step c =
