@@ -15,9 +15,9 @@ use block_store::NoMemory;
 use event_queue::WaitingEvents;
 use phases::{
     Hand, OpenFunction, Slot, phase_check, phase_commit, phase_enter, phase_hard, phase_leave,
-    phase_mark, phase_resize,
+    phase_mark, phase_prepare, phase_resize, phase_start_pages,
 };
-use unit_history::{JobList, ResizeFault};
+use unit_history::{JobList, ResizeFault, StartedWrite};
 
 /// The request that arrived comes to its unit (`phase_enter`), in one hold of that. The owner of its queue calls, with
 /// its place from `Slot::unit`. Whether something changed.
@@ -37,6 +37,33 @@ pub fn enter_on<B: Bays>(bays: &mut B, at: usize, slot: &mut Slot, out: &mut Job
             ensures { Enters (slot_of slot.old) unit.old out.old result unit.new (slot_of slot.new) out.new }
         { phase_enter(unit, slot, out) },
     )
+}
+
+/// The pages of the WRITE in the hand are made ahead of its commit: what they need is copied in one hold of its unit
+/// (`phase_start_pages`), and they are made after it, with no lock held (`phase_prepare`). The seat that has the hand calls,
+/// with its place from `Hand::committing_unit`. Whether something was copied.
+pub fn prepare_on<B: Bays>(bays: &mut B, at: usize, hand: &mut Hand) -> bool
+    requires there { at < B.units bays.old }
+    ensures did { (u : PlainUnit) × B.lends_unit bays.old at u × B.keeps_unit bays.old at u bays.new }
+    ensures same { hand_of hand.new ≡ hand_of hand.old }
+    ensures units { B.units bays.new ≡ B.units bays.old }
+    ensures queues { B.queues bays.new ≡ B.queues bays.old }
+{
+    let started = bays.unit(
+        at,
+        hand,
+        &mut (),
+        |unit, hand, _nothing| -> Option<StartedWrite>
+            ensures { (unit.new ≡ unit.old) × (hand.new ≡ hand.old) }
+        { phase_start_pages(unit, hand) },
+    );
+    match started {
+        Some(started) => {
+            phase_prepare(hand, started);
+            true
+        }
+        None => false,
+    }
 }
 
 /// The gate is told that the unit's lock is held for the job in the hand, where one is there.

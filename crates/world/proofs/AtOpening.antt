@@ -1,6 +1,6 @@
 -- The queues, the units and the seats of a device that opens.
 use Rattle.std.proofs.Common.{◌≡◌, ◌≤◌, ◌^◌, ℕ, Bool, true, None, Some, Option, refl, List, [], ◌∷◌, ◌++◌, ◌+◌, ◌*◌, ◌<◌, ◌&&◌, length, zero, suc, arith, ap, sym, ◌∙◌, ◌⊎◌, inl, inr, subst, map}
-use Rattle.std.specs.Prelude.{slice_get, nat_le, is_none}
+use Rattle.std.specs.Prelude.{slice_get, slice_set, nat_le, is_none}
 use Rattle.std.specs.List.{list_all}
 use Rattle.std.proofs.lemmas.Bool.{and_parts}
 use Rattle.std.proofs.lemmas.Bool.Decides.{nat_tests}
@@ -21,9 +21,11 @@ use Rattle.queues.specs.Queue.{opening_ring, opening_queue, placement_of}
 use Rattle.queue_phases.specs.Queue.{with_slot}
 use Rattle.config.specs.declared.config.Config.{Config}
 use Rattle.config.specs.Config.{is_config, is_queue, is_unit, has_lun_0, are_queues, are_units, form_of, size_of}
-use Rattle.world.specs.Opening.{AreOpening, AreFresh, AreSeats, IsOpening, opening_unit}
+use Rattle.block_store.specs.declared.paged.PagedStore.{PagedStore}
+use Rattle.unit_history.specs.Disks.{opening_over, IsDiskOf}
+use Rattle.world.specs.Opening.{AreOpening, AreFresh, AreSeats, IsOpening, AreDisksOf, IsOpeningOver, over_disks, opening_unit}
 use Rattle.world.specs.Kept.{KeptSeat, seat_of, HasLists}
-use Rattle.world.specs.Sound.{IsWhole}
+use Rattle.world.specs.Sound.{AreFew, IsWhole}
 use Rattle.world.specs.Sound as seen
 
 -- the item that was put at the end of a list
@@ -286,3 +288,113 @@ opens_whole c w is o =
         luns = luns_open c.units.items w.units o.units units.1;
       };
     }
+
+-- units of which no step was taken have none over their disks
+new_over : (units : List PlainUnit) (disks : List PagedStore)
+    → ((i : ℕ) (u : PlainUnit) → slice_get units i ≡ Some u → IsNewUnit u)
+    → (i : ℕ) (u : PlainUnit) → slice_get (over_disks units disks) i ≡ Some u → IsNewUnit u
+new_over [] disks new i u at = absurd (nothing at)
+new_over (v ∷ units) [] new i u at = new i u at
+new_over (v ∷ units) (disk ∷ disks) new zero u at =
+    let here = new zero v refl in
+    subst IsNewUnit (same at) (record { steps = here.steps; parked = here.parked })
+new_over (v ∷ units) (disk ∷ disks) new (suc i) u at = new_over units disks (λ j z e. new (suc j) z e) i u at
+
+-- they are as many, with the same LUNs
+pub over_length : (units : List PlainUnit) (disks : List PagedStore) → length (over_disks units disks) ≡ length units
+over_length [] disks = refl
+over_length (v ∷ units) [] = refl
+over_length (v ∷ units) (disk ∷ disks) = ap (λ (n : ℕ). suc n) (over_length units disks)
+
+over_luns : (units : List PlainUnit) (disks : List PagedStore)
+    → map seen.lun_of (over_disks units disks) ≡ map seen.lun_of units
+over_luns [] disks = refl
+over_luns (v ∷ units) [] = refl
+over_luns (v ∷ units) (disk ∷ disks) = ap (λ (ns : List ℕ). v.opening.lun ∷ ns) (over_luns units disks)
+
+-- units without disks are as they were
+pub over_none : (units : List PlainUnit) → over_disks units [] ≡ units
+over_none [] = refl
+over_none (v ∷ units) = refl
+
+-- the last disk may be given first
+pub over_last : (units : List PlainUnit) (disks : List PagedStore) (disk : PagedStore) (u v : PlainUnit)
+    → slice_get units (length disks) ≡ Some u → v ≡ record u { opening = opening_over disk u.opening }
+    → over_disks (slice_set units (length disks) v) disks ≡ over_disks units (disks ++ disk ∷ [])
+over_last [] disks disk u v at is = absurd (nothing at)
+over_last (z ∷ units) [] disk u v at is =
+    over_none (v ∷ units)
+    ∙ ap (λ (x : PlainUnit). x ∷ units) (is ∙ ap (λ (x : PlainUnit). record x { opening = opening_over disk x.opening }) (sym (same at)))
+    ∙ ap (λ (xs : List PlainUnit). record z { opening = opening_over disk z.opening } ∷ xs) (sym (over_none units))
+over_last (z ∷ units) (first ∷ disks) disk u v at is =
+    ap (λ (xs : List PlainUnit). record z { opening = opening_over first z.opening } ∷ xs) (over_last units disks disk u v at is)
+
+-- in a device that opens over disks nothing has happened yet
+pub opens_over : (c : Config) (disks : List PagedStore) (w : PlainWorld) → is_config c ≡ true → IsOpeningOver c disks w → Opens w
+opens_over c disks w is o =
+    let bare = opens c o.bare is o.opening in
+    subst Opens (sym o.is) (record {
+      queues = bare.queues;
+      units = new_over o.bare.units disks bare.units;
+      there = over_length o.bare.units disks ∙ bare.there;
+      seats = bare.seats;
+      working = bare.working;
+      seated = bare.seated;
+      handed_off = bare.handed_off;
+      lists = bare.lists;
+      function = bare.function;
+      buffers = bare.buffers;
+      missed = bare.missed;
+      waiting = bare.waiting;
+    })
+
+-- and so it is whole
+pub opens_over_whole : (c : Config) (disks : List PagedStore) (w : PlainWorld) → is_config c ≡ true → IsOpeningOver c disks w
+    → IsWhole w
+opens_over_whole c disks w is o =
+    let few = (opens_whole c o.bare is o.opening).few in
+    record {
+      reached = record { old = w; trace = []; reached = record { opens = opens_over c disks w is o; runs = refl } };
+      few = subst AreFew (sym o.is) (record {
+        several = few.several;
+        queues = few.queues;
+        seats = few.seats;
+        units = subst (λ (n : ℕ). n ≤ 64) (sym (over_length o.bare.units disks)) few.units;
+        sizes = few.sizes;
+        luns = subst (λ (ns : List ℕ). Everywhere (λ k (n : ℕ). n ≤ 16383) ns) (sym (over_luns o.bare.units disks)) few.luns;
+      });
+    }
+
+-- the disks of one more unit
+pub disks_more : (units : List PlainUnit) (disks : List PagedStore) (u : PlainUnit) (disk : PagedStore) → AreDisksOf units disks
+    → IsDiskOf u disk → AreDisksOf (units ++ u ∷ []) (disks ++ disk ∷ [])
+disks_more [] [] u disk are is = (is, tt)
+disks_more (v ∷ units) (d ∷ disks) u disk are is = (are.0, disks_more units disks u disk are.1 is)
+disks_more [] (d ∷ disks) u disk are is = absurd are
+disks_more (v ∷ units) [] u disk are is = absurd are
+
+-- the steps of each unit that opens are none
+pub no_steps : (units : List PlainUnit) → Everywhere (λ (i : ℕ) (u : PlainUnit). IsNewUnit u) units
+    → Everywhere (λ (k : ℕ) (u : PlainUnit). u.steps ≡ []) units
+no_steps units new i u at = (new i u at).steps
+
+-- a list of no length has nothing
+pub nothing_in : {X : Type 0} (xs : List X) → length xs ≡ 0 → xs ≡ []
+nothing_in [] none = refl
+nothing_in (x ∷ xs) none = absurd (omega (arith, none))
+
+-- the lists are those of as many units
+pub lists_over : (m : List ℕ) (queues : List PlainQueue) (units over : List PlainUnit) (seats : List KeptSeat) (limit : ℕ)
+    → length over ≡ length units → HasLists m queues units seats limit → HasLists m queues over seats limit
+lists_over m queues units over seats limit many lists =
+    record {
+      fits = lists.fits;
+      limits = λ k s at. lists.limits k s at ∙ ap (λ (n : ℕ). 64 * n + 64) (sym many);
+      port = lists.port;
+    }
+
+-- a device that opens, with these units, opens over the disks
+pub is_over : (c : Config) (disks : List PagedStore) (bare w : PlainWorld) (units : List PlainUnit) → IsOpening c bare
+    → w ≡ record bare { units = units } → units ≡ over_disks bare.units disks → IsOpeningOver c disks w
+is_over c disks bare w units opening is over =
+    record { bare = bare; opening = opening; is = is ∙ ap (λ (us : List PlainUnit). record bare { units = us }) over }

@@ -1,5 +1,5 @@
 -- The device that a configuration opens as.
-use Rattle.std.specs.Prelude.{ℕ, ◌+◌, ◌≡◌, ◌==◌, ◌&&◌, Bool, true, false, List, [], ◌∷◌, length, replicate, map, slice_get, Some, None}
+use Rattle.std.specs.Prelude.{ℕ, ◌+◌, ◌≡◌, true, false, List, [], ◌∷◌, length, replicate, map, slice_get, Some, None, ⊤}
 use Rattle.ring_core.specs.State.{features_of}
 use Rattle.ring_core.specs.declared.layout.Features.{Features}
 use Rattle.ring_core.specs.declared.layout.Form.{Form}
@@ -78,31 +78,29 @@ pub record IsOpening (c : Config) (w : PlainWorld) : Type 0 where
   pub tells_changes : w.tells_changes ≡ has_bit c.features 2
 
 -- there is a disk for each unit, of its capacity
-abbrev pub are_disks : List UnitSpec → List PagedStore → Bool
-are_disks [] [] = true
-are_disks (u ∷ wanted) (disk ∷ disks) = (disk.capacity == u.blocks) && are_disks wanted disks
-are_disks wanted disks = false
+pub record AreDisksFor (wanted : List UnitSpec) (disks : List PagedStore) : Type 0 where
+  pub count : length disks ≡ length wanted
+  pub sizes : (k : ℕ) (u : UnitSpec) (disk : PagedStore) → slice_get wanted k ≡ Some u → slice_get disks k ≡ Some disk
+      → disk.capacity ≡ u.blocks
 
--- the units, of which no step was taken, each with the blocks of its disk
-pub record AreOver (wanted : List UnitSpec) (disks : List PagedStore) (units : List PlainUnit) : Type 0 where
-  pub count : length units ≡ length wanted
-  pub each : (k : ℕ) (u : UnitSpec) (disk : PagedStore) → slice_get wanted k ≡ Some u → slice_get disks k ≡ Some disk
-      → slice_get units k ≡ Some (unit.opening_unit (opening_over disk (opening_of (map address_of wanted) u)) false)
+-- the units, each with the blocks of its disk
+abbrev pub over_disks : List PlainUnit → List PagedStore → List PlainUnit
+over_disks (u ∷ units) (disk ∷ disks) = record u { opening = opening_over disk u.opening } ∷ over_disks units disks
+over_disks units disks = units
 
 -- a device as it opens, but with the blocks of disks
 pub record IsOpeningOver (c : Config) (disks : List PagedStore) (w : PlainWorld) : Type 0 where
   pub bare : PlainWorld
   pub opening : IsOpening c bare
-  pub rest : w ≡ record bare { units = w.units }
-  pub units : AreOver c.units.items disks w.units
+  pub is : w ≡ record bare { units = over_disks bare.units disks }
 
 -- a configuration with disks is refused as such exactly where the device doesn't take it, or they aren't its disks
 abbrev pub OverRefusedAs : Config → List PagedStore → StartFault → Type 0
-OverRefusedAs c disks BadConfig = (is_config c && are_disks c.units.items disks) ≡ false
-OverRefusedAs c disks NoMemory = (is_config c && are_disks c.units.items disks) ≡ true
+OverRefusedAs c disks BadConfig = is_config c ≡ true → AreDisksFor c.units.items disks → ⊥
+OverRefusedAs c disks NoMemory = (is_config c ≡ true) × AreDisksFor c.units.items disks
 
 -- the disks of the units, each as its history left it
-pub record AreDisksOf (units : List PlainUnit) (disks : List PagedStore) : Type 0 where
-  pub count : length disks ≡ length units
-  pub each : (k : ℕ) (u : PlainUnit) (disk : PagedStore) → slice_get units k ≡ Some u → slice_get disks k ≡ Some disk
-      → IsDiskOf u disk
+abbrev pub AreDisksOf : List PlainUnit → List PagedStore → Type 0
+AreDisksOf [] [] = ⊤
+AreDisksOf (u ∷ units) (disk ∷ disks) = IsDiskOf u disk × AreDisksOf units disks
+AreDisksOf units disks = ⊥

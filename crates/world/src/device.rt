@@ -3,7 +3,6 @@
 use crate::bay::Bay;
 use crate::handed_off::HandedOff;
 use crate::seat::Seat;
-use block_store::PagedStore;
 use decisions::Inventory;
 use event_queue::{EventPort, WaitingEvents};
 use guest_mem::GuestMem;
@@ -66,23 +65,7 @@ fn has_address(unit: &UnitState, target: u8, lun: u16) -> bool
 
 impl Device {
     ghost use Rattle.world.specs.Sound.{AreFew};
-    ghost use Rattle.std.specs.Prelude.{[], ◌≤◌, length};
-    ghost use Rattle.std.specs.Vec.{vec_capacity};
-    ghost use Rattle.world.specs.Opening.{AreDisksOf};
     ghost use Rattle.world.specs.Views.{IsPlaceOf};
-
-    /// The disks of its units, in an empty list that has room for them.
-    pub(crate) fn into_disks(self, disks: Vec<PagedStore>) -> Vec<PagedStore>
-        requires empty { disks.items ≡ [] }
-        requires room { length self.units ≤ vec_capacity disks }
-        ensures { AreDisksOf self.units result.items }
-    {
-        let mut disks = disks;
-        for unit in self.units {
-            disks.push_reserved(unit.into_store());
-        }
-        disks
-    }
 
     /// The place of the unit of an address.
     pub(crate) fn place(&self, target: u8, lun: u16) -> Option<u16>

@@ -1,11 +1,13 @@
 //! How the device opens.
 
-ghost use Rattle.std.specs.Prelude.{◌≡◌, ◌≤◌, length, map, IfOk, true};
+ghost use Rattle.std.specs.Prelude.{◌≡◌, ◌≤◌, [], length, map, IfOk, IsFalse, IsTrue, true};
 ghost use Rattle.decisions.specs.Inventory.{address_of};
 ghost use Rattle.std.specs.List.{list_all};
 ghost use Rattle.config.specs.Config.{is_config, is_queue};
 ghost use Rattle.ring_core.specs.State.{features_of};
-ghost use Rattle.world.specs.Opening.{AreOpening, AreFresh, AreSeats, IsOpening, IsOpeningOver, opening_unit, are_disks};
+ghost use Rattle.deeds.specs.World.{Everywhere};
+ghost use Rattle.std.specs.Vec.{vec_capacity};
+ghost use Rattle.world.specs.Opening.{AreOpening, AreFresh, AreSeats, IsOpening, AreDisksOf, opening_unit, AreDisksFor, over_disks};
 
 use crate::bay::Bay;
 use crate::device::Device;
@@ -141,8 +143,9 @@ pub(crate) fn open_device(alloc: Global, config: &Config) -> Result<Device, NoMe
 }
 
 /// Whether there is a disk for each unit, of its capacity.
-pub(crate) fn are_disks_of(wanted: &[UnitSpec], disks: &[PagedStore]) -> bool
-    ensures { result ≡ are_disks wanted.now disks.now }
+pub(crate) fn are_disks_for(wanted: &[UnitSpec], disks: &[PagedStore]) -> bool
+    ensures yes { IsTrue result → AreDisksFor wanted.now disks.now }
+    ensures no { IsFalse result → AreDisksFor wanted.now disks.now → ⊥ }
 {
     if wanted.len() != disks.len() {
         return false;
@@ -155,18 +158,28 @@ pub(crate) fn are_disks_of(wanted: &[UnitSpec], disks: &[PagedStore]) -> bool
     true
 }
 
-impl Device {
-    ghost use Rattle.std.specs.Prelude.{[]};
-
-    /// Gives each unit its disk, for a device of which nothing has happened yet.
-    pub(crate) fn hand_in(&mut self, config: &Config, disks: &mut Vec<PagedStore>)
-        requires opening { IsOpening config.now self.old }
-        requires disks { are_disks config.now.units.items disks.old.items ≡ true }
-        ensures over { IsOpeningOver config.now disks.old.items self.new }
-        ensures none { disks.new.items ≡ [] }
-    {
-        while let Some(disk) = disks.pop() {
-            self.units[disks.len()].hand_in(disk);
-        }
+/// Gives each unit its disk, where no step of any was taken.
+pub(crate) fn hand_in(units: &mut Vec<UnitState>, disks: &mut Vec<PagedStore>)
+    requires fresh { Everywhere (λ k u. u.steps ≡ []) units.old.items }
+    requires enough { length disks.old.items ≤ length units.old.items }
+    ensures over { units.new.items ≡ over_disks units.old.items disks.old.items }
+    ensures none { disks.new.items ≡ [] }
+{
+    while let Some(disk) = disks.pop() {
+        units[disks.len()].hand_in(disk);
     }
+}
+
+/// The disks of units, as their histories left them, in an empty list that has room for them.
+pub(crate) fn disks_of(units: Vec<UnitState>, empty: Vec<PagedStore>) -> Vec<PagedStore>
+    requires empty { empty.items ≡ [] }
+    requires room { length units.items ≤ vec_capacity empty }
+    ensures { AreDisksOf units.items result.items }
+{
+    let mut disks = empty;
+    let mut units = units.into_iter();
+    while let Some(unit) = units.next() {
+        disks.push_reserved(unit.into_store());
+    }
+    disks
 }

@@ -13,7 +13,7 @@ use block_store::NoMemory;
 use phases::{
     phase_answer, phase_answer_tmf, phase_check, phase_commit, phase_direct, phase_enter,
     phase_fetch, phase_fetch_control, phase_fetch_event, phase_hard, phase_leave, phase_mark,
-    phase_raise, phase_resize,
+    phase_prepare, phase_raise, phase_resize, phase_start_pages,
 };
 use unit_history::ResizeFault;
 
@@ -274,11 +274,24 @@ impl Device {
         phase_check(&self.units[mark.unit], function)
     }
 
-    /// Makes pages ahead of a commit, which changes nothing that the device's contract sees.
-    pub(crate) fn prepare(&mut self, seat: u16) -> bool
-        ensures { Turns self.old (AnEvent.Prepare seat) result self.new }
+    /// The pages of the WRITE in a seat's hand are made, ahead of its commit. Nothing changes that anybody sees.
+    pub(crate) fn prepare(&mut self, number: u16) -> bool
+        ensures { Turns self.old (AnEvent.Prepare number) result self.new }
     {
-        let _ = seat;
+        let at = number as usize;
+        if at >= self.seats.len() {
+            return false;
+        }
+        let Some(place) = self.seats[at].hand.committing_unit() else {
+            return false;
+        };
+        if place >= self.units.len() {
+            return false;
+        }
+        let Some(started) = phase_start_pages(&mut self.units[place], &self.seats[at].hand) else {
+            return false;
+        };
+        phase_prepare(&mut self.seats[at].hand, started);
         false
     }
 

@@ -6,7 +6,7 @@ ghost use Rattle.std.specs.List.{list_any};
 use crate::bay::Bay;
 use crate::cursor::{Cursor, Progress};
 use crate::device::Device;
-use crate::opening::{are_disks_of, open_device};
+use crate::opening::{are_disks_for, disks_of, hand_in, open_device};
 use crate::service::Served;
 use crate::sound::all_are_sound;
 use block_store::{NoMemory, PagedStore};
@@ -53,7 +53,7 @@ impl World {
     ghost use Rattle.deeds.specs.World as plain;
     ghost use Rattle.history.specs.Contents.{capacity_of, pending_of};
     ghost use Rattle.config.specs.Config.{is_config, StartRefusedAs};
-    ghost use Rattle.world.specs.Opening.{IsOpening, IsOpeningOver, OverRefusedAs, AreDisksOf, are_disks};
+    ghost use Rattle.world.specs.Opening.{IsOpening, IsOpeningOver, OverRefusedAs, AreDisksFor, AreDisksOf};
     ghost use Rattle.world.specs.Sound.{AreFew, IsReached, IsSound};
     ghost use Rattle.deeds.specs.Happens.{Reached};
     ghost use Rattle.deeds.specs.Turns.{Turns};
@@ -93,18 +93,18 @@ impl World {
         disks: &mut Vec<PagedStore>,
     ) -> Result<World, StartFault>
         ensures opening { MatchResult result
-            (λ w. (is_config config.now ≡ true) × (are_disks config.now.units.items disks.old.items ≡ true)
+            (λ w. (is_config config.now ≡ true) × AreDisksFor config.now.units.items disks.old.items
             × IsOpeningOver config.now disks.old.items w × (disks.new.items ≡ []))
             (λ fault. OverRefusedAs config.now disks.old.items fault × (disks.new.items ≡ disks.old.items)) }
         ensures opens { IfOk result (λ w. plain.Opens w) }
         ensures reaches { IfOk result (λ w. Reached w [] w) }
     {
-        if !config.is_valid() || !are_disks_of(config.units.as_slice(), disks.as_slice()) {
+        if !config.is_valid() || !are_disks_for(config.units.as_slice(), disks.as_slice()) {
             return Err(StartFault::BadConfig);
         }
         match open_device(alloc, config) {
             Ok(mut device) => {
-                device.hand_in(config, disks);
+                hand_in(&mut device.units, disks);
                 Ok(World { device })
             }
             Err(NoMemory) => Err(StartFault::NoMemory),
@@ -120,7 +120,9 @@ impl World {
         let Ok(disks) = Vec::with_capacity(alloc, self.device.units.len()) else {
             return Err(self);
         };
-        Ok(self.device.into_disks(disks))
+        let World { device } = self;
+        let Device { units, .. } = device;
+        Ok(disks_of(units, disks))
     }
 
     /// That some trace led here from an opening: every law over reached traces holds of it.

@@ -1,0 +1,16 @@
+use Rattle.std.proofs.Common.{◌≡◌, ◌≤◌, ℕ, [], length}
+use Rattle.task_set.specs.Unit.{PlainUnit}
+use Rattle.deeds.specs.World.{Everywhere}
+use Rattle.world.specs.Opening.{over_disks}
+use Rattle.world.proofs.opening.hand_in.Given as goal
+
+abbrev pub invariant-loop-disk : goal.invariant-loop-disk
+invariant-loop-disk l =
+    record {
+      fresh : Everywhere (λ (k : ℕ) (u : PlainUnit). u.steps ≡ []) l.units.items;
+      enough : length l.disks.items ≤ length l.units.items;
+      same : over_disks l.units.items l.disks.items ≡ over_disks l.initial.units.items l.initial.disks.items;
+    }
+
+abbrev pub decreases-loop-disk : goal.decreases-loop-disk
+decreases-loop-disk l = goal.left-loop-disk l
