@@ -3,22 +3,51 @@ written from the standards alone, to judge what a program prints."""
 
 import re
 from dataclasses import dataclass, field
+from functools import lru_cache
 
 BLOCK = 512
+
+# What a block has that was never written.
+ZEROS = bytes(BLOCK)
 
 # The most tasks of a task set.
 TASKS = 64
 
 # Sense: key, additional sense code and qualifier.
-POWER_ON, BUS_RESET = "06/29/00", "06/29/03"
-OUT_OF_RANGE, MISCOMPARE = "05/21/00", "0e/1d/00"
+POWER_ON, BUS_RESET, NEXUS_LOSS, RESIZED = "06/29/00", "06/29/03", "06/29/07", "06/2a/09"
+OUT_OF_RANGE, MISCOMPARE, UNKNOWN, BAD_FIELD = "05/21/00", "0e/1d/00", "05/20/00", "05/24/00"
 
 INQUIRY_DATA = bytes.fromhex("000006021f000002") + b"VSCSI   TASK SET DISK   0001"
 
+# Commands that no attention meets (SAM-5 §5.14): INQUIRY, REPORT LUNS and REQUEST SENSE.
+INQUIRY, REPORT_LUNS, REQUEST_SENSE = 0x12, 0xa0, 0x03
+
+# Commands that name a range of blocks, by what they do with it (SBC-3 §5).
+READ, WRITE, SYNCHRONIZE, WRITE_SAME, COMPARE = (0x08, 0x28, 0xa8, 0x88), (0x0a, 0x2a, 0xaa, 0x8a), (0x35, 0x91), (0x41, 0x93), (0x89,)
+RANGED = (*READ, *WRITE, *SYNCHRONIZE, *WRITE_SAME, *COMPARE)
+
 
 def number(field):
-    """A number of a command block, or of what goes with it."""
+    """Returns a number of a command block, or of the data that go with it."""
     return int.from_bytes(field, "big")
+
+
+def range_of(cdb):
+    """Returns the first block and the number of blocks that a command block names."""
+    if cdb[0] in COMPARE:
+        return number(cdb[2:10]), cdb[13]
+    group = cdb[0] >> 5
+    if group == 0:
+        return number(cdb[1:4]) & 0x1fffff, cdb[4] or 256
+    if group == 4:
+        return number(cdb[2:10]), number(cdb[10:14])
+    return number(cdb[2:6]), number(cdb[6:10] if group == 5 else cdb[7:9])
+
+
+def fixed(sense):
+    """Returns the 18 bytes of fixed-format sense (SPC-4 §4.5.3)."""
+    key, code, qualifier = bytes.fromhex(sense.replace("/", ""))
+    return bytes((0x70, 0, key, 0, 0, 0, 0, 10, 0, 0, 0, 0, code, qualifier, 0, 0, 0, 0))
 
 
 class Wrong(Exception):
@@ -50,6 +79,7 @@ class Task:
     mark: str = ""
 
 
+@lru_cache(maxsize=4)
 def runs(data):
     """Bytes as they are printed: maximal runs of equal ones."""
     parts = (match[0] for match in re.finditer(rb"(?s)(.)\1*", data))
@@ -74,7 +104,8 @@ class Disk:
 
     capacity: int
     pending: list
-    blocks: bytearray = None
+    # The blocks that were written, by number.
+    blocks: dict = field(default_factory=dict)
     tasks: dict = field(default_factory=dict)
     lines: dict = field(default_factory=dict)
     last: dict = field(default_factory=dict)
@@ -84,11 +115,22 @@ class Disk:
     ran: dict = field(default_factory=dict)
     left: dict = field(default_factory=dict)
     functions: list = field(default_factory=list)
-    # The tasks that each abort is for, by their names, in order: none where it is for all.
-    aims: list = field(default_factory=list)
+    # The steps of functions and of the operator that have to come, in order, if they are known: an `abort` with the task that
+    # it is for, `None` where it is for all; a `reset` with its attention; a `resize` with its blocks.
+    plan: list = None
+    # How many times it may still be refused memory.
+    refusals: int = 0
+    # The LUNs of its target's units.
+    luns: tuple = (0,)
 
-    def __post_init__(self):
-        self.blocks = bytearray(BLOCK * self.capacity)
+    def read(self, first, count):
+        """Returns what stands in blocks."""
+        return b"".join(self.blocks.get(place, ZEROS) for place in range(first, first + count))
+
+    def write(self, first, data):
+        """Puts data into blocks."""
+        for at in range(0, len(data), BLOCK):
+            self.blocks[first + at // BLOCK] = data[at:at + BLOCK]
 
     def comes(self, request, at):
         """A request enters or is refused: each once, those of one queue in order."""
@@ -137,6 +179,9 @@ class Disk:
         task = self.tasks.get(request.name)
         if not task or not task.is_enabled or task.is_done or task.mark:
             raise Wrong(f"{request.name} was refused memory where it doesn't run: {task}")
+        self.refusals -= 1
+        if self.refusals < 0:
+            raise Wrong(f"{request.name} was refused memory, which was there")
         task.is_done = True
         self.lines[request.name] = busy(request)
 
@@ -150,22 +195,38 @@ class Disk:
         self.left[request.name] = at
         self.enable()
 
+    def planned(self, kind):
+        """Takes the next planned step, which has to be of this kind."""
+        its, what = self.plan.pop(0) if self.plan else ("none", None)
+        if its != kind:
+            raise Wrong(f"a step {kind!r} where {its!r} was to come")
+        return what
+
+    def raised(self, sense):
+        """An attention waits behind those that do, once."""
+        if sense not in self.pending:
+            self.pending.append(sense)
+
     def mark(self, kind, at):
         """Tasks that haven't run are aborted, or the unit is reset."""
         self.functions.append((at, kind, list(self.tasks)))
-        aim = self.aims.pop(0) if kind == "abort" and self.aims else None
+        what = BUS_RESET if self.plan is None and kind == "reset" else None if self.plan is None else self.planned(kind)
         for name, task in self.tasks.items():
-            task.mark = task.mark or ("" if task.is_done or aim not in (None, name) else kind)
-        if kind == "reset" and BUS_RESET not in self.pending:
-            self.pending.append(BUS_RESET)
+            is_met = kind == "reset" or what in (None, name)
+            task.mark = task.mark or (kind if is_met and not task.is_done else "")
+        if kind == "reset":
+            self.raised(what)
+
+    def resize(self):
+        """The unit has another number of blocks: those behind its end are lost, and it has an attention."""
+        self.capacity = self.planned("resize")
+        self.blocks = {place: data for place, data in self.blocks.items() if place < self.capacity}
+        self.raised(RESIZED)
 
     def answer(self, request):
         """The line of a command that runs now."""
         cdb, total = request.cdb, len(request.out) + request.room
-        if cdb[0] == 0x12:
-            data = INQUIRY_DATA[:number(cdb[3:5])]
-            return shown(request.name, total - len(data), data=data)
-        if self.pending:
+        if cdb[0] not in (INQUIRY, REPORT_LUNS, REQUEST_SENSE) and self.pending:
             return shown(request.name, total, status=2, sense=self.pending.pop(0))
         sense, data, moved = self.execute(cdb, request.out)
         if sense:
@@ -175,39 +236,62 @@ class Disk:
     def execute(self, cdb, out):
         """What a command does to the blocks: its sense if any, its data, and how many bytes it took (SBC-3 §5)."""
         code = cdb[0]
+        if code in RANGED:
+            return self.execute_range(cdb, out)
         if code == 0x00:
             return "", b"", 0
         if code == 0x42:
             return self.unmap(cdb, out)
-        lba, count = (number(cdb[2:10]), cdb[13]) if code == 0x89 else (
-            number(cdb[2:6]), number(cdb[7:9]))
+        if code == INQUIRY:
+            return "", INQUIRY_DATA[:number(cdb[3:5])], 0
+        if code == REQUEST_SENSE:
+            return "", fixed(self.pending.pop(0) if self.pending else "00/00/00")[:cdb[4]], 0
+        if code == REPORT_LUNS:
+            luns = b"" if cdb[2] == 1 else b"".join(bytes((0x40 + (lun >> 8) if lun > 255 else 0, lun & 255)).ljust(8, b"\0") for lun in self.luns)
+            return "", (len(luns).to_bytes(4, "big") + bytes(4) + luns)[:number(cdb[6:10])], 0
+        if code == 0x25:
+            return "", min(self.capacity - 1, 2**32 - 1).to_bytes(4, "big") + BLOCK.to_bytes(4, "big"), 0
+        if code == 0x9e:
+            whole = (self.capacity - 1).to_bytes(8, "big") + BLOCK.to_bytes(4, "big") + bytes((0, 0, 0xc0)) + bytes(17)
+            return "", whole[:number(cdb[10:14])], 0
+        return UNKNOWN, b"", 0
+
+    def execute_range(self, cdb, out):
+        """What a command does that names a range of blocks."""
+        code = cdb[0]
+        lba, count = range_of(cdb)
+        # Protection information isn't offered.
+        if code not in (0x08, 0x0a, *SYNCHRONIZE) and cdb[1] >> 5:
+            return BAD_FIELD, b"", 0
         if lba + count > self.capacity:
             return OUT_OF_RANGE, b"", 0
-        place = slice(BLOCK * lba, BLOCK * (lba + count))
-        if code == 0x28:
-            return "", bytes(self.blocks[place]), 0
-        if code == 0x2a:
-            self.blocks[place] = out[:BLOCK * count]
-        elif code == 0x41:
-            self.blocks[place] = out[:BLOCK] * count
+        if code in READ:
+            return "", self.read(lba, count), 0
+        if code in SYNCHRONIZE:
+            return "", b"", 0
+        if code in WRITE_SAME:
+            self.blocks.update(dict.fromkeys(range(lba, lba + count), out[:BLOCK]))
             return "", b"", BLOCK
-        elif code == 0x89:
-            half = BLOCK * count
-            unequal = next((at for at in range(half) if self.blocks[place.start + at] != out[at]), None)
-            if unequal is not None:
-                return f"{MISCOMPARE}@{unequal}", b"", 0
-            self.blocks[place] = out[half:]
-            return "", b"", 2 * half
-        return "", b"", 0 if code == 0x35 else BLOCK * count
+        half = BLOCK * count
+        if code in WRITE:
+            self.write(lba, out[:half])
+            return "", b"", half
+        old = self.read(lba, count)
+        unequal = next((at for at in range(half) if old[at] != out[at]), None)
+        if unequal is not None:
+            return f"{MISCOMPARE}@{unequal}", b"", 0
+        self.write(lba, out[half:2 * half])
+        return "", b"", 2 * half
 
     def unmap(self, cdb, out):
         """UNMAP: all ranges are looked at before any is zeroed."""
         size = number(cdb[7:9])
-        ranges = [(number(out[at:at + 8]), number(out[at + 8:at + 12])) for at in range(8, size, 16)]
+        ranges = [(number(out[at:at + 8]), number(out[at + 8:at + 12])) for at in range(8, size - 15, 16)]
         if any(lba + count > self.capacity for lba, count in ranges):
             return OUT_OF_RANGE, b"", 0
         for lba, count in ranges:
-            self.blocks[BLOCK * lba:BLOCK * (lba + count)] = bytes(BLOCK * count)
+            for place in range(lba, lba + count):
+                self.blocks.pop(place, None)
         return "", b"", size
 
     def replay(self, steps, requests):
@@ -217,9 +301,13 @@ class Disk:
             kind, _, name = step.partition(" ")
             if kind in ("abort", "reset") and not name:
                 self.mark(kind, at)
+            elif step == "resize":
+                self.resize()
             elif kind in kinds and name in requests:
                 kinds[kind](requests[name], at)
             else:
                 raise Wrong(f"a step {step!r}")
         if self.tasks:
             raise Wrong(f"{', '.join(self.tasks)} never left")
+        if self.plan:
+            raise Wrong(f"{self.plan[0][0]} never came")

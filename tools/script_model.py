@@ -1,72 +1,179 @@
-"""What a script's printed lines may be, by the disks that its printed histories make. It judges scripts that print, behind all
-else, each unit's history, each answer, and blocks."""
+"""Judges what a script printed, by the disks that its printed histories make.
+
+The scripts print, behind all else, each unit's history, each answer, and blocks. The resets and resizes of a unit come in the
+order of their lines.
+"""
 
 import re
+from dataclasses import dataclass
 
-from disk_model import BLOCK, POWER_ON, Disk, Request, Wrong, busy, runs
+from disk_model import BUS_RESET, NEXUS_LOSS, POWER_ON, Disk, Request, Wrong, busy, runs
+
+# Task management functions: those that abort, those that reset, and those that look.
+ABORTS, RESETS, QUERIES = (0, 1, 3), {4: NEXUS_LOSS, 5: BUS_RESET}, (6, 7)
+FAILED = 9
+
+
+@dataclass
+class Deed:
+    """A function, or what the operator does: its name, subtype or kind, unit, and identifier or blocks."""
+
+    name: str
+    kind: object
+    unit: str
+    number: str = ""
 
 
 def bytes_of(text):
-    """The bytes that a word of a script says."""
+    """Returns the bytes that a word of a script says."""
     items = (item.partition("*") for item in text.split(","))
     return b"".join(bytes.fromhex(item) * int(count or 1) for item, _, count in items)
 
 
+def request_of(words, place):
+    """Returns the request of a `send` line, the one of its queue with this number."""
+    name, queue, unit, _, attribute, cdb, *rest = words[1:]
+    data = dict(zip(rest[::2], rest[1::2]))
+    out = bytes_of(data["out"]) if "out" in data else b""
+    return Request(name, int(queue), unit, attribute, bytes_of(cdb).ljust(32, b"\0"), out, int(data.get("in", 0)), place)
+
+
 def requests_of(script):
-    """The requests of a script by name, and its functions: name, subtype, unit and identifier."""
-    requests, functions, identifiers, counts = {}, [], {}, {}
+    """Returns the requests of a script by name, its deeds in order, and the name of each unit's identifier."""
+    requests, deeds, identifiers, counts = {}, [], {}, {}
     for words in map(str.split, script.splitlines()):
-        if words[:1] == ["send"]:
-            name, queue, unit, identifier, attribute, cdb, *rest = words[1:]
-            data = dict(zip(rest[::2], rest[1::2]))
-            place = counts[queue] = counts.get(queue, -1) + 1
-            block = bytes_of(cdb).ljust(32, b"\0")
-            requests[name] = Request(name, int(queue), unit, attribute, block, bytes_of(data.get("out", "")) if "out" in data else b"",
-                                     int(data.get("in", 0)), place)
-            identifiers[unit, identifier] = name
-        elif words[:1] == ["tmf"]:
-            functions.append((words[1], int(words[2]), words[3], words[4]))
-    return requests, functions, identifiers
+        match words[:1]:
+            case ["send"]:
+                place = counts[words[2]] = counts.get(words[2], -1) + 1
+                requests[words[1]] = request_of(words, place)
+                identifiers[words[3], words[4]] = words[1]
+            case ["tmf"]:
+                deeds.append(Deed(words[1], int(words[2]), words[3], words[4]))
+            case ["hard"]:
+                deeds.append(Deed("", "hard", words[1]))
+            case ["resize"]:
+                deeds.append(Deed("", "resize", words[1], words[2]))
+    return requests, deeds, identifiers
 
 
 def disks_of(script):
-    """The units of a script's header, as they open."""
+    """Returns the units of a script's header, as they open."""
     units = re.findall(r"^unit (\d+) (\d+) (\d+)( calm)?$", script, re.M)
-    return {f"{target}:{lun}": Disk(int(blocks), [] if calm else [POWER_ON]) for target, lun, blocks, calm in units}
+    luns = {target: tuple(int(lun) for its, lun, *_ in units if its == target) for target, *_ in units}
+    return {f"{target}:{lun}": Disk(int(blocks), [] if calm else [POWER_ON], luns=luns[target]) for target, lun, blocks, calm in units}
 
 
 def last_lines(printed):
-    """The last line of each kind that was printed: by name, by unit's history, and by range of blocks."""
+    """Returns the last line of each kind that was printed: by name, by unit's history, and by range of blocks."""
     last = {}
     for line in printed.splitlines():
-        head, colon, rest = line.partition(":" if line.startswith(("order", "events")) else ": ")
-        if line.startswith("history ") and not colon:
-            head, rest = line.removesuffix(":"), ""
-        last[head if line.startswith(("history ", "blocks ")) else line.split(" ")[0]] = rest if line.startswith(("history ", "blocks ")) else line
+        if line.startswith(("history ", "blocks ")):
+            head, _, rest = line.partition(": ")
+            last[head.rstrip(":")] = rest
+        else:
+            last[line.split(" ")[0]] = line
     return last
 
 
-def judge(script, printed):
-    """Raises `Wrong` where an answer, a function's response or a block isn't what the printed histories make of it."""
-    requests, functions, identifiers = requests_of(script)
-    disks, last = disks_of(script), last_lines(printed)
+def met_by(deed, disks):
+    """Returns the units that a function or the operator comes to, by rising LUN."""
+    target = deed.unit.split(":")[0] + ":"
+    return [unit for unit in disks if unit == deed.unit or deed.kind == 4 and unit.startswith(target)]
+
+
+def step_of(deed, identifiers):
+    """Returns the step that a function or the operator leaves in a history, or nothing."""
+    if deed.kind == 0:
+        # An identifier that no request has meets none.
+        return "abort", identifiers.get((deed.unit, deed.number), "")
+    if deed.kind in ABORTS:
+        return "abort", None
+    if deed.kind == "resize":
+        return ("resize", int(deed.number)) if 0 < int(deed.number) <= 2**40 else None
+    if deed.kind == "hard" or deed.kind in RESETS:
+        return "reset", RESETS.get(deed.kind, POWER_ON)
+    return None
+
+
+def responses(deed, disks):
+    """Returns what a function may be answered where memory is ample."""
+    if deed.kind not in (*ABORTS, *RESETS, *QUERIES):
+        return (11,)
+    if not any(unit.startswith(deed.unit.split(":")[0] + ":") for unit in disks):
+        return (3,)
+    if deed.unit not in disks and deed.kind != 4:
+        return (12,)
+    return (0, 10) if deed.kind in QUERIES else (0,)
+
+
+def replayed(script, last, refused, visited):
+    """Returns the disks that the printed histories make, where a failed function came to this many of its units."""
+    requests, deeds, identifiers = requests_of(script)
+    disks = disks_of(script)
+    plans = {unit: [] for unit in disks}
+    for deed in deeds:
+        has_failed = deed.name and last.get(deed.name) == f"{deed.name} used=1 response={FAILED}"
+        step = step_of(deed, identifiers)
+        for unit in met_by(deed, disks)[:visited if has_failed else None] if step else ():
+            plans[unit].append(step)
     for unit, disk in disks.items():
         history = last.get(f"history {unit}")
         if history is None:
             raise Wrong(f"no history of {unit}")
-        failed = [name for name, *_ in functions if last.get(name, "").endswith("response=9")]
-        named = [(name, subtype, its, identifier) for name, subtype, its, identifier in functions if its == unit and name not in failed]
-        disk.aims = [identifiers.get((unit, identifier)) if subtype == 0 else None for _, subtype, _, identifier in named if subtype in (0, 1, 3)]
+        disk.plan, disk.refusals = plans[unit], refused
         disk.replay(history.split(", ") if history else [], requests)
+    return disks
+
+
+def judge(script, printed, refused=0):
+    """Raises `Wrong` where a printed history, answer, response or block can't be, so many growths having been refused.
+
+    Each refused growth has one request answered BUSY, or one function failed, at most.
+    """
+    last = last_lines(printed)
+    requests, deeds, _ = requests_of(script)
+    functions = [deed for deed in deeds if deed.name]
+    failed = [deed for deed in functions if last.get(deed.name, "").endswith(f"response={FAILED}")]
+    most = max([len(met_by(deed, disks_of(script))) for deed in failed], default=1)
+    for visited in range(most):
+        try:
+            disks = replayed(script, last, refused, visited)
+            break
+        except Wrong:
+            if visited == most - 1:
+                raise
+    spent = len(failed) + sum(refused - disk.refusals for disk in disks.values())
     for name, request in requests.items():
-        disk = disks[request.unit]
-        wanted = disk.lines.get(name, busy(request))
+        wanted = disks[request.unit].lines.get(name)
+        spent += wanted is None
+        wanted = wanted or busy(request)
         if name in last and last[name] != wanted:
             raise Wrong(f"{last[name]!r} in place of {wanted!r}")
+    if spent > refused:
+        raise Wrong(f"memory was refused {spent} times in place of {refused} at most")
+    for deed in functions:
+        may = [f"{deed.name} used=1 response={number}" for number in (*responses(deed, disks), *([FAILED] if deed in failed else []))]
+        if deed.name in last and last[deed.name] not in may:
+            raise Wrong(f"{last[deed.name]!r} in place of {' or '.join(may)}")
     for head, data in last.items():
         match = re.fullmatch(r"blocks (\d+:\d+) (\d+) (\d+)", head)
         if match:
-            first, count = int(match[2]), int(match[3])
-            wanted = runs(bytes(disks[match[1]].blocks[BLOCK * first:BLOCK * (first + count)]))
+            wanted = runs(disks[match[1]].read(int(match[2]), int(match[3])))
             if data != wanted:
-                raise Wrong(f"{head}: {data} in place of {wanted}")
+                raise Wrong(f"{head}: {data[:400]} in place of {wanted[:400]}")
+
+
+def always_busy(requests, printed):
+    """Returns what a device would print that answers BUSY to every request, in place of this: nothing ran, and blocks are zeros."""
+    lines = []
+    for line in printed:
+        head = line.split(" ")[0]
+        if head in requests:
+            line = busy(requests[head])
+        elif line.startswith("history "):
+            line = line.replace("commit ", "busy ")
+        elif line.startswith("blocks "):
+            head = line.partition(":")[0] + ":" + line.partition(":")[2].partition(":")[0]
+            line = f"{head}: {runs(bytes(512 * int(head.split()[3])))}"
+        lines.append(line)
+    return lines
