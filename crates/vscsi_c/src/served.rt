@@ -1,12 +1,16 @@
 //! What each call does with a device.
 
 ghost use Rattle.std.specs.Prelude.{◌≡◌};
-ghost use Rattle.vscsi_c.specs.Calls.{Settles, ServesPortion, Pokes, Peeks, Owes, IsStatus, Breaks, Counts, Resets, Holds, Gives, number_of};
+ghost use Rattle.history.specs.Contents.{is_capacity as may_have};
+ghost use Rattle.vscsi_c.specs.Calls.{Settles, ServesPortion, Pokes, Peeks, Owes, IsStatus, Breaks, Counts, Resets, Resizes, Holds, Gives, number_of};
 
 use crate::answer::Answer;
 use deeds::Event;
 use std::alloc::Global;
 use world::{Notifications, RingFault, World};
+
+/// The most blocks of a unit.
+const MOST_BLOCKS: u64 = 1 << 40;
 
 /// A device, and what its host was told of it.
 #[derive(Drop)]
@@ -32,6 +36,13 @@ fn number_of_fault(fault: Option<RingFault>) -> u32
         Some(RingFault::RingOverrun) => 9,
         Some(RingFault::NoMemory) => 10,
     }
+}
+
+/// Returns true if a unit may have so many blocks.
+fn is_capacity(blocks: u64) -> bool
+    ensures { result ≡ may_have blocks }
+{
+    1 <= blocks && blocks <= MOST_BLOCKS
 }
 
 impl Served {
@@ -138,6 +149,22 @@ impl Served {
             return Answer::NoUnit;
         };
         match self.world.step(Event::Hard(place)) {
+            Ok(_) => Answer::Done,
+            Err(_) => Answer::NoMemory,
+        }
+    }
+
+    /// The operator's resize of a unit.
+    pub(crate) fn resize(&mut self, target: u8, lun: u16, blocks: u64) -> Answer
+        ensures { Resizes target lun blocks self.old result self.new }
+    {
+        if !is_capacity(blocks) {
+            return Answer::BadCapacity;
+        }
+        let Some(place) = self.world.place(target, lun) else {
+            return Answer::NoUnit;
+        };
+        match self.world.step(Event::Resize(place, blocks)) {
             Ok(_) => Answer::Done,
             Err(_) => Answer::NoMemory,
         }
