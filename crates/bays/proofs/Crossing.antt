@@ -41,6 +41,7 @@ use Rattle.history.specs.contracts.reason.Reason.{the_row as reason_row}
 use Rattle.ring_core.specs.contracts.fault.RingFault.{the_row as fault_row}
 use Rattle.sense.specs.contracts.Sense.{the_row as sense_row}
 use Rattle.decisions.proofs.unit_request.UnitRequest.TheSendSync as request
+use Rattle.task_set.proofs.shared.SharedRequest.TheSendSync as shared
 use Rattle.unit_history.specs.contracts.unit.UnitState.{the_row as unit_row}
 use Rattle.unit_history.specs.contracts.unit.UnitState.TheInside as unit
 use Rattle.block_store.proofs.paged.PagedStore.TheSendSync as store
@@ -63,7 +64,7 @@ job_sends = search (sendable, job_fields)
 
 task_fields : IsSend task.the_row
 task_fields = recorded_send task.the_field.row _ _ task.the_type.to_one
-    (struct_send (shape task.the_type) (search sendable, (option_sends _ request.the_send, (search sendable, (search sendable, (option_sends reason_row (search sendable depth 30), (search sendable, (option_sends _ job_sends, tt))))))))
+    (struct_send (shape task.the_type) (search sendable, (option_sends _ request.the_send, (option_sends _ shared.the_send, (search sendable, (search sendable, (option_sends reason_row (search sendable depth 30), (search sendable, (option_sends _ job_sends, tt)))))))))
 
 task_sends : IsSend task_row
 task_sends = search (sendable, task_fields)

@@ -9,6 +9,8 @@ pub enum Point {
     Entered,
     /// Its job came into the hand of the seat that serves it. No lock is held.
     Taken,
+    /// The pages of its WRITE are made. No lock is held.
+    Prepared,
     /// Its unit's lock is held, and no other, for its commit, of which nothing is done yet.
     Locked,
     /// Its commit is over. No lock is held.

@@ -1,7 +1,8 @@
 //! Hosts from start to close.
 
 use workers_bench::{
-    Left, Together, Told, contend, is_refused, meet, reset, serve, serve_nothing, serve_together,
+    Crossed, Left, Together, Told, contend, cross, is_refused, meet, reset, serve, serve_nothing,
+    serve_together,
 };
 
 /// What is left of two requests that ran, and of one that needed no unit.
@@ -101,5 +102,18 @@ fn one_unit_is_held_by_one_worker(rt: HostRuntime) {
     };
     for workers in [2, 8] {
         assert!(rt; contend(rt, rt.alloc(), workers) == Some(two));
+    }
+}
+
+#[test]
+fn pages_that_are_made_at_once_lose_no_block(rt: HostRuntime) {
+    let both = Crossed {
+        missed: 0,
+        prepared: (1, 1),
+        answered: true,
+        blocks: [Some(0xab), Some(0xcd), Some(0)],
+    };
+    for workers in [2, 8] {
+        assert!(rt; cross(rt, rt.alloc(), workers) == Some(both));
     }
 }

@@ -41,7 +41,7 @@ impl Entered {
     }
 }
 
-/// Why a unit isn't resized. Nothing changed.
+/// Says why a unit isn't resized. Nothing changed.
 #[derive(Clone, Copy, Debug, PartialEq, Eq)]
 pub enum ResizeFault {
     /// No unit may have so many blocks: 0, or more than 2^40.

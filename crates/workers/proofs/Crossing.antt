@@ -13,6 +13,7 @@ use Rattle.task_set.specs.contracts.job.JobList.{the_row as list_row}
 use Rattle.task_set.specs.contracts.job.JobList.TheInside as list
 use Rattle.ring_core.proofs.answered.Answered.TheSendSync as answered
 use Rattle.unit_history.proofs.answers.Outcome.TheSendSync as outcome
+use Rattle.unit_history.proofs.pages.PreparedWrite.TheSendSync as pages
 use Rattle.phases.specs.contracts.held.Held.{the_row as held_row}
 use Rattle.phases.specs.contracts.held.Held.TheInside as held
 use Rattle.phases.specs.contracts.hand.Hand.{the_field as hand_field, the_type as hand_type}
@@ -46,7 +47,7 @@ list_sends = search (sendable, list_fields)
 
 held_fields : IsSend held.the_row
 held_fields = recorded_send held.the_field.row _ _ held.the_type.to_one
-    (struct_send (shape held.the_type) (job_sends, (option_sends _ outcome.the_send, tt)))
+    (struct_send (shape held.the_type) (job_sends, (option_sends _ pages.the_send, (option_sends _ outcome.the_send, tt))))
 
 held_sends : IsSend held_row
 held_sends = search (sendable, held_fields)

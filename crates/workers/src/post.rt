@@ -1,16 +1,17 @@
 //! What a seat has, and what it does with a job in its hand.
 
-ghost use Rattle.std.specs.Prelude.{◌≡◌, IfOk};
+ghost use Rattle.std.specs.Prelude.{◌≡◌, ◌<◌, IfOk, vec_len};
 ghost use Rattle.handoff.specs.Seats.{IsSeatOf, IsSameSeat};
 ghost use Rattle.std.specs.Bool.{OnTrue};
 ghost use Rattle.keeping.specs.Rooms.{HasRoomForOne};
 
 use crate::shared::Shared;
 use bays::{Gate, Point};
+use cdb::Command;
 use crew::Begins;
 use handoff::Seat;
 use keeping::Kept;
-use lent_phases::{answer_on, commit_on, leave_on};
+use lent_phases::{answer_on, commit_on, leave_on, prepare_on};
 use phases::Hand;
 use ring_core::Ticket;
 use std::alloc::{AllocError, Global};
@@ -59,7 +60,24 @@ pub(crate) fn is_long(hand: &Hand) -> bool {
     }
 }
 
-/// The job in the hand is committed, where one is that isn't.
+/// Whether the job in a hand is a WRITE.
+fn is_write(hand: &Hand) -> bool {
+    match hand {
+        Hand::Held(held) => matches!(held.job().command(), Command::Write { .. }),
+        Hand::Free | Hand::Answered(_, _) => false,
+    }
+}
+
+/// The pages of the WRITE in the hand are made, where its job is to be committed there and its unit gives what they need.
+fn prepare<R: Wait, G: Gate + Drop>(rt: &R, shared: &Shared<G>, at: usize, hand: &mut Hand)
+    requires at { at < vec_len shared.now.units }
+{
+    if is_write(hand) && prepare_on(&mut shared.bays(rt), at, hand) {
+        pass(&shared.gate, Point::Prepared, hand);
+    }
+}
+
+/// The job in the hand is committed, where one is that isn't: a WRITE with its pages, which are made before that.
 pub(crate) fn commit<R: Wait, G: Gate + Drop>(rt: &R, shared: &Shared<G>, post: &mut Post)
     ensures seat { post.new.seat ≡ post.old.seat }
     ensures kept { post.new.kept ≡ post.old.kept }
@@ -70,6 +88,7 @@ pub(crate) fn commit<R: Wait, G: Gate + Drop>(rt: &R, shared: &Shared<G>, post: 
     if at >= shared.units.len() {
         return;
     }
+    prepare(rt, shared, at, &mut post.hand);
     commit_on(&mut shared.bays(rt), &shared.gate, at, &mut post.hand);
     pass(&shared.gate, Point::Committed, &post.hand);
 }

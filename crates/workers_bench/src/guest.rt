@@ -32,7 +32,7 @@ const NEXT: u16 = 1;
 const WRITE: u16 = 2;
 
 /// How often the guest looks for an answer.
-const LOOKS: u32 = 1_000_000;
+const LOOKS: u32 = 100_000_000;
 
 /// A chain: its queue, which of that queue's chains it is, from 0 to 3, what the device reads of it, with a block of
 /// equal bytes behind the 51 of a request, how many bytes it reads, and how many it may write.

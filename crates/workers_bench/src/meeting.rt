@@ -17,6 +17,7 @@ pub(crate) const SHORT: u32 = 100_000;
 pub(crate) struct Seen {
     entered: AtomicU64,
     taken: AtomicU64,
+    prepared: AtomicU64,
     locked: AtomicU64,
     committed: AtomicU64,
     answered: AtomicU64,
@@ -29,6 +30,7 @@ impl Seen {
         Seen {
             entered: AtomicU64::new(0),
             taken: AtomicU64::new(0),
+            prepared: AtomicU64::new(0),
             locked: AtomicU64::new(0),
             committed: AtomicU64::new(0),
             answered: AtomicU64::new(0),
@@ -41,6 +43,7 @@ impl Seen {
         match point {
             Point::Entered => &self.entered,
             Point::Taken => &self.taken,
+            Point::Prepared => &self.prepared,
             Point::Locked => &self.locked,
             Point::Committed => &self.committed,
             Point::Answered => &self.answered,
