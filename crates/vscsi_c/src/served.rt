@@ -1,16 +1,13 @@
 //! What each call does with a device.
 
 ghost use Rattle.std.specs.Prelude.{◌≡◌};
-ghost use Rattle.history.specs.Contents.{is_capacity as may_have};
 ghost use Rattle.vscsi_c.specs.Calls.{Settles, ServesPortion, Pokes, Peeks, Owes, IsStatus, Breaks, Counts, Resets, Resizes, Holds, Gives, number_of};
 
 use crate::answer::Answer;
 use deeds::Event;
 use std::alloc::Global;
+use unit_history::is_capacity;
 use world::{Notifications, RingFault, World};
-
-/// The most blocks of a unit.
-const MOST_BLOCKS: u64 = 1 << 40;
 
 /// A device, and what its host was told of it.
 #[derive(Drop)]
@@ -36,13 +33,6 @@ fn number_of_fault(fault: Option<RingFault>) -> u32
         Some(RingFault::RingOverrun) => 9,
         Some(RingFault::NoMemory) => 10,
     }
-}
-
-/// Returns true if a unit may have so many blocks.
-fn is_capacity(blocks: u64) -> bool
-    ensures { result ≡ may_have blocks }
-{
-    1 <= blocks && blocks <= MOST_BLOCKS
 }
 
 impl Served {
