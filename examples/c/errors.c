@@ -103,6 +103,7 @@ static void nulls(void) {
   IS(vscsi_broken(&device, 0, 0), VSCSI_NULL);
   IS(vscsi_progress(0, 0, &n, &n), VSCSI_NULL);
   IS(vscsi_reset(0, 0, 0), VSCSI_NULL);
+  IS(vscsi_resize(0, 0, 0, 1), VSCSI_NULL);
   IS(vscsi_capacity(0, 0, 0, &n), VSCSI_NULL);
   IS(vscsi_capacity(&device, 0, 0, 0), VSCSI_NULL);
   IS(vscsi_blocks(0, 0, 0, 0, 0, &byte, 0), VSCSI_NULL);
@@ -132,6 +133,7 @@ static void no_device(void) {
   IS(vscsi_progress(&device, 0, &n, &n), VSCSI_NO_DEVICE);
   IS(vscsi_progress(&device, 0, 0, 0), VSCSI_NO_DEVICE);
   IS(vscsi_reset(&device, 0, 0), VSCSI_NO_DEVICE);
+  IS(vscsi_resize(&device, 0, 0, 0), VSCSI_NO_DEVICE);
   IS(vscsi_capacity(&device, 0, 0, &n), VSCSI_NO_DEVICE);
   IS(vscsi_blocks(&device, 0, 0, 0, 1, bytes, 512), VSCSI_NO_DEVICE);
   IS(n, 5);
@@ -180,6 +182,18 @@ static void calls(struct vscsi *device) {
   IS(n, 1);
   IS(vscsi_reset(device, 4, 1), VSCSI_NO_UNIT);
   IS(vscsi_reset(device, 4, 0), VSCSI_DONE);
+  IS(vscsi_resize(device, 4, 1, 0), VSCSI_BAD_CAPACITY);
+  IS(vscsi_resize(device, 4, 0, 0), VSCSI_BAD_CAPACITY);
+  IS(vscsi_resize(device, 4, 0, VSCSI_MOST_BLOCKS + 1), VSCSI_BAD_CAPACITY);
+  IS(vscsi_resize(device, 4, 1, 2), VSCSI_NO_UNIT);
+  IS(vscsi_capacity(device, 4, 0, &n), VSCSI_DONE);
+  IS(n, 1);
+  IS(vscsi_resize(device, 4, 0, VSCSI_MOST_BLOCKS), VSCSI_DONE);
+  IS(vscsi_capacity(device, 4, 0, &n), VSCSI_DONE);
+  IS(n, (long long)VSCSI_MOST_BLOCKS);
+  IS(vscsi_resize(device, 4, 0, 1), VSCSI_DONE);
+  IS(vscsi_capacity(device, 4, 0, &n), VSCSI_DONE);
+  IS(n, 1);
   IS(vscsi_blocks(device, 4, 0, 0, 1, bytes, 512), VSCSI_DONE);
   IS(bytes[0], 0);
   IS(vscsi_blocks(device, 4, 0, 1, 0, 0, 0), VSCSI_DONE);
@@ -277,7 +291,7 @@ static void portions(void) {
 static void texts(void) {
   for (uint32_t i = 0; i < 20; i++) {
     for (uint32_t j = 0; j < i; j++) {
-      IS(strcmp(vscsi_answer_text((enum vscsi_answer)i), vscsi_answer_text((enum vscsi_answer)j)) != 0 || j > VSCSI_NULL, true);
+      IS(strcmp(vscsi_answer_text((enum vscsi_answer)i), vscsi_answer_text((enum vscsi_answer)j)) != 0 || j > VSCSI_BAD_CAPACITY, true);
       IS(strcmp(vscsi_broken_text(i), vscsi_broken_text(j)) != 0 || j > VSCSI_BROKEN_RING_OVERRUN, true);
       IS(strcmp(vscsi_cause_text(i), vscsi_cause_text(j)) != 0 || j == 0 || j == 6 || j == 7 || j > VSCSI_CAUSE_NO_LUN_0, true);
     }

@@ -39,9 +39,9 @@
 extern "C" {
 #endif
 
-/* The version of this header: 1.0.0. VSCSI_VERSION is major * 65,536 + minor * 256 + patch. */
+/* The version of this header: 1.1.0. VSCSI_VERSION is major * 65,536 + minor * 256 + patch. */
 #define VSCSI_VERSION_MAJOR 1
-#define VSCSI_VERSION_MINOR 0
+#define VSCSI_VERSION_MINOR 1
 #define VSCSI_VERSION_PATCH 0
 #define VSCSI_VERSION ((uint32_t)VSCSI_VERSION_MAJOR << 16 | (uint32_t)VSCSI_VERSION_MINOR << 8 | (uint32_t)VSCSI_VERSION_PATCH)
 
@@ -61,7 +61,8 @@ enum vscsi_answer {
   VSCSI_NO_QUEUE = 6,   /* there is no such queue */
   VSCSI_NO_UNIT = 7,    /* there is no such unit */
   VSCSI_BAD_LENGTH = 8, /* the room isn't as long as what goes there, or a structure has another size */
-  VSCSI_NULL = 9        /* a pointer is null */
+  VSCSI_NULL = 9,       /* a pointer is null */
+  VSCSI_BAD_CAPACITY = 10 /* a unit of no blocks, or of more than VSCSI_MOST_BLOCKS */
 };
 
 /* The features that the device knows (VIRTIO 1.2, 6). A driver has to agree to VSCSI_F_VERSION_1. By VSCSI_F_RING_PACKED
@@ -241,6 +242,12 @@ enum vscsi_answer vscsi_progress(const struct vscsi *device, uint16_t queue, uin
  * (29/00), and an event goes to the event queue. vscsi_settle or vscsi_serve does what follows.
  * VSCSI_NO_DEVICE; VSCSI_NO_UNIT; VSCSI_NO_MEMORY. */
 enum vscsi_answer vscsi_reset(struct vscsi *device, uint8_t target, uint16_t lun);
+
+/* The operator's resize of a unit, to 1 to VSCSI_MOST_BLOCKS blocks of 512 bytes. Blocks that it loses are gone: where it
+ * grows again they are zeros. Its next command is told (2A/09), and where the driver agreed to VSCSI_F_CHANGE an event goes
+ * to the event queue, by the next vscsi_settle or vscsi_serve. Since 1.1.
+ * The first of these, in this order, that is so: VSCSI_NO_DEVICE; VSCSI_BAD_CAPACITY; VSCSI_NO_UNIT; VSCSI_NO_MEMORY. */
+enum vscsi_answer vscsi_resize(struct vscsi *device, uint8_t target, uint16_t lun, uint64_t blocks);
 
 /* How many blocks a unit has.
  * VSCSI_NO_DEVICE; VSCSI_NO_UNIT. */

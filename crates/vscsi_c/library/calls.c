@@ -15,6 +15,7 @@ uint32_t vscsi_raw_status(struct vscsi *device, uint8_t *status);
 uint32_t vscsi_raw_broken(struct vscsi *device, uint16_t queue, uint32_t *fault);
 uint32_t vscsi_raw_progress(struct vscsi *device, uint16_t queue, uint64_t *accepted, uint64_t *used);
 uint32_t vscsi_raw_reset(struct vscsi *device, uint8_t target, uint16_t lun);
+uint32_t vscsi_raw_resize(struct vscsi *device, uint8_t target, uint16_t lun, uint64_t blocks);
 uint32_t vscsi_raw_capacity(struct vscsi *device, uint8_t target, uint16_t lun, uint64_t *blocks);
 uint32_t vscsi_raw_blocks(struct vscsi *device, uint8_t target, uint16_t lun, uint64_t first, uint32_t count, uint8_t *into, size_t length);
 
@@ -91,6 +92,10 @@ enum vscsi_answer vscsi_reset(struct vscsi *device, uint8_t target, uint16_t lun
   return device ? (enum vscsi_answer)vscsi_raw_reset(device, target, lun) : VSCSI_NULL;
 }
 
+enum vscsi_answer vscsi_resize(struct vscsi *device, uint8_t target, uint16_t lun, uint64_t blocks) {
+  return device ? (enum vscsi_answer)vscsi_raw_resize(device, target, lun, blocks) : VSCSI_NULL;
+}
+
 enum vscsi_answer vscsi_capacity(const struct vscsi *device, uint8_t target, uint16_t lun, uint64_t *blocks) {
   return device && blocks ? (enum vscsi_answer)vscsi_raw_capacity(looked_at(device), target, lun, blocks) : VSCSI_NULL;
 }
@@ -125,6 +130,7 @@ const char *vscsi_answer_text(enum vscsi_answer answer) {
       [VSCSI_NO_UNIT] = "there is no such unit",
       [VSCSI_BAD_LENGTH] = "a wrong length",
       [VSCSI_NULL] = "a null pointer",
+      [VSCSI_BAD_CAPACITY] = "no blocks, or too many",
   };
   return TEXT_OF(texts, (uint32_t)answer, "an unknown answer");
 }

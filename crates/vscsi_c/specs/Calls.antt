@@ -5,7 +5,7 @@ use Rattle.block_store.specs.declared.NoMemory.{NoMemory}
 use Rattle.ring_core.specs.declared.fault.RingFault.{RingFault}
 use Rattle.ring_core.specs.declared.fault.RingFault.TheVariants as ring
 use Rattle.guest_mem.specs.Memory.{LiesIn, bytes_at}
-use Rattle.history.specs.Contents.{blocks_of, capacity_of}
+use Rattle.history.specs.Contents.{blocks_of, capacity_of, is_capacity}
 use Rattle.task_set.specs.Unit.{PlainUnit}
 use Rattle.deeds.specs.World.{PlainQueue, PlainWorld, Opens}
 use Rattle.ring_core.specs.Writes.{Write}
@@ -137,6 +137,19 @@ ResetsWorld w target lun a w' = ⊥
 
 abbrev pub Resets : ℕ → ℕ → Served → Answer → Served → Type 0
 Resets target lun d a d' = ResetsWorld d.world target lun a d'.world × (d'.told ≡ d.told)
+
+-- as `World::step` of a resize of the unit of an address, to a capacity that a unit may have
+abbrev pub ResizesWorld : PlainWorld → ℕ → ℕ → ℕ → Answer → PlainWorld → Type 0
+ResizesWorld w target lun blocks answer.BadCapacity w' = (is_capacity blocks ≡ false) × (w' ≡ w)
+ResizesWorld w target lun blocks answer.Done w' = (place : ℕ) × (changed : Bool) × (is_capacity blocks ≡ true)
+    × IsPlaceOf w target lun (Some place) × IsStep w (Event.Resize place blocks) changed w'
+ResizesWorld w target lun blocks answer.NoMemory w' = (place : ℕ) × (is_capacity blocks ≡ true)
+    × IsPlaceOf w target lun (Some place) × MayWant (Event.Resize place blocks) w × (w' ≡ w)
+ResizesWorld w target lun blocks answer.NoUnit w' = (is_capacity blocks ≡ true) × IsPlaceOf w target lun None × (w' ≡ w)
+ResizesWorld w target lun blocks a w' = ⊥
+
+abbrev pub Resizes : ℕ → ℕ → ℕ → Served → Answer → Served → Type 0
+Resizes target lun blocks d a d' = ResizesWorld d.world target lun blocks a d'.world × (d'.told ≡ d.told)
 
 -- as `World::capacity`
 abbrev pub HasCapacity : Option PlainUnit → ℕ → Answer → ℕ → Type 0

@@ -24,6 +24,8 @@ pub(crate) enum Answer {
     NoUnit = 7,
     /// The room that was given isn't as long as what was asked for.
     BadLength = 8,
+    /// No unit may have so many blocks. 9 is the header's, for a null pointer.
+    BadCapacity = 10,
 }
 
 impl Answer {
@@ -41,6 +43,7 @@ impl Answer {
             Answer::NoQueue => 6,
             Answer::NoUnit => 7,
             Answer::BadLength => 8,
+            Answer::BadCapacity => 10,
         }
     }
 }

@@ -2,7 +2,7 @@
 
 ghost use Rattle.std.specs.Prelude.{◌≡◌};
 ghost use Rattle.vscsi_c.specs.Kept.{kept_in};
-ghost use Rattle.vscsi_c.specs.Calls.{Serving, Settles, ServesPortion, Pokes, Peeks, Owes, IsStatus, Breaks, Counts, Resets, Holds, Gives, Creates, Destroys};
+ghost use Rattle.vscsi_c.specs.Calls.{Serving, Settles, ServesPortion, Pokes, Peeks, Owes, IsStatus, Breaks, Counts, Resets, Resizes, Holds, Gives, Creates, Destroys};
 
 use crate::answer::Answer;
 use crate::device::Device;
@@ -191,6 +191,25 @@ pub(crate) fn reset(device: &mut Device, alloc: Global, target: u8, lun: u16) ->
         return Answer::NoDevice;
     };
     let answer = served.reset(target, lun);
+    device.put(served);
+    answer
+}
+
+/// The operator's resize of a unit.
+#[tactic(auto, using(crate::proofs::Serve::serving, crate::proofs::Serve::without))]
+pub(crate) fn resize(
+    device: &mut Device,
+    alloc: Global,
+    target: u8,
+    lun: u16,
+    blocks: u64,
+) -> Answer
+    ensures { Serving (Resizes target lun blocks) (Unit {0}) (kept_in device.old) result (kept_in device.new) }
+{
+    let Some(mut served) = device.take(alloc) else {
+        return Answer::NoDevice;
+    };
+    let answer = served.resize(target, lun, blocks);
     device.put(served);
     answer
 }

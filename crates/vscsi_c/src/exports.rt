@@ -4,7 +4,7 @@
 ghost use Rattle.std.specs.Prelude.{◌≡◌};
 ghost use Rattle.vscsi_c.specs.Answers.{Tells};
 ghost use Rattle.vscsi_c.specs.Kept.{kept_in};
-ghost use Rattle.vscsi_c.specs.Calls.{Serving, Settles, ServesPortion, Pokes, Peeks, Owes, IsStatus, Breaks, Counts, Resets, Holds, Gives, Creates, Destroys};
+ghost use Rattle.vscsi_c.specs.Calls.{Serving, Settles, ServesPortion, Pokes, Peeks, Owes, IsStatus, Breaks, Counts, Resets, Resizes, Holds, Gives, Creates, Destroys};
 
 use crate::calls;
 use crate::device::Device;
@@ -137,6 +137,21 @@ pub extern "C" fn vscsi_raw_reset(device: &mut Device, alloc: Global, target: u8
     ensures { Tells result (λ a. Serving (Resets target lun) (Unit {0}) (kept_in device.old) a (kept_in device.new)) }
 {
     calls::reset(device, alloc, target, lun).code()
+}
+
+/// The operator's resize of a unit.
+#[unsafe(no_mangle)]
+pub extern "C" fn vscsi_raw_resize(
+    device: &mut Device,
+    alloc: Global,
+    target: u8,
+    lun: u16,
+    blocks: u64,
+) -> u32
+    ensures { Tells result (λ a. Serving (Resizes target lun blocks) (Unit {0}) (kept_in device.old) a
+        (kept_in device.new)) }
+{
+    calls::resize(device, alloc, target, lun, blocks).code()
 }
 
 /// How many blocks a unit has.

@@ -15,6 +15,6 @@ pub use device::Device;
 pub use exports::{
     vscsi_raw_blocks, vscsi_raw_broken, vscsi_raw_capacity, vscsi_raw_create, vscsi_raw_destroy,
     vscsi_raw_owed, vscsi_raw_peek, vscsi_raw_poke, vscsi_raw_progress, vscsi_raw_reset,
-    vscsi_raw_serve, vscsi_raw_settle, vscsi_raw_status,
+    vscsi_raw_resize, vscsi_raw_serve, vscsi_raw_settle, vscsi_raw_status,
 };
 pub use wanted::{Fault, WantedQueue, WantedUnit};

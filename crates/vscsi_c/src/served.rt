@@ -1,11 +1,12 @@
 //! What each call does with a device.
 
 ghost use Rattle.std.specs.Prelude.{◌≡◌};
-ghost use Rattle.vscsi_c.specs.Calls.{Settles, ServesPortion, Pokes, Peeks, Owes, IsStatus, Breaks, Counts, Resets, Holds, Gives, number_of};
+ghost use Rattle.vscsi_c.specs.Calls.{Settles, ServesPortion, Pokes, Peeks, Owes, IsStatus, Breaks, Counts, Resets, Resizes, Holds, Gives, number_of};
 
 use crate::answer::Answer;
 use deeds::Event;
 use std::alloc::Global;
+use unit_history::is_capacity;
 use world::{Notifications, RingFault, World};
 
 /// A device, and what its host was told of it.
@@ -138,6 +139,22 @@ impl Served {
             return Answer::NoUnit;
         };
         match self.world.step(Event::Hard(place)) {
+            Ok(_) => Answer::Done,
+            Err(_) => Answer::NoMemory,
+        }
+    }
+
+    /// The operator's resize of a unit.
+    pub(crate) fn resize(&mut self, target: u8, lun: u16, blocks: u64) -> Answer
+        ensures { Resizes target lun blocks self.old result self.new }
+    {
+        if !is_capacity(blocks) {
+            return Answer::BadCapacity;
+        }
+        let Some(place) = self.world.place(target, lun) else {
+            return Answer::NoUnit;
+        };
+        match self.world.step(Event::Resize(place, blocks)) {
             Ok(_) => Answer::Done,
             Err(_) => Answer::NoMemory,
         }
