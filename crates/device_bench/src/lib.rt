@@ -2,11 +2,13 @@
 //! should. It stands in a crate of its own so that tests read nothing of how it is done.
 #![tactic(auto)]
 
+mod disks;
 mod guest;
 mod moves;
 mod opening;
 mod steps;
 
+pub use disks::{HandedOn, hand_on};
 pub use guest::{
     ABSENT, BUFFER, NEXUS_RESET, ORDERED, QUERY, READ, READY, REJECTED, Sent, UNIT_RESET,
 };

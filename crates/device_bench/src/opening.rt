@@ -1,6 +1,6 @@
 //! Devices, by the numbers of their configuration.
 
-use block_store::NoMemory;
+use block_store::{NoMemory, PagedStore};
 use ring_core::Layout;
 use std::alloc::Global;
 use world::{Config, StartFault, UnitSpec, VERSION_1, World};
@@ -44,25 +44,47 @@ fn layouts(alloc: Global, slots: u16) -> Result<Vec<Layout>, NoMemory> {
     Ok(queues)
 }
 
-/// Starts a device with four queues. It has no contract, so that what `new` promises is read once.
-pub(crate) fn start(
+/// The configuration of a device with four queues.
+pub(crate) fn config_of(
     alloc: Global,
     numbers: Numbers,
     units: &[UnitSpec],
-) -> Result<World, StartFault> {
-    let Ok(queues) = layouts(alloc, numbers.slots) else {
-        return Err(StartFault::NoMemory);
-    };
+) -> Result<Config, NoMemory> {
+    let queues = layouts(alloc, numbers.slots)?;
     let Ok(units) = Vec::from_slice(alloc, units) else {
-        return Err(StartFault::NoMemory);
+        return Err(NoMemory);
     };
-    let config = Config {
+    Ok(Config {
         pages: numbers.pages,
         features: numbers.features,
         queues,
         workers: numbers.workers,
         handoff: numbers.handoff,
         units,
-    };
-    Ok(World::new(alloc, &config)?)
+    })
+}
+
+/// Starts a device with four queues. It has no contract, so that what `new` promises is read once.
+pub(crate) fn start(
+    alloc: Global,
+    numbers: Numbers,
+    units: &[UnitSpec],
+) -> Result<World, StartFault> {
+    match config_of(alloc, numbers, units) {
+        Ok(config) => Ok(World::new(alloc, &config)?),
+        Err(NoMemory) => Err(StartFault::NoMemory),
+    }
+}
+
+/// Starts a device with four queues over disks. It has no contract, so that what `new_with` promises is read once.
+pub(crate) fn start_with(
+    alloc: Global,
+    numbers: Numbers,
+    units: &[UnitSpec],
+    disks: &mut Vec<PagedStore>,
+) -> Result<World, StartFault> {
+    match config_of(alloc, numbers, units) {
+        Ok(config) => Ok(World::new_with(alloc, &config, disks)?),
+        Err(NoMemory) => Err(StartFault::NoMemory),
+    }
 }

@@ -75,7 +75,7 @@ fn has_history(world: &World, steps: &[StepKind]) -> bool {
 }
 
 /// In how many steps the device settles. It has no contract, so that what `settle` promises is read once.
-fn settle(world: &mut World) -> Result<u64, NoMemory> {
+pub(crate) fn settle(world: &mut World) -> Result<u64, NoMemory> {
     Ok(world.settle()?)
 }
 

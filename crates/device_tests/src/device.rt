@@ -6,7 +6,7 @@ mod portions;
 mod service;
 mod views;
 
-use device_bench::{Row, first_wrong};
+use device_bench::{HandedOn, Row, first_wrong, hand_on};
 use std::alloc::Global;
 use std::fmt::Display;
 use std::process::Abort;
@@ -57,4 +57,16 @@ fn takes_events_that_apply(rt: HostRuntime) -> Result<(), Fail> {
 #[test]
 fn tells_of_its_units(rt: HostRuntime) -> Result<(), Fail> {
     play_all(&rt, rt.alloc(), &views::ROWS)
+}
+
+#[test]
+fn disks_outlive_their_device(rt: HostRuntime) -> Result<(), Fail> {
+    let kept = HandedOn {
+        left: (1, Some(6)),
+        refused: (true, 1),
+        taken: 0,
+        byte: Some(0xab),
+    };
+    assert!(rt; hand_on(rt.alloc())? == Some(kept));
+    Ok(())
 }
