@@ -45,6 +45,7 @@ use Rattle.task_set.proofs.shared.SharedRequest.TheSendSync as shared
 use Rattle.unit_history.specs.contracts.unit.UnitState.{the_row as unit_row}
 use Rattle.unit_history.specs.contracts.unit.UnitState.TheInside as unit
 use Rattle.block_store.proofs.paged.PagedStore.TheSendSync as store
+use Rattle.unit_history.proofs.changes.Changes.TheSendSync as changes
 use Rattle.block_commands.specs.contracts.facts.UnitFacts.{the_field as facts_field, the_type as facts_type}
 use Rattle.ring_core.proofs.outstanding.OutstandingTable.TheSendSync as table
 use Rattle.ring_core.specs.contracts.base.RingBase.{the_row as base_row}
@@ -123,7 +124,7 @@ lasts_sends = search (sendable, lasts_fields)
 
 unit_fields : IsSend unit.the_row
 unit_fields = declared_send unit.the_type
-    (search sendable, (as_row_send facts_field facts_sends, (search sendable, (attentions.the_send, (store.the_send, (search crosses depth 30, (search sendable, (set_sends, (steps_sends, (lasts_sends, (search crosses depth 30, tt)))))))))))
+    (search sendable, (as_row_send facts_field facts_sends, (search sendable, (attentions.the_send, (store.the_send, (search crosses depth 30, (search sendable, (set_sends, (steps_sends, (lasts_sends, (search crosses depth 30, (changes.the_send, tt))))))))))))
 
 pub unit_sends : IsSend unit_row
 unit_sends = search (sendable, unit_fields)

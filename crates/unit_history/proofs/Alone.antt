@@ -1,5 +1,5 @@
 -- A request that is served where no task is alive: what its unit is then.
-use Rattle.std.proofs.Common.{◌≡◌, ℕ, ◌+◌, ◌≤◌, Bool, true, false, not, ◌||◌, cond, List, [], ◌∷◌, map, length, Option, Some, None, Result, Ok, Err, refl, sym, ◌∙◌, ap, subst, arith}
+use Rattle.std.proofs.Common.{◌≡◌, ℕ, ◌+◌, ◌≤◌, Bool, true, false, not, ◌||◌, cond, List, [], ◌∷◌, map, length, Option, Some, None, is_some, Result, Ok, Err, refl, sym, ◌∙◌, ap, subst, arith}
 use Rattle.ring_core.specs.declared.log.Ticket.{Ticket}
 use Rattle.block_store.specs.Blocks.{Blocks}
 use Rattle.block_store.specs.declared.NoMemory.{NoMemory}
@@ -11,7 +11,8 @@ use Rattle.decisions.specs.declared.attribute.TaskAttribute.TheVariants.{Simple,
 use Rattle.history.specs.Tasks.{Entry, blocks, is_blocked}
 use Rattle.history.specs.Steps.{Step, floor}
 use Rattle.history.specs.Seen.{finished, freed}
-use Rattle.history.specs.Contents.{Opening, facts_after}
+use Rattle.command_set.specs.Effects.{given}
+use Rattle.history.specs.Contents.{Opening, capacity_of, facts_after}
 use Rattle.history.specs.Lawful.{IsReady}
 use Rattle.history.specs.Endings.{Ending}
 use Rattle.history.specs.Receipts.{unit_address}
@@ -22,6 +23,8 @@ use Rattle.task_set.specs.Tasks.{PlainTask, entries_of, parked_of, moved, withou
 use Rattle.task_set.proofs.Entering.{blocked_last}
 use Rattle.unit_history.specs.Calls.{Enters}
 use Rattle.unit_history.specs.Endings.{ending_of, ending_of_run}
+use Rattle.unit_history.specs.Changes.{PlainChanges}
+use Rattle.unit_history.specs.Noting.{Notes, AreNoted}
 use Rattle.unit_history.specs.Parts.{AreKept}
 use Rattle.unit_steps.specs.Performing.{Performs, step_for, unkept}
 use Rattle.unit_history.specs.Outcomes.{outcome_for}
@@ -32,6 +35,7 @@ use Rattle.unit_steps.specs.declared.performing.Performed.{Performed}
 use Rattle.unit_history.proofs.Committing.{is_of, keep_run, commits_run}
 use Rattle.unit_history.proofs.Entering.{enters_task}
 use Rattle.unit_history.proofs.Keeping.{CameTo, is_ready, may_leave, keep_enter, keep_leave}
+use Rattle.unit_history.proofs.Noting.{noted_on, noted_run}
 use Rattle.unit_history.proofs.Stepping.{unit_with, steps_is}
 
 -- nothing is a list of no length
@@ -174,6 +178,16 @@ module _ (o : Opening) (past : List Step) (block_at : Blocks) (pending : List Co
       (subst (λ ss. AreKept o ss block_at' pending' [] lasts' room3) (sym is)
       (kept_left o past block_at pending lasts room kept_none j lasts' le came room1 reserve facts p block_at' pending' as_told ran
       room2 room3 less fewer))
+
+  pub noted_served : (capacity : ℕ) (c c' : PlainChanges) → AreNoted o past c
+      → Notes (λ b. is_some (given j.entry.command j.entry.data_out b)) capacity (length (Step.Enter j.entry ∷ past)) c c' → capacity ≡ capacity_of o past
+      → AreNoted o steps' c'
+  noted_served capacity c c' noted n size =
+      let t = j.entry.ticket in
+      let entered = noted_on o (Step.Enter j.entry) past _ c noted (λ b below out. (below, refl)) refl in
+      let there = (ready o past block_at pending lasts room kept_none j lasts' le came room1 reserve facts p block_at' pending' as_told ran).is_there in
+      let ran' = noted_run o t j.entry p (Step.Enter j.entry ∷ past) _ capacity c c' entered there n size refl in
+      noted_on o (Step.Leave t) (step_for t p ∷ Step.Enter j.entry ∷ past) steps' c' ran' (λ b below out. (below, refl)) is
 
   pub serves_alone : (answers : Ending → Type 0) (keeps keeps' : Bool) → keeps ≡ false → keeps' ≡ false
       → answers (ending_of (outcome_for (unit_address o) (length (Step.Enter j.entry ∷ past)) j.entry.ticket p))

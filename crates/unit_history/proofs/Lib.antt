@@ -7,4 +7,6 @@ pub mod Stepping
 pub mod Entering
 pub mod Committing
 pub mod Alone
+pub mod Noting
 pub mod Opening
+pub mod Ranging

@@ -5,4 +5,6 @@ pub mod Outcomes
 pub mod Endings
 pub mod Serving
 pub mod Disks
+pub mod Changes
+pub mod Noting
 pub mod Fields

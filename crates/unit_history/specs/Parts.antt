@@ -1,5 +1,5 @@
 -- What the parts of a unit are. Only private functions and models cite it: no promise stands on it.
-use Rattle.std.specs.Prelude.{ℕ, ◌≡◌, ◌+◌, ◌<◌, ◌≤◌, List, [], ◌∷◌, length, Option, Some, None, if◌then◌else◌, ⊤}
+use Rattle.std.specs.Prelude.{ℕ, ◌≡◌, ◌+◌, ◌≤◌, List, [], ◌∷◌, length, Option, Some, None, if◌then◌else◌, ⊤}
 use Rattle.std.specs.Option.{option_map}
 use Rattle.block_store.specs.Blocks.{Blocks}
 use Rattle.unit_attention.specs.declared.code.Code.{Code}

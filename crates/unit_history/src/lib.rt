@@ -3,6 +3,7 @@
 
 mod answering;
 mod answers;
+mod changes;
 mod given;
 mod pages;
 mod serving;
@@ -11,6 +12,7 @@ mod unit;
 
 pub use answering::Answering;
 pub use answers::{BareReceipt, Entered, Outcome, Receipt, ResizeFault, Unknown};
+pub use changes::{Changes, Range};
 pub use given::Given;
 pub use notes::{Cause, Note};
 pub use pages::{PreparedWrite, StartedWrite};

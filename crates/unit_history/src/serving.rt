@@ -6,7 +6,7 @@ ghost use Rattle.unit_history.specs.Serving.{ServesAlone};
 
 use crate::answering::Answering;
 use crate::unit::{UnitState, make_way, noted_entry};
-use block_store::NoMemory;
+use block_store::{NoMemory, Store};
 use replies::Reply;
 use ring_core::Ticket;
 use task_set::Arrival;
@@ -63,6 +63,12 @@ impl UnitState {
         };
         self.lasts.came(ticket);
         self.log.push(NotedStep::Enter(noted_entry(&arrival)), None);
+        self.changes.note_command(
+            &arrival.command(),
+            arrival.data(),
+            self.store.capacity(),
+            self.log.len(),
+        );
         let ran = run(
             self.alloc,
             &mut self.room,

@@ -12,6 +12,7 @@ ghost use Rattle.unit_steps.specs.Performing.{IsKeptReply, step_for};
 ghost use Rattle.unit_history.specs.Outcomes.{outcome_for};
 
 use crate::answers::{Entered, Outcome, Receipt, ResizeFault, Unknown};
+use crate::changes::Changes;
 use crate::pages::{PreparedWrite, StartedWrite, pages_for};
 use crate::turn::{Turn, is_ended, turn_of};
 use block_commands::UnitFacts;
@@ -25,6 +26,7 @@ use ring_core::{Answered, Ticket};
 use scsi_codec::Address;
 use std::alloc::{AllocError, Global};
 use std::marker::Model;
+use std::mem;
 use task_set::{Arrival, Full, Job, JobList, TaskSet};
 use unit_attention::{Attentions, Code};
 use unit_steps::{
@@ -58,6 +60,8 @@ pub struct UnitState {
     pub(crate) lasts: Lasts,
     // Room for the data of the next command that returns some.
     pub(crate) room: Vec<u8>,
+    // Which blocks may have changed since it was last asked.
+    pub(crate) changes: Changes,
 }
 
 impl Model for UnitState {
@@ -166,6 +170,7 @@ impl UnitState {
     ghost use Rattle.history.specs.Receipts.{IsConfirmed};
     ghost use Rattle.unit_steps.specs.Kept.{kind_of};
     ghost use Rattle.task_set.specs.Unit.{opening_unit, handing, Steps, IsUnit};
+    ghost use Rattle.unit_history.specs.Changes.{AreUnchanged};
     ghost use Rattle.unit_history.specs.Disks.{opening_over, IsDiskOf};
     ghost use Rattle.unit_history.specs.Calls.{Enters, Commits, ResizeRefused, CannotLeave};
 
@@ -207,6 +212,7 @@ impl UnitState {
             log: StepLog::new(alloc, keeps_replies),
             lasts: Lasts::new(alloc),
             room: Vec::new(alloc),
+            changes: Changes::since_place(0),
         })
     }
 
@@ -327,6 +333,8 @@ impl UnitState {
                 };
                 let command = task.command();
                 let bytes = task.data();
+                self.changes
+                    .note_command(&command, bytes, self.store.capacity(), self.log.len());
                 let pages = pages_for(prepared, task);
                 if self.log.keeps_replies() {
                     let performed = perform(
@@ -430,6 +438,8 @@ impl UnitState {
             return Err(ResizeFault::NoMemory);
         };
         let place = self.log.len();
+        self.changes
+            .note_growth(self.store.capacity(), blocks, place);
         self.log.push(NotedStep::Resize(blocks), None);
         self.attentions.raise(Code::CAPACITY_DATA_CHANGED);
         self.store.resize(blocks);
@@ -568,6 +578,18 @@ impl UnitState {
         ensures { result.now ≡ pending_of self.now.opening self.now.steps }
     {
         self.attentions.as_slice()
+    }
+
+    /// Returns which blocks may have changed, and starts anew. A host calls it to write a disk through to its file, and
+    /// keeps the place of the history at the call, [`UnitState::steps`]. Where [`Changes::since`] of the next call is at
+    /// most that place, only the ranges of that call have to be written, and only below the capacity; else each block of
+    /// the disk. It takes no memory.
+    pub fn take_changes(&mut self) -> Changes
+        ensures unit { self.new ≡ self.old }
+        ensures past { result.since ≤ length self.old.steps }
+        ensures unchanged { AreUnchanged self.old result }
+    {
+        mem::replace(&mut self.changes, Changes::since_place(self.log.len()))
     }
 
     /// Appends the bytes of `count` blocks from `first` on, as its commands left them; `NoMemory`

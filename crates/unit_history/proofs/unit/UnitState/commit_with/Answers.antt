@@ -8,8 +8,9 @@ use Rattle.block_commands.specs.Told.{facts_of}
 use Rattle.unit_history.specs.Fields.{opening_of}
 use Rattle.unit_steps.specs.Performing.{told, step_for}
 use Rattle.task_set.specs.Tasks.{task_at, seen_of}
-use Rattle.unit_history.proofs.Keeping.{has_room, is_ready, told_is}
+use Rattle.unit_history.proofs.Keeping.{has_room, is_ready, told_is, task_at_alive}
 use Rattle.unit_history.proofs.Committing.{cannot_none, cannot_turn, is_of, is_aborted, keep_run, commits_run}
+use Rattle.unit_history.proofs.Noting.{noted_run}
 use Rattle.unit_history.proofs.unit.UnitState.commit_with.Goals as goal
 
 pub returns-in_default-clause-step : goal.returns-in_default-clause-step
@@ -39,6 +40,12 @@ invariant_of-self c =
           c.record_run.ensures.base c.record_run.ensures.forgotten c.record_run.ensures.steps
           (λ b. subst (λ ts. AreBehind n (seen_of ts)) (sym c.record_run.ensures.tasks) (behind_moved (finished c.ticket-ticket.result) n c.self.inside.tasks (λ s. refl) b));
       sized = c.perform-performed.ensures.size ∙ c.self.invariant.sized ∙ sym (ran_sized (opening_of c.self.inside) c.ticket-ticket.result _ c.self.inside.log.steps _ c.record_run.ensures.steps);
+      noted =
+          rw (c.perform-performed.ensures.facts)
+          (noted_run (opening_of c.self.inside) c.ticket-ticket.result c.in-Some.task.now.seen.entry _ c.self.inside.log.steps _ _ _ _ c.self.invariant.noted
+          (task_at_alive c.self.invariant.kept c.ticket-ticket.result c.in-Some.task.now at).0
+          (rw (c.command-command.ensures, c.data-bytes.ensures.data, c.len.ensures) at c.note_command.ensures)
+          (c.capacity.ensures ∙ c.self.invariant.sized) c.record_run.ensures.steps);
     }
 
 pub returns-in-Unknown-clause-step : goal.returns-in-Unknown-clause-step
@@ -123,4 +130,10 @@ invariant_of-self-else-keeps_replies c =
           c.record_run-else-keeps_replies.ensures.base c.record_run-else-keeps_replies.ensures.forgotten c.record_run-else-keeps_replies.ensures.steps
           (λ b. subst (λ ts. AreBehind n (seen_of ts)) (sym c.record_run-else-keeps_replies.ensures.tasks) (behind_moved (finished c.ticket-ticket.result) n c.self.inside.tasks (λ s. refl) b));
       sized = c.perform-performed-else-keeps_replies.ensures.size ∙ c.self.invariant.sized ∙ sym (ran_sized (opening_of c.self.inside) c.ticket-ticket.result _ c.self.inside.log.steps _ c.record_run-else-keeps_replies.ensures.steps);
+      noted =
+          rw (c.perform-performed-else-keeps_replies.ensures.facts)
+          (noted_run (opening_of c.self.inside) c.ticket-ticket.result c.in-Some.task.now.seen.entry _ c.self.inside.log.steps _ _ _ _ c.self.invariant.noted
+          (task_at_alive c.self.invariant.kept c.ticket-ticket.result c.in-Some.task.now at).0
+          (rw (c.command-command.ensures, c.data-bytes.ensures.data, c.len.ensures) at c.note_command.ensures)
+          (c.capacity.ensures ∙ c.self.invariant.sized) c.record_run-else-keeps_replies.ensures.steps);
     }

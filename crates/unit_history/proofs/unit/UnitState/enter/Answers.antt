@@ -6,6 +6,7 @@ use Rattle.unit_history.proofs.Entering.{not_stale, came_then, enters_full, ente
 use Rattle.task_set.specs.Tasks.{seen_of}
 use Rattle.unit_history.specs.Parts.{AreBehind}
 use Rattle.unit_history.proofs.Basing.{based_way, behind_entering}
+use Rattle.unit_history.proofs.Noting.{noted_on}
 use Rattle.unit_history.proofs.unit.UnitState.enter.Goals as goal
 
 pub enter-requires : goal.enter-requires
@@ -32,6 +33,9 @@ invariant_of-self-in-Err c =
           (λ le b. subst (λ ts. AreBehind n (seen_of ts)) (sym full.1) b)
           (c.make_way.ensures.clear c.self.invariant.based.clear);
       sized = c.self.invariant.sized ∙ rw (c.push.ensures.steps, c.in-Ok-make_way.ensures.steps) refl;
+      noted =
+          noted_on _ (Step.Full c.ticket-ticket.result) c.self.inside.log.steps _ _ c.self.invariant.noted (λ b below out. (below, refl))
+          (c.push.ensures.steps ∙ ap (λ w. Step.Full c.ticket-ticket.result ∷ w) c.make_way.ensures.steps);
     }
 
 pub invariant_of-self-in-Ok-enter : goal.invariant_of-self-in-Ok-enter
@@ -57,6 +61,10 @@ invariant_of-self-in-Ok-enter c =
           (λ le b. subst (λ ts. AreBehind n (seen_of ts)) (sym entered.1) (behind_entering c.len-place.result n c.self.inside.tasks c.args.arrival (omega (arith, at, le)) b))
           (c.make_way.ensures.clear c.self.invariant.based.clear);
       sized = c.self.invariant.sized ∙ rw (c.push-in-Ok-enter.ensures.steps, c.in-Ok-make_way.ensures.steps) refl;
+      noted =
+          noted_on _ (Step.Enter c.args.arrival.entry) c.self.inside.log.steps _ _ c.self.invariant.noted (λ b below out. (below, refl))
+          (c.push-in-Ok-enter.ensures.steps ∙ ap (λ e. Step.Enter e ∷ c.make_way.new.log.steps) c.noted_entry-entered.ensures
+          ∙ ap (λ w. Step.Enter c.args.arrival.entry ∷ w) c.make_way.ensures.steps);
     }
 
 pub returns-in-Err : goal.returns-in-Err

@@ -10,6 +10,7 @@ use Rattle.task_set.specs.Tasks.{parked_of}
 use Rattle.unit_history.proofs.Keeping.{few, may_reset, keep_reset}
 use Rattle.unit_history.proofs.Handing.{given_reset, parked_reset}
 use Rattle.unit_history.proofs.Stepping.{steps_is, handed_is}
+use Rattle.unit_history.proofs.Noting.{noted_on}
 use Rattle.unit_history.proofs.unit.UnitState.reset.Goals as goal
 
 pub mark-requires : goal.mark-requires
@@ -31,6 +32,7 @@ invariant_of-self-2 c =
           (λ le b. subst (λ ts. AreBehind n (seen_of ts)) (sym c.mark.ensures.tasks) (behind_moved (struck rules.All reason.Reset) n c.self.inside.tasks (λ s. refl) b))
           (c.make_way.ensures.clear c.self.invariant.based.clear);
       sized = c.self.invariant.sized ∙ rw (c.push.ensures.steps, c.in_ok-make_way.ensures.steps) refl;
+      noted = noted_on _ (Step.Reset c.args.code) c.self.inside.log.steps _ _ c.self.invariant.noted (λ b below out. (below, refl)) (c.push.ensures.steps ∙ ap (λ w. Step.Reset c.args.code ∷ w) c.make_way.ensures.steps);
     }
 
 pub returns-clause-step : goal.returns-clause-step

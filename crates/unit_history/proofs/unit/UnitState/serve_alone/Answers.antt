@@ -6,7 +6,7 @@ use Rattle.history.specs.Endings.{Ending}
 use Rattle.history.specs.Steps.{Step, floor}
 use Rattle.unit_history.specs.Fields.{opening_of}
 use Rattle.unit_steps.specs.Performing.{told, unkept, step_for}
-use Rattle.unit_history.proofs.Alone.{no_tasks, ends_as, all_steps, kept_served, serves_alone}
+use Rattle.unit_history.proofs.Alone.{no_tasks, ends_as, all_steps, kept_served, noted_served, serves_alone}
 use Rattle.unit_history.proofs.Entering.{not_stale, came_then}
 use Rattle.unit_history.proofs.Keeping.{CameTo, told_is}
 use Rattle.task_set.specs.Tasks.{seen_of}
@@ -33,6 +33,8 @@ invariant_of-self-2 g c =
     (c.push.ensures.steps ∙ ap (λ e. Step.Enter e ∷ c.make_way.new.log.steps) c.noted_entry.ensures
     ∙ ap (λ w. Step.Enter c.args.arrival.entry ∷ w) c.make_way.ensures.steps)
     (λ le b. b) (c.make_way.ensures.clear c.self.invariant.based.clear) in
+    let entered = c.push.ensures.steps ∙ ap (λ e. Step.Enter e ∷ c.make_way.new.log.steps) c.noted_entry.ensures
+    ∙ ap (λ w. Step.Enter c.args.arrival.entry ∷ w) c.make_way.ensures.steps in
     let two = based_on _ _ _ _ (step_for t (unkept c.run-ran.result)) c.push.new.self.steps _ (seen_of u.tasks) (seen_of u.tasks) one (ran_folds t (unkept c.run-ran.result))
     c.record_run.ensures.base c.record_run.ensures.forgotten c.record_run.ensures.steps (λ b. b) in
     record {
@@ -43,7 +45,7 @@ invariant_of-self-2 g c =
           c.came.new.self le came c.push.new.self.room (omega (arith, room, c.push.ensures.room))
           (facts_of (told u.facts u.attentions) (u.store.capacity)) (unkept c.run-ran.result) (pages.blocks_of c.run-ran.new.store.pages)
           c.run-ran.new.attentions (told_is c.self.invariant.kept u.facts (u.store.capacity) refl refl refl c.self.invariant.sized)
-          (rw (c.command.ensures, c.data.ensures.data) at c.run-ran.ensures.performed) c.push-2.new.self.steps steps
+          (rw (c.command-2.ensures, c.data-2.ensures.data) at c.run-ran.ensures.performed) c.push-2.new.self.steps steps
           c.record_run.new.log.room c.push-2.new.self.room c.record_run.ensures.room c.push-2.ensures.room);
       based =
           based_on _ _ _ _ (Step.Leave c.ticket.result) c.record_run.new.log.steps _ (seen_of u.tasks) (seen_of u.tasks) two refl
@@ -51,6 +53,17 @@ invariant_of-self-2 g c =
       sized =
           c.run-ran.ensures.size ∙ c.self.invariant.sized
           ∙ sym (rw steps (ran_sized (opening_of u) c.args.arrival.entry.ticket (unkept c.run-ran.result) (Step.Enter c.args.arrival.entry ∷ u.log.steps) _ refl));
+      noted =
+          rw (c.run-ran.ensures.facts)
+          (noted_served (opening_of u) u.log.steps (pages.blocks_of u.store.pages) u.attentions u.tasks u.lasts u.log.room
+          c.self.invariant.kept (no_tasks u.tasks (omega (arith, c.len.ensures.value, c.if-len-gt0.false))) c.args.arrival
+          c.came.new.self le came c.push.new.self.room (omega (arith, room, c.push.ensures.room))
+          (facts_of (told u.facts u.attentions) (u.store.capacity)) (unkept c.run-ran.result) (pages.blocks_of c.run-ran.new.store.pages)
+          c.run-ran.new.attentions (told_is c.self.invariant.kept u.facts (u.store.capacity) refl refl refl c.self.invariant.sized)
+          (rw (c.command-2.ensures, c.data-2.ensures.data) at c.run-ran.ensures.performed) c.push-2.new.self.steps steps
+          _ _ _ c.self.invariant.noted
+          (rw (c.command.ensures, c.data.ensures.data, c.len-2.ensures, entered) at c.note_command.ensures)
+          (c.capacity.ensures ∙ c.self.invariant.sized));
     }
 
 pub returns-clause-serves : goal.returns-clause-serves
@@ -75,7 +88,7 @@ returns-clause-serves g c =
     c.came.new.self le came c.push.new.self.room (omega (arith, room, c.push.ensures.room))
     (facts_of (told u.facts u.attentions) (u.store.capacity)) (unkept c.run-ran.result) (pages.blocks_of c.run-ran.new.store.pages)
     c.run-ran.new.attentions (told_is c.self.invariant.kept u.facts (u.store.capacity) refl refl refl c.self.invariant.sized)
-    (rw (c.command.ensures, c.data.ensures.data) at c.run-ran.ensures.performed) c.push-2.new.self.steps steps
+    (rw (c.command-2.ensures, c.data-2.ensures.data) at c.run-ran.ensures.performed) c.push-2.new.self.steps steps
     answers c.self.inside.log.keeps c.push-2.new.self.keeps keeps
     (c.push-2.ensures.keeps ∙ c.record_run.ensures.keeps ∙ c.push.ensures.keeps ∙ c.in-Ok-make_way.ensures.keeps ∙ keeps)
     (subst answers (ends_as _ _ _ c.run-ran.result) c.answer-answered.ensures.answers)
