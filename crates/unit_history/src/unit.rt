@@ -167,8 +167,9 @@ impl UnitState {
     ghost use Rattle.history.specs.Clearing.{is_clear};
     ghost use Rattle.history.specs.Contents.{blocks_of, capacity_of, pending_of};
     ghost use Rattle.history.specs.Base.{base_of, kept_at};
-    ghost use Rattle.history.specs.Receipts.{IsConfirmed};
+    ghost use Rattle.history.specs.Receipts.{IsConfirmed, step_at};
     ghost use Rattle.unit_steps.specs.Kept.{kind_of};
+    ghost use Rattle.unit_steps.specs.Runs.{committed_one};
     ghost use Rattle.task_set.specs.Unit.{opening_unit, handing, Steps, IsUnit};
     ghost use Rattle.unit_history.specs.Changes.{AreUnchanged};
     ghost use Rattle.unit_history.specs.Disks.{opening_over, IsDiskOf};
@@ -494,6 +495,15 @@ impl UnitState {
             && self
                 .log
                 .has_commit(receipt.place(), receipt.ticket(), receipt.reply())
+    }
+
+    /// Returns the ticket of the Commit at a place; `None` where another step stands, or none yet. It takes no memory. A
+    /// unit that keeps no replies knows no Commits of folded steps: there the place is asked for that isn't folded.
+    pub fn commit_at(&self, place: Place) -> Option<Ticket>
+        requires { (self.now.keeps_replies ≡ true) ⊎ (base_of self.now.steps ≤ place) }
+        ensures { result ≡ committed_one (option_map kind_of (step_at place self.now.steps)) }
+    {
+        self.log.commit_at(place)
     }
 
     /// Whether a task that the rule meets is alive. It takes no memory.

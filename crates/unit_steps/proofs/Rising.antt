@@ -1,10 +1,10 @@
 -- Runs of Commits: one more, and where a Commit is looked for.
-use Rattle.std.proofs.Common.{◌≡◌, ℕ, zero, suc, ◌+◌, ◌-◌, ◌*◌, ◌/◌, ◌<◌, ◌≤◌, ◌⊎◌, IsTrue, eqb, eq-eqb, true, false, nat_le, nat_lt, List, [], ◌∷◌, ◌++◌, length, get_or, set, inl, inr, refl, sym, ◌∙◌, ap, arith}
+use Rattle.std.proofs.Common.{◌≡◌, ℕ, zero, suc, ◌+◌, ◌-◌, ◌*◌, ◌/◌, ◌^◌, ◌<◌, ◌≤◌, ◌⊎◌, IsTrue, eqb, eq-eqb, true, false, nat_le, nat_lt, List, [], ◌∷◌, ◌++◌, length, get_or, set, Option, Some, None, inl, inr, refl, sym, ◌∙◌, ap, arith}
 use Rattle.std.proofs.lemmas.Bool.{eqb-true, le-leb, leb-true, ltb-true, ltb-false}
 use Rattle.std.proofs.lemmas.Nat.{div-mul-add}
 use Rattle.std.specs.List.Sorted.{IsPartitionedBy, IsPartitionPoint}
 use Rattle.unit_steps.specs.declared.runs.Run.{Run}
-use Rattle.unit_steps.specs.Runs.{OnRun, InRuns, AreRising, AreBefore, OneMore, Extends, last_place}
+use Rattle.unit_steps.specs.Runs.{OnRun, InRuns, AreRising, AreNumbered, AreBefore, OneMore, Extends, FindsOn, FindsIn, last_place, last_number}
 
 times_none : (k x : ℕ) → k ≡ 0 → k * x ≡ 0
 times_none k x e = ap (λ w. w * x) e ∙ omega arith
@@ -53,6 +53,7 @@ second_is place number r r' none one same_place same_number to_place to_number s
       first = same_place;
       strides = strides;
       ends = (let t = times_one r'.more r'.by_place one in omega (arith, t, to_place));
+      last = (let t = times_one r'.more r'.by_number one in omega (arith, t, to_number));
       more = λ p n. (
         λ on.
             let x = on.2 in let y = on.3 in let le = on.1 in
@@ -87,6 +88,7 @@ next_is place number r r' strides more same_place same_number same_by same_by_nu
       first = same_place;
       strides = omega (arith, strides, same_by);
       ends = (let t = by r'.more in omega (arith, t, to_place, same_place));
+      last = (let t = by_number r'.more in omega (arith, t, to_number, same_number));
       more = λ p n. (
         λ on.
             let x = on.2 in let y = on.3 in let le = on.1 in
@@ -136,6 +138,25 @@ on_nowhere p n k t r strides is t_is off = (
       eq-eqb t (p - r.place) (omega (arith, t_is, s, at)),
 )
 
+-- Which Commit stands at a place:
+pub on_there : (p k : ℕ) (r : Run) → r.place ≤ p → k ≤ r.more → k * r.by_place ≡ p - r.place → OnRun p (r.number + k * r.by_number) r
+on_there p k r a few beyond = (k, few, omega (arith, a, beyond), refl)
+
+pub none_before : (p : ℕ) (r : Run) → p < r.place → FindsOn p r None
+none_before p r lt = λ n on. (let w = (within_run p n r on).0 in absurd (omega (arith, w, lt)))
+
+pub none_behind : (p k : ℕ) (r : Run) → 0 < r.by_place → k ≡ (p - r.place) / r.by_place → r.more < k → FindsOn p r None
+none_behind p k r strides is lt = λ n on. (let s = steps_are p n r on strides in let le = on.1 in absurd (omega (arith, s, is, le, lt)))
+
+pub none_beside : (p k t : ℕ) (r : Run) → 0 < r.by_place → k ≡ (p - r.place) / r.by_place → t ≡ k * r.by_place → (t ≡ p - r.place → ⊥) → FindsOn p r None
+none_beside p k t r strides is t_is off = λ n on.
+    let s = ap (λ x. x * r.by_place) (is ∙ steps_are p n r on strides) in
+    let at = on.2 in
+    off (omega (arith, t_is, s, at))
+
+pub number_fits : (k : ℕ) (r : Run) → k ≤ r.more → last_number r < 2 ^ 64 → r.number + k * r.by_number < 2 ^ 64
+number_fits k r le fits = let h = times_less k r.more r.by_number le in omega (arith, h, fits)
+
 -- Where a Commit is looked for:
 rising_at : (low : ℕ) (runs : List Run) (i : ℕ) (d : Run) → AreRising low runs → i < length runs → low ≤ (get_or runs i d).place
 rising_at low [] i d a below = absurd (omega (arith, below))
@@ -184,7 +205,16 @@ in_at p n [] i d below on = absurd (omega (arith, below))
 in_at p n (r ∷ runs) zero d below on = inl on
 in_at p n (r ∷ runs) (suc i) d below on = inr (in_at p n runs i d (omega (arith, below)) on)
 
+pub number_at_fits : (runs : List Run) (i : ℕ) (d : Run) → AreNumbered runs → i < length runs → last_number (get_or runs i d) < 2 ^ 64
+number_at_fits [] i d a below = absurd (omega (arith, below))
+number_at_fits (r ∷ runs) zero d a below = a.0
+number_at_fits (r ∷ runs) (suc i) d a below = number_at_fits runs i d a.1 (omega (arith, below))
+
 -- One more Commit of runs: as a run of its own
+pub numbered_push : (runs : List Run) (r : Run) → AreNumbered runs → last_number r < 2 ^ 64 → AreNumbered (runs ++ r ∷ [])
+numbered_push [] r a fits = (fits, tt)
+numbered_push (x ∷ runs) r a fits = (a.0, numbered_push runs r a.1 fits)
+
 pub rising_push : (low : ℕ) (runs : List Run) (r : Run) → AreRising low runs → AreBefore r.place runs → low ≤ r.place → 0 < r.by_place → AreRising low (runs ++ r ∷ [])
 rising_push low [] r a b le strides = (le, strides, tt)
 rising_push low (x ∷ runs) r a b le strides =
@@ -217,6 +247,11 @@ more_push place number (x ∷ runs) r one = λ p n.
     )
 
 -- or at the end of the last
+pub numbered_set : (runs : List Run) (i : ℕ) (r : Run) → AreNumbered runs → last_number r < 2 ^ 64 → AreNumbered (set runs i r)
+numbered_set [] i r a fits = tt
+numbered_set (x ∷ runs) zero r a fits = (fits, a.1)
+numbered_set (x ∷ runs) (suc i) r a fits = (a.0, numbered_set runs i r a.1 fits)
+
 pub rising_set : (low : ℕ) (runs : List Run) (i : ℕ) (r d : Run) → AreRising low runs → i + 1 ≡ length runs → r.place ≡ (get_or runs i d).place → 0 < r.by_place
     → AreRising low (set runs i r)
 rising_set low [] i r d a last same strides = tt
@@ -276,3 +311,10 @@ in_one p n i runs d a some within point = (
       found_at p n 0 runs (i - 1) d a (omega (arith, some, within)) (leb-true (get_or runs (i - 1) d).place p (point.0 (i - 1) d (omega arith) (omega (arith, some))))
       (λ k later below. leb_above (get_or runs k d).place p (point.1 k d (omega (arith, later, some)) below)) found,
 )
+
+-- by what was found on the one run
+pub found_in : (p i : ℕ) (runs : List Run) (d : Run) (o : Option ℕ) → AreRising 0 runs → (i ≡ 0 → ⊥) → i ≤ length runs
+    → IsPartitionPoint (λ (r : Run). nat_le r.place p ≡ true) (λ (r : Run). nat_le r.place p ≡ false) runs i
+    → FindsOn p (get_or runs (i - 1) d) o → FindsIn p runs o
+found_in p i runs d None a some within point on = λ n found. on n ((in_one p n i runs d a some within point).1 found)
+found_in p i runs d (Some n) a some within point on = (in_one p n i runs d a some within point).0 on

@@ -1,11 +1,12 @@
 -- The runs of each queue, and one Commit more.
-use Rattle.std.proofs.Common.{◌≡◌, ℕ, zero, suc, ◌+◌, ◌*◌, ◌<◌, ◌⊎◌, eqb, eq-eqb, Bool, true, false, List, [], ◌∷◌, ◌++◌, length, get_or, set, map, slice_get, Vec, Option, Some, None, is_some, inl, inr, refl, sym, ◌∙◌, ap, subst, arith}
+use Rattle.std.proofs.Common.{◌≡◌, ℕ, zero, suc, ◌+◌, ◌*◌, ◌<◌, ◌≤◌, ◌⊎◌, eqb, eq-eqb, Bool, true, false, List, [], ◌∷◌, ◌++◌, length, get_or, set, map, slice_get, Vec, Option, Some, None, is_some, inl, inr, refl, sym, ◌∙◌, ap, subst, arith}
 use Rattle.std.specs.declared.alloc.Global.{Global}
 use Rattle.std.proofs.lemmas.Bool.{eqb-true}
+use Rattle.std.proofs.lemmas.List.{length-map}
 use Rattle.std.proofs.lemmas.Option.{slice_get_within, slice_get-map}
 use Rattle.ring_core.specs.declared.log.Ticket.{Ticket}
 use Rattle.unit_steps.specs.declared.runs.Run.{Run}
-use Rattle.unit_steps.specs.Runs.{InRuns, AreRising, AreBefore, OneMore, last_place, runs_of, tables_of, Stands, Adds, AreCommits, AllRising, SameRuns, FoldsOne, committed}
+use Rattle.unit_steps.specs.Runs.{InRuns, AreRising, AreBefore, OneMore, last_place, runs_of, tables_of, Stands, Finds, Adds, AreCommits, AreNumbered, AllRising, AllNumbered, SameRuns, committed_one, FoldsOne, committed}
 use Rattle.std.specs.Option.{option_map}
 use Rattle.history.specs.declared.rule.Rule.{Rule}
 use Rattle.unit_steps.specs.declared.kind.StepKind.{StepKind}
@@ -55,6 +56,20 @@ rising_all q queues queues0 v below same all rising = λ u.
       | inl e ↦ subst (λ k. AreRising 0 (runs_of k (tables_of (set queues q v)))) e (subst (AreRising 0) (sym (table_same q queues v below)) rising)
       | inr other ↦ subst (AreRising 0) (sym (table_other q u queues v other ∙ same u)) (all u)
     ]
+
+pub numbered_all : (q : ℕ) (queues queues0 : List (Vec Run Global)) (v : Vec Run Global) → q < length queues
+    → ((u : ℕ) → runs_of u (tables_of queues) ≡ runs_of u (tables_of queues0)) → AllNumbered (tables_of queues0) → AreNumbered v.items → AllNumbered (tables_of (set queues q v))
+numbered_all q queues queues0 v below same all numbered = λ u.
+    elim (same_or_not q u) as (λ w. AreNumbered (runs_of u (tables_of (set queues q v)))) [
+      | inl e ↦ subst (λ k. AreNumbered (runs_of k (tables_of (set queues q v)))) e (subst AreNumbered (sym (table_same q queues v below)) numbered)
+      | inr other ↦ subst AreNumbered (sym (table_other q u queues v other ∙ same u)) (all u)
+    ]
+
+-- as many tables
+pub count_set : (q : ℕ) (queues : List (Vec Run Global)) (v : Vec Run Global) → length (tables_of (set queues q v)) ≡ length queues
+count_set q [] v = refl
+count_set zero (x ∷ queues) v = ap suc (length-map queues (λ (w : Vec Run Global). w.items))
+count_set (suc q) (x ∷ queues) v = ap suc (count_set q queues v)
 
 pub unchanged : (q u : ℕ) (queues queues0 : List (Vec Run Global)) (v w : Vec Run Global) → q < length queues
     → ((u : ℕ) → runs_of u (tables_of queues) ≡ runs_of u (tables_of queues0)) → w ≡ get_or queues q w → v.items ≡ w.items
@@ -237,3 +252,54 @@ stands_kind p t kinds tables k = (
   λ i. of_one (slice_get kinds p) t (sym (slice_get-map committed kinds p) ∙ (k p t).0 i),
   λ h. (k p t).1 (slice_get-map committed kinds p ∙ ap (option_map committed) h),
 )
+
+-- no ticket of the queues up to one, and then of that
+pub none_next : (place q : ℕ) (queues : List (Vec Run Global)) (v : Vec Run Global) → q < length queues → v ≡ get_or queues q v
+    → ((t : Ticket) → t.queue < q → Stands place t (tables_of queues) → ⊥) → ((n : ℕ) → InRuns place n v.items → ⊥)
+    → (t : Ticket) → t.queue < q + 1 → Stands place t (tables_of queues) → ⊥
+none_next place q queues v below is before here = λ t lt stands.
+    elim (same_or_not q t.queue) [
+      | inl e ↦ here t.number (subst (InRuns place t.number) (ap (λ k. runs_of k (tables_of queues)) (sym e) ∙ table_is q queues v below is) stands)
+      | inr other ↦ before t (omega (arith, lt, other)) stands
+    ]
+
+pub none_past : (u : ℕ) (queues : List (Vec Run Global)) → length queues ≤ u → runs_of u (tables_of queues) ≡ []
+none_past u [] le = none_of u
+  where
+    none_of : (u : ℕ) → runs_of u (tables_of []) ≡ []
+    none_of zero = refl
+    none_of (suc u) = refl
+none_past zero (x ∷ queues) le = absurd (omega (arith, le))
+none_past (suc u) (x ∷ queues) le = none_past u queues (omega (arith, le))
+
+-- nor of any other
+pub none_all : (place q : ℕ) (queues : List (Vec Run Global)) → length queues ≤ q → ((t : Ticket) → t.queue < q → Stands place t (tables_of queues) → ⊥)
+    → Finds place (tables_of queues) None
+none_all place q queues le before = λ t stands.
+    elim (below_or_past t.queue q) [
+      | inl lt ↦ before t lt stands
+      | inr past ↦ subst (InRuns place t.number) (none_past t.queue queues (omega (arith, le, past))) stands
+    ]
+  where
+    below_or_past : (a b : ℕ) → (a < b) ⊎ (b ≤ a)
+    below_or_past a b = grind arith
+
+-- whose Commit stands at a place
+no_commit : (k : StepKind) → ((t : Ticket) → Some k ≡ Some (kind.Commit t) → ⊥) → committed k ≡ None
+no_commit (kind.Commit t) off = absurd (off t refl)
+no_commit (kind.Abort rule) off = refl
+no_commit kind.Reset off = refl
+no_commit kind.Resize off = refl
+no_commit (kind.Enter t) off = refl
+no_commit (kind.Full t) off = refl
+no_commit (kind.Busy t) off = refl
+no_commit (kind.Leave t) off = refl
+
+none_one : (o : Option StepKind) → ((t : Ticket) → o ≡ Some (kind.Commit t) → ⊥) → None ≡ committed_one o
+none_one None off = refl
+none_one (Some k) off = sym (no_commit k off)
+
+pub found_kind : (p : ℕ) (o : Option Ticket) (kinds : List StepKind) (tables : List (List Run)) → AreCommits (map committed kinds) tables → Finds p tables o
+    → o ≡ committed_one (slice_get kinds p)
+found_kind p None kinds tables k finds = none_one (slice_get kinds p) (λ t e. finds t ((stands_kind p t kinds tables k).1 e))
+found_kind p (Some t) kinds tables k finds = sym (ap committed_one ((stands_kind p t kinds tables k).0 finds))

@@ -1,5 +1,5 @@
 -- Commits of one queue, by runs of them whose places and whose tickets rise by a stride each.
-use Rattle.std.specs.Prelude.{ℕ, ◌≡◌, ◌+◌, ◌*◌, ◌<◌, ◌≤◌, ◌⊎◌, List, [], ◌∷◌, get_or, map, slice_get, Vec, Option, Some, None, Bool, true, false, ⊤}
+use Rattle.std.specs.Prelude.{ℕ, ◌≡◌, ◌+◌, ◌*◌, ◌^◌, ◌<◌, ◌≤◌, ◌⊎◌, List, [], ◌∷◌, length, get_or, map, slice_get, Vec, Option, Some, None, Bool, true, false, ⊤}
 use Rattle.std.specs.declared.alloc.Global.{Global}
 use Rattle.ring_core.specs.declared.log.Ticket.{Ticket}
 use Rattle.unit_steps.specs.declared.kind.StepKind.{StepKind}
@@ -19,6 +19,15 @@ InRuns place number (r ∷ runs) = OnRun place number r ⊎ InRuns place number 
 -- own: the place of the last Commit of a run
 abbrev pub last_place : Run → ℕ
 last_place r = r.place + r.more * r.by_place
+
+-- own: the number of the last Commit of a run
+abbrev pub last_number : Run → ℕ
+last_number r = r.number + r.more * r.by_number
+
+-- own: the numbers of all have 64 bits
+abbrev pub AreNumbered : List Run → Type 0
+AreNumbered [] = ⊤
+AreNumbered (r ∷ runs) = (last_number r < 2 ^ 64) × AreNumbered runs
 
 -- own: the runs are in order, the first at or behind this place, and each behind the one before it
 abbrev pub AreRising : ℕ → List Run → Type 0
@@ -41,7 +50,18 @@ pub record Extends (r : Run) (place number : ℕ) (r' : Run) : Type 0 where
   pub first : r'.place ≡ r.place
   pub strides : 0 < r'.by_place
   pub ends : last_place r' ≡ place
+  pub last : last_number r' ≡ number
   pub more : OneMore (λ p n. OnRun p n r) place number (λ p n. OnRun p n r')
+
+-- own: the number of the Commit that stands at a place, by a run; or none stands there
+abbrev pub FindsOn : ℕ → Run → Option ℕ → Type 0
+FindsOn place r None = (n : ℕ) → OnRun place n r → ⊥
+FindsOn place r (Some n) = OnRun place n r
+
+-- own: by one of the runs
+abbrev pub FindsIn : ℕ → List Run → Option ℕ → Type 0
+FindsIn place runs None = (n : ℕ) → InRuns place n runs → ⊥
+FindsIn place runs (Some n) = InRuns place n runs
 
 -- own: the runs of a queue
 abbrev pub runs_of : ℕ → List (List Run) → List Run
@@ -53,6 +73,20 @@ Stands place t tables = InRuns place t.number (runs_of t.queue tables)
 
 abbrev pub AllRising : List (List Run) → Type 0
 AllRising tables = (q : ℕ) → AreRising 0 (runs_of q tables)
+
+abbrev pub AllNumbered : List (List Run) → Type 0
+AllNumbered tables = (q : ℕ) → AreNumbered (runs_of q tables)
+
+-- own: what the runs of all queues are: no more queues than there are numbers for
+pub record AreTables (tables : List (List Run)) : Type 0 where
+  pub few : length tables ≤ 65536
+  pub rising : AllRising tables
+  pub numbered : AllNumbered tables
+
+-- own: the ticket of the Commit that stands at a place; or none stands there
+abbrev pub Finds : ℕ → List (List Run) → Option Ticket → Type 0
+Finds place tables None = (t : Ticket) → Stands place t tables → ⊥
+Finds place tables (Some t) = Stands place t tables
 
 -- own: and one more
 abbrev pub Adds : ℕ → Ticket → List (List Run) → List (List Run) → Type 0
@@ -75,6 +109,11 @@ AreCommits steps tables =
 abbrev pub committed : StepKind → Option Ticket
 committed (kind.Commit t) = Some t
 committed k = None
+
+-- own: whose Commit a step is, if there is one
+abbrev pub committed_one : Option StepKind → Option Ticket
+committed_one None = None
+committed_one (Some k) = committed k
 
 -- own: the same runs
 abbrev pub SameRuns : List (List Run) → List (List Run) → Type 0

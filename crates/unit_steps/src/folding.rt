@@ -2,7 +2,7 @@
 
 ghost use Rattle.std.specs.Prelude.{◌≡◌, ◌+◌, ◌^◌, ◌<◌, nat_lt, [], ◌∷◌, ◌++◌, length, max, slice_get, IfSome, IsTrue, ◌↔◌, is_some, true, ℕ, Some, OnOk, OnErr, if◌then◌else◌, None};
 ghost use Rattle.unit_steps.specs.Kept.{met_kind, commit_kind};
-ghost use Rattle.unit_steps.specs.Runs.{AreBefore, FoldsOne, SameRuns, committed as is_committed, runs_of};
+ghost use Rattle.unit_steps.specs.Runs.{AreBefore, FoldsOne, SameRuns, committed as is_committed, committed_one, runs_of};
 ghost use Rattle.unit_steps.specs.Folding.{mark_at, met_one, rule_if, with_mark, Forgets};
 
 use crate::commits::Commits;
@@ -133,6 +133,16 @@ fn committed(kind: StepKind) -> Option<Ticket>
     }
 }
 
+/// Whose Commit a step is, if there is one.
+pub(crate) fn committed_of_one(kind: Option<StepKind>) -> Option<Ticket>
+    ensures { result ≡ committed_one kind }
+{
+    match kind {
+        None => None,
+        Some(kind) => committed(kind),
+    }
+}
+
 /// Whether of a folded step no more is kept than that it came.
 #[inline(always)]
 fn only_counts(kind: StepKind, keeps: bool) -> bool
@@ -233,6 +243,14 @@ impl Folding {
         ensures { IsTrue result ↔ (slice_get self.now.kinds place ≡ Some (commit_kind ticket)) }
     {
         self.commits.stands(place, ticket)
+    }
+
+    /// Whose Commit the step at a place is, if it is one, where Commits are kept.
+    pub(crate) fn commit_at(&self, place: u64) -> Option<Ticket>
+        requires { self.now.keeps ≡ true }
+        ensures { result ≡ committed_one (slice_get self.now.kinds place) }
+    {
+        self.commits.ticket_at(place)
     }
 
     /// The place of the oldest Abort or Reset that is kept, if one is.

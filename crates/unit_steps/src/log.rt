@@ -7,10 +7,11 @@ ghost use Rattle.history.specs.Base.{most_before, most_kept};
 ghost use Rattle.history.specs.Receipts.{step_at, latest_kept, is_kept, Agrees};
 ghost use Rattle.history.specs.Steps.{Step};
 ghost use Rattle.unit_steps.specs.Kept.{kind_of, latest, reply_kept, commit_kind};
+ghost use Rattle.unit_steps.specs.Runs.{committed_one};
 ghost use Rattle.unit_steps.specs.Slots.{IsCalm};
 ghost use Rattle.unit_steps.specs.Noted.{step_noted, spare_of_deque, kept_there, reply_of_place, AreAlike, AreFirst, Tells, most_steps};
 
-use crate::folding::{Folding, rule_of_one};
+use crate::folding::{Folding, committed_of_one, rule_of_one};
 use crate::kind::StepKind;
 use crate::noted::NotedStep;
 use crate::ring::{KindRing, index_behind, index_of};
@@ -340,6 +341,17 @@ impl StepLog {
         self.noted.push(&step);
         push_where(self.keeps_replies, &mut self.replies, reply);
         self.kinds.push(kind);
+    }
+
+    /// Whose Commit the step at a place is, if it is one. A log that keeps no replies knows no Commits that are folded.
+    pub fn commit_at(&self, place: u64) -> Option<Ticket>
+        requires { (self.now.keeps ≡ true) ⊎ (self.now.base ≤ place) }
+        ensures { result ≡ committed_one (option_map kind_of (step_at place self.now.steps)) }
+    {
+        if place < self.base {
+            return self.folded.commit_at(place);
+        }
+        committed_of_one(self.kinds.get(place))
     }
 
     /// Whether the Commit of a ticket stands at a place, with this reply where both have one: the log, where it still

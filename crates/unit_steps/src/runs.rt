@@ -1,7 +1,7 @@
 //! The Commits of one queue among folded steps, by runs.
 
-ghost use Rattle.std.specs.Prelude.{◌≡◌, ◌+◌, ◌*◌, ◌<◌, ◌≤◌, nat_le, ◌↔◌, IsTrue, IfSome, OnOk, OnErr};
-ghost use Rattle.unit_steps.specs.Runs.{OnRun, InRuns, AreRising, AreBefore, OneMore, Extends, last_place};
+ghost use Rattle.std.specs.Prelude.{◌≡◌, ◌+◌, ◌*◌, ◌^◌, ◌<◌, ◌≤◌, nat_le, ◌↔◌, IsTrue, IfSome, OnOk, OnErr};
+ghost use Rattle.unit_steps.specs.Runs.{OnRun, InRuns, AreRising, AreNumbered, AreBefore, OneMore, Extends, FindsOn, FindsIn, last_place, last_number};
 
 use std::alloc::AllocError;
 
@@ -28,6 +28,7 @@ fn times(a: u32, b: u32) -> u64
 fn run_of(place: u64, number: u64) -> Run
     ensures one { OneMore (λ p n. ⊥) place number (λ p n. OnRun p n result) }
     ensures first { (result.place ≡ place) × (0 < result.by_place) × (last_place result ≡ place) }
+    ensures last { last_number result ≡ number }
 {
     Run {
         place,
@@ -129,11 +130,50 @@ pub(crate) fn is_in(runs: &[Run], place: u64, number: u64) -> bool
     is_on(runs[behind - 1], place, number)
 }
 
+/// The number of the Commit at a place, by a run.
+fn number_on(run: Run, place: u64) -> Option<u64>
+    requires strides { 0 < run.by_place }
+    requires numbered { last_number run < 2 ^ 64 }
+    ensures { FindsOn place run result }
+{
+    if place < run.place {
+        return None;
+    }
+    let beyond = place - run.place;
+    let steps = beyond / run.by_place as u64;
+    if steps > run.more as u64 {
+        return None;
+    }
+    if times(steps as u32, run.by_place) != beyond {
+        return None;
+    }
+    Some(run.number + times(steps as u32, run.by_number))
+}
+
+/// The number of the Commit at a place, by one of the runs. It halves them until one is left.
+pub(crate) fn number_at(runs: &[Run], place: u64) -> Option<u64>
+    requires rising { AreRising 0 runs.now }
+    requires numbered { AreNumbered runs.now }
+    ensures { FindsIn place runs.now result }
+{
+    let behind = runs.partition_point(
+        |r: &Run| -> bool
+            ensures { result ≡ nat_le r.now.place place }
+        { r.place <= place },
+    );
+    if behind == 0 {
+        return None;
+    }
+    number_on(runs[behind - 1], place)
+}
+
 /// One more Commit, behind all that are there.
 pub(crate) fn add(runs: &mut Vec<Run>, place: u64, number: u64) -> Result<(), AllocError>
     requires rising { AreRising 0 runs.old.items }
+    requires numbered { AreNumbered runs.old.items }
     requires before { AreBefore place runs.old.items }
     ensures rising { AreRising 0 runs.new.items }
+    ensures numbered { AreNumbered runs.new.items }
     ensures before { OnOk result (AreBefore (place + 1) runs.new.items) }
     ensures ok { OnOk result (OneMore (λ p n. InRuns p n runs.old.items) place number (λ p n. InRuns p n runs.new.items)) }
     ensures err { OnErr result (runs.new.items ≡ runs.old.items) }

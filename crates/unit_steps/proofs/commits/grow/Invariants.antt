@@ -4,4 +4,8 @@ use Rattle.unit_steps.proofs.commits.grow.Given as goal
 
 abbrev pub invariant-loop : goal.invariant-loop
 invariant-loop l =
-    ((q : ℕ) → runs_of q (tables_of l.queues.items) ≡ runs_of q (tables_of l.initial.queues.items)) × (l.counter ≤ length l.queues.items)
+    record {
+      same : (q : ℕ) → runs_of q (tables_of l.queues.items) ≡ runs_of q (tables_of l.initial.queues.items);
+      counted : l.counter ≡ length l.queues.items;
+      few : length l.initial.queues.items ≤ 65536 → l.wanted ≤ 65536 → length l.queues.items ≤ 65536;
+    }

@@ -1,7 +1,7 @@
 use Rattle.std.proofs.Common.{◌+◌, ◌-◌, ◌<◌, List, sym, ◌∙◌, ap, subst, arith}
 use Rattle.unit_steps.specs.declared.runs.Run.{Run}
-use Rattle.unit_steps.specs.Runs.{OnRun, InRuns, OneMore, AreRising, AreBefore}
-use Rattle.unit_steps.proofs.Rising.{stride_at, rising_set, before_set, more_set, rising_push, before_push, more_push}
+use Rattle.unit_steps.specs.Runs.{OnRun, InRuns, OneMore, AreRising, AreNumbered, AreBefore}
+use Rattle.unit_steps.proofs.Rising.{stride_at, rising_set, numbered_set, before_set, more_set, rising_push, numbered_push, before_push, more_push}
 use Rattle.unit_steps.proofs.runs.add.Goals as goal
 
 pub extended-requires : goal.extended-requires
@@ -21,6 +21,11 @@ returns-in-Some-clause-rising c =
     rising_set 0 c.args.runs.now.items (c.len-count.result - 1) c.in-Some.run' c.index.result.now c.requires.rising (omega (arith, ok, n, some))
     (e.first ∙ ap (λ (r : Run). r.place) c.index.ensures) e.strides
 
+pub returns-in-Some-clause-numbered : goal.returns-in-Some-clause-numbered
+returns-in-Some-clause-numbered c =
+    let last = c.in-Some.ensures.last in
+    numbered_set c.args.runs.now.items (c.len-count.result - 1) c.in-Some.run' c.requires.numbered (omega (arith, last))
+
 pub returns-in-Some-clause-before : goal.returns-in-Some-clause-before
 returns-in-Some-clause-before c =
     before_set c.args.place c.args.runs.now.items (c.len-count.result - 1) c.in-Some.run' c.requires.before c.in-Some.ensures.ends
@@ -39,6 +44,12 @@ returns-in-Ok-clause-rising c =
     let first = c.run_of.ensures.first in
     subst (AreRising 0) (sym c.in-Ok.ensures.items)
     (rising_push 0 c.args.runs.now.items c.run_of.result c.requires.rising (subst (λ p. AreBefore p c.args.runs.now.items) (sym first.0) c.requires.before) (omega arith) first.1)
+
+pub returns-in-Ok-clause-numbered : goal.returns-in-Ok-clause-numbered
+returns-in-Ok-clause-numbered c =
+    let last = c.run_of.ensures.last in
+    subst AreNumbered (sym c.in-Ok.ensures.items)
+    (numbered_push c.args.runs.now.items c.run_of.result c.requires.numbered (omega (arith, last)))
 
 pub returns-in-Ok-clause-before : goal.returns-in-Ok-clause-before
 returns-in-Ok-clause-before c =

@@ -14,4 +14,4 @@ is_in-requires c =
     (subst (AreRising 0) (table_is c.args.ticket.queue queues c.in-Some.runs.now
     (subst (λ (w : List (Vec Run Global)). c.args.ticket.queue < length w) same l.3.0)
     (l.1 ∙ ap (λ (w : List (Vec Run Global)). get_or w c.args.ticket.queue c.in-Some.runs.now) same))
-    (c.self.invariant c.args.ticket.queue))
+    (c.self.invariant.rising c.args.ticket.queue))
