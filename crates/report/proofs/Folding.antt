@@ -1,5 +1,5 @@
 -- Reading one more item; reading one more step.
-use Rattle.std.proofs.Common.{◌≡◌, ℕ, zero, suc, ◌+◌, ◌-◌, ◌<◌, ◌≤◌, true, false, ◌||◌, cond, ltb, eqb, List, [], ◌∷◌, length, take, get_or, Option, Some, None, is_some, refl, sym, ap, ◌∙◌, arith, ◌⊎◌, inl, inr, add-zero, zero-add}
+use Rattle.std.proofs.Common.{◌≡◌, ℕ, zero, suc, ◌+◌, ◌-◌, ◌<◌, ◌≤◌, true, false, ◌||◌, cond, ltb, eqb, List, [], ◌∷◌, length, take, drop, get_or, Option, Some, None, is_some, refl, sym, ap, ◌∙◌, arith, ◌⊎◌, inl, inr, add-zero, zero-add}
 use Rattle.std.proofs.lemmas.List.Sums.{fold_more}
 use Rattle.std.proofs.lemmas.Bool.Decides.{nat_tests}
 use Rattle.std.specs.Prelude.{slice_get}
@@ -9,11 +9,12 @@ use Rattle.ring_core.specs.declared.log.Ticket.{Ticket}
 use Rattle.history.specs.Tasks.{Entry, same_ticket}
 use Rattle.history.specs.Steps.{Step, alive}
 use Rattle.history.specs.Base.{base_of, kept_steps, kept_at}
+use Rattle.unit_steps.specs.Runs.{committed_one}
 use Rattle.history.specs.Receipts.{step_at}
 use Rattle.task_set.specs.Unit.{PlainUnit}
 use Rattle.unit_steps.specs.Kept.{kind_of}
 use Rattle.report.specs.declared.tally.Tally.{Tally}
-use Rattle.report.specs.Tallies.{fact_of_one, fact_of_alive, tells, read, read_alive, with_unit, with_units}
+use Rattle.report.specs.Tallies.{fact_of_one, fact_of_commit, fact_of_alive, tells, read, read_commits, read_folded, read_alive, with_unit, with_units}
 
 pub fold_step : {A : Type 0} (f : Tally → A → Tally) (xs : List A) (i : ℕ) (d : A) → i < length xs → (o p q : Option Tally)
     → p ≡ option_map (λ s. fold f s (take i xs)) o → q ≡ option_map (λ s. f s (get_or xs i d)) p → q ≡ option_map (λ s. fold f s (take (i + 1) xs)) o
@@ -140,15 +141,20 @@ units_step t k (u ∷ us) (suc i) d s lt =
     shift : (k i : ℕ) → (k + 1) + i ≡ k + suc i
     shift k i = omega arith
 
-pub unit_more : (t : Ticket) (us : List PlainUnit) (i : ℕ) (d : PlainUnit) → i < length us → (o p q r : Option Tally)
+pub unit_more : (t : Ticket) (us : List PlainUnit) (i : ℕ) (d : PlainUnit) → i < length us → (o p w q r : Option Tally)
     → p ≡ option_map (with_units t 0 (take i us)) o
-    → q ≡ option_map (read t i (kept_steps (get_or us i d).steps)) p
+    → w ≡ option_map (read_folded t i (get_or us i d)) p
+    → q ≡ option_map (read t i (kept_steps (get_or us i d).steps)) w
     → r ≡ option_map (read_alive t (alive (get_or us i d).steps)) q
     → r ≡ option_map (with_units t 0 (take (i + 1) us)) o
-unit_more t us i d lt None p q r e f g =
-    g ∙ ap (option_map (read_alive t (alive (get_or us i d).steps))) (f ∙ ap (option_map (read t i (kept_steps (get_or us i d).steps))) e)
-unit_more t us i d lt (Some s) p q r e f g =
-    g ∙ ap (option_map (read_alive t (alive (get_or us i d).steps))) (f ∙ ap (option_map (read t i (kept_steps (get_or us i d).steps))) e)
+unit_more t us i d lt None p w q r e h f g =
+    g
+    ∙ ap (option_map (read_alive t (alive (get_or us i d).steps)))
+    (f ∙ ap (option_map (read t i (kept_steps (get_or us i d).steps))) (h ∙ ap (option_map (read_folded t i (get_or us i d))) e))
+unit_more t us i d lt (Some s) p w q r e h f g =
+    g
+    ∙ ap (option_map (read_alive t (alive (get_or us i d).steps)))
+    (f ∙ ap (option_map (read t i (kept_steps (get_or us i d).steps))) (h ∙ ap (option_map (read_folded t i (get_or us i d))) e))
     ∙ ap (λ (z : Tally). Some z) (sym (units_step t 0 us i d s lt ∙ ap (λ (n : ℕ). with_unit t n (get_or us i d) (with_units t 0 (take i us) s)) (zero-add i)))
 
 still : (o : Option Ticket) (t : Ticket) (s : Tally) → tells (fact_of_alive o) t (record s { alive = true }) ≡ record s { alive = true }
@@ -180,3 +186,84 @@ alive_step t es i lt None p q e g = g ∙ ap (option_map (tells (fact_of_alive (
 alive_step t es i lt (Some s) p q e g =
     g ∙ ap (option_map (tells (fact_of_alive (option_map (λ (e : Entry). e.ticket) (slice_get es i))) t)) e
     ∙ ap (λ (z : Tally). Some z) (one_alive t es i s lt)
+
+-- Folded Commits: the steps before a place, of which there is one more
+dropped : (k n : ℕ) (step : Step) (past : List Step) → k ≡ suc n → drop k (step ∷ past) ≡ drop n past
+dropped k n step past e = ap (λ (m : ℕ). drop m (step ∷ past)) e
+
+not_dropped : (k : ℕ) (h : List Step) → k ≡ 0 → drop k h ≡ h
+not_dropped k h e = ap (λ (m : ℕ). drop m h) e
+
+left_last : (p n : ℕ) → n ≡ p → suc n - p ≡ suc 0
+left_last p n e = omega (arith, e)
+
+left_gone : (p n : ℕ) → n ≡ p → suc n - (p + 1) ≡ 0
+left_gone p n e = omega (arith, e)
+
+left_before : (p n : ℕ) → p < n → suc n - p ≡ suc (n - p)
+left_before p n lt = omega (arith, lt)
+
+left_next : (p n : ℕ) → p < n → suc n - (p + 1) ≡ suc (n - (p + 1))
+left_next p n lt = omega (arith, lt)
+
+drop_whole : (k : ℕ) (h : List Step) → k ≡ length h → drop k h ≡ []
+drop_whole zero [] e = refl
+drop_whole (suc k) [] e = refl
+drop_whole zero (step ∷ past) e = absurd (omega (arith, e))
+drop_whole (suc k) (step ∷ past) e = drop_whole k past (omega (arith, e))
+
+pub none_folded : (h : List Step) → drop (length h - 0) h ≡ []
+none_folded h = drop_whole (length h - 0) h (omega arith)
+
+module _ (t : Ticket) (k : ℕ) (s : Tally) where
+  one_read : (x y : Option Step) (a b c d : List Step) → x ≡ y → a ≡ b → c ≡ d
+      → tells (fact_of_commit k (committed_one (option_map kind_of y))) t (read_commits t k b s) ≡ read_commits t k d s
+      → tells (fact_of_commit k (committed_one (option_map kind_of x))) t (read_commits t k a s) ≡ read_commits t k c s
+  one_read x y a b c d e f g is =
+      ap (λ (z : Option Step). tells (fact_of_commit k (committed_one (option_map kind_of z))) t (read_commits t k a s)) e
+      ∙ ap (λ (l : List Step). tells (fact_of_commit k (committed_one (option_map kind_of y))) t (read_commits t k l s)) f
+      ∙ is
+      ∙ sym (ap (λ (l : List Step). read_commits t k l s) g)
+
+  one_folded : (h : List Step) (p : ℕ) → p < length h
+      → tells (fact_of_commit k (committed_one (option_map kind_of (step_at p h)))) t (read_commits t k (drop (length h - p) h) s)
+      ≡ read_commits t k (drop (length h - (p + 1)) h) s
+  one_folded [] p lt = absurd (omega arith)
+  one_folded (step ∷ past) p lt =
+      elim (last_or_before p (length past) (omega arith)) [
+        | inl before ↦
+            one_read (step_at p (step ∷ past)) (step_at p past) (drop (length (step ∷ past) - p) (step ∷ past)) (drop (length past - p) past)
+            (drop (length (step ∷ past) - (p + 1)) (step ∷ past)) (drop (length past - (p + 1)) past)
+            (ap (λ b. cond b (Some step) (step_at p past)) (other_test (length past) p before))
+            (dropped (length (step ∷ past) - p) (length past - p) step past (left_before p (length past) before))
+            (dropped (length (step ∷ past) - (p + 1)) (length past - (p + 1)) step past (left_next p (length past) before))
+            (one_folded past p before)
+        | inr last ↦
+            one_read (step_at p (step ∷ past)) (Some step) (drop (length (step ∷ past) - p) (step ∷ past)) past
+            (drop (length (step ∷ past) - (p + 1)) (step ∷ past)) (step ∷ past)
+            (ap (λ b. cond b (Some step) (step_at p past)) (same_test (length past) p last))
+            (dropped (length (step ∷ past) - p) 0 step past (left_last p (length past) last))
+            (not_dropped (length (step ∷ past) - (p + 1)) (step ∷ past) (left_gone p (length past) last))
+            refl
+      ]
+
+pub folded_step : (t : Ticket) (k : ℕ) (h : List Step) (i : ℕ) → i < length h → (o p q : Option Tally)
+    → p ≡ option_map (read_commits t k (drop (length h - i) h)) o
+    → q ≡ option_map (tells (fact_of_commit k (committed_one (option_map kind_of (step_at i h)))) t) p
+    → q ≡ option_map (read_commits t k (drop (length h - (i + 1)) h)) o
+folded_step t k h i lt None p q e g = g ∙ ap (option_map (tells (fact_of_commit k (committed_one (option_map kind_of (step_at i h)))) t)) e
+folded_step t k h i lt (Some s) p q e g =
+    g ∙ ap (option_map (tells (fact_of_commit k (committed_one (option_map kind_of (step_at i h)))) t)) e
+    ∙ ap (λ (z : Tally). Some z) (one_folded t k s h i lt)
+
+-- by whether the unit knows them
+pub folded_known : (t : Ticket) (k : ℕ) (u : PlainUnit) (o : Option Tally) → u.keeps_replies ≡ true
+    → option_map (read_commits t k (drop (length u.steps - base_of u.steps) u.steps)) o ≡ option_map (read_folded t k u) o
+folded_known t k u None e = refl
+folded_known t k u (Some s) e =
+    ap (λ (z : Tally). Some z) (sym (ap (λ b. cond b (read_commits t k (drop (length u.steps - base_of u.steps) u.steps) s) s) e))
+
+pub folded_unknown : (t : Ticket) (k : ℕ) (u : PlainUnit) (o : Option Tally) → u.keeps_replies ≡ false → o ≡ option_map (read_folded t k u) o
+folded_unknown t k u None e = refl
+folded_unknown t k u (Some s) e =
+    ap (λ (z : Tally). Some z) (sym (ap (λ b. cond b (read_commits t k (drop (length u.steps - base_of u.steps) u.steps) s) s) e))

@@ -1,5 +1,5 @@
 -- What the steps of a unit tell of a ticket, read from the oldest on.
-use Rattle.std.proofs.Common.{◌≡◌, ℕ, Bool, true, false, not, ◌&&◌, ◌||◌, cond, eqb, List, [], ◌∷◌, Option, Some, None, refl, ap, ◌∙◌, arith}
+use Rattle.std.proofs.Common.{◌≡◌, ℕ, Bool, true, false, not, ◌&&◌, ◌||◌, cond, eqb, List, [], ◌∷◌, Option, Some, None, refl, sym, ap, ◌∙◌, arith}
 use Rattle.std.proofs.lemmas.Bool.Decides.{nat_tests}
 use Rattle.ring_core.specs.declared.log.Ticket.{Ticket}
 use Rattle.history.specs.Tasks.{same_ticket}
@@ -9,7 +9,8 @@ use Rattle.report.specs.declared.tally.Fact.TheVariants as fact
 use Rattle.report.specs.declared.tally.TaskStep.TheVariants as step
 use Rattle.report.specs.declared.tally.Tally.{Tally}
 use Rattle.report.specs.Words.{has_busy, has_full, has_run, has_step}
-use Rattle.report.specs.Tallies.{home_at, elsewhere, after, read}
+use Rattle.report.specs.Tallies.{home_at, elsewhere, after, read, read_commits}
+use Rattle.report.proofs.Bools.{or_over}
 
 -- the first unit with a step of the task, once this was read or not
 abbrev pub home_by : Bool → ℕ → Option ℕ → Option ℕ
@@ -123,6 +124,52 @@ read_closed t k (Step.Leave u ∷ past) s =
       | true ↦ leaving s (has_step t past) (has_entered t past) (has_full t past) (has_run t past) (has_busy t past) k
       | false ↦ refl
     ]
+
+-- the Commits alone
+pub commits_closed : (t : Ticket) (k : ℕ) (h : List Step) (s : Tally) → read_commits t k h s ≡ shut (has_run t h) false false (has_run t h) false k s
+commits_closed t k [] s = refl
+commits_closed t k (Step.Enter x ∷ past) s = commits_closed t k past s
+commits_closed t k (Step.Full u ∷ past) s = commits_closed t k past s
+commits_closed t k (Step.Commit u x ∷ past) s =
+    ap (seen (fact.Step k step.Commit) (same_ticket u t)) (commits_closed t k past s)
+    ∙ elim (same_ticket u t) as (λ c. seen (fact.Step k step.Commit) c (shut (has_run t past) false false (has_run t past) false k s)
+    ≡ shut (c || has_run t past) false false (c || has_run t past) false k s) [
+      | true ↦ committing s (has_run t past) false false (has_run t past) false k
+      | false ↦ refl
+    ]
+commits_closed t k (Step.Busy u ∷ past) s = commits_closed t k past s
+commits_closed t k (Step.Abort rule ∷ past) s = commits_closed t k past s
+commits_closed t k (Step.Reset c ∷ past) s = commits_closed t k past s
+commits_closed t k (Step.Resize blocks ∷ past) s = commits_closed t k past s
+commits_closed t k (Step.Leave u ∷ past) s = commits_closed t k past s
+
+home_both : (p q : Bool) (k : ℕ) (home : Option ℕ) → home_by p k (home_by q k home) ≡ home_by (p || q) k home
+home_both true q k home = home_again q k home
+home_both false q k home = refl
+
+astray_both : (p q a : Bool) (k : ℕ) (home : Option ℕ) → ((p && elsewhere k (home_by q k home)) || ((q && elsewhere k home) || a)) ≡ (((p || q) && elsewhere k home) || a)
+astray_both true q a k home = astray_again q a k home
+astray_both false q a k home = refl
+
+-- the Commits that are folded, and then the steps that are kept
+abbrev both : Bool → Bool → Bool → Tally → Option ℕ → Bool → Bool → Tally
+both e f b s home astray ran =
+    record {
+      answer = s.answer;
+      home = home;
+      astray = astray;
+      entered = e || s.entered;
+      full = f || s.full;
+      ran = ran;
+      busy = b || s.busy;
+      alive = s.alive;
+    }
+
+pub shut_both : (p e f r b q : Bool) (k : ℕ) (s : Tally) → shut p e f r b k (shut q false false q false k s) ≡ shut (p || q) e f (r || q) b k s
+shut_both p e f r b q k s =
+    ap (λ (h : Option ℕ). both e f b s h ((p && elsewhere k (home_by q k s.home)) || ((q && elsewhere k s.home) || s.astray)) (r || (q || s.ran))) (home_both p q k s.home)
+    ∙ ap (λ (a : Bool). both e f b s (home_by (p || q) k s.home) a (r || (q || s.ran))) (astray_both p q s.astray k s.home)
+    ∙ ap (λ (a : Bool). both e f b s (home_by (p || q) k s.home) (((p || q) && elsewhere k s.home) || s.astray) a) (sym (or_over r q s.ran))
 
 -- a step of its own is a step of the task
 module _ (t : Ticket) where

@@ -100,9 +100,13 @@ module _ (o : Opening) (t : Ticket) (n : ℕ) (h : List Step) (l : IsLawful o h)
   none_done : (has_run t (drop n h) || has_busy t (drop n h)) ≡ false
   none_done = sym (done_is t (drop n h)) ∙ fresh_undone o t (drop n h) (lawful_before o n h l) (fresh_behind o t n h l e)
 
+  -- its Commit isn't before them
+  pub none_run : has_run t (drop n h) ≡ false
+  none_run = (split_false (has_run t (drop n h)) (has_busy t (drop n h)) none_done).0
+
   pub run_kept : has_run t h ≡ has_run t (take n h)
   run_kept =
-      run_split t n h ∙ ap (λ b. has_run t (take n h) || b) (split_false (has_run t (drop n h)) (has_busy t (drop n h)) none_done).0
+      run_split t n h ∙ ap (λ b. has_run t (take n h) || b) none_run
       ∙ or_false (has_run t (take n h))
 
   pub busy_kept : has_busy t h ≡ has_busy t (take n h)

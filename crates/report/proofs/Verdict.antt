@@ -1,12 +1,12 @@
 -- The tally of a request ends well where the request is settled.
-use Rattle.std.proofs.Common.{◌≡◌, ℕ, suc, ◌+◌, ◌-◌, ◌<◌, ◌≤◌, Bool, true, false, not, ◌&&◌, ◌||◌, eqb, List, [], ◌∷◌, length, Some, None, refl, sym, ap, subst, ◌∙◌, arith, count_by, zero-add}
+use Rattle.std.proofs.Common.{◌≡◌, ℕ, suc, ◌+◌, ◌-◌, ◌<◌, ◌≤◌, Bool, true, false, not, ◌&&◌, ◌||◌, cond, eqb, List, [], ◌∷◌, length, Some, None, refl, sym, ap, subst, ◌∙◌, arith, count_by, zero-add}
 use Rattle.std.proofs.lemmas.Bool.Decides.{nat_tests}
 use Rattle.std.specs.Prelude.{slice_get}
 use Rattle.std.specs.List.{fold, list_any}
 use Rattle.ring_core.specs.declared.log.Ticket.{Ticket}
 use Rattle.history.specs.Tasks.{Entry, same_ticket}
 use Rattle.history.specs.Steps.{alive, has_entered, has_left}
-use Rattle.history.specs.Base.{base_of, kept_steps}
+use Rattle.history.specs.Base.{base_of, kept_steps, folded_steps}
 use Rattle.history.specs.Receipts.{Receipt}
 use Rattle.task_set.specs.Unit.{PlainUnit}
 use Rattle.notes.specs.Notes.{PlainNote}
@@ -16,18 +16,21 @@ use Rattle.report.specs.declared.tally.Answer.{Answer}
 use Rattle.report.specs.declared.tally.Answer.TheVariants as answer
 use Rattle.report.specs.declared.tally.Tally.{Tally}
 use Rattle.report.specs.Words.{has_busy, has_full, has_run, has_step, in_two}
-use Rattle.report.specs.Settled.{answers, any_folded, any_entered, any_run, any_full, is_astray, all_left, where_entered, is_of, is_founded, is_right, are_right, has_run_there, is_settled}
-use Rattle.report.specs.Tallies.{fresh, elsewhere, home_at, read_alive, is_ground, is_end, is_fine, ends_well, with_receipt, with_note, with_units, tally_of}
+use Rattle.report.specs.Settled.{answers, is_folded_in, has_run_in, has_step_in, any_folded, any_entered, any_run, any_full, is_astray, all_left, where_entered, is_of, is_founded, is_right, are_right, has_run_there, is_settled}
+use Rattle.report.specs.Tallies.{fresh, elsewhere, home_at, read, read_commits, read_folded, read_alive, is_ground, is_end, is_fine, ends_well, with_receipt, with_note, with_units, tally_of}
 use Rattle.report.specs.Unconfirmed.{AllStand}
 use Rattle.report.proofs.Bools.{all_at, or_false, or_true, and_true, and_false, not_or, unless_true}
-use Rattle.report.proofs.Histories.{home_by, closed, read_closed, entered_step, run_step, busy_step}
-use Rattle.report.proofs.Kept.{run_kept, busy_kept, marked_kept, entered_latest, gone_is}
+use Rattle.report.proofs.Histories.{home_by, shut, closed, read_closed, commits_closed, shut_both, entered_step, run_step, busy_step}
+use Rattle.report.proofs.Kept.{none_run, run_kept, busy_kept, marked_kept, entered_latest, gone_is}
 use Rattle.report.proofs.Home.{two_any, where_one}
 use Rattle.report.proofs.Answering.{Amounts, Answered, receipts_read, notes_read}
 
--- a unit keeps a step of the task, or its Busy; its task is alive there
+-- a unit knows a step of the task, or its Commit; keeps its Busy; its task is alive there
 abbrev steps_in : Ticket → PlainUnit → Bool
-steps_in t u = has_step t (kept_steps u.steps)
+steps_in t u = has_step_in t u
+
+abbrev runs_in : Ticket → PlainUnit → Bool
+runs_in t u = has_run_in t u
 
 abbrev rests_in : Ticket → PlainUnit → Bool
 rests_in t u = has_busy t (kept_steps u.steps)
@@ -36,10 +39,26 @@ abbrev lives_in : Ticket → PlainUnit → Bool
 lives_in t u = list_any (λ (e : Entry). same_ticket e.ticket t) (alive u.steps)
 
 abbrev unit_closed : Ticket → ℕ → PlainUnit → Tally → Tally
-unit_closed t k u s = read_alive t (alive u.steps) (closed t k (kept_steps u.steps) s)
+unit_closed t k u s =
+    read_alive t (alive u.steps)
+    (shut (steps_in t u) (has_entered t (kept_steps u.steps)) (has_full t (kept_steps u.steps)) (runs_in t u) (has_busy t (kept_steps u.steps)) k s)
+
+folded_closed : (t : Ticket) (k : ℕ) (u : PlainUnit) (s : Tally) → read_folded t k u s ≡ shut (is_folded_in t u) false false (is_folded_in t u) false k s
+folded_closed t k u s =
+    elim u.keeps_replies as (λ b. cond b (read_commits t k (folded_steps u.steps) s) s ≡ shut (b && has_run t (folded_steps u.steps)) false false (b && has_run t (folded_steps u.steps)) false k s) [
+      | true ↦ commits_closed t k (folded_steps u.steps) s
+      | false ↦ refl
+    ]
+
+both_closed : (t : Ticket) (k : ℕ) (u : PlainUnit) (s : Tally) → read t k (kept_steps u.steps) (read_folded t k u s)
+    ≡ shut (steps_in t u) (has_entered t (kept_steps u.steps)) (has_full t (kept_steps u.steps)) (runs_in t u) (has_busy t (kept_steps u.steps)) k s
+both_closed t k u s =
+    read_closed t k (kept_steps u.steps) (read_folded t k u s)
+    ∙ ap (closed t k (kept_steps u.steps)) (folded_closed t k u s)
+    ∙ shut_both (has_step t (kept_steps u.steps)) (has_entered t (kept_steps u.steps)) (has_full t (kept_steps u.steps)) (has_run t (kept_steps u.steps)) (has_busy t (kept_steps u.steps)) (is_folded_in t u) k s
 
 unit_read : (t : Ticket) (k : ℕ) (u : PlainUnit) (us : List PlainUnit) (s : Tally) → with_units t k (u ∷ us) s ≡ with_units t (k + 1) us (unit_closed t k u s)
-unit_read t k u us s = ap (λ (z : Tally). with_units t (k + 1) us (read_alive t (alive u.steps) z)) (read_closed t k (kept_steps u.steps) s)
+unit_read t k u us s = ap (λ (z : Tally). with_units t (k + 1) us (read_alive t (alive u.steps) z)) (both_closed t k u s)
 
 -- what the units leave of a tally
 pub record ReadAll (t : Ticket) (units : List PlainUnit) (s r : Tally) : Type 0 where
@@ -64,7 +83,7 @@ read_all t k (u ∷ us) s =
       answer_is = r.answer_is;
       entered_is = r.entered_is ∙ more (has_entered t (kept_steps u.steps)) (any_entered us t) s.entered;
       full_is = r.full_is ∙ more (has_full t (kept_steps u.steps)) (any_full us t) s.full;
-      ran_is = r.ran_is ∙ more (has_run t (kept_steps u.steps)) (any_run us t) s.ran;
+      ran_is = r.ran_is ∙ more (runs_in t u) (any_run us t) s.ran;
       busy_is = r.busy_is ∙ more (rests_in t u) (list_any (rests_in t) us) s.busy;
       alive_is = r.alive_is ∙ more (lives_in t u) (list_any (lives_in t) us) s.alive;
     })
@@ -133,23 +152,46 @@ founded units cause.Direct t = refl
 founded units cause.Stale t = refl
 founded units cause.Unknown t = refl
 
+or_more : (a b q : Bool) → (a ≡ true → b ≡ true) → (a || q) ≡ true → (b || q) ≡ true
+or_more true b q f e = ap (λ x. x || q) (f refl)
+or_more false b q f e = ap (λ x. b || x) e ∙ or_true b
+
 -- Where one unit alone has steps of the task:
 module _ (t : Ticket) (units : List PlainUnit) (stand : AllStand units) where
+  by_enter : (u : PlainUnit) → has_entered t (kept_steps u.steps) ≡ true → steps_in t u ≡ true
+  by_enter u e = ap (λ b. b || is_folded_in t u) (entered_step t (kept_steps u.steps) e)
+
+  by_run : (u : PlainUnit) → runs_in t u ≡ true → steps_in t u ≡ true
+  by_run u e = or_more (has_run t (kept_steps u.steps)) (has_step t (kept_steps u.steps)) (is_folded_in t u) (run_step t (kept_steps u.steps)) e
+
+  by_busy : (u : PlainUnit) → rests_in t u ≡ true → steps_in t u ≡ true
+  by_busy u e = ap (λ b. b || is_folded_in t u) (busy_step t (kept_steps u.steps) e)
+
+  -- what entered among the kept steps has no folded Commit
+  runs_kept : (k : ℕ) (u : PlainUnit) → slice_get units k ≡ Some u → has_entered t (kept_steps u.steps) ≡ true → has_run t (kept_steps u.steps) ≡ runs_in t u
+  runs_kept k u at e =
+      sym (
+      ap (λ b. has_run t (kept_steps u.steps) || (u.keeps_replies && b)) (none_run u.opening t (length u.steps - base_of u.steps) u.steps (stand k u at).lawful e)
+      ∙ ap (λ b. has_run t (kept_steps u.steps) || b) (and_false u.keeps_replies)
+      ∙ or_false (has_run t (kept_steps u.steps))
+      )
+
   run_is : is_astray units t ≡ false → where_entered units t (λ h. has_run t h) ≡ (not (any_entered units t) || any_run units t)
   run_is one =
-      where_one (λ (u : PlainUnit). has_entered t (kept_steps u.steps)) (λ (u : PlainUnit). has_run t (kept_steps u.steps)) (rests_in t) (steps_in t)
+      where_one (λ (u : PlainUnit). has_entered t (kept_steps u.steps)) (runs_in t) (rests_in t) (steps_in t)
       (λ (u : PlainUnit). has_run t u.steps) (λ r b. r)
-      (λ u e. entered_step t (kept_steps u.steps) e) (λ u e. run_step t (kept_steps u.steps) e) (λ u e. busy_step t (kept_steps u.steps) e)
+      by_enter by_run by_busy
       units
-      (λ k u at e. run_kept u.opening t (length u.steps - base_of u.steps) u.steps (stand k u at).lawful e)
+      (λ k u at e. run_kept u.opening t (length u.steps - base_of u.steps) u.steps (stand k u at).lawful e ∙ runs_kept k u at e)
       one
 
   ends_there : (c : Cause) → all_left units t ≡ true → (k : ℕ) (u : PlainUnit) → slice_get units k ≡ Some u → has_entered t (kept_steps u.steps) ≡ true
-      → is_of c t u.steps ≡ is_end c (has_run t (kept_steps u.steps)) (rests_in t u)
+      → is_of c t u.steps ≡ is_end c (runs_in t u) (rests_in t u)
   ends_there cause.Busy left k u at e = busy_kept u.opening t (length u.steps - base_of u.steps) u.steps (stand k u at).lawful e
   ends_there cause.Aborted left k u at e =
       marked_kept u.opening t (length u.steps - base_of u.steps) u.steps (stand k u at).lawful e
       (unless_true (has_entered t u.steps) (has_left t u.steps) (left_in t units left k u at) (entered_latest t (length u.steps - base_of u.steps) u.steps e))
+      ∙ ap (λ b. not (b || rests_in t u)) (runs_kept k u at e)
   ends_there cause.Full left k u at e = refl
   ends_there cause.Direct left k u at e = refl
   ends_there cause.Stale left k u at e = refl
@@ -158,9 +200,9 @@ module _ (t : Ticket) (units : List PlainUnit) (stand : AllStand units) where
   end_is : (c : Cause) → all_left units t ≡ true → is_astray units t ≡ false
       → where_entered units t (λ h. is_of c t h) ≡ (not (any_entered units t) || is_end c (any_run units t) (list_any (rests_in t) units))
   end_is c left one =
-      where_one (λ (u : PlainUnit). has_entered t (kept_steps u.steps)) (λ (u : PlainUnit). has_run t (kept_steps u.steps)) (rests_in t) (steps_in t)
+      where_one (λ (u : PlainUnit). has_entered t (kept_steps u.steps)) (runs_in t) (rests_in t) (steps_in t)
       (λ (u : PlainUnit). is_of c t u.steps) (is_end c)
-      (λ u e. entered_step t (kept_steps u.steps) e) (λ u e. run_step t (kept_steps u.steps) e) (λ u e. busy_step t (kept_steps u.steps) e)
+      by_enter by_run by_busy
       units (ends_there c left) one
 
   right_is : (c : Cause) → all_left units t ≡ true → is_astray units t ≡ false

@@ -73,13 +73,13 @@ pub record IsReport (specs : List UnitSpec) (units : List PlainUnit) (queues : L
   -- each request that entered has left there
   pub left : (t : Ticket) (k : ℕ) (u : PlainUnit) → is_request queues t ≡ true → slice_get units k ≡ Some u
       → has_entered t u.steps ≡ true → has_left t u.steps ≡ true
-  -- no two units keep steps of one request
+  -- no two units keep steps of one request, or know its folded Commit
   pub in_one : (t : Ticket) → is_request queues t ≡ true → is_astray units t ≡ false
   -- a unit that keeps the Enter of what has a receipt has its Commit, too
   pub ran : (j k : ℕ) (c : Receipt) (u : PlainUnit) → slice_get receipts j ≡ Some c → slice_get units k ≡ Some u
       → has_entered c.ticket (kept_steps u.steps) ≡ true → has_run c.ticket u.steps ≡ true
-  -- where a unit keeps its Enter, a note is of its Busy or its mark there; and no note is of what has a Commit that is
-  -- kept
+  -- where a unit keeps its Enter, a note is of its Busy or its mark there; and no note is of what has a Commit, which may
+  -- be folded
   pub of_its_end : (j k : ℕ) (n : PlainNote) (u : PlainUnit) → slice_get notes j ≡ Some n → slice_get units k ≡ Some u
       → has_entered n.ticket (kept_steps u.steps) ≡ true → is_of n.cause n.ticket u.steps ≡ true
   pub of_no_commit : (j : ℕ) (n : PlainNote) → slice_get notes j ≡ Some n → any_run units n.ticket ≡ false

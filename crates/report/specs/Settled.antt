@@ -4,7 +4,7 @@ use Rattle.std.specs.List.{list_any, list_all}
 use Rattle.ring_core.specs.declared.log.Ticket.{Ticket}
 use Rattle.history.specs.Tasks.{same_ticket}
 use Rattle.history.specs.Steps.{Step, has_entered, has_left}
-use Rattle.history.specs.Base.{base_of, kept_steps}
+use Rattle.history.specs.Base.{base_of, kept_steps, folded_steps}
 use Rattle.history.specs.Marks.{marked}
 use Rattle.history.specs.Receipts.{Receipt}
 use Rattle.task_set.specs.Unit.{PlainUnit}
@@ -49,19 +49,31 @@ answers receipts notes t =
 abbrev pub any_folded : List PlainUnit → Bool
 any_folded units = list_any (λ (u : PlainUnit). nat_lt 0 (base_of u.steps)) units
 
--- own: among the steps that some unit keeps one by one are the task's Enter, its Commit, the request's Full
+-- own: the Commit of the task is folded, of a unit that knows its folded Commits: one that keeps replies
+abbrev pub is_folded_in : Ticket → PlainUnit → Bool
+is_folded_in t u = u.keeps_replies && has_run t (folded_steps u.steps)
+
+-- own: a unit keeps the Commit of the task, or knows that it is folded; and so of any step of the task
+abbrev pub has_run_in : Ticket → PlainUnit → Bool
+has_run_in t u = has_run t (kept_steps u.steps) || is_folded_in t u
+
+abbrev pub has_step_in : Ticket → PlainUnit → Bool
+has_step_in t u = has_step t (kept_steps u.steps) || is_folded_in t u
+
+-- own: among the steps that some unit keeps one by one are the task's Enter, the request's Full; or its Commit, which may
+-- be folded
 abbrev pub any_entered : List PlainUnit → Ticket → Bool
 any_entered units t = list_any (λ (u : PlainUnit). has_entered t (kept_steps u.steps)) units
 
 abbrev pub any_run : List PlainUnit → Ticket → Bool
-any_run units t = list_any (λ (u : PlainUnit). has_run t (kept_steps u.steps)) units
+any_run units t = list_any (has_run_in t) units
 
 abbrev pub any_full : List PlainUnit → Ticket → Bool
 any_full units t = list_any (λ (u : PlainUnit). has_full t (kept_steps u.steps)) units
 
--- own: two units keep steps of the task
+-- own: two units keep steps of the task, or know its folded Commit
 abbrev pub is_astray : List PlainUnit → Ticket → Bool
-is_astray units t = in_two (λ (u : PlainUnit). has_step t (kept_steps u.steps)) units
+is_astray units t = in_two (has_step_in t) units
 
 -- own: the task left each unit that it entered
 abbrev pub all_left : List PlainUnit → Ticket → Bool
@@ -91,7 +103,7 @@ is_founded units cause.Direct t = true
 is_founded units cause.Stale t = false
 is_founded units cause.Unknown t = false
 
--- own: a note of that cause is right for a ticket: it is founded, no Commit of the ticket is kept, and it is of what
+-- own: a note of that cause is right for a ticket: it is founded, no unit knows a Commit of the ticket, and it is of what
 -- became of its task where that entered
 abbrev pub is_right : List PlainUnit → Ticket → Cause → Bool
 is_right units t why =

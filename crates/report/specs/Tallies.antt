@@ -5,10 +5,11 @@ use Rattle.std.specs.declared.alloc.Global.{Global}
 use Rattle.ring_core.specs.declared.log.Ticket.{Ticket}
 use Rattle.history.specs.Tasks.{Entry, same_ticket}
 use Rattle.history.specs.Steps.{Step, alive}
-use Rattle.history.specs.Base.{kept_steps}
+use Rattle.history.specs.Base.{kept_steps, folded_steps}
 use Rattle.history.specs.Receipts.{Receipt}
 use Rattle.task_set.specs.Unit.{PlainUnit}
 use Rattle.unit_steps.specs.Kept.{kind_of}
+use Rattle.unit_steps.specs.Runs.{committed}
 use Rattle.unit_steps.specs.declared.kind.StepKind.{StepKind}
 use Rattle.unit_steps.specs.declared.kind.StepKind.TheVariants as kind
 use Rattle.queues.specs.Queue.{Lent}
@@ -95,6 +96,11 @@ abbrev pub fact_of_one : ℕ → Option StepKind → Option TicketFact
 fact_of_one k None = None
 fact_of_one k (Some kind) = fact_of k kind
 
+-- what a Commit of a unit tells, if there is one
+abbrev pub fact_of_commit : ℕ → Option Ticket → Option TicketFact
+fact_of_commit k None = None
+fact_of_commit k (Some t) = told k step.Commit t
+
 -- what a task tells that is alive, if there is one
 abbrev pub fact_of_alive : Option Ticket → Option TicketFact
 fact_of_alive None = None
@@ -104,6 +110,15 @@ fact_of_alive (Some t) = Some (record { ticket = t; fact = fact.Alive })
 abbrev pub read : Ticket → ℕ → List Step → Tally → Tally
 read t k [] s = s
 read t k (step ∷ past) s = tells (fact_of k (kind_of step)) t (read t k past s)
+
+-- the Commits alone among steps of a unit
+abbrev pub read_commits : Ticket → ℕ → List Step → Tally → Tally
+read_commits t k [] s = s
+read_commits t k (step ∷ past) s = tells (fact_of_commit k (committed (kind_of step))) t (read_commits t k past s)
+
+-- those that are folded, where the unit knows them
+abbrev pub read_folded : Ticket → ℕ → PlainUnit → Tally → Tally
+read_folded t k u s = if u.keeps_replies then read_commits t k (folded_steps u.steps) s else s
 
 abbrev pub read_alive : Ticket → List Entry → Tally → Tally
 read_alive t tasks s = record s { alive = list_any (λ (e : Entry). same_ticket e.ticket t) tasks || s.alive }
@@ -115,7 +130,7 @@ abbrev pub with_note : Ticket → Tally → PlainNote → Tally
 with_note t s n = marking n.ticket (fact.Answered (answer.Note n.cause)) t s
 
 abbrev pub with_unit : Ticket → ℕ → PlainUnit → Tally → Tally
-with_unit t k u s = read_alive t (alive u.steps) (read t k (kept_steps u.steps) s)
+with_unit t k u s = read_alive t (alive u.steps) (read t k (kept_steps u.steps) (read_folded t k u s))
 
 -- units, of which the first stands at a place
 abbrev pub with_units : Ticket → ℕ → List PlainUnit → Tally → Tally

@@ -41,7 +41,7 @@ fn first_outstanding(alloc: Global, report: &Report) -> Result<Option<Ticket>, N
 /// number. Where none is outstanding, `Outstanding` names ticket 0/0 of other units than those of the host: another
 /// number of them, or one that opened with another address or capacity, or keeps no replies; and, where the units are
 /// those, the first ticket of the first place at which a queue of another number stands. `NoMemory` where the tallies were
-/// refused memory. It takes time for each receipt, note, step and accepted chain.
+/// refused memory. It takes time for each receipt, note, step and accepted chain, folded steps too.
 pub fn examine(alloc: Global, specs: &[UnitSpec], report: Report) -> Result<Report, CloseFault>
     requires { vec_len report.queues ≤ 65536 }
     ensures { Examines specs.now report result }

@@ -8,12 +8,12 @@ ghost use Rattle.report.specs.Closed.{IsFirst};
 ghost use Rattle.history.specs.Base.{base_of, kept_steps};
 ghost use Rattle.history.specs.Steps.{alive};
 ghost use Rattle.report.specs.Settled.{any_folded};
-ghost use Rattle.report.specs.Tallies.{read, read_alive, with_receipt, with_note, with_units, tally_at};
+ghost use Rattle.report.specs.Tallies.{read, read_folded, read_alive, with_receipt, with_note, with_units, tally_at};
 ghost use Rattle.report.specs.Sources.{stray, stray_one};
 
 use crate::least::lesser;
 use crate::tables::Tables;
-use crate::tally::{Answer, Fact, fact_of_alive, fact_of_one};
+use crate::tally::{Answer, Fact, fact_of_alive, fact_of_commit, fact_of_one};
 use ring_core::Ticket;
 use unit_history::{Note, Receipt, UnitState};
 
@@ -54,6 +54,20 @@ pub(crate) fn read_notes(tables: &mut Tables, notes: &[Note]) -> Option<Ticket>
     first
 }
 
+/// Marks what the folded Commits of a unit tell, from the oldest on, where the unit knows them. It stands at an index among
+/// the units.
+fn read_folded(tables: &mut Tables, index: usize, unit: &UnitState)
+    ensures { (t : ATicket) → tally_at tables.new.tables.items t
+        ≡ option_map (read_folded t index unit.now) (tally_at tables.old.tables.items t) }
+{
+    if !unit.keeps_replies() {
+        return;
+    }
+    for place in 0..unit.base() {
+        tables.tell(fact_of_commit(index, unit.commit_at(place)));
+    }
+}
+
 /// Marks what the steps tell that a unit keeps, from the oldest on. It stands at an index among the units.
 fn read_unit(tables: &mut Tables, index: usize, unit: &UnitState)
     ensures { (t : ATicket) → tally_at tables.new.tables.items t
@@ -80,6 +94,7 @@ pub(crate) fn read_units(tables: &mut Tables, units: &[UnitState])
         ≡ option_map (with_units t 0 units.now) (tally_at tables.old.tables.items t) }
 {
     for (index, unit) in units.iter().enumerate() {
+        read_folded(tables, index, unit);
         read_unit(tables, index, unit);
         read_alive(tables, unit);
     }

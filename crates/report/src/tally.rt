@@ -1,7 +1,7 @@
 //! What is kept of a request while a report is examined.
 
 ghost use Rattle.std.specs.Prelude.{◌≡◌, Option};
-ghost use Rattle.report.specs.Tallies.{joined, fresh, home_at, elsewhere, visited, stepped, after, is_ground, is_end, is_fine, ends_well, told, fact_of, fact_of_one, fact_of_alive};
+ghost use Rattle.report.specs.Tallies.{joined, fresh, home_at, elsewhere, visited, stepped, after, is_ground, is_end, is_fine, ends_well, told, fact_of, fact_of_one, fact_of_commit, fact_of_alive};
 
 use ring_core::Ticket;
 use unit_history::{Cause, StepKind};
@@ -83,7 +83,7 @@ pub enum Fact {
     Answered(Answer),
     /// It met TASK SET FULL.
     Full,
-    /// The unit of this index keeps a step of its task.
+    /// The unit of this index keeps a step of its task, or knows its folded Commit.
     Step(usize, TaskStep),
     /// Its task is alive in some unit.
     Alive,
@@ -133,6 +133,16 @@ pub(crate) fn fact_of_one(unit: usize, step: Option<StepKind>) -> Option<TicketF
     }
 }
 
+/// Returns what a Commit of a unit tells, if there is one.
+pub(crate) fn fact_of_commit(unit: usize, ticket: Option<Ticket>) -> Option<TicketFact>
+    ensures { result ≡ fact_of_commit unit ticket }
+{
+    match ticket {
+        None => None,
+        Some(ticket) => told(unit, TaskStep::Commit, ticket),
+    }
+}
+
 /// Returns what a task tells that is alive, if there is one.
 pub(crate) fn fact_of_alive(ticket: Option<Ticket>) -> Option<TicketFact>
     ensures { result ≡ fact_of_alive ticket }
@@ -170,15 +180,15 @@ fn is_elsewhere(unit: usize, home: Option<usize>) -> bool
 #[derive(Clone, Copy)]
 pub struct Tally {
     answer: Answer,
-    /// The first unit that keeps a step of its task.
+    /// The first unit that keeps a step of its task, or knows its folded Commit.
     home: Option<usize>,
-    /// Another unit keeps one, too.
+    /// Another unit does, too.
     astray: bool,
     /// A unit keeps its Enter.
     entered: bool,
     /// A unit keeps its Full.
     full: bool,
-    /// A unit keeps its Commit.
+    /// A unit keeps its Commit, or knows that it is folded.
     ran: bool,
     /// A unit keeps its Busy.
     busy: bool,
