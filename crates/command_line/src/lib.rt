@@ -7,4 +7,4 @@ mod words;
 
 pub use ending::Ending;
 pub use output::Output;
-pub use words::{Asked, requested};
+pub use words::{Asked, Play, requested};

@@ -2,18 +2,31 @@
 
 use crate::ending::Ending;
 use clap::error::ErrorKind;
-use clap::{Arg, ArgMatches, Command, Error};
+use clap::{Arg, ArgAction, ArgMatches, Command, Error};
 use std::alloc::{AllocError, Global};
 
 /// What the words ask for.
 #[derive(Drop)]
 pub enum Asked<'a> {
-    /// To play the script in a file, or on standard input where it is `-`.
-    Play(&'a str),
+    /// To play a script.
+    Play(Play<'a>),
+    /// To say what is wrong with the script in a file, or on standard input where it is `-`.
+    Check(&'a str),
     /// To play such a script on a device that so many workers serve.
     Serve(&'a str, u16),
     /// To end.
     Other(Ending),
+}
+
+/// How a script is to be played.
+#[derive(Clone, Copy)]
+pub struct Play<'a> {
+    /// Its file; `-` for standard input.
+    pub file: &'a str,
+    /// How many steps the device may take in all; `None` for as many as it likes.
+    pub steps: Option<u64>,
+    /// Whether a line is printed for each step of the device.
+    pub trace: bool,
 }
 
 /// What a script is, below the help.
@@ -50,15 +63,34 @@ fn file<'a>(alloc: Global) -> Arg<'a> {
 }
 
 /// `play`.
-fn play<'a>(alloc: Global) -> Result<Command<'a>, AllocError> {
+fn play_command<'a>(alloc: Global) -> Result<Command<'a>, AllocError> {
+    let steps = Arg::new(alloc, "steps")
+        .long("steps")
+        .value_name("N")
+        .value_parser(clap::value_parser!(u64))
+        .help("How many steps the device may take in all; one more is a fault");
+    let trace = Arg::new(alloc, "trace")
+        .long("trace")
+        .action(ArgAction::SetTrue)
+        .help("Prints a line for each step of the device too");
     Command::new(alloc, "play")
         .about("Plays a script, line by line, and prints what it asks for")
+        .after_help(ABOUT_SCRIPTS)
+        .arg(file(alloc))?
+        .arg(steps)?
+        .arg(trace)
+}
+
+/// `check`.
+fn check_command<'a>(alloc: Global) -> Result<Command<'a>, AllocError> {
+    Command::new(alloc, "check")
+        .about("Says what is wrong with a script, and at which word, without a device")
         .after_help(ABOUT_SCRIPTS)
         .arg(file(alloc))
 }
 
 /// `serve`.
-fn serve<'a>(alloc: Global) -> Result<Command<'a>, AllocError> {
+fn serve_command<'a>(alloc: Global) -> Result<Command<'a>, AllocError> {
     let workers = Arg::new(alloc, "workers")
         .long("workers")
         .value_name("N")
@@ -79,8 +111,9 @@ fn command<'a>(alloc: Global) -> Result<Command<'a>, AllocError> {
         .about("A virtio SCSI host device, run over a guest that a script plays")
         .after_help(ABOUT_SCRIPTS)
         .subcommand_required(true)
-        .subcommand(play(alloc)?)?
-        .subcommand(serve(alloc)?)
+        .subcommand(play_command(alloc)?)?
+        .subcommand(check_command(alloc)?)?
+        .subcommand(serve_command(alloc)?)
 }
 
 /// Parses the words.
@@ -100,7 +133,14 @@ pub fn requested<'a>(alloc: Global, words: &'a [String]) -> Asked<'a> {
 /// What words that were parsed ask for.
 fn asked_of<'a>(matches: &ArgMatches<'a>) -> Option<Asked<'a>> {
     if let Some(play) = matches.subcommand_matches("play") {
-        return Some(Asked::Play(play.get_str("FILE")?));
+        return Some(Asked::Play(Play {
+            file: play.get_str("FILE")?,
+            steps: play.get_one::<u64>("steps"),
+            trace: play.get_flag("trace"),
+        }));
+    }
+    if let Some(check) = matches.subcommand_matches("check") {
+        return Some(Asked::Check(check.get_str("FILE")?));
     }
     let serve = matches.subcommand_matches("serve")?;
     Some(Asked::Serve(serve.get_str("FILE")?, serve.get_one::<u16>("workers")?))

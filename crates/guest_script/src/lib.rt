@@ -2,8 +2,11 @@
 //! what is shown.
 #![tactic(auto)]
 
+mod allowance;
 mod machine;
 mod session;
+mod steps;
+mod trace;
 
 pub use script_lines::{LineFault, ScriptFault};
-pub use session::play;
+pub use session::{Options, play};

@@ -1,30 +1,48 @@
 //! Plays a script on a device of one thread.
 
+use crate::allowance::Allowance;
 use crate::machine::Machine;
+use crate::steps::{event_of, order};
+use crate::trace::Trace;
 use guest_driver::Driver;
 use script_device::{
     Known, Script, Wanted, command_of, line_number, print, read_whole, run_guest_line, stop_of,
 };
 use script_lines::{Command, LineFault, ScriptFault, Step, Stop};
 use scsi_codec::Address;
-use std::alloc::Global;
+use std::alloc::{AllocError, Global};
 use std::io::{Read, Write};
 use world::{Event, World};
+
+/// Each queue's bit, as `World::serve` takes them.
+const EACH_QUEUE: u32 = u32::MAX;
+
+/// How a script is played.
+#[derive(Clone, Copy)]
+pub struct Options {
+    /// How many steps the device may take in all; `None` for as many as it likes.
+    pub steps: Option<u64>,
+    /// Whether a line is printed for each step of the device.
+    pub trace: bool,
+}
 
 /// Plays a script: reads it whole, then runs its lines one after the other, and writes what its
 /// printing lines ask for. A program calls it once for a script, and flushes the writer afterwards.
 ///
 /// A line at fault ends the script; what was printed before it stands. A reader that fails is a
 /// fault of line 0, with nothing printed. A writer that fails ends the script at once, and isn't
-/// called again. Where memory runs out the script ends with `NoMemory`.
+/// called again. Where memory runs out the script ends with `NoMemory`. Where the device would take more steps than the
+/// options allow, the line of the step that is one too many is at fault: `TooManySteps`. Then whoever plays a script of a
+/// guest that feeds itself has an end of it.
 pub fn play<S: Read, W: Write>(
     alloc: Global,
     script: &mut S,
     out: &mut W,
+    options: Options,
 ) -> Result<(), ScriptFault> {
     let bytes = read_whole(alloc, script)?;
     let (script, wanted) = Script::read(alloc, bytes.as_slice())?;
-    let mut session = match Session::open(alloc, wanted) {
+    let mut session = match Session::open(alloc, wanted, options) {
         Ok(session) => session,
         Err(stop) => return Err(script.refused(stop)),
     };
@@ -36,25 +54,6 @@ pub fn play<S: Read, W: Write>(
     Ok(())
 }
 
-/// The event of a step.
-fn event_of(step: Step) -> Event {
-    match step {
-        Step::Fetch(queue) => Event::Fetch(queue),
-        Step::Enter(queue) => Event::Enter(queue),
-        Step::Direct(queue) => Event::Direct(queue),
-        Step::Put(seat) => Event::Put(seat),
-        Step::Take(seat) => Event::Take(seat),
-        Step::Prepare(seat) => Event::Prepare(seat),
-        Step::Commit(seat) => Event::Commit(seat),
-        Step::Answer(seat) => Event::Answer(seat),
-        Step::Leave(seat) => Event::Leave(seat),
-        Step::Mark => Event::Mark,
-        Step::Check => Event::Check,
-        Step::AnswerTmf => Event::AnswerTmf,
-        Step::Raise => Event::Raise,
-    }
-}
-
 /// A script that runs: the device, and the guest's driver.
 #[derive(Drop)]
 struct Session {
@@ -62,11 +61,31 @@ struct Session {
     machine: Machine,
     driver: Driver,
     known: Known,
+    allowance: Allowance,
+    tracing: Option<Tracing>,
+}
+
+/// What a session needs that prints each step.
+#[derive(Drop)]
+struct Tracing {
+    /// The steps of the device, in the order in which it takes them.
+    order: Vec<Step>,
+    trace: Trace,
+}
+
+impl Tracing {
+    /// Of a device of so many units, queues and seats. It fails where memory runs out.
+    fn new(alloc: Global, units: usize, queues: u16, seats: u16) -> Result<Tracing, AllocError> {
+        Ok(Tracing {
+            order: order(alloc, queues, seats)?,
+            trace: Trace::new(alloc, units, seats)?,
+        })
+    }
 }
 
 impl Session {
     /// The device that a header asks for, and the driver beside it. `BadConfig` where the device refuses.
-    fn open(alloc: Global, wanted: Wanted) -> Result<Session, Stop> {
+    fn open(alloc: Global, wanted: Wanted, options: Options) -> Result<Session, Stop> {
         let Wanted {
             config,
             known,
@@ -79,11 +98,21 @@ impl Session {
             Err(fault) => return Err(stop_of(fault)),
         };
         let driver = Driver::new(alloc, form, features, known.queues, size)?;
+        let tracing = if options.trace {
+            let seats = config.workers.saturating_add(1);
+            Some(Tracing::new(alloc, known.units.len(), known.queues, seats)?)
+        } else {
+            None
+        };
         Ok(Session {
             alloc,
             machine: Machine { world },
             driver,
             known,
+            allowance: Allowance {
+                left: options.steps,
+            },
+            tracing,
         })
     }
 
@@ -103,14 +132,12 @@ impl Session {
             Command::Guest(line) => {
                 run_guest_line(self.alloc, &mut self.driver, &mut self.machine, &line)
             }
-            Command::Hard(unit) => self.hard(unit),
-            Command::Resize(unit, blocks) => self.resize(unit, blocks),
-            Command::Settle => {
-                let _steps = self.machine.world.settle()?;
-                Ok(())
-            }
+            Command::Hard(unit) => self.hard(unit, out),
+            Command::Resize(unit, blocks) => self.resize(unit, blocks, out),
+            Command::Settle if self.tracing.is_some() => self.settle_by_steps(out),
+            Command::Settle => self.settle(),
             Command::Step(step) => {
-                let _applies = self.machine.world.step(event_of(step))?;
+                let _applies = self.step(step, out)?;
                 Ok(())
             }
             Command::Print(line) => print(self.alloc, out, &self.machine, &self.driver, line),
@@ -118,19 +145,88 @@ impl Session {
         }
     }
 
+    /// The device runs until nothing is left to do. `TooManySteps` where it may not take as many steps.
+    fn settle(&mut self) -> Result<(), Stop> {
+        let Some(left) = self.allowance.left else {
+            let _steps = self.machine.world.settle()?;
+            return Ok(());
+        };
+        let served = self.machine.world.serve(EACH_QUEUE, left)?;
+        if served.more {
+            return Err(Stop::Fault(LineFault::TooManySteps));
+        }
+        Ok(self.allowance.spend(served.steps)?)
+    }
+
+    /// The same, where a line is printed for each step.
+    fn settle_by_steps<W: Write>(&mut self, out: &mut W) -> Result<(), Stop> {
+        for _ in 0..u64::MAX {
+            if !self.next_step(out)? {
+                return Ok(());
+            }
+        }
+        Err(Stop::NoMemory)
+    }
+
+    /// Takes the first step that applies; false where none does.
+    fn next_step<W: Write>(&mut self, out: &mut W) -> Result<bool, Stop> {
+        let count = match &self.tracing {
+            Some(tracing) => tracing.order.len(),
+            None => 0,
+        };
+        for place in 0..count {
+            let step = match &self.tracing {
+                Some(tracing) => tracing.order.get(place).copied(),
+                None => None,
+            };
+            let Some(step) = step else {
+                return Ok(false);
+            };
+            if self.step(step, out)? {
+                return Ok(true);
+            }
+        }
+        Ok(false)
+    }
+
+    /// Takes a step, where it applies; false where it doesn't. `TooManySteps` where it is one too many.
+    fn step<W: Write>(&mut self, step: Step, out: &mut W) -> Result<bool, Stop> {
+        if !self.machine.world.step(event_of(step))? {
+            return Ok(false);
+        }
+        self.allowance.spend(1)?;
+        self.print_step(&event_of(step), out)?;
+        Ok(true)
+    }
+
+    /// Prints the line of an event that just changed something, where each has one.
+    fn print_step<W: Write>(&mut self, event: &Event, out: &mut W) -> Result<(), Stop> {
+        match &mut self.tracing {
+            Some(tracing) => {
+                tracing
+                    .trace
+                    .print(out, &self.machine.world, &self.driver, &self.known, event)
+            }
+            None => Ok(()),
+        }
+    }
+
     /// The operator resets a unit; where it isn't there nothing happens.
-    fn hard(&mut self, unit: Address) -> Result<(), Stop> {
+    fn hard<W: Write>(&mut self, unit: Address, out: &mut W) -> Result<(), Stop> {
         if let Some(place) = self.known.place(unit) {
-            let _applies = self.machine.world.step(Event::Hard(place))?;
+            if self.machine.world.step(Event::Hard(place))? {
+                self.print_step(&Event::Hard(place), out)?;
+            }
         }
         Ok(())
     }
 
     /// The operator gives a unit so many blocks; where it isn't there, or no unit may have so many, nothing happens.
-    fn resize(&mut self, unit: Address, blocks: u64) -> Result<(), Stop> {
+    fn resize<W: Write>(&mut self, unit: Address, blocks: u64, out: &mut W) -> Result<(), Stop> {
         if let Some(place) = self.known.place(unit) {
             if self.machine.world.step(Event::Resize(place, blocks))? {
                 self.known.resize(place, blocks);
+                self.print_step(&Event::Resize(place, blocks), out)?;
             }
         }
         Ok(())

@@ -1,6 +1,6 @@
 //! Readers and writers that fail.
 
-use guest_script::{LineFault, ScriptFault, play};
+use guest_script::{LineFault, Options, ScriptFault, play};
 use std::alloc::Global;
 use std::io;
 use std::io::{Read, Write};
@@ -22,6 +22,12 @@ const PRINTS: &str = "status 0
 order 2:
 blocks 0:0 0 1: 00*512
 ";
+
+/// No bound, and no line for a step.
+const PLAIN: Options = Options {
+    steps: None,
+    trace: false,
+};
 
 /// The fault of a script that can't be read.
 const CANNOT_READ: ScriptFault = ScriptFault::Line {
@@ -91,7 +97,7 @@ fn played(alloc: Global, reads: u64, writes: u64) -> (Vec<u8>, u64, u64, Result<
         calls: 0,
         fails_at: writes,
     };
-    let end = play(alloc, &mut reader, &mut writer);
+    let end = play(alloc, &mut reader, &mut writer, PLAIN);
     let Writer { got, calls, .. } = writer;
     (got, reader.calls, calls, end)
 }

@@ -16,4 +16,5 @@ pub use guest::run_guest_line;
 pub use header::{Wanted, stop_of};
 pub use known::Known;
 pub use printing::print;
+pub use runs::written;
 pub use script::{Script, command_of, line_number, read_whole};

@@ -1,11 +1,17 @@
 //! Bytes as runs of equal ones.
 
+ghost use Rattle.std.specs.Prelude.{◌≡◌, ◌↔◌, IsOk, IfErr};
+ghost use Rattle.script_lines.specs.declared.fault.Stop.{Stop};
+
 use script_lines::Stop;
 use std::io;
 use std::io::Write;
 
-/// What the writer said, as the script takes it.
-pub(crate) fn written(outcome: io::Result<()>) -> Result<(), Stop> {
+/// What the writer said, as the script takes it: `CannotWrite` exactly where it refused.
+pub fn written(outcome: io::Result<()>) -> Result<(), Stop>
+    ensures ok { IsOk result ↔ IsOk outcome }
+    ensures stop { IfErr result (λ stop. stop ≡ Stop.CannotWrite) }
+{
     match outcome {
         Ok(()) => Ok(()),
         Err(_) => Err(Stop::CannotWrite),

@@ -34,6 +34,9 @@ pub enum LineFault {
     /// The buffers don't fit into guest memory.
     #[error("no guest memory")]
     NoGuestMemory,
+    /// The device would take more steps than the script may.
+    #[error("too many steps")]
+    TooManySteps,
     /// The header lacks a line, or asks for what the device refuses.
     #[error("bad config")]
     BadConfig,
@@ -51,6 +54,16 @@ pub enum ScriptFault {
     Line {
         /// The line's number.
         line: u64,
+        /// What is wrong with it.
+        fault: LineFault,
+    },
+    /// A word of a line is at fault. Lines and words count from 1; a word that lacks counts as the one behind the last.
+    #[error("line {line}, word {word}: {fault}")]
+    Word {
+        /// The line's number.
+        line: u64,
+        /// The word's number in its line.
+        word: u64,
         /// What is wrong with it.
         fault: LineFault,
     },

@@ -49,7 +49,7 @@ fn poke<'a>(alloc: Global, values: &[&str]) -> Result<GuestLine<'a>, Stop> {
 }
 
 /// Reads a task attribute (SAM-5 §8.6).
-fn attribute(word: &str) -> Result<u8, LineFault> {
+pub(crate) fn attribute(word: &str) -> Result<u8, LineFault> {
     match word {
         "simple" => Ok(0),
         "ordered" => Ok(1),
@@ -59,7 +59,7 @@ fn attribute(word: &str) -> Result<u8, LineFault> {
 }
 
 /// Reads a command block, of 1 to 32 bytes, which zeros fill up.
-fn command_block(alloc: Global, text: &str) -> Result<[u8; CDB_BYTES], Stop> {
+pub(crate) fn command_block(alloc: Global, text: &str) -> Result<[u8; CDB_BYTES], Stop> {
     let bytes = Bytes::read(alloc, text)?;
     if bytes.length() > CDB_BYTES as u64 {
         return Err(Stop::Fault(LineFault::BadValue));

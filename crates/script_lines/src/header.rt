@@ -8,7 +8,7 @@ use ring_core::Form;
 use scsi_codec::Address;
 
 /// The largest size of a queue that a script may name.
-const LARGEST_SIZE: u16 = 256;
+pub(crate) const LARGEST_SIZE: u16 = 256;
 
 /// The queues that a header asks for.
 #[derive(Clone, Copy)]
@@ -50,7 +50,7 @@ impl Features {
     };
 
     /// Returns these features and the one of a word. `BadValue` where no feature has that word.
-    fn with(self, word: &str) -> Result<Features, LineFault>
+    pub(crate) fn with(self, word: &str) -> Result<Features, LineFault>
         ensures indirect { word.now ≡ codes "indirect" → result ≡ Ok (record self { indirect = true }) }
         ensures event_idx { word.now ≡ codes "event_idx" → result ≡ Ok (record self { event_idx = true }) }
         ensures change { word.now ≡ codes "change" → result ≡ Ok (record self { change = true }) }

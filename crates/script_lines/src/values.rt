@@ -13,7 +13,7 @@ use std::marker::Model;
 use std::str::FromStr;
 
 /// The largest LUN of a unit.
-const LAST_LUN: u16 = 16383;
+pub(crate) const LAST_LUN: u16 = 16383;
 
 /// The most letters and digits of a name.
 const LONGEST_NAME: usize = 16;

@@ -1,8 +1,9 @@
 //! `vscsi` runs a virtio SCSI host device over a guest that a script plays.
 #![tactic(auto)]
 
-use command_line::{Asked, Ending, Output, requested};
-use guest_script::{LineFault, ScriptFault, play};
+use checked_script::check;
+use command_line::{Asked, Ending, Output, Play, requested};
+use guest_script::{LineFault, Options, ScriptFault, play};
 use served_script::serve;
 use std::io::{BufWriter, ErrorKind, Read, Write};
 use std::process::ExitCode;
@@ -32,9 +33,10 @@ where
         Err(_) => return Ending::NoText,
     };
     match requested(rt.alloc(), words.as_slice()) {
-        Asked::Play("-") => play_from(rt, &mut rt.reader()),
-        Asked::Play(path) => match opened(rt, path) {
-            Ok(mut file) => play_from(rt, &mut file),
+        Asked::Play(Play { file, steps, trace }) => play_file(rt, file, Options { steps, trace }),
+        Asked::Check("-") => check_from(rt, &mut rt.reader()),
+        Asked::Check(path) => match opened(rt, path) {
+            Ok(mut file) => check_from(rt, &mut file),
             Err(ending) => ending,
         },
         Asked::Serve("-", workers) => serve_from(rt, &mut rt.reader(), workers),
@@ -58,12 +60,36 @@ fn opened<R: Files>(rt: &R, path: &str) -> Result<R::File, Ending> {
     }
 }
 
+/// Plays the script in a file, or on standard input where it is `-`.
+fn play_file<R: Files + Input + Print + AllocGlobal>(
+    rt: &R,
+    path: &str,
+    options: Options,
+) -> Ending {
+    if path == "-" {
+        return play_from(rt, &mut rt.reader(), options);
+    }
+    match opened(rt, path) {
+        Ok(mut file) => play_from(rt, &mut file, options),
+        Err(ending) => ending,
+    }
+}
+
+/// Says what is wrong with the script that a reader gives.
+fn check_from<R: AllocGlobal, S: Read>(rt: &R, script: &mut S) -> Ending {
+    match check(rt.alloc(), script) {
+        Ok(()) => Ending::Done,
+        Err(ScriptFault::NoMemory) => Ending::NoMemory,
+        Err(fault) => Ending::Fault(fault),
+    }
+}
+
 /// Plays the script that a reader gives, to standard output.
-fn play_from<R: Print + AllocGlobal, S: Read>(rt: &R, script: &mut S) -> Ending {
+fn play_from<R: Print + AllocGlobal, S: Read>(rt: &R, script: &mut S, options: Options) -> Ending {
     let Ok(mut out) = BufWriter::new(rt.alloc(), Output::new(io::writer(rt))) else {
         return Ending::NoMemory;
     };
-    let outcome = play(rt.alloc(), script, &mut out);
+    let outcome = play(rt.alloc(), script, &mut out, options);
     ended(outcome, out.flush())
 }
 

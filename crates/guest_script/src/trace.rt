@@ -1,0 +1,216 @@
+//! What each step of the device did, as a line.
+
+use guest_driver::Driver;
+use ring_core::Ticket;
+use script_device::{Known, written};
+use script_lines::Stop;
+use scsi_codec::Address;
+use std::alloc::{AllocError, Global};
+use std::io::Write;
+use unit_history::StepKind;
+use world::{Event, World};
+
+/// The queue of task management functions (VIRTIO 1.2, 5.6.2).
+const CONTROL_QUEUE: u16 = 0;
+
+/// The queue of event buffers (VIRTIO 1.2, 5.6.2).
+const EVENT_QUEUE: u16 = 1;
+
+/// What was seen of a device, so that the next step is known by what it changed.
+#[derive(Drop)]
+pub(crate) struct Trace {
+    /// How many steps each unit took.
+    steps: Vec<u64>,
+    /// The chain of the request that each seat ran last, and that didn't leave.
+    hands: Vec<Option<Ticket>>,
+    /// How many event buffers were used.
+    buffers: u64,
+}
+
+/// What a step of a unit is about.
+#[derive(Clone, Copy)]
+struct Told {
+    /// The unit.
+    unit: Option<Address>,
+    /// The chain of the request or the function.
+    ticket: Option<Ticket>,
+    /// What came of it, in a word; none where that is what the step is there for.
+    outcome: &'static str,
+}
+
+impl Trace {
+    /// Of a device of so many units and seats, of which nothing has happened. It fails where memory runs out.
+    pub(crate) fn new(alloc: Global, units: usize, seats: u16) -> Result<Trace, AllocError> {
+        Ok(Trace {
+            steps: vec![in alloc; 0; units]?,
+            hands: vec![in alloc; None; seats as usize]?,
+            buffers: 0,
+        })
+    }
+
+    /// Prints the line of an event that just changed something.
+    pub(crate) fn print<W: Write>(
+        &mut self,
+        out: &mut W,
+        world: &World,
+        driver: &Driver,
+        known: &Known,
+        event: &Event,
+    ) -> Result<(), Stop> {
+        let told = self.told(world, known, event);
+        print_event(out, event)?;
+        if let Some(Address { target, lun }) = told.unit {
+            written(write!(out, " unit={target}:{lun}"))?;
+        }
+        if let Some(Ticket { queue, number }) = told.ticket {
+            match driver.offered(queue, number) {
+                Some(name) => written(write!(out, " name={name}"))?,
+                None => written(write!(out, " name={queue}/{number}"))?,
+            }
+        }
+        let outcome = told.outcome;
+        if !outcome.is_empty() {
+            written(write!(out, " {outcome}"))?;
+        }
+        self.print_buffer(out, world, event)?;
+        written(writeln!(out))
+    }
+
+    /// Prints what became of an event of the device: which event buffer tells of it, or that it was missed.
+    fn print_buffer<W: Write>(
+        &mut self,
+        out: &mut W,
+        world: &World,
+        event: &Event,
+    ) -> Result<(), Stop> {
+        let Some(log) = world.log(EVENT_QUEUE) else {
+            return Ok(());
+        };
+        let used = log.used();
+        let is_used = used > self.buffers;
+        self.buffers = used;
+        match event {
+            Event::Raise | Event::Fetch(_) if is_used => written(write!(out, " event={used}")),
+            Event::Raise => written(write!(out, " missed")),
+            _ => Ok(()),
+        }
+    }
+
+    /// What an event was about that just changed something.
+    fn told(&mut self, world: &World, known: &Known, event: &Event) -> Told {
+        let (unit, step) = match self.grown(world, known) {
+            Some((unit, step)) => (Some(unit), Some(step)),
+            None => (None, None),
+        };
+        let (ticket, outcome) = match step {
+            Some(StepKind::Enter(ticket) | StepKind::Commit(ticket) | StepKind::Leave(ticket)) => {
+                (Some(ticket), "")
+            }
+            Some(StepKind::Full(ticket)) => (Some(ticket), "full"),
+            Some(StepKind::Busy(ticket)) => (Some(ticket), "busy"),
+            Some(StepKind::Abort(_)) => (newest(world, CONTROL_QUEUE), "abort"),
+            Some(StepKind::Reset) => (self.of_event(world, event), "reset"),
+            Some(StepKind::Resize) => (None, ""),
+            None if is_broken(world, event) => (None, "broken"),
+            None => (self.of_event(world, event), ""),
+        };
+        self.hold(event, ticket);
+        Told {
+            unit,
+            ticket,
+            outcome,
+        }
+    }
+
+    /// The unit that took a step since the last look, and that step.
+    fn grown(&mut self, world: &World, known: &Known) -> Option<(Address, StepKind)> {
+        for (place, seen) in self.steps.iter_mut().enumerate() {
+            let spec = known.units.get(place)?;
+            let unit = world.unit(spec.target, spec.lun)?;
+            if unit.steps() > *seen {
+                *seen = unit.steps();
+                let address = Address {
+                    target: spec.target,
+                    lun: spec.lun,
+                };
+                return Some((address, unit.step(seen.saturating_sub(1))?));
+            }
+        }
+        None
+    }
+
+    /// The chain that an event is about which took no step of a unit, where that can be seen.
+    fn of_event(&self, world: &World, event: &Event) -> Option<Ticket> {
+        match event {
+            Event::Fetch(queue) | Event::Enter(queue) | Event::Direct(queue) => {
+                newest(world, *queue)
+            }
+            Event::Mark | Event::Check | Event::AnswerTmf => newest(world, CONTROL_QUEUE),
+            Event::Answer(seat) => *self.hands.get(*seat as usize)?,
+            _ => None,
+        }
+    }
+
+    /// Takes down which chain is in a seat's hand.
+    fn hold(&mut self, event: &Event, ticket: Option<Ticket>) {
+        let (seat, held) = match event {
+            Event::Commit(seat) => (*seat, ticket),
+            Event::Leave(seat) => (*seat, None),
+            _ => return,
+        };
+        if let Some(hand) = self.hands.get_mut(seat as usize) {
+            *hand = held;
+        }
+    }
+}
+
+/// The chain that a queue accepted last.
+fn newest(world: &World, queue: u16) -> Option<Ticket> {
+    let number = world.log(queue)?.accepted().checked_sub(1)?;
+    Some(Ticket { queue, number })
+}
+
+/// Whether an event was a fetch that broke its queue: of a broken one none changes anything.
+fn is_broken(world: &World, event: &Event) -> bool {
+    match event {
+        Event::Fetch(queue) => world.broken(*queue).is_some(),
+        _ => false,
+    }
+}
+
+/// Prints which event it is, and where.
+fn print_event<W: Write>(out: &mut W, event: &Event) -> Result<(), Stop> {
+    let (word, place) = match event {
+        Event::Poke(_, _) => ("poke", ""),
+        Event::Fetch(_) => ("fetch", "queue"),
+        Event::Enter(_) => ("enter", "queue"),
+        Event::Direct(_) => ("direct", "queue"),
+        Event::Put(_) => ("put", "seat"),
+        Event::Take(_) => ("take", "seat"),
+        Event::Prepare(_) => ("prepare", "seat"),
+        Event::Commit(_) => ("commit", "seat"),
+        Event::Answer(_) => ("answer", "seat"),
+        Event::Leave(_) => ("leave", "seat"),
+        Event::Mark => ("mark", ""),
+        Event::Check => ("check", ""),
+        Event::AnswerTmf => ("answertmf", ""),
+        Event::Hard(_) => ("hard", ""),
+        Event::Resize(_, _) => ("resize", ""),
+        Event::Raise => ("raise", ""),
+    };
+    written(write!(out, "trace: {word}"))?;
+    match place_of(event) {
+        Some(number) => written(write!(out, " {place}={number}")),
+        None => Ok(()),
+    }
+}
+
+/// The queue or the seat of an event, if it has one.
+fn place_of(event: &Event) -> Option<u16> {
+    match event {
+        Event::Fetch(place) | Event::Enter(place) | Event::Direct(place) => Some(*place),
+        Event::Put(place) | Event::Take(place) | Event::Prepare(place) => Some(*place),
+        Event::Commit(place) | Event::Answer(place) | Event::Leave(place) => Some(*place),
+        _ => None,
+    }
+}

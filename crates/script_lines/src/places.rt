@@ -1,0 +1,206 @@
+//! Which word of a line doesn't fit its place.
+
+ghost use Rattle.std.specs.Prelude.{◌≤◌, length, IfOk, IfSome};
+
+use crate::fault::Stop;
+use crate::guest_line::{attribute, command_block};
+use crate::header::{Features, LARGEST_SIZE};
+use crate::values::{Bytes, LAST_LUN, name, number, unit_pair};
+use std::alloc::{AllocError, Global};
+
+/// What a place behind the first word of a line takes.
+#[derive(Clone, Copy)]
+enum Place {
+    /// A number below 2^8.
+    Number8,
+    /// A number below 2^16.
+    Number16,
+    /// A number below 2^32.
+    Number32,
+    /// A number below 2^64.
+    Number64,
+    /// How many descriptors a queue has.
+    Size,
+    /// A LUN.
+    Lun,
+    /// A unit as one word.
+    Unit,
+    /// A name.
+    Name,
+    /// A task attribute.
+    Attribute,
+    /// A command block.
+    CommandBlock,
+    /// Bytes.
+    Bytes,
+    /// The form of the queues.
+    Form,
+    /// A feature.
+    Feature,
+    /// A further feature, if any.
+    MoreFeatures,
+    /// `calm`, if anything.
+    Calm,
+    /// `out` or `in`, if anything.
+    OutOrIn,
+    /// `in`, if anything.
+    In,
+    /// No word.
+    End,
+}
+
+impl Place {
+    /// Whether the place takes this word. It fails where memory runs out.
+    fn takes(self, alloc: Global, word: &str) -> Result<bool, AllocError> {
+        match self {
+            Place::CommandBlock => was_read(command_block(alloc, word)),
+            Place::Bytes => was_read(Bytes::read(alloc, word)),
+            _ => Ok(self.takes_word(word)),
+        }
+    }
+
+    /// Whether the place, which isn't one of bytes, takes this word.
+    fn takes_word(self, word: &str) -> bool {
+        match self {
+            Place::Number8 => number::<u8>(word).is_ok(),
+            Place::Number16 => number::<u16>(word).is_ok(),
+            Place::Number32 => number::<u32>(word).is_ok(),
+            Place::Number64 => number::<u64>(word).is_ok(),
+            Place::Size => is_at_most(word, LARGEST_SIZE),
+            Place::Lun => is_at_most(word, LAST_LUN),
+            Place::Unit => unit_pair(word).is_ok(),
+            Place::Name => name(word).is_ok(),
+            Place::Attribute => attribute(word).is_ok(),
+            Place::Form => word == "split" || word == "packed",
+            Place::Feature | Place::MoreFeatures => Features::NONE.with(word).is_ok(),
+            Place::Calm => word == "calm",
+            Place::OutOrIn => word == "out" || word == "in",
+            Place::In => word == "in",
+            Place::CommandBlock | Place::Bytes | Place::End => false,
+        }
+    }
+
+    /// Whether a line may end before this place.
+    fn may_lack(self) -> bool {
+        match self {
+            Place::MoreFeatures | Place::Calm | Place::OutOrIn | Place::In | Place::End => true,
+            _ => false,
+        }
+    }
+}
+
+/// Whether a word is a number that isn't above this one.
+fn is_at_most(word: &str, most: u16) -> bool {
+    match number::<u16>(word) {
+        Ok(number) => number <= most,
+        Err(_) => false,
+    }
+}
+
+/// Whether a word was what its place takes. It fails where memory ran out.
+fn was_read<T: Drop>(read: Result<T, Stop>) -> Result<bool, AllocError> {
+    match read {
+        Ok(_) => Ok(true),
+        Err(Stop::NoMemory) => Err(AllocError),
+        Err(_) => Ok(false),
+    }
+}
+
+/// What a place behind the first word takes, from 0 on, in a line of the header.
+fn header_place(keyword: &str, index: usize) -> Place {
+    match (keyword, index) {
+        ("memory", 0) => Place::Number32,
+        ("ring", 0) => Place::Form,
+        ("queues" | "workers" | "handoff", 0) => Place::Number16,
+        ("queues", 1) => Place::Size,
+        ("features", 0) => Place::Feature,
+        ("features", _) => Place::MoreFeatures,
+        ("unit", 0) => Place::Number8,
+        ("unit", 1) => Place::Lun,
+        ("unit", 2) => Place::Number64,
+        ("unit", 3) => Place::Calm,
+        _ => Place::End,
+    }
+}
+
+/// What a place behind the first word takes, from 0 on, where a request or a function is sent.
+fn sent_place(keyword: &str, index: usize) -> Place {
+    match (keyword, index) {
+        ("send" | "tmf", 0) => Place::Name,
+        ("send", 1) => Place::Number16,
+        ("tmf", 1) => Place::Number32,
+        ("send" | "tmf", 2) => Place::Unit,
+        ("send" | "tmf", 3) => Place::Number64,
+        ("send", 4) => Place::Attribute,
+        ("send", 5) => Place::CommandBlock,
+        _ => Place::End,
+    }
+}
+
+/// What a place behind the words of a request takes, from 0 on, where its data out stand before its room for data in.
+fn data_place(has_out: bool, index: usize) -> Place {
+    match (has_out, index) {
+        (_, 0) => Place::OutOrIn,
+        (true, 1) => Place::Bytes,
+        (false, 1) | (true, 3) => Place::Number32,
+        (true, 2) => Place::In,
+        _ => Place::End,
+    }
+}
+
+/// What a place behind the first word takes, from 0 on, in any other line.
+fn other_place(keyword: &str, index: usize) -> Place {
+    match (keyword, index) {
+        ("hard" | "resize" | "history" | "blocks", 0) => Place::Unit,
+        ("poke", 0) => Place::Number64,
+        ("poke", 1) => Place::Bytes,
+        ("resize" | "blocks", 1) | ("blocks", 2) => Place::Number64,
+        ("wait" | "show", 0) => Place::Name,
+        ("order" | "notices" | "fetch" | "enter" | "direct", 0) => Place::Number16,
+        ("put" | "take" | "prepare" | "commit" | "answer" | "leave", 0) => Place::Number16,
+        _ => Place::End,
+    }
+}
+
+/// How many words stand behind the first of a request, before its data.
+const REQUEST_WORDS: usize = 6;
+
+/// What a place behind the first word of a line takes, from 0 on.
+fn place_of(keyword: &str, values: &[&str], index: usize) -> Place {
+    match keyword {
+        "memory" | "ring" | "queues" | "workers" | "handoff" | "features" | "unit" => {
+            header_place(keyword, index)
+        }
+        "send" if index >= REQUEST_WORDS => {
+            let has_out = match values.get(REQUEST_WORDS) {
+                Some(word) => *word == "out",
+                None => false,
+            };
+            data_place(has_out, index - REQUEST_WORDS)
+        }
+        "send" | "tmf" => sent_place(keyword, index),
+        _ => other_place(keyword, index),
+    }
+}
+
+/// Returns which word behind the first of a line is the first that its place doesn't take, from 0 on; their number where
+/// the next one lacks, and `None` where each fits. It fails where memory runs out. What the first word isn't one of the
+/// language for has no places.
+pub fn first_wrong(
+    alloc: Global,
+    keyword: &str,
+    values: &[&str],
+) -> Result<Option<usize>, AllocError>
+    ensures within { IfOk result (λ place. IfSome place (λ index. index ≤ length values.now)) }
+{
+    for index in 0..values.len() {
+        if !place_of(keyword, values, index).takes(alloc, values[index])? {
+            return Ok(Some(index));
+        }
+    }
+    if place_of(keyword, values, values.len()).may_lack() {
+        Ok(None)
+    } else {
+        Ok(Some(values.len()))
+    }
+}
