@@ -11,6 +11,7 @@ pub mod Checks
 pub mod Responds
 pub mod Pokes
 pub mod Off
+pub mod Finding
 pub mod Handing
 pub mod Entering
 pub mod Marking

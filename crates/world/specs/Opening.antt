@@ -94,6 +94,17 @@ pub record IsOpeningOver (c : Config) (disks : List PagedStore) (w : PlainWorld)
   pub opening : IsOpening c bare
   pub is : w ≡ record bare { units = over_disks bare.units disks }
 
+-- the device of some configuration, of which nothing has happened yet, whose disks these may be
+pub record OpensFor (w : PlainWorld) (disks : List PagedStore) : Type 0 where
+  pub config : Config
+  pub taken : is_config config ≡ true
+  pub opening : IsOpening config w
+  pub are : AreDisksFor config.units.items disks
+
+-- of whichever configuration it was the device, now it is that over these disks
+abbrev pub OpensAnew : PlainWorld → List PagedStore → PlainWorld → Type 0
+OpensAnew old disks new = (c : Config) → IsOpening c old → IsOpeningOver c disks new
+
 -- a configuration with disks is refused as such exactly where the device doesn't take it, or they aren't its disks
 abbrev pub OverRefusedAs : Config → List PagedStore → StartFault → Type 0
 OverRefusedAs c disks BadConfig = is_config c ≡ true → AreDisksFor c.units.items disks → ⊥

@@ -1,10 +1,11 @@
 -- What a look at the device finds.
-use Rattle.std.specs.Prelude.{ℕ, ◌≡◌, ◌≤◌, ◌+◌, ◌==◌, ◌&&◌, ◌++◌, Bool, true, false, cond, List, Option, Some, None, is_some, slice_get, find, ◌<◌, Result, Ok, Err}
+use Rattle.std.specs.Prelude.{ℕ, ⊤, ◌≡◌, ◌≤◌, ◌+◌, ◌==◌, ◌&&◌, ◌++◌, Bool, true, false, cond, List, length, Option, Some, None, is_some, slice_get, find, ◌<◌, Result, Ok, Err}
 use Rattle.std.specs.List.{list_any}
 use Rattle.block_store.specs.Blocks.{run}
 use Rattle.block_store.specs.declared.NoMemory.{NoMemory}
 use Rattle.history.specs.Contents.{blocks_of, capacity_of}
 use Rattle.task_set.specs.Unit.{PlainUnit}
+use Rattle.unit_history.specs.Changes.{PlainChanges, AreUnchanged}
 use Rattle.ring_core.specs.declared.fault.RingFault.{RingFault}
 use Rattle.deeds.specs.World.{PlainQueue, PlainWorld}
 
@@ -18,6 +19,12 @@ IsPlaceOf w target lun (Some place) =
     (u : PlainUnit) × (slice_get w.units place ≡ Some u) × (u.opening.target ≡ target) × (u.opening.lun ≡ lun)
 IsPlaceOf w target lun None =
     (place : ℕ) (u : PlainUnit) → slice_get w.units place ≡ Some u → u.opening.target ≡ target → u.opening.lun ≡ lun → ⊥
+
+-- that of the address which `unit_at` is stands at the place, or there is none
+abbrev pub FindsUnit : PlainWorld → ℕ → ℕ → Option ℕ → Type 0
+FindsUnit w target lun (Some place) =
+    (u : PlainUnit) × (slice_get w.units place ≡ Some u) × (unit_at w target lun ≡ Some u)
+FindsUnit w target lun None = unit_at w target lun ≡ None
 
 -- the fault that broke a queue, if it is there
 abbrev pub fault_of : Option PlainQueue → Option RingFault
@@ -39,3 +46,9 @@ GivesBlocks None first count old (Err e) new = ⊥
 -- only a list that has to grow wants memory
 GivesBlocks (Some u) first count old (Err e) new = (first + count ≤ capacity_of u.opening u.steps)
     × (0 < count) × (new ≡ old)
+
+-- which blocks of a unit may have changed since some place of its history, if it is there
+abbrev pub GivesChanges : Option PlainUnit → Option PlainChanges → Type 0
+GivesChanges None None = ⊤
+GivesChanges (Some u) (Some c) = (c.since ≤ length u.steps) × AreUnchanged u c
+GivesChanges u c = ⊥

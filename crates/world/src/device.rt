@@ -8,7 +8,7 @@ use event_queue::{EventPort, WaitingEvents};
 use guest_mem::GuestMem;
 use phases::OpenFunction;
 use std::marker::Model;
-use unit_history::UnitState;
+use unit_history::{Changes, UnitState};
 
 /// The parts of the device: memory, queues with their slots, units, seats, the hand-off, the function, the event port
 /// and the events that wait for it.
@@ -54,18 +54,19 @@ impl Model for Device {
     ghost invariant = { λ d. HasLists d.memory d.bays.items d.units.items d.seats.items d.port.limit };
 }
 
-ghost use Rattle.std.specs.Prelude.{◌≡◌, ◌↔◌, IsTrue};
+ghost use Rattle.std.specs.Prelude.{◌≡◌, ◌↔◌, ◌==◌, ◌&&◌, IsTrue};
 
 /// Whether a unit has this address.
 fn has_address(unit: &UnitState, target: u8, lun: u16) -> bool
-    ensures { IsTrue result ↔ ((unit.now.opening.target ≡ target) × (unit.now.opening.lun ≡ lun)) }
+    ensures is { IsTrue result ↔ ((unit.now.opening.target ≡ target) × (unit.now.opening.lun ≡ lun)) }
+    ensures test { result ≡ ((unit.now.opening.target == target) && (unit.now.opening.lun == lun)) }
 {
     unit.target() == target && unit.lun() == lun
 }
 
 impl Device {
     ghost use Rattle.world.specs.Sound.{AreFew};
-    ghost use Rattle.world.specs.Views.{IsPlaceOf};
+    ghost use Rattle.world.specs.Views.{IsPlaceOf, FindsUnit, unit_at, GivesChanges};
 
     /// The place of the unit of an address.
     pub(crate) fn place(&self, target: u8, lun: u16) -> Option<u16>
@@ -78,5 +79,28 @@ impl Device {
             }
         }
         None
+    }
+
+    /// Returns where the first unit of an address stands.
+    fn unit_place(&self, target: u8, lun: u16) -> Option<usize>
+        ensures { FindsUnit self.now target lun result }
+    {
+        for place in 0..self.units.len() {
+            if has_address(&self.units[place], target, lun) {
+                return Some(place);
+            }
+        }
+        None
+    }
+
+    /// Returns which blocks of the unit of an address may have changed, and starts anew.
+    pub(crate) fn take_changes(&mut self, target: u8, lun: u16) -> Option<Changes>
+        ensures same { self.new ≡ self.old }
+        ensures changes { GivesChanges (unit_at self.old target lun) result }
+    {
+        match self.unit_place(target, lun) {
+            Some(place) => Some(self.units[place].take_changes()),
+            None => None,
+        }
     }
 }

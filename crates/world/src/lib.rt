@@ -29,5 +29,5 @@ pub use queues::{AnyRing, Queue};
 pub use ring_core::RingFault;
 pub use service::Served;
 pub use unit_attention::Code;
-pub use unit_history::{Cause, Given, Note, ResizeFault, StepKind, UnitState};
+pub use unit_history::{Cause, Changes, Given, Note, ResizeFault, StepKind, UnitState};
 pub use world::World;

@@ -183,3 +183,15 @@ pub(crate) fn disks_of(units: Vec<UnitState>, empty: Vec<PagedStore>) -> Vec<Pag
     }
     disks
 }
+
+impl Device {
+    /// Gives each unit its disk, where no step of any was taken.
+    pub(crate) fn hand_in(&mut self, disks: &mut Vec<PagedStore>)
+        requires fresh { Everywhere (λ k u. u.steps ≡ []) self.old.units }
+        requires enough { length disks.old.items ≤ length self.old.units }
+        ensures over { self.new ≡ record self.old { units = over_disks self.old.units disks.old.items } }
+        ensures none { disks.new.items ≡ [] }
+    {
+        hand_in(&mut self.units, disks);
+    }
+}

@@ -1,12 +1,13 @@
 //! The device.
 
 ghost use Rattle.std.specs.Prelude.{◌≡◌, ◌≤◌, [], length, IfOk, is_some};
+ghost use Rattle.std.specs.Vec.{vec_capacity};
 ghost use Rattle.std.specs.List.{list_any};
 
 use crate::bay::Bay;
 use crate::cursor::{Cursor, Progress};
 use crate::device::Device;
-use crate::opening::{are_disks_for, disks_of, hand_in, open_device};
+use crate::opening::{are_disks_for, disks_of, open_device};
 use crate::service::Served;
 use crate::sound::all_are_sound;
 use block_store::{NoMemory, PagedStore};
@@ -19,7 +20,7 @@ use ring_core::{QueueLog, RingFault};
 use std::alloc::Global;
 use std::marker::Model;
 use unit_attention::Code;
-use unit_history::UnitState;
+use unit_history::{Changes, UnitState};
 
 /// Whether a fault of the guest broke a queue.
 fn is_any_broken(bays: &[Bay]) -> bool
@@ -53,7 +54,7 @@ impl World {
     ghost use Rattle.deeds.specs.World as plain;
     ghost use Rattle.history.specs.Contents.{capacity_of, pending_of};
     ghost use Rattle.config.specs.Config.{is_config, StartRefusedAs};
-    ghost use Rattle.world.specs.Opening.{IsOpening, IsOpeningOver, OverRefusedAs, AreDisksFor, AreDisksOf};
+    ghost use Rattle.world.specs.Opening.{IsOpening, IsOpeningOver, OpensFor, OpensAnew, OverRefusedAs, AreDisksFor, AreDisksOf};
     ghost use Rattle.world.specs.Sound.{AreFew, IsReached, IsSound};
     ghost use Rattle.deeds.specs.Happens.{Reached};
     ghost use Rattle.deeds.specs.Turns.{Turns};
@@ -62,7 +63,7 @@ impl World {
     ghost use Rattle.world.specs.Settling.{asks, ServesSomeOrWants, ServesOrWants};
     ghost use Rattle.world.specs.Promise.{StepsAsPromised, RunsAsPromised, ServesAsPromised, SettlesAsPromised};
     ghost use Rattle.world.specs.Cursors.{Denies, NoneBefore, TurnsNext};
-    ghost use Rattle.world.specs.Views.{unit_at, IsPlaceOf, fault_of, device_status, GivesBlocks};
+    ghost use Rattle.world.specs.Views.{unit_at, IsPlaceOf, fault_of, device_status, GivesBlocks, GivesChanges};
 
     /// The device of a configuration, of which nothing has happened yet. Whoever sets it up calls it once.
     /// `BadConfig` exactly where the configuration isn't valid; else `NoMemory` where a growth was refused. The empty
@@ -102,13 +103,27 @@ impl World {
         if !config.is_valid() || !are_disks_for(config.units.as_slice(), disks.as_slice()) {
             return Err(StartFault::BadConfig);
         }
-        match open_device(alloc, config) {
-            Ok(mut device) => {
-                hand_in(&mut device.units, disks);
-                Ok(World { device })
+        match World::new(alloc, config) {
+            Ok(mut world) => {
+                world.hand_in(disks);
+                Ok(world)
             }
-            Err(NoMemory) => Err(StartFault::NoMemory),
+            Err(fault) => Err(fault),
         }
+    }
+
+    /// Gives each unit its disk, in the order of the configuration, in place of zeros. Whoever has to keep the disks until
+    /// nothing can be refused any more calls it once, with disks of its units' capacities, on a device that
+    /// [`World::new`] opened and to which nothing has happened yet; [`World::new_with`] does both. The device takes the
+    /// disks, and no memory.
+    pub fn hand_in(&mut self, disks: &mut Vec<PagedStore>)
+        requires opening { OpensFor self.old disks.old.items }
+        ensures over { OpensAnew self.old disks.old.items self.new }
+        ensures none { disks.new.items ≡ [] }
+        ensures opens { plain.Opens self.new }
+        ensures reaches { Reached self.new [] self.new }
+    {
+        self.device.hand_in(disks);
     }
 
     /// Ends the device, and returns the disks of its units, in their order, as its histories left them: blocks and
@@ -117,12 +132,22 @@ impl World {
     pub fn close(self, alloc: Global) -> Result<Vec<PagedStore>, World>
         ensures disks { MatchResult result (λ disks. AreDisksOf self.units disks.items) (λ left. left ≡ self) }
     {
-        let Ok(disks) = Vec::with_capacity(alloc, self.device.units.len()) else {
-            return Err(self);
-        };
+        match Vec::with_capacity(alloc, self.device.units.len()) {
+            Ok(empty) => Ok(self.into_disks(empty)),
+            Err(_) => Err(self),
+        }
+    }
+
+    /// Ends the device as [`World::close`] does, and puts the disks into an empty list that has room for them. Takes no
+    /// memory.
+    pub fn into_disks(self, empty: Vec<PagedStore>) -> Vec<PagedStore>
+        requires empty { empty.items ≡ [] }
+        requires room { length self.units ≤ vec_capacity empty }
+        ensures { AreDisksOf self.units result.items }
+    {
         let World { device } = self;
         let Device { units, .. } = device;
-        Ok(disks_of(units, disks))
+        disks_of(units, empty)
     }
 
     /// That some trace led here from an opening: every law over reached traces holds of it.
@@ -317,6 +342,13 @@ impl World {
         self.device.bays.len()
     }
 
+    /// Returns how many units there are.
+    pub fn units(&self) -> usize
+        ensures { result ≡ length self.now.units }
+    {
+        self.device.units.len()
+    }
+
     /// The log of a queue: which chains it accepted, and which were used. `None` where there is no such queue.
     pub fn log(&self, number: u16) -> Option<&QueueLog>
         ensures log { option_copied result ≡ option_map (λ q. q.ring.log) (slice_get self.now.queues number) }
@@ -408,6 +440,15 @@ impl World {
             Some(unit) => Some(unit.pending()),
             None => None,
         }
+    }
+
+    /// Returns which blocks of the unit of an address may have changed, as [`UnitState::take_changes`] does, and starts
+    /// anew; `None` where there is no such unit. A host calls it to write a disk through to its file. It takes no memory.
+    pub fn take_changes(&mut self, target: u8, lun: u16) -> Option<Changes>
+        ensures same { self.new ≡ self.old }
+        ensures changes { GivesChanges (unit_at self.old target lun) result }
+    {
+        self.device.take_changes(target, lun)
     }
 
     /// Appends the bytes of blocks of a unit, as its commands left them. False where the unit is

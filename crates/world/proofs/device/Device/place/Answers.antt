@@ -18,7 +18,7 @@ loop-place-preserved c =
         | inr here ↦
             let there = rw (← c.self.view_is) at at in
             let is = same (sym found ∙ ap (λ i. slice_get d.units.items i) (sym here) ∙ there) in
-            let on = c.has_address.ensures.1
+            let on = c.has_address.ensures.is.1
             (ap (λ (z : PlainUnit). z.opening.target) is ∙ target, ap (λ (z : PlainUnit). z.opening.lun) is ∙ lun) in
             true≢false (sym (rw c.if-has_address.false at on))
       ];
