@@ -3,23 +3,27 @@
 #include <stdio.h>
 #include <string.h>
 
-bool backend_make(struct backend *backend, const struct vscsi_queue *queues, uint32_t pages, uint64_t features, uint64_t at, char *why, size_t room) {
+bool backend_make(struct backend *backend, const struct vscsi_queue *queues, uint32_t pages, uint64_t features, char *why, size_t room) {
   struct vscsi_unit units[DEVICE_MOST_UNITS];
   for (size_t i = 0; i < backend->disks->count; i++) {
     const struct disk *disk = &backend->disks->disks[i];
-    // Calm: the daemon's own WRITEs would meet the power on in place of the guest.
+    // Calm: the disks were on before the guest was, and nobody has to be told of that.
     units[i] = (struct vscsi_unit){.blocks = disk->blocks, .lun = disk->lun, .target = disk->target, .calm = 1};
   }
   const struct vscsi_config config = {.size = sizeof config,
                                       .features = features | VSCSI_F_VERSION_1,
                                       .queues = queues,
-                                      .queue_count = backend->count + 1,
+                                      .queue_count = backend->count,
                                       .units = units,
                                       .unit_count = backend->disks->count,
                                       .pages = pages};
-  if (!device_create(&backend->device, &config, why, room)) return false;
-  if (interim_begin(&backend->interim, &backend->device, backend->disks, backend->count, at, features & VSCSI_F_RING_PACKED, why, room)) return true;
-  backend_end(backend);
+  memset(backend->places, 0, sizeof backend->places);
+  return blocks_load(backend->disks, why, room) && device_create(&backend->device, &config, backend->disks->stores, why, room);
+}
+
+bool backend_keep(struct backend *backend, char *why, size_t room) {
+  if (blocks_keep(&backend->device, backend->disks, backend->places)) return true;
+  snprintf(why, room, "a disk's file couldn't be written");
   return false;
 }
 
@@ -35,8 +39,7 @@ bool backend_begin(struct backend *backend, char *why, size_t room) {
 
 void backend_end(struct backend *backend) {
   for (unsigned q = 0; q < backend->count; q++) ring_drop(&backend->queues[q].ring);
-  interim_end(&backend->interim);
-  device_destroy(&backend->device);
+  if (!device_end(&backend->device, backend->disks->stores, backend->disks->count)) backend->disks->lost = true;
 }
 
 bool backend_has(const struct backend *backend, uint32_t queues) {

@@ -5,14 +5,14 @@
 #ifndef DAEMON_BACKEND_H
 #define DAEMON_BACKEND_H
 
+#include "blocks.h"
 #include "disks.h"
-#include "interim.h"
 #include "library.h"
 #include "memory.h"
 #include "ring.h"
 
-// The guest's queues: control, event and requests. The device has one more, which is the daemon's.
-enum { FIXED_QUEUES = 2, EVENT_QUEUE = 1, MOST_QUEUES = DEVICE_MOST_QUEUES - 1, MOST_REQUEST_QUEUES = MOST_QUEUES - FIXED_QUEUES };
+// The guest's queues: control, event and requests.
+enum { FIXED_QUEUES = 2, EVENT_QUEUE = 1, MOST_QUEUES = DEVICE_MOST_QUEUES, MOST_REQUEST_QUEUES = MOST_QUEUES - FIXED_QUEUES };
 
 // How many chains a round of shadow mode takes, and how many event buffers it holds.
 enum { SLOTS = 64 };
@@ -27,7 +27,7 @@ struct backend {
   struct memory memory;
   struct disks *disks;
   struct device device;
-  struct interim interim;
+  uint64_t places[DEVICE_MOST_UNITS];  // of each unit's history: what stands on its file
   struct backend_queue queues[MOST_QUEUES];
   unsigned count;
   bool only_shadow, shadow, packed, event_index, indirect;
@@ -39,7 +39,7 @@ enum served { SERVED, MORE, FAILED };
 // Makes the device for the queues that are ready. Returns false, and says why, where it couldn't.
 bool backend_begin(struct backend *backend, char *why, size_t room);
 
-// Lets go of the device. The disks' blocks stand on their files; the rings stand where their oldest chain was fetched.
+// Lets go of the device, and takes its disks back. The rings stand where their oldest chain was fetched.
 void backend_end(struct backend *backend);
 
 // Returns whether a driver made something available on one of these queues.
@@ -56,9 +56,9 @@ enum served direct_serve(struct backend *backend, uint32_t queues, uint32_t *owe
 bool shadow_begin(struct backend *backend, char *why, size_t room);
 enum served shadow_serve(struct backend *backend, uint32_t queues, uint32_t *owed, char *why, size_t room);
 
-// Of both: makes the device of these queues, of which the last is the daemon's own at an address, and puts the disks into it; and
-// makes visible what was used.
-bool backend_make(struct backend *backend, const struct vscsi_queue *queues, uint32_t pages, uint64_t features, uint64_t at, char *why, size_t room);
+// Of both: makes the device of these queues, over the disks; keeps what it changed of them; and makes visible what was used.
+bool backend_make(struct backend *backend, const struct vscsi_queue *queues, uint32_t pages, uint64_t features, char *why, size_t room);
+bool backend_keep(struct backend *backend, char *why, size_t room);
 void backend_publish(struct backend *backend, uint32_t *owed);
 
 #endif

@@ -1,7 +1,6 @@
 #include "chain.h"
 
 #include <stdlib.h>
-#include <string.h>
 
 #include "bytes.h"
 #include "moves.h"
@@ -52,16 +51,6 @@ enum fetched chain_add_table(struct chain *chain, const struct source *source, u
     if (at >= entries) return BROKEN;
   }
   return BROKEN;
-}
-
-size_t chain_look(const struct chain *chain, const struct source *source, uint8_t *into, size_t room) {
-  size_t done = 0;
-  for (size_t i = 0; i < chain->count && done < room && !chain->segments[i].writable; i++) {
-    size_t here = least(chain->segments[i].length, room - done);
-    if (!source_load(source, chain->segments[i].addr, into + done, here)) memset(into + done, 0, here);
-    done += here;
-  }
-  return done;
 }
 
 void chain_free(struct chain *chain) {

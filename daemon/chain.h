@@ -23,7 +23,4 @@ enum fetched chain_add(struct chain *chain, uint64_t addr, uint32_t length, bool
 // Adds the parts that a table has, each descriptor once at the most. A packed queue's table is used in its order.
 enum fetched chain_add_table(struct chain *chain, const struct source *source, uint64_t addr, uint32_t length, bool packed);
 
-// Copies the first bytes of a chain's readable parts from where it was fetched. Returns how many there are.
-size_t chain_look(const struct chain *chain, const struct source *source, uint8_t *into, size_t room);
-
 #endif

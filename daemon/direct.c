@@ -5,14 +5,14 @@
 #include "chain.h"
 #include "moves.h"
 
-// Behind the guest's memory lie the daemon's queue, and a page of zeros for queues that the driver didn't set up: enough for the
-// areas of a queue of two descriptors.
-static uint64_t private_at(const struct backend *backend) {
+// Behind the guest's memory lies a page of zeros for queues that the driver didn't set up: enough for the areas of a queue of two
+// descriptors.
+static uint64_t zeros_at(const struct backend *backend) {
   return (memory_end(&backend->memory) + DEVICE_PAGE - 1) / DEVICE_PAGE * DEVICE_PAGE;
 }
 
 bool direct_fits(const struct backend *backend) {
-  if (private_at(backend) + INTERIM_BYTES + DEVICE_PAGE > (uint64_t)DEVICE_MOST_PAGES * DEVICE_PAGE) return false;
+  if (zeros_at(backend) + DEVICE_PAGE > (uint64_t)DEVICE_MOST_PAGES * DEVICE_PAGE) return false;
   for (unsigned q = 0; q < backend->count; q++) {
     const struct ring *ring = &backend->queues[q].ring;
     bool begins = ring->next == 0 && ring->used == 0 && (!ring->packed || (ring->next_wrap && ring->used_wrap));
@@ -23,17 +23,16 @@ bool direct_fits(const struct backend *backend) {
 
 bool direct_begin(struct backend *backend, char *why, size_t room) {
   struct vscsi_queue queues[DEVICE_MOST_QUEUES];
-  uint64_t at = private_at(backend), zeros = at + INTERIM_BYTES;
+  uint64_t zeros = zeros_at(backend);
   for (unsigned q = 0; q < backend->count; q++) {
     const struct ring *ring = &backend->queues[q].ring;
     queues[q] = backend->queues[q].ready
                     ? (struct vscsi_queue){.desc = ring->desc, .driver = ring->driver, .device = ring->device, .size = ring->size}
                     : (struct vscsi_queue){.desc = zeros, .driver = zeros + 0x100, .device = zeros + 0x200, .size = 2};
   }
-  queues[backend->count] = interim_queue(at);
   uint64_t features = (backend->packed ? VSCSI_F_RING_PACKED : 0) | (backend->event_index ? VSCSI_F_EVENT_IDX : 0) |
                       (backend->indirect ? VSCSI_F_INDIRECT_DESC : 0);
-  return backend_make(backend, queues, (uint32_t)((zeros + DEVICE_PAGE) / DEVICE_PAGE), features, at, why, room);
+  return backend_make(backend, queues, (uint32_t)((zeros + DEVICE_PAGE) / DEVICE_PAGE), features, why, room);
 }
 
 // Copies a chain's readable bytes in, as many as a command looks at.
@@ -48,9 +47,9 @@ static bool bring(struct backend *backend, const struct chain *chain) {
   return true;
 }
 
-// Whether a part of a chain lies in the pages that are the daemon's. Past these the device breaks the queue by itself.
-static bool is_private(const struct backend *backend, const struct chain *chain) {
-  uint64_t from = private_at(backend), end = from + INTERIM_BYTES + DEVICE_PAGE;
+// Whether a part of a chain lies in the page that is the daemon's. Past these the device breaks the queue by itself.
+static bool is_in_zeros(const struct backend *backend, const struct chain *chain) {
+  uint64_t from = zeros_at(backend), end = from + DEVICE_PAGE;
   for (size_t i = 0; i < chain->count; i++) {
     uint64_t behind = chain->segments[i].addr + chain->segments[i].length;
     if (behind > from && behind <= end) return true;
@@ -67,15 +66,13 @@ static bool fetch(struct backend *backend, unsigned q, char *why, size_t room) {
   for (;;) {
     enum fetched fetched = ring_fetch(&queue->ring, &source, &chain);
     if (fetched != FETCHED) return fetched != NO_ROOM;
-    uint8_t bytes[INTERIM_LOOKS_AT];
     queue->taken++;
-    if (is_private(backend, chain)) return snprintf(why, room, "queue %u: a buffer behind the guest's memory", q), false;
+    if (is_in_zeros(backend, chain)) return snprintf(why, room, "queue %u: a buffer behind the guest's memory", q), false;
     if (!bring(backend, chain)) {
       // A part that isn't in the device's memory: there the device breaks the queue.
       queue->ring.broken = true;
       return true;
     }
-    if (!interim_note(&backend->interim, bytes, chain_look(chain, &source, bytes, sizeof bytes))) return false;
   }
 }
 
@@ -114,7 +111,7 @@ static bool complete(struct backend *backend, unsigned q, char *why, size_t room
   uint64_t taken, used;
   if (!device_progress(&backend->device, q, &taken, &used)) return false;
   if (taken > queue->taken) {
-    // The device wrote what it took: a disk's blocks that it changed so aren't known.
+    // The device wrote what it took: the daemon knows none of these chains.
     snprintf(why, room, "queue %u: the guest had the device write requests into a ring", q);
     return false;
   }
@@ -130,7 +127,7 @@ enum served direct_serve(struct backend *backend, uint32_t queues, uint32_t *owe
     if (queues >> q & 1 && queue->ready && !queue->ring.broken && !fetch(backend, q, why, room)) return FAILED;
   }
   bool served = device_serve(&backend->device);
-  if (!interim_keep(&backend->interim)) return snprintf(why, room, "a disk's file couldn't be written"), FAILED;
+  if (!backend_keep(backend, why, room)) return FAILED;
   for (unsigned q = 0; q < backend->count; q++)
     if (backend->queues[q].ready && !complete(backend, q, why, room)) return FAILED;
   backend_publish(backend, owed);

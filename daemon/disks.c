@@ -6,7 +6,6 @@
 #include <stdlib.h>
 #include <string.h>
 #include <sys/file.h>
-#include <sys/mman.h>
 #include <sys/stat.h>
 #include <unistd.h>
 
@@ -42,16 +41,21 @@ static bool size(const char **at, uint64_t *blocks) {
 static bool open_file(struct disk *disk, const char *path, char *why, size_t room) {
   uint64_t wanted = disk->blocks * DEVICE_BLOCK;
   struct stat stat;
-  disk->kept = path != NULL;
-  disk->file = !path ? memfd_create("vscsi-disk", MFD_CLOEXEC) : open(path, (disk->read_only ? O_RDONLY : O_RDWR | O_CREAT) | O_CLOEXEC, 0666);
-  if (disk->file < 0 || fstat(disk->file, &stat)) return snprintf(why, room, "%s: %s", path ? path : "memory", strerror(errno)), false;
+  disk->file = open(path, (disk->read_only ? O_RDONLY : O_RDWR | O_CREAT) | O_CLOEXEC, 0666);
+  if (disk->file < 0 || fstat(disk->file, &stat)) return snprintf(why, room, "%s: %s", path, strerror(errno)), false;
   if (!S_ISREG(stat.st_mode)) return snprintf(why, room, "%s: not a file", path), false;
-  if (path && flock(disk->file, (disk->read_only ? LOCK_SH : LOCK_EX) | LOCK_NB)) return snprintf(why, room, "%s: in use", path), false;
+  if (flock(disk->file, (disk->read_only ? LOCK_SH : LOCK_EX) | LOCK_NB)) return snprintf(why, room, "%s: in use", path), false;
   if ((uint64_t)stat.st_size == wanted) return true;
   if ((uint64_t)stat.st_size > wanted) return snprintf(why, room, "%s: longer than the disk", path), false;
   if (disk->read_only) return snprintf(why, room, "%s: shorter than the disk", path), false;
-  if (ftruncate(disk->file, (off_t)wanted)) return snprintf(why, room, "%s: %s", path ? path : "memory", strerror(errno)), false;
+  if (ftruncate(disk->file, (off_t)wanted)) return snprintf(why, room, "%s: %s", path, strerror(errno)), false;
   return true;
+}
+
+static bool is_there(const struct disks *disks, const struct disk *disk) {
+  for (size_t i = 0; i < disks->count; i++)
+    if (disks->disks[i].target == disk->target && disks->disks[i].lun == disk->lun) return true;
+  return false;
 }
 
 bool disks_add(struct disks *disks, const char *words, char *why, size_t room) {
@@ -75,11 +79,11 @@ bool disks_add(struct disks *disks, const char *words, char *why, size_t room) {
   size_t place = disks->count;
   while (place && (disks->disks[place - 1].target > target || (disks->disks[place - 1].target == target && disks->disks[place - 1].lun > lun))) place--;
   bool stands = known && !*at && (path || !disk.read_only);
-  if (stands && (disks->count == DEVICE_MOST_UNITS || disks_find(disks, disk.target, disk.lun))) {
+  if (stands && (disks->count == DEVICE_MOST_UNITS || is_there(disks, &disk))) {
     stands = false;
     snprintf(why, room, "%s: there already, or one disk too many", words);
   }
-  stands = stands && open_file(&disk, path, why, room);
+  stands = stands && (!path || open_file(&disk, path, why, room));
   free(path);
   if (!stands) {
     if (disk.file >= 0) close(disk.file);
@@ -98,14 +102,11 @@ bool disks_are_whole(const struct disks *disks) {
 }
 
 void disks_close(struct disks *disks) {
-  for (size_t i = 0; i < disks->count; i++) close(disks->disks[i].file);
+  for (size_t i = 0; i < disks->count; i++) {
+    if (disks->disks[i].file >= 0) close(disks->disks[i].file);
+    store_drop(&disks->stores[i]);
+  }
   disks->count = 0;
-}
-
-struct disk *disks_find(struct disks *disks, uint8_t target, uint16_t lun) {
-  for (size_t i = 0; i < disks->count; i++)
-    if (disks->disks[i].target == target && disks->disks[i].lun == lun) return &disks->disks[i];
-  return NULL;
 }
 
 bool disk_read(const struct disk *disk, uint64_t first, uint32_t count, uint8_t *into) {
@@ -123,7 +124,6 @@ static bool is_zeros(const uint8_t *bytes, size_t count) { return !count || (!by
 bool disk_write(struct disk *disk, uint64_t first, uint32_t count, const uint8_t *bytes) {
   size_t wanted = (size_t)count * DEVICE_BLOCK;
   off_t at = (off_t)(first * DEVICE_BLOCK);
-  if (disk->read_only) return true;
   disk->dirty = true;
   if (is_zeros(bytes, wanted) && !fallocate(disk->file, FALLOC_FL_PUNCH_HOLE | FALLOC_FL_KEEP_SIZE, at, (off_t)wanted)) return true;
   for (size_t done = 0; done < wanted;) {
@@ -153,7 +153,10 @@ bool disks_sync(struct disks *disks) {
   bool synced = true;
   for (size_t i = 0; i < disks->count; i++) {
     struct disk *disk = &disks->disks[i];
-    if (disk->dirty && disk->kept && fdatasync(disk->file)) synced = false;
+    if (disk->dirty && fdatasync(disk->file)) {
+      synced = false;
+      disk->behind = true;
+    }
     disk->dirty = false;
   }
   return synced;

@@ -1,5 +1,5 @@
-// The daemon's disks: what the command line says of each, and the file that keeps its blocks. A disk without a file of the
-// user's has one in memory alone (memfd), where blocks that were never written take nothing.
+// The daemon's disks: what the command line says of each, the file that keeps its blocks, and the blocks themselves, as values of
+// the library, while no device has them.
 #ifndef DAEMON_DISKS_H
 #define DAEMON_DISKS_H
 
@@ -9,15 +9,17 @@ struct disk {
   uint8_t target;
   uint16_t lun;
   uint64_t blocks;
-  int file;
-  bool kept;       // on a file of the user's
+  int file;        // below 0: the disk is in memory alone
   bool read_only;  // never written to that file
   bool dirty;      // written since disks_sync
+  bool behind;     // the file couldn't be written, or not for sure: it wants the whole disk
 };
 
 struct disks {
   struct disk disks[DEVICE_MOST_UNITS];
+  struct vscsi_disk stores[DEVICE_MOST_UNITS];
   size_t count;
+  bool lost;  // a device couldn't give its disks back
 };
 
 // Adds the disk of words T:L=SIZE[,file=PATH][,ro], in its place of the order. Returns false, and says why, where the words
@@ -29,9 +31,7 @@ bool disks_are_whole(const struct disks *disks);
 
 void disks_close(struct disks *disks);
 
-struct disk *disks_find(struct disks *disks, uint8_t target, uint16_t lun);
-
-// Reads whole blocks, or keeps them. Blocks of zeros become a hole of the file, where it can have some.
+// Reads whole blocks of a disk's file, or keeps them there. Blocks of zeros become a hole of the file, where it can have some.
 bool disk_read(const struct disk *disk, uint64_t first, uint32_t count, uint8_t *into);
 bool disk_write(struct disk *disk, uint64_t first, uint32_t count, const uint8_t *bytes);
 

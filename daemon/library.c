@@ -6,18 +6,33 @@
 enum { MOST_STEPS = 65536, MOST_TURNS = 64 };
 static const uint32_t ALL_QUEUES = UINT32_MAX;
 
-bool device_create(struct device *device, const struct vscsi_config *config, char *why, size_t room) {
+bool store_make(struct vscsi_disk *store, uint64_t blocks) { return vscsi_disk_create(store, blocks) == VSCSI_DONE; }
+
+bool store_load(struct vscsi_disk *store, uint64_t first, uint32_t count, const void *bytes) {
+  return vscsi_disk_load(store, first, count, bytes, (size_t)count * DEVICE_BLOCK) == VSCSI_DONE;
+}
+
+void store_drop(struct vscsi_disk *store) { vscsi_disk_destroy(store); }
+
+bool store_stands(const struct vscsi_disk *store) {
+  uint64_t blocks;
+  return vscsi_disk_blocks(store, &blocks) == VSCSI_DONE;
+}
+
+bool device_create(struct device *device, const struct vscsi_config *config, struct vscsi_disk *stores, char *why, size_t room) {
   struct vscsi_fault fault = {0};
-  enum vscsi_answer answer = vscsi_create(&device->vscsi, config, &fault);
+  enum vscsi_answer answer = vscsi_create_with(&device->vscsi, config, stores, &fault);
   device->live = answer == VSCSI_DONE;
   if (answer == VSCSI_BAD_CONFIG) snprintf(why, room, "cause %u, detail %u, place %llu", fault.cause, fault.detail, (unsigned long long)fault.place);
   else if (!device->live) snprintf(why, room, "%s", answer == VSCSI_NO_MEMORY ? "no memory" : "the call was refused");
   return device->live;
 }
 
-void device_destroy(struct device *device) {
-  if (device->live) vscsi_destroy(&device->vscsi);
+bool device_end(struct device *device, struct vscsi_disk *stores, size_t count) {
+  bool ended = !device->live || vscsi_close(&device->vscsi, stores, count) == VSCSI_DONE;
+  if (!ended) vscsi_destroy(&device->vscsi);
   device->live = false;
+  return ended;
 }
 
 bool device_serve(struct device *device) {
@@ -46,6 +61,10 @@ bool device_progress(struct device *device, unsigned queue, uint64_t *taken, uin
 bool device_broken(struct device *device, unsigned queue) {
   uint32_t fault = 0;
   return vscsi_broken(&device->vscsi, (uint16_t)queue, &fault) == VSCSI_DONE && fault != VSCSI_BROKEN_NOT;
+}
+
+bool device_changed(struct device *device, uint8_t target, uint16_t lun, uint64_t *place, struct vscsi_range *ranges, size_t *count, bool *all) {
+  return vscsi_changed(&device->vscsi, target, lun, place, ranges, VSCSI_MOST_RANGES, count, all) == VSCSI_DONE;
 }
 
 bool device_blocks(struct device *device, uint8_t target, uint16_t lun, uint64_t first, uint32_t count, void *into) {

@@ -15,11 +15,17 @@ struct device {
   bool live;
 };
 
-// Makes a device of a configuration. Returns false where it can't be, and says why in `why`.
-bool device_create(struct device *device, const struct vscsi_config *config, char *why, size_t room);
+// Makes a disk of zeros, puts blocks over some of its own, lets go of it, and tells whether there is one.
+bool store_make(struct vscsi_disk *store, uint64_t blocks);
+bool store_load(struct vscsi_disk *store, uint64_t first, uint32_t count, const void *bytes);
+void store_drop(struct vscsi_disk *store);
+bool store_stands(const struct vscsi_disk *store);
 
-// Lets go of a device, if there is one.
-void device_destroy(struct device *device);
+// Makes a device of a configuration over disks, which are the device's then. Returns false where it can't be, and says why in `why`.
+bool device_create(struct device *device, const struct vscsi_config *config, struct vscsi_disk *stores, char *why, size_t room);
+
+// Ends a device, if there is one, and takes its disks back. Returns false where memory was refused: they are lost.
+bool device_end(struct device *device, struct vscsi_disk *stores, size_t count);
 
 // Serves what is available on all queues. Returns false where memory was refused: what was served before stands.
 bool device_serve(struct device *device);
@@ -33,6 +39,10 @@ bool device_progress(struct device *device, unsigned queue, uint64_t *taken, uin
 
 // Returns whether the guest broke this queue.
 bool device_broken(struct device *device, unsigned queue);
+
+// Tells which blocks of a unit may have changed since a place of its history, and leaves the place that it has now. `ranges` has
+// room for VSCSI_MOST_RANGES. Where `all` is true any block may have changed.
+bool device_changed(struct device *device, uint8_t target, uint16_t lun, uint64_t *place, struct vscsi_range *ranges, size_t *count, bool *all);
 
 // Copies blocks of a unit out. `into` has room for `count` blocks.
 bool device_blocks(struct device *device, uint8_t target, uint16_t lun, uint64_t first, uint32_t count, void *into);

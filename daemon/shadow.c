@@ -5,9 +5,9 @@
 #include "chain.h"
 #include "moves.h"
 
-// The device's memory: an area for each queue, with the descriptors, the driver area and the device area; the daemon's own
-// queue; a slot for each event buffer; and the rest for the requests of a round.
-enum { RING = 256, AREA = 0x3000, DRIVER_AT = 0x1000, DEVICE_AT = 0x2000, PRIVATE_AT = 0x40000, EVENTS_AT = 0x58000, EVENT_ROOM = 64 };
+// The device's memory: an area for each queue, with the descriptors, the driver area and the device area; a slot for each event
+// buffer; and the rest for the requests of a round.
+enum { RING = 256, AREA = 0x3000, DRIVER_AT = 0x1000, DEVICE_AT = 0x2000, EVENTS_AT = 0x58000, EVENT_ROOM = 64 };
 enum { ROOM_AT = 0x60000, MEMORY = 16 << 20, PARTS = 4, MOST_READ = HEAD + MOST_DATA, MOST_WRITTEN = RESPONSE + MOST_DATA };
 
 static uint64_t area(unsigned q) { return (uint64_t)q * AREA; }
@@ -23,8 +23,7 @@ bool shadow_begin(struct backend *backend, char *why, size_t room) {
   struct vscsi_queue queues[DEVICE_MOST_QUEUES];
   for (unsigned q = 0; q < backend->count; q++)
     queues[q] = (struct vscsi_queue){.desc = area(q), .driver = area(q) + DRIVER_AT, .device = area(q) + DEVICE_AT, .size = RING};
-  queues[backend->count] = interim_queue(PRIVATE_AT);
-  return backend_make(backend, queues, MEMORY / DEVICE_PAGE, 0, PRIVATE_AT, why, room);
+  return backend_make(backend, queues, MEMORY / DEVICE_PAGE, 0, why, room);
 }
 
 // Writes the descriptors of a chain into the device's memory: its bytes as far as a command moves any, and behind them, so that
@@ -73,12 +72,6 @@ static bool bring(struct backend *backend, const struct chain *chain) {
     done += here;
   }
   return true;
-}
-
-static bool note(struct backend *backend, const struct chain *chain) {
-  uint8_t bytes[INTERIM_LOOKS_AT];
-  size_t count = chain->in < sizeof bytes ? (size_t)chain->in : sizeof bytes;
-  return device_peek(&backend->device, chain->in_at, bytes, count) && interim_note(&backend->interim, bytes, count);
 }
 
 // Whether all parts lie in the guest's memory, and the rest behind what a command moves in the device's.
@@ -133,8 +126,7 @@ static bool fetch(struct backend *backend, unsigned q, struct round *round) {
       ring_unfetch(ring, chain);
       return true;
     }
-    if (!bring(backend, chain) || (q != EVENT_QUEUE && !note(backend, chain)) || !put_descriptors(backend, q, chain) || !offer(backend, q, chain))
-      return false;
+    if (!bring(backend, chain) || !put_descriptors(backend, q, chain) || !offer(backend, q, chain)) return false;
   }
   return true;
 }
@@ -182,7 +174,7 @@ enum served shadow_serve(struct backend *backend, uint32_t queues, uint32_t *owe
     if (queues >> q & 1 && queue->ready && !fetch(backend, q, &round)) return snprintf(why, room, "queue %u: no memory", q), FAILED;
   }
   if (!device_serve(&backend->device)) return snprintf(why, room, "no memory"), FAILED;
-  if (!interim_keep(&backend->interim)) return snprintf(why, room, "a disk's file couldn't be written"), FAILED;
+  if (!backend_keep(backend, why, room)) return FAILED;
   for (unsigned q = 0; q < backend->count; q++)
     if (!complete(backend, q)) return snprintf(why, room, "queue %u: an answer to no request", q), FAILED;
   backend_publish(backend, owed);

@@ -77,7 +77,10 @@ static void causes(void) {
 
 static void nulls(void) {
   struct vscsi device = {0};
+  struct vscsi_disk disk = {0};
+  struct vscsi_range ranges[VSCSI_MOST_RANGES];
   struct vscsi_fault fault;
+  size_t count = 5;
   uint64_t n = 5;
   uint32_t bits = 5;
   uint8_t byte = 5;
@@ -108,6 +111,26 @@ static void nulls(void) {
   IS(vscsi_capacity(&device, 0, 0, 0), VSCSI_NULL);
   IS(vscsi_blocks(0, 0, 0, 0, 0, &byte, 0), VSCSI_NULL);
   IS(vscsi_blocks(&device, 0, 0, 0, 1, 0, 512), VSCSI_NULL);
+  begin();
+  IS(vscsi_create_with(0, &config, &disk, &fault), VSCSI_NULL);
+  IS(vscsi_create_with(&device, 0, &disk, &fault), VSCSI_NULL);
+  IS(vscsi_create_with(&device, &config, 0, &fault), VSCSI_NULL);
+  IS(vscsi_close(0, &disk, 1), VSCSI_NULL);
+  IS(vscsi_close(&device, 0, 1), VSCSI_NULL);
+  IS(vscsi_changed(0, 0, 0, &n, ranges, VSCSI_MOST_RANGES, &count, &more), VSCSI_NULL);
+  IS(vscsi_changed(&device, 0, 0, 0, ranges, VSCSI_MOST_RANGES, &count, &more), VSCSI_NULL);
+  IS(vscsi_changed(&device, 0, 0, &n, 0, VSCSI_MOST_RANGES, &count, &more), VSCSI_NULL);
+  IS(vscsi_changed(&device, 0, 0, &n, ranges, VSCSI_MOST_RANGES, 0, &more), VSCSI_NULL);
+  IS(vscsi_changed(&device, 0, 0, &n, ranges, VSCSI_MOST_RANGES, &count, 0), VSCSI_NULL);
+  IS(vscsi_disk_create(0, 1), VSCSI_NULL);
+  IS(vscsi_disk_destroy(0), VSCSI_NULL);
+  IS(vscsi_disk_blocks(0, &n), VSCSI_NULL);
+  IS(vscsi_disk_blocks(&disk, 0), VSCSI_NULL);
+  IS(vscsi_disk_load(0, 0, 0, &byte, 0), VSCSI_NULL);
+  IS(vscsi_disk_load(&disk, 0, 1, 0, 512), VSCSI_NULL);
+  IS(vscsi_disk_save(0, 0, 0, &byte, 0), VSCSI_NULL);
+  IS(vscsi_disk_save(&disk, 0, 1, 0, 512), VSCSI_NULL);
+  IS(count, 5);
   IS(n, 5);
   IS(bits, 5);
   IS(byte, 5);
@@ -116,6 +139,9 @@ static void nulls(void) {
 
 static void no_device(void) {
   struct vscsi device = {0};
+  struct vscsi_disk disk = {0};
+  struct vscsi_range ranges[VSCSI_MOST_RANGES];
+  size_t count = 5;
   uint64_t n = 5;
   uint32_t bits = 5;
   uint8_t bytes[512] = {5};
@@ -136,6 +162,13 @@ static void no_device(void) {
   IS(vscsi_resize(&device, 0, 0, 0), VSCSI_NO_DEVICE);
   IS(vscsi_capacity(&device, 0, 0, &n), VSCSI_NO_DEVICE);
   IS(vscsi_blocks(&device, 0, 0, 0, 1, bytes, 512), VSCSI_NO_DEVICE);
+  IS(vscsi_close(&device, &disk, 1), VSCSI_NO_DEVICE);
+  IS(vscsi_changed(&device, 0, 0, &n, ranges, VSCSI_MOST_RANGES, &count, &more), VSCSI_NO_DEVICE);
+  IS(count, 5);
+  IS(vscsi_disk_destroy(&disk), VSCSI_NO_DISK);
+  IS(vscsi_disk_blocks(&disk, &n), VSCSI_NO_DISK);
+  IS(vscsi_disk_load(&disk, 0, 1, bytes, 512), VSCSI_NO_DISK);
+  IS(vscsi_disk_save(&disk, 0, 1, bytes, 512), VSCSI_NO_DISK);
   IS(n, 5);
   IS(bits, 5);
   IS(bytes[0], 5);
@@ -287,13 +320,131 @@ static void portions(void) {
   IS(vscsi_destroy(&device), VSCSI_DONE);
 }
 
+// A disk apart from a device: made, loaded, saved, destroyed.
+static void disk_alone(void) {
+  struct vscsi_disk disk = {0};
+  uint8_t bytes[1024], found[1024] = {5};
+  uint64_t blocks = 5;
+  memset(bytes, 0xab, sizeof bytes);
+  IS(vscsi_disk_create(&disk, 0), VSCSI_BAD_CAPACITY);
+  IS(vscsi_disk_create(&disk, VSCSI_MOST_BLOCKS + 1), VSCSI_BAD_CAPACITY);
+  IS(vscsi_disk_blocks(&disk, &blocks), VSCSI_NO_DISK);
+  IS(vscsi_disk_create(&disk, VSCSI_MOST_BLOCKS), VSCSI_DONE);
+  IS(vscsi_disk_create(&disk, 0), VSCSI_IN_USE);
+  IS(vscsi_disk_blocks(&disk, &blocks), VSCSI_DONE);
+  IS(blocks, (long long)VSCSI_MOST_BLOCKS);
+  IS(vscsi_disk_load(&disk, VSCSI_MOST_BLOCKS - 2, 2, bytes, 1024), VSCSI_DONE);
+  IS(vscsi_disk_load(&disk, VSCSI_MOST_BLOCKS - 1, 2, bytes, 1024), VSCSI_OUTSIDE);
+  IS(vscsi_disk_load(&disk, UINT64_MAX, 2, bytes, 1024), VSCSI_OUTSIDE);
+  IS(vscsi_disk_load(&disk, 0, 2, bytes, 1023), VSCSI_BAD_LENGTH);
+  IS(vscsi_disk_load(&disk, 0, UINT32_MAX, bytes, 1024), VSCSI_BAD_LENGTH);
+  IS(vscsi_disk_load(&disk, 0, 0, 0, 0), VSCSI_DONE);
+  IS(vscsi_disk_save(&disk, VSCSI_MOST_BLOCKS - 1, 2, found, 1024), VSCSI_OUTSIDE);
+  IS(vscsi_disk_save(&disk, 0, 1, found, 1024), VSCSI_BAD_LENGTH);
+  IS(found[0], 5);
+  IS(vscsi_disk_save(&disk, VSCSI_MOST_BLOCKS - 2, 2, found, 1024), VSCSI_DONE);
+  IS(memcmp(found, bytes, sizeof bytes), 0);
+  IS(vscsi_disk_save(&disk, 0, 2, found, 1024), VSCSI_DONE);
+  IS(found[0] | found[1023], 0);
+  IS(vscsi_disk_save(&disk, VSCSI_MOST_BLOCKS, 0, 0, 0), VSCSI_DONE);
+  IS(vscsi_disk_destroy(&disk), VSCSI_DONE);
+  IS(vscsi_disk_destroy(&disk), VSCSI_NO_DISK);
+}
+
+// A device that isn't made over these disks leaves them where they are.
+static void disks_refused(struct vscsi_disk *disks) {
+  struct vscsi device = {0};
+  struct vscsi_fault fault = {77, 77, 77};
+  uint64_t blocks;
+  begin(), config.size++, IS(vscsi_create_with(&device, &config, disks, &fault), VSCSI_BAD_LENGTH);
+  IS(fault.cause, 77);
+  begin(), config.pages = 0, IS(vscsi_create_with(&device, &config, disks, &fault), VSCSI_BAD_CONFIG);
+  IS(fault.cause, VSCSI_CAUSE_PAGES);
+  begin(), units[1].blocks = 2, IS(vscsi_create_with(&device, &config, disks, &fault), VSCSI_BAD_CONFIG);
+  IS(fault.cause, VSCSI_CAUSE_UNIT_DISK);
+  IS(fault.place, 1);
+  struct vscsi_disk hidden = disks[0];
+  disks[0] = (struct vscsi_disk){0};
+  begin(), IS(vscsi_create_with(&device, &config, disks, &fault), VSCSI_BAD_CONFIG);
+  IS(fault.cause, VSCSI_CAUSE_UNIT_DISK);
+  IS(fault.place, 0);
+  disks[0] = hidden;
+  IS(vscsi_disk_blocks(&disks[0], &blocks), VSCSI_DONE);
+  IS(vscsi_disk_blocks(&disks[1], &blocks), VSCSI_DONE);
+  IS(vscsi_destroy(&device), VSCSI_NO_DEVICE);
+}
+
+// A device gives its disks back, but not where there is one.
+static void hand_back(struct vscsi *device, struct vscsi_disk *disks, struct vscsi_disk *third) {
+  struct vscsi_disk taken[2] = {{0}, *third};
+  uint64_t blocks;
+  IS(vscsi_close(device, taken, 2), VSCSI_IN_USE);
+  IS(vscsi_disk_blocks(&taken[0], &blocks), VSCSI_NO_DISK);
+  IS(vscsi_capacity(device, 0, 0, &blocks), VSCSI_DONE);
+  IS(vscsi_close(device, disks, 2), VSCSI_DONE);
+  IS(vscsi_close(device, disks, 2), VSCSI_NO_DEVICE);
+}
+
+// Two disks go through two devices, and come back as they were left.
+static void disks_handed_on(void) {
+  struct vscsi device = {0};
+  struct vscsi_disk disks[2] = {{0}, {0}}, third = {0};
+  struct vscsi_range ranges[VSCSI_MOST_RANGES] = {{77, 77}};
+  uint8_t bytes[512], found[512];
+  uint64_t blocks, place = 0;
+  size_t count = 77;
+  bool all = true;
+  memset(bytes, 0xcd, sizeof bytes);
+  IS(vscsi_disk_create(&disks[0], 1000), VSCSI_DONE);
+  IS(vscsi_disk_create(&disks[1], 1), VSCSI_DONE);
+  IS(vscsi_disk_create(&third, 7), VSCSI_DONE);
+  IS(vscsi_disk_load(&disks[0], 999, 1, bytes, 512), VSCSI_DONE);
+  disks_refused(disks);
+  begin();
+  IS(vscsi_create_with(&device, &config, disks, 0), VSCSI_DONE);
+  IS(vscsi_create_with(&device, &config, disks, 0), VSCSI_IN_USE);
+  IS(vscsi_disk_blocks(&disks[0], &blocks), VSCSI_NO_DISK);
+  IS(vscsi_disk_blocks(&disks[1], &blocks), VSCSI_NO_DISK);
+  IS(vscsi_blocks(&device, 0, 0, 999, 1, found, 512), VSCSI_DONE);
+  IS(memcmp(found, bytes, sizeof bytes), 0);
+  // nothing has changed; then the second unit grows by six blocks
+  IS(vscsi_changed(&device, 4, 0, &place, ranges, VSCSI_MOST_RANGES - 1, &count, &all), VSCSI_BAD_LENGTH);
+  IS(vscsi_changed(&device, 4, 1, &place, ranges, VSCSI_MOST_RANGES, &count, &all), VSCSI_NO_UNIT);
+  IS(count, 77);
+  IS(vscsi_changed(&device, 4, 0, &place, ranges, VSCSI_MOST_RANGES, &count, &all), VSCSI_DONE);
+  IS(place, 0);
+  IS(count, 0);
+  IS(all, false);
+  IS(vscsi_resize(&device, 4, 0, 7), VSCSI_DONE);
+  IS(vscsi_changed(&device, 4, 0, &place, ranges, VSCSI_MOST_RANGES, &count, &all), VSCSI_DONE);
+  IS(place, 1);
+  IS(count, 1);
+  IS(ranges[0].first, 1);
+  IS(ranges[0].count, 6);
+  IS(all, false);
+  // a host that asks from a place before the last call is told that all may have changed
+  place = 0;
+  IS(vscsi_changed(&device, 4, 0, &place, ranges, VSCSI_MOST_RANGES, &count, &all), VSCSI_DONE);
+  IS(place, 1);
+  IS(all, true);
+  IS(vscsi_close(&device, disks, 1), VSCSI_BAD_LENGTH);
+  hand_back(&device, disks, &third);
+  IS(vscsi_disk_save(&disks[0], 999, 1, found, 512), VSCSI_DONE);
+  IS(memcmp(found, bytes, sizeof bytes), 0);
+  IS(vscsi_disk_blocks(&disks[1], &blocks), VSCSI_DONE);
+  IS(blocks, 7);
+  IS(vscsi_disk_destroy(&disks[0]), VSCSI_DONE);
+  IS(vscsi_disk_destroy(&disks[1]), VSCSI_DONE);
+  IS(vscsi_disk_destroy(&third), VSCSI_DONE);
+}
+
 // Each number has a text, a different one where it means something.
 static void texts(void) {
   for (uint32_t i = 0; i < 20; i++) {
     for (uint32_t j = 0; j < i; j++) {
-      IS(strcmp(vscsi_answer_text((enum vscsi_answer)i), vscsi_answer_text((enum vscsi_answer)j)) != 0 || j > VSCSI_BAD_CAPACITY, true);
+      IS(strcmp(vscsi_answer_text((enum vscsi_answer)i), vscsi_answer_text((enum vscsi_answer)j)) != 0 || j > VSCSI_NO_DISK, true);
       IS(strcmp(vscsi_broken_text(i), vscsi_broken_text(j)) != 0 || j > VSCSI_BROKEN_RING_OVERRUN, true);
-      IS(strcmp(vscsi_cause_text(i), vscsi_cause_text(j)) != 0 || j == 0 || j == 6 || j == 7 || j > VSCSI_CAUSE_NO_LUN_0, true);
+      IS(strcmp(vscsi_cause_text(i), vscsi_cause_text(j)) != 0 || j == 0 || j == 6 || j == 7 || j > VSCSI_CAUSE_UNIT_DISK, true);
     }
   }
   IS(strcmp(vscsi_answer_text(VSCSI_NO_MEMORY), "no memory"), 0);
@@ -322,6 +473,8 @@ int main(void) {
   nulls();
   no_device();
   portions();
+  disk_alone();
+  disks_handed_on();
   texts();
   for (int round = 0; round < 2; round++) {
     begin();

@@ -39,9 +39,9 @@
 extern "C" {
 #endif
 
-/* The version of this header: 1.1.0. VSCSI_VERSION is major * 65,536 + minor * 256 + patch. */
+/* The version of this header: 1.2.0. VSCSI_VERSION is major * 65,536 + minor * 256 + patch. */
 #define VSCSI_VERSION_MAJOR 1
-#define VSCSI_VERSION_MINOR 1
+#define VSCSI_VERSION_MINOR 2
 #define VSCSI_VERSION_PATCH 0
 #define VSCSI_VERSION ((uint32_t)VSCSI_VERSION_MAJOR << 16 | (uint32_t)VSCSI_VERSION_MINOR << 8 | (uint32_t)VSCSI_VERSION_PATCH)
 
@@ -51,18 +51,26 @@ struct vscsi {
   bool live;
 };
 
+/* A disk that no device has, or none. Made of zeros: `struct vscsi_disk disk = {0};`. Since 1.2. */
+struct vscsi_disk {
+  void *at;
+  uint64_t blocks;
+  bool live;
+};
+
 enum vscsi_answer {
   VSCSI_DONE = 0,
   VSCSI_NO_MEMORY = 1,  /* malloc refused memory; the call may be made again */
   VSCSI_BAD_CONFIG = 2, /* the device doesn't take the configuration: `struct vscsi_fault` says why */
   VSCSI_NO_DEVICE = 3,  /* there is no device here: none was made, or it was destroyed */
-  VSCSI_IN_USE = 4,     /* there is a device here already */
-  VSCSI_OUTSIDE = 5,    /* a byte isn't in guest memory, or a block isn't on the unit */
+  VSCSI_IN_USE = 4,     /* there is a device here already, or a disk */
+  VSCSI_OUTSIDE = 5,    /* a byte isn't in guest memory, or a block isn't on the unit or the disk */
   VSCSI_NO_QUEUE = 6,   /* there is no such queue */
   VSCSI_NO_UNIT = 7,    /* there is no such unit */
   VSCSI_BAD_LENGTH = 8, /* the room isn't as long as what goes there, or a structure has another size */
   VSCSI_NULL = 9,       /* a pointer is null */
-  VSCSI_BAD_CAPACITY = 10 /* a unit of no blocks, or of more than VSCSI_MOST_BLOCKS */
+  VSCSI_BAD_CAPACITY = 10, /* a unit or a disk of no blocks, or of more than VSCSI_MOST_BLOCKS */
+  VSCSI_NO_DISK = 11    /* there is no disk here: none was made, it was destroyed, or a device has it */
 };
 
 /* The features that the device knows (VIRTIO 1.2, 6). A driver has to agree to VSCSI_F_VERSION_1. By VSCSI_F_RING_PACKED
@@ -138,7 +146,8 @@ enum vscsi_cause {
   VSCSI_CAUSE_UNIT_LUN = 9,     /* a LUN above 16,383 */
   VSCSI_CAUSE_UNIT_BLOCKS = 10, /* no blocks, or more than VSCSI_MOST_BLOCKS */
   VSCSI_CAUSE_UNIT_ORDER = 11,  /* a unit that doesn't stand above the one before it */
-  VSCSI_CAUSE_NO_LUN_0 = 12     /* a unit whose target has no LUN 0 */
+  VSCSI_CAUSE_NO_LUN_0 = 12,    /* a unit whose target has no LUN 0 */
+  VSCSI_CAUSE_UNIT_DISK = 13    /* of vscsi_create_with: a unit that is given no disk, or one of another capacity */
 };
 
 /* Why a queue can't lie where the configuration says. */
@@ -154,6 +163,15 @@ struct vscsi_fault {
   uint32_t cause;
   uint32_t detail;
 };
+
+/* Blocks of a unit that follow one another. Since 1.2. */
+struct vscsi_range {
+  uint64_t first;
+  uint64_t count;
+};
+
+/* The most ranges that vscsi_changed tells of. */
+#define VSCSI_MOST_RANGES 64u
 
 /* What a guest did that broke a queue. */
 enum vscsi_broken {
@@ -175,7 +193,21 @@ enum vscsi_broken {
  * says why; VSCSI_NO_MEMORY, also in the place of VSCSI_BAD_CONFIG. */
 enum vscsi_answer vscsi_create(struct vscsi *device, const struct vscsi_config *config, struct vscsi_fault *fault);
 
-/* Lets go of a device and of all its memory; then there is none here, and another may be made.
+/* Makes a device as vscsi_create does, but over disks: unit k of the configuration has the blocks of disks[k], as many, in
+ * place of zeros. There are as many disks as units. Afterwards the device has them, and none stands here; vscsi_close gives
+ * them back. With any answer but VSCSI_DONE each disk is as it was. Since 1.2.
+ * The answers of vscsi_create, in their order; behind the other causes of VSCSI_BAD_CONFIG also VSCSI_CAUSE_UNIT_DISK. */
+enum vscsi_answer vscsi_create_with(struct vscsi *device, const struct vscsi_config *config, struct vscsi_disk *disks,
+                                    struct vscsi_fault *fault);
+
+/* Ends a device, and puts its disks into disks[0] to disks[count - 1], in the order of its units: blocks and capacities, as its
+ * commands left them. Guest memory, queues and tasks are gone, and another device may be made here. With any answer but
+ * VSCSI_DONE the device and each disk are as they were. Since 1.2.
+ * The first of these, in this order, that is so: VSCSI_NO_DEVICE; VSCSI_BAD_LENGTH where `count` isn't how many units there
+ * are; VSCSI_IN_USE where one of these places has a disk; VSCSI_NO_MEMORY. */
+enum vscsi_answer vscsi_close(struct vscsi *device, struct vscsi_disk *disks, size_t count);
+
+/* Lets go of a device and of all its memory, disks included; then there is none here, and another may be made.
  * VSCSI_NO_DEVICE. */
 enum vscsi_answer vscsi_destroy(struct vscsi *device);
 
@@ -258,6 +290,45 @@ enum vscsi_answer vscsi_capacity(const struct vscsi *device, uint8_t target, uin
  * VSCSI_NO_MEMORY, never where `count` is 0. */
 enum vscsi_answer vscsi_blocks(const struct vscsi *device, uint8_t target, uint16_t lun, uint64_t first, uint32_t count, void *into,
                                size_t length);
+
+/* Tells which blocks of a unit may have changed, for a host that writes a disk through to a file: vscsi_serve, then this, then
+ * vscsi_blocks of each range and the file, and only then the used rings to the guest; so no answer is seen before what it
+ * promises is kept. A guest writes where it likes, so the ranges may overlap, and may have blocks that are as before or that
+ * the unit lost.
+ *
+ * `place` is a place of the unit's history, which the host keeps for each unit: 0 when its device was made, and then what the
+ * last call left there. Where `all` is false, each block outside the ranges has what it had at that place. Where it is true any
+ * block may have changed: more than VSCSI_MOST_RANGES ranges came together, or another call was told meanwhile. `room`
+ * is how many ranges there is room for, and has to be VSCSI_MOST_RANGES or more; the first `count` are told. Takes no memory.
+ * Since 1.2.
+ * The first of these, in this order, that is so: VSCSI_NO_DEVICE; VSCSI_BAD_LENGTH where there is room for fewer;
+ * VSCSI_NO_UNIT. */
+enum vscsi_answer vscsi_changed(struct vscsi *device, uint8_t target, uint16_t lun, uint64_t *place, struct vscsi_range *ranges, size_t room,
+                                size_t *count, bool *all);
+
+/* Makes a disk of 1 to VSCSI_MOST_BLOCKS blocks of 512 zeros. It takes memory for what is written to it, and none for its size.
+ * Since 1.2.
+ * The first of these, in this order, that is so: VSCSI_IN_USE; VSCSI_BAD_CAPACITY; VSCSI_NO_MEMORY. */
+enum vscsi_answer vscsi_disk_create(struct vscsi_disk *disk, uint64_t blocks);
+
+/* Lets go of a disk and of all its memory. Since 1.2.
+ * VSCSI_NO_DISK. */
+enum vscsi_answer vscsi_disk_destroy(struct vscsi_disk *disk);
+
+/* How many blocks a disk has. Since 1.2.
+ * VSCSI_NO_DISK. */
+enum vscsi_answer vscsi_disk_blocks(const struct vscsi_disk *disk, uint64_t *blocks);
+
+/* Copies bytes over blocks of a disk; `length` is `count` times 512. Blocks that a disk never got are zeros: whoever
+ * loads a sparse file leaves its holes out. Since 1.2.
+ * The first of these, in this order, that is so: VSCSI_NO_DISK; VSCSI_BAD_LENGTH; VSCSI_OUTSIDE; VSCSI_NO_MEMORY, and then no block
+ * has changed. */
+enum vscsi_answer vscsi_disk_load(struct vscsi_disk *disk, uint64_t first, uint32_t count, const void *bytes, size_t length);
+
+/* Copies blocks of a disk out; `length` is `count` times 512. Since 1.2.
+ * The first of these, in this order, that is so: VSCSI_NO_DISK; VSCSI_BAD_LENGTH; VSCSI_OUTSIDE; VSCSI_NO_MEMORY, never where
+ * `count` is 0. */
+enum vscsi_answer vscsi_disk_save(const struct vscsi_disk *disk, uint64_t first, uint32_t count, void *into, size_t length);
 
 /* The version of the library, as VSCSI_VERSION tells that of the header. */
 uint32_t vscsi_version(void);

@@ -2,6 +2,13 @@
  * rest to an export of the device. The exports' names are hidden in the finished library. */
 #include "vscsi.h"
 
+/* What `src/ranges.rt` tells of changes. */
+struct told {
+  uint64_t place;
+  uint64_t count;
+  bool all;
+};
+
 /* What the device exports (`src/exports.rt`). */
 uint32_t vscsi_raw_create(struct vscsi *device, uint32_t pages, uint64_t features, const struct vscsi_queue *queues, size_t queue_count,
                           const struct vscsi_unit *units, size_t unit_count, struct vscsi_fault *fault);
@@ -18,6 +25,16 @@ uint32_t vscsi_raw_reset(struct vscsi *device, uint8_t target, uint16_t lun);
 uint32_t vscsi_raw_resize(struct vscsi *device, uint8_t target, uint16_t lun, uint64_t blocks);
 uint32_t vscsi_raw_capacity(struct vscsi *device, uint8_t target, uint16_t lun, uint64_t *blocks);
 uint32_t vscsi_raw_blocks(struct vscsi *device, uint8_t target, uint16_t lun, uint64_t first, uint32_t count, uint8_t *into, size_t length);
+uint32_t vscsi_raw_changed(struct vscsi *device, uint8_t target, uint16_t lun, struct told *told, struct vscsi_range *room, size_t length);
+uint32_t vscsi_raw_create_with(struct vscsi *device, uint32_t pages, uint64_t features, const struct vscsi_queue *queues, size_t queue_count,
+                               const struct vscsi_unit *units, size_t unit_count, struct vscsi_disk *disks, size_t disk_count,
+                               struct vscsi_fault *fault);
+uint32_t vscsi_raw_close(struct vscsi *device, struct vscsi_disk *disks, size_t count);
+uint32_t vscsi_raw_disk_create(struct vscsi_disk *disk, uint64_t blocks);
+uint32_t vscsi_raw_disk_destroy(struct vscsi_disk *disk);
+uint32_t vscsi_raw_disk_blocks(const struct vscsi_disk *disk, uint64_t *blocks);
+uint32_t vscsi_raw_disk_load(struct vscsi_disk *disk, uint64_t first, uint32_t count, const uint8_t *bytes, size_t length);
+uint32_t vscsi_raw_disk_save(struct vscsi_disk *disk, uint64_t first, uint32_t count, uint8_t *into, size_t length);
 
 /* Returns true if so many items of a size are more than memory has room for. */
 static bool is_long(size_t count, size_t size) { return count > PTRDIFF_MAX / size; }
@@ -26,17 +43,45 @@ static bool is_long(size_t count, size_t size) { return count > PTRDIFF_MAX / si
  * writes there; afterwards all is as it was. */
 static struct vscsi *looked_at(const struct vscsi *device) { return (struct vscsi *)(uintptr_t)device; }
 
-enum vscsi_answer vscsi_create(struct vscsi *device, const struct vscsi_config *config, struct vscsi_fault *fault) {
-  static const struct vscsi_queue no_queue = {0, 0, 0, 0};
-  static const struct vscsi_unit no_unit = {0, 0, 0, 0};
-  struct vscsi_fault unread = {0, 0, 0};
-  if (!device || !config) return VSCSI_NULL;
+static const struct vscsi_queue no_queue = {0, 0, 0, 0};
+static const struct vscsi_unit no_unit = {0, 0, 0, 0};
+
+/* Returns why a configuration can't be handed on, or VSCSI_DONE. */
+static enum vscsi_answer unreadable(const struct vscsi_config *config) {
+  if (!config) return VSCSI_NULL;
   if (config->size != sizeof *config) return VSCSI_BAD_LENGTH;
   if ((!config->queues && config->queue_count) || (!config->units && config->unit_count)) return VSCSI_NULL;
   if (is_long(config->queue_count, sizeof no_queue) || is_long(config->unit_count, sizeof no_unit)) return VSCSI_BAD_LENGTH;
+  return VSCSI_DONE;
+}
+
+enum vscsi_answer vscsi_create(struct vscsi *device, const struct vscsi_config *config, struct vscsi_fault *fault) {
+  struct vscsi_fault unread = {0, 0, 0};
+  enum vscsi_answer answer = device ? unreadable(config) : VSCSI_NULL;
+  if (answer != VSCSI_DONE) return answer;
   return (enum vscsi_answer)vscsi_raw_create(device, config->pages, config->features, config->queues ? config->queues : &no_queue,
                                              config->queue_count, config->units ? config->units : &no_unit, config->unit_count,
                                              fault ? fault : &unread);
+}
+
+enum vscsi_answer vscsi_create_with(struct vscsi *device, const struct vscsi_config *config, struct vscsi_disk *disks,
+                                    struct vscsi_fault *fault) {
+  struct vscsi_fault unread = {0, 0, 0};
+  struct vscsi_disk nothing = {0, 0, false};
+  enum vscsi_answer answer = device ? unreadable(config) : VSCSI_NULL;
+  if (answer != VSCSI_DONE) return answer;
+  if (!disks && config->unit_count) return VSCSI_NULL;
+  if (is_long(config->unit_count, sizeof nothing)) return VSCSI_BAD_LENGTH;
+  return (enum vscsi_answer)vscsi_raw_create_with(device, config->pages, config->features, config->queues ? config->queues : &no_queue,
+                                                  config->queue_count, config->units ? config->units : &no_unit, config->unit_count,
+                                                  disks ? disks : &nothing, config->unit_count, fault ? fault : &unread);
+}
+
+enum vscsi_answer vscsi_close(struct vscsi *device, struct vscsi_disk *disks, size_t count) {
+  struct vscsi_disk nothing = {0, 0, false};
+  if (!device || (!disks && count)) return VSCSI_NULL;
+  if (is_long(count, sizeof nothing)) return VSCSI_BAD_LENGTH;
+  return (enum vscsi_answer)vscsi_raw_close(device, disks ? disks : &nothing, count);
 }
 
 enum vscsi_answer vscsi_destroy(struct vscsi *device) { return device ? (enum vscsi_answer)vscsi_raw_destroy(device) : VSCSI_NULL; }
@@ -107,6 +152,44 @@ enum vscsi_answer vscsi_blocks(const struct vscsi *device, uint8_t target, uint1
   return (enum vscsi_answer)vscsi_raw_blocks(looked_at(device), target, lun, first, count, into ? (uint8_t *)into : &nothing, length);
 }
 
+enum vscsi_answer vscsi_changed(struct vscsi *device, uint8_t target, uint16_t lun, uint64_t *place, struct vscsi_range *ranges, size_t room,
+                                size_t *count, bool *all) {
+  if (!device || !place || !ranges || !count || !all) return VSCSI_NULL;
+  if (is_long(room, sizeof *ranges)) return VSCSI_BAD_LENGTH;
+  struct told told = {*place, 0, false};
+  enum vscsi_answer answer = (enum vscsi_answer)vscsi_raw_changed(device, target, lun, &told, ranges, room);
+  if (answer != VSCSI_DONE) return answer;
+  *place = told.place;
+  *count = (size_t)told.count;
+  *all = told.all;
+  return VSCSI_DONE;
+}
+
+enum vscsi_answer vscsi_disk_create(struct vscsi_disk *disk, uint64_t blocks) {
+  return disk ? (enum vscsi_answer)vscsi_raw_disk_create(disk, blocks) : VSCSI_NULL;
+}
+
+enum vscsi_answer vscsi_disk_destroy(struct vscsi_disk *disk) { return disk ? (enum vscsi_answer)vscsi_raw_disk_destroy(disk) : VSCSI_NULL; }
+
+enum vscsi_answer vscsi_disk_blocks(const struct vscsi_disk *disk, uint64_t *blocks) {
+  return disk && blocks ? (enum vscsi_answer)vscsi_raw_disk_blocks(disk, blocks) : VSCSI_NULL;
+}
+
+enum vscsi_answer vscsi_disk_load(struct vscsi_disk *disk, uint64_t first, uint32_t count, const void *bytes, size_t length) {
+  static const uint8_t nothing = 0;
+  if (!disk || (!bytes && length)) return VSCSI_NULL;
+  if (is_long(length, 1)) return VSCSI_BAD_LENGTH;
+  return (enum vscsi_answer)vscsi_raw_disk_load(disk, first, count, bytes ? (const uint8_t *)bytes : &nothing, length);
+}
+
+enum vscsi_answer vscsi_disk_save(const struct vscsi_disk *disk, uint64_t first, uint32_t count, void *into, size_t length) {
+  uint8_t nothing = 0;
+  if (!disk || (!into && length)) return VSCSI_NULL;
+  if (is_long(length, 1)) return VSCSI_BAD_LENGTH;
+  struct vscsi_disk *looked = (struct vscsi_disk *)(uintptr_t)disk;
+  return (enum vscsi_answer)vscsi_raw_disk_save(looked, first, count, into ? (uint8_t *)into : &nothing, length);
+}
+
 uint32_t vscsi_version(void) { return VSCSI_VERSION; }
 
 uint64_t vscsi_features(void) { return VSCSI_FEATURES; }
@@ -124,13 +207,14 @@ const char *vscsi_answer_text(enum vscsi_answer answer) {
       [VSCSI_NO_MEMORY] = "no memory",
       [VSCSI_BAD_CONFIG] = "the device doesn't take the configuration",
       [VSCSI_NO_DEVICE] = "there is no device",
-      [VSCSI_IN_USE] = "there is a device already",
-      [VSCSI_OUTSIDE] = "a byte outside guest memory, or a block outside the unit",
+      [VSCSI_IN_USE] = "there is a device already, or a disk",
+      [VSCSI_OUTSIDE] = "a byte outside guest memory, or a block outside the unit or the disk",
       [VSCSI_NO_QUEUE] = "there is no such queue",
       [VSCSI_NO_UNIT] = "there is no such unit",
       [VSCSI_BAD_LENGTH] = "a wrong length",
       [VSCSI_NULL] = "a null pointer",
       [VSCSI_BAD_CAPACITY] = "no blocks, or too many",
+      [VSCSI_NO_DISK] = "there is no disk",
   };
   return TEXT_OF(texts, (uint32_t)answer, "an unknown answer");
 }
@@ -147,6 +231,7 @@ const char *vscsi_cause_text(uint32_t cause) {
       [VSCSI_CAUSE_UNIT_BLOCKS] = "a unit of no blocks, or of too many",
       [VSCSI_CAUSE_UNIT_ORDER] = "a unit that doesn't stand above the one before it",
       [VSCSI_CAUSE_NO_LUN_0] = "a unit whose target has no LUN 0",
+      [VSCSI_CAUSE_UNIT_DISK] = "a unit that is given no disk, or one of another capacity",
   };
   return TEXT_OF(texts, cause, "an unknown cause");
 }

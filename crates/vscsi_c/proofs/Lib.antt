@@ -1,2 +1,5 @@
+pub mod Handed
+pub mod Kept
 pub mod Serve
+pub mod Taking
 pub mod Values

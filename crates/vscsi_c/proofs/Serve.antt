@@ -1,9 +1,11 @@
 -- A call where there is a device, and one where there is none.
 use Rattle.std.proofs.Common.{◌≡◌, refl, sym, subst}
-use Rattle.std.specs.Prelude.{Option, Some, None}
-use Rattle.std.specs.Prelude.{ℕ, List}
+use Rattle.std.specs.Prelude.{ℕ, true, false, List, Option, Some, None, is_some}
+use Rattle.history.specs.Contents.{is_capacity}
 use Rattle.config.specs.declared.config.Config.{Config}
 use Rattle.vscsi_c.specs.Wanted.{Asks}
+use Rattle.block_store.specs.declared.paged.PagedStore.{PagedStore}
+use Rattle.vscsi_c.specs.Disks.{OnDisk, CreatesDisk, IsBlank}
 use Rattle.vscsi_c.specs.Calls.{Serving, Creates, Makes, Refuses}
 use Rattle.vscsi_c.specs.declared.answer.Answer.{Answer}
 use Rattle.vscsi_c.specs.declared.answer.Answer.TheVariants as answer
@@ -19,6 +21,19 @@ serving R Same old a after d d' e f r = subst (λ (o : Option Served). Serving R
 pub without : (R : Served → Answer → Served → Type 0) (Same : Type 0) (old after : Option Served) → old ≡ None → after ≡ None → Same
     → Serving R Same old answer.NoDevice after
 without R Same old after e f s = subst (λ (o : Option Served). Serving R Same o answer.NoDevice after) (sym e) (refl, f, s)
+
+pub handling : (R : PagedStore → Answer → PagedStore → Type 0) (Same : Type 0) (old : Option PagedStore) (a : Answer) (after : Option PagedStore) (s s' : PagedStore)
+    → old ≡ Some s → after ≡ Some s' → R s a s' → OnDisk R Same old a after
+handling R Same old a after s s' e f r = subst (λ (o : Option PagedStore). OnDisk R Same o a after) (sym e) (s', f, r)
+
+pub without_disk : (R : PagedStore → Answer → PagedStore → Type 0) (Same : Type 0) (old after : Option PagedStore) → old ≡ None → after ≡ None → Same
+    → OnDisk R Same old answer.NoDisk after
+without_disk R Same old after e f s = subst (λ (o : Option PagedStore). OnDisk R Same o answer.NoDisk after) (sym e) (refl, f, s)
+
+pub created : (blocks : ℕ) (old after : Option PagedStore) (s : PagedStore) → is_some old ≡ false → is_capacity blocks ≡ true → IsBlank blocks s
+    → after ≡ Some s → CreatesDisk blocks old answer.Done after
+created blocks None after s none fits blank is = (fits, s, blank, is)
+created blocks (Some x) after s none fits blank is = cc
 
 module _ (pages features : ℕ) (queues : List WantedQueue) (units : List WantedUnit) (fault told : Fault) (old after : Option Served) (c : Config) (none : old ≡ None) (asks : Asks pages features queues units c) where
   pub made : (d : Served) → Makes c d → after ≡ Some d → told ≡ fault → Creates pages features queues units fault told old answer.Done after

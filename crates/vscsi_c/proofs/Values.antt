@@ -24,9 +24,10 @@ use Rattle.std.proofs.cell.Inside.{Good}
 use Rattle.std.specs.Box.Ownership.{box_owns}
 use Rattle.std.proofs.ResultValues.{and_tt}
 use Rattle.std.specs.Prelude.{Option, Some, None, is_some}
+use Rattle.block_store.specs.declared.paged.PagedStore.{PagedStore}
 use Rattle.std.specs.contracts.alloc.Global as heap
 use Rattle.std.proofs.alloc.Global.TheLaws as heap_laws
-use Rattle.vscsi_c.specs.Held.{held}
+use Rattle.vscsi_c.specs.Held.{Content, held, device_in, disk_in}
 use Rattle.vscsi_c.specs.declared.served.Served.{Served}
 use Rattle.vscsi_c.specs.contracts.owner.Owner as owner
 use Rattle.vscsi_c.specs.contracts.loose.Loose as loose
@@ -65,9 +66,15 @@ module _ (R Z : RattleType) (L : Laws Z) (g : Ghosts Z.Denot) where
         nothing t $ move t (2 ∷ 0 ∷ []) $ fjoin t $ feq_i t (List Val) (vptr b o ∷ []) (vptr b o ∷ []) refl $ fjoin t $ feq_i t (List Val) (v ∷ []) (v ∷ []) refl $ fjoin t $
         fpack t (Valss (RawPtr ∷ Z ∷ [])) (within (shape (loose.the_type R Z g)) (block_ptr b o, (a, tt)) (v ∷ [])) (vptr b o ∷ [], (h ∷ [], tt)) $ fjoin t $ s)
 
-pub found : {X : Type 0} (o : Option X) → is_some o ≡ true → (x : X) × (o ≡ Some x)
-found None there = cc
-found (Some x) there = (x, refl)
+pub found_device : (o : Option Content) → is_some (device_in o) ≡ true → (d : Served) × (o ≡ Some (Content.Device d))
+found_device None there = cc
+found_device (Some (Content.Device d)) there = (d, refl)
+found_device (Some (Content.Disk s)) there = cc
+
+pub found_disk : (o : Option Content) → is_some (disk_in o) ≡ true → (s : PagedStore) × (o ≡ Some (Content.Disk s))
+found_disk None there = cc
+found_disk (Some (Content.Device d)) there = cc
+found_disk (Some (Content.Disk s)) there = (s, refl)
 
 -- a pointer that C keeps, by value
 abbrev pub Z : RattleType
@@ -80,13 +87,13 @@ abbrev pub Owner : RattleType
 Owner = owner.the_row
 
 module _ {M : Type 1} {𝓤 : Ura M} {𝓛 : Logic 𝓤} {K : Type 0} {Γ : List (Item 𝓤)} {G : Goal 𝓤 𝓛.H} where
-  pub owner_in : K → (p : Ptr) (x : Option Served)
-      → Step K 𝓛 (‵ (Owner.own_val (record { at = p; served = x }) (vstruct (vcons (ptr_val p) vnil) ∷ [])) ∷ Γ) G (‵ (held p x) ∷ Γ) G
+  pub owner_in : K → (p : Ptr) (x : Option Content)
+      → Step K 𝓛 (‵ (Owner.own_val (record { at = p; content = x }) (vstruct (vcons (ptr_val p) vnil) ∷ [])) ∷ Γ) G (‵ (held p x) ∷ Γ) G
   owner_in t p x = step (λ s. let v : Val = vstruct (vcons (ptr_val p) vnil) in
       nothing t $ feq_i t (List Val) (ptr_val p ∷ []) (ptr_val p ∷ []) refl $ fjoin t $ feq_i t (List Val) (v ∷ []) (v ∷ []) refl $ fjoin t $
       fpack t (Valss (RawPtr ∷ [])) (within (shape owner.the_type) (p, tt) (v ∷ [])) (ptr_val p ∷ [], tt) $ fjoin t $ s)
 
-  pub owner_out : K → (d : Owner.Denot) (vs : List Val) → (vs ≡ vstruct (vcons (ptr_val d.at) vnil) ∷ [] → Seq K 𝓛 (‵ (held d.at d.served) ∷ Γ) G) → Seq K 𝓛 (‵ (Owner.own_val d vs) ∷ Γ) G
+  pub owner_out : K → (d : Owner.Denot) (vs : List Val) → (vs ≡ vstruct (vcons (ptr_val d.at) vnil) ∷ [] → Seq K 𝓛 (‵ (held d.at d.content) ∷ Γ) G) → Seq K 𝓛 (‵ (Owner.own_val d vs) ∷ Γ) G
   owner_out t d vs k =
       fsplit t $ fpick t (λ vss. fsplit t $ feq_l t (λ ev. fsplit t $ feq_l t (λ ep. drop t $
       k (subst (λ (ps : List Val). vs ≡ vstruct (of_list (ps ++ [])) ∷ []) ep ev))))

@@ -14,6 +14,7 @@ code_of answer.NoQueue = 6
 code_of answer.NoUnit = 7
 code_of answer.BadLength = 8
 code_of answer.BadCapacity = 10
+code_of answer.NoDisk = 11
 
 -- the number is that of an answer of which this holds
 pub record Tells (code : ℕ) (P : Answer → Type 0) : Type 0 where

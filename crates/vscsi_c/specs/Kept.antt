@@ -1,7 +1,16 @@
--- The device that C keeps somewhere, if there is one.
-use Rattle.std.specs.Prelude.{Option}
+-- The device that C keeps somewhere, if there is one, and the disk.
+use Rattle.std.specs.Prelude.{ℕ, ◌≡◌, Bool, true, false, Option, Some, None, List, map}
+use Rattle.block_store.specs.declared.paged.PagedStore.{PagedStore}
+use Rattle.vscsi_c.specs.Held.{Content, device_in, disk_in}
 use Rattle.vscsi_c.specs.declared.device.Device.{Device}
+use Rattle.vscsi_c.specs.declared.disk.Disk.{Disk}
 use Rattle.vscsi_c.specs.declared.served.Served.{Served}
 
 abbrev pub kept_in : Device → Option Served
-kept_in d = d.owner.served
+kept_in d = device_in d.owner.content
+
+abbrev pub disk_at : Disk → Option PagedStore
+disk_at d = disk_in d.owner.content
+
+abbrev pub disks_at : List Disk → List (Option PagedStore)
+disks_at disks = map disk_at disks

@@ -3,3 +3,6 @@ pub mod Answers
 pub mod Wanted
 pub mod Calls
 pub mod Kept
+pub mod Places
+pub mod Disks
+pub mod Changes

@@ -26,6 +26,8 @@ pub(crate) enum Answer {
     BadLength = 8,
     /// No unit may have so many blocks. 9 is the header's, for a null pointer.
     BadCapacity = 10,
+    /// There is no disk.
+    NoDisk = 11,
 }
 
 impl Answer {
@@ -44,6 +46,7 @@ impl Answer {
             Answer::NoUnit => 7,
             Answer::BadLength => 8,
             Answer::BadCapacity => 10,
+            Answer::NoDisk => 11,
         }
     }
 }

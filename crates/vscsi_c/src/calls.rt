@@ -3,9 +3,11 @@
 ghost use Rattle.std.specs.Prelude.{◌≡◌};
 ghost use Rattle.vscsi_c.specs.Kept.{kept_in};
 ghost use Rattle.vscsi_c.specs.Calls.{Serving, Settles, ServesPortion, Pokes, Peeks, Owes, IsStatus, Breaks, Counts, Resets, Resizes, Holds, Gives, Creates, Destroys};
+ghost use Rattle.vscsi_c.specs.Changes.{TellsChanges};
 
 use crate::answer::Answer;
 use crate::device::Device;
+use crate::ranges::{BlockRange, Told};
 use crate::served::Served;
 use crate::wanted::{Fault, WantedQueue, WantedUnit, config_of, fault_of};
 use std::alloc::Global;
@@ -252,6 +254,27 @@ pub(crate) fn blocks(
         return Answer::NoDevice;
     };
     let answer = served.blocks(alloc, target, lun, first, count, into);
+    device.put(served);
+    answer
+}
+
+/// Tells which blocks of a unit may have changed since a place of its history.
+#[tactic(auto, using(crate::proofs::Serve::serving, crate::proofs::Serve::without))]
+pub(crate) fn changed(
+    device: &mut Device,
+    alloc: Global,
+    target: u8,
+    lun: u16,
+    told: &mut Told,
+    room: &mut [BlockRange],
+) -> Answer
+    ensures { Serving (TellsChanges target lun told.old room.old told.new room.new)
+        ((told.new ≡ told.old) × (room.new ≡ room.old)) (kept_in device.old) result (kept_in device.new) }
+{
+    let Some(mut served) = device.take(alloc) else {
+        return Answer::NoDevice;
+    };
+    let answer = served.changed(target, lun, told, room);
     device.put(served);
     answer
 }

@@ -1,6 +1,7 @@
 //! What C keeps of a device.
 
-ghost use Rattle.std.specs.Prelude.{◌≡◌, is_some};
+ghost use Rattle.std.specs.Prelude.{◌≡◌, true};
+ghost use Rattle.vscsi_c.specs.Places.{has_device};
 
 use crate::owner::Owner;
 
@@ -9,5 +10,5 @@ use crate::owner::Owner;
 pub struct Device {
     pub(crate) owner: Owner,
     pub(crate) live: bool,
-    ghost is_live: { live ≡ is_some owner.served },
+    ghost is_device: { has_device live owner.content ≡ true },
 }

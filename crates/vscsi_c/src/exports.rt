@@ -3,12 +3,16 @@
 
 ghost use Rattle.std.specs.Prelude.{◌≡◌};
 ghost use Rattle.vscsi_c.specs.Answers.{Tells};
-ghost use Rattle.vscsi_c.specs.Kept.{kept_in};
+ghost use Rattle.vscsi_c.specs.Kept.{kept_in, disk_at, disks_at};
 ghost use Rattle.vscsi_c.specs.Calls.{Serving, Settles, ServesPortion, Pokes, Peeks, Owes, IsStatus, Breaks, Counts, Resets, Resizes, Holds, Gives, Creates, Destroys};
+ghost use Rattle.vscsi_c.specs.Changes.{TellsChanges};
+ghost use Rattle.vscsi_c.specs.Disks.{CreatesDisk, DestroysDisk, OnDisk, HasBlocks, LoadsBlocks, Saves, CreatesOver, Closes};
 
-use crate::calls;
 use crate::device::Device;
+use crate::disk::Disk;
+use crate::ranges::{BlockRange, Told};
 use crate::wanted::{Fault, WantedQueue, WantedUnit};
+use crate::{calls, disks, handing};
 use std::alloc::Global;
 
 /// Makes a device where there is none.
@@ -184,4 +188,101 @@ pub extern "C" fn vscsi_raw_blocks(
         (kept_in device.old) a (kept_in device.new)) }
 {
     calls::blocks(device, alloc, target, lun, first, count, into).code()
+}
+
+/// Tells which blocks of a unit may have changed since a place of its history.
+#[unsafe(no_mangle)]
+pub extern "C" fn vscsi_raw_changed(
+    device: &mut Device,
+    alloc: Global,
+    target: u8,
+    lun: u16,
+    told: &mut Told,
+    room: &mut [BlockRange],
+) -> u32
+    ensures { Tells result (λ a. Serving (TellsChanges target lun told.old room.old told.new room.new)
+        ((told.new ≡ told.old) × (room.new ≡ room.old)) (kept_in device.old) a (kept_in device.new)) }
+{
+    calls::changed(device, alloc, target, lun, told, room).code()
+}
+
+/// Makes a disk of zeros where there is none.
+#[unsafe(no_mangle)]
+pub extern "C" fn vscsi_raw_disk_create(disk: &mut Disk, alloc: Global, blocks: u64) -> u32
+    ensures { Tells result (λ a. CreatesDisk blocks (disk_at disk.old) a (disk_at disk.new)) }
+{
+    disks::create_disk(disk, alloc, blocks).code()
+}
+
+/// Lets go of a disk and of all its memory.
+#[unsafe(no_mangle)]
+pub extern "C" fn vscsi_raw_disk_destroy(disk: &mut Disk, alloc: Global) -> u32
+    ensures { Tells result (λ a. DestroysDisk (disk_at disk.old) a (disk_at disk.new)) }
+{
+    disks::destroy_disk(disk, alloc).code()
+}
+
+/// Tells how many blocks a disk has.
+#[unsafe(no_mangle)]
+pub extern "C" fn vscsi_raw_disk_blocks(disk: &Disk, blocks: &mut u64) -> u32
+    ensures { Tells result (λ a. HasBlocks blocks.old (disk_at disk.now) a blocks.new) }
+{
+    disks::disk_blocks(disk, blocks).code()
+}
+
+/// Puts bytes over blocks of a disk.
+#[unsafe(no_mangle)]
+pub extern "C" fn vscsi_raw_disk_load(
+    disk: &mut Disk,
+    alloc: Global,
+    first: u64,
+    count: u32,
+    bytes: &[u8],
+) -> u32
+    ensures { Tells result (λ a. OnDisk (LoadsBlocks first count bytes.now) (Unit {0}) (disk_at disk.old) a
+        (disk_at disk.new)) }
+{
+    disks::load(disk, alloc, first, count, bytes).code()
+}
+
+/// Copies blocks of a disk out.
+#[unsafe(no_mangle)]
+pub extern "C" fn vscsi_raw_disk_save(
+    disk: &mut Disk,
+    alloc: Global,
+    first: u64,
+    count: u32,
+    into: &mut [u8],
+) -> u32
+    ensures { Tells result (λ a. OnDisk (Saves first count into.old into.new) (into.new ≡ into.old) (disk_at disk.old) a
+        (disk_at disk.new)) }
+{
+    disks::save(disk, alloc, first, count, into).code()
+}
+
+/// Makes a device over disks where there is none.
+#[unsafe(no_mangle)]
+pub extern "C" fn vscsi_raw_create_with(
+    device: &mut Device,
+    alloc: Global,
+    pages: u32,
+    features: u64,
+    queues: &[WantedQueue],
+    units: &[WantedUnit],
+    disks: &mut [Disk],
+    fault: &mut Fault,
+) -> u32
+    ensures { Tells result (λ a. CreatesOver pages features queues.now units.now fault.old fault.new (kept_in device.old)
+        (disks_at disks.old) a (kept_in device.new) (disks_at disks.new)) }
+{
+    handing::create_with(device, alloc, pages, features, queues, units, disks, fault).code()
+}
+
+/// Ends a device, and puts its disks into places where there is none.
+#[unsafe(no_mangle)]
+pub extern "C" fn vscsi_raw_close(device: &mut Device, alloc: Global, disks: &mut [Disk]) -> u32
+    ensures { Tells result (λ a. Closes (kept_in device.old) (disks_at disks.old) a (kept_in device.new)
+        (disks_at disks.new)) }
+{
+    handing::close(device, alloc, disks).code()
 }

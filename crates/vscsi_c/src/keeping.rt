@@ -1,18 +1,29 @@
-//! A device is taken out of where C keeps it, and put back.
+//! Devices and disks are taken out of where C keeps them, and put back.
 
-ghost use Rattle.std.specs.Prelude.{◌≡◌, None, Some};
-ghost use Rattle.std.specs.Option.{MatchOption};
-ghost use Rattle.vscsi_c.specs.Kept.{kept_in};
+ghost use Rattle.std.specs.Prelude.{◌≡◌, None, Some, is_some};
+ghost use Rattle.std.specs.Option.{MatchOption, option_map};
+ghost use Rattle.vscsi_c.specs.Kept.{kept_in, disk_at};
 
 use crate::device::Device;
+use crate::disk::Disk;
 use crate::loose::Loose;
 use crate::owner::Owner;
 use crate::served::Served;
+use block_store::{PagedStore, Store};
 use std::alloc::Global;
 use std::mem::replace;
 
 impl Device {
+    /// Returns true if there is a device.
+    #[tactic(auto, using(crate::proofs::Kept::device_is_live))]
+    pub(crate) fn is_there(&self) -> bool
+        ensures { result ≡ is_some (kept_in self.now) }
+    {
+        self.live
+    }
+
     /// Takes the device out, if there is one.
+    #[tactic(auto, using(crate::proofs::Kept::device_is_live, crate::proofs::Kept::device_there))]
     pub(crate) fn take(&mut self, alloc: Global) -> Option<Box<Served, Global>>
         ensures taken { MatchOption result (kept_in self.old ≡ None) (λ served. kept_in self.old ≡ Some served.value) }
         ensures after { kept_in self.new ≡ None }
@@ -22,16 +33,61 @@ impl Device {
         }
         self.live = false;
         let owner = replace(&mut self.owner, Owner::nothing());
-        Some(owner.into_loose(alloc).into_box())
+        Some(owner.into_device(alloc).into_box())
     }
 
     /// Puts a device where there is none.
+    #[tactic(auto, using(crate::proofs::Kept::no_device))]
     pub(crate) fn put(&mut self, served: Box<Served, Global>)
         requires { kept_in self.old ≡ None }
         ensures { kept_in self.new ≡ Some served.value }
     {
         self.live = true;
-        let nothing = replace(&mut self.owner, Owner::of(Loose::of(served)));
+        let nothing = replace(&mut self.owner, Owner::of_device(Loose::of(served)));
+        nothing.discard();
+    }
+}
+
+impl Disk {
+    /// Returns true if there is a disk.
+    #[tactic(auto, using(crate::proofs::Kept::disk_is_live))]
+    pub(crate) fn is_there(&self) -> bool
+        ensures { result ≡ is_some (disk_at self.now) }
+    {
+        self.live
+    }
+
+    /// Returns how many blocks the disk has, if there is one.
+    #[tactic(auto, using(crate::proofs::Kept::disk_has, crate::proofs::Kept::no_blocks))]
+    pub(crate) fn blocks(&self) -> Option<u64>
+        ensures { result ≡ option_map (λ s. s.capacity) (disk_at self.now) }
+    {
+        if self.live { Some(self.blocks) } else { None }
+    }
+
+    /// Takes the disk out, if there is one.
+    #[tactic(auto, using(crate::proofs::Kept::disk_is_live, crate::proofs::Kept::disk_there))]
+    pub(crate) fn take(&mut self, alloc: Global) -> Option<Box<PagedStore, Global>>
+        ensures taken { MatchOption result (disk_at self.old ≡ None) (λ store. disk_at self.old ≡ Some store.value) }
+        ensures after { disk_at self.new ≡ None }
+    {
+        if !self.live {
+            return None;
+        }
+        self.live = false;
+        let owner = replace(&mut self.owner, Owner::nothing());
+        Some(owner.into_disk(alloc).into_box())
+    }
+
+    /// Puts a disk where there is none.
+    #[tactic(auto, using(crate::proofs::Kept::no_disk))]
+    pub(crate) fn put(&mut self, store: Box<PagedStore, Global>)
+        requires { disk_at self.old ≡ None }
+        ensures { disk_at self.new ≡ Some store.value }
+    {
+        self.live = true;
+        self.blocks = store.capacity();
+        let nothing = replace(&mut self.owner, Owner::of_disk(Loose::of(store)));
         nothing.discard();
     }
 }

@@ -1,48 +1,58 @@
 //! What a pointer that C keeps owns.
 
 ghost use Rattle.std.specs.Prelude.{◌≡◌, Option, Some, None, is_some, true};
-ghost use Rattle.vscsi_c.specs.declared.served.Served.{Served as IsServed};
+ghost use Rattle.std.specs.Coded.{coded_option};
+ghost use Rattle.vscsi_c.specs.Held.{Content, content_code, device_in, disk_in};
 
 use crate::loose::Loose;
 use crate::served::Served;
+use block_store::PagedStore;
 use std::alloc::Global;
 use std::marker::Model;
 use std::ptr::null_mut;
 
-/// A pointer that C keeps, and that owns a device, or nothing. C sees no device behind it: the type says what it owns
-/// in proofs alone.
+/// A pointer that C keeps, and that owns a device, a disk, or nothing. C sees nothing behind it: the type says what it
+/// owns in proofs alone.
 #[repr(C)]
 pub struct Owner {
     at: *mut u8,
-    ghost served: { Option IsServed },
+    ghost content: { Option Content } by { coded_option content_code },
 }
 
 impl Model for Owner {
     ghost use Rattle.vscsi_c.specs.Held.{held};
 
-    ghost also_owns = { λ o. held o.at o.served };
+    ghost also_owns = { λ o. held o.at o.content };
 }
 
 impl Owner {
-    /// It owns nothing.
+    /// Returns a pointer that owns nothing.
     pub(crate) fn nothing() -> Owner
-        ensures { result.served ≡ None }
+        ensures { result.content ≡ None }
     {
         Owner { at: null_mut() }
     }
 
-    /// It owns what stands in a box.
-    pub(crate) fn of(loose: Loose<Served, Global>) -> Owner
-        ensures { result.served ≡ Some loose.value }
+    /// Returns a pointer that owns the device of a box.
+    pub(crate) fn of_device(loose: Loose<Served, Global>) -> Owner
+        ensures { result.content ≡ Some (Content.Device loose.value) }
     {
         let Loose { at, alloc: _ } = loose;
         Owner { at: at as *mut u8 }
     }
 
-    /// The box of what it owns.
-    pub(crate) fn into_loose(self, alloc: Global) -> Loose<Served, Global>
-        requires { is_some self.served ≡ true }
-        ensures { Some result.value ≡ self.served }
+    /// Returns a pointer that owns the disk of a box.
+    pub(crate) fn of_disk(loose: Loose<PagedStore, Global>) -> Owner
+        ensures { result.content ≡ Some (Content.Disk loose.value) }
+    {
+        let Loose { at, alloc: _ } = loose;
+        Owner { at: at as *mut u8 }
+    }
+
+    /// Returns the box of the device that it owns.
+    pub(crate) fn into_device(self, alloc: Global) -> Loose<Served, Global>
+        requires { is_some (device_in self.content) ≡ true }
+        ensures { self.content ≡ Some (Content.Device result.value) }
     {
         let Owner { at } = self;
         Loose {
@@ -51,9 +61,21 @@ impl Owner {
         }
     }
 
+    /// Returns the box of the disk that it owns.
+    pub(crate) fn into_disk(self, alloc: Global) -> Loose<PagedStore, Global>
+        requires { is_some (disk_in self.content) ≡ true }
+        ensures { self.content ≡ Some (Content.Disk result.value) }
+    {
+        let Owner { at } = self;
+        Loose {
+            at: at as *mut PagedStore,
+            alloc,
+        }
+    }
+
     /// Forgets a pointer that owns nothing.
     pub(crate) fn discard(self)
-        requires { self.served ≡ None }
+        requires { self.content ≡ None }
     {
         let Owner { at: _ } = self;
     }

@@ -1,6 +1,8 @@
 //! What each call does with a device.
 
-ghost use Rattle.std.specs.Prelude.{◌≡◌};
+ghost use Rattle.std.specs.Prelude.{◌≡◌, length};
+ghost use Rattle.std.specs.Option.{option_map};
+ghost use Rattle.world.specs.Views.{unit_at};
 ghost use Rattle.vscsi_c.specs.Calls.{Settles, ServesPortion, Pokes, Peeks, Owes, IsStatus, Breaks, Counts, Resets, Resizes, Holds, Gives, number_of};
 
 use crate::answer::Answer;
@@ -170,6 +172,16 @@ impl Served {
                 Answer::Done
             }
             None => Answer::NoUnit,
+        }
+    }
+
+    /// Returns how many steps the history of a unit has; `None` where there is no such unit.
+    pub(crate) fn place_of_history(&self, target: u8, lun: u16) -> Option<u64>
+        ensures { result ≡ option_map (λ u. length u.steps) (unit_at self.now.world target lun) }
+    {
+        match self.world.unit(target, lun) {
+            Some(unit) => Some(unit.steps()),
+            None => None,
         }
     }
 

@@ -19,8 +19,7 @@ use denote.Steps.{nothing, heard}
 use denote.Triple.Walked.{Stays, stay_dropped, walk_of, Goes-dropped}
 use Rattle.std.proofs.raw_atomic.Walks.{proved_at, leaves}
 use Rattle.std.proofs.ResultValues.{and_tt}
-use Rattle.vscsi_c.specs.Held.{held}
-use Rattle.vscsi_c.specs.declared.served.Served.{Served}
+use Rattle.vscsi_c.specs.Held.{Content, held}
 use Rattle.vscsi_c.proofs.Values.{Owner, owner_out}
 use Rattle.vscsi_c.specs.contracts.owner.Owner.discard.{ended, clauses}
 use Rattle.vscsi_c.specs.contracts.owner.Owner.discard.Key.{name as #self}
@@ -33,8 +32,8 @@ discard_spec 𝓤 𝓛 𝓜 𝓡 wired =
     let hs : Stays En.signature.params En.kept = (stay_dropped (plain (λ _. Owner)) yes, tt) in
     proved_at 𝓛 En hs c 𝓜 𝓡 (Goes-dropped 𝓛 0 (plain (λ _. Owner)) yes (λ κs x f. refl), tt) #self fn (code.unfolded 𝓤 H 𝓜 𝓡 wired) (λ z are.
     let κs = z.0.0 in let v = z.0.3.0 in let Post : Val → SProp 𝓤 = (walk_of 𝓛 En hs c).post z in let Run : List Val → SProp 𝓤 = λ ws. WpFn 𝓤 H 𝓣.C 𝓣.Λ fn ws Post in
-    qed 𝓛 ((‵ ftrue ⊛ ‵ (owns (types_at En.signature.params κs) z.0.3 z.0.4)) ∷ raw (fact 𝓤 (v.served ≡ None)) ∷ []) ∵ move ! (1 ∷ []) $ heard ! (v.served ≡ None) (λ none.
-    split ! $ move ! (1 ∷ []) $ fsplit ! $ owner_out ! v z.0.4.0 (λ ws. rewrite ! 0 (λ (o : Option Served). ‵ (held v.at o)) none refl $
+    qed 𝓛 ((‵ ftrue ⊛ ‵ (owns (types_at En.signature.params κs) z.0.3 z.0.4)) ∷ raw (fact 𝓤 (v.content ≡ None)) ∷ []) ∵ move ! (1 ∷ []) $ heard ! (v.content ≡ None) (λ none.
+    split ! $ move ! (1 ∷ []) $ fsplit ! $ owner_out ! v z.0.4.0 (λ ws. rewrite ! 0 (λ (o : Option Content). ‵ (held v.at o)) none refl $
     let x : Val = ptr_val v.at in let w : Val = vstruct (vcons x vnil) in let good = ((rawptr_Lawful 𝓛).typed v.at (x ∷ []) refl).0 in
     suffices ! (Run (w ∷ [])) (subst (λ (us : List Val). ent 𝓤 (Run (w ∷ [])) (Run us)) (sym (λ i. ws i ++ [])) (id⊢ 𝓤 (Run (w ∷ [])))) $
     enter ! 𝓣.C 𝓣.Λ fn (w ∷ []) Post $ alloc_all ! (λ l. pass_all ! refl ((and_tt (has_ty ty_ptr x) good.0, (good.1, tt)), tt) $

@@ -15,6 +15,6 @@ returns-then-has_address c =
       c.index.result.now,
       at,
       c.loop-place.invariant.rest
-      ∙ find_here _ c.args.self.now.units c.loop-place.place c.index.result.now at
-      (sym c.has_address.ensures.test ∙ c.if-has_address.true),
+          ∙ find_here _ c.args.self.now.units c.loop-place.place c.index.result.now at
+          (sym c.has_address.ensures.test ∙ c.if-has_address.true),
     )

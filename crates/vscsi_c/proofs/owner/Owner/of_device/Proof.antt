@@ -1,4 +1,4 @@
--- `of` hands what the box owns to the pointer.
+-- `of_device` hands what the box owns to the pointer.
 use Rattle.std.proofs.Common.{◌≡◌, List, [], ◌∷◌, ◌++◌, refl, sym, subst}
 use Rattle.std.specs.Prelude.{Some}
 use mir.Val.{Val, vptr, vstruct, vcons, vnil}
@@ -20,14 +20,15 @@ use denote.Triple.Walked.{Stays, stay_dropped, walk_of, Goes-dropped}
 use Rattle.std.specs.contracts.impls.GlobalAllocator.TheImpl.{ghosts}
 use Rattle.std.proofs.raw_atomic.Walks.{proved_at, leaves}
 use Rattle.vscsi_c.specs.contracts.served.Served as served
+use Rattle.vscsi_c.specs.Held.{Content}
 use Rattle.vscsi_c.proofs.Values.{both, Loose, Z, LZ, loose_good, loose_out, owner_in}
-use Rattle.vscsi_c.specs.contracts.owner.Owner.of.{ended, clauses}
-use Rattle.vscsi_c.specs.contracts.owner.Owner.of.Key.{name as #self}
-use Rattle.vscsi_c.proofs.owner.Owner.of.Statement.{statement}
-use Rattle.vscsi_c.proofs.owner.Owner.of.Code as code
+use Rattle.vscsi_c.specs.contracts.owner.Owner.of_device.{ended, clauses}
+use Rattle.vscsi_c.specs.contracts.owner.Owner.of_device.Key.{name as #self}
+use Rattle.vscsi_c.proofs.owner.Owner.of_device.Statement.{statement}
+use Rattle.vscsi_c.proofs.owner.Owner.of_device.Code as code
 
-pub of_spec : {M : Type 1} → statement M
-of_spec 𝓤 𝓛 𝓜 𝓡 wired =
+pub of_device_spec : {M : Type 1} → statement M
+of_device_spec 𝓤 𝓛 𝓜 𝓡 wired =
     let H = 𝓛.H in let 𝓣 = tables 𝓤 H 𝓜 𝓡 𝓡.env in let R : RattleType = served.the_row in let En = ended in let c = clauses 𝓛 𝓜.mem 𝓡.returns in let fn = code.function in
     let Lr : RattleType = Loose R Z LZ ghosts in let hs : Stays En.signature.params En.kept = (stay_dropped (plain (λ _. Lr)) yes, tt) in
     proved_at 𝓛 En hs c 𝓜 𝓡 (Goes-dropped 𝓛 0 (plain (λ _. Lr)) yes (λ κs x f. refl), tt) #self fn (code.unfolded 𝓤 H 𝓜 𝓡 wired) (λ z are.
@@ -39,5 +40,5 @@ of_spec 𝓤 𝓛 𝓜 𝓡 wired =
     enter ! 𝓣.C 𝓣.Λ fn (w ∷ []) Post $ alloc_all ! (λ l. pass_all ! refl (typed, tt) $
     sets ! (of_opd ! (get_in ! (fld ! refl (stop !)) (sub ! 0 refl (whole !)))) refl (tt, tt) $
     sets ! (of_opd ! (get ! refl)) refl (tt, tt) $ sets ! (agg ! (and_then ! (get ! refl) (no_more !))) refl (tt, (tt, tt)) $
-    owner_in ! (block_ptr b o) (Some v.value) $ use0 𝓛 (raw (fact 𝓤 (Some v.value ≡ Some v.value))) (fact_i 𝓤 (Some v.value ≡ Some v.value) (emp 𝓤) refl) $ nothing ! $ nothing ! $ fjoin ! $
-    returns ! (look_at ! 0 refl) $ free_all ! refl $ keep ! (5 ∷ 0 ∷ 2 ∷ 1 ∷ []) $ by ! (leaves 𝓛 En hs c z (vstruct (vcons (vptr b o) vnil)) (record { at = block_ptr b o; served = Some v.value }) (tt, tt) (tt, tt)))))
+    owner_in ! (block_ptr b o) (Some (Content.Device v.value)) $ use0 𝓛 (raw (fact 𝓤 (Some (Content.Device v.value) ≡ Some (Content.Device v.value)))) (fact_i 𝓤 (Some (Content.Device v.value) ≡ Some (Content.Device v.value)) (emp 𝓤) refl) $ nothing ! $ nothing ! $ fjoin ! $
+    returns ! (look_at ! 0 refl) $ free_all ! refl $ keep ! (5 ∷ 0 ∷ 2 ∷ 1 ∷ []) $ by ! (leaves 𝓛 En hs c z (vstruct (vcons (vptr b o) vnil)) (record { at = block_ptr b o; content = Some (Content.Device v.value) }) (tt, tt) (tt, tt)))))

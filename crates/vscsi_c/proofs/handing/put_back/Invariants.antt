@@ -1,0 +1,17 @@
+use Rattle.std.proofs.Common.{◌≡◌, ◌++◌, length, Some, None, List}
+use Rattle.std.specs.Prelude.{map, Option}
+use Rattle.block_store.specs.declared.paged.PagedStore.{PagedStore}
+use Rattle.vscsi_c.specs.Kept.{disks_at}
+use Rattle.vscsi_c.proofs.handing.put_back.Given as goal
+
+abbrev pub decreases-loop-store : goal.decreases-loop-store
+decreases-loop-store l = length l.stores.items
+
+abbrev pub invariant-loop-store : goal.invariant-loop-store
+invariant-loop-store l =
+    record {
+      done : List PagedStore;
+      split : l.fn.stores.items ≡ l.stores.items ++ done;
+      are : disks_at l.disks ≡ map (λ s. None) l.stores.items ++ map (λ s. Some s) done;
+      boxes : length l.boxes.items ≡ length l.stores.items;
+    }
