@@ -16,7 +16,7 @@ use Rattle.ring_core.proofs.chain.Chain.TheSendSync as chain
 use Rattle.ring_core.proofs.chain.Spare.TheSendSync as spare
 use Rattle.std.proofs.Crossing.{crosses}
 use Rattle.std.proofs.option.Option.TheSendSync as option
-use Rattle.unit_steps.proofs.kind.StepKind.TheSendSync as kind
+use Rattle.unit_history.proofs.kind.StepKind.TheSendSync as kind
 use Rattle.replies.proofs.reply.Reply.TheSendSync as reply
 use Rattle.split_ring.specs.contracts.ring.SplitRing.{the_row as split_row}
 use Rattle.split_ring.specs.contracts.ring.SplitRing.TheInside as split
@@ -26,18 +26,20 @@ use Rattle.queues.specs.contracts.any_ring.AnyRing.{the_field as ring_field, the
 use Rattle.queues.specs.contracts.queue.Queue.{the_row as queue_row}
 use Rattle.queues.specs.contracts.queue.Queue.TheInside as queue
 use Rattle.arrayvec.proofs.array_vec.ArrayVec.TheSendSync as array_vec
-use Rattle.unit_steps.proofs.commits.Commits.TheSendSync as commits
-use Rattle.unit_steps.proofs.folding.FoldedMark.TheSendSync as mark
-use Rattle.unit_steps.specs.contracts.folding.Folding.{the_row as folding_row}
-use Rattle.unit_steps.specs.contracts.folding.Folding.TheInside as folding
-use Rattle.unit_steps.specs.contracts.ring.KindRing.{the_row as kinds_row}
-use Rattle.unit_steps.specs.contracts.ring.KindRing.TheInside as kinds
-use Rattle.unit_steps.specs.contracts.log.StepLog.{the_row as steps_row}
-use Rattle.unit_steps.specs.contracts.log.StepLog.TheInside as steps
-use Rattle.unit_steps.specs.contracts.lasts.Lasts.{the_row as lasts_row}
-use Rattle.unit_steps.specs.contracts.lasts.Lasts.TheInside as lasts
+use Rattle.unit_history.proofs.commits.Commits.TheSendSync as commits
+use Rattle.unit_history.specs.contracts.counted.CountedSteps.{the_row as counted_row}
+use Rattle.unit_history.specs.contracts.counted.CountedSteps.TheInside as counted
+use Rattle.unit_history.proofs.folding.FoldedMark.TheSendSync as mark
+use Rattle.unit_history.specs.contracts.folding.Folding.{the_row as folding_row}
+use Rattle.unit_history.specs.contracts.folding.Folding.TheInside as folding
+use Rattle.unit_history.specs.contracts.ring.KindRing.{the_row as kinds_row}
+use Rattle.unit_history.specs.contracts.ring.KindRing.TheInside as kinds
+use Rattle.unit_history.specs.contracts.log.StepLog.{the_row as steps_row}
+use Rattle.unit_history.specs.contracts.log.StepLog.TheInside as steps
+use Rattle.unit_history.specs.contracts.last_tickets.LastTickets.{the_row as lasts_row}
+use Rattle.unit_history.specs.contracts.last_tickets.LastTickets.TheInside as lasts
 use Rattle.unit_attention.proofs.attentions.Attentions.TheSendSync as attentions
-use Rattle.history.specs.contracts.reason.Reason.{the_row as reason_row}
+use Rattle.unit_model.specs.contracts.reason.Reason.{the_row as reason_row}
 use Rattle.ring_core.specs.contracts.fault.RingFault.{the_row as fault_row}
 use Rattle.sense.specs.contracts.Sense.{the_row as sense_row}
 use Rattle.decisions.proofs.unit_request.UnitRequest.TheSendSync as request
@@ -108,9 +110,16 @@ kinds_fields = recorded_send kinds.the_field.row _ _ kinds.the_type.to_one
 kinds_sends : IsSend kinds_row
 kinds_sends = search (sendable, kinds_fields)
 
+counted_fields : IsSend counted.the_row
+counted_fields = recorded_send counted.the_field.row _ _ counted.the_type.to_one
+    (struct_send (shape counted.the_type) (search sendable depth 30, (search sendable depth 30, tt)))
+
+counted_sends : IsSend counted_row
+counted_sends = search (sendable, counted_fields)
+
 steps_fields : IsSend steps.the_row
 steps_fields = recorded_send steps.the_field.row _ _ steps.the_type.to_one
-    (struct_send (shape steps.the_type) (search sendable, (search sendable, (folding_sends, (kinds_sends, (search (crosses, option.the_send, reply.the_send), (search sendable depth 30, tt)))))))
+    (struct_send (shape steps.the_type) (search sendable, (search sendable, (folding_sends, (kinds_sends, (search (crosses, option.the_send, reply.the_send), (counted_sends, tt)))))))
 
 steps_sends : IsSend steps_row
 steps_sends = search (sendable, steps_fields)

@@ -3,11 +3,11 @@ use Rattle.std.specs.Prelude.{ℕ, ◌≡◌, ◌≤◌, ◌^◌, List, length}
 use Rattle.std.specs.Borrow.{MutBor}
 use Rattle.std.specs.Fn.{Once}
 use Rattle.ring_core.specs.Sound.{IsSound, outstanding_count}
-use Rattle.queues.specs.Queue.{Lent}
+use Rattle.queues.specs.Queue.{BareQueue}
 
 -- own: what every queue is: its log is lawful, with which what is outstanding agrees, and no more is than it has
 -- descriptors
-pub record IsQueue (q : Lent) : Type 0 where
+pub record IsQueue (q : BareQueue) : Type 0 where
   pub sound : IsSound q.ring
   pub few : outstanding_count q.ring ≤ q.ring.layout.size
 

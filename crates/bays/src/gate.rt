@@ -22,7 +22,8 @@ pub enum Point {
 /// What looks on as requests go by, and may hold a thread up: a test has one to put threads into an order. Nothing that
 /// the device promises stands on it.
 pub trait Gate {
-    /// The request of this ticket comes to this point. The worker that serves it calls, and goes on once this returns.
+    /// Is told that the request of this ticket comes to this point. The worker that serves it calls, and goes on once
+    /// this returns.
     fn pass(&self, point: Point, ticket: Ticket);
 }
 

@@ -1,8 +1,8 @@
 //! What lends a phase what it works on.
 
 ghost use Rattle.std.specs.Prelude.{◌≡◌, ◌<◌, List, ℕ};
-ghost use Rattle.task_set.specs.Unit.{PlainUnit};
-ghost use Rattle.queues.specs.Queue.{Lent};
+ghost use Rattle.unit_model.specs.Unit.{PlainUnit};
+ghost use Rattle.queues.specs.Queue.{BareQueue};
 ghost use Rattle.bays.specs.Lending.{OnceAtTwo, OnceAtThree, OnceAtFour};
 
 use guest_mem::GuestMem;
@@ -10,7 +10,7 @@ use queues::Queue;
 use unit_history::UnitState;
 
 /// What has the units, the queues and the memory of a device, and lends one unit, or one queue with the memory, or the
-/// memory alone, for as long as one closure runs. Units are counted by their places in the inventory, queues by their
+/// memory alone, for as long as one closure runs. Units are counted by their indices in the inventory, queues by their
 /// numbers.
 pub trait Bays {
     /// The unit at this place may be lent as this.
@@ -20,10 +20,10 @@ pub trait Bays {
     ghost keeps_unit: { Self → ℕ → PlainUnit → Self → Type 0 };
 
     /// The queue of this number may be lent as this, with the memory as these bytes.
-    ghost lends_queue: { Self → ℕ → Lent → List ℕ → Type 0 };
+    ghost lends_queue: { Self → ℕ → BareQueue → List ℕ → Type 0 };
 
     /// The queue of this number came back as this, with the memory as these bytes, and nothing else changed.
-    ghost keeps_queue: { Self → ℕ → Lent → List ℕ → Self → Type 0 };
+    ghost keeps_queue: { Self → ℕ → BareQueue → List ℕ → Self → Type 0 };
 
     /// The memory may be lent as these bytes.
     ghost lends_memory: { Self → List ℕ → Type 0 };
@@ -37,11 +37,11 @@ pub trait Bays {
     /// How many queues there are.
     ghost queues: { Self → ℕ };
 
-    /// How many units there are. Whoever has a place that a request names asks before it has that unit lent.
+    /// Returns how many units there are. Whoever has a place that a request names asks before it has that unit lent.
     fn unit_count(&self) -> usize
         ensures { result ≡ units self.now };
 
-    /// How many queues there are.
+    /// Returns how many queues there are.
     fn queue_count(&self) -> usize
         ensures { result ≡ queues self.now };
 
@@ -72,7 +72,7 @@ pub trait Bays {
     ) -> T
         requires there { at < queues self.old }
         requires phase { F.IsAlwaysCallable phase }
-        ensures did { (q : Lent) × (m : List ℕ) × (r : Lent) × (n : List ℕ) × lends_queue self.old at q m
+        ensures did { (q : BareQueue) × (m : List ℕ) × (r : BareQueue) × (n : List ℕ) × lends_queue self.old at q m
             × OnceAtFour F.FnOnce phase q m one.old other.old result r n one.new other.new
             × keeps_queue self.old at r n self.new }
         ensures units { units self.new ≡ units self.old }

@@ -1,12 +1,23 @@
-//! Who lends the phases what they work on: locks that threads share, or the plain parts of one thread.
+//! Who lends the phases what they work on, locks that threads share or the plain parts of one thread; and each phase in
+//! one hold of what it works on, whoever lends that.
 #![tactic(auto)]
 
+mod at_memory;
+mod at_queues;
+mod at_units;
 mod gate;
 mod holding;
 mod lend;
 mod locked;
 mod plain;
 
+pub use at_memory::{peek_on, poke_on};
+pub use at_queues::{
+    answer_on, answer_tmf_on, direct_on, fetch_control_on, fetch_event_on, fetch_on, raise_on,
+};
+pub use at_units::{
+    check_on, commit_on, enter_on, hard_on, leave_on, mark_on, prepare_on, resize_on,
+};
 pub use gate::{Gate, Open, Point};
 pub use holding::hold;
 pub use lend::Bays;

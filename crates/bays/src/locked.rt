@@ -1,7 +1,7 @@
 //! The parts of a device that threads share, each under a lock.
 
 ghost use Rattle.std.specs.Prelude.{◌≡◌, length};
-ghost use Rattle.task_set.specs.Unit.{IsUnit};
+ghost use Rattle.unit_model.specs.Unit.{IsUnit};
 ghost use Rattle.bays.specs.Lending.{IsQueue, IsMemory};
 
 use crate::holding::hold;
@@ -20,7 +20,7 @@ use unit_history::UnitState;
 pub struct Locked<'a, R: Wait> {
     /// What lets a thread wait.
     pub rt: &'a R,
-    /// The units by their places in the inventory.
+    /// The units by their indices in the inventory.
     pub units: &'a [Mutex<UnitState>],
     /// The queues by their numbers.
     pub queues: &'a [Mutex<Queue>],

@@ -10,7 +10,7 @@ use unit_history::UnitState;
 /// The parts of a device that one thread has: what is lent is what stands there, and what comes back stands there then.
 #[derive(Drop)]
 pub struct Plain<'a> {
-    /// The units by their places in the inventory.
+    /// The units by their indices in the inventory.
     pub units: &'a mut [UnitState],
     /// The queues by their numbers.
     pub queues: &'a mut [Queue],

@@ -37,10 +37,10 @@ const YIELDS: u64 = 16;
 
 /// What serves a guest.
 pub(crate) trait Device {
-    /// The guest's write.
+    /// Writes bytes as the guest.
     fn poke(&mut self, addr: u64, bytes: &[u8]);
 
-    /// The guest's read.
+    /// Reads bytes as the guest.
     fn peek(&mut self, addr: u64, out: &mut [u8]);
 
     /// Waits until so many requests of a unit are answered. Whether they are.
@@ -99,7 +99,7 @@ impl Answered {
         }
     }
 
-    /// Those of a unit.
+    /// Returns those of a unit.
     fn of(&self, lun: u8) -> &AtomicU64 {
         if lun == 0 { &self.first } else { &self.second }
     }

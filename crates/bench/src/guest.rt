@@ -205,7 +205,7 @@ impl Guest {
         })
     }
 
-    /// How many requests of a unit are made available up to a set of a round.
+    /// Returns how many requests of a unit are made available up to a set of a round.
     fn sent(&self, round: u64, set: u16) -> u64 {
         round
             .wrapping_mul(u64::from(self.work.depth))

@@ -27,7 +27,7 @@ pub(crate) enum Data {
 }
 
 impl Kind {
-    /// Its operation code.
+    /// Returns its operation code.
     fn opcode(self) -> u8 {
         match self {
             Kind::Read512 | Kind::Read64k => 0x28,

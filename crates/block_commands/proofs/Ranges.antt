@@ -8,10 +8,10 @@ use Rattle.block_store.specs.Blocks.{Blocks, run, overwritten, block_count, is_w
 use Rattle.replies.specs.Data.{Answer}
 use Rattle.replies.specs.PlainReply.{PlainReply, replied}
 use Rattle.replies.specs.Statuses.{good}
-use Rattle.command_set.specs.Comparing.{to_compare, first_unequal}
-use Rattle.command_set.specs.Effects.{block_after, where_covered}
-use Rattle.command_set.specs.Facts.{Facts}
-use Rattle.command_set.specs.Replies.{within, compared, answer_of, reported}
+use Rattle.replies.specs.Comparing.{to_compare, first_unequal}
+use Rattle.replies.specs.Effects.{block_after, where_covered}
+use Rattle.replies.specs.Facts.{Facts}
+use Rattle.replies.specs.Replies.{within, compared, answer_of, reported}
 use Rattle.sense.specs.Conditions.{lba_out_of_range}
 
 -- blocks that agree below a number give the same run below it

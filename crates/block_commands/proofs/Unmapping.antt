@@ -8,9 +8,9 @@ use Rattle.std.specs.Prelude.{◌||◌, ◌&&◌, nat_lt}
 use Rattle.sense.specs.Conditions.{parameter_list_length_error, lba_out_of_range, invalid_field_in_parameter_list}
 use Rattle.cdb.specs.declared.commands.Command.TheVariants.{Unmap}
 use Rattle.block_store.specs.Blocks.{Blocks}
-use Rattle.command_set.specs.Facts.{Facts}
-use Rattle.command_set.specs.Replies.{done, unmap_answer, reply_of}
-use Rattle.command_set.specs.UnmapList.{descriptors, descriptors_in, descriptor_count, blocks_named, are_in_range}
+use Rattle.replies.specs.Facts.{Facts}
+use Rattle.replies.specs.Replies.{done, unmap_answer, reply_of}
+use Rattle.replies.specs.UnmapList.{descriptors, descriptors_in, descriptor_count, blocks_named, are_in_range}
 use Rattle.block_commands.proofs.Descriptors.{length-descriptors_in}
 
 pub descriptors-none : (bytes : List ℕ) → length bytes ≡ 0 → descriptors bytes ≡ []

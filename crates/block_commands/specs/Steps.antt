@@ -6,7 +6,7 @@ use Rattle.cdb.specs.declared.commands.Command.{Command}
 use Rattle.replies.specs.Data.{Answer}
 use Rattle.replies.specs.PlainReply.{plain_of, success, refusal}
 use Rattle.replies.specs.declared.reply.Reply.{Reply}
-use Rattle.command_set.specs.Replies.{done}
+use Rattle.replies.specs.Replies.{done}
 use Rattle.block_commands.specs.declared.failure.Failure.{Failure}
 use Rattle.block_commands.specs.declared.failure.Failure.TheVariants.{Refused, WantOfMemory}
 

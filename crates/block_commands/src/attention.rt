@@ -1,7 +1,7 @@
 //! Which commands meet a pending unit attention (SAM-5 §5.14).
 
 ghost use Rattle.std.specs.Prelude.{◌≡◌};
-ghost use Rattle.command_set.specs.Attention.{takes, met};
+ghost use Rattle.replies.specs.Attention.{takes, met};
 
 use cdb::Command;
 use replies::{INQUIRY, REQUEST_SENSE};
@@ -10,9 +10,9 @@ use sense::Sense;
 /// The opcode of REPORT LUNS, which a CDB that is refused still has.
 const REPORT_LUNS: u8 = 0xa0;
 
-/// Whether the command takes the oldest pending attention, if there is one: every command but
-/// INQUIRY, REPORT LUNS and a refused CDB of these two or of REQUEST SENSE. Whoever keeps the
-/// attentions asks this when the command ran, and removes the oldest.
+/// Returns true if the command takes the oldest pending attention, if there is one: every command but INQUIRY, REPORT
+/// LUNS and a refused CDB of these two or of REQUEST SENSE. Whoever keeps the attentions asks this when the command
+/// ran, and removes the oldest.
 pub fn takes_attention(command: &Command) -> bool
     ensures { result ≡ takes command.now }
 {

@@ -5,10 +5,10 @@ ghost use Rattle.std.specs.Result.{ForOk};
 ghost use Rattle.cdb.specs.Need.{need_of};
 ghost use Rattle.replies.specs.Data.{data_of};
 ghost use Rattle.replies.specs.PlainReply.{plain_of};
-ghost use Rattle.command_set.specs.Effects.{block_after, given};
+ghost use Rattle.replies.specs.Effects.{block_after, given};
 ghost use Rattle.block_commands.specs.Told.{facts_of};
-ghost use Rattle.block_commands.specs.Memory.{may_want, wants};
-ghost use Rattle.command_set.specs.Replies.{reply_of, answer_of};
+ghost use Rattle.replies.specs.Memory.{may_want, wants};
+ghost use Rattle.replies.specs.Replies.{reply_of, answer_of};
 ghost use Rattle.block_commands.specs.Steps.{Gives, Replies, Wants};
 
 use crate::attention::met_attention;

@@ -1,7 +1,7 @@
 //! The data of INQUIRY (SPC-4 §6.6, §7.8, SBC-3 §6.6).
 
 ghost use Rattle.std.specs.Prelude.{◌≡◌, ◌+◌, ◌*◌, ◌/◌, ◌%◌, ◌<◌, nat_lt, take, IfOk, OnErr, IsTrue};
-ghost use Rattle.command_set.specs.Inquiry.{serial, serial_page, identification_page, limits_page, inquiry_data};
+ghost use Rattle.replies.specs.Inquiry.{serial, serial_page, identification_page, limits_page, inquiry_data};
 
 use crate::data::cut;
 use cdb::InquiryData;
@@ -26,7 +26,7 @@ const IDENTIFICATION_HEADER: [u8; 16] = *b"\x00\x83\x00\x19\x02\x01\x00\x15VSCSI
 
 /// The data that an INQUIRY asks for, of the unit of this target and LUN, cut to the allocation
 /// length.
-#[tactic(auto, unfolding(command_set::specs::Inquiry::supported_pages, command_set::specs::Inquiry::provisioning_page))]
+#[tactic(auto, unfolding(replies::specs::Inquiry::supported_pages, replies::specs::Inquiry::provisioning_page))]
 pub(crate) fn inquiry(
     alloc: Global,
     what: InquiryData,
@@ -50,7 +50,7 @@ pub(crate) fn inquiry(
 }
 
 /// Unit Serial Number.
-#[tactic(auto, unfolding(command_set::specs::Inquiry::serial_page, command_set::specs::Inquiry::serial))]
+#[tactic(auto, unfolding(replies::specs::Inquiry::serial_page, replies::specs::Inquiry::serial))]
 fn serial_page(target: u8, lun: u16) -> [u8; 17]
     ensures { result ≡ serial_page target lun }
 {
@@ -61,7 +61,7 @@ fn serial_page(target: u8, lun: u16) -> [u8; 17]
 }
 
 /// Device Identification.
-#[tactic(auto, unfolding(command_set::specs::Inquiry::identification_page, command_set::specs::Inquiry::serial))]
+#[tactic(auto, unfolding(replies::specs::Inquiry::identification_page, replies::specs::Inquiry::serial))]
 fn identification_page(target: u8, lun: u16) -> [u8; 29]
     ensures { result ≡ identification_page target lun }
 {
@@ -72,7 +72,7 @@ fn identification_page(target: u8, lun: u16) -> [u8; 29]
 }
 
 /// The serial number of the unit of this target and LUN.
-#[tactic(auto, unfolding(command_set::specs::Inquiry::serial))]
+#[tactic(auto, unfolding(replies::specs::Inquiry::serial))]
 fn serial(target: u8, lun: u16) -> [u8; 13]
     ensures { result ≡ serial target lun }
 {
@@ -103,7 +103,7 @@ fn digit(number: u16, worth: u16) -> u8
 }
 
 /// Block Limits: what `cdb` and UNMAP refuse to exceed.
-#[tactic(auto, unfolding(command_set::specs::Inquiry::limits_page))]
+#[tactic(auto, unfolding(replies::specs::Inquiry::limits_page))]
 fn limits_page() -> [u8; 64]
     ensures { result ≡ limits_page }
 {

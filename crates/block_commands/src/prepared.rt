@@ -7,11 +7,11 @@ ghost use Rattle.cdb.specs.Need.{need_of};
 ghost use Rattle.replies.specs.Data.{data_of};
 ghost use Rattle.replies.specs.PlainReply.{plain_of, success};
 ghost use Rattle.replies.specs.Statuses.{good};
-ghost use Rattle.command_set.specs.Capacity.{is_in_range};
-ghost use Rattle.command_set.specs.Effects.{block_after};
-ghost use Rattle.command_set.specs.Replies.{reply_of};
+ghost use Rattle.replies.specs.Capacity.{is_in_range};
+ghost use Rattle.replies.specs.Effects.{block_after};
+ghost use Rattle.replies.specs.Replies.{reply_of};
 ghost use Rattle.block_commands.specs.Told.{facts_of};
-ghost use Rattle.block_commands.specs.Memory.{may_want};
+ghost use Rattle.replies.specs.Memory.{may_want};
 ghost use Rattle.block_commands.specs.Prepared.{IsOf};
 
 use crate::attention::met_attention;

@@ -2,8 +2,8 @@
 
 ghost use Rattle.std.specs.Prelude.{◌≡◌, ℕ, ◌+◌, ◌*◌, ◌-◌, ◌≤◌, ◌<◌, length, drop, nat_lt, ◌||◌, IsTrue, OnOk, OnErr, if◌then◌else◌};
 ghost use Rattle.block_store.specs.Blocks.{zero_block};
-ghost use Rattle.command_set.specs.Replies.{unmap_answer};
-ghost use Rattle.command_set.specs.UnmapList.{descriptor, descriptors_in, descriptor_count, descriptors, blocks_named, are_in_range, is_named};
+ghost use Rattle.replies.specs.Replies.{unmap_answer};
+ghost use Rattle.replies.specs.UnmapList.{descriptor, descriptors_in, descriptor_count, descriptors, blocks_named, are_in_range, is_named};
 ghost use Rattle.block_commands.specs.Steps.{Ends};
 
 use crate::capacity::is_in_range;
@@ -58,7 +58,7 @@ pub(crate) fn unmap<S: Store>(store: &mut S, list: &[u8]) -> Result<(), Sense>
 
 /// How many descriptors are taken: the whole ones in the length that the header gives, as far as the
 /// list has them.
-#[tactic(auto, unfolding(command_set::specs::UnmapList::descriptor_count))]
+#[tactic(auto, unfolding(replies::specs::UnmapList::descriptor_count))]
 fn taken_descriptors(list: &[u8]) -> usize
     requires { 8 ≤ length list.now }
     ensures count { result ≡ descriptor_count list.now }

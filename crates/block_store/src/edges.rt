@@ -31,7 +31,7 @@ impl Edges {
     ghost use Rattle.block_store.specs.Blocks.{overwritten};
     ghost use Rattle.block_store.specs.Drafts.{edges_draft, prepared_draft};
 
-    /// The new pages of the range, with these bytes, 512 for each block, over its blocks. Needs no store.
+    /// Makes the new pages of the range, with these bytes, 512 for each block, over its blocks. Needs no store.
     pub fn prepare(self, bytes: &[u8]) -> Result<Prepared, NoMemory>
         requires { length bytes.now ≡ 512 * (edges_draft self).count }
         ensures first { IfOk result (λ prepared. (prepared_draft prepared).first ≡ (edges_draft self).first) }
@@ -59,14 +59,14 @@ impl Prepared {
     ghost use Rattle.std.specs.Prelude.{◌≡◌};
     ghost use Rattle.block_store.specs.Drafts.{prepared_draft};
 
-    /// The first block of the range.
+    /// Returns the first block of the range.
     pub fn first(&self) -> u64
         ensures { result ≡ (prepared_draft self.now).first }
     {
         self.first
     }
 
-    /// How many blocks the range has.
+    /// Returns how many blocks the range has.
     pub fn count(&self) -> u32
         ensures { result ≡ (prepared_draft self.now).count }
     {

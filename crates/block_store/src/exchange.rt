@@ -56,7 +56,7 @@ impl Pages {
         }
     }
 
-    /// Whether `count` blocks of one page are those of others.
+    /// Returns true if `count` blocks of one page are those of others.
     fn is_same(&self, others: &Pages, first: u64, count: usize) -> bool
         requires { first % 8 + count ≤ 8 }
         ensures { IsTrue result ↔ ((b : ℕ) → IsTrue (is_within first count b) → blocks_of self.now b ≡ blocks_of others.now b) }

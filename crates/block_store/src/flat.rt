@@ -27,7 +27,7 @@ impl Model for FlatStore {
 }
 
 impl FlatStore {
-    /// So many blocks of zeros. Refuses where the memory can't be had, also where so many bytes are
+    /// Makes a store of so many blocks of zeros. Refuses where the memory can't be had, also where so many bytes are
     /// more than a `usize` counts.
     pub fn new(alloc: Global, blocks: u64) -> Result<FlatStore, NoMemory>
         ensures capacity { IfOk result (λ s. ⟦<FlatStore as Store>⟧.size s ≡ blocks) }

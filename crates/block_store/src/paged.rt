@@ -24,7 +24,7 @@ pub struct PagedStore {
 }
 
 impl PagedStore {
-    /// So many blocks of zeros. Takes no memory.
+    /// Makes a store of so many blocks of zeros. Takes no memory.
     pub fn new(alloc: Global, blocks: u64) -> PagedStore
         ensures capacity { ⟦<PagedStore as Store>⟧.size result ≡ blocks }
         ensures zeros { (b : ℕ) → ⟦<PagedStore as Store>⟧.block_at result b ≡ zero_block }

@@ -101,7 +101,7 @@ impl Pages {
         }
     }
 
-    /// Whether the page of the block keeps its bytes.
+    /// Returns true if the page of the block keeps its bytes.
     fn is_made(&self, block: u64) -> bool
         ensures { result ≡ is_made self.now (block / 8) }
     {

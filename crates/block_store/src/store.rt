@@ -19,7 +19,7 @@ pub trait Store {
     // The bytes of each block.
     ghost block_at: { Self → ℕ → List ℕ };
 
-    /// How many blocks there are.
+    /// Returns how many blocks there are.
     fn capacity(&self) -> u64
         ensures { result ≡ size self.now };
 

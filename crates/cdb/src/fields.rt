@@ -16,7 +16,7 @@ pub struct Blocks {
     pub count: u32,
 }
 
-/// The logical block address of 21 bits in a CDB of 6 bytes.
+/// Returns the logical block address of 21 bits in a CDB of 6 bytes.
 pub fn lba_6(cdb: &[u8; CDB_BYTES]) -> u64
     ensures { result ≡ lba_6 cdb.now }
 {
@@ -24,21 +24,21 @@ pub fn lba_6(cdb: &[u8; CDB_BYTES]) -> u64
     (high << 16) + u64::from(BigEndian::read_u16(&cdb[2..4]))
 }
 
-/// The logical block address in a CDB of 10 or 12 bytes.
+/// Returns the logical block address in a CDB of 10 or 12 bytes.
 pub fn lba_32(cdb: &[u8; CDB_BYTES]) -> u64
     ensures { result ≡ number 2 5 cdb.now }
 {
     u64::from(BigEndian::read_u32(&cdb[2..6]))
 }
 
-/// The logical block address in a CDB of 16 bytes.
+/// Returns the logical block address in a CDB of 16 bytes.
 pub fn lba_64(cdb: &[u8; CDB_BYTES]) -> u64
     ensures { result ≡ number 2 9 cdb.now }
 {
     BigEndian::read_u64(&cdb[2..10])
 }
 
-/// The transfer length in a CDB of 6 bytes, in blocks: 0 means 256.
+/// Returns the transfer length in a CDB of 6 bytes, in blocks: 0 means 256.
 pub fn length_6(cdb: &[u8; CDB_BYTES]) -> u16
     ensures length { result ≡ length_6 cdb.now }
     ensures bounded { result ≤ 256 }
@@ -49,7 +49,7 @@ pub fn length_6(cdb: &[u8; CDB_BYTES]) -> u16
     }
 }
 
-/// The blocks of a CDB of 10 bytes.
+/// Returns the blocks of a CDB of 10 bytes.
 pub fn blocks_10(cdb: &[u8; CDB_BYTES]) -> Blocks
     ensures lba { result.lba ≡ number 2 5 cdb.now }
     ensures count { result.count ≡ number 7 8 cdb.now }
@@ -60,7 +60,7 @@ pub fn blocks_10(cdb: &[u8; CDB_BYTES]) -> Blocks
     }
 }
 
-/// The blocks of a CDB of 12 bytes.
+/// Returns the blocks of a CDB of 12 bytes.
 pub fn blocks_12(cdb: &[u8; CDB_BYTES]) -> Blocks
     ensures lba { result.lba ≡ number 2 5 cdb.now }
     ensures count { result.count ≡ number 6 9 cdb.now }
@@ -71,7 +71,7 @@ pub fn blocks_12(cdb: &[u8; CDB_BYTES]) -> Blocks
     }
 }
 
-/// The blocks of a CDB of 16 bytes.
+/// Returns the blocks of a CDB of 16 bytes.
 pub fn blocks_16(cdb: &[u8; CDB_BYTES]) -> Blocks
     ensures lba { result.lba ≡ number 2 9 cdb.now }
     ensures count { result.count ≡ number 10 13 cdb.now }
@@ -82,14 +82,14 @@ pub fn blocks_16(cdb: &[u8; CDB_BYTES]) -> Blocks
     }
 }
 
-/// Whether RDPROTECT or WRPROTECT asks for protection information.
+/// Returns true if RDPROTECT or WRPROTECT asks for protection information.
 pub fn has_protect(cdb: &[u8; CDB_BYTES]) -> bool
     ensures { result ≡ protect cdb.now }
 {
     cdb[1] >> 5 != 0
 }
 
-/// Whether this bit of a byte, 0 to 7, is 1.
+/// Returns true if this bit of a byte, 0 to 7, is 1.
 pub fn has_bit(byte: u8, place: u8) -> bool
     requires { place < 8 }
     ensures { result ≡ (byte / 2 ^ place % 2 == 1) }
@@ -97,7 +97,7 @@ pub fn has_bit(byte: u8, place: u8) -> bool
     byte >> place & 1 == 1
 }
 
-/// The number in this many low bits of a byte, 0 to 7.
+/// Returns the number in this many low bits of a byte, 0 to 7.
 pub fn low_bits(byte: u8, count: u8) -> u8
     requires { count < 8 }
     ensures { result ≡ byte % 2 ^ count }

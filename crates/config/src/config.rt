@@ -101,9 +101,9 @@ fn lies_within(number: u64, least: u64, most: u64) -> bool
 }
 
 impl Config {
-    /// Why the device doesn't take it; `None` exactly where it does. Whoever sets a device up asks it to say what
-    /// `World::new` answers `BadConfig` for. Pages are looked at first, then features, queues, workers, the hand-off
-    /// and units.
+    /// Returns why the device doesn't take it; `None` exactly where it does. Whoever sets a device up asks it to say
+    /// what `World::new` answers `BadConfig` for. Pages are looked at first, then features, queues, workers, the
+    /// hand-off and units.
     pub fn fault(&self) -> Option<ConfigFault>
         ensures none { is_none result ≡ is_config self.now }
         ensures cause { IfSome result (λ fault. IsFault self.now fault) }
@@ -127,7 +127,7 @@ impl Config {
         fault_of_units(self.units.as_slice())
     }
 
-    /// Whether the device takes it.
+    /// Returns true if the device takes it.
     pub fn is_valid(&self) -> bool
         ensures { result ≡ is_config self.now }
     {

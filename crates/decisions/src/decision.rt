@@ -18,12 +18,12 @@ use sense::Sense;
 pub enum Decision {
     /// It is answered so, and goes to no unit.
     Direct(DirectAnswer),
-    /// It goes to the unit at this place of the inventory.
+    /// It goes to the unit at this index of the inventory.
     Enter(usize, UnitRequest),
 }
 
 impl ChainLengths {
-    /// Whether data go both ways, which isn't offered.
+    /// Returns true if data go both ways, which isn't offered.
     fn go_both_ways(&self) -> bool
         ensures { result ≡ goes_both_ways self.now }
     {
@@ -75,8 +75,8 @@ fn decide_by_command(
     }
 }
 
-/// What is decided of a request, by the first bytes of its chain, 1,048,627 at most: the first cause that holds of
-/// those that answer it directly, else that it goes to its unit. A worker calls it once a chain, in the hold of the
+/// Returns what is decided of a request, by the first bytes of its chain, 1,048,627 at most: the first cause that holds
+/// of those that answer it directly, else that it goes to its unit. A worker calls it once a chain, in the hold of the
 /// queue in which it was fetched. It takes no memory. Bytes in which data stand that the command takes are moved into
 /// the request; all others are left to whoever calls.
 pub fn decide(inventory: &Inventory, bytes: &mut Vec<u8>, lengths: &ChainLengths) -> Decision

@@ -137,7 +137,7 @@ const NO_LENGTHS: ChainLengths = ChainLengths {
 };
 
 impl DirectAnswer {
-    /// No byte: the chain is used with length 0.
+    /// Makes an answer of no byte: the chain is used with length 0.
     pub fn nothing() -> DirectAnswer
         ensures { result ≡ [] }
     {
@@ -147,7 +147,7 @@ impl DirectAnswer {
         }
     }
 
-    /// A response other than OK.
+    /// Makes a response other than OK.
     pub fn failed(code: ResponseCode) -> DirectAnswer
         ensures bytes { result ≡ failed code }
         ensures len { length result ≡ RESPONSE_BYTES }
@@ -158,7 +158,7 @@ impl DirectAnswer {
         }
     }
 
-    /// CHECK CONDITION with this sense data.
+    /// Makes CHECK CONDITION with this sense data.
     pub fn refused(lengths: &ChainLengths, sense: Sense) -> DirectAnswer
         requires sum { lengths.now.readable + lengths.now.writable ≤ 2 ^ 32 }
         requires room { RESPONSE_BYTES ≤ lengths.now.writable }
@@ -171,7 +171,7 @@ impl DirectAnswer {
         }
     }
 
-    /// A status with no sense data, which moves nothing, as BUSY and TASK SET FULL.
+    /// Makes a status with no sense data, which moves nothing, as BUSY and TASK SET FULL.
     pub fn of_status(lengths: &ChainLengths, status: u8) -> DirectAnswer
         requires sum { lengths.now.readable + lengths.now.writable ≤ 2 ^ 32 }
         requires room { RESPONSE_BYTES ≤ lengths.now.writable }
@@ -197,7 +197,7 @@ impl DirectAnswer {
         }
     }
 
-    /// These bytes, which another table gives.
+    /// Makes an answer of these bytes, which another table gives.
     pub fn of_bytes(from: &[u8]) -> DirectAnswer
         requires { length from.now ≤ MOST_OTHER_BYTES }
         ensures { result ≡ from.now }
@@ -212,7 +212,7 @@ impl DirectAnswer {
         }
     }
 
-    /// Its bytes.
+    /// Returns its bytes.
     pub fn bytes(&self) -> DirectBytes
         ensures { result.items ≡ self.now }
     {

@@ -25,7 +25,7 @@ pub struct UnitSpec {
 }
 
 impl UnitSpec {
-    /// Its address.
+    /// Returns its address.
     pub fn address(&self) -> Address
         ensures { result ≡ address_of self.now }
     {
@@ -56,7 +56,7 @@ impl Model for Inventory {
 }
 
 impl Inventory {
-    /// The addresses of these units. Whoever opens a device calls it once.
+    /// Makes the addresses of these units. Whoever opens a device calls it once.
     pub fn new(units: &[UnitSpec]) -> Inventory
         requires few { length units.now ≤ MOST_UNITS }
         requires rising { is_rising (map address_of units.now) ≡ true }
@@ -69,7 +69,7 @@ impl Inventory {
         Inventory { addresses }
     }
 
-    /// The addresses, each at its unit's place.
+    /// Returns the addresses, each at its unit's place.
     pub fn as_slice(&self) -> &[Address]
         ensures addresses { result.now ≡ self.now }
         ensures few { length result.now ≤ MOST_UNITS }
@@ -77,7 +77,7 @@ impl Inventory {
         self.addresses.as_slice()
     }
 
-    /// Whether a unit of this target is there.
+    /// Returns true if a unit of this target is there.
     pub fn has_target(&self, target: u8) -> bool
         ensures { result ≡ has_target self.now target }
     {
@@ -87,7 +87,7 @@ impl Inventory {
             .any(|address| address.target == target)
     }
 
-    /// The place of the unit with this address; `None` where it isn't there.
+    /// Returns the place of the unit with this address; `None` where it isn't there.
     pub fn find(&self, address: &Address) -> Option<usize>
         ensures place { result ≡ place_of self.now address.now }
         ensures within { IfSome result (λ place. place < length self.now) }
@@ -98,7 +98,7 @@ impl Inventory {
             .position(|it| it.target == address.target && it.lun == address.lun)
     }
 
-    /// The LUNs of a target, rising.
+    /// Returns the LUNs of a target, rising.
     pub fn luns_of(&self, alloc: Global, target: u8) -> Result<Vec<u16>, AllocError>
         ensures luns { IfOk result (λ luns. luns.items ≡ luns_of self.now target) }
         ensures few { IfOk result (λ luns. length luns.items ≤ MOST_UNITS) }
@@ -119,7 +119,7 @@ fn is_before(unit: &UnitSpec, other: &UnitSpec) -> bool
     unit.target < other.target || (unit.target == other.target && unit.lun < other.lun)
 }
 
-/// Whether the addresses of units rise, which those of an inventory do.
+/// Returns true if the addresses of units rise, which those of an inventory do.
 pub fn are_rising(units: &[UnitSpec]) -> bool
     ensures { result ≡ is_rising (map address_of units.now) }
 {

@@ -70,28 +70,28 @@ impl UnitRequest {
         }
     }
 
-    /// The driver's identifier of the command.
+    /// Returns the driver's identifier of the command.
     pub fn id(&self) -> u64
         ensures { result ≡ self.now.id }
     {
         self.id
     }
 
-    /// When it may run beside other commands.
+    /// Returns when it may run beside other commands.
     pub fn attribute(&self) -> TaskAttribute
         ensures { result ≡ self.now.attribute }
     {
         self.attribute
     }
 
-    /// The command.
+    /// Returns the command.
     pub fn command(&self) -> Command
         ensures { result ≡ self.now.command }
     {
         self.command
     }
 
-    /// The data that the command takes from the driver: exactly as many bytes as it needs.
+    /// Returns the data that the command takes from the driver: exactly as many bytes as it needs.
     pub fn data(&self) -> &[u8]
         ensures data { result.now ≡ self.now.data_out }
         ensures len { length result.now ≡ (need_of self.now.command).out }

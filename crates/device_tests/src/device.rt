@@ -6,7 +6,8 @@ mod portions;
 mod service;
 mod views;
 
-use device_bench::{HandedOn, Row, first_wrong, hand_on};
+use crate::disks::{HandedOn, hand_on};
+use crate::steps::{Row, first_wrong};
 use std::alloc::Global;
 use std::fmt::Display;
 use std::process::Abort;

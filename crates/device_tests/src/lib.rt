@@ -6,4 +6,12 @@
 #[cfg(test)]
 mod device;
 #[cfg(test)]
-mod reports;
+mod disks;
+#[cfg(test)]
+mod guest;
+#[cfg(test)]
+mod moves;
+#[cfg(test)]
+mod opening;
+#[cfg(test)]
+mod steps;

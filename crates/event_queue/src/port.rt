@@ -48,7 +48,7 @@ impl EventPort {
     ghost use Rattle.std.specs.Option.{ForSome};
     ghost use Rattle.event_queue.specs.Port.{Happening, HoldsEvent, opening_port, gives, after};
 
-    /// A port that holds no buffer, with room for `size`. Only this call takes memory.
+    /// Makes a port that holds no buffer, with room for `size`. Only this call takes memory.
     pub fn new(alloc: Global, size: usize) -> Result<EventPort, AllocError>
         ensures { IfOk result (λ port. port ≡ opening_port size) }
     {
@@ -59,28 +59,28 @@ impl EventPort {
         })
     }
 
-    /// How many buffers it holds.
+    /// Returns how many buffers it holds.
     pub fn len(&self) -> usize
         ensures { result ≡ length self.now.buffers }
     {
         self.buffers.len()
     }
 
-    /// Whether it may hold one more.
+    /// Returns true if it may hold one more.
     pub fn has_room(&self) -> bool
         ensures { IsTrue result ↔ (length self.now.buffers < self.now.limit) }
     {
         self.len() < self.limit
     }
 
-    /// Whether an event was missed since a buffer last came.
+    /// Returns true if an event was missed since a buffer last came.
     pub fn missed(&self) -> bool
         ensures { result ≡ self.now.missed }
     {
         self.missed
     }
 
-    /// The oldest buffer that it holds; `None` where it holds none. An event fits into it.
+    /// Returns the oldest buffer that it holds; `None` where it holds none. An event fits into it.
     pub fn oldest(&self) -> Option<&Chain>
         ensures some { IfSome result (λ c. slice_get self.now.buffers 0 ≡ Some c.now) }
         ensures none { result ≡ None → self.now.buffers ≡ [] }
@@ -89,7 +89,7 @@ impl EventPort {
         self.buffers.front()
     }
 
-    /// An event is raised: the oldest buffer goes back with its bytes, or the event is missed, where none is held.
+    /// Raises an event: the oldest buffer goes back with its bytes, or the event is missed, where none is held.
     pub fn raise(&mut self, event: &Event) -> Option<(Chain, [u8; EVENT_BYTES])>
         requires { ForSome event.now.address (λ a. a.lun < 16384) }
         ensures gives { result ≡ gives (Happening.Raised event.now) self.old }
@@ -105,7 +105,7 @@ impl EventPort {
         }
     }
 
-    /// A buffer comes, into which an event fits: it goes back at once and tells that events were missed, where one was
+    /// Takes a buffer, into which an event fits: it goes back at once and tells that events were missed, where one was
     /// missed since a buffer last came, and else is held. There is room for it, which the caller sees to.
     pub fn buffer(&mut self, chain: Chain) -> Option<(Chain, [u8; EVENT_BYTES])>
         requires room { length self.old.buffers < self.old.limit }

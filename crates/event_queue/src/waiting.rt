@@ -29,7 +29,7 @@ impl WaitingEvents {
     ghost use Rattle.scsi_codec.specs.declared.event_queue.Event.{Event};
     ghost use Rattle.event_queue.specs.Port.{HasAddress};
 
-    /// No event.
+    /// Makes a list of no event.
     pub fn new(alloc: Global) -> WaitingEvents
         ensures { result ≡ [] }
     {
@@ -38,14 +38,14 @@ impl WaitingEvents {
         }
     }
 
-    /// How many events wait.
+    /// Returns how many events wait.
     pub fn len(&self) -> usize
         ensures { result ≡ length self.now }
     {
         self.events.len()
     }
 
-    /// The oldest event; `None` where none waits.
+    /// Returns the oldest event; `None` where none waits.
     pub fn oldest(&self) -> Option<Event>
         ensures oldest { result ≡ slice_get self.now 0 }
         ensures address { IfSome result (λ e. HasAddress e) }

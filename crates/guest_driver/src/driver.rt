@@ -11,17 +11,11 @@ use crate::requests::{
 use crate::split_queue::SplitQueue;
 use ring_core::Form;
 use script_lines::{Features, LineFault, Send, Stop, TaskManagement};
-use scsi_codec::{EVENT_BYTES, REQUEST_BYTES, RESPONSE_BYTES};
+use scsi_codec::{CONTROL_QUEUE, EVENT_BYTES, EVENT_QUEUE, REQUEST_BYTES, RESPONSE_BYTES};
 use slab::Slab;
 use std::alloc::{AllocError, Global};
 use std::collections::BTreeMap;
 use std::num::NonZeroU16;
-
-/// The control queue (VIRTIO 1.2, 5.6.2).
-const CONTROL_QUEUE: u16 = 0;
-
-/// The event queue (VIRTIO 1.2, 5.6.2).
-const EVENT_QUEUE: u16 = 1;
 
 /// The bytes of the response to a task management function (VIRTIO 1.2, 5.6.6.2).
 const FUNCTION_RESPONSE_BYTES: u64 = 1;
@@ -34,7 +28,7 @@ enum Ring {
 }
 
 impl Ring {
-    /// A queue with no chain.
+    /// Makes a queue with no chain.
     fn new(alloc: Global, form: Form, queue: u16, size: NonZeroU16) -> Result<Ring, AllocError> {
         Ok(match form {
             Form::Split => Ring::Split(SplitQueue::new(alloc, queue, size)?),
@@ -42,7 +36,7 @@ impl Ring {
         })
     }
 
-    /// Whether there is no room for a chain of two descriptors, or of one alone.
+    /// Returns true if there is no room for a chain of two descriptors, or of one alone.
     fn is_full(&self, alone: bool) -> bool {
         match self {
             Ring::Split(ring) => ring.is_full(),
@@ -319,12 +313,13 @@ impl Driver {
         Ok(())
     }
 
-    /// What is known of a request or a function, as the last look found it; `None` where none of that name was sent.
+    /// Returns what is known of a request or a function, as the last look found it; `None` where none of that name was
+    /// sent.
     pub fn sent(&self, name: &str) -> Option<Sent> {
         self.sent.get(name).copied()
     }
 
-    /// The name of the request or function whose chain was the one of this number, from 0, that the queue made
+    /// Returns the name of the request or function whose chain was the one of this number, from 0, that the queue made
     /// available; `None` where there was none.
     pub fn offered(&self, queue: u16, number: u64) -> Option<&str> {
         let queue = self.queues.get(queue as usize)?;
@@ -332,12 +327,12 @@ impl Driver {
         Some(name.as_str())
     }
 
-    /// Where the event buffers lie that were used, in order.
+    /// Returns where the event buffers lie that were used, in order.
     pub fn used_event_buffers(&self) -> &[u64] {
         self.events.as_slice()
     }
 
-    /// The names of a queue's requests or functions that were used, in order; `None` where there is no such
+    /// Returns the names of a queue's requests or functions that were used, in order; `None` where there is no such
     /// queue.
     pub fn used(&self, queue: u16) -> Option<&[String]> {
         Some(self.queues.get(queue as usize)?.used.as_slice())

@@ -20,7 +20,7 @@ pub struct Buffer {
     pub len: u32,
 }
 
-/// A descriptor of either form: an address, a length, and two numbers in the form's own order.
+/// Makes a descriptor of either form: an address, a length, and two numbers in the form's own order.
 pub fn descriptor(buffer: Buffer, third: u16, last: u16) -> [u8; 16]
     ensures { IsDescriptor result buffer third last }
 {
@@ -32,7 +32,7 @@ pub fn descriptor(buffer: Buffer, third: u16, last: u16) -> [u8; 16]
     bytes
 }
 
-/// Two bytes as a number; 0 where the memory refuses them.
+/// Returns two bytes as a number; 0 where the memory refuses them.
 pub fn u16_at<M: GuestMemory>(memory: &M, at: u64) -> u16
     ensures { ((bytes : List ℕ) × (length bytes ≡ 2) × M.finds memory.now at bytes × (result ≡ from_le_bytes w16 bytes))
         ⊎ (M.refuses memory.now at 2 × (result ≡ 0)) }
@@ -44,7 +44,7 @@ pub fn u16_at<M: GuestMemory>(memory: &M, at: u64) -> u16
     }
 }
 
-/// Four bytes as a number; 0 where the memory refuses them.
+/// Returns four bytes as a number; 0 where the memory refuses them.
 pub fn u32_at<M: GuestMemory>(memory: &M, at: u64) -> u32
     ensures { ((bytes : List ℕ) × (length bytes ≡ 4) × M.finds memory.now at bytes × (result ≡ from_le_bytes w32 bytes))
         ⊎ (M.refuses memory.now at 4 × (result ≡ 0)) }

@@ -21,7 +21,7 @@ pub trait GuestMemory {
     /// A write of these bytes at an address may leave it so.
     ghost takes: { Self → ℕ → List ℕ → Self → Type 0 };
 
-    /// How many bytes it has, at most 2^44.
+    /// Returns how many bytes it has, at most 2^44.
     fn size(&self) -> u64
         ensures size { result ≡ extent self.now }
         ensures bounded { result ≤ 2 ^ 44 };

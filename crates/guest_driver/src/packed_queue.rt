@@ -52,7 +52,7 @@ impl Position {
         wrap: true,
     };
 
-    /// The next place in a ring of that size.
+    /// Returns the next place in a ring of that size.
     fn next(self, size: NonZeroU16) -> Position
         ensures { (slots : ℕ) → HasPassed size.value slots self → HasPassed size.value (slots + 1) result }
     {
@@ -69,7 +69,7 @@ impl Position {
         }
     }
 
-    /// The two flags of a descriptor that is available here.
+    /// Returns the two flags of a descriptor that is available here.
     fn available(self) -> u16
         ensures avail { avail_flag result ≡ self.wrap }
         ensures used { used_flag result ≡ not self.wrap }
@@ -77,8 +77,8 @@ impl Position {
         if self.wrap { AVAILABLE } else { USED }
     }
 
-    /// Whether flags are those of a descriptor that is used here: the device wrote them under this
-    /// wrap counter.
+    /// Returns true if flags are those of a descriptor that is used here: the device wrote them under this wrap
+    /// counter.
     fn is_used(self, flags: u16) -> bool
         ensures { (wrap : Bool) (len : ℕ) → flags ≡ used_flags wrap len → (IsTrue result ↔ (wrap ≡ self.wrap)) }
     {
@@ -105,7 +105,7 @@ pub struct PackedQueue {
 }
 
 impl PackedQueue {
-    /// A queue with no chain.
+    /// Makes a queue with no chain.
     pub fn new(alloc: Global, queue: u16, size: NonZeroU16) -> Result<PackedQueue, AllocError> {
         let mut free_ids = BTreeSet::new(alloc);
         for id in 0..size.get() {
@@ -122,7 +122,7 @@ impl PackedQueue {
         })
     }
 
-    /// Whether fewer slots are free than a chain takes that has two descriptors in the ring, or has one alone.
+    /// Returns true if fewer slots are free than a chain takes that has two descriptors in the ring, or has one alone.
     pub fn is_full(&self, alone: bool) -> bool
         ensures two { alone ≡ false → (IsTrue result ↔ (self.now.free_slots < 2)) }
         ensures one { alone ≡ true → (IsTrue result ↔ (self.now.free_slots < 1)) }

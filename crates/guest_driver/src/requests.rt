@@ -11,8 +11,8 @@ use scsi_codec::REQUEST_BYTES;
 use std::alloc::{AllocError, Global};
 use std::marker::Model;
 
-/// The bytes of a request before its data out (VIRTIO 1.2, 5.6.6.1): the unit's address, the id, the
-/// attribute, two bytes that the device ignores, and the command block.
+/// Makes the bytes of a request before its data out (VIRTIO 1.2, 5.6.6.1): the unit's address, the id, the attribute,
+/// two bytes that the device ignores, and the command block.
 pub fn request_head(alloc: Global, send: &Send<'_>) -> Result<Vec<u8>, AllocError>
     ensures { IfOk result (λ head. IsHead head.items send.now) }
 {
@@ -27,8 +27,8 @@ pub fn request_head(alloc: Global, send: &Send<'_>) -> Result<Vec<u8>, AllocErro
 /// The bytes of a task management function (VIRTIO 1.2, 5.6.6.2).
 pub const FUNCTION_BYTES: usize = 24;
 
-/// The bytes of a task management function (VIRTIO 1.2, 5.6.6.2): the type 0, the subtype, the unit's
-/// address and the id.
+/// Makes the bytes of a task management function (VIRTIO 1.2, 5.6.6.2): the type 0, the subtype, the unit's address and
+/// the id.
 pub fn function_request(function: &TaskManagement<'_>) -> [u8; FUNCTION_BYTES]
     ensures { IsFunction result function.now }
 {

@@ -37,7 +37,7 @@ pub struct SplitQueue {
 }
 
 impl SplitQueue {
-    /// A queue with no chain.
+    /// Makes a queue with no chain.
     pub fn new(alloc: Global, queue: u16, size: NonZeroU16) -> Result<SplitQueue, AllocError> {
         let mut free = BTreeSet::new(alloc);
         for pair in 0..size.get() / 2 {
@@ -53,7 +53,7 @@ impl SplitQueue {
         })
     }
 
-    /// Whether no pair is free.
+    /// Returns true if no pair is free.
     pub fn is_full(&self) -> bool
         ensures { IsTrue result ↔ (self.now.free.keys ≡ []) }
     {

@@ -46,8 +46,8 @@ impl Model for GuestMem {
 }
 
 impl GuestMem {
-    /// Zero bytes for `pages` pages of 4,096 bytes, from 1 to 65,536. Whoever sets the guest up
-    /// calls it once. The one refusal is `NoMemory`.
+    /// Makes a memory of zeros for `pages` pages of 4,096 bytes, from 1 to 65,536. Whoever sets the guest up calls it
+    /// once. The one refusal is `NoMemory`.
     pub fn new(alloc: Global, pages: u32) -> Result<GuestMem, MemFault>
         requires { pages ≤ 65536 }
         ensures zeros { IfOk result (λ m. m ≡ replicate (pages * 4096) 0) }
@@ -59,7 +59,7 @@ impl GuestMem {
         }
     }
 
-    /// How many bytes there are, at most 2^28.
+    /// Returns how many bytes there are, at most 2^28.
     pub fn size(&self) -> u64
         ensures size { result ≡ length self.now }
         ensures bounded { result ≤ 2 ^ 28 }
@@ -67,8 +67,8 @@ impl GuestMem {
         self.bytes.len() as u64
     }
 
-    /// The `len` bytes from `addr` on, where they stand. `Outside` exactly where one of them lies
-    /// behind the end; no bytes at the very end lie inside.
+    /// Returns the `len` bytes from `addr` on, where they stand. `Outside` exactly where one of them lies behind the
+    /// end; no bytes at the very end lie inside.
     pub fn slice(&self, addr: u64, len: usize) -> Result<&[u8], MemFault>
         ensures inside { IsOk result ↔ LiesIn (length self.now) addr len }
         ensures bytes { IfOk result (λ bytes. bytes.now ≡ bytes_at self.now addr len) }
@@ -81,7 +81,7 @@ impl GuestMem {
         Ok(self.range(addr, len))
     }
 
-    /// The `len` bytes from `addr` on, where they stand: for whoever knows that they lie inside.
+    /// Returns the `len` bytes from `addr` on, where they stand: for whoever knows that they lie inside.
     #[inline(always)]
     pub fn range(&self, addr: u64, len: usize) -> &[u8]
         requires inside { LiesIn (length self.now) addr len }

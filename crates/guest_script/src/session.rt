@@ -1,13 +1,15 @@
 //! Plays a script on a device of one thread.
 
 use crate::allowance::Allowance;
+use crate::guest::run_guest_line;
+use crate::header::{Wanted, stop_of};
+use crate::known::Known;
 use crate::machine::Machine;
+use crate::printing::print;
+use crate::script::{Script, command_of, line_number, read_whole};
 use crate::steps::{event_of, order};
 use crate::trace::Trace;
 use guest_driver::Driver;
-use script_device::{
-    Known, Script, Wanted, command_of, line_number, print, read_whole, run_guest_line, stop_of,
-};
 use script_lines::{Command, LineFault, ScriptFault, Step, Stop};
 use scsi_codec::Address;
 use std::alloc::{AllocError, Global};
@@ -74,7 +76,7 @@ struct Tracing {
 }
 
 impl Tracing {
-    /// Of a device of so many units, queues and seats. It fails where memory runs out.
+    /// Begins with a device of so many units, queues and seats. It fails where memory runs out.
     fn new(alloc: Global, units: usize, queues: u16, seats: u16) -> Result<Tracing, AllocError> {
         Ok(Tracing {
             order: order(alloc, queues, seats)?,
@@ -84,7 +86,7 @@ impl Tracing {
 }
 
 impl Session {
-    /// The device that a header asks for, and the driver beside it. `BadConfig` where the device refuses.
+    /// Opens the device that a header asks for, and the driver beside it. `BadConfig` where the device refuses.
     fn open(alloc: Global, wanted: Wanted, options: Options) -> Result<Session, Stop> {
         let Wanted {
             config,
@@ -141,11 +143,13 @@ impl Session {
                 Ok(())
             }
             Command::Print(line) => print(self.alloc, out, &self.machine, &self.driver, line),
-            Command::Wait(_) | Command::Close => Err(Stop::Fault(LineFault::OutOfPlace)),
+            Command::Wait(_) | Command::Close | Command::Abandon => {
+                Err(Stop::Fault(LineFault::OutOfPlace))
+            }
         }
     }
 
-    /// The device runs until nothing is left to do. `TooManySteps` where it may not take as many steps.
+    /// Runs the device until nothing is left to do. `TooManySteps` where it may not take as many steps.
     fn settle(&mut self) -> Result<(), Stop> {
         let Some(left) = self.allowance.left else {
             let _steps = self.machine.world.settle()?;
@@ -158,7 +162,7 @@ impl Session {
         Ok(self.allowance.spend(served.steps)?)
     }
 
-    /// The same, where a line is printed for each step.
+    /// Does the same, and prints a line for each step.
     fn settle_by_steps<W: Write>(&mut self, out: &mut W) -> Result<(), Stop> {
         for _ in 0..u64::MAX {
             if !self.next_step(out)? {
@@ -211,7 +215,7 @@ impl Session {
         }
     }
 
-    /// The operator resets a unit; where it isn't there nothing happens.
+    /// Resets a unit for the operator; where it isn't there nothing happens.
     fn hard<W: Write>(&mut self, unit: Address, out: &mut W) -> Result<(), Stop> {
         if let Some(place) = self.known.place(unit) {
             if self.machine.world.step(Event::Hard(place))? {
@@ -221,7 +225,8 @@ impl Session {
         Ok(())
     }
 
-    /// The operator gives a unit so many blocks; where it isn't there, or no unit may have so many, nothing happens.
+    /// Gives a unit so many blocks for the operator; where it isn't there, or no unit may have so many, nothing
+    /// happens.
     fn resize<W: Write>(&mut self, unit: Address, blocks: u64, out: &mut W) -> Result<(), Stop> {
         if let Some(place) = self.known.place(unit) {
             if self.machine.world.step(Event::Resize(place, blocks))? {

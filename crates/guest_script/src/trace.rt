@@ -1,20 +1,15 @@
 //! What each step of the device did, as a line.
 
+use crate::known::Known;
+use crate::runs::written;
 use guest_driver::Driver;
 use ring_core::Ticket;
-use script_device::{Known, written};
 use script_lines::Stop;
-use scsi_codec::Address;
+use scsi_codec::{Address, CONTROL_QUEUE, EVENT_QUEUE};
 use std::alloc::{AllocError, Global};
 use std::io::Write;
 use unit_history::StepKind;
 use world::{Event, World};
-
-/// The queue of task management functions (VIRTIO 1.2, 5.6.2).
-const CONTROL_QUEUE: u16 = 0;
-
-/// The queue of event buffers (VIRTIO 1.2, 5.6.2).
-const EVENT_QUEUE: u16 = 1;
 
 /// What was seen of a device, so that the next step is known by what it changed.
 #[derive(Drop)]
@@ -96,7 +91,7 @@ impl Trace {
         }
     }
 
-    /// What an event was about that just changed something.
+    /// Returns what an event was about that just changed something.
     fn told(&mut self, world: &World, known: &Known, event: &Event) -> Told {
         let (unit, step) = match self.grown(world, known) {
             Some((unit, step)) => (Some(unit), Some(step)),
@@ -122,7 +117,7 @@ impl Trace {
         }
     }
 
-    /// The unit that took a step since the last look, and that step.
+    /// Returns the unit that took a step since the last look, and that step.
     fn grown(&mut self, world: &World, known: &Known) -> Option<(Address, StepKind)> {
         for (place, seen) in self.steps.iter_mut().enumerate() {
             let spec = known.units.get(place)?;
@@ -139,7 +134,7 @@ impl Trace {
         None
     }
 
-    /// The chain that an event is about which took no step of a unit, where that can be seen.
+    /// Makes the chain that an event is about which took no step of a unit, where that can be seen.
     fn of_event(&self, world: &World, event: &Event) -> Option<Ticket> {
         match event {
             Event::Fetch(queue) | Event::Enter(queue) | Event::Direct(queue) => {

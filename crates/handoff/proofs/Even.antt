@@ -5,8 +5,8 @@ use Rattle.std.proofs.lemmas.List.Sums.{sum_by-cons, sum_by-append}
 use Rattle.std.proofs.lemmas.Option.{slice_get_within}
 use Rattle.std.specs.Prelude.{◌==◌, if◌then◌else◌, slice_get}
 use Rattle.std.specs.List.{sum_by, filter}
-use Rattle.task_set.specs.Jobs.{PlainJob}
-use Rattle.history.specs.Tasks.{same_ticket}
+use Rattle.unit_model.specs.Jobs.{PlainJob}
+use Rattle.unit_model.specs.Tasks.{same_ticket}
 use Rattle.handoff.specs.Moves.{Move, jobs_of, jobs_by, is_by, IsBelow}
 use Rattle.handoff.specs.Seats.{Hub, PlainSeat, AreSeatsFrom, HandedOver, all_put, all_taken, all_left, IsEven, IsEvenByTicket, AreGathered}
 use Rattle.handoff.proofs.Gathering.{AreBelow}

@@ -3,7 +3,7 @@ use Rattle.std.proofs.Common.{◌≡◌, ◌≢◌, ℕ, ◌+◌, ◌<◌, true,
 use Rattle.std.proofs.lemmas.List.{append-nil, length-map}
 use Rattle.std.proofs.lemmas.Option.{slice_get_within}
 use Rattle.std.specs.Prelude.{slice_get, ⊤}
-use Rattle.task_set.specs.Jobs.{PlainJob}
+use Rattle.unit_model.specs.Jobs.{PlainJob}
 use Rattle.handoff.specs.declared.rule.Account.{Account}
 use Rattle.handoff.specs.declared.rule.View.{View}
 use Rattle.handoff.specs.Moves.{Move, Moves, jobs_of, jobs_by, IsBelow, Fits, AllFit, AreSettled}

@@ -5,7 +5,7 @@ use Rattle.std.proofs.lemmas.List.Elements.{filter-append}
 use Rattle.std.specs.List.{filter}
 use mathlib.Core.Option.{some, some-injective, some-ne-none}
 use lib.ListN.{get_elem?}
-use Rattle.task_set.specs.Jobs.{PlainJob}
+use Rattle.unit_model.specs.Jobs.{PlainJob}
 use Rattle.handoff.specs.Moves.{Move, move, Moves, jobs_of, jobs_by, is_by, IsBelow, AreBelow}
 
 pub jobs_of_append : (xs ys : List Move) → jobs_of (xs ++ ys) ≡ jobs_of xs ++ jobs_of ys

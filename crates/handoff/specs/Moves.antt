@@ -3,7 +3,7 @@
 -- taken, in that order.
 use Rattle.std.specs.Prelude.{◌≡◌, ℕ, ◌<◌, ◌==◌, ◌++◌, Bool, List, [], ◌∷◌, map, length, ⊤}
 use Rattle.std.specs.List.{filter}
-use Rattle.task_set.specs.Jobs.{PlainJob}
+use Rattle.unit_model.specs.Jobs.{PlainJob}
 use Rattle.handoff.specs.declared.rule.Account.{Account}
 
 -- own: a put or a take: which seat's, and of which job

@@ -2,7 +2,7 @@
 use Rattle.std.specs.Prelude.{◌≡◌, ℕ, ◌+◌, ◌<◌, true, false, List, [], ◌∷◌, ◌++◌, ⊤}
 use mathlib.Core.Option.{some}
 use lib.ListN.{get_elem?}
-use Rattle.task_set.specs.Jobs.{PlainJob}
+use Rattle.unit_model.specs.Jobs.{PlainJob}
 use Rattle.handoff.specs.declared.rule.Account.{Account}
 use Rattle.handoff.specs.declared.rule.View.{View}
 use Rattle.handoff.specs.Moves.{Moves, IsInOrder, AreBelow, AllFit, account}

@@ -4,8 +4,8 @@ use Rattle.std.specs.List.{sum_by, count_by, flat_map}
 use Rattle.atomic_table.specs.Seated.{TableId}
 use Rattle.crossbeam_queue.specs.Fifo.{Held}
 use Rattle.ring_core.specs.declared.log.Ticket.{Ticket}
-use Rattle.history.specs.Tasks.{same_ticket}
-use Rattle.task_set.specs.Jobs.{PlainJob}
+use Rattle.unit_model.specs.Tasks.{same_ticket}
+use Rattle.unit_model.specs.Jobs.{PlainJob}
 use Rattle.handoff.specs.declared.rule.Account.{Account}
 use Rattle.handoff.specs.declared.rule.View.{View}
 use Rattle.handoff.specs.declared.seat.Taken.{Taken}

@@ -44,7 +44,7 @@ impl Model for Place {
 impl Lane {
     ghost use Rattle.std.specs.Prelude.{◌≡◌, ◌<◌, length, true, OnOk, OnErr, IfOk, IfErr, IfSome, IfNone, List};
     ghost use Rattle.crossbeam_queue.specs.Fifo.{Held};
-    ghost use Rattle.task_set.specs.Jobs.{PlainJob};
+    ghost use Rattle.unit_model.specs.Jobs.{PlainJob};
     ghost use Rattle.handoff.specs.Moves.{Balances, AreSettled};
     ghost use Rattle.handoff.specs.Rule.{opening, one_more, newcomer, joined, after_put, after_take};
     ghost use Rattle.handoff.specs.Places.{IsAt, HasOne, knowing};

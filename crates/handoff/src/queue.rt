@@ -72,15 +72,15 @@ fn another(
 impl Handoff {
     ghost use Rattle.std.specs.Prelude.{ℕ, Some, slice_get, true, OnOk, OnErr, IfErr, IfSome, IfNone, List};
     ghost use Rattle.crossbeam_queue.specs.Fifo.{Held};
-    ghost use Rattle.task_set.specs.Jobs.{PlainJob};
+    ghost use Rattle.unit_model.specs.Jobs.{PlainJob};
     ghost use Rattle.handoff.specs.Moves.{AreSettled};
     ghost use Rattle.handoff.specs.Rule.{joined};
     ghost use Rattle.handoff.specs.Places.{PlainPlace, knowing};
     ghost use Rattle.handoff.specs.Lanes.{AreAt, AreChiefs, KnowAll, TakesBetween};
     ghost use Rattle.handoff.specs.Seats.{IsSeatOf, IsSameSeat, AreAllSeats, AreNew, putting, taking, BalancesAt, WasEmpty, TakesNearest, AreGathered};
 
-    /// An empty hand-off with a queue for each seat, each of which holds at most `capacity` jobs, 1 to 4,096, and all
-    /// its seats, 2 to 9, in order: seat 0 stands first. Who starts the device calls it once; only this call takes
+    /// Makes an empty hand-off with a queue for each seat, each of which holds at most `capacity` jobs, 1 to 4,096, and
+    /// all its seats, 2 to 9, in order: seat 0 stands first. Who starts the device calls it once; only this call takes
     /// memory, and `NoMemory` says that some was refused.
     pub fn new(
         alloc: Global,
@@ -183,7 +183,7 @@ impl Handoff {
         self.take_between(rt, seat, 0, own)
     }
 
-    /// The chiefs take in the places of a seat.
+    /// Has the chiefs take in the places of a seat.
     fn absorb(&self, chiefs: &mut Vec<Place>, places: Vec<Place>)
         requires chiefs { AreAt self.now chiefs.old.items × AreChiefs chiefs.old.items }
         requires places { AreAt self.now places.items }
@@ -198,7 +198,7 @@ impl Handoff {
         }
     }
 
-    /// The chiefs, which have all accounts, learn the whole.
+    /// Has the chiefs, which have all accounts, learn the whole.
     fn learn(&self, chiefs: Vec<Place>)
         requires chiefs { AreAt self.now chiefs.items × AreChiefs chiefs.items }
         requires all { KnowAll chiefs.items }

@@ -1,9 +1,9 @@
 //! Hosts from start to close.
 
-use workers_bench::{
-    Crossed, Left, Together, Told, contend, cross, is_refused, meet, reset, serve, serve_nothing,
-    serve_together,
-};
+use crate::crossing::{Crossed, cross};
+use crate::resetting::{Told, reset};
+use crate::runs::{Left, is_refused, serve, serve_nothing};
+use crate::together::{Together, contend, meet, serve_together};
 
 /// What is left of two requests that ran, and of one that needed no unit.
 const ALL: Left = Left {

@@ -3,6 +3,18 @@
 #![tactic(auto)]
 
 #[cfg(test)]
+mod crossing;
+#[cfg(test)]
 mod failing;
 #[cfg(test)]
+mod guest;
+#[cfg(test)]
 mod hosts;
+#[cfg(test)]
+mod meeting;
+#[cfg(test)]
+mod resetting;
+#[cfg(test)]
+mod runs;
+#[cfg(test)]
+mod together;

@@ -45,12 +45,12 @@ impl PackedRing {
     ghost use Rattle.std.specs.Prelude.{length, MatchResult};
     ghost use Rattle.packed_ring.specs.Placement.{OpensPacked, IsMisplaced};
 
-    /// A queue with this number at this place, of which nothing was fetched yet. Whoever sets the
-    /// device up calls it once for each queue, with the features that were agreed, of which it looks at
-    /// VIRTIO_F_INDIRECT_DESC and VIRTIO_F_EVENT_IDX (bits 28 and 29) alone, and with the memory that all later calls get. Refused
-    /// are, in this order, a size that is 0 or above 32,768 (`BadSize`), a descriptor ring not
-    /// aligned to 16 or an event suppression area not to 4 (`BadAlignment`), and one of them that
-    /// doesn't lie in memory (`Outside`). It takes no memory, so it is never `NoMemory`.
+    /// Makes a queue with this number at this place, of which nothing was fetched yet. Whoever sets the device up calls
+    /// it once for each queue, with the features that were agreed, of which it looks at VIRTIO_F_INDIRECT_DESC and
+    /// VIRTIO_F_EVENT_IDX (bits 28 and 29) alone, and with the memory that all later calls get. Refused are, in this
+    /// order, a size that is 0 or above 32,768 (`BadSize`), a descriptor ring not aligned to 16 or an event suppression
+    /// area not to 4 (`BadAlignment`), and one of them that doesn't lie in memory (`Outside`). It takes no memory, so
+    /// it is never `NoMemory`.
     pub fn new(
         alloc: Global,
         queue: u16,
@@ -77,7 +77,7 @@ impl PackedRing {
     ghost use Rattle.ring_core.specs.Offer.{PackedOffers, Found};
     ghost use Rattle.ring_core.specs.Fetch.{Fetches};
 
-    /// Whether the next slot holds an available descriptor.
+    /// Returns true if the next slot holds an available descriptor.
     fn has_next(&self, memory: &GuestMem) -> bool
         requires { length memory.now ≡ self.now.memory }
         ensures { result ≡ is_available_in self.now memory.now }
@@ -88,7 +88,7 @@ impl PackedRing {
         is_available(&first, wrap_at(layout.size, accepted))
     }
 
-    /// The next chain, where there is one.
+    /// Returns the next chain, where there is one.
     fn next(&mut self, memory: &GuestMem) -> Result<Candidate, RingFault>
         requires fits { length memory.now ≡ self.old.memory }
         requires some { is_available_in self.old memory.now ≡ true }
@@ -103,7 +103,7 @@ impl PackedRing {
         self.find(memory, draft)
     }
 
-    /// The next chain, where there is one, in this room.
+    /// Returns the next chain, where there is one, in this room.
     fn find(&self, memory: &GuestMem, draft: Draft) -> Result<Candidate, RingFault>
         requires fits { length memory.now ≡ self.now.memory }
         requires some { is_available_in self.now memory.now ≡ true }

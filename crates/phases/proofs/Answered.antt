@@ -1,4 +1,4 @@
--- A job that is answered, as a deed.
+-- A job that is answered, as a transition.
 use Rattle.std.proofs.Common.{ℕ, ◌≡◌, true, List, length, Option, Some, None, refl, ap, sym, ◌∙◌, subst}
 use Rattle.std.specs.Prelude.{is_some, IfSome}
 use Rattle.ring_core.specs.State.{PlainChain}
@@ -7,32 +7,32 @@ use Rattle.ring_core.specs.Writes.{all_written, scatter_writes}
 use Rattle.ring_core.specs.Offer.{used_writes}
 use Rattle.ring_core.proofs.Scattering.{written_in_order}
 use Rattle.decisions.specs.declared.answer.ChainLengths.{ChainLengths}
-use Rattle.history.specs.Endings.{Ending, answer_of}
-use Rattle.task_set.specs.Jobs.{PlainJob}
+use Rattle.unit_model.specs.Endings.{Ending, answer_of}
+use Rattle.unit_model.specs.Jobs.{PlainJob}
 use Rattle.unit_history.specs.Endings.{ending_of}
-use Rattle.unit_history.specs.declared.answers.Outcome as answers
-use Rattle.deeds.specs.Parts.{Outcome, Hand, lengths_of}
-use Rattle.queues.specs.Queue.{Lent, completing}
+use Rattle.unit_history.specs.declared.outcomes.Outcome as answers
+use Rattle.device_model.specs.Parts.{Outcome, Hand, lengths_of}
+use Rattle.queues.specs.Queue.{BareQueue, completing}
 use Rattle.phases.specs.Answering.{Answers}
-use Rattle.queue_phases.specs.Direct.{told_writes}
+use Rattle.phases.specs.Direct.{decided_writes}
 use Rattle.phases.specs.Outcomes.{WritesWhole, WritesEnding}
-use Rattle.phases.specs.Parts.{held_hand, job_held}
+use Rattle.phases.specs.Parts.{hand_with, job_held}
 
 -- memory once a job was answered
-abbrev written : Lent → List ℕ → PlainJob → Outcome → List ℕ
-written q m x o = all_written m (told_writes q.ring x.chain o)
+abbrev written : BareQueue → List ℕ → PlainJob → Outcome → List ℕ
+written q m x o = all_written m (decided_writes q.ring x.chain o)
 
 -- the queue once a job was answered
-abbrev used : Lent → List ℕ → PlainJob → Outcome → Lent
+abbrev used : BareQueue → List ℕ → PlainJob → Outcome → BareQueue
 used q m x o = completing (written q m x o) x.chain q
 
 -- what answers a job, from plain parts
-answers_plainly : (x : PlainJob) (o : Outcome) (q : Lent) (m : List ℕ)
+answers_plainly : (x : PlainJob) (o : Outcome) (q : BareQueue) (m : List ℕ)
     → Answers (Hand.Done x o) q m true (used q m x o) (written q m x o) (Hand.Answered x.unit x.chain.ticket)
 answers_plainly x o q m = (λ k inventory s. record { asks = λ missed. refl; queue = refl; memory = refl }, refl)
 
 -- a job that ended so is answered by its ending
-pub answered_so : (x : PlainJob) (e : Ending) (q q' : Lent) (m n m' : List ℕ) (len : ℕ) (c : PlainChain) (place : ℕ)
+pub answered_so : (x : PlainJob) (e : Ending) (q q' : BareQueue) (m n m' : List ℕ) (len : ℕ) (c : PlainChain) (place : ℕ)
     (t : Ticket) → WritesWhole x e m len n → place ≡ x.unit → c ≡ x.chain → t ≡ c.ticket
     → m' ≡ all_written n (used_writes q.ring c.id len) → q' ≡ completing m' c q
     → Answers (Hand.Done x (Outcome.Ended e)) q m true q' m' (Hand.Answered place t)
@@ -51,17 +51,17 @@ answered_so x e q q' m n m' len c place t wrote place_is chain t_is m_is q_is =
     let hand : Hand.Answered place t ≡ Hand.Answered x.unit x.chain.ticket =
     ap (λ (p : ℕ). Hand.Answered p t) place_is
     ∙ ap (λ (k : Ticket). Hand.Answered x.unit k) (t_is ∙ ap (λ (d : PlainChain). d.ticket) chain) in
-    subst (λ (a : Lent). Answers (Hand.Done x o) q m true a m' (Hand.Answered place t)) (sym queue)
+    subst (λ (a : BareQueue). Answers (Hand.Done x o) q m true a m' (Hand.Answered place t)) (sym queue)
     (subst (λ (k : List ℕ). Answers (Hand.Done x o) q m true (used q m x o) k (Hand.Answered place t)) (sym memory)
     (subst (λ (g : Hand). Answers (Hand.Done x o) q m true (used q m x o) (written q m x o) g) (sym hand)
     (answers_plainly x o q m)))
 
 -- a job whose commit is over is answered by what came of it
-pub answered : (x : PlainJob) (outcome : Option answers.Outcome) (q q' : Lent) (m n m' : List ℕ) (len : ℕ) (c : PlainChain)
+pub answered : (x : PlainJob) (outcome : Option answers.Outcome) (q q' : BareQueue) (m n m' : List ℕ) (len : ℕ) (c : PlainChain)
     (place : ℕ) (t : Ticket) → is_some outcome ≡ true → WritesEnding (record { job = x; outcome = outcome }) m len n
-    → IfSome (job_held (held_hand x outcome)) (λ (y : PlainJob). (place ≡ y.unit) × (c ≡ y.chain))
+    → IfSome (job_held (hand_with x outcome)) (λ (y : PlainJob). (place ≡ y.unit) × (c ≡ y.chain))
     → t ≡ c.ticket → m' ≡ all_written n (used_writes q.ring c.id len) → q' ≡ completing m' c q
-    → Answers (held_hand x outcome) q m true q' m' (Hand.Answered place t)
+    → Answers (hand_with x outcome) q m true q' m' (Hand.Answered place t)
 answered x None q q' m n m' len c place t over wrote took t_is m_is q_is = absurd (cc)
 answered x (Some o) q q' m n m' len c place t over wrote took t_is m_is q_is =
     answered_so x (ending_of o) q q' m n m' len c place t wrote took.0 took.1 t_is m_is q_is

@@ -1,21 +1,21 @@
 -- What a request that is served at once is, by what the calls of its unit answer.
 use Rattle.std.proofs.Common.{◌≡◌, ℕ, Bool, true, List, [], refl, ap, sym, ◌∙◌, subst}
 use Rattle.ring_core.specs.declared.log.Ticket.{Ticket}
-use Rattle.history.specs.Endings.{Ending}
-use Rattle.history.specs.Steps.{Step}
-use Rattle.history.specs.Released.{released}
-use Rattle.task_set.specs.Jobs.{PlainJob, Jobs, of_tasks}
+use Rattle.unit_model.specs.Endings.{Ending}
+use Rattle.unit_model.specs.Steps.{Step}
+use Rattle.unit_model.specs.Released.{released}
+use Rattle.unit_model.specs.Jobs.{PlainJob, Jobs, of_tasks}
 use Rattle.unit_history.specs.Serving.{ServesAlone}
-use Rattle.task_set.specs.Unit.{PlainUnit, Steps}
+use Rattle.unit_model.specs.Unit.{PlainUnit, Steps}
 use Rattle.unit_history.specs.Calls as calls
 use Rattle.unit_history.specs.Endings.{ending_of}
-use Rattle.unit_history.specs.declared.answers.Outcome as answers
-use Rattle.unit_history.specs.declared.answers.Entered.TheVariants as entered
-use Rattle.deeds.specs.Parts.{Outcome, Hand}
-use Rattle.queues.specs.Queue.{Lent}
+use Rattle.unit_history.specs.declared.outcomes.Outcome as answers
+use Rattle.unit_history.specs.declared.outcomes.Entered.TheVariants as entered
+use Rattle.device_model.specs.Parts.{Outcome, Hand}
+use Rattle.queues.specs.Queue.{BareQueue}
 use Rattle.phases.specs.Units.{Commits, Leaves}
 use Rattle.phases.specs.Answering.{Answers}
-use Rattle.phases.specs.Doing.{with_more}
+use Rattle.phases.specs.DoingUnit.{with_more}
 use Rattle.phases.specs.Serving.{ServesAtOnce}
 use Rattle.phases.proofs.Commits.{committed}
 use Rattle.phases.proofs.Enters.{runs, with_none}
@@ -33,10 +33,10 @@ commits x u v what c =
     (d, of, does, ap (λ (e : Ending). Hand.Done x (Outcome.Ended e)) ends)
 
 -- all of it
-all : (x : PlainJob) (u v z u' : PlainUnit) (q q' : Lent) (m m' : List ℕ) (out out' : Jobs) (left : Bool)
+all : (x : PlainJob) (u v z u' : PlainUnit) (q q' : BareQueue) (m m' : List ℕ) (out out' : Jobs) (left : Bool)
     (what : answers.Outcome) → calls.Enters u x (entered.Run x) v → calls.Commits v x what z
     → Answers (Hand.Done x (came what)) q m true q' m' (Hand.Answered x.unit x.chain.ticket)
-    → Leaves (Hand.Answered x.unit x.chain.ticket) z out left u' Hand.Free out'
+    → Leaves (Hand.Answered x.unit x.chain.ticket) z out left u' Hand.Empty out'
     → ServesAtOnce x u q m out left u' q' m' out'
 all x u v z u' q q' m m' out out' left what enters ran answered leaves =
     record {
@@ -50,22 +50,22 @@ all x u v z u' q q' m m' out out' left what enters ran answered leaves =
     }
 
 -- the same of the job that the unit handed out, which is the request's, and of the ticket that was used
-pub served : (x y : PlainJob) (t : Ticket) (u v z u' : PlainUnit) (q q' : Lent) (m m' : List ℕ) (out out' : Jobs)
+pub served : (x y : PlainJob) (t : Ticket) (u v z u' : PlainUnit) (q q' : BareQueue) (m m' : List ℕ) (out out' : Jobs)
     (left : Bool) (what : answers.Outcome) → calls.Enters u x (entered.Run y) v → calls.Commits v y what z
     → t ≡ y.chain.ticket
     → Answers (Hand.Done y (came what)) q m true q' m' (Hand.Answered y.unit y.chain.ticket)
-    → ((place : ℕ) → Leaves (Hand.Answered place t) z out left u' Hand.Free out')
+    → ((place : ℕ) → Leaves (Hand.Answered place t) z out left u' Hand.Empty out')
     → ServesAtOnce x u q m out left u' q' m' out'
 served x y t u v z u' q q' m m' out out' left what enters ran used answered leaves =
     let is : y ≡ x = enters.0 in
     let enters_y = subst (λ j. calls.Enters u j (entered.Run y) v) (sym is) enters in
-    let leaves_y = subst (λ k. Leaves (Hand.Answered y.unit k) z out left u' Hand.Free out') used (leaves y.unit) in
+    let leaves_y = subst (λ k. Leaves (Hand.Answered y.unit k) z out left u' Hand.Empty out') used (leaves y.unit) in
     subst (λ j. ServesAtOnce j u q m out left u' q' m' out') is
     (all y u v z u' q q' m m' out out' left what enters_y ran answered leaves_y)
 
 -- a job leaves its unit, where no other waits
 left_alone : (u u' : PlainUnit) (place : ℕ) (t : Ticket) (out : Jobs) → u.parked ≡ [] → Steps u (Step.Leave t) u'
-    → Leaves (Hand.Answered place t) u out true u' Hand.Free out
+    → Leaves (Hand.Answered place t) u out true u' Hand.Empty out
 left_alone u u' place t out none step =
     λ k. (
       record { asks = (step.may, refl); is = step.is },
@@ -74,12 +74,12 @@ left_alone u u' place t out none step =
     )
 
 -- all of it in one call of the unit
-pub served_alone : (x : PlainJob) (u u' : PlainUnit) (q q' r : Lent) (m m' n : List ℕ) (out : Jobs) (A B C : Type 0)
+pub served_alone : (x : PlainJob) (u u' : PlainUnit) (q q' r : BareQueue) (m m' n : List ℕ) (out : Jobs) (A B C : Type 0)
     → ServesAlone (λ e. A × B × C
     × Answers (Hand.Done x (Outcome.Ended e)) q m true q' m' (Hand.Answered x.unit x.chain.ticket)) u x u'
     → r ≡ q' → n ≡ m' → ServesAtOnce x u q m out true u' r n out
 served_alone x u u' q q' r m m' n out A B C s same same_bytes =
-    subst (λ (k : Lent). ServesAtOnce x u q m out true u' k n out) (sym same)
+    subst (λ (k : BareQueue). ServesAtOnce x u q m out true u' k n out) (sym same)
     (subst (λ (k : List ℕ). ServesAtOnce x u q m out true u' q' k out) (sym same_bytes)
     (all x u s.once_entered s.once_run u' q q' m m' out out true s.outcome s.enters s.commits s.answered.3
     (left_alone s.once_run u' x.unit x.chain.ticket out s.alone s.leaves)))

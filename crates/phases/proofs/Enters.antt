@@ -1,14 +1,14 @@
--- What the entering of a request at a unit is, as a deed.
+-- What the entering of a request at a unit is, as a transition.
 use Rattle.std.proofs.Common.{◌≡◌, List, [], ◌∷◌, refl, ap, sym}
 use Rattle.std.proofs.lemmas.List.{append-nil}
-use Rattle.task_set.specs.Jobs.{PlainJob, Jobs}
-use Rattle.task_set.specs.Unit.{PlainUnit}
+use Rattle.unit_model.specs.Jobs.{PlainJob, Jobs}
+use Rattle.unit_model.specs.Unit.{PlainUnit}
 use Rattle.unit_history.specs.Calls.{Enters}
-use Rattle.unit_history.specs.declared.answers.Entered.TheVariants as entered
-use Rattle.history.specs.Endings.{Ending}
-use Rattle.deeds.specs.Parts.{Outcome, Slot}
-use Rattle.deeds.specs.Deeds.{Deed}
-use Rattle.phases.specs.Doing.{with_more}
+use Rattle.unit_history.specs.declared.outcomes.Entered.TheVariants as entered
+use Rattle.unit_model.specs.Endings.{Ending}
+use Rattle.device_model.specs.Parts.{Outcome, Slot}
+use Rattle.device_model.specs.Transitions.{Transition}
+use Rattle.phases.specs.DoingUnit.{with_more}
 use Rattle.phases.specs.Units.{EntersAs}
 
 -- a list with no more jobs is the list
@@ -24,42 +24,42 @@ module _ (x : PlainJob) (u v : PlainUnit) (out : Jobs) where
   pub runs : (job : PlainJob) → Enters u x (entered.Run job) v
       → EntersAs x u out v Slot.Empty (with_more (job ∷ []) out)
   runs job (is, free, step) =
-      (Deed.Run x, refl, record { asks = (step.may, free); is = step.is }, refl, with_one out x job is)
+      (Transition.Run x, refl, record { asks = (step.may, free); is = step.is }, refl, with_one out x job is)
 
   -- its job is kept
   pub parks : Enters u x entered.Parked v → EntersAs x u out v Slot.Empty out
   parks (blocked, may, is) =
-      (Deed.Park x, refl, record { asks = (may, blocked); is = is }, refl, with_none out)
+      (Transition.Park x, refl, record { asks = (may, blocked); is = is }, refl, with_none out)
 
   -- the unit is full
   pub overflows : (job : PlainJob) → Enters u x (entered.Full job) v
-      → EntersAs x u out v (Slot.Ready job.chain (Outcome.Ended Ending.Full)) out
+      → EntersAs x u out v (Slot.Direct job.chain (Outcome.Ended Ending.Full)) out
   overflows job (is, step) = (
-    Deed.Full x,
+    Transition.EnterFull x,
     refl,
     record { asks = step.may; is = step.is },
-    ap (λ (j : PlainJob). Slot.Ready j.chain (Outcome.Ended Ending.Full)) is,
+    ap (λ (j : PlainJob). Slot.Direct j.chain (Outcome.Ended Ending.Full)) is,
     with_none out,
   )
 
   -- the unit was refused memory
   pub sheds : (job : PlainJob) → Enters u x (entered.Busy job) v
-      → EntersAs x u out v (Slot.Ready job.chain (Outcome.Ended Ending.Busy)) out
+      → EntersAs x u out v (Slot.Direct job.chain (Outcome.Ended Ending.Busy)) out
   sheds job (is, fresh, same) = (
-    Deed.Shed x,
+    Transition.EnterBusy x,
     refl,
     record { asks = fresh; is = same },
-    ap (λ (j : PlainJob). Slot.Ready j.chain (Outcome.Ended Ending.Busy)) is,
+    ap (λ (j : PlainJob). Slot.Direct j.chain (Outcome.Ended Ending.Busy)) is,
     with_none out,
   )
 
   -- the unit saw a later ticket
   pub stalls : (job : PlainJob) → Enters u x (entered.Stale job) v
-      → EntersAs x u out v (Slot.Ready job.chain (Outcome.Ended Ending.Lost)) out
+      → EntersAs x u out v (Slot.Direct job.chain (Outcome.Ended Ending.Lost)) out
   stalls job (is, late, same) = (
-    Deed.Stall x,
+    Transition.EnterStale x,
     refl,
     record { asks = late; is = same },
-    ap (λ (j : PlainJob). Slot.Ready j.chain (Outcome.Ended Ending.Lost)) is,
+    ap (λ (j : PlainJob). Slot.Direct j.chain (Outcome.Ended Ending.Lost)) is,
     with_none out,
   )

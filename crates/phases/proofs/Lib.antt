@@ -1,3 +1,8 @@
+pub mod Buffers
+pub mod Deciding
+pub mod Reading
+pub mod Refusing
+pub mod Fetched
 pub mod Answered
 pub mod Commits
 pub mod Enters

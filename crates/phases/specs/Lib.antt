@@ -1,7 +1,15 @@
+pub mod Queue
+pub mod DoingQueue
+pub mod Slots
+pub mod DirectChain
+pub mod Fetching
+pub mod Taking
+pub mod Direct
+pub mod EventQueue
 pub mod Giving
 pub mod Outcomes
 pub mod Parts
-pub mod Doing
+pub mod DoingUnit
 pub mod Units
 pub mod Answering
 pub mod Resetting

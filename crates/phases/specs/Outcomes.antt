@@ -1,14 +1,14 @@
 -- What a chain or a job is answered with, as plain values.
 use Rattle.std.specs.Prelude.{ℕ, ◌≡◌, List, length, Option, IfSome}
 use Rattle.ring_core.specs.Writes.{all_written, scatter_writes}
-use Rattle.history.specs.Endings.{Ending, answer_of}
-use Rattle.task_set.specs.Jobs.{PlainJob}
+use Rattle.unit_model.specs.Endings.{Ending, answer_of}
+use Rattle.unit_model.specs.Jobs.{PlainJob}
 use Rattle.unit_history.specs.Endings.{ending_of}
-use Rattle.unit_history.specs.declared.answers.Outcome as answers
-use Rattle.deeds.specs.Parts.{lengths_of}
+use Rattle.unit_history.specs.declared.outcomes.Outcome as answers
+use Rattle.device_model.specs.Parts.{lengths_of}
 
 -- a job in hand, and what came of its commit once that is over
-pub record PlainHeld : Type 0 where
+pub record PlainJobInHand : Type 0 where
   pub job : PlainJob
   pub outcome : Option answers.Outcome
 
@@ -18,5 +18,5 @@ pub record WritesWhole (x : PlainJob) (e : Ending) (m : List ℕ) (len : ℕ) (m
   pub memory : m' ≡ all_written m (scatter_writes x.chain.parts 0 (answer_of (lengths_of x.chain) e))
 
 -- the same of a job whose commit is over
-abbrev pub WritesEnding : PlainHeld → List ℕ → ℕ → List ℕ → Type 0
+abbrev pub WritesEnding : PlainJobInHand → List ℕ → ℕ → List ℕ → Type 0
 WritesEnding h m len m' = IfSome h.outcome (λ o. WritesWhole h.job (ending_of o) m len m')

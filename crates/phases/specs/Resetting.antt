@@ -2,13 +2,13 @@
 use Rattle.std.specs.Prelude.{ℕ, ◌≡◌, ◌<◌, ◌++◌, Bool, true, false, List, [], ◌∷◌, Result, Ok, Err}
 use Rattle.block_store.specs.declared.NoMemory.{NoMemory}
 use Rattle.scsi_codec.specs.declared.event_queue.Event.{Event as Report}
-use Rattle.history.specs.Steps.{Step}
-use Rattle.task_set.specs.Jobs.{Jobs}
-use Rattle.task_set.specs.Unit.{PlainUnit}
-use Rattle.deeds.specs.Deeds.{Deed}
-use Rattle.deeds.specs.After.{hard_code, hard_report}
-use Rattle.deeds.specs.Happens.{handed_out}
-use Rattle.phases.specs.Doing.{DoesUnit, HasPlaces, with_more}
+use Rattle.unit_model.specs.Steps.{Step}
+use Rattle.unit_model.specs.Jobs.{Jobs}
+use Rattle.unit_model.specs.Unit.{PlainUnit}
+use Rattle.device_model.specs.Transitions.{Transition}
+use Rattle.device_model.specs.After.{hard_code, hard_report}
+use Rattle.device_model.specs.Happens.{handed_out}
+use Rattle.phases.specs.DoingUnit.{DoesUnit, HasPlaces, with_more}
 use Rattle.phases.specs.Units.{mark_at}
 
 -- nothing changed
@@ -22,7 +22,7 @@ pub record StaysReset (u : PlainUnit) (out : Jobs) (w : List Report) (u' : Plain
 -- jobs, or no event may name the unit's LUN; or memory was refused
 abbrev pub Resets : PlainUnit → Jobs → List Report → Result Bool NoMemory → PlainUnit → Jobs → List Report → Type 0
 Resets u out w (Ok true) u' out' w' =
-    ((place : ℕ) → DoesUnit (Deed.Hard (mark_at place u) (handed_out u (Step.Reset hard_code))) u u')
+    ((place : ℕ) → DoesUnit (Transition.Hard (mark_at place u) (handed_out u (Step.Reset hard_code))) u u')
     × (out' ≡ with_more (handed_out u (Step.Reset hard_code)) out) × (w' ≡ w ++ hard_report u ∷ [])
 Resets u out w (Ok false) u' out' w' =
     StaysReset u out w u' out' w' × (HasPlaces out → u.opening.lun < 16384 → ⊥)

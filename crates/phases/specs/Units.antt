@@ -1,42 +1,42 @@
 -- What the phases do that work on a unit.
 use Rattle.std.specs.Prelude.{ℕ, ◌≡◌, ◌⊎◌, Bool, true, false, List, [], ◌∷◌, length, Result, Ok, Err}
 use Rattle.block_store.specs.declared.NoMemory.{NoMemory}
-use Rattle.history.specs.Tasks.{task_of}
-use Rattle.history.specs.Steps.{Step, alive}
-use Rattle.history.specs.Endings.{Ending}
-use Rattle.history.specs.Clearing.{is_clear}
-use Rattle.history.specs.Seen.{any_met}
-use Rattle.task_set.specs.Jobs.{PlainJob, Jobs}
-use Rattle.task_set.specs.Unit.{PlainUnit, after as stepped}
+use Rattle.unit_model.specs.Tasks.{task_of}
+use Rattle.unit_model.specs.Steps.{Step, alive}
+use Rattle.unit_model.specs.Endings.{Ending}
+use Rattle.unit_model.specs.Clearing.{is_clear}
+use Rattle.unit_model.specs.Seen.{any_met}
+use Rattle.unit_model.specs.Jobs.{PlainJob, Jobs}
+use Rattle.unit_model.specs.Unit.{PlainUnit, after as stepped}
 use Rattle.unit_history.specs.Calls.{CannotLeave}
 use Rattle.task_mgmt.specs.Functions.{marking, asking, failing, checking, step_by}
-use Rattle.task_mgmt.specs.declared.kind.Strike.{Strike}
+use Rattle.task_mgmt.specs.declared.kind.MarkBy.{MarkBy}
 use Rattle.task_mgmt.specs.declared.kind.Kind.{Kind}
-use Rattle.task_mgmt.specs.declared.kind.Kind.TheVariants.{Marking, Asking}
+use Rattle.task_mgmt.specs.declared.kind.Kind.TheVariants.{Marking, Querying}
 use Rattle.task_mgmt.specs.declared.function.Mark.{Mark as Place}
-use Rattle.deeds.specs.Parts.{Outcome, Slot, Hand}
-use Rattle.deeds.specs.World.{Opened}
-use Rattle.deeds.specs.Deeds.{Deed}
-use Rattle.deeds.specs.Happens.{handed_out}
-use Rattle.deeds.specs.Laws.{brings}
-use Rattle.phases.specs.Doing.{DoesUnit, HasPlaces, with_more}
+use Rattle.device_model.specs.Parts.{Outcome, Slot, Hand}
+use Rattle.device_model.specs.World.{Opened}
+use Rattle.device_model.specs.Transitions.{Transition}
+use Rattle.device_model.specs.Happens.{handed_out}
+use Rattle.device_model.specs.Laws.{brings}
+use Rattle.phases.specs.DoingUnit.{DoesUnit, HasPlaces, with_more}
 
 -- Enter
 
--- a deed of the job's entering
-abbrev pub IsEntering : PlainJob → Deed → Type 0
-IsEntering x (Deed.Run y) = y ≡ x
-IsEntering x (Deed.Park y) = y ≡ x
-IsEntering x (Deed.Full y) = y ≡ x
-IsEntering x (Deed.Shed y) = y ≡ x
-IsEntering x (Deed.Stall y) = y ≡ x
+-- a transition of the job's entering
+abbrev pub IsEntering : PlainJob → Transition → Type 0
+IsEntering x (Transition.Run y) = y ≡ x
+IsEntering x (Transition.Park y) = y ≡ x
+IsEntering x (Transition.EnterFull y) = y ≡ x
+IsEntering x (Transition.EnterBusy y) = y ≡ x
+IsEntering x (Transition.EnterStale y) = y ≡ x
 IsEntering x d = ⊥
 
 -- what stands in the slot then
-abbrev pub slot_after : Deed → Slot
-slot_after (Deed.Full x) = Slot.Ready x.chain (Outcome.Ended Ending.Full)
-slot_after (Deed.Shed x) = Slot.Ready x.chain (Outcome.Ended Ending.Busy)
-slot_after (Deed.Stall x) = Slot.Ready x.chain (Outcome.Ended Ending.Lost)
+abbrev pub slot_after : Transition → Slot
+slot_after (Transition.EnterFull x) = Slot.Direct x.chain (Outcome.Ended Ending.Full)
+slot_after (Transition.EnterBusy x) = Slot.Direct x.chain (Outcome.Ended Ending.Busy)
+slot_after (Transition.EnterStale x) = Slot.Direct x.chain (Outcome.Ended Ending.Lost)
 slot_after d = Slot.Empty
 
 -- nothing changed
@@ -47,7 +47,7 @@ pub record StaysUnit (u u' : PlainUnit) (s s' : Slot) (out out' : Jobs) : Type 0
 
 abbrev pub EntersAs : PlainJob → PlainUnit → Jobs → PlainUnit → Slot → Jobs → Type 0
 EntersAs x u out u' s' out' =
-    (d : Deed) × IsEntering x d × DoesUnit d u u' × (s' ≡ slot_after d) × (out' ≡ with_more (brings d) out)
+    (d : Transition) × IsEntering x d × DoesUnit d u u' × (s' ≡ slot_after d) × (out' ≡ with_more (brings d) out)
 
 abbrev pub Enters : Slot → PlainUnit → Jobs → Bool → PlainUnit → Slot → Jobs → Type 0
 Enters (Slot.Arrived x) u out true u' s' out' = EntersAs x u out u' s' out'
@@ -58,24 +58,24 @@ Enters s u out false u' s' out' = StaysUnit u u' s s' out out'
 
 -- Commit
 
--- a deed of the job's commit by a seat
-abbrev pub IsCommitting : ℕ → PlainJob → Deed → Type 0
-IsCommitting k x (Deed.Commit j y r) = (j ≡ k) × (y ≡ x)
-IsCommitting k x (Deed.Busy j y) = (j ≡ k) × (y ≡ x)
-IsCommitting k x (Deed.Abort j y why) = (j ≡ k) × (y ≡ x)
-IsCommitting k x (Deed.Lose j y) = (j ≡ k) × (y ≡ x)
+-- a transition of the job's commit by a seat
+abbrev pub IsCommitting : ℕ → PlainJob → Transition → Type 0
+IsCommitting k x (Transition.Commit j y r) = (j ≡ k) × (y ≡ x)
+IsCommitting k x (Transition.CommitBusy j y) = (j ≡ k) × (y ≡ x)
+IsCommitting k x (Transition.CommitAborted j y why) = (j ≡ k) × (y ≡ x)
+IsCommitting k x (Transition.CommitUnknown j y) = (j ≡ k) × (y ≡ x)
 IsCommitting k x d = ⊥
 
 -- how the job ended
-abbrev pub ending_after : Deed → Ending
-ending_after (Deed.Commit k x r) = Ending.Replied r
-ending_after (Deed.Busy k x) = Ending.Busy
-ending_after (Deed.Abort k x why) = Ending.Aborted why
+abbrev pub ending_after : Transition → Ending
+ending_after (Transition.Commit k x r) = Ending.Replied r
+ending_after (Transition.CommitBusy k x) = Ending.Busy
+ending_after (Transition.CommitAborted k x why) = Ending.Aborted why
 ending_after d = Ending.Lost
 
 abbrev pub Commits : Hand → PlainUnit → Bool → PlainUnit → Hand → Type 0
 Commits (Hand.Taken x) u true u' h' =
-    (k : ℕ) → (d : Deed) × IsCommitting k x d × DoesUnit d u u' × (h' ≡ Hand.Done x (Outcome.Ended (ending_after d)))
+    (k : ℕ) → (d : Transition) × IsCommitting k x d × DoesUnit d u u' × (h' ≡ Hand.Done x (Outcome.Ended (ending_after d)))
 Commits (Hand.Taken x) u false u' h' = ⊥
 Commits h u true u' h' = ⊥
 Commits h u false u' h' = (u' ≡ u) × (h' ≡ h)
@@ -85,12 +85,12 @@ Commits h u false u' h' = (u' ≡ u) × (h' ≡ h)
 -- where there is no room nothing is done; where the unit knows no such task, what the hand held is let go
 abbrev pub Leaves : Hand → PlainUnit → Jobs → Bool → PlainUnit → Hand → Jobs → Type 0
 Leaves (Hand.Answered place t) u out true u' h' out' =
-    (k : ℕ) → DoesUnit (Deed.Leave k place t (handed_out u (Step.Leave t))) u u'
-    × (h' ≡ Hand.Free) × (out' ≡ with_more (handed_out u (Step.Leave t)) out)
+    (k : ℕ) → DoesUnit (Transition.Leave k place t (handed_out u (Step.Leave t))) u u'
+    × (h' ≡ Hand.Empty) × (out' ≡ with_more (handed_out u (Step.Leave t)) out)
 Leaves (Hand.Answered place t) u out false u' h' out' =
     (u' ≡ u) × (out' ≡ out)
     × (((HasPlaces out → ⊥) × (h' ≡ Hand.Answered place t))
-    ⊎ (CannotLeave (task_of t (alive u.steps)) t u.steps × (h' ≡ Hand.Free)))
+    ⊎ (CannotLeave (task_of t (alive u.steps)) t u.steps × (h' ≡ Hand.Empty)))
 Leaves h u out true u' h' out' = ⊥
 Leaves h u out false u' h' out' = (u' ≡ u) × (h' ≡ h) × (out' ≡ out)
 
@@ -102,11 +102,11 @@ pub record StaysMark (u u' : PlainUnit) (f f' : Opened) (out out' : Jobs) : Type
   pub function : f' ≡ f
   pub jobs : out' ≡ out
 
--- the tasks of a unit are struck, or memory was refused
-abbrev pub Strikes : Strike → PlainUnit → Jobs → Result ℕ NoMemory → PlainUnit → Jobs → Type 0
-Strikes m u out (Ok place) u' out' =
+-- the tasks of a unit are with_mark, or memory was refused
+abbrev pub MarksBy : MarkBy → PlainUnit → Jobs → Result ℕ NoMemory → PlainUnit → Jobs → Type 0
+MarksBy m u out (Ok place) u' out' =
     (place ≡ length u.steps) × (u' ≡ stepped (step_by m) u) × (out' ≡ with_more (handed_out u (step_by m)) out)
-Strikes m u out (Err e) u' out' = (u' ≡ u) × (out' ≡ out)
+MarksBy m u out (Err e) u' out' = (u' ≡ u) × (out' ≡ out)
 
 -- a mark of a unit stands behind all its steps
 abbrev pub mark_at : ℕ → PlainUnit → Place
@@ -115,12 +115,12 @@ mark_at place u = record { unit = place; place = length u.steps }
 -- the unit is marked, or memory was refused
 abbrev pub MarksUnit : Opened → ℕ → Kind → PlainUnit → Jobs → PlainUnit → Opened → Jobs → Type 0
 MarksUnit f place (Marking m) u out u' f' out' =
-    (DoesUnit (Deed.Mark f.chain.ticket (mark_at place u) m (handed_out u (step_by m))) u u'
+    (DoesUnit (Transition.Mark f.chain.ticket (mark_at place u) m (handed_out u (step_by m))) u u'
     × (f' ≡ record f { function = marking (mark_at place u) f.function })
     × (out' ≡ with_more (handed_out u (step_by m)) out))
     ⊎ ((u' ≡ u) × (f' ≡ record f { function = failing f.function }) × (out' ≡ out))
-MarksUnit f place (Asking rule) u out u' f' out' =
-    DoesUnit (Deed.Ask f.chain.ticket place rule (any_met rule (alive u.steps))) u u'
+MarksUnit f place (Querying rule) u out u' f' out' =
+    DoesUnit (Transition.Ask f.chain.ticket place rule (any_met rule (alive u.steps))) u u'
     × (f' ≡ record f { function = asking (any_met rule (alive u.steps)) f.function }) × (out' ≡ out)
 
 abbrev pub MarksNext : Opened → List ℕ → PlainUnit → Jobs → Bool → PlainUnit → Opened → Jobs → Type 0
@@ -136,7 +136,7 @@ Marks f u out result u' f' out' = MarksNext f f.function.left u out result u' f'
 
 abbrev pub ChecksFirst : Opened → List ℕ → List Place → PlainUnit → Bool → Opened → Type 0
 ChecksFirst f [] (p ∷ later) u true f' =
-    DoesUnit (Deed.Check f.chain.ticket p) u u × (f' ≡ record f { function = checking f.function })
+    DoesUnit (Transition.Check f.chain.ticket p) u u × (f' ≡ record f { function = checking f.function })
 ChecksFirst f [] (p ∷ later) u false f' = (is_clear p.place u.steps ≡ false) × (f' ≡ f)
 ChecksFirst f left waits u true f' = ⊥
 ChecksFirst f left waits u false f' = f' ≡ f

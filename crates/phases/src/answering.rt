@@ -2,23 +2,23 @@
 
 ghost use Rattle.std.specs.Prelude.{◌≡◌, ◌<◌, length, true, is_some, MatchOption, IfSome, Some};
 ghost use Rattle.queues.specs.Queue.{MayComplete};
-ghost use Rattle.deeds.specs.Parts as plain;
+ghost use Rattle.device_model.specs.Parts as plain;
 ghost use Rattle.phases.specs.Parts.{hand_of, job_held, outcome_in};
 ghost use Rattle.phases.specs.Giving.{given_for, given_in};
 ghost use Rattle.phases.specs.Outcomes.{WritesEnding};
 ghost use Rattle.phases.specs.Answering.{Answers};
 
 use crate::hand::Hand;
-use crate::held::Held;
+use crate::job_in_hand::JobInHand;
 use guest_mem::GuestMem;
 use queues::Queue;
 use ring_core::{Chain, Ticket};
 use std::mem;
-use unit_history::{Cause, Given, Note, Outcome};
+use unit_history::{Cause, Note, Outcome, ReceiptOrNote};
 
 /// Writes what answers a job whose commit is over: how many bytes it has. `None` where the memory isn't the queue's, or
 /// the queue doesn't own the chain.
-fn write_held(queue: &Queue, memory: &mut GuestMem, held: &Held) -> Option<u32>
+fn write_held(queue: &Queue, memory: &mut GuestMem, held: &JobInHand) -> Option<u32>
     requires over { is_some held.now.outcome ≡ true }
     ensures owned { MatchOption result ((MayComplete queue.now memory.old held.now.job.chain → ⊥)
         × (memory.new ≡ memory.old))
@@ -36,49 +36,53 @@ fn take_job(hand: &mut Hand) -> (usize, Chain, Outcome)
     requires over { is_some (outcome_in hand.old) ≡ true }
     ensures job { IfSome (job_held (hand_of hand.old)) (λ x. (result.0 ≡ x.unit) × (result.1 ≡ x.chain)) }
     ensures outcome { outcome_in hand.old ≡ Some result.2 }
-    ensures hand { hand_of hand.new ≡ plain.Hand.Free }
+    ensures hand { hand_of hand.new ≡ plain.Hand.Empty }
 {
-    match mem::replace(hand, Hand::Free) {
-        Hand::Held(held) => {
+    match mem::replace(hand, Hand::Empty) {
+        Hand::Job(held) => {
             let (job, outcome) = held.into_parts();
             match outcome {
                 Some(outcome) => (job.unit(), job.into_chain(), outcome),
                 None => unreachable!(),
             }
         }
-        Hand::Free | Hand::Answered(_, _) => unreachable!(),
+        Hand::Empty | Hand::Answered(_, _) => unreachable!(),
     }
 }
 
 /// What a job leaves once it is answered.
-fn given(ticket: Ticket, outcome: Outcome) -> Given
+fn given(ticket: Ticket, outcome: Outcome) -> ReceiptOrNote
     ensures { result ≡ given_for ticket outcome }
 {
     match outcome {
-        Outcome::Reply(receipt) => Given::Receipt(receipt),
-        Outcome::Aborted(_) => Given::Note(Note::new(ticket, Cause::Aborted)),
-        Outcome::Busy => Given::Note(Note::new(ticket, Cause::Busy)),
-        Outcome::Unknown => Given::Note(Note::new(ticket, Cause::Unknown)),
+        Outcome::Reply(receipt) => ReceiptOrNote::Receipt(receipt),
+        Outcome::Aborted(_) => ReceiptOrNote::Note(Note::new(ticket, Cause::Aborted)),
+        Outcome::Busy => ReceiptOrNote::Note(Note::new(ticket, Cause::Busy)),
+        Outcome::Unknown => ReceiptOrNote::Note(Note::new(ticket, Cause::Unknown)),
     }
 }
 
-/// The job in the hand whose commit is over is answered by what came of it, and its chain used; its task is then to
-/// leave. Its receipt, or a note of why it got none; `None` where no such job is in the hand, or where the memory
-/// isn't the queue's, or the queue doesn't own the chain, which never happens in one device: the job is let go then.
-pub fn phase_answer(queue: &mut Queue, memory: &mut GuestMem, hand: &mut Hand) -> Option<Given>
+/// Answers the job in the hand whose commit is over by what came of it, and uses its chain; its task is then to leave.
+/// Its receipt, or a note of why it got none; `None` where no such job is in the hand, or where the memory isn't the
+/// queue's, or the queue doesn't own the chain, which never happens in one device: the job is let go then.
+pub fn phase_answer(
+    queue: &mut Queue,
+    memory: &mut GuestMem,
+    hand: &mut Hand,
+) -> Option<ReceiptOrNote>
     ensures answers { Answers (hand_of hand.old) queue.old memory.old (is_some result) queue.new memory.new
         (hand_of hand.new) }
     ensures gives { IfSome result (λ given. given_in hand.old ≡ Some given) }
     ensures size { length memory.new ≡ length memory.old }
 {
     let written = match hand {
-        Hand::Held(held) => {
+        Hand::Job(held) => {
             if !held.is_over() {
                 return None;
             }
             write_held(queue, memory, held)
         }
-        Hand::Free | Hand::Answered(_, _) => return None,
+        Hand::Empty | Hand::Answered(_, _) => return None,
     };
     let (unit, chain, outcome) = take_job(hand);
     match written {

@@ -1,12 +1,14 @@
 //! The step in which a request comes to its unit.
 
-ghost use Rattle.deeds.specs.Parts as plain;
-ghost use Rattle.queue_phases.specs.Slots.{slot_of};
+ghost use Rattle.device_model.specs.Parts as plain;
+ghost use Rattle.phases.specs.Slots.{slot_of};
 ghost use Rattle.phases.specs.Units.{Enters, EntersAs};
-ghost use Rattle.phases.specs.Doing.{HasPlaces};
+ghost use Rattle.phases.specs.DoingUnit.{HasPlaces};
 ghost use Rattle.std.specs.Prelude.{IsTrue, ◌↔◌, ◌≡◌};
 
-use queue_phases::{Ready, Refusal, Slot};
+use crate::direct_chain::DirectChain;
+use crate::refusal::Refusal;
+use crate::slot::Slot;
 use std::mem;
 use task_set::MOST_TASKS;
 use unit_history::{Arrival, Entered, JobList, UnitState};
@@ -27,13 +29,13 @@ fn enter(unit: &mut UnitState, arrival: Arrival, slot: &mut Slot, out: &mut JobL
     match unit.enter(arrival) {
         Entered::Run(job) => out.push(job),
         Entered::Parked => {}
-        Entered::Full(job) => *slot = Slot::Ready(Ready::refused(job, Refusal::Full)),
-        Entered::Busy(job) => *slot = Slot::Ready(Ready::refused(job, Refusal::Busy)),
-        Entered::Stale(job) => *slot = Slot::Ready(Ready::refused(job, Refusal::Stale)),
+        Entered::Full(job) => *slot = Slot::Direct(DirectChain::refused(job, Refusal::Full)),
+        Entered::Busy(job) => *slot = Slot::Direct(DirectChain::refused(job, Refusal::Busy)),
+        Entered::Stale(job) => *slot = Slot::Direct(DirectChain::refused(job, Refusal::Stale)),
     }
 }
 
-/// The request that arrived comes to its unit, which whoever calls has found by the slot: it enters, and its job is
+/// Brings the request that arrived to its unit, which whoever calls has found by the slot: it enters, and its job is
 /// appended to the list where nothing blocks it; or it stands in the slot to be answered TASK SET FULL, BUSY or
 /// FAILURE. Whether something changed: not where no request arrived, or where the list has fewer than 64 free places.
 pub fn phase_enter(unit: &mut UnitState, slot: &mut Slot, out: &mut JobList) -> bool
@@ -47,6 +49,6 @@ pub fn phase_enter(unit: &mut UnitState, slot: &mut Slot, out: &mut JobList) -> 
             enter(unit, arrival, slot, out);
             true
         }
-        Slot::Empty | Slot::Ready(_) => unreachable!(),
+        Slot::Empty | Slot::Direct(_) => unreachable!(),
     }
 }

@@ -1,6 +1,6 @@
 //! What a seat has in hand between two steps.
 
-use crate::held::Held;
+use crate::job_in_hand::JobInHand;
 use ring_core::Answered;
 use unit_history::Job;
 
@@ -8,72 +8,72 @@ use unit_history::Job;
 #[derive(Drop)]
 pub enum Hand {
     /// Nothing.
-    Free,
+    Empty,
     /// A job that is to be committed, or is to be answered once its commit is over.
-    Held(Held),
-    /// A task that is to leave its unit, by the unit's place in the inventory.
+    Job(JobInHand),
+    /// A task that is to leave its unit, by the unit's index in the inventory.
     Answered(usize, Answered),
 }
 
 impl Hand {
     ghost use Rattle.std.specs.Prelude.{IsTrue, ◌↔◌, ◌≡◌};
-    ghost use Rattle.deeds.specs.Parts as plain;
+    ghost use Rattle.device_model.specs.Parts as plain;
     ghost use Rattle.phases.specs.Parts.{hand_of, committing_unit, leaving_unit, answering_queue};
 
-    /// A job that is to be committed.
+    /// Makes a job that is to be committed.
     pub fn taken(job: Job) -> Hand
         ensures { hand_of result ≡ plain.Hand.Taken job }
     {
-        Hand::Held(Held::new(job))
+        Hand::Job(JobInHand::new(job))
     }
 
-    /// Whether there is nothing in it.
-    pub fn is_free(&self) -> bool
-        ensures { IsTrue result ↔ (hand_of self.now ≡ plain.Hand.Free) }
+    /// Returns true if there is nothing in it.
+    pub fn is_empty(&self) -> bool
+        ensures { IsTrue result ↔ (hand_of self.now ≡ plain.Hand.Empty) }
     {
         match self {
-            Hand::Free => true,
-            Hand::Held(_) | Hand::Answered(_, _) => false,
+            Hand::Empty => true,
+            Hand::Job(_) | Hand::Answered(_, _) => false,
         }
     }
 
-    /// The place in the inventory of the unit at which its job is to be committed; `None` where none is.
+    /// Returns the index in the inventory of the unit at which its job is to be committed; `None` where none is.
     pub fn committing_unit(&self) -> Option<usize>
         ensures { result ≡ committing_unit (hand_of self.now) }
     {
         match self {
-            Hand::Held(held) => {
+            Hand::Job(held) => {
                 if held.is_over() {
                     return None;
                 }
                 Some(held.job().unit())
             }
-            Hand::Free | Hand::Answered(_, _) => None,
+            Hand::Empty | Hand::Answered(_, _) => None,
         }
     }
 
-    /// The place in the inventory of the unit that its task is to leave; `None` where none is.
+    /// Returns the index in the inventory of the unit that its task is to leave; `None` where none is.
     pub fn leaving_unit(&self) -> Option<usize>
         ensures { result ≡ leaving_unit (hand_of self.now) }
     {
         match self {
             Hand::Answered(unit, _) => Some(*unit),
-            Hand::Free | Hand::Held(_) => None,
+            Hand::Empty | Hand::Job(_) => None,
         }
     }
 
-    /// The queue of the chain that is to be answered next; `None` where none is.
+    /// Returns the queue of the chain that is to be answered next; `None` where none is.
     pub fn answering_queue(&self) -> Option<u16>
         ensures { result ≡ answering_queue (hand_of self.now) }
     {
         match self {
-            Hand::Held(held) => {
+            Hand::Job(held) => {
                 if !held.is_over() {
                     return None;
                 }
                 Some(held.job().chain().ticket().queue)
             }
-            Hand::Free | Hand::Answered(_, _) => None,
+            Hand::Empty | Hand::Answered(_, _) => None,
         }
     }
 }

@@ -1,31 +1,42 @@
-//! The atomic steps of the device, each on what one lock lends, a queue with the memory or a unit, and on what the one
-//! who takes the step has in hand. Those that need no unit and no job are passed on from `queue_phases`. None waits, and
-//! none knows a device.
+//! The atomic steps of the device, each on what one lock lends, a queue with the memory or a unit, on what stands in the
+//! queue's slot, and on what the one who takes the step has in hand. None waits, and none knows a device.
 #![tactic(auto)]
 
-mod answer;
 mod answering;
 mod committing;
+mod direct;
+mod direct_chain;
 mod entering;
+mod fetching;
+mod function;
 mod hand;
-mod held;
+mod job_in_hand;
 mod marking;
 mod preparing;
+mod raising;
+mod refusal;
 mod resetting;
 mod resizing;
+mod response;
 mod serving;
+mod slot;
+mod taking;
 
 pub use answering::phase_answer;
 pub use committing::{phase_commit, phase_leave};
+pub use direct::{phase_answer_tmf, phase_direct};
+pub use direct_chain::DirectChain;
 pub use entering::phase_enter;
+pub use fetching::{phase_fetch, phase_fetch_control};
+pub use function::OpenFunction;
 pub use hand::Hand;
-pub use held::Held;
+pub use job_in_hand::JobInHand;
 pub use marking::{phase_check, phase_mark};
 pub use preparing::{phase_prepare, phase_start_pages};
-pub use queue_phases::{
-    OpenFunction, Ready, Refusal, Slot, Taken, phase_answer_tmf, phase_direct, phase_fetch,
-    phase_fetch_control, phase_fetch_event, phase_raise, take_request,
-};
+pub use raising::{phase_fetch_event, phase_raise};
+pub use refusal::Refusal;
 pub use resetting::phase_hard;
 pub use resizing::phase_resize;
 pub use serving::serve_request;
+pub use slot::Slot;
+pub use taking::{Taken, take_request};

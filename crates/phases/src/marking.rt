@@ -1,31 +1,31 @@
 //! The steps of the open function on its units.
 
-ghost use Rattle.phases.specs.Doing.{HasPlaces};
-ghost use Rattle.task_mgmt.specs.Functions.{IsKnownStrike};
-ghost use Rattle.phases.specs.Units.{Marks, Strikes, Checks};
+ghost use Rattle.phases.specs.DoingUnit.{HasPlaces};
+ghost use Rattle.task_mgmt.specs.Functions.{IsKnownMark};
+ghost use Rattle.phases.specs.Units.{Marks, MarksBy, Checks};
 
 use crate::entering::has_places;
+use crate::function::OpenFunction;
 use block_store::NoMemory;
-use queue_phases::OpenFunction;
-use task_mgmt::{Kind, Strike};
+use task_mgmt::{Kind, MarkBy};
 use unit_history::{JobList, Place, UnitState};
 
-/// Strikes the tasks of a unit: the place of the step.
-fn strike(unit: &mut UnitState, strike: Strike, out: &mut JobList) -> Result<Place, NoMemory>
-    requires known { IsKnownStrike strike }
+/// MarksBy the tasks of a unit: the place of the step.
+fn mark_tasks(unit: &mut UnitState, mark: MarkBy, out: &mut JobList) -> Result<Place, NoMemory>
+    requires known { IsKnownMark mark }
     requires room { HasPlaces out.old }
-    ensures { Strikes strike unit.old out.old result unit.new out.new }
+    ensures { MarksBy mark unit.old out.old result unit.new out.new }
 {
-    match strike {
-        Strike::Abort(rule) => unit.abort(rule, out),
-        Strike::Reset(code) => unit.reset(code, out),
+    match mark {
+        MarkBy::Abort(rule) => unit.abort(rule, out),
+        MarkBy::Reset(code) => unit.reset(code, out),
     }
 }
 
-/// The open function marks its next unit, which whoever calls has found by `next_unit`, or looks at it; jobs of tasks
-/// that wait there and are marked are appended to the list. Where memory is refused the function fails, and leaves
-/// its other units. Whether something changed: not where no unit is left, or where the list has fewer than 64 free
-/// places.
+/// Marks the next unit of the open function, which whoever calls has found by `next_unit`, or looks at it; jobs of
+/// tasks that wait there and are marked are appended to the list. Where memory is refused the function fails, and
+/// leaves its other units. Whether something changed: not where no unit is left, or where the list has fewer than 64
+/// free places.
 pub fn phase_mark(unit: &mut UnitState, function: &mut OpenFunction, out: &mut JobList) -> bool
     ensures { Marks function.old unit.old out.old result unit.new function.new out.new }
 {
@@ -33,16 +33,16 @@ pub fn phase_mark(unit: &mut UnitState, function: &mut OpenFunction, out: &mut J
         return false;
     }
     match function.function().kind() {
-        Kind::Marking(blow) => match strike(unit, blow, out) {
+        Kind::Marking(mark) => match mark_tasks(unit, mark, out) {
             Ok(place) => function.marked(place),
             Err(NoMemory) => function.refused(),
         },
-        Kind::Asking(rule) => function.found(unit.is_alive(rule)),
+        Kind::Querying(rule) => function.found(unit.is_alive(rule)),
     }
     true
 }
 
-/// The open function looks whether its first mark is clear, at that mark's unit, which whoever calls has found by
+/// Checks whether the open function's first mark is clear, at that mark's unit, which whoever calls has found by
 /// `waits_for`, and goes on to the next. Whether something changed: not where a unit is left to mark, no mark is waited
 /// for, or a task that the mark met has not left.
 pub fn phase_check(unit: &UnitState, function: &mut OpenFunction) -> bool

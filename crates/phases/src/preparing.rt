@@ -6,30 +6,30 @@ ghost use Rattle.phases.specs.Parts.{hand_of};
 use crate::hand::Hand;
 use unit_history::{StartedWrite, UnitState};
 
-/// What the pages of the WRITE in the hand need is copied from its unit, which whoever calls has found by the hand; the
-/// unit stays as it is. `None` where no job is in the hand that is to be committed, or its unit gives nothing for it
-/// (`UnitState::start_pages`).
+/// Copies what the pages of the WRITE in the hand need from its unit, which whoever calls has found by the hand; the
+/// unit stays as it is. `None` where no job is in the hand that is to be committed, or its unit gives nothing
+/// for it (`UnitState::start_pages`).
 pub fn phase_start_pages(unit: &mut UnitState, hand: &Hand) -> Option<StartedWrite>
     ensures { unit.new ≡ unit.old }
 {
     match hand {
-        Hand::Held(held) => {
+        Hand::Job(held) => {
             if held.is_over() {
                 return None;
             }
             unit.start_pages(held.job())
         }
-        Hand::Free | Hand::Answered(_, _) => None,
+        Hand::Empty | Hand::Answered(_, _) => None,
     }
 }
 
-/// The pages of the WRITE in the hand are made of what was copied for them, with no lock held. Where memory is refused,
-/// it is committed without.
+/// Makes the pages of the WRITE in the hand of what was copied for them, with no lock held. Where memory is refused, it
+/// is committed without.
 pub fn phase_prepare(hand: &mut Hand, started: StartedWrite)
     ensures { hand_of hand.new ≡ hand_of hand.old }
 {
     match hand {
-        Hand::Held(held) => held.prepare(started),
-        Hand::Free | Hand::Answered(_, _) => {}
+        Hand::Job(held) => held.prepare(started),
+        Hand::Empty | Hand::Answered(_, _) => {}
     }
 }

@@ -1,7 +1,7 @@
 //! The operator's step.
 
 ghost use Rattle.std.specs.Prelude.{◌≡◌};
-ghost use Rattle.deeds.specs.After.{hard_report};
+ghost use Rattle.device_model.specs.After.{hard_report};
 ghost use Rattle.phases.specs.Resetting.{Resets};
 
 use crate::entering::has_places;
@@ -28,7 +28,7 @@ fn reset_event(unit: &UnitState) -> Event
     }
 }
 
-/// The operator resets a unit, wherever it stands: jobs of tasks that wait there are appended to the list, and the
+/// Resets a unit for the operator, wherever it stands: jobs of tasks that wait there are appended to the list, and the
 /// event of the reset waits. Whether something changed: not where the list has fewer than 64 free places, or no event
 /// can name the unit's LUN. `NoMemory`, with nothing changed, where the event or the step was refused memory.
 pub fn phase_hard(

@@ -1,7 +1,7 @@
 //! The operator's resize of a unit.
 
 ghost use Rattle.std.specs.Prelude.{◌≡◌};
-ghost use Rattle.deeds.specs.After.{change_report};
+ghost use Rattle.device_model.specs.After.{change_report};
 ghost use Rattle.phases.specs.Resizing.{ResizesUnit};
 
 use crate::resetting::LUNS;

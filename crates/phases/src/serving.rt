@@ -2,21 +2,23 @@
 
 ghost use Rattle.std.specs.Prelude.{◌≡◌, ◌≤◌, length, true, IfOk, IfErr, OnOk, OnErr};
 ghost use Rattle.ring_core.specs.State.{Owns};
-ghost use Rattle.deeds.specs.Parts as plain;
-ghost use Rattle.phases.specs.Doing.{HasPlaces};
-ghost use Rattle.queue_phases.specs.Slots.{slot_of};
+ghost use Rattle.device_model.specs.Parts as plain;
+ghost use Rattle.phases.specs.DoingUnit.{HasPlaces};
+ghost use Rattle.phases.specs.Slots.{slot_of};
 ghost use Rattle.phases.specs.Units.{Leaves};
 ghost use Rattle.phases.specs.Answering.{Answers};
 ghost use Rattle.phases.specs.Outcomes.{WritesWhole};
 ghost use Rattle.phases.specs.Serving.{Serves, ServesAtOnce};
 ghost use Rattle.unit_history.specs.Endings.{ending_of, ending_of_run, FitsNeed};
 ghost use Rattle.cdb.specs.Need.{need_of};
-ghost use Rattle.task_set.specs.Jobs.{Jobs};
+ghost use Rattle.unit_model.specs.Jobs.{Jobs};
 
-use crate::answer::{write_outcome, write_run};
+use crate::direct_chain::DirectChain;
+use crate::refusal::Refusal;
+use crate::response::{write_outcome, write_run};
+use crate::slot::Slot;
 use block_store::NoMemory;
 use guest_mem::GuestMem;
-use queue_phases::{Ready, Refusal, Slot};
 use queues::Queue;
 use replies::Reply;
 use ring_core::Answered;
@@ -87,7 +89,7 @@ impl<'a> Answering for Answer<'a> {
 fn leave(unit: &mut UnitState, answered: Answered, out: &mut JobList) -> bool
     requires { HasPlaces out.old }
     ensures { (place : _) → Leaves (plain.Hand.Answered place answered) unit.old out.old result
-        unit.new plain.Hand.Free out.new }
+        unit.new plain.Hand.Empty out.new }
 {
     match unit.leave(answered, out) {
         Ok(()) => true,
@@ -145,26 +147,26 @@ fn serve_by_steps(
         }
         Entered::Parked => None,
         Entered::Full(job) => {
-            *slot = Slot::Ready(Ready::refused(job, Refusal::Full));
+            *slot = Slot::Direct(DirectChain::refused(job, Refusal::Full));
             None
         }
         Entered::Busy(job) => {
-            *slot = Slot::Ready(Ready::refused(job, Refusal::Busy));
+            *slot = Slot::Direct(DirectChain::refused(job, Refusal::Busy));
             None
         }
         Entered::Stale(job) => {
-            *slot = Slot::Ready(Ready::refused(job, Refusal::Stale));
+            *slot = Slot::Direct(DirectChain::refused(job, Refusal::Stale));
             None
         }
     }
 }
 
-/// A request comes to its unit. Where nothing blocks its task its command runs whole, it is answered by what came of
+/// Brings a request to its unit. Where nothing blocks its task its command runs whole, it is answered by what came of
 /// that, its chain is used, and the task leaves: as by [`phase_enter`](crate::phase_enter),
-/// [`phase_commit`](crate::phase_commit), [`phase_answer`](crate::phase_answer) and
-/// [`phase_leave`](crate::phase_leave) one after another, with its job in no list and no hand between them. Then it
-/// answers whether the unit knew the task when it left. Else `None`: the task waits at its unit, or what refuses the
-/// request stands in the slot. The queue owns the chain, and the list has 64 places free, which the caller sees to.
+/// [`phase_commit`](crate::phase_commit), [`phase_answer`](crate::phase_answer) and [`phase_leave`](crate::phase_leave)
+/// one after another, with its job in no list and no hand between them. Then it answers whether the unit knew the task
+/// when it left. Else `None`: the task waits at its unit, or what refuses the request stands in the slot. The queue
+/// owns the chain, and the list has 64 places free, which the caller sees to.
 #[inline(always)]
 pub fn serve_request(
     unit: &mut UnitState,

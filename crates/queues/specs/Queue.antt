@@ -11,7 +11,7 @@ use Rattle.split_ring.specs.Placement as split
 use Rattle.packed_ring.specs.Placement as packed
 
 -- its ring, and how many notices were wanted
-pub record Lent : Type 0 where
+pub record BareQueue : Type 0 where
   pub ring : RingState
   pub notices : ℕ
 
@@ -24,16 +24,16 @@ abbrev pub opening_ring : Form → ℕ → ℕ → Layout → Features → RingS
 opening_ring Split memory number l features = opening Split number l features memory l.size
 opening_ring Packed memory number l features = opening Packed number l features memory 65536
 
-abbrev pub opening_queue : Form → ℕ → ℕ → Layout → Features → Lent
+abbrev pub opening_queue : Form → ℕ → ℕ → Layout → Features → BareQueue
 opening_queue form memory number l features =
     record { ring = opening_ring form memory number l features; notices = 0 }
 
 -- the queue once a chain was used, and memory is this: the driver may want a notice
-abbrev pub completing : List ℕ → PlainChain → Lent → Lent
+abbrev pub completing : List ℕ → PlainChain → BareQueue → BareQueue
 completing m c q =
     record { ring = using q.ring c; notices = q.notices + (if wants_notice (using q.ring c) m then 1 else 0) }
 
 -- the memory is the queue's, and the queue owns the chain
-pub record MayComplete (q : Lent) (m : List ℕ) (c : PlainChain) : Type 0 where
+pub record MayComplete (q : BareQueue) (m : List ℕ) (c : PlainChain) : Type 0 where
   pub fits : length m ≡ q.ring.memory
   pub owned : Owns q.ring c

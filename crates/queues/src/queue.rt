@@ -14,7 +14,7 @@ use split_ring::SplitRing;
 use std::alloc::Global;
 use std::marker::Model;
 
-/// Why a queue of this form can't lie so, in a memory of so many bytes; `None` where it can.
+/// Returns why a queue of this form can't lie so, in a memory of so many bytes; `None` where it can.
 pub fn placement(form: Form, memory: u64, layout: &Layout) -> Option<LayoutFault>
     ensures { result ≡ placement_of form memory layout.now }
 {
@@ -25,7 +25,7 @@ pub fn placement(form: Form, memory: u64, layout: &Layout) -> Option<LayoutFault
     checked.err()
 }
 
-/// Whether a queue of this form can lie so, in a memory of so many bytes.
+/// Returns true if a queue of this form can lie so, in a memory of so many bytes.
 pub fn is_placed(form: Form, memory: u64, layout: &Layout) -> bool
     ensures { result ≡ is_none (placement_of form memory layout.now) }
 {
@@ -112,9 +112,9 @@ pub struct Queue {
 impl Model for Queue {
     ghost use Rattle.std.specs.Prelude.{◌≡◌, ◌≤◌, length, is_some};
     ghost use Rattle.queues.specs.AnyRing.{ring_state};
-    ghost use Rattle.queues.specs.Queue.{Lent};
+    ghost use Rattle.queues.specs.Queue.{BareQueue};
 
-    ghost Value = { Lent };
+    ghost Value = { BareQueue };
 
     ghost view = { λ q. record { ring = ring_state q.ring; notices = q.notices } };
 
@@ -155,21 +155,21 @@ impl Queue {
         })
     }
 
-    /// Its number.
+    /// Returns its number.
     pub fn number(&self) -> u16
         ensures { result ≡ self.now.ring.queue }
     {
         self.number
     }
 
-    /// Whether the memory has the size that it was made with.
+    /// Returns true if the memory has the size that it was made with.
     pub fn fits(&self, memory: &GuestMem) -> bool
         ensures { IsTrue result ↔ (length memory.now ≡ self.now.ring.memory) }
     {
         self.ring.fits(memory)
     }
 
-    /// Whether the memory has the size that it was made with, and the chain is outstanding here.
+    /// Returns true if the memory has the size that it was made with, and the chain is outstanding here.
     #[inline(always)]
     pub fn may_complete(&self, memory: &GuestMem, chain: &Chain) -> bool
         ensures { IsTrue result ↔ MayComplete self.now memory.now chain.now }
@@ -177,9 +177,9 @@ impl Queue {
         self.ring.fits(memory) && self.ring.owns(chain)
     }
 
-    /// Whether a fetch would find nothing to do: it is broken, or nothing is available. Called with a memory of the
-    /// size that it was made with.
-    pub fn is_silent(&self, memory: &GuestMem) -> bool
+    /// Returns true if a fetch would find nothing to do: it is broken, or nothing is available. Called with a memory of
+    /// the size that it was made with.
+    pub fn is_idle(&self, memory: &GuestMem) -> bool
         requires { length memory.now ≡ self.now.ring.memory }
         ensures { IsTrue result ↔ IsIdle self.now.ring memory.now }
     {
@@ -224,28 +224,28 @@ impl Queue {
         answered
     }
 
-    /// How many notices were wanted.
+    /// Returns how many notices were wanted.
     pub fn notices(&self) -> u64
         ensures { result ≡ self.now.notices }
     {
         self.notices
     }
 
-    /// Whether a fault of the guest broke it.
+    /// Returns true if a fault of the guest broke it.
     pub fn is_broken(&self) -> bool
         ensures { result ≡ is_some self.now.ring.broken }
     {
         self.broken
     }
 
-    /// The fault of the guest that broke it, if any.
+    /// Returns the fault of the guest that broke it, if any.
     pub fn fault(&self) -> Option<RingFault>
         ensures { result ≡ self.now.ring.broken }
     {
         self.ring.broken()
     }
 
-    /// Its log. What is outstanding agrees with it, and is no more than the queue has descriptors.
+    /// Returns its log. What is outstanding agrees with it, and is no more than the queue has descriptors.
     pub fn log(&self) -> &QueueLog
         ensures log { result.now ≡ self.now.ring.log }
         ensures sound { IsSound self.now.ring }
@@ -254,8 +254,8 @@ impl Queue {
         self.ring.log()
     }
 
-    /// The least number of an accepted chain that wasn't used, if there is one: asked once the queue is no longer
-    /// served.
+    /// Returns the least number of an accepted chain that wasn't used, if there is one: asked once the queue is no
+    /// longer served.
     pub fn least_outstanding(&self) -> Option<u64>
         ensures { IsLeastOutstanding self.now.ring result }
     {

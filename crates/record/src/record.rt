@@ -36,21 +36,21 @@ impl<T> fmt::Debug for Record<T> {
 }
 
 impl<T> Record<T> {
-    /// Nothing recorded.
+    /// Makes a record of nothing.
     pub fn new() -> Record<T>
         ensures { result.items ≡ [] }
     {
         Record { of: PhantomData }
     }
 
-    /// What was recorded, and then the item as it is now. The record itself stays.
+    /// Returns what was recorded, and then the item as it is now. The record itself stays.
     pub fn and(&self, item: &T) -> Record<T>
         ensures { result.items ≡ self.now.items ++ item.now ∷ [] }
     {
         Record { of: PhantomData }
     }
 
-    /// What was recorded, and then the items as they are now. The record itself stays.
+    /// Returns what was recorded, and then the items as they are now. The record itself stays.
     pub fn and_all(&self, items: &[T]) -> Record<T>
         ensures { result.items ≡ self.now.items ++ items.now }
     {

@@ -38,7 +38,7 @@ pub struct Reply {
 impl Reply {
     ghost use Rattle.replies.specs.PlainReply.{plain_of, refusal, success};
 
-    /// CHECK CONDITION with this sense data.
+    /// Makes CHECK CONDITION with this sense data.
     pub fn refusal(alloc: Global, sense: Sense) -> Reply
         ensures { plain_of result ≡ refusal sense }
     {
@@ -50,7 +50,7 @@ impl Reply {
         }
     }
 
-    /// GOOD with this data to the driver.
+    /// Makes GOOD with this data to the driver.
     pub fn success(command: &Command, payload: Vec<u8>) -> Reply
         requires { (need_of command.now).out + vec_len payload < 2 ^ 32 }
         ensures { plain_of result ≡ success command.now payload.items }

@@ -6,7 +6,7 @@ ghost use Rattle.replies.specs.StandardData.{standard_data};
 /// Byte 0 of the standard data of a LUN that has no device.
 pub(crate) const NO_DEVICE: u8 = 0x7f;
 
-/// The standard data, with this byte 0.
+/// Returns the standard data, with this byte 0.
 #[tactic(auto, unfolding(crate::specs::StandardData::standard_data))]
 pub fn standard_data(peripheral: u8) -> [u8; 36]
     ensures { result ≡ standard_data peripheral }

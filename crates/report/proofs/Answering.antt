@@ -3,10 +3,10 @@ use Rattle.std.proofs.Common.{◌≡◌, ℕ, ◌+◌, ◌≤◌, Bool, true, fa
 use Rattle.std.proofs.lemmas.List.Sums.{sum_by-cons}
 use Rattle.std.specs.List.{fold, list_all}
 use Rattle.ring_core.specs.declared.log.Ticket.{Ticket}
-use Rattle.history.specs.Tasks.{same_ticket}
-use Rattle.history.specs.Receipts.{Receipt}
-use Rattle.notes.specs.Notes.{PlainNote}
-use Rattle.notes.specs.declared.note.Cause.{Cause}
+use Rattle.unit_model.specs.Tasks.{same_ticket}
+use Rattle.unit_model.specs.Receipts.{Receipt}
+use Rattle.unit_history.specs.Notes.{PlainNote}
+use Rattle.unit_history.specs.declared.note.Cause.{Cause}
 use Rattle.report.specs.declared.tally.Answer.{Answer}
 use Rattle.report.specs.declared.tally.Answer.TheVariants as answer
 use Rattle.report.specs.declared.tally.Tally.{Tally}

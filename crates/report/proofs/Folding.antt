@@ -6,13 +6,13 @@ use Rattle.std.specs.Prelude.{slice_get}
 use Rattle.std.specs.List.{fold, list_any}
 use Rattle.std.specs.Option.{option_map}
 use Rattle.ring_core.specs.declared.log.Ticket.{Ticket}
-use Rattle.history.specs.Tasks.{Entry, same_ticket}
-use Rattle.history.specs.Steps.{Step, alive}
-use Rattle.history.specs.Base.{base_of, kept_steps, kept_at}
-use Rattle.unit_steps.specs.Runs.{committed_one}
-use Rattle.history.specs.Receipts.{step_at}
-use Rattle.task_set.specs.Unit.{PlainUnit}
-use Rattle.unit_steps.specs.Kept.{kind_of}
+use Rattle.unit_model.specs.Tasks.{Entry, same_ticket}
+use Rattle.unit_model.specs.Steps.{Step, alive}
+use Rattle.unit_model.specs.Base.{base_of, kept_steps, kept_at}
+use Rattle.unit_history.specs.Runs.{committed_one}
+use Rattle.unit_model.specs.Receipts.{step_at}
+use Rattle.unit_model.specs.Unit.{PlainUnit}
+use Rattle.unit_history.specs.Kept.{kind_of}
 use Rattle.report.specs.declared.tally.Tally.{Tally}
 use Rattle.report.specs.Tallies.{fact_of_one, fact_of_commit, fact_of_alive, tells, read, read_commits, read_folded, read_alive, with_unit, with_units}
 

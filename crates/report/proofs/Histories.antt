@@ -2,8 +2,8 @@
 use Rattle.std.proofs.Common.{◌≡◌, ℕ, Bool, true, false, not, ◌&&◌, ◌||◌, cond, eqb, List, [], ◌∷◌, Option, Some, None, refl, sym, ap, ◌∙◌, arith}
 use Rattle.std.proofs.lemmas.Bool.Decides.{nat_tests}
 use Rattle.ring_core.specs.declared.log.Ticket.{Ticket}
-use Rattle.history.specs.Tasks.{same_ticket}
-use Rattle.history.specs.Steps.{Step, has_entered}
+use Rattle.unit_model.specs.Tasks.{same_ticket}
+use Rattle.unit_model.specs.Steps.{Step, has_entered}
 use Rattle.report.specs.declared.tally.Fact.{Fact}
 use Rattle.report.specs.declared.tally.Fact.TheVariants as fact
 use Rattle.report.specs.declared.tally.TaskStep.TheVariants as step

@@ -3,10 +3,12 @@ pub mod Slots
 pub mod Folding
 pub mod Firsts
 pub mod Histories
-pub mod Kept
+pub mod StepsKept
 pub mod Home
 pub mod Answering
 pub mod Verdict
 pub mod Prefixes
 pub mod Sourcing
 pub mod Summing
+pub mod Keeping
+pub mod Crossing

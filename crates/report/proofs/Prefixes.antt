@@ -6,10 +6,10 @@ use Rattle.std.specs.Prelude.{slice_get}
 use Rattle.std.specs.List.{list_any}
 use Rattle.std.specs.declared.alloc.Global.{Global}
 use Rattle.ring_core.specs.declared.log.Ticket.{Ticket}
-use Rattle.history.specs.Tasks.{same_ticket}
-use Rattle.history.specs.Receipts.{Receipt}
-use Rattle.history.proofs.Tickets.{same-true, itself}
-use Rattle.task_set.specs.Unit.{PlainUnit}
+use Rattle.unit_model.specs.Tasks.{same_ticket}
+use Rattle.unit_model.specs.Receipts.{Receipt}
+use Rattle.unit_model.proofs.Tickets.{same-true, itself}
+use Rattle.unit_model.specs.Unit.{PlainUnit}
 use Rattle.report.specs.declared.tally.Tally.{Tally}
 use Rattle.report.specs.Words.{is_before}
 use Rattle.report.specs.Closed.{IsFirst, IsConfirmedBy}

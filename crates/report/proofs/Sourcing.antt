@@ -9,12 +9,12 @@ use Rattle.std.specs.Option.{option_map}
 use Rattle.std.specs.declared.alloc.Global.{Global}
 use Rattle.ring_core.specs.declared.log.Ticket.{Ticket}
 use Rattle.ring_core.specs.Sound.{IsSound, WasUsed, IsLeastOutstanding}
-use Rattle.history.specs.Tasks.{same_ticket}
-use Rattle.history.specs.Receipts.{Receipt}
-use Rattle.history.proofs.Tickets.{same-true, itself}
-use Rattle.task_set.specs.Unit.{PlainUnit}
-use Rattle.queues.specs.Queue.{Lent}
-use Rattle.notes.specs.Notes.{PlainNote}
+use Rattle.unit_model.specs.Tasks.{same_ticket}
+use Rattle.unit_model.specs.Receipts.{Receipt}
+use Rattle.unit_model.proofs.Tickets.{same-true, itself}
+use Rattle.unit_model.specs.Unit.{PlainUnit}
+use Rattle.queues.specs.Queue.{BareQueue}
+use Rattle.unit_history.specs.Notes.{PlainNote}
 use Rattle.report.specs.declared.tally.Tally.{Tally}
 use Rattle.report.specs.Settled.{is_asked, is_used, uses, is_request, is_settled, count_accepted, any_folded}
 use Rattle.report.specs.Closed.{IsFirst, is_outstanding}
@@ -57,7 +57,7 @@ below m n e = grind (arith, nat_tests)
 above : (m n : ℕ) → m < n → ltb m n ≡ true
 above m n e = grind (arith, nat_tests)
 
-module _ (place : ℕ) (q : Lent) (sound : IsSound q.ring) where
+module _ (place : ℕ) (q : BareQueue) (sound : IsSound q.ring) where
   -- by whether the ticket is of the place, and accepted
   unused_off : (t : Ticket) → (eqb t.queue place ≡ true → t.number < length q.ring.log.accepted → list_any (λ u. same_ticket u t) q.ring.log.used ≡ true)
       → unused_in place q t ≡ false
@@ -104,7 +104,7 @@ module _ (place : ℕ) (q : Lent) (sound : IsSound q.ring) where
         )
 
 -- one queue more
-module _ (queues : List Lent) (folded : Bool) (tables : List (Vec Tally Global)) (i : ℕ) (q : Lent) (lt : i < length queues) (is : q ≡ get_or queues i q) where
+module _ (queues : List BareQueue) (folded : Bool) (tables : List (Vec Tally Global)) (i : ℕ) (q : BareQueue) (lt : i < length queues) (is : q ≡ get_or queues i q) where
   there : slice_get queues i ≡ Some q
   there = slice_get_read queues (length queues) i q refl lt is
 
@@ -119,7 +119,7 @@ module _ (queues : List Lent) (folded : Bool) (tables : List (Vec Tally Global))
       elim (same_or_other t.queue i) [
         | inl e ↦
             let at : amiss_of queues folded tables t ≡ amiss_in i q folded tables t =
-            ap (λ (k : ℕ). amiss_at (slice_get queues k) folded tables t) e.0 ∙ ap (λ (o : Option Lent). amiss_at o folded tables t) there ∙ ap (λ (k : ℕ). amiss_in k q folded tables t) e.0 in
+            ap (λ (k : ℕ). amiss_at (slice_get queues k) folded tables t) e.0 ∙ ap (λ (o : Option BareQueue). amiss_at o folded tables t) there ∙ ap (λ (k : ℕ). amiss_in k q folded tables t) e.0 in
             ap (λ b. b && amiss_of queues folded tables t) (last_in t.queue i e.0) ∙ at
             ∙ sym (ap (λ b. (b && amiss_of queues folded tables t) || amiss_in i q folded tables t) (last_out t.queue i e.0))
         | inr e ↦
@@ -148,13 +148,13 @@ past_none [] k le = refl
 past_none (x ∷ xs) zero le = absurd (omega arith)
 past_none (x ∷ xs) (suc k) le = past_none xs k (omega arith)
 
-pub all_queues : (queues : List Lent) (folded : Bool) (tables : List (Vec Tally Global)) (i : ℕ) (r : Option Ticket) → length queues ≤ i
+pub all_queues : (queues : List BareQueue) (folded : Bool) (tables : List (Vec Tally Global)) (i : ℕ) (r : Option Ticket) → length queues ≤ i
     → IsFirst (λ t. ltb t.queue i && amiss_of queues folded tables t) r → IsFirst (amiss_of queues folded tables) r
 all_queues queues folded tables i r le is =
     same_first (λ t. ltb t.queue i && amiss_of queues folded tables t) (amiss_of queues folded tables) r
     (λ t. (elim (ltb t.queue i) as (λ b. (ltb t.queue i ≡ b) → amiss_of queues folded tables t ≡ (b && amiss_of queues folded tables t)) [
       | true ↦ λ e. refl
-      | false ↦ λ e. ap (λ (o : Option Lent). amiss_at o folded tables t) (past_none queues t.queue (far t.queue i (length queues) e le))
+      | false ↦ λ e. ap (λ (o : Option BareQueue). amiss_at o folded tables t) (past_none queues t.queue (far t.queue i (length queues) e le))
     ]) refl)
     is
   where
@@ -188,7 +188,7 @@ inner true b w = refl
 inner false true w = refl
 inner false false w = refl
 
-module _ (units : List PlainUnit) (queues : List Lent) (receipts : List Receipt) (notes : List PlainNote) (stand : AllStand units) where
+module _ (units : List PlainUnit) (queues : List BareQueue) (receipts : List Receipt) (notes : List PlainNote) (stand : AllStand units) where
   abbrev settled_here : Ticket → Bool
   settled_here t = is_settled units receipts notes t
 
@@ -200,7 +200,7 @@ module _ (units : List PlainUnit) (queues : List Lent) (receipts : List Receipt)
       (at_second : is_some (tally_at second t) ≡ is_some (tally_at first t))
       (at_last : tally_at last t ≡ cond (is_request queues t) (Some (tally_of units receipts notes t)) None) where
     -- of the queue alone
-    abbrev by_queue : Option Lent → Bool
+    abbrev by_queue : Option BareQueue → Bool
     by_queue o = (not (eqb t.queue 1) && ltb t.number (count_accepted o)) && not (uses o t)
 
     abbrev asked : Bool
@@ -209,15 +209,15 @@ module _ (units : List PlainUnit) (queues : List Lent) (receipts : List Receipt)
     unsettled_is : ends_amiss folded (tally_at last t) ≡ (is_request queues t && not (settled_here t))
     unsettled_is = ap (ends_amiss folded) at_last ∙ amiss_if folded (is_request queues t) (settled_here t) (tally_of units receipts notes t) (ends_settled units receipts notes t stand)
 
-    queue_is : (o : Option Lent) → slice_get queues t.queue ≡ o → amiss_at o folded last t ≡ (by_queue o || (is_request queues t && not (settled_here t)))
+    queue_is : (o : Option BareQueue) → slice_get queues t.queue ≡ o → amiss_at o folded last t ≡ (by_queue o || (is_request queues t && not (settled_here t)))
     queue_is None e =
-        sym (ap (λ (w : Option Lent). by_queue None || ((leb 2 t.queue && ltb t.number (count_accepted w)) && not (settled_here t))) e
+        sym (ap (λ (w : Option BareQueue). by_queue None || ((leb 2 t.queue && ltb t.number (count_accepted w)) && not (settled_here t))) e
         ∙ ap (λ b. ((not (eqb t.queue 1) && b) && true) || ((leb 2 t.queue && b) && not (settled_here t))) (none_below t.number)
         ∙ ap (λ b. (b && true) || ((leb 2 t.queue && false) && not (settled_here t))) (and_false (not (eqb t.queue 1)))
         ∙ ap (λ b. b && not (settled_here t)) (and_false (leb 2 t.queue)))
     queue_is (Some q) e =
         let n : ℕ = length q.ring.log.accepted in
-        let request : is_request queues t ≡ (leb 2 t.queue && ltb t.number n) = ap (λ (w : Option Lent). leb 2 t.queue && ltb t.number (count_accepted w)) e in
+        let request : is_request queues t ≡ (leb 2 t.queue && ltb t.number n) = ap (λ (w : Option BareQueue). leb 2 t.queue && ltb t.number (count_accepted w)) e in
         let unsettled : (ltb t.number n && ends_amiss folded (tally_at last t)) ≡ (is_request queues t && not (settled_here t)) =
         ap (λ b. ltb t.number n && b) unsettled_is
         ∙ ap (λ b. ltb t.number n && (b && not (settled_here t))) request

@@ -5,17 +5,17 @@ use Rattle.std.proofs.lemmas.Option.{same_Some}
 use Rattle.std.specs.Prelude.{slice_get}
 use Rattle.std.specs.List.{list_any}
 use Rattle.ring_core.specs.declared.log.Ticket.{Ticket}
-use Rattle.history.specs.Tasks.{same_ticket}
-use Rattle.history.specs.Steps.{has_entered, has_left}
-use Rattle.history.specs.Base.{kept_steps}
-use Rattle.history.specs.Receipts.{Receipt}
-use Rattle.history.proofs.Tickets.{itself}
-use Rattle.task_set.specs.Unit.{PlainUnit}
+use Rattle.unit_model.specs.Tasks.{same_ticket}
+use Rattle.unit_model.specs.Steps.{has_entered, has_left}
+use Rattle.unit_model.specs.Base.{kept_steps}
+use Rattle.unit_model.specs.Receipts.{Receipt}
+use Rattle.unit_model.proofs.Tickets.{itself}
+use Rattle.unit_model.specs.Unit.{PlainUnit}
 use Rattle.decisions.specs.declared.inventory.UnitSpec.{UnitSpec}
-use Rattle.queues.specs.Queue.{Lent}
-use Rattle.notes.specs.Notes.{PlainNote}
-use Rattle.notes.specs.declared.note.Cause.{Cause}
-use Rattle.notes.specs.declared.note.Cause.TheVariants as cause
+use Rattle.queues.specs.Queue.{BareQueue}
+use Rattle.unit_history.specs.Notes.{PlainNote}
+use Rattle.unit_history.specs.declared.note.Cause.{Cause}
+use Rattle.unit_history.specs.declared.note.Cause.TheVariants as cause
 use Rattle.report.specs.Words.{has_run}
 use Rattle.report.specs.Settled.{answers, is_asked, is_used, is_request, is_settled, is_astray, has_answer, all_left, where_entered, any_run, has_run_there, is_of, is_founded, is_right, are_right}
 use Rattle.report.specs.Opened.{AreOpenedAs, AreInPlace}
@@ -28,7 +28,7 @@ any_at p [] k x holds e = absurd (cc)
 any_at p (y ∷ ys) zero x holds e = ap (λ b. b || list_any p ys) (ap p (same_Some y x e) ∙ holds)
 any_at p (y ∷ ys) (suc k) x holds e = ap (λ b. p y || b) (any_at p ys k x holds e) ∙ or_true (p y)
 
-module _ (units : List PlainUnit) (queues : List Lent) (receipts : List Receipt) (notes : List PlainNote)
+module _ (units : List PlainUnit) (queues : List BareQueue) (receipts : List Receipt) (notes : List PlainNote)
     (nothing : (t : Ticket) → is_outstanding units queues receipts notes t ≡ false) where
   abbrev unused : Ticket → Bool
   unused t = is_asked queues t && not (is_used queues t)

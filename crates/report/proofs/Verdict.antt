@@ -4,14 +4,14 @@ use Rattle.std.proofs.lemmas.Bool.Decides.{nat_tests}
 use Rattle.std.specs.Prelude.{slice_get}
 use Rattle.std.specs.List.{fold, list_any}
 use Rattle.ring_core.specs.declared.log.Ticket.{Ticket}
-use Rattle.history.specs.Tasks.{Entry, same_ticket}
-use Rattle.history.specs.Steps.{alive, has_entered, has_left}
-use Rattle.history.specs.Base.{base_of, kept_steps, folded_steps}
-use Rattle.history.specs.Receipts.{Receipt}
-use Rattle.task_set.specs.Unit.{PlainUnit}
-use Rattle.notes.specs.Notes.{PlainNote}
-use Rattle.notes.specs.declared.note.Cause.{Cause}
-use Rattle.notes.specs.declared.note.Cause.TheVariants as cause
+use Rattle.unit_model.specs.Tasks.{Entry, same_ticket}
+use Rattle.unit_model.specs.Steps.{alive, has_entered, has_left}
+use Rattle.unit_model.specs.Base.{base_of, kept_steps, folded_steps}
+use Rattle.unit_model.specs.Receipts.{Receipt}
+use Rattle.unit_model.specs.Unit.{PlainUnit}
+use Rattle.unit_history.specs.Notes.{PlainNote}
+use Rattle.unit_history.specs.declared.note.Cause.{Cause}
+use Rattle.unit_history.specs.declared.note.Cause.TheVariants as cause
 use Rattle.report.specs.declared.tally.Answer.{Answer}
 use Rattle.report.specs.declared.tally.Answer.TheVariants as answer
 use Rattle.report.specs.declared.tally.Tally.{Tally}
@@ -21,7 +21,7 @@ use Rattle.report.specs.Tallies.{fresh, elsewhere, home_at, read, read_commits, 
 use Rattle.report.specs.Unconfirmed.{AllStand}
 use Rattle.report.proofs.Bools.{all_at, or_false, or_true, and_true, and_false, not_or, unless_true}
 use Rattle.report.proofs.Histories.{home_by, shut, closed, read_closed, commits_closed, shut_both, entered_step, run_step, busy_step}
-use Rattle.report.proofs.Kept.{none_run, run_kept, busy_kept, marked_kept, entered_latest, gone_is}
+use Rattle.report.proofs.StepsKept.{none_run, run_kept, busy_kept, marked_kept, entered_latest, gone_is}
 use Rattle.report.proofs.Home.{two_any, where_one}
 use Rattle.report.proofs.Answering.{Amounts, Answered, receipts_read, notes_read}
 

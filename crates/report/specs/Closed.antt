@@ -3,13 +3,13 @@ use Rattle.std.specs.Prelude.{ℕ, ◌≡◌, Bool, true, false, not, nat_le, �
 use Rattle.ring_core.specs.declared.log.Ticket.{Ticket}
 use Rattle.ring_core.specs.Sound.{IsSound}
 use Rattle.decisions.specs.declared.inventory.UnitSpec.{UnitSpec}
-use Rattle.history.specs.Steps.{has_entered, has_left}
-use Rattle.history.specs.Base.{base_of, kept_steps}
-use Rattle.history.specs.Receipts.{Receipt, IsConfirmed}
-use Rattle.task_set.specs.Unit.{PlainUnit, IsUnit}
-use Rattle.queues.specs.Queue.{Lent}
-use Rattle.notes.specs.Notes.{PlainNote}
-use Rattle.notes.specs.declared.note.Cause.TheVariants as cause
+use Rattle.unit_model.specs.Steps.{has_entered, has_left}
+use Rattle.unit_model.specs.Base.{base_of, kept_steps}
+use Rattle.unit_model.specs.Receipts.{Receipt, IsConfirmed}
+use Rattle.unit_model.specs.Unit.{PlainUnit, IsUnit}
+use Rattle.queues.specs.Queue.{BareQueue}
+use Rattle.unit_history.specs.Notes.{PlainNote}
+use Rattle.unit_history.specs.declared.note.Cause.TheVariants as cause
 use Rattle.report.specs.declared.report.Report.{Report}
 use Rattle.report.specs.declared.fault.CloseFault.{CloseFault}
 use Rattle.report.specs.declared.fault.CloseFault.TheVariants as fault
@@ -45,13 +45,13 @@ pub record IsFirstUnconfirmed (units : List PlainUnit) (receipts : List Receipt)
 
 -- own: the chain of a request or control queue isn't used, or the request isn't settled; or what is no accepted request
 -- has a receipt or a note all the same
-abbrev pub is_outstanding : List PlainUnit → List Lent → List Receipt → List PlainNote → Ticket → Bool
+abbrev pub is_outstanding : List PlainUnit → List BareQueue → List Receipt → List PlainNote → Ticket → Bool
 is_outstanding units queues receipts notes t =
     (is_asked queues t && not (is_used queues t))
     || ((is_request queues t && not (is_settled units receipts notes t))
     || (not (is_request queues t) && has_answer receipts notes t))
 
-pub record IsReport (specs : List UnitSpec) (units : List PlainUnit) (queues : List Lent) (receipts : List Receipt)
+pub record IsReport (specs : List UnitSpec) (units : List PlainUnit) (queues : List BareQueue) (receipts : List Receipt)
     (notes : List PlainNote) : Type 0 where
   -- the units are those that were wanted, and each queue stands at the place of its number
   pub opened : AreOpenedAs specs units
@@ -59,7 +59,7 @@ pub record IsReport (specs : List UnitSpec) (units : List PlainUnit) (queues : L
   -- each history is lawful, and its unit is what it says
   pub units_stand : (k : ℕ) (u : PlainUnit) → slice_get units k ≡ Some u → IsUnit u
   -- each log is lawful
-  pub logs_lawful : (k : ℕ) (q : Lent) → slice_get queues k ≡ Some q → IsSound q.ring
+  pub logs_lawful : (k : ℕ) (q : BareQueue) → slice_get queues k ≡ Some q → IsSound q.ring
   -- each accepted chain of a request or control queue is used
   pub used : (t : Ticket) → is_asked queues t ≡ true → is_used queues t ≡ true
   -- each request has exactly one receipt or note, and these are of requests alone

@@ -10,3 +10,5 @@ pub mod Unconfirmed
 pub mod Finding
 pub mod Views
 pub mod Prefix
+pub mod Rooms
+pub mod Keeping

@@ -2,8 +2,8 @@
 use Rattle.std.specs.Prelude.{ℕ, ◌≡◌, ◌<◌, ◌⊎◌, true, List, length, Some, slice_get}
 use Rattle.ring_core.specs.declared.log.Ticket.{Ticket}
 use Rattle.decisions.specs.declared.inventory.UnitSpec.{UnitSpec}
-use Rattle.task_set.specs.Unit.{PlainUnit}
-use Rattle.queues.specs.Queue.{Lent}
+use Rattle.unit_model.specs.Unit.{PlainUnit}
+use Rattle.queues.specs.Queue.{BareQueue}
 
 -- own: a unit opened with the address and the capacity that were wanted, and keeps the replies that receipts are compared
 -- with
@@ -20,14 +20,14 @@ pub record AreOpenedAs (specs : List UnitSpec) (units : List PlainUnit) : Type 0
       → IsOpenedAs s u
 
 -- own: each queue stands at the place of its number
-abbrev pub AreInPlace : List Lent → Type 0
-AreInPlace queues = (k : ℕ) (q : Lent) → slice_get queues k ≡ Some q → q.ring.queue ≡ k
+abbrev pub AreInPlace : List BareQueue → Type 0
+AreInPlace queues = (k : ℕ) (q : BareQueue) → slice_get queues k ≡ Some q → q.ring.queue ≡ k
 
 -- own: the first ticket of the first place at which a queue of another number stands
-pub record IsFirstMisplaced (queues : List Lent) (t : Ticket) : Type 0 where
+pub record IsFirstMisplaced (queues : List BareQueue) (t : Ticket) : Type 0 where
   pub number : t.number ≡ 0
-  pub some : (q : Lent) × (slice_get queues t.queue ≡ Some q) × (q.ring.queue ≡ t.queue → ⊥)
-  pub first : (k : ℕ) (q : Lent) → k < t.queue → slice_get queues k ≡ Some q → q.ring.queue ≡ k
+  pub some : (q : BareQueue) × (slice_get queues t.queue ≡ Some q) × (q.ring.queue ≡ t.queue → ⊥)
+  pub first : (k : ℕ) (q : BareQueue) → k < t.queue → slice_get queues k ≡ Some q → q.ring.queue ≡ k
 
 -- the first ticket of all: of the control queue (VIRTIO 1.2, 5.6.2)
 abbrev pub first_ticket : Ticket
@@ -35,7 +35,7 @@ first_ticket = record { queue = 0; number = 0 }
 
 -- own: which ticket is named where a report isn't of the host that was opened: the first of all, where the units aren't
 -- those that were wanted; else that of the first queue out of its place
-abbrev pub IsForeign : List UnitSpec → List PlainUnit → List Lent → Ticket → Type 0
+abbrev pub IsForeign : List UnitSpec → List PlainUnit → List BareQueue → Ticket → Type 0
 IsForeign specs units queues t =
     ((AreOpenedAs specs units → ⊥) × (t ≡ first_ticket))
     ⊎ (AreOpenedAs specs units × IsFirstMisplaced queues t)

@@ -1,8 +1,8 @@
 -- What is known of the receipts that were looked at so far. Only private functions cite it: no promise stands on it.
 use Rattle.std.specs.Prelude.{ℕ, ◌≡◌, ◌<◌, true, List, Option, Some, None, slice_get}
 use Rattle.ring_core.specs.declared.log.Ticket.{Ticket}
-use Rattle.history.specs.Receipts.{Receipt}
-use Rattle.task_set.specs.Unit.{PlainUnit}
+use Rattle.unit_model.specs.Receipts.{Receipt}
+use Rattle.unit_model.specs.Unit.{PlainUnit}
 use Rattle.report.specs.Words.{is_before}
 use Rattle.report.specs.Closed.{IsConfirmedBy}
 

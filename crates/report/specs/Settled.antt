@@ -2,41 +2,41 @@
 use Rattle.std.specs.Prelude.{ℕ, ◌+◌, Bool, true, false, not, nat_lt, nat_le, ◌==◌, ◌&&◌, ◌||◌, List, length, Option, Some, None, slice_get, count_by}
 use Rattle.std.specs.List.{list_any, list_all}
 use Rattle.ring_core.specs.declared.log.Ticket.{Ticket}
-use Rattle.history.specs.Tasks.{same_ticket}
-use Rattle.history.specs.Steps.{Step, has_entered, has_left}
-use Rattle.history.specs.Base.{base_of, kept_steps, folded_steps}
-use Rattle.history.specs.Marks.{marked}
-use Rattle.history.specs.Receipts.{Receipt}
-use Rattle.task_set.specs.Unit.{PlainUnit}
-use Rattle.queues.specs.Queue.{Lent}
-use Rattle.notes.specs.Notes.{PlainNote}
-use Rattle.notes.specs.declared.note.Cause.{Cause}
-use Rattle.notes.specs.declared.note.Cause.TheVariants as cause
+use Rattle.unit_model.specs.Tasks.{same_ticket}
+use Rattle.unit_model.specs.Steps.{Step, has_entered, has_left}
+use Rattle.unit_model.specs.Base.{base_of, kept_steps, folded_steps}
+use Rattle.unit_model.specs.Marks.{marked}
+use Rattle.unit_model.specs.Receipts.{Receipt}
+use Rattle.unit_model.specs.Unit.{PlainUnit}
+use Rattle.queues.specs.Queue.{BareQueue}
+use Rattle.unit_history.specs.Notes.{PlainNote}
+use Rattle.unit_history.specs.declared.note.Cause.{Cause}
+use Rattle.unit_history.specs.declared.note.Cause.TheVariants as cause
 use Rattle.report.specs.Words.{has_busy, has_full, has_run, has_step, in_two}
 
 -- how many chains a queue accepted, if there is one
-abbrev pub count_accepted : Option Lent → ℕ
+abbrev pub count_accepted : Option BareQueue → ℕ
 count_accepted None = 0
 count_accepted (Some q) = length q.ring.log.accepted
 
-abbrev pub is_accepted : List Lent → Ticket → Bool
+abbrev pub is_accepted : List BareQueue → Ticket → Bool
 is_accepted queues t = nat_lt t.number (count_accepted (slice_get queues t.queue))
 
 -- a queue, if there is one, used the chain of a ticket
-abbrev pub uses : Option Lent → Ticket → Bool
+abbrev pub uses : Option BareQueue → Ticket → Bool
 uses None t = false
 uses (Some q) t = list_any (λ (u : Ticket). same_ticket u t) q.ring.log.used
 
-abbrev pub is_used : List Lent → Ticket → Bool
+abbrev pub is_used : List BareQueue → Ticket → Bool
 is_used queues t = uses (slice_get queues t.queue) t
 
 -- own: the chain is to be used: one of a request queue or of the control queue, and no buffer for events (VIRTIO 1.2,
 -- 5.6.2)
-abbrev pub is_asked : List Lent → Ticket → Bool
+abbrev pub is_asked : List BareQueue → Ticket → Bool
 is_asked queues t = not (t.queue == 1) && is_accepted queues t
 
 -- the ticket is that of a request: queues 2 and up are request queues (VIRTIO 1.2, 5.6.2)
-abbrev pub is_request : List Lent → Ticket → Bool
+abbrev pub is_request : List BareQueue → Ticket → Bool
 is_request queues t = nat_le 2 t.queue && is_accepted queues t
 
 -- own: how many receipts and notes a ticket has

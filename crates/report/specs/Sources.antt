@@ -3,13 +3,13 @@ use Rattle.std.specs.Prelude.{ℕ, Bool, true, false, not, nat_lt, ◌==◌, ◌
 use Rattle.std.specs.List.{list_any}
 use Rattle.std.specs.declared.alloc.Global.{Global}
 use Rattle.ring_core.specs.declared.log.Ticket.{Ticket}
-use Rattle.history.specs.Tasks.{same_ticket}
-use Rattle.queues.specs.Queue.{Lent}
+use Rattle.unit_model.specs.Tasks.{same_ticket}
+use Rattle.queues.specs.Queue.{BareQueue}
 use Rattle.report.specs.Tallies.{tally_at, ends_amiss}
 use Rattle.report.specs.declared.tally.Tally.{Tally}
 
 -- a chain that the queue at a place accepted and did not use
-abbrev pub unused_in : ℕ → Lent → Ticket → Bool
+abbrev pub unused_in : ℕ → BareQueue → Ticket → Bool
 unused_in place q t =
     (t.queue == place)
     && (nat_lt t.number (length q.ring.log.accepted)
@@ -20,16 +20,16 @@ abbrev pub unsettled_in : ℕ → ℕ → Bool → List (Vec Tally Global) → T
 unsettled_in place count folded tables t =
     (t.queue == place) && (nat_lt t.number count && ends_amiss folded (tally_at tables t))
 
-abbrev pub amiss_in : ℕ → Lent → Bool → List (Vec Tally Global) → Ticket → Bool
+abbrev pub amiss_in : ℕ → BareQueue → Bool → List (Vec Tally Global) → Ticket → Bool
 amiss_in place q folded tables t =
     (not (place == 1) && unused_in place q t) || unsettled_in place (length q.ring.log.accepted) folded tables t
 
 -- the same of the queue that a ticket names, if there is one
-abbrev pub amiss_at : Option Lent → Bool → List (Vec Tally Global) → Ticket → Bool
+abbrev pub amiss_at : Option BareQueue → Bool → List (Vec Tally Global) → Ticket → Bool
 amiss_at None folded tables t = false
 amiss_at (Some q) folded tables t = amiss_in t.queue q folded tables t
 
-abbrev pub amiss_of : List Lent → Bool → List (Vec Tally Global) → Ticket → Bool
+abbrev pub amiss_of : List BareQueue → Bool → List (Vec Tally Global) → Ticket → Bool
 amiss_of queues folded tables t = amiss_at (slice_get queues t.queue) folded tables t
 
 -- what has an answer and is no request of these

@@ -3,19 +3,19 @@ use Rattle.std.specs.Prelude.{ℕ, ◌≡◌, ◌+◌, Bool, true, false, not, �
 use Rattle.std.specs.List.{fold, list_any}
 use Rattle.std.specs.declared.alloc.Global.{Global}
 use Rattle.ring_core.specs.declared.log.Ticket.{Ticket}
-use Rattle.history.specs.Tasks.{Entry, same_ticket}
-use Rattle.history.specs.Steps.{Step, alive}
-use Rattle.history.specs.Base.{kept_steps, folded_steps}
-use Rattle.history.specs.Receipts.{Receipt}
-use Rattle.task_set.specs.Unit.{PlainUnit}
-use Rattle.unit_steps.specs.Kept.{kind_of}
-use Rattle.unit_steps.specs.Runs.{committed}
-use Rattle.unit_steps.specs.declared.kind.StepKind.{StepKind}
-use Rattle.unit_steps.specs.declared.kind.StepKind.TheVariants as kind
-use Rattle.queues.specs.Queue.{Lent}
-use Rattle.notes.specs.Notes.{PlainNote}
-use Rattle.notes.specs.declared.note.Cause.{Cause}
-use Rattle.notes.specs.declared.note.Cause.TheVariants as cause
+use Rattle.unit_model.specs.Tasks.{Entry, same_ticket}
+use Rattle.unit_model.specs.Steps.{Step, alive}
+use Rattle.unit_model.specs.Base.{kept_steps, folded_steps}
+use Rattle.unit_model.specs.Receipts.{Receipt}
+use Rattle.unit_model.specs.Unit.{PlainUnit}
+use Rattle.unit_history.specs.Kept.{kind_of}
+use Rattle.unit_history.specs.Runs.{committed}
+use Rattle.unit_history.specs.declared.kind.StepKind.{StepKind}
+use Rattle.unit_history.specs.declared.kind.StepKind.TheVariants as kind
+use Rattle.queues.specs.Queue.{BareQueue}
+use Rattle.unit_history.specs.Notes.{PlainNote}
+use Rattle.unit_history.specs.declared.note.Cause.{Cause}
+use Rattle.unit_history.specs.declared.note.Cause.TheVariants as cause
 use Rattle.report.specs.Words.{is_before}
 use Rattle.report.specs.Settled.{is_request}
 use Rattle.report.specs.declared.tally.Answer.{Answer}
@@ -177,7 +177,7 @@ abbrev pub tally_at : List (Vec Tally Global) → Ticket → Option Tally
 tally_at tables t = tally_in (slice_get tables t.queue) t.number
 
 -- a tally of each request, and of nothing else
-abbrev pub AreTallies : List Lent → (Ticket → Tally) → List (Vec Tally Global) → Type 0
+abbrev pub AreTallies : List BareQueue → (Ticket → Tally) → List (Vec Tally Global) → Type 0
 AreTallies queues tally tables = (t : Ticket)
     → tally_at tables t ≡ (if is_request queues t then Some (tally t) else None)
 

@@ -2,9 +2,9 @@
 use Rattle.std.specs.Prelude.{ℕ, ◌≡◌, Bool, true, false, List, Option, Some, None, slice_get}
 use Rattle.ring_core.specs.declared.log.Ticket.{Ticket}
 use Rattle.ring_core.specs.Sound.{IsSound}
-use Rattle.history.specs.Receipts.{Receipt}
-use Rattle.task_set.specs.Unit.{PlainUnit, IsUnit}
-use Rattle.queues.specs.Queue.{Lent}
+use Rattle.unit_model.specs.Receipts.{Receipt}
+use Rattle.unit_model.specs.Unit.{PlainUnit, IsUnit}
+use Rattle.queues.specs.Queue.{BareQueue}
 use Rattle.report.specs.Closed.{AreConfirmed, IsFirstUnconfirmed}
 
 -- the first ticket of a receipt that isn't confirmed, if there is one
@@ -19,5 +19,5 @@ with_unconfirmed false t = Some t
 abbrev pub AllStand : List PlainUnit → Type 0
 AllStand units = (k : ℕ) (u : PlainUnit) → slice_get units k ≡ Some u → IsUnit u
 
-abbrev pub AllSound : List Lent → Type 0
-AllSound queues = (k : ℕ) (q : Lent) → slice_get queues k ≡ Some q → IsSound q.ring
+abbrev pub AllSound : List BareQueue → Type 0
+AllSound queues = (k : ℕ) (q : BareQueue) → slice_get queues k ≡ Some q → IsSound q.ring

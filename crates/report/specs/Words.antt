@@ -2,8 +2,8 @@
 use Rattle.std.specs.Prelude.{Bool, false, nat_lt, ◌==◌, ◌&&◌, ◌||◌, List, [], ◌∷◌}
 use Rattle.std.specs.List.{list_any}
 use Rattle.ring_core.specs.declared.log.Ticket.{Ticket}
-use Rattle.history.specs.Tasks.{same_ticket}
-use Rattle.history.specs.Steps.{Step}
+use Rattle.unit_model.specs.Tasks.{same_ticket}
+use Rattle.unit_model.specs.Steps.{Step}
 
 -- own: the task has a Busy
 abbrev pub has_busy : Ticket → List Step → Bool

@@ -1,7 +1,7 @@
 //! Whether receipts are confirmed by their units.
 
 ghost use Rattle.std.specs.Prelude.{◌≡◌, ◌↔◌, IsTrue, Some, slice_get};
-ghost use Rattle.task_set.specs.Unit.{IsUnit};
+ghost use Rattle.unit_model.specs.Unit.{IsUnit};
 ghost use Rattle.ring_core.specs.Sound.{IsSound};
 ghost use Rattle.report.specs.Words.{is_before as comes_before};
 ghost use Rattle.report.specs.Closed.{IsConfirmedBy, ConfirmsOne, has_commits};

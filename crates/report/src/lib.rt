@@ -1,17 +1,21 @@
-//! What a closed host says, and whether it adds up: each chain used, each request answered once, and each answer of
-//! what became of its command in a unit's history.
+//! What a host's seats keep of the requests that they answered; what a closed host says, and whether it adds up: each
+//! chain used, each request answered once, and each answer of what became of its command in a unit's history.
 #![tactic(auto)]
 
 mod belonging;
+mod closing;
 mod confirming;
 mod examining;
 mod fault;
+mod kept;
 mod least;
 mod reading;
 mod report;
 mod tables;
 mod tally;
 
+pub use closing::report_closed;
 pub use examining::examine;
 pub use fault::CloseFault;
+pub use kept::Kept;
 pub use report::Report;

@@ -26,7 +26,7 @@ pub struct Report {
     pub memory: GuestMem,
     /// The receipts of the requests whose commands ran. Whoever ran them may have let replies go. A unit compares none
     /// but those of its latest [`unit_history::LATEST_KEPT`] steps that have at most [`unit_history::LONGEST_KEPT`]
-    /// bytes of data; of a host of threads those receipts have a reply that are among as many latest ones of their
+    /// bytes of data; of a host of threads those receipts have a reply that are among the latest 4,096 of their
     /// seat, where its data aren't longer.
     pub receipts: Vec<Receipt>,
     /// The notes of all other requests.
@@ -38,7 +38,7 @@ impl Report {
     ghost use Rattle.std.specs.Option.{option_copied, option_map};
     ghost use Rattle.report.specs.Views.{status_of};
 
-    /// The log of a queue; `None` where there is no such queue.
+    /// Returns the log of a queue; `None` where there is no such queue.
     pub fn log(&self, number: u16) -> Option<&QueueLog>
         ensures { option_copied result ≡ option_map (λ q. q.ring.log) (slice_get self.now.queues.items number) }
     {
@@ -48,7 +48,7 @@ impl Report {
         }
     }
 
-    /// How many notices a queue's driver wanted; `None` where there is no such queue.
+    /// Returns how many notices a queue's driver wanted; `None` where there is no such queue.
     pub fn notices(&self, number: u16) -> Option<u64>
         ensures { result ≡ option_map (λ q. q.notices) (slice_get self.now.queues.items number) }
     {
@@ -58,8 +58,7 @@ impl Report {
         }
     }
 
-    /// The device's status: 64, DEVICE_NEEDS_RESET (VIRTIO 1.2, 2.1), where a queue is broken,
-    /// else 0.
+    /// Returns the device's status: 64, DEVICE_NEEDS_RESET (VIRTIO 1.2, 2.1), where a queue is broken, else 0.
     pub fn status(&self) -> u8
         ensures { result ≡ status_of self.now.queues.items }
     {

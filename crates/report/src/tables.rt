@@ -3,7 +3,7 @@
 ghost use Rattle.std.specs.Prelude.{◌≡◌, ◌+◌, ◌<◌, ◌==◌, ℕ, List, length, replicate, slice_get, if◌then◌else◌, is_some, IfOk, Option};
 ghost use Rattle.std.specs.Option.{option_map};
 ghost use Rattle.ring_core.specs.declared.log.Ticket.{Ticket as ATicket};
-ghost use Rattle.queues.specs.Queue.{Lent};
+ghost use Rattle.queues.specs.Queue.{BareQueue};
 ghost use Rattle.report.specs.Tallies.{fresh, after, marking, tells, tally_in, tally_at, ends_amiss};
 ghost use Rattle.report.specs.Opening.{asked_count, Opens};
 
@@ -11,10 +11,11 @@ use crate::tally::{Fact, Tally, TicketFact};
 use block_store::NoMemory;
 use queues::Queue;
 use ring_core::Ticket;
+use scsi_codec::FIRST_REQUEST_QUEUE;
 use std::alloc::Global;
 
-/// How many queues come before the request queues: the control queue and the event queue (VIRTIO 1.2, 5.6.2).
-const FIRST_REQUEST_QUEUE: usize = 2;
+/// How many queues come before the request queues.
+const FIRST_REQUEST: usize = FIRST_REQUEST_QUEUE as usize;
 
 /// A tally of each request.
 #[derive(Drop)]
@@ -26,7 +27,7 @@ pub(crate) struct Tables {
 fn requests_of(place: usize, queue: &Queue) -> usize
     ensures { result ≡ asked_count place queue.now }
 {
-    if place < FIRST_REQUEST_QUEUE {
+    if place < FIRST_REQUEST {
         0
     } else {
         queue.log().accepted() as usize

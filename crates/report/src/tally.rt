@@ -20,7 +20,7 @@ pub enum Answer {
 }
 
 impl Answer {
-    /// With one more.
+    /// Adds one more.
     fn and(self, more: Answer) -> Answer
         ensures { result ≡ joined self more }
     {

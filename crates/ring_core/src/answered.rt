@@ -27,7 +27,7 @@ impl Answered {
         Answered { ticket }
     }
 
-    /// The ticket of the chain that was completed.
+    /// Returns the ticket of the chain that was completed.
     pub fn ticket(&self) -> Ticket
         ensures { result ≡ self.now }
     {

@@ -46,7 +46,7 @@ impl Model for RingBase {
 }
 
 impl RingBase {
-    /// A split queue of which nothing was fetched yet, with a place for each head.
+    /// Makes a split queue of which nothing was fetched yet, with a place for each head.
     pub fn split(
         alloc: Global,
         queue: u16,
@@ -74,8 +74,8 @@ impl RingBase {
         })
     }
 
-    /// A packed queue of which nothing was fetched yet, whose ids are below `ids`, at most 65,536. It
-    /// takes no memory.
+    /// Makes a packed queue of which nothing was fetched yet, whose ids are below `ids`, at most 65,536. It takes no
+    /// memory.
     pub fn packed(
         alloc: Global,
         queue: u16,
@@ -104,7 +104,7 @@ impl RingBase {
         }
     }
 
-    /// Room for the next chain: what the one that was used last left, or else memory is taken for it.
+    /// Makes room for the next chain: what the one that was used last left, or else memory is taken for it.
     pub fn draft(&mut self) -> Result<Draft, AllocError>
         ensures empty { IfOk result (λ draft. draft ≡ []) }
         ensures same { self.new ≡ self.old }
@@ -115,7 +115,7 @@ impl RingBase {
         }
     }
 
-    /// Its log.
+    /// Returns its log.
     pub fn log(&self) -> &QueueLog
         ensures log { result.now ≡ self.now.log }
         ensures sound { IsSound self.now }
@@ -123,28 +123,28 @@ impl RingBase {
         &self.log
     }
 
-    /// Where it lies.
+    /// Returns where it lies.
     pub fn layout(&self) -> Layout
         ensures { result ≡ self.now.layout }
     {
         self.layout
     }
 
-    /// The features that were agreed.
+    /// Returns the features that were agreed.
     pub fn features(&self) -> Features
         ensures { result ≡ self.now.features }
     {
         self.features
     }
 
-    /// The size in bytes of the memory that it was made with.
+    /// Returns the size in bytes of the memory that it was made with.
     pub fn memory(&self) -> u64
         ensures { result ≡ self.now.memory }
     {
         self.memory
     }
 
-    /// The slots of all accepted chains.
+    /// Returns the slots of all accepted chains.
     pub fn accepted_slots(&self) -> u128
         ensures slots { result ≡ self.now.accepted_slots }
         ensures bounded { result < 2 ^ 100 }
@@ -153,7 +153,7 @@ impl RingBase {
         self.accepted_slots
     }
 
-    /// The slots of all used chains.
+    /// Returns the slots of all used chains.
     pub fn used_slots(&self) -> u128
         ensures slots { result ≡ self.now.used_slots }
         ensures below { result ≤ self.now.accepted_slots }
@@ -161,14 +161,14 @@ impl RingBase {
         self.used_slots
     }
 
-    /// The slots of the latest used chain.
+    /// Returns the slots of the latest used chain.
     pub fn latest_slots(&self) -> u16
         ensures { result ≡ self.now.latest_slots }
     {
         self.latest_slots
     }
 
-    /// The fault that broke it, if one did.
+    /// Returns the fault that broke it, if one did.
     pub fn broken(&self) -> Option<RingFault>
         ensures broken { result ≡ self.now.broken }
         ensures by_guest { result ≡ Some RingFault.NoMemory → ⊥ }
@@ -176,21 +176,21 @@ impl RingBase {
         self.broken
     }
 
-    /// Whether a fault broke it.
+    /// Returns true if a fault broke it.
     pub fn is_broken(&self) -> bool
         ensures { result ≡ is_some self.now.broken }
     {
         self.broken.is_some()
     }
 
-    /// Whether a chain with this head or id is outstanding.
+    /// Returns true if a chain with this head or id is outstanding.
     pub fn is_outstanding(&self, id: u16) -> bool
         ensures { result ≡ is_some (under self.now id) }
     {
         self.outstanding.get(id).is_some()
     }
 
-    /// Whether the chain is outstanding here, and of a memory of the same size.
+    /// Returns true if the chain is outstanding here, and of a memory of the same size.
     pub fn owns(&self, chain: &Chain) -> bool
         ensures { IsTrue result ↔ Owns self.now chain.now }
     {
@@ -204,15 +204,15 @@ impl RingBase {
                 })
     }
 
-    /// The least number of an accepted chain that wasn't used, if there is one.
+    /// Returns the least number of an accepted chain that wasn't used, if there is one.
     pub fn least_outstanding(&self) -> Option<u64>
         ensures { IsLeastOutstanding self.now result }
     {
         self.outstanding.least()
     }
 
-    /// A chain that was found is accepted. Refused where the table of outstanding chains can't grow, or
-    /// the log can count no more.
+    /// Accepts a chain that was found. Refused where the table of outstanding chains can't grow, or the log can count
+    /// no more.
     #[inline(always)]
     pub fn accept(&mut self, id: u16, slots: u16, draft: Draft) -> Result<Chain, AllocError>
         requires free { under self.old id ≡ None }
@@ -244,7 +244,7 @@ impl RingBase {
         Ok(Chain::of(ticket, id, slots, draft, self.memory))
     }
 
-    /// An outstanding chain is used. It takes no memory.
+    /// Uses an outstanding chain. It takes no memory.
     #[inline(always)]
     pub fn release(&mut self, chain: Chain) -> Ticket
         requires { Owns self.old chain }
@@ -270,7 +270,7 @@ impl RingBase {
         }
     }
 
-    /// The queue is broken for good.
+    /// Breaks the queue for good.
     pub fn break_with(&mut self, fault: RingFault)
         requires { fault ≡ RingFault.NoMemory → ⊥ }
         ensures { self.new ≡ breaking self.old fault }

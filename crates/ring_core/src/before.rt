@@ -19,7 +19,7 @@ pub struct Before {
 }
 
 impl Before {
-    /// Before the first descriptor of a chain.
+    /// Begins before the first descriptor of a chain.
     pub fn nothing() -> Before
         ensures { result ≡ record { count = 0; total = 0; writable = false } }
     {
@@ -30,7 +30,7 @@ impl Before {
         }
     }
 
-    /// Before the first descriptor of a run behind these: they count no more for how many there are.
+    /// Begins before the first descriptor of a run behind these: they count no more for how many there are.
     pub fn anew(&self) -> Before
         ensures { result ≡ record { count = 0; total = self.now.total; writable = self.now.writable } }
     {
@@ -41,7 +41,7 @@ impl Before {
         }
     }
 
-    /// With one more descriptor.
+    /// Adds one more descriptor.
     pub fn with(&self, d: &Descriptor) -> Before
         requires count { self.now.count < 2 ^ 32 }
         requires total { self.now.total + d.now.len ≤ 2 ^ 32 }
@@ -58,7 +58,7 @@ impl Before {
         }
     }
 
-    /// The first thing wrong with a descriptor's buffer, in a memory of this size.
+    /// Returns the first thing wrong with a descriptor's buffer, in a memory of this size.
     pub fn check_buffer(&self, d: &Descriptor, memory: u64) -> Result<(), RingFault>
         requires bounded { self.now.total ≤ 2 ^ 32 }
         requires small { memory ≤ 2 ^ 28 }

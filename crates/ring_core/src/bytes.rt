@@ -35,7 +35,7 @@ fn append_part(
     bytes.extend_from_slice(memory.range(part.addr, len))
 }
 
-/// The first readable bytes of a chain that was found, at most `most` of them. For rings.
+/// Returns the first readable bytes of a chain that was found, at most `most` of them. For rings.
 #[inline(always)]
 pub fn gather(memory: &GuestMem, draft: &mut Draft, most: usize) -> Result<Vec<u8>, AllocError>
     requires fit { PartsFit (length memory.now) draft.old }

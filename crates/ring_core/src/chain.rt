@@ -108,7 +108,7 @@ ghost use Rattle.std.specs.Prelude.{◌≡◌, ◌≤◌, ◌%◌, ◌^◌, ◌�
 ghost use Rattle.ring_core.specs.Parts.{readable_total, writable_total, PartsFit};
 
 impl Draft {
-    /// No parts yet. It takes the chain's memory: as long as the parts are few, nothing more is taken.
+    /// Makes one with no parts yet. It takes the chain's memory: as long as the parts are few, nothing more is taken.
     pub fn new(alloc: Global) -> Result<Draft, AllocError>
         ensures { IfOk result (λ draft. draft ≡ []) }
     {
@@ -131,7 +131,7 @@ impl Draft {
         }
     }
 
-    /// One part more.
+    /// Adds one part.
     pub fn push(&mut self, part: Part) -> Result<(), AllocError>
         ensures ok { OnOk result (self.new ≡ self.old ++ part ∷ []) }
         ensures err { OnErr result (self.new ≡ self.old) }
@@ -163,7 +163,7 @@ impl Draft {
         self.body.readable_len
     }
 
-    /// The parts, in order.
+    /// Returns the parts, in order.
     pub fn parts(&self) -> &[Part]
         ensures { result.now ≡ self.now }
     {
@@ -209,14 +209,14 @@ impl Chain {
         })
     }
 
-    /// Its ticket.
+    /// Returns its ticket.
     pub fn ticket(&self) -> Ticket
         ensures { result ≡ self.now.ticket }
     {
         self.body.ticket
     }
 
-    /// How many of its bytes the device can read, at most 2^32.
+    /// Returns how many of its bytes the device can read, at most 2^32.
     pub fn readable_len(&self) -> u64
         ensures len { result ≡ readable_total self.now.parts }
         ensures bounded { result ≤ 2 ^ 32 }
@@ -224,7 +224,7 @@ impl Chain {
         self.body.readable_len
     }
 
-    /// How many of its bytes the device can write, at most 2^32.
+    /// Returns how many of its bytes the device can write, at most 2^32.
     pub fn writable_len(&self) -> u64
         ensures len { result ≡ writable_total self.now.parts }
         ensures bounded { result ≤ 2 ^ 32 }
@@ -232,28 +232,28 @@ impl Chain {
         self.body.writable_len
     }
 
-    /// The size in bytes of the memory that it was fetched from.
+    /// Returns the size in bytes of the memory that it was fetched from.
     pub fn memory(&self) -> u64
         ensures { result ≡ self.now.memory }
     {
         self.body.memory
     }
 
-    /// Its head in a split queue, its id in a packed one.
+    /// Returns its head in a split queue, its id in a packed one.
     pub fn id(&self) -> u16
         ensures { result ≡ self.now.id }
     {
         self.body.id
     }
 
-    /// How many slots of the ring it takes: 1 in a split queue.
+    /// Returns how many slots of the ring it takes: 1 in a split queue.
     pub fn slots(&self) -> u16
         ensures { result ≡ self.now.slots }
     {
         self.body.slots
     }
 
-    /// Its parts, in order.
+    /// Returns its parts, in order.
     pub fn parts(&self) -> &[Part]
         ensures parts { result.now ≡ self.now.parts }
         ensures fit { PartsFit self.now.memory self.now.parts }

@@ -66,28 +66,29 @@ pub struct Descriptor {
 }
 
 impl Descriptor {
-    /// Whether another descriptor follows: NEXT.
+    /// Returns true if another descriptor follows: NEXT.
     pub fn goes_on(&self) -> bool
         ensures { result ≡ goes_on self.now }
     {
         DescriptorFlags(self.flags).contains(DescriptorFlags::NEXT)
     }
 
-    /// Whether the device writes its buffer: WRITE.
+    /// Returns true if the device writes its buffer: WRITE.
     pub fn is_writable(&self) -> bool
         ensures { result ≡ is_writable self.now }
     {
         DescriptorFlags(self.flags).contains(DescriptorFlags::WRITE)
     }
 
-    /// Whether its buffer is a table of descriptors: INDIRECT.
+    /// Returns true if its buffer is a table of descriptors: INDIRECT.
     pub fn is_indirect(&self) -> bool
         ensures { result ≡ is_indirect self.now }
     {
         DescriptorFlags(self.flags).contains(DescriptorFlags::INDIRECT)
     }
 
-    /// What is wrong with it as one that names a table, in a memory of this size, where these features were agreed.
+    /// Returns what is wrong with it as one that names a table, in a memory of this size, where these features were
+    /// agreed.
     pub fn check_table(&self, memory: u64, features: &Features) -> Result<(), RingFault>
         ensures { MatchResult result
             (λ _. table_wrong features.now memory self.now ≡ None)
@@ -107,7 +108,7 @@ impl Descriptor {
         }
     }
 
-    /// Its buffer.
+    /// Returns its buffer.
     pub fn part(&self) -> Part
         ensures { result ≡ part_of self.now }
     {

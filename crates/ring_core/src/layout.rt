@@ -45,7 +45,7 @@ const INDIRECT_DESC: u64 = 1 << 28;
 const EVENT_IDX: u64 = 1 << 29;
 
 impl Features {
-    /// Those among all that were agreed: their bits 28 and 29.
+    /// Makes those among all that were agreed: their bits 28 and 29.
     pub fn of(agreed: u64) -> Features
         ensures { result ≡ features_of agreed }
     {
@@ -55,7 +55,7 @@ impl Features {
         }
     }
 
-    /// None of them.
+    /// Returns none of them.
     pub fn none() -> Features
         ensures { result ≡ no_features }
     {

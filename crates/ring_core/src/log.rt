@@ -49,14 +49,14 @@ impl QueueLog {
         }
     }
 
-    /// How many tickets were accepted.
+    /// Returns how many tickets were accepted.
     pub fn accepted(&self) -> u64
         ensures { result ≡ length self.now.accepted }
     {
         self.accepted_count
     }
 
-    /// How many tickets were used.
+    /// Returns how many tickets were used.
     pub fn used(&self) -> u64
         ensures { result ≡ length self.now.used }
     {

@@ -27,13 +27,13 @@ pub trait Ring {
         requires { length memory.now ≡ (state self.old).memory }
         ensures { Fetches (state self.old) memory.now result (state self.new) };
 
-    /// Whether a fetch would find nothing: the cheap test before one. A broken queue isn't idle.
-    /// Called with a memory that `fits`.
+    /// Returns true if a fetch would find nothing: the cheap test before one. A broken queue isn't idle. Called with a
+    /// memory that `fits`.
     fn is_idle(&self, memory: &GuestMem) -> bool
         requires { length memory.now ≡ (state self.now).memory }
         ensures { IsTrue result ↔ Offers (state self.now) memory.now Nothing };
 
-    /// The part of `complete` that is the queue's own; `complete` alone can call it.
+    /// Does the part of `complete` that is the queue's own; `complete` alone can call it.
     fn finish(&mut self, memory: &mut GuestMem, chain: Chain, len: u32, leave: Completion) -> Ticket
         requires fits { length memory.old ≡ (state self.old).memory }
         requires owned { Owns (state self.old) chain }
@@ -56,33 +56,32 @@ pub trait Ring {
         Answered::of(self.finish(memory, chain, len, Completion::begin()))
     }
 
-    /// Whether the driver asks for a notice of used chains. Called with a memory that `fits`.
+    /// Returns true if the driver asks for a notice of used chains. Called with a memory that `fits`.
     fn wants_notice(&self, memory: &GuestMem) -> bool
         requires { length memory.now ≡ (state self.now).memory }
         ensures { result ≡ wants_notice (state self.now) memory.now };
 
-    /// Which chains were accepted, and which were used. What the queue counts and what it holds
-    /// outstanding agree with it. No more chains are outstanding than the queue has descriptors
-    /// (VIRTIO 1.2, 2.7 and 2.8).
+    /// Returns which chains were accepted, and which were used. What the queue counts and what it holds outstanding
+    /// agree with it. No more chains are outstanding than the queue has descriptors (VIRTIO 1.2, 2.7 and 2.8).
     fn log(&self) -> &QueueLog
         ensures log { result.now ≡ (state self.now).log }
         ensures sound { IsSound (state self.now) }
         ensures few { outstanding_count (state self.now) ≤ (state self.now).layout.size };
 
-    /// The least number of an accepted chain that wasn't used, if there is one: asked once the queue is no longer
-    /// served. It takes no memory.
+    /// Returns the least number of an accepted chain that wasn't used, if there is one: asked once the queue is no
+    /// longer served. It takes no memory.
     fn least_outstanding(&self) -> Option<u64>
         ensures { IsLeastOutstanding (state self.now) result };
 
-    /// The fault of the guest that broke the queue, if any.
+    /// Returns the fault of the guest that broke the queue, if any.
     fn broken(&self) -> Option<RingFault>
         ensures { result ≡ (state self.now).broken };
 
-    /// Whether the memory has the size that the queue was made with.
+    /// Returns true if the memory has the size that the queue was made with.
     fn fits(&self, memory: &GuestMem) -> bool
         ensures { IsTrue result ↔ (length memory.now ≡ (state self.now).memory) };
 
-    /// Whether the chain is outstanding here, and was fetched from a memory of that size.
+    /// Returns true if the chain is outstanding here, and was fetched from a memory of that size.
     fn owns(&self, chain: &Chain) -> bool
         ensures { IsTrue result ↔ Owns (state self.now) chain.now };
 }

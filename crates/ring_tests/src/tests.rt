@@ -3,9 +3,10 @@ mod packed;
 mod split;
 mod texts;
 
+use crate::bench::Bench;
+use crate::moves::Row;
 use guest_mem::GuestMem;
 use packed_ring::PackedRing;
-use ring_bench::{Bench, Row};
 use ring_core::{Layout, LayoutFault, Ring};
 use split_ring::SplitRing;
 use std::alloc::Global;

@@ -26,6 +26,8 @@ pub enum Command<'a> {
     Wait(&'a str),
     /// The device is closed.
     Close,
+    /// The device is closed, and takes no chain any more.
+    Abandon,
     /// Something is printed.
     Print(PrintLine<'a>),
 }
@@ -50,6 +52,7 @@ impl<'a> Command<'a> {
             "settle" => Ok(alone(values, Command::Settle)?),
             "wait" => Ok(Command::Wait(name(only(values)?)?)),
             "close" => Ok(alone(values, Command::Close)?),
+            "abandon" => Ok(alone(values, Command::Abandon)?),
             _ => Err(no_command(keyword, values)),
         }
     }

@@ -103,7 +103,7 @@ pub enum Stop {
 }
 
 impl Stop {
-    /// The fault of a script that stopped at this line.
+    /// Returns the fault of a script that stopped at this line.
     pub fn at(self, line: u64) -> ScriptFault
         ensures { result ≡ ending_at line self }
     {

@@ -132,7 +132,7 @@ fn read_features(words: &[&str]) -> Result<Features, LineFault> {
     Ok(features)
 }
 
-/// The one value of a line that has one.
+/// Returns the one value of a line that has one.
 pub fn only<'a>(values: &[&'a str]) -> Result<&'a str, LineFault>
     ensures one { IsOk result ↔ (length values.now ≡ 1) }
     ensures value { IfOk result (λ value. values.now ≡ value ∷ []) }

@@ -2,8 +2,8 @@
 
 use std::alloc::{AllocError, Global};
 
-/// The lines of a script, in order. A `\n` ends a line; the last line may lack it. It fails where
-/// memory runs out.
+/// Returns the lines of a script, in order. A `\n` ends a line; the last line may lack it. It fails where memory runs
+/// out.
 pub fn lines_of(alloc: Global, script: &[u8]) -> Result<Vec<&[u8]>, AllocError> {
     if script.is_empty() {
         return Ok(Vec::new(alloc));
@@ -25,8 +25,8 @@ pub enum LineText<'a> {
     NoText,
 }
 
-/// A line, without its `\n`, as words, which spaces alone separate. A comment begins with `#` as its
-/// first byte. It fails where memory runs out.
+/// Returns a line, without its `\n`, as words, which spaces alone separate. A comment begins with `#` as its first
+/// byte. It fails where memory runs out.
 pub fn text_of(alloc: Global, line: &[u8]) -> Result<LineText<'_>, AllocError> {
     if !line.is_ascii() {
         return Ok(LineText::NoText);

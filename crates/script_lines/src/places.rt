@@ -50,7 +50,7 @@ enum Place {
 }
 
 impl Place {
-    /// Whether the place takes this word. It fails where memory runs out.
+    /// Returns true if the place takes this word. It fails where memory runs out.
     fn takes(self, alloc: Global, word: &str) -> Result<bool, AllocError> {
         match self {
             Place::CommandBlock => was_read(command_block(alloc, word)),
@@ -59,7 +59,7 @@ impl Place {
         }
     }
 
-    /// Whether the place, which isn't one of bytes, takes this word.
+    /// Returns true if the place, which isn't one of bytes, takes this word.
     fn takes_word(self, word: &str) -> bool {
         match self {
             Place::Number8 => number::<u8>(word).is_ok(),
@@ -80,7 +80,7 @@ impl Place {
         }
     }
 
-    /// Whether a line may end before this place.
+    /// Returns true if a line may end before this place.
     fn may_lack(self) -> bool {
         match self {
             Place::MoreFeatures | Place::Calm | Place::OutOrIn | Place::In | Place::End => true,

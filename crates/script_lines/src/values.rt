@@ -18,7 +18,7 @@ pub(crate) const LAST_LUN: u16 = 16383;
 /// The most letters and digits of a name.
 const LONGEST_NAME: usize = 16;
 
-/// A decimal number of a width. Leading zeros may stand; a sign may not.
+/// Reads a decimal number of a width. Leading zeros may stand; a sign may not.
 pub fn number<N: FromStr>(word: &str) -> Result<N, LineFault>
 where
     N::Err: Drop,
@@ -36,7 +36,7 @@ where
     }
 }
 
-/// A name: 1 to 16 letters or digits.
+/// Reads a name: 1 to 16 letters or digits.
 pub fn name(word: &str) -> Result<&str, LineFault>
     ensures names { IsOk result ↔ IsName word.now }
     ensures same { IfOk result (λ name. name.now ≡ word.now) }
@@ -50,7 +50,7 @@ pub fn name(word: &str) -> Result<&str, LineFault>
     }
 }
 
-/// A unit that was written as two words, its target and its LUN.
+/// Reads a unit that was written as two words, its target and its LUN.
 pub fn unit(target: &str, lun: &str) -> Result<Address, LineFault>
     ensures taken { IfOk result (λ unit. IsUnit target.now lun.now unit) }
     ensures refused { OnErr result ((unit : Address) → ¬ IsUnit target.now lun.now unit) }
@@ -64,7 +64,7 @@ pub fn unit(target: &str, lun: &str) -> Result<Address, LineFault>
     Ok(Address { target, lun })
 }
 
-/// A unit that was written as `T:L`.
+/// Reads a unit that was written as `T:L`.
 pub fn unit_pair(word: &str) -> Result<Address, LineFault>
     ensures taken { IfOk result (λ unit. IsUnitPair word.now unit) }
     ensures refused { OnErr result ((unit : Address) → ¬ IsUnitPair word.now unit) }
@@ -102,7 +102,7 @@ impl Item {
         }
     }
 
-    /// How many bytes they are in all; `u64::MAX` where there are more than that.
+    /// Returns how many bytes they are in all; `u64::MAX` where there are more than that.
     pub fn length(&self) -> u64
         ensures { result ≡ min (length self.now.bytes.items * self.now.repeat) (2 ^ 64 - 1) }
     {
@@ -140,7 +140,7 @@ impl Model for Bytes {
 }
 
 impl Bytes {
-    /// No bytes.
+    /// Makes no bytes.
     pub fn none(alloc: Global) -> Bytes
         ensures { result ≡ [] }
     {
@@ -164,14 +164,14 @@ impl Bytes {
         Ok(bytes)
     }
 
-    /// The items, in order.
+    /// Returns the items, in order.
     pub fn items(&self) -> &[Item]
         ensures { result.now ≡ self.now }
     {
         self.items.as_slice()
     }
 
-    /// How many bytes there are; `u64::MAX` where there are more than that.
+    /// Returns how many bytes there are; `u64::MAX` where there are more than that.
     pub fn length(&self) -> u64
         ensures { result ≡ length_of self.now }
     {

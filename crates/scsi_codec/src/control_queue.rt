@@ -30,8 +30,8 @@ pub enum Control {
 }
 
 impl Control {
-    /// How many bytes its answer has: 1, which [`write_control`] writes, or 5, which
-    /// [`write_notification`] writes.
+    /// Returns how many bytes its answer has: 1, which [`write_control`] writes, or 5, which [`write_notification`]
+    /// writes.
     pub fn answer_len(&self) -> usize
         ensures { result ≡ answer_len self.now }
     {
@@ -89,15 +89,15 @@ fn read_task_management(bytes: &[u8]) -> Control
     }
 }
 
-/// The answer to a task management function, or to a malformed one.
+/// Makes the answer to a task management function, or to a malformed one.
 pub fn write_control(response: FunctionResponse) -> [u8; 1]
     ensures { result ≡ function_bytes response }
 {
     [response as u8]
 }
 
-/// The answer to an asynchronous notification query or subscription: the events that are reported,
-/// and the response.
+/// Makes the answer to an asynchronous notification query or subscription: the events that are reported, and the
+/// response.
 pub fn write_notification(actual: u32, response: ResponseCode) -> [u8; 5]
     ensures { result ≡ notification_bytes actual response }
 {

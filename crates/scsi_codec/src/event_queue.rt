@@ -33,7 +33,7 @@ pub struct Event {
     pub reason: u32,
 }
 
-/// The bytes of an event (VIRTIO 1.2 §5.6.6.3), about a unit of a LUN up to 16,383 or about none.
+/// Makes the bytes of an event (VIRTIO 1.2 §5.6.6.3), about a unit of a LUN up to 16,383 or about none.
 pub fn write_event(event: &Event) -> [u8; EVENT_BYTES]
     requires { ForSome event.now.address (λ a. a.lun < 16384) }
     ensures { result ≡ event_bytes event.now }

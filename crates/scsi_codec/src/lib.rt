@@ -6,6 +6,7 @@ mod control_queue;
 mod event_queue;
 mod laws;
 mod lun;
+mod queue_numbers;
 mod requests;
 mod responses;
 
@@ -20,6 +21,7 @@ pub use laws::{
     readable_forms, reading_is, refused_holds_none, written_reads_back,
 };
 pub use lun::{Address, read_lun, write_lun};
+pub use queue_numbers::{CONTROL_QUEUE, EVENT_QUEUE, FIRST_REQUEST_QUEUE};
 pub use requests::{CDB_BYTES, CodecFault, REQUEST_BYTES, Request, read_request};
 pub use responses::{
     RESPONSE_BYTES, Response, ResponseCode, SENSE_AREA_BYTES, SENSE_BYTES, write_response,

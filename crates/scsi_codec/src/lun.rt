@@ -12,8 +12,8 @@ pub struct Address {
     pub lun: u16,
 }
 
-/// The unit that the bytes name, by either addressing method of a single level LUN (SAM-5 §4.7),
-/// or `None` where they name none.
+/// Reads the unit that the bytes name, by either addressing method of a single level LUN (SAM-5 §4.7), or `None` where
+/// they name none.
 pub fn read_lun(bytes: &[u8; 8]) -> Option<Address>
     ensures reads { ReadsAddress bytes.now result }
     ensures value { result ≡ address_in bytes.now }
@@ -40,8 +40,8 @@ pub(crate) fn read_lun_field(bytes: &[u8]) -> Option<Address>
     read_lun(bytes.try_into().ok()?)
 }
 
-/// The bytes that name a unit of a LUN up to 16,383: by peripheral device addressing below LUN 256,
-/// else by flat space addressing.
+/// Makes the bytes that name a unit of a LUN up to 16,383: by peripheral device addressing below LUN 256, else by flat
+/// space addressing.
 pub fn write_lun(address: &Address) -> [u8; 8]
     requires { address.now.lun < 16384 }
     ensures { result ≡ written_address address.now }

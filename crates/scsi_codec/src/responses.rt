@@ -52,7 +52,7 @@ pub struct Response {
     pub sense: Option<[u8; SENSE_BYTES]>,
 }
 
-/// The bytes of a response before its data in. Past the sense they are zeros.
+/// Makes the bytes of a response before its data in. Past the sense they are zeros.
 pub fn write_response(response: &Response) -> [u8; RESPONSE_BYTES]
     ensures { result ≡ response_bytes response.now }
 {

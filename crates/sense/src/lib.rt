@@ -110,8 +110,8 @@ impl Sense {
         information: None,
     };
 
-    /// MISCOMPARE DURING VERIFY OPERATION: what a COMPARE AND WRITE answers where its data and the
-    /// blocks differ. `offset` is the offset in bytes of the first unequal byte (SBC-3 §5.2).
+    /// Makes MISCOMPARE DURING VERIFY OPERATION: what a COMPARE AND WRITE answers where its data and the blocks differ.
+    /// `offset` is the offset in bytes of the first unequal byte (SBC-3 §5.2).
     pub const fn miscompare(offset: u32) -> Sense
         ensures { result ≡ miscompare offset }
     {
@@ -123,8 +123,8 @@ impl Sense {
         }
     }
 
-    /// A unit attention of this additional sense code and qualifier, such as 29/00 after a power
-    /// on or a reset (SPC-4 §4.5, SAM-5 §5.14).
+    /// Makes a unit attention of this additional sense code and qualifier, such as 29/00 after a power on or a reset
+    /// (SPC-4 §4.5, SAM-5 §5.14).
     pub const fn unit_attention(asc: u8, ascq: u8) -> Sense
         ensures { result ≡ unit_attention asc ascq }
     {
@@ -136,7 +136,7 @@ impl Sense {
         }
     }
 
-    /// The sense data in the fixed format (SPC-4 §4.5.3), of current information.
+    /// Returns the sense data in the fixed format (SPC-4 §4.5.3), of current information.
     pub fn to_fixed(&self) -> [u8; FIXED_SENSE_BYTES]
         ensures { result ≡ fixed self.now }
     {

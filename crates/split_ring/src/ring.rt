@@ -43,13 +43,12 @@ impl SplitRing {
     ghost use Rattle.std.specs.Prelude.{length, MatchResult};
     ghost use Rattle.split_ring.specs.Placement.{OpensSplit, LayoutRefusedAs};
 
-    /// A queue with this number at this place, of which nothing was fetched yet. Whoever sets the
-    /// device up calls it once for each queue, with the features that were agreed, of which it looks at
-    /// VIRTIO_F_INDIRECT_DESC and VIRTIO_F_EVENT_IDX (bits 28 and 29) alone, and with the memory that all later calls get. Refused
-    /// are, in this order, a size that is 0, above 32,768 or no power of two (`BadSize`), a
-    /// descriptor table not aligned to 16, an available ring not to 2 or a used ring not to 4
-    /// (`BadAlignment`), one of them that doesn't lie in memory (`Outside`), and want of memory
-    /// (`NoMemory`).
+    /// Makes a queue with this number at this place, of which nothing was fetched yet. Whoever sets the device up calls
+    /// it once for each queue, with the features that were agreed, of which it looks at VIRTIO_F_INDIRECT_DESC and
+    /// VIRTIO_F_EVENT_IDX (bits 28 and 29) alone, and with the memory that all later calls get. Refused are, in this
+    /// order, a size that is 0, above 32,768 or no power of two (`BadSize`), a descriptor table not aligned to 16, an
+    /// available ring not to 2 or a used ring not to 4 (`BadAlignment`), one of them that doesn't lie in memory
+    /// (`Outside`), and want of memory (`NoMemory`).
     #[tactic(auto, unfolding(ring_core::specs::State::opening))]
     pub fn new(
         alloc: Global,
@@ -76,14 +75,14 @@ impl SplitRing {
     ghost use Rattle.ring_core.specs.Split.{ahead as ahead_of, entry_wrong, next_head};
     ghost use Rattle.split_ring.specs.Inner.{SplitFinds};
 
-    /// How many chains were accepted, as the available ring's index counts them.
+    /// Returns how many chains were accepted, as the available ring's index counts them.
     fn accepted(&self) -> u16
         ensures { result ≡ length self.now.log.accepted % 65536 }
     {
         (self.base.log().accepted() % 65536) as u16
     }
 
-    /// How many entries of the available ring weren't accepted yet.
+    /// Returns how many entries of the available ring weren't accepted yet.
     fn ahead(&self, memory: &GuestMem) -> u16
         requires { length memory.now ≡ self.now.memory }
         ensures { result ≡ ahead_of self.now memory.now }
@@ -92,8 +91,7 @@ impl SplitRing {
         number_at(memory, self.base.layout().driver + 2).wrapping_sub(accepted)
     }
 
-    /// The head that the next entry of the available ring names, where so many weren't accepted
-    /// yet.
+    /// Returns the head that the next entry of the available ring names, where so many weren't accepted yet.
     fn entry(&self, memory: &GuestMem, ahead: u16) -> Result<u16, RingFault>
         requires fits { length memory.now ≡ self.now.memory }
         requires some { ahead ≡ ahead_of self.now memory.now }
@@ -117,7 +115,7 @@ impl SplitRing {
         Ok(head)
     }
 
-    /// The next chain, where so many weren't accepted yet.
+    /// Returns the next chain, where so many weren't accepted yet.
     fn next(&mut self, memory: &GuestMem, ahead: u16) -> Result<Candidate, RingFault>
         requires fits { length memory.now ≡ self.old.memory }
         requires is { ahead ≡ ahead_of self.old memory.now }

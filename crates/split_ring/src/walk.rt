@@ -19,7 +19,7 @@ pub struct Table {
 }
 
 impl Table {
-    /// The queue's own.
+    /// Returns the queue's own.
     fn of_queue(layout: &Layout, features: Features) -> Table
         ensures { result ≡ record { addr = layout.now.desc; entries = layout.now.size; features = features } }
     {
@@ -30,7 +30,7 @@ impl Table {
         }
     }
 
-    /// That which a descriptor names; none of its own names another.
+    /// Returns that which a descriptor names; none of its own names another.
     fn named_by(d: &Descriptor) -> Table
         ensures { result ≡ record { addr = d.now.addr; entries = d.now.len / 16; features = no_features } }
     {

@@ -5,9 +5,9 @@ use Rattle.std.proofs.lemmas.List.{append-nil, append_assoc}
 use Rattle.std.proofs.lemmas.Bool.Decides.{nat_tests}
 use Rattle.scsi_codec.specs.declared.control_queue.FunctionResponse.TheVariants.{Failure}
 use Rattle.task_mgmt.specs.declared.function.Mark.{Mark}
-use Rattle.history.specs.Tasks.{Entry}
-use Rattle.history.specs.Steps.{Step, is_alive}
-use Rattle.history.specs.Clearing.{met_by, met_at, is_clear}
+use Rattle.unit_model.specs.Tasks.{Entry}
+use Rattle.unit_model.specs.Steps.{Step, is_alive}
+use Rattle.unit_model.specs.Clearing.{met_by, met_at, is_clear}
 use Rattle.task_mgmt.specs.Functions.{PlainFunction, marking, next_mark, next_look, asking, checking, failing, is_over, response_of}
 use Rattle.task_mgmt.specs.Visits.{all_marked, all_asked, all_checked}
 

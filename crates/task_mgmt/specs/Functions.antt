@@ -1,29 +1,29 @@
 -- Task management functions (SAM-5 §7.1): what each does on its units, and how far it has come.
 use Rattle.std.specs.Prelude.{ℕ, Bool, true, false, ◌==◌, ◌&&◌, ◌||◌, if◌then◌else◌, List, [], ◌∷◌, ◌++◌, length, drop, slice_index, Option, Some, None, ⊤}
 use Rattle.unit_attention.specs.Code.{code, IsKnown}
-use Rattle.history.specs.Steps.{Step}
-use Rattle.history.specs.declared.rule.Rule.TheVariants.{Id, All}
+use Rattle.unit_model.specs.Steps.{Step}
+use Rattle.unit_model.specs.declared.rule.Rule.TheVariants.{Id, All}
 use Rattle.scsi_codec.specs.declared.control_queue.FunctionResponse.{FunctionResponse}
 use Rattle.scsi_codec.specs.declared.control_queue.FunctionResponse.TheVariants.{Complete, Failure, Succeeded}
-use Rattle.task_mgmt.specs.declared.kind.Strike.{Strike}
-use Rattle.task_mgmt.specs.declared.kind.Strike.TheVariants.{Abort, Reset}
+use Rattle.task_mgmt.specs.declared.kind.MarkBy.{MarkBy}
+use Rattle.task_mgmt.specs.declared.kind.MarkBy.TheVariants.{Abort, Reset}
 use Rattle.task_mgmt.specs.declared.kind.Kind.{Kind}
-use Rattle.task_mgmt.specs.declared.kind.Kind.TheVariants.{Marking, Asking}
+use Rattle.task_mgmt.specs.declared.kind.Kind.TheVariants.{Marking, Querying}
 use Rattle.task_mgmt.specs.declared.function.Mark.{Mark}
 
--- own: the step of a unit's history that a strike is
-abbrev pub step_by : Strike → Step
+-- own: the step of a unit's history that a mark is
+abbrev pub step_by : MarkBy → Step
 step_by (Abort rule) = Step.Abort rule
 step_by (Reset c) = Step.Reset c
 
 -- own: a reset raises a code that is known
-abbrev pub IsKnownStrike : Strike → Type 0
-IsKnownStrike (Abort rule) = ⊤
-IsKnownStrike (Reset c) = IsKnown c
+abbrev pub IsKnownMark : MarkBy → Type 0
+IsKnownMark (Abort rule) = ⊤
+IsKnownMark (Reset c) = IsKnown c
 
 abbrev pub IsKnownKind : Kind → Type 0
-IsKnownKind (Marking strike) = IsKnownStrike strike
-IsKnownKind (Asking rule) = ⊤
+IsKnownKind (Marking mark) = IsKnownMark mark
+IsKnownKind (Querying rule) = ⊤
 
 -- what a function does on each of its units, by its subtype (VIRTIO 1.2 §5.6.6.2): ABORT TASK, ABORT TASK SET, CLEAR
 -- TASK SET, I_T NEXUS RESET, LOGICAL UNIT RESET, QUERY TASK, QUERY TASK SET (SAM-5 §7.2, §7.3, §7.5 to §7.9). CLEAR
@@ -35,11 +35,11 @@ kind_of subtype id =
     else (if subtype == 3 then Some (Marking (Abort All))
     else (if subtype == 4 then Some (Marking (Reset (code 0x29 0x07)))
     else (if subtype == 5 then Some (Marking (Reset (code 0x29 0x03)))
-    else (if subtype == 6 then Some (Asking (Id id))
-    else (if subtype == 7 then Some (Asking All) else None))))))
+    else (if subtype == 6 then Some (Querying (Id id))
+    else (if subtype == 7 then Some (Querying All) else None))))))
 
 -- own: what a function does, whether a look found a task, whether a mark was refused memory, the units that are left,
--- by their places in the inventory, and the marks and looks that are still to be clear, in order
+-- by their indices in the inventory, and the marks and looks that are still to be clear, in order
 pub record PlainFunction : Type 0 where
   pub kind : Kind
   pub found : Bool
@@ -83,8 +83,8 @@ is_over f = (length f.left == 0) && (length f.waits == 0)
 
 -- a query answers whether it found a task (SAM-5 §7.8, §7.9), every other function that it is complete (SAM-5 §7.1)
 abbrev pub response_by : Kind → Bool → FunctionResponse
-response_by (Marking strike) found = Complete
-response_by (Asking rule) found = if found then Succeeded else Complete
+response_by (Marking mark) found = Complete
+response_by (Querying rule) found = if found then Succeeded else Complete
 
 abbrev pub response_of : PlainFunction → FunctionResponse
 response_of f = if f.refused then Failure else response_by f.kind f.found

@@ -42,7 +42,7 @@ impl ControlAnswer {
         }
     }
 
-    /// The response of a function. Whoever answers one that is finished calls it.
+    /// Makes the response of a function. Whoever answers one that is finished calls it.
     pub fn of_function(response: FunctionResponse) -> ControlAnswer
         ensures { result ≡ function_bytes response }
     {
@@ -56,7 +56,7 @@ impl ControlAnswer {
         ControlAnswer::copied(&write_notification(0, response))
     }
 
-    /// These bytes.
+    /// Makes an answer of these bytes.
     fn copied(from: &[u8]) -> ControlAnswer
         requires { length from.now ≤ MOST_CONTROL_BYTES }
         ensures { result ≡ from.now }
@@ -68,7 +68,7 @@ impl ControlAnswer {
         ControlAnswer { bytes }
     }
 
-    /// Its bytes.
+    /// Returns its bytes.
     pub fn as_slice(&self) -> &[u8]
         ensures bytes { result.now ≡ self.now }
         ensures few { length self.now ≤ MOST_CONTROL_BYTES }
@@ -129,9 +129,9 @@ fn decide(inventory: &Inventory, control: &Control, writable: u64) -> ControlDec
     decide_with_room(inventory, control)
 }
 
-/// What is decided of a chain of the control queue, by its readable bytes, how many can be written, and the
-/// inventory of units: an answer, or a function that begins. Whoever fetched the chain calls it once, while no
-/// function is open. It takes no memory.
+/// Returns what is decided of a chain of the control queue, by its readable bytes, how many can be written, and the
+/// inventory of units: an answer, or a function that begins. Whoever fetched the chain calls it once, while no function
+/// is open. It takes no memory.
 pub fn decide_control(inventory: &Inventory, bytes: &[u8], writable: u64) -> ControlDecision
     ensures decision { Decides inventory.now bytes.now writable result }
     ensures suits { Suits (length inventory.now) writable result }

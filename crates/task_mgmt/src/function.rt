@@ -12,7 +12,7 @@ use std::marker::Model;
 /// That a unit was marked, or looked at: a mark is clear once every task that it met has left, a look at once.
 #[derive(Clone, Copy, Default)]
 pub struct Mark {
-    /// The place of the unit in the inventory.
+    /// The index of the unit in the inventory.
     pub unit: usize,
     /// How many steps of the unit's history stand before the mark; 0 of a look, which stands there as no step and met
     /// no task.
@@ -63,7 +63,7 @@ impl Function {
         }
     }
 
-    /// What it does on each of its units. Whoever visits the next one asks this first.
+    /// Returns what it does on each of its units. Whoever visits the next one asks this first.
     pub fn kind(&self) -> Kind
         ensures kind { result ≡ self.now.kind }
         ensures known { IsKnownKind self.now.kind }
@@ -71,14 +71,14 @@ impl Function {
         self.kind
     }
 
-    /// The unit to be visited next, by its place in the inventory; `None` where none is left.
+    /// Returns the unit to be visited next, by its index in the inventory; `None` where none is left.
     pub fn next_unit(&self) -> Option<usize>
         ensures { result ≡ slice_get self.now.left 0 }
     {
         self.left.as_slice().first().copied()
     }
 
-    /// The next unit was marked, and so many steps of its history stand before the mark.
+    /// Tells that the next unit was marked, and so many steps of its history stand before the mark.
     pub fn marked(&mut self, place: u64)
         requires { 0 < length self.old.left }
         ensures { self.new ≡ marking (next_mark place self.old) self.old }
@@ -87,7 +87,8 @@ impl Function {
         self.waits.push(Mark { unit, place });
     }
 
-    /// A query looked at the next unit, and found a task or none. Its check is still to come, and is clear at once.
+    /// Tells that a query looked at the next unit, and found a task or none. Its check is still to come, and is clear
+    /// at once.
     pub fn found(&mut self, yes: bool)
         requires { 0 < length self.old.left }
         ensures { self.new ≡ asking yes self.old }
@@ -100,7 +101,7 @@ impl Function {
         self.found = yes || self.found;
     }
 
-    /// The mark of the next unit was refused memory: no unit is left, and the response is FAILURE.
+    /// Tells that the mark of the next unit was refused memory: no unit is left, and the response is FAILURE.
     pub fn refused(&mut self)
         ensures { self.new ≡ failing self.old }
     {
@@ -108,14 +109,14 @@ impl Function {
         self.refused = true;
     }
 
-    /// The mark or look that is to be clear next; `None` where none is waited for.
+    /// Returns the mark or look that is to be clear next; `None` where none is waited for.
     pub fn waits_for(&self) -> Option<Mark>
         ensures { result ≡ slice_get self.now.waits 0 }
     {
         self.waits.as_slice().first().copied()
     }
 
-    /// The mark or look that was waited for is clear.
+    /// Tells that the mark or look that was waited for is clear.
     pub fn cleared(&mut self)
         requires { 0 < length self.old.waits }
         ensures { self.new ≡ checking self.old }
@@ -123,14 +124,14 @@ impl Function {
         self.waits.remove(0);
     }
 
-    /// Whether no unit is left and no mark waited for: it may be answered.
+    /// Returns true if no unit is left and no mark waited for: it may be answered.
     pub fn finished(&self) -> bool
         ensures { result ≡ is_over self.now }
     {
         self.left.is_empty() && self.waits.is_empty()
     }
 
-    /// Its response (VIRTIO 1.2 §5.6.6.2), once it is finished.
+    /// Returns its response (VIRTIO 1.2 §5.6.6.2), once it is finished.
     pub fn answer(&self) -> FunctionResponse
         ensures { result ≡ response_of self.now }
     {
@@ -138,8 +139,8 @@ impl Function {
             return FunctionResponse::Failure;
         }
         match self.kind {
-            Kind::Asking(_) if self.found => FunctionResponse::Succeeded,
-            Kind::Asking(_) | Kind::Marking(_) => FunctionResponse::Complete,
+            Kind::Querying(_) if self.found => FunctionResponse::Succeeded,
+            Kind::Querying(_) | Kind::Marking(_) => FunctionResponse::Complete,
         }
     }
 }

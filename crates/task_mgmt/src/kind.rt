@@ -3,12 +3,12 @@
 ghost use Rattle.std.specs.Prelude.{◌≡◌, IfSome};
 ghost use Rattle.task_mgmt.specs.Functions.{kind_of, IsKnownKind};
 
-use history::Rule;
 use unit_attention::Code;
+use unit_model::Rule;
 
 /// What marks the tasks of a unit.
 #[derive(Clone, Copy)]
-pub enum Strike {
+pub enum MarkBy {
     /// They are aborted (SAM-5 §7.2, §7.3, §7.5).
     Abort(Rule),
     /// Their unit is reset, and this code established (SAM-5 §7.6, §7.7).
@@ -19,9 +19,9 @@ pub enum Strike {
 #[derive(Clone, Copy)]
 pub enum Kind {
     /// It marks the tasks that are alive, and waits until those that it meets have left.
-    Marking(Strike),
+    Marking(MarkBy),
     /// It looks for a task that is alive (SAM-5 §7.8, §7.9); its checks wait for none.
-    Asking(Rule),
+    Querying(Rule),
 }
 
 /// What the function of a subtype (VIRTIO 1.2 §5.6.6.2) does; `None` for one that isn't offered.
@@ -30,12 +30,12 @@ pub(crate) fn kind_of(subtype: u32, id: u64) -> Option<Kind>
     ensures known { IfSome result IsKnownKind }
 {
     match subtype {
-        0 => Some(Kind::Marking(Strike::Abort(Rule::Id(id)))),
-        1 | 3 => Some(Kind::Marking(Strike::Abort(Rule::All))),
-        4 => Some(Kind::Marking(Strike::Reset(Code::I_T_NEXUS_LOSS))),
-        5 => Some(Kind::Marking(Strike::Reset(Code::BUS_DEVICE_RESET_FUNCTION))),
-        6 => Some(Kind::Asking(Rule::Id(id))),
-        7 => Some(Kind::Asking(Rule::All)),
+        0 => Some(Kind::Marking(MarkBy::Abort(Rule::Id(id)))),
+        1 | 3 => Some(Kind::Marking(MarkBy::Abort(Rule::All))),
+        4 => Some(Kind::Marking(MarkBy::Reset(Code::I_T_NEXUS_LOSS))),
+        5 => Some(Kind::Marking(MarkBy::Reset(Code::BUS_DEVICE_RESET_FUNCTION))),
+        6 => Some(Kind::Querying(Rule::Id(id))),
+        7 => Some(Kind::Querying(Rule::All)),
         _ => None,
     }
 }

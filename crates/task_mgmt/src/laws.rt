@@ -2,18 +2,18 @@
 
 ghost use Rattle.std.specs.Prelude.{◌≡◌, ◌≢◌, ◌<◌, ◌≤◌, ◌==◌, nat_le, ℕ, Bool, true, false, List, [], ◌∷◌, length, map, slice_get, Option, Some, None, Ok, Err};
 ghost use Rattle.std.specs.List.{list_any};
-ghost use Rattle.history.specs.Steps.{Step};
-ghost use Rattle.history.specs.Clearing.{is_clear};
-ghost use Rattle.history.specs.declared.rule.Rule.{Rule};
-ghost use Rattle.history.specs.declared.rule.Rule.TheVariants.{Id, All};
+ghost use Rattle.unit_model.specs.Steps.{Step};
+ghost use Rattle.unit_model.specs.Clearing.{is_clear};
+ghost use Rattle.unit_model.specs.declared.rule.Rule.{Rule};
+ghost use Rattle.unit_model.specs.declared.rule.Rule.TheVariants.{Id, All};
 ghost use Rattle.scsi_codec.specs.declared.lun.Address.{Address};
 ghost use Rattle.scsi_codec.specs.declared.control_queue.FunctionResponse.TheVariants.{Complete, BadTarget, Failure, Succeeded, Rejected, IncorrectLun};
 ghost use Rattle.scsi_codec.specs.declared.control_queue.Control.TheVariants.{TaskManagement, AsynchronousNotification, MalformedFunction, MalformedNotification};
 ghost use Rattle.decisions.specs.Inventory.{has_target, place_of};
 ghost use Rattle.task_mgmt.specs.declared.kind.Kind.{Kind};
-ghost use Rattle.task_mgmt.specs.declared.kind.Kind.TheVariants.{Marking, Asking};
-ghost use Rattle.task_mgmt.specs.declared.kind.Strike.{Strike};
-ghost use Rattle.task_mgmt.specs.declared.kind.Strike.TheVariants.{Abort, Reset};
+ghost use Rattle.task_mgmt.specs.declared.kind.Kind.TheVariants.{Marking, Querying};
+ghost use Rattle.task_mgmt.specs.declared.kind.MarkBy.{MarkBy};
+ghost use Rattle.task_mgmt.specs.declared.kind.MarkBy.TheVariants.{Abort, Reset};
 ghost use Rattle.task_mgmt.specs.declared.function.Mark.{Mark};
 ghost use Rattle.task_mgmt.specs.declared.control.ControlDecision.TheVariants.{Direct};
 ghost use Rattle.task_mgmt.specs.Functions.{PlainFunction, kind_of, opened, next_look, failing, is_over, response_of};
@@ -31,8 +31,8 @@ pub fn kinds_by_subtype()
     ensures clear_task_set { (id : ℕ) → kind_of 3 id ≡ Some (Marking (Abort All)) }
     ensures nexus_reset { (id : ℕ) → kind_of 4 id ≡ Some (Marking (Reset Code.I_T_NEXUS_LOSS)) }
     ensures unit_reset { (id : ℕ) → kind_of 5 id ≡ Some (Marking (Reset Code.BUS_DEVICE_RESET_FUNCTION)) }
-    ensures query_task { (id : ℕ) → kind_of 6 id ≡ Some (Asking (Id id)) }
-    ensures query_task_set { (id : ℕ) → kind_of 7 id ≡ Some (Asking All) }
+    ensures query_task { (id : ℕ) → kind_of 6 id ≡ Some (Querying (Id id)) }
+    ensures query_task_set { (id : ℕ) → kind_of 7 id ≡ Some (Querying All) }
     ensures others { (subtype id : ℕ) → 7 < subtype → kind_of subtype id ≡ None }
 {}
 
@@ -111,12 +111,12 @@ pub fn refused_functions_fail()
 
 /// What a function that wasn't refused memory is answered.
 pub fn responses_of_functions()
-    ensures marking { (f : PlainFunction) (strike : Strike)
-        → f.kind ≡ Marking strike → f.refused ≡ false → response_of f ≡ Complete }
+    ensures marking { (f : PlainFunction) (mark : MarkBy)
+        → f.kind ≡ Marking mark → f.refused ≡ false → response_of f ≡ Complete }
     ensures found { (f : PlainFunction) (rule : Rule)
-        → f.kind ≡ Asking rule → f.refused ≡ false → f.found ≡ true → response_of f ≡ Succeeded }
+        → f.kind ≡ Querying rule → f.refused ≡ false → f.found ≡ true → response_of f ≡ Succeeded }
     ensures not_found { (f : PlainFunction) (rule : Rule)
-        → f.kind ≡ Asking rule → f.refused ≡ false → f.found ≡ false → response_of f ≡ Complete }
+        → f.kind ≡ Querying rule → f.refused ≡ false → f.found ≡ false → response_of f ≡ Complete }
 {}
 
 /// The answers that need no function, with room and without.

@@ -11,7 +11,7 @@ mod laws;
 pub use control::{ControlAnswer, ControlDecision, MOST_CONTROL_BYTES, decide_control};
 pub use demand::{TaskManagement, begin};
 pub use function::{Function, Mark};
-pub use kind::{Kind, Strike};
+pub use kind::{Kind, MarkBy};
 pub use laws::{
     direct_answers, each_mark_is_waited_for, each_unit_is_asked_once, each_unit_is_marked_once,
     kinds_by_subtype, looks_are_clear, places_are_those_of_the_target, refusals_in_order,

@@ -6,8 +6,8 @@ use Rattle.std.proofs.lemmas.List.Folds.{list_any-append}
 use Rattle.decisions.specs.declared.attribute.TaskAttribute.{TaskAttribute}
 use Rattle.decisions.specs.declared.attribute.TaskAttribute.TheVariants.{Simple, Ordered, HeadOfQueue}
 use Rattle.ring_core.specs.declared.log.Ticket.{Ticket}
-use Rattle.history.specs.Tasks.{Entry, same_ticket, task_of, older, AreDistinct, any_head_of_queue, any_ordered, any_task, is_ordered, blocks, is_blocked}
-use Rattle.history.proofs.Tickets.{itself, apart}
+use Rattle.unit_model.specs.Tasks.{Entry, same_ticket, task_of, older, AreDistinct, any_head_of_queue, any_ordered, any_task, is_ordered, blocks, is_blocked}
+use Rattle.unit_model.proofs.Tickets.{itself, apart}
 use Rattle.task_set.specs.Tasks.{PlainTask, entries_of, blocked_where}
 
 clash : true ≡ false → ⊥

@@ -3,12 +3,12 @@ use Rattle.std.proofs.Common.{◌≡◌, ℕ, ◌≤◌, true, false, cond, List
 use Rattle.std.specs.List.{refill, remove}
 use Rattle.std.proofs.lemmas.List.{map-append, append-nil, drop_all, take_all, length-map}
 use Rattle.ring_core.specs.declared.log.Ticket.{Ticket}
-use Rattle.history.specs.Tasks.{Entry, same_ticket, task_of, AreDistinct}
-use Rattle.history.specs.Seen.{Seen, finished, struck, freed}
-use Rattle.history.specs.declared.rule.Rule.{Rule}
-use Rattle.history.specs.declared.reason.Reason.{Reason}
-use Rattle.history.proofs.Tickets.{apart}
-use Rattle.history.proofs.Distinct.{task_push_other}
+use Rattle.unit_model.specs.Tasks.{Entry, same_ticket, task_of, AreDistinct}
+use Rattle.unit_model.specs.Seen.{Seen, finished, with_mark, freed}
+use Rattle.unit_model.specs.declared.rule.Rule.{Rule}
+use Rattle.unit_model.specs.declared.reason.Reason.{Reason}
+use Rattle.unit_model.proofs.Tickets.{apart}
+use Rattle.unit_model.proofs.Distinct.{task_push_other}
 use Rattle.task_set.specs.Tasks.{PlainTask, entries_of, moved, without}
 
 absent_found : (e : Entry) → Some e ≡ None → ⊥
@@ -56,8 +56,8 @@ entries_kept f same (x ∷ tasks) = ap (λ e. e ∷ entries_of (map (moved f) ta
 pub distinct_finished : (t : Ticket) (tasks : List PlainTask) → AreDistinct (entries_of tasks) → AreDistinct (entries_of (map (moved (finished t)) tasks))
 distinct_finished t tasks d = subst AreDistinct (sym (entries_kept (finished t) (λ s. refl) tasks)) d
 
-pub distinct_struck : (rule : Rule) (reason : Reason) (tasks : List PlainTask) → AreDistinct (entries_of tasks) → AreDistinct (entries_of (map (moved (struck rule reason)) tasks))
-distinct_struck rule reason tasks d = subst AreDistinct (sym (entries_kept (struck rule reason) (λ s. refl) tasks)) d
+pub distinct_with_mark : (rule : Rule) (reason : Reason) (tasks : List PlainTask) → AreDistinct (entries_of tasks) → AreDistinct (entries_of (map (moved (with_mark rule reason)) tasks))
+distinct_with_mark rule reason tasks d = subst AreDistinct (sym (entries_kept (with_mark rule reason) (λ s. refl) tasks)) d
 
 pub distinct_freed : (alive : List Entry) (tasks : List PlainTask) → AreDistinct (entries_of tasks) → AreDistinct (entries_of (map (moved (freed alive)) tasks))
 distinct_freed alive tasks d = subst AreDistinct (sym (entries_kept (freed alive) (λ s. refl) tasks)) d

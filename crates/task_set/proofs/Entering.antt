@@ -3,10 +3,10 @@ use Rattle.std.proofs.Common.{◌≡◌, ℕ, Bool, true, false, not, ◌||◌, 
 use Rattle.std.proofs.lemmas.List.Folds.{list_any-append}
 use Rattle.decisions.specs.declared.attribute.TaskAttribute.{TaskAttribute}
 use Rattle.decisions.specs.declared.attribute.TaskAttribute.TheVariants.{Simple, Ordered, HeadOfQueue}
-use Rattle.history.specs.Tasks.{Entry, entry_of, same_ticket, task_of, older, any_head_of_queue, any_ordered, any_task, is_head_of_queue, blocks, is_blocked}
+use Rattle.unit_model.specs.Tasks.{Entry, entry_of, same_ticket, task_of, older, any_head_of_queue, any_ordered, any_task, is_head_of_queue, blocks, is_blocked}
 use Rattle.decisions.specs.UnitRequest.{PlainRequest}
-use Rattle.history.proofs.Tickets.{itself}
-use Rattle.task_set.specs.Jobs.{PlainJob}
+use Rattle.unit_model.proofs.Tickets.{itself}
+use Rattle.unit_model.specs.Jobs.{PlainJob}
 use Rattle.task_set.specs.Tasks.{PlainTask, entries_of, entering, run_at_once}
 
 absent_found : (e : Entry) → Some e ≡ None → ⊥

@@ -2,9 +2,9 @@
 use Rattle.std.proofs.Common.{◌≡◌, ℕ, Bool, ◌+◌, ◌<◌, List, [], ◌∷◌, ◌++◌, length, get_or, set, take, drop, map, Option, Some, None, refl, sym, ◌∙◌, ap, arith}
 use Rattle.std.proofs.lemmas.List.{drop_more, map_more, set_at, get_or_at, append_assoc, length-map, length-take-le}
 use Rattle.std.specs.Option.{option_to_list}
-use Rattle.history.specs.Tasks.{Entry, is_blocked}
-use Rattle.history.specs.Seen.{Seen, freed}
-use Rattle.task_set.specs.Jobs.{PlainJob, Jobs}
+use Rattle.unit_model.specs.Tasks.{Entry, is_blocked}
+use Rattle.unit_model.specs.Seen.{Seen, freed}
+use Rattle.unit_model.specs.Jobs.{PlainJob, Jobs}
 use Rattle.task_set.specs.Tasks.{PlainTask, there, moved, given, all_given, enabled_unless}
 
 front_length : {X : Type 0} (f : X → X) (old : List X) (i : ℕ) → i < length old → length (map f (take i old)) ≡ i

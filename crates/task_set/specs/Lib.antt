@@ -1,4 +1,1 @@
-pub mod Jobs
 pub mod Tasks
-pub mod Unit
-pub mod Asking

@@ -5,10 +5,10 @@ use Rattle.cdb.specs.declared.commands.Command.TheVariants.{TestUnitReady}
 use Rattle.decisions.specs.UnitRequest.{PlainRequest}
 use Rattle.decisions.specs.declared.attribute.TaskAttribute.{TaskAttribute}
 use Rattle.decisions.specs.declared.attribute.TaskAttribute.TheVariants.{Simple, Ordered, HeadOfQueue}
-use Rattle.history.specs.declared.reason.Reason.{Reason}
-use Rattle.history.specs.Tasks.{Entry, entry_of, is_blocked, same_ticket}
-use Rattle.history.specs.Seen.{Seen, waits, joined}
-use Rattle.task_set.specs.Jobs.{PlainJob}
+use Rattle.unit_model.specs.declared.reason.Reason.{Reason}
+use Rattle.unit_model.specs.Tasks.{Entry, entry_of, is_blocked, same_ticket}
+use Rattle.unit_model.specs.Seen.{Seen, waits, joined}
+use Rattle.unit_model.specs.Jobs.{PlainJob}
 
 -- own: what is kept of a task, and its job as long as it waits
 pub record PlainTask : Type 0 where

@@ -1,7 +1,7 @@
 //! What blocks a task that enters (SAM-5 §8.6).
 
 ghost use Rattle.std.specs.Prelude.{◌≡◌};
-ghost use Rattle.history.specs.Tasks.{blocks};
+ghost use Rattle.unit_model.specs.Tasks.{blocks};
 ghost use Rattle.task_set.specs.Tasks.{entries_of};
 
 use crate::task::Task;

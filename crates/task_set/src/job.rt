@@ -4,8 +4,8 @@ ghost use Rattle.std.specs.Prelude.{◌≡◌, ◌<◌, [], ◌∷◌, ◌++◌,
 ghost use Rattle.std.specs.Prelude.{◌+◌, ◌≤◌, ◌^◌};
 ghost use Rattle.cdb.specs.Need.{need_of};
 ghost use Rattle.ring_core.specs.Parts.{readable_total, writable_total};
-ghost use Rattle.history.specs.Tasks.{entry_of};
-ghost use Rattle.task_set.specs.Jobs.{HasRoom};
+ghost use Rattle.unit_model.specs.Tasks.{entry_of};
+ghost use Rattle.unit_model.specs.Jobs.{HasRoom};
 
 use cdb::Command;
 use decisions::{ChainLengths, TaskAttribute, UnitRequest};
@@ -25,8 +25,8 @@ pub struct Arrival {
 }
 
 impl Model for Arrival {
-    ghost use Rattle.history.specs.Tasks.{entry_of};
-    ghost use Rattle.task_set.specs.Jobs.{PlainJob, HasRoom};
+    ghost use Rattle.unit_model.specs.Tasks.{entry_of};
+    ghost use Rattle.unit_model.specs.Jobs.{PlainJob, HasRoom};
 
     ghost Value = { PlainJob };
 
@@ -36,8 +36,8 @@ impl Model for Arrival {
 }
 
 impl Arrival {
-    /// The request of a chain, for the unit at this place of the inventory. The chain has room for its answer, which
-    /// whoever decided that it goes to a unit has seen.
+    /// Makes the request of a chain, for the unit at this index of the inventory. The chain has room for its answer,
+    /// which whoever decided that it goes to a unit has seen.
     pub fn new(unit: usize, chain: Chain, request: UnitRequest) -> Arrival
         requires { HasRoom chain request.command }
         ensures { result ≡ record { unit = unit; chain = chain; entry = entry_of chain.ticket request } }
@@ -49,14 +49,14 @@ impl Arrival {
         }
     }
 
-    /// The place of its unit in the inventory.
+    /// Returns the index of its unit in the inventory.
     pub fn unit(&self) -> usize
         ensures { result ≡ self.now.unit }
     {
         self.unit
     }
 
-    /// The ticket of its chain.
+    /// Returns the ticket of its chain.
     pub fn ticket(&self) -> Ticket
         ensures chain { result ≡ self.now.chain.ticket }
         ensures entry { result ≡ self.now.entry.ticket }
@@ -64,21 +64,21 @@ impl Arrival {
         self.chain.ticket()
     }
 
-    /// Its request.
+    /// Returns its request.
     pub fn request(&self) -> &UnitRequest
         ensures { self.now.entry ≡ entry_of self.now.chain.ticket result.now }
     {
         &self.request
     }
 
-    /// The command.
+    /// Returns the command.
     pub fn command(&self) -> Command
         ensures { result ≡ self.now.entry.command }
     {
         self.request.command()
     }
 
-    /// The data that the command takes from the driver: exactly as many bytes as it needs.
+    /// Returns the data that the command takes from the driver: exactly as many bytes as it needs.
     pub fn data(&self) -> &[u8]
         ensures data { result.now ≡ self.now.entry.data_out }
         ensures len { length result.now ≡ (need_of self.now.entry.command).out }
@@ -86,14 +86,14 @@ impl Arrival {
         self.request.data()
     }
 
-    /// Its chain.
+    /// Returns its chain.
     pub fn chain(&self) -> &Chain
         ensures { result.now ≡ self.now.chain }
     {
         &self.chain
     }
 
-    /// How many bytes of its chain may be read, and how many written: there is room for the answer.
+    /// Returns how many bytes of its chain may be read, and how many written: there is room for the answer.
     pub fn lengths(&self) -> ChainLengths
         ensures readable { result.readable ≡ readable_total self.now.chain.parts }
         ensures writable { result.writable ≡ writable_total self.now.chain.parts }
@@ -107,7 +107,7 @@ impl Arrival {
         }
     }
 
-    /// Its chain, to be completed. What it asked for is let go.
+    /// Returns its chain, to be completed. What it asked for is let go.
     #[inline(always)]
     pub fn into_chain(self) -> Chain
         ensures { result ≡ self.chain }
@@ -137,7 +137,7 @@ impl Arrival {
         (job, request)
     }
 
-    /// The job of a request that doesn't enter. Its data are let go.
+    /// Makes the job of a request that doesn't enter. Its data are let go.
     pub fn into_job(self) -> Job
         ensures { result ≡ self }
     {
@@ -159,7 +159,7 @@ pub struct Job {
 }
 
 impl Model for Job {
-    ghost use Rattle.task_set.specs.Jobs.{PlainJob, HasRoom};
+    ghost use Rattle.unit_model.specs.Jobs.{PlainJob, HasRoom};
 
     ghost Value = { PlainJob };
 
@@ -179,14 +179,14 @@ impl Model for Job {
 }
 
 impl Job {
-    /// The place of its unit in the inventory.
+    /// Returns the index of its unit in the inventory.
     pub fn unit(&self) -> usize
         ensures { result ≡ self.now.unit }
     {
         self.unit
     }
 
-    /// The ticket of its chain.
+    /// Returns the ticket of its chain.
     pub fn ticket(&self) -> Ticket
         ensures chain { result ≡ self.now.chain.ticket }
         ensures entry { result ≡ self.now.entry.ticket }
@@ -194,35 +194,35 @@ impl Job {
         self.chain.ticket()
     }
 
-    /// The driver's identifier of the command.
+    /// Returns the driver's identifier of the command.
     pub fn id(&self) -> u64
         ensures { result ≡ self.now.entry.id }
     {
         self.id
     }
 
-    /// When its task may run beside others.
+    /// Returns when its task may run beside others.
     pub fn attribute(&self) -> TaskAttribute
         ensures { result ≡ self.now.entry.attribute }
     {
         self.attribute
     }
 
-    /// The command.
+    /// Returns the command.
     pub fn command(&self) -> Command
         ensures { result ≡ self.now.entry.command }
     {
         self.command
     }
 
-    /// Its chain.
+    /// Returns its chain.
     pub fn chain(&self) -> &Chain
         ensures { result.now ≡ self.now.chain }
     {
         &self.chain
     }
 
-    /// How many bytes of its chain may be read, and how many written: there is room for the answer.
+    /// Returns how many bytes of its chain may be read, and how many written: there is room for the answer.
     pub fn lengths(&self) -> ChainLengths
         ensures readable { result.readable ≡ readable_total self.now.chain.parts }
         ensures writable { result.writable ≡ writable_total self.now.chain.parts }
@@ -236,7 +236,7 @@ impl Job {
         }
     }
 
-    /// Its chain, to be completed.
+    /// Returns its chain, to be completed.
     pub fn into_chain(self) -> Chain
         ensures { result ≡ self.chain }
     {
@@ -255,7 +255,7 @@ pub struct JobList {
 impl Model for JobList {
     ghost use Rattle.std.specs.Prelude.{◌≤◌};
     ghost use Rattle.std.specs.VecDeque.{deque_capacity, deque_len};
-    ghost use Rattle.task_set.specs.Jobs.{Jobs};
+    ghost use Rattle.unit_model.specs.Jobs.{Jobs};
 
     ghost Value = { Jobs };
 
@@ -265,7 +265,7 @@ impl Model for JobList {
 }
 
 impl JobList {
-    /// No jobs, and room for as many as the limit. Only this call takes memory.
+    /// Makes a list of no jobs, with room for as many as the limit. Only this call takes memory.
     pub fn with_limit(alloc: Global, limit: usize) -> Result<JobList, AllocError>
         ensures { IfOk result (λ l. l ≡ record { jobs = []; limit = limit }) }
     {
@@ -275,14 +275,14 @@ impl JobList {
         })
     }
 
-    /// How many jobs there are.
+    /// Returns how many jobs there are.
     pub fn len(&self) -> usize
         ensures { result ≡ length self.now.jobs }
     {
         self.jobs.len()
     }
 
-    /// How many jobs there may be.
+    /// Returns how many jobs there may be.
     pub fn limit(&self) -> usize
         ensures { result ≡ self.now.limit }
     {

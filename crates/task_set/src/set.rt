@@ -2,20 +2,20 @@
 
 ghost use Rattle.std.specs.Prelude.{◌≡◌, ◌+◌, ◌<◌, ◌≤◌, ◌++◌, ◌∷◌, [], length, map, slice_get, None, OnOk, OnErr, IfOk, IfErr, IfSome};
 ghost use Rattle.std.specs.Option.{option_copied, option_map};
-ghost use Rattle.history.specs.Tasks.{entry_of, task_of};
-ghost use Rattle.history.specs.Seen.{any_met, any_before, finished, struck, freed};
+ghost use Rattle.unit_model.specs.Tasks.{entry_of, task_of};
+ghost use Rattle.unit_model.specs.Seen.{any_met, any_before, finished, with_mark, freed};
 ghost use Rattle.task_set.specs.Tasks.{PlainTask, entries_of, seen_of, moved, all_given, task_at, without, entering, run_at_once, may_run};
 
 use crate::blocking::block_next;
 use crate::job::{Arrival, Job, JobList};
 use crate::shared::SharedRequest;
 use crate::task::Task;
-use crate::walks::{finish_all, free_all, has_met, has_met_before, place_of, strike_all};
+use crate::walks::{finish_all, free_all, has_met, has_met_before, mark_all, place_of};
 use arrayvec::ArrayVec;
-use history::{Reason, Rule};
 use ring_core::Ticket;
 use std::alloc::Global;
 use std::marker::Model;
+use unit_model::{Reason, Rule};
 
 /// The most tasks of a logical unit that are alive at once.
 pub const MOST_TASKS: usize = 64;
@@ -34,7 +34,7 @@ pub struct TaskSet {
 
 impl Model for TaskSet {
     ghost use Rattle.std.specs.Prelude.{List};
-    ghost use Rattle.history.specs.Tasks.{AreDistinct};
+    ghost use Rattle.unit_model.specs.Tasks.{AreDistinct};
     ghost use Rattle.task_set.specs.Tasks.{PlainTask, entries_of};
 
     ghost Value = { List PlainTask };
@@ -45,7 +45,7 @@ impl Model for TaskSet {
 }
 
 impl TaskSet {
-    /// No task is alive. Whoever opens a unit calls it once.
+    /// Makes a set in which no task is alive. Whoever opens a unit calls it once.
     pub fn new() -> TaskSet
         ensures { result ≡ [] }
     {
@@ -54,7 +54,7 @@ impl TaskSet {
         }
     }
 
-    /// How many tasks are alive, 0 to 64.
+    /// Returns how many tasks are alive, 0 to 64.
     pub fn len(&self) -> usize
         ensures value { result ≡ length self.now }
         ensures most { result ≤ 64 }
@@ -72,7 +72,7 @@ impl TaskSet {
         }
     }
 
-    /// The task of a ticket; `None` where it isn't alive.
+    /// Returns the task of a ticket; `None` where it isn't alive.
     pub fn task(&self, ticket: Ticket) -> Option<&Task>
         ensures { option_copied result ≡ task_at ticket self.now }
     {
@@ -92,8 +92,8 @@ impl TaskSet {
         tasks[place].share(alloc)
     }
 
-    /// Whether the task of a ticket may run (SAM-5 §8.6); `false` where it isn't alive. A worker asks it before it
-    /// runs the command of a job.
+    /// Returns true if the task of a ticket may run (SAM-5 §8.6); `false` where it isn't alive. A worker asks it before
+    /// it runs the command of a job.
     pub fn is_enabled(&self, ticket: Ticket) -> bool
         ensures { result ≡ may_run (task_at ticket self.now) }
     {
@@ -103,9 +103,9 @@ impl TaskSet {
         }
     }
 
-    /// A task enters at this place of its unit's history (SAM-5 §8.6). Its job is given back where nothing blocks
-    /// it, and else parked. Whoever brings a request to its unit calls it, under a ticket of which no task is alive.
-    /// `Full` exactly where 64 are alive, whatever its attribute; nothing changes then.
+    /// Enters a task at this place of its unit's history (SAM-5 §8.6). Its job is given back where nothing blocks it,
+    /// and else parked. Whoever brings a request to its unit calls it, under a ticket of which no task is alive. `Full`
+    /// exactly where 64 are alive, whatever its attribute; nothing changes then.
     pub fn enter(&mut self, arrival: Arrival, place: u64) -> Result<Option<Job>, Full>
         requires fresh { task_of arrival.entry.ticket (entries_of self.old) ≡ None }
         ensures ok { OnOk result
@@ -126,8 +126,8 @@ impl TaskSet {
         Ok(Some(job))
     }
 
-    /// The command of this ticket ran, or was answered BUSY: from here on no abort marks its task. Nothing changes
-    /// where no task of it is alive.
+    /// Tells that the command of this ticket ran, or was answered BUSY: from here on no abort marks its task. Nothing
+    /// changes where no task of it is alive.
     pub fn finish(&mut self, ticket: Ticket)
         ensures { self.new ≡ map (moved (finished ticket)) self.old }
     {
@@ -139,13 +139,13 @@ impl TaskSet {
     /// entry, to be answered. Whoever serves an abort or a reset calls it.
     pub fn mark(&mut self, rule: Rule, reason: Reason, out: &mut JobList)
         requires { length out.old.jobs + length self.old ≤ out.old.limit }
-        ensures tasks { self.new ≡ map (moved (struck rule reason)) self.old }
-        ensures out { out.new ≡ record out.old { jobs = out.old.jobs ++ all_given (struck rule reason) self.old } }
+        ensures tasks { self.new ≡ map (moved (with_mark rule reason)) self.old }
+        ensures out { out.new ≡ record out.old { jobs = out.old.jobs ++ all_given (with_mark rule reason) self.old } }
     {
-        strike_all(self.tasks.as_mut_slice(), rule, reason, out);
+        mark_all(self.tasks.as_mut_slice(), rule, reason, out);
     }
 
-    /// The task of this ticket goes, if it is alive.
+    /// Removes the task of this ticket, if it is alive.
     fn remove(&mut self, ticket: Ticket)
         ensures { self.new ≡ without ticket self.old }
     {
@@ -154,8 +154,8 @@ impl TaskSet {
         }
     }
 
-    /// The task of this ticket goes, once its answer is written. Those that the others don't block may run from
-    /// here on, and the jobs of such as were parked go to `out` by order of entry.
+    /// Removes the task of this ticket, once its answer is written. Those that the others don't block may run from here
+    /// on, and the jobs of such as were parked go to `out` by order of entry.
     pub fn leave(&mut self, ticket: Ticket, out: &mut JobList)
         requires { length out.old.jobs + length self.old ≤ out.old.limit }
         ensures tasks { let rest = without ticket self.old in self.new ≡ map (moved (freed (entries_of rest))) rest }
@@ -166,15 +166,15 @@ impl TaskSet {
         free_all(self.tasks.as_mut_slice(), out);
     }
 
-    /// Whether the rule meets a task, done and marked ones too.
+    /// Returns true if the rule meets a task, done and marked ones too.
     pub fn is_met(&self, rule: Rule) -> bool
         ensures { result ≡ any_met rule (entries_of self.now) }
     {
         has_met(self.tasks.as_slice(), rule)
     }
 
-    /// Whether the rule meets a task that entered before this place of the unit's history. Whoever serves an abort
-    /// asks it until those that it marked have left.
+    /// Returns true if the rule meets a task that entered before this place of the unit's history. Whoever serves an
+    /// abort asks it until those that it marked have left.
     pub fn is_met_before(&self, place: u64, rule: Rule) -> bool
         ensures { result ≡ any_before place rule (seen_of self.now) }
     {

@@ -3,18 +3,18 @@
 ghost use Rattle.std.specs.Prelude.{◌≡◌, ◌+◌, ◌<◌, ◌≤◌, ◌++◌, length, true, false, Some, None, IfSome};
 ghost use Rattle.std.specs.Option.{option_copied, option_to_list};
 ghost use Rattle.cdb.specs.Need.{need_of};
-ghost use Rattle.history.specs.Tasks.{entry_of, meets};
-ghost use Rattle.history.specs.Seen.{finished, struck};
+ghost use Rattle.unit_model.specs.Tasks.{entry_of, meets};
+ghost use Rattle.unit_model.specs.Seen.{finished, with_mark};
 ghost use Rattle.task_set.specs.Tasks.{moved, given, enabled_unless, entry_of_request};
 
 use crate::job::{Arrival, Job, JobList};
 use crate::shared::SharedRequest;
 use cdb::Command;
 use decisions::{TaskAttribute, UnitRequest};
-use history::{Reason, Rule};
 use ring_core::Ticket;
 use std::alloc::Global;
 use std::marker::Model;
+use unit_model::{Reason, Rule};
 
 /// A task that is alive: from when its command entered the task set until its answer is written (SAM-5 §5.5).
 /// Clauses see what is kept of it, and its job as long as it waits.
@@ -70,14 +70,14 @@ impl Default for Task {
 }
 
 impl Task {
-    /// The ticket of its chain.
+    /// Returns the ticket of its chain.
     pub fn ticket(&self) -> Ticket
         ensures { result ≡ self.now.seen.entry.ticket }
     {
         self.ticket
     }
 
-    /// Its request; `None` in a free place of a task set.
+    /// Returns its request; `None` in a free place of a task set.
     #[inline(always)]
     fn request(&self) -> Option<&UnitRequest>
         ensures { self.now.seen.entry ≡ entry_of_request self.now.seen.entry.ticket (option_copied result) }
@@ -111,7 +111,7 @@ impl Task {
         }
     }
 
-    /// The driver's identifier of the command.
+    /// Returns the driver's identifier of the command.
     pub fn id(&self) -> u64
         ensures { result ≡ self.now.seen.entry.id }
     {
@@ -121,7 +121,7 @@ impl Task {
         }
     }
 
-    /// When it may run beside others.
+    /// Returns when it may run beside others.
     pub fn attribute(&self) -> TaskAttribute
         ensures { result ≡ self.now.seen.entry.attribute }
     {
@@ -131,7 +131,7 @@ impl Task {
         }
     }
 
-    /// The command.
+    /// Returns the command.
     pub fn command(&self) -> Command
         ensures { result ≡ self.now.seen.entry.command }
     {
@@ -141,7 +141,7 @@ impl Task {
         }
     }
 
-    /// The data that the command takes from the driver: exactly as many bytes as it needs.
+    /// Returns the data that the command takes from the driver: exactly as many bytes as it needs.
     pub fn data(&self) -> &[u8]
         ensures data { result.now ≡ self.now.seen.entry.data_out }
         ensures len { length result.now ≡ (need_of self.now.seen.entry.command).out }
@@ -152,28 +152,28 @@ impl Task {
         }
     }
 
-    /// How many steps its unit's history had when it entered.
+    /// Returns how many steps its unit's history had when it entered.
     pub fn place(&self) -> u64
         ensures { result ≡ self.now.seen.place }
     {
         self.place
     }
 
-    /// Whether it may run (SAM-5 §8.6): once nothing blocks it, it may from then on.
+    /// Returns true if it may run (SAM-5 §8.6): once nothing blocks it, it may from then on.
     pub fn is_enabled(&self) -> bool
         ensures { result ≡ self.now.seen.enabled }
     {
         self.enabled
     }
 
-    /// Whether its command ran, or was answered BUSY (SAM-5 §5.3.1).
+    /// Returns true if its command ran, or was answered BUSY (SAM-5 §5.3.1).
     pub fn is_done(&self) -> bool
         ensures { result ≡ self.now.seen.done }
     {
         self.done
     }
 
-    /// Why it ends without having run; `None` where it runs.
+    /// Returns why it ends without having run; `None` where it runs.
     pub fn mark(&self) -> Option<Reason>
         ensures { result ≡ self.now.seen.mark }
     {
@@ -242,11 +242,11 @@ impl Task {
     }
 
     /// Marks it where the rule meets it and it isn't done, and hands it out where it was parked.
-    pub(crate) fn strike(&mut self, rule: Rule, reason: Reason, out: &mut JobList)
+    pub(crate) fn mark_by(&mut self, rule: Rule, reason: Reason, out: &mut JobList)
         requires { length out.old.jobs < out.old.limit }
-        ensures task { self.new ≡ moved (struck rule reason) self.old }
+        ensures task { self.new ≡ moved (with_mark rule reason) self.old }
         ensures out { out.new ≡ record out.old {
-          jobs = out.old.jobs ++ option_to_list (given (struck rule reason) self.old);
+          jobs = out.old.jobs ++ option_to_list (given (with_mark rule reason) self.old);
         } }
         ensures room { length out.new.jobs ≤ length out.old.jobs + 1 }
     {

@@ -2,15 +2,15 @@
 
 ghost use Rattle.std.specs.Prelude.{◌≡◌, ◌+◌, ◌<◌, ◌≤◌, ◌++◌, length, map, ◌||◌, nat_lt, IfSome, IfNone, slice_index_or, Some, None};
 ghost use Rattle.std.specs.List.{remove};
-ghost use Rattle.history.specs.Tasks.{AreDistinct, any_head_of_queue, any_ordered, is_ordered};
-ghost use Rattle.history.specs.Seen.{any_met, any_before, finished, struck, freed};
+ghost use Rattle.unit_model.specs.Tasks.{AreDistinct, any_head_of_queue, any_ordered, is_ordered};
+ghost use Rattle.unit_model.specs.Seen.{any_met, any_before, finished, with_mark, freed};
 ghost use Rattle.task_set.specs.Tasks.{PlainTask, entries_of, seen_of, moved, all_given, task_at, without, blocked_where};
 
 use crate::job::JobList;
 use crate::task::Task;
 use decisions::TaskAttribute;
-use history::{Reason, Rule};
 use ring_core::Ticket;
+use unit_model::{Reason, Rule};
 
 /// Whether there is a HEAD OF QUEUE task.
 fn has_head_of_queue(tasks: &[Task]) -> bool
@@ -50,13 +50,13 @@ pub(crate) fn finish_all(tasks: &mut [Task], ticket: Ticket)
 }
 
 /// Marks each task that the rule meets and that isn't done, and hands out those that were parked.
-pub(crate) fn strike_all(tasks: &mut [Task], rule: Rule, reason: Reason, out: &mut JobList)
+pub(crate) fn mark_all(tasks: &mut [Task], rule: Rule, reason: Reason, out: &mut JobList)
     requires { length out.old.jobs + length tasks.old ≤ out.old.limit }
-    ensures tasks { tasks.new ≡ map (moved (struck rule reason)) tasks.old }
-    ensures out { out.new ≡ record out.old { jobs = out.old.jobs ++ all_given (struck rule reason) tasks.old } }
+    ensures tasks { tasks.new ≡ map (moved (with_mark rule reason)) tasks.old }
+    ensures out { out.new ≡ record out.old { jobs = out.old.jobs ++ all_given (with_mark rule reason) tasks.old } }
 {
     for task in tasks.iter_mut() {
-        task.strike(rule, reason, out);
+        task.mark_by(rule, reason, out);
     }
 }
 

@@ -32,7 +32,7 @@ impl Model for Attentions {
 }
 
 impl Attentions {
-    /// None pending.
+    /// Makes a list with none pending.
     pub fn new() -> Attentions
         ensures { result ≡ [] }
     {
@@ -62,7 +62,7 @@ impl Attentions {
         self.codes.pop_at(0)
     }
 
-    /// The oldest code, which stays pending; `None` where none is pending.
+    /// Returns the oldest code, which stays pending; `None` where none is pending.
     pub fn peek(&self) -> Option<Code>
         ensures oldest { result ≡ slice_get self.now 0 }
         ensures list { IsPendingList self.now }
@@ -77,7 +77,7 @@ impl Attentions {
         self.codes.as_slice()
     }
 
-    /// Whether no code is pending.
+    /// Returns true if no code is pending.
     pub fn is_empty(&self) -> bool
         ensures { IsTrue result ↔ (self.now ≡ []) }
     {

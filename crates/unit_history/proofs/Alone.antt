@@ -5,37 +5,37 @@ use Rattle.block_store.specs.Blocks.{Blocks}
 use Rattle.block_store.specs.declared.NoMemory.{NoMemory}
 use Rattle.unit_attention.specs.declared.code.Code.{Code}
 use Rattle.replies.specs.declared.reply.Reply.{Reply}
-use Rattle.command_set.specs.Facts.{Facts}
+use Rattle.replies.specs.Facts.{Facts}
 use Rattle.decisions.specs.declared.attribute.TaskAttribute.{TaskAttribute}
 use Rattle.decisions.specs.declared.attribute.TaskAttribute.TheVariants.{Simple, Ordered, HeadOfQueue}
-use Rattle.history.specs.Tasks.{Entry, blocks, is_blocked}
-use Rattle.history.specs.Steps.{Step, floor}
-use Rattle.history.specs.Seen.{finished, freed}
-use Rattle.command_set.specs.Effects.{given}
-use Rattle.history.specs.Contents.{Opening, capacity_of, facts_after}
-use Rattle.history.specs.Lawful.{IsReady}
-use Rattle.history.specs.Endings.{Ending}
-use Rattle.history.specs.Receipts.{unit_address}
-use Rattle.history.proofs.Tickets.{itself}
+use Rattle.unit_model.specs.Tasks.{Entry, blocks, is_blocked}
+use Rattle.unit_model.specs.Steps.{Step, floor}
+use Rattle.unit_model.specs.Seen.{finished, freed}
+use Rattle.replies.specs.Effects.{given}
+use Rattle.unit_model.specs.Contents.{Opening, capacity_of, facts_after}
+use Rattle.unit_model.specs.Lawful.{IsReady}
+use Rattle.unit_model.specs.Endings.{Ending}
+use Rattle.unit_model.specs.Receipts.{unit_address}
+use Rattle.unit_model.proofs.Tickets.{itself}
 use Rattle.scsi_codec.specs.declared.lun.Address.{Address}
-use Rattle.task_set.specs.Jobs.{PlainJob}
+use Rattle.unit_model.specs.Jobs.{PlainJob}
 use Rattle.task_set.specs.Tasks.{PlainTask, entries_of, parked_of, moved, without, task_at, entering, run_at_once}
 use Rattle.task_set.proofs.Entering.{blocked_last}
 use Rattle.unit_history.specs.Calls.{Enters}
 use Rattle.unit_history.specs.Endings.{ending_of, ending_of_run}
 use Rattle.unit_history.specs.Changes.{PlainChanges}
-use Rattle.unit_history.specs.Noting.{Notes, AreNoted}
+use Rattle.unit_history.specs.Noting.{Notes, AreRecorded}
 use Rattle.unit_history.specs.Parts.{AreKept}
-use Rattle.unit_steps.specs.Performing.{Performs, step_for, unkept}
+use Rattle.unit_history.specs.Performing.{Performs, step_for, unkept}
 use Rattle.unit_history.specs.Outcomes.{outcome_for}
 use Rattle.unit_history.specs.Serving.{ServesAlone}
-use Rattle.task_set.specs.Unit.{Steps}
-use Rattle.unit_history.specs.declared.answers.Entered.TheVariants as entered
-use Rattle.unit_steps.specs.declared.performing.Performed.{Performed}
+use Rattle.unit_model.specs.Unit.{Steps}
+use Rattle.unit_history.specs.declared.outcomes.Entered.TheVariants as entered
+use Rattle.unit_history.specs.declared.performing.Performed.{Performed}
 use Rattle.unit_history.proofs.Committing.{is_of, keep_run, commits_run}
 use Rattle.unit_history.proofs.Entering.{enters_task}
 use Rattle.unit_history.proofs.Keeping.{CameTo, is_ready, may_leave, keep_enter, keep_leave}
-use Rattle.unit_history.proofs.Noting.{noted_on, noted_run}
+use Rattle.unit_history.proofs.Noting.{recorded_on, recorded_run}
 use Rattle.unit_history.proofs.Stepping.{unit_with, steps_is}
 
 -- nothing is a list of no length
@@ -80,15 +80,15 @@ is_found place j done = ap (λ b. cond b (Some (task_of_job place j false done))
 is_gone : (place : ℕ) (j : PlainJob) → without j.entry.ticket (task_of_job place j false true ∷ []) ≡ []
 is_gone place j = ap (λ b. cond b [] (task_of_job place j false true ∷ [])) (itself j.entry.ticket)
 
-module _ (o : Opening) (past : List Step) (block_at : Blocks) (pending : List Code) (lasts : List (Option ℕ)) (room : ℕ)
-    (k : AreKept o past block_at pending [] lasts room) (j : PlainJob) (lasts' : List (Option ℕ))
-    (le : floor j.entry.ticket.queue past ≤ j.entry.ticket.number) (came : CameTo j.entry.ticket lasts lasts') where
+module _ (o : Opening) (past : List Step) (block_at : Blocks) (pending : List Code) (last_tickets : List (Option ℕ)) (room : ℕ)
+    (k : AreKept o past block_at pending [] last_tickets room) (j : PlainJob) (last_tickets' : List (Option ℕ))
+    (le : floor j.entry.ticket.queue past ≤ j.entry.ticket.number) (came : CameTo j.entry.ticket last_tickets last_tickets') where
   -- its task entered
   pub kept_entered : (room' : ℕ) → 128 ≤ room'
-      → AreKept o (Step.Enter j.entry ∷ past) block_at pending (task_of_job (length past) j false false ∷ []) lasts' room'
+      → AreKept o (Step.Enter j.entry ∷ past) block_at pending (task_of_job (length past) j false false ∷ []) last_tickets' room'
   kept_entered room' reserve =
-      subst (λ x. AreKept o (Step.Enter j.entry ∷ past) block_at pending (x ∷ []) lasts' room') (enters_so (length past) j)
-      (keep_enter k j lasts' room' (omega arith) le came reserve)
+      subst (λ x. AreKept o (Step.Enter j.entry ∷ past) block_at pending (x ∷ []) last_tickets' room') (enters_so (length past) j)
+      (keep_enter k j last_tickets' room' (omega arith) le came reserve)
 
   module _ (room1 : ℕ) (reserve : 128 ≤ room1) (facts : Facts) (p : Option Performed) (block_at' : Blocks) (pending' : List Code)
       (as_told : facts ≡ facts_after o (Step.Enter j.entry ∷ past))
@@ -100,18 +100,18 @@ module _ (o : Opening) (past : List Step) (block_at : Blocks) (pending : List Co
     -- its command ran
     kept_ran : (room2 : ℕ) → room1 ≤ room2 + 1
         → AreKept o (step_for j.entry.ticket p ∷ Step.Enter j.entry ∷ past) block_at' pending'
-        (task_of_job (length past) j false true ∷ []) lasts' room2
+        (task_of_job (length past) j false true ∷ []) last_tickets' room2
     kept_ran room2 less =
-        subst (λ ts. AreKept o (step_for j.entry.ticket p ∷ Step.Enter j.entry ∷ past) block_at' pending' ts lasts' room2)
+        subst (λ ts. AreKept o (step_for j.entry.ticket p ∷ Step.Enter j.entry ∷ past) block_at' pending' ts last_tickets' room2)
         (ends_so (length past) j)
         (keep_run (kept_entered room1 reserve) j.entry.ticket j.entry false facts p block_at' pending' room2 ready as_told ran less)
 
     -- it left
     pub kept_left : (room2 room3 : ℕ) → room1 ≤ room2 + 1 → room2 ≤ room3 + 1
-        → AreKept o (Step.Leave j.entry.ticket ∷ step_for j.entry.ticket p ∷ Step.Enter j.entry ∷ past) block_at' pending' [] lasts' room3
+        → AreKept o (Step.Leave j.entry.ticket ∷ step_for j.entry.ticket p ∷ Step.Enter j.entry ∷ past) block_at' pending' [] last_tickets' room3
     kept_left room2 room3 less fewer =
         subst (λ ts. AreKept o (Step.Leave j.entry.ticket ∷ step_for j.entry.ticket p ∷ Step.Enter j.entry ∷ past) block_at' pending'
-        (map (moved (freed (entries_of ts))) ts) lasts' room3) (is_gone (length past) j)
+        (map (moved (freed (entries_of ts))) ts) last_tickets' room3) (is_gone (length past) j)
         (keep_leave (kept_ran room2 less) j.entry.ticket (task_of_job (length past) j false true) room3
         (is_found (length past) j true) refl fewer)
 
@@ -162,32 +162,32 @@ all_steps t t1 t2 e e1 p s0 s1 s2 s3 s4 a b c d f g h =
 
 -- the same of a unit with its tasks, of which there are none
 module _ (o : Opening) (past : List Step) (block_at : Blocks) (pending : List Code) (tasks : List PlainTask)
-    (lasts : List (Option ℕ)) (room : ℕ) (k : AreKept o past block_at pending tasks lasts room) (none : tasks ≡ [])
-    (j : PlainJob) (lasts' : List (Option ℕ)) (le : floor j.entry.ticket.queue past ≤ j.entry.ticket.number)
-    (came : CameTo j.entry.ticket lasts lasts') (room1 : ℕ) (reserve : 128 ≤ room1) (facts : Facts) (p : Option Performed)
+    (last_tickets : List (Option ℕ)) (room : ℕ) (k : AreKept o past block_at pending tasks last_tickets room) (none : tasks ≡ [])
+    (j : PlainJob) (last_tickets' : List (Option ℕ)) (le : floor j.entry.ticket.queue past ≤ j.entry.ticket.number)
+    (came : CameTo j.entry.ticket last_tickets last_tickets') (room1 : ℕ) (reserve : 128 ≤ room1) (facts : Facts) (p : Option Performed)
     (block_at' : Blocks) (pending' : List Code) (as_told : facts ≡ facts_after o (Step.Enter j.entry ∷ past))
     (ran : Performs false facts j.entry.command j.entry.data_out p block_at block_at' pending pending') (steps' : List Step)
     (is : steps' ≡ Step.Leave j.entry.ticket ∷ step_for j.entry.ticket p ∷ Step.Enter j.entry ∷ past) where
-  kept_none : AreKept o past block_at pending [] lasts room
-  kept_none = subst (λ ts. AreKept o past block_at pending ts lasts room) none k
+  kept_none : AreKept o past block_at pending [] last_tickets room
+  kept_none = subst (λ ts. AreKept o past block_at pending ts last_tickets room) none k
 
   pub kept_served : (room2 room3 : ℕ) → room1 ≤ room2 + 1 → room2 ≤ room3 + 1
-      → AreKept o steps' block_at' pending' tasks lasts' room3
+      → AreKept o steps' block_at' pending' tasks last_tickets' room3
   kept_served room2 room3 less fewer =
-      subst (λ ts. AreKept o steps' block_at' pending' ts lasts' room3) (sym none)
-      (subst (λ ss. AreKept o ss block_at' pending' [] lasts' room3) (sym is)
-      (kept_left o past block_at pending lasts room kept_none j lasts' le came room1 reserve facts p block_at' pending' as_told ran
+      subst (λ ts. AreKept o steps' block_at' pending' ts last_tickets' room3) (sym none)
+      (subst (λ ss. AreKept o ss block_at' pending' [] last_tickets' room3) (sym is)
+      (kept_left o past block_at pending last_tickets room kept_none j last_tickets' le came room1 reserve facts p block_at' pending' as_told ran
       room2 room3 less fewer))
 
-  pub noted_served : (capacity : ℕ) (c c' : PlainChanges) → AreNoted o past c
+  pub recorded_served : (capacity : ℕ) (c c' : PlainChanges) → AreRecorded o past c
       → Notes (λ b. is_some (given j.entry.command j.entry.data_out b)) capacity (length (Step.Enter j.entry ∷ past)) c c' → capacity ≡ capacity_of o past
-      → AreNoted o steps' c'
-  noted_served capacity c c' noted n size =
+      → AreRecorded o steps' c'
+  recorded_served capacity c c' noted n size =
       let t = j.entry.ticket in
-      let entered = noted_on o (Step.Enter j.entry) past _ c noted (λ b below out. (below, refl)) refl in
-      let there = (ready o past block_at pending lasts room kept_none j lasts' le came room1 reserve facts p block_at' pending' as_told ran).is_there in
-      let ran' = noted_run o t j.entry p (Step.Enter j.entry ∷ past) _ capacity c c' entered there n size refl in
-      noted_on o (Step.Leave t) (step_for t p ∷ Step.Enter j.entry ∷ past) steps' c' ran' (λ b below out. (below, refl)) is
+      let entered = recorded_on o (Step.Enter j.entry) past _ c noted (λ b below out. (below, refl)) refl in
+      let there = (ready o past block_at pending last_tickets room kept_none j last_tickets' le came room1 reserve facts p block_at' pending' as_told ran).is_there in
+      let ran' = recorded_run o t j.entry p (Step.Enter j.entry ∷ past) _ capacity c c' entered there n size refl in
+      recorded_on o (Step.Leave t) (step_for t p ∷ Step.Enter j.entry ∷ past) steps' c' ran' (λ b below out. (below, refl)) is
 
   pub serves_alone : (answers : Ending → Type 0) (keeps keeps' : Bool) → keeps ≡ false → keeps' ≡ false
       → answers (ending_of (outcome_for (unit_address o) (length (Step.Enter j.entry ∷ past)) j.entry.ticket p))
@@ -198,5 +198,5 @@ module _ (o : Opening) (past : List Step) (block_at : Blocks) (pending : List Co
       (subst (λ x. ServesAlone answers (unit_with o past (parked_of tasks) false) j (unit_with o steps' (parked_of tasks) x)) (sym b)
       (subst (λ ts. ServesAlone answers (unit_with o past (parked_of ts) false) j (unit_with o steps' (parked_of ts) false)) (sym none)
       (subst (λ ss. ServesAlone answers (unit_with o past [] false) j (unit_with o ss [] false)) (sym is)
-      (serves o past block_at pending lasts room kept_none j lasts' le came room1 reserve facts p block_at' pending' as_told ran
+      (serves o past block_at pending last_tickets room kept_none j last_tickets' le came room1 reserve facts p block_at' pending' as_told ran
       answers answered own))))

@@ -2,20 +2,20 @@
 use Rattle.std.proofs.Common.{◌≡◌, ℕ, ◌+◌, ◌-◌, ◌<◌, ◌≤◌, Bool, true, false, not, ◌&&◌, ◌||◌, cond, nat_lt, max, List, [], ◌∷◌, ◌++◌, map, length, Option, Some, None, ◌⊎◌, inl, inr, refl, sym, ◌∙◌, ap, subst, arith}
 use Rattle.std.proofs.lemmas.Bool.{ltb-true, ltb-false}
 use Rattle.ring_core.specs.declared.log.Ticket.{Ticket}
-use Rattle.history.specs.declared.rule.Rule.TheVariants as rules
-use Rattle.history.specs.declared.rule.Rule.{Rule}
-use Rattle.history.specs.Tasks.{same_ticket, meets}
-use Rattle.history.specs.Steps.{Step}
-use Rattle.history.specs.Base.{folds, base_of}
-use Rattle.history.specs.Clearing.{rule_at, is_clear}
-use Rattle.history.specs.Contents.{Opening, capacity_of}
-use Rattle.history.specs.Lawful.{IsLawful}
-use Rattle.history.proofs.Waiting.{clear_is, clear_none}
-use Rattle.history.specs.Seen.{Seen, any_before, tasks_of, others}
-use Rattle.task_set.specs.Jobs.{PlainJob}
+use Rattle.unit_model.specs.declared.rule.Rule.TheVariants as rules
+use Rattle.unit_model.specs.declared.rule.Rule.{Rule}
+use Rattle.unit_model.specs.Tasks.{same_ticket, meets}
+use Rattle.unit_model.specs.Steps.{Step}
+use Rattle.unit_model.specs.Base.{folds, base_of}
+use Rattle.unit_model.specs.Clearing.{rule_at, is_clear}
+use Rattle.unit_model.specs.Contents.{Opening, capacity_of}
+use Rattle.unit_model.specs.Lawful.{IsLawful}
+use Rattle.unit_model.proofs.Waiting.{clear_is, clear_none}
+use Rattle.unit_model.specs.Seen.{Seen, any_before, tasks_of, others}
+use Rattle.unit_model.specs.Jobs.{PlainJob}
 use Rattle.task_set.specs.Tasks.{PlainTask, seen_of, moved, without, entering}
-use Rattle.unit_steps.specs.Performing.{step_for}
-use Rattle.unit_steps.specs.declared.performing.Performed.{Performed}
+use Rattle.unit_history.specs.Performing.{step_for}
+use Rattle.unit_history.specs.declared.performing.Performed.{Performed}
 use Rattle.unit_history.specs.Parts.{AreBehind, AreClear, AreBased}
 use Rattle.unit_history.proofs.KeepingSet.{seen_moved, seen_without, seen_push}
 

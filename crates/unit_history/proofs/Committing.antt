@@ -4,26 +4,27 @@ use Rattle.ring_core.specs.declared.log.Ticket.{Ticket}
 use Rattle.block_store.specs.Blocks.{Blocks}
 use Rattle.unit_attention.specs.declared.code.Code.{Code}
 use Rattle.replies.specs.PlainReply.{PlainReply, plain_of}
-use Rattle.command_set.specs.Effects.{block_after}
-use Rattle.command_set.specs.Facts.{Facts}
-use Rattle.command_set.specs.Replies.{reply_of}
-use Rattle.history.specs.declared.reason.Reason.{Reason}
-use Rattle.history.specs.Tasks.{Entry, task_of}
-use Rattle.history.specs.Steps.{Step, alive, done}
-use Rattle.history.specs.Marks.{mark_of}
-use Rattle.history.specs.Seen.{Seen, seen, finished}
-use Rattle.history.specs.Contents.{Opening, facts_after, reply_after}
-use Rattle.history.specs.Lawful.{IsReady}
-use Rattle.history.specs.Receipts.{unit_address, receipt_of}
-use Rattle.task_set.specs.Jobs.{PlainJob}
+use Rattle.replies.specs.Effects.{block_after}
+use Rattle.replies.specs.Facts.{Facts}
+use Rattle.replies.specs.Replies.{reply_of}
+use Rattle.unit_model.specs.declared.reason.Reason.{Reason}
+use Rattle.unit_model.specs.Tasks.{Entry, task_of}
+use Rattle.unit_model.specs.Steps.{Step, alive, done}
+use Rattle.unit_model.specs.Marks.{mark_of}
+use Rattle.unit_model.specs.Seen.{Seen, seen, finished}
+use Rattle.unit_model.specs.Contents.{Opening, facts_after, reply_after}
+use Rattle.unit_model.specs.Lawful.{IsReady}
+use Rattle.unit_model.specs.Receipts.{unit_address, receipt_of}
+use Rattle.unit_model.specs.Jobs.{PlainJob}
 use Rattle.task_set.specs.Tasks.{PlainTask, parked_of, moved, task_at}
-use Rattle.task_set.specs.Asking.{IsOf, asked_of, CannotCommit}
+use Rattle.unit_model.specs.Asking.{IsOf, asked_of, CannotCommit}
 use Rattle.unit_history.specs.Calls.{Commits}
 use Rattle.unit_history.specs.Parts.{AreKept}
-use Rattle.unit_steps.specs.Performing.{may_run_short, Performs, step_for}
+use Rattle.replies.specs.Memory.{may_run_short}
+use Rattle.unit_history.specs.Performing.{Performs, step_for}
 use Rattle.unit_history.specs.Outcomes.{outcome_for}
 use Rattle.unit_history.specs.Turns.{Turns}
-use Rattle.unit_steps.specs.declared.performing.Performed.{Performed}
+use Rattle.unit_history.specs.declared.performing.Performed.{Performed}
 use Rattle.unit_history.specs.declared.turn.Turn.TheVariants as turn
 use Rattle.unit_history.proofs.Entering.{same_unit}
 use Rattle.unit_history.proofs.Keeping.{task_at_alive, task_at_none, ticket_at, replies_after, may_commit, may_busy, keep_commit, keep_busy}
@@ -35,8 +36,8 @@ cannot s j past is (inl other) = inl other
 cannot s j past is (inr (inl done)) = inr (inl (sym (ap (λ (x : Seen). x.done) is) ∙ done))
 cannot s j past is (inr (inr waits)) = inr (inr (sym (ap (λ (x : Seen). is_some x.mark) is) ∙ ap (λ m. is_some m) waits.0, sym (ap (λ (x : Seen). x.enabled) is) ∙ waits.1))
 
-module _ {o : Opening} {past : List Step} {block_at : Blocks} {pending : List Code} {tasks : List PlainTask} {lasts : List (Option ℕ)} {room : ℕ}
-    (k : AreKept o past block_at pending tasks lasts room) where
+module _ {o : Opening} {past : List Step} {block_at : Blocks} {pending : List Code} {tasks : List PlainTask} {last_tickets : List (Option ℕ)} {room : ℕ}
+    (k : AreKept o past block_at pending tasks last_tickets room) where
   pub cannot_none : (j : PlainJob) → task_at j.entry.ticket tasks ≡ None → CannotCommit (task_of j.entry.ticket (alive past)) j past
   cannot_none j at = subst (λ x. CannotCommit x j past) (sym (task_at_none k j.entry.ticket at)) tt
 
@@ -58,7 +59,7 @@ module _ {o : Opening} {past : List Step} {block_at : Blocks} {pending : List Co
   -- the parts once a command ran, or was refused memory
   pub keep_run : (t : Ticket) (e : Entry) (keeps : Bool) (facts : Facts) (p : Option Performed) (block_at' : Blocks) (pending' : List Code) (room' : ℕ)
       → IsReady t e past → facts ≡ facts_after o past → Performs keeps facts e.command e.data_out p block_at block_at' pending pending' → room ≤ room' + 1
-      → AreKept o (step_for t p ∷ past) block_at' pending' (map (moved (finished t)) tasks) lasts room'
+      → AreKept o (step_for t p ∷ past) block_at' pending' (map (moved (finished t)) tasks) last_tickets room'
   keep_run t e keeps facts None block_at' pending' room' ready as_told short reserve = keep_busy k t e block_at' pending' room' ready short.stored short.pends reserve
   keep_run t e keeps facts (Some p) block_at' pending' room' ready as_told ran reserve =
       keep_commit k t e (plain_of p.reply) block_at' pending' room' ready (ran.reply ∙ ran_reply e facts as_told)
@@ -77,7 +78,7 @@ module _ {o : Opening} {past : List Step} {block_at : Blocks} {pending : List Co
     subst (λ f. IsTrue (may_run_short keeps f e.command)) as_told short.want,
     record {
       may = may_busy k j.entry.ticket e ready;
-      is = same_unit o _ _ _ _ keeps keeps refl (parked_busy o past block_at pending tasks lasts room j.entry.ticket k) refl;
+      is = same_unit o _ _ _ _ keeps keeps refl (parked_busy o past block_at pending tasks last_tickets room j.entry.ticket k) refl;
     },
   )
   commits_run j e keeps facts (Some p) block_at' pending' of ready as_told ran =
@@ -89,6 +90,6 @@ module _ {o : Opening} {past : List Step} {block_at : Blocks} {pending : List Co
         record {
           may = may_commit k j.entry.ticket e (reply_after o e past) ready refl;
           is = same_unit o _ _ _ _ keeps keeps (ap (λ w. Step.Commit j.entry.ticket w ∷ past) r)
-              (parked_commit o past block_at pending tasks lasts room j.entry.ticket (reply_after o e past) k) refl;
+              (parked_commit o past block_at pending tasks last_tickets room j.entry.ticket (reply_after o e past) k) refl;
         },
       )

@@ -4,15 +4,15 @@ use Rattle.std.proofs.lemmas.Bool.{ltb-false}
 use Rattle.ring_core.specs.declared.log.Ticket.{Ticket}
 use Rattle.block_store.specs.Blocks.{Blocks}
 use Rattle.unit_attention.specs.declared.code.Code.{Code}
-use Rattle.history.specs.Steps.{Step, floor}
-use Rattle.history.specs.Contents.{Opening}
-use Rattle.task_set.specs.Jobs.{PlainJob}
+use Rattle.unit_model.specs.Steps.{Step, floor}
+use Rattle.unit_model.specs.Contents.{Opening}
+use Rattle.unit_model.specs.Jobs.{PlainJob}
 use Rattle.task_set.specs.Tasks.{PlainTask, parked_of, entering, run_at_once}
 use Rattle.unit_history.specs.Calls.{Enters, entered_of}
-use Rattle.unit_steps.specs.Lasts.{floor_kept}
+use Rattle.unit_history.specs.LastTickets.{floor_kept}
 use Rattle.unit_history.specs.Parts.{AreKept}
-use Rattle.task_set.specs.Unit.{PlainUnit}
-use Rattle.unit_history.specs.declared.answers.Entered.TheVariants as entered
+use Rattle.unit_model.specs.Unit.{PlainUnit}
+use Rattle.unit_history.specs.declared.outcomes.Entered.TheVariants as entered
 use Rattle.unit_history.proofs.Keeping.{CameTo, may_enter, may_full}
 use Rattle.unit_history.proofs.Handing.{parked_run, parked_blocked, parked_full, run_free, run_blocked}
 
@@ -24,13 +24,13 @@ pub same_unit : (o : Opening) (steps steps' : List Step) (parked parked' : List 
 same_unit o steps steps' parked parked' keeps keeps' a b c = cc
 
 -- a ticket came to places that were made before
-pub came_then : (t : Ticket) (lasts made lasts' : List (Option ℕ)) → ((q : ℕ) → floor_kept made q ≡ floor_kept lasts q) → CameTo t made lasts' → CameTo t lasts lasts'
-came_then t lasts made lasts' same came q = came q ∙ ap (λ n. cond (eqb t.queue q) (t.number + 1) n) (same q)
+pub came_then : (t : Ticket) (last_tickets made last_tickets' : List (Option ℕ)) → ((q : ℕ) → floor_kept made q ≡ floor_kept last_tickets q) → CameTo t made last_tickets' → CameTo t last_tickets last_tickets'
+came_then t last_tickets made last_tickets' same came q = came q ∙ ap (λ n. cond (eqb t.queue q) (t.number + 1) n) (same q)
 
-module _ {o : Opening} {past : List Step} {block_at : Blocks} {pending : List Code} {tasks : List PlainTask} {lasts : List (Option ℕ)} {room : ℕ}
-    (k : AreKept o past block_at pending tasks lasts room) where
-  pub not_stale : (t : Ticket) (b : Bool) → b ≡ nat_lt t.number (floor_kept lasts t.queue) → b ≡ false → floor t.queue past ≤ t.number
-  not_stale t b is above = subst (λ n. n ≤ t.number) (k.floors t.queue) (ltb-false t.number (floor_kept lasts t.queue) (sym is ∙ above))
+module _ {o : Opening} {past : List Step} {block_at : Blocks} {pending : List Code} {tasks : List PlainTask} {last_tickets : List (Option ℕ)} {room : ℕ}
+    (k : AreKept o past block_at pending tasks last_tickets room) where
+  pub not_stale : (t : Ticket) (b : Bool) → b ≡ nat_lt t.number (floor_kept last_tickets t.queue) → b ≡ false → floor t.queue past ≤ t.number
+  not_stale t b is above = subst (λ n. n ≤ t.number) (k.floors t.queue) (ltb-false t.number (floor_kept last_tickets t.queue) (sym is ∙ above))
 
   -- as many tasks as there may be are alive
   pub enters_full : (j : PlainJob) (steps' : List Step) (keeps keeps' : Bool) → length tasks ≡ 64 → floor j.entry.ticket.queue past ≤ j.entry.ticket.number
@@ -51,17 +51,17 @@ module _ {o : Opening} {past : List Step} {block_at : Blocks} {pending : List Co
       → Enters (record { opening = o; steps = past; parked = parked_of tasks; keeps_replies = keeps }) j (entered_of x)
       (record { opening = o; steps = steps'; parked = parked_of (tasks ++ entering place tasks j ∷ []); keeps_replies = keeps' })
   enters_task j (Some now) place steps' keeps keeps' few le run steps kept =
-      let free = run_free o past block_at pending tasks lasts room j now k (sym run) in (
+      let free = run_free o past block_at pending tasks last_tickets room j now k (sym run) in (
         free.0,
         free.1,
         record {
           may = may_enter k j.entry few le;
-          is = same_unit o _ steps' _ _ keeps keeps' steps (parked_run o past block_at pending tasks lasts room place j k free.1) kept;
+          is = same_unit o _ steps' _ _ keeps keeps' steps (parked_run o past block_at pending tasks last_tickets room place j k free.1) kept;
         },
       )
   enters_task j None place steps' keeps keeps' few le run steps kept =
-      let blocked = run_blocked o past block_at pending tasks lasts room j k (sym run) in (
+      let blocked = run_blocked o past block_at pending tasks last_tickets room j k (sym run) in (
         blocked,
         may_enter k j.entry few le,
-        same_unit o _ steps' _ _ keeps keeps' steps (parked_blocked o past block_at pending tasks lasts room place j k blocked) kept,
+        same_unit o _ steps' _ _ keeps keeps' steps (parked_blocked o past block_at pending tasks last_tickets room place j k blocked) kept,
       )

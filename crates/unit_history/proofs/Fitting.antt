@@ -4,11 +4,11 @@ use Rattle.std.specs.List.{AllByRecursion}
 use Rattle.std.specs.Option.{option_map}
 use Rattle.std.proofs.lemmas.List.{map-append}
 use Rattle.ring_core.specs.declared.log.Ticket.{Ticket}
-use Rattle.history.specs.Tasks.{Entry, same_ticket, task_of, is_blocked}
-use Rattle.history.specs.Seen.{Seen, waits, seen_at, entries, others}
-use Rattle.task_set.specs.Jobs.{PlainJob, of_tasks, but_tasks, is_job_of}
+use Rattle.unit_model.specs.Tasks.{Entry, same_ticket, task_of, is_blocked}
+use Rattle.unit_model.specs.Seen.{Seen, waits, seen_at, entries, others}
+use Rattle.unit_model.specs.Jobs.{PlainJob, of_tasks, but_tasks, is_job_of}
 use Rattle.task_set.specs.Tasks.{PlainTask, seen_of, entries_of, there, parked_of, moved, given, all_given, without, entering}
-use Rattle.task_set.specs.Unit.{tasks_of_jobs}
+use Rattle.unit_model.specs.Unit.{tasks_of_jobs}
 use Rattle.unit_history.specs.Parts.{AreFit}
 
 -- the task of a job, if there is one

@@ -6,26 +6,26 @@ use Rattle.ring_core.specs.declared.log.Ticket.{Ticket}
 use Rattle.unit_attention.specs.declared.code.Code.{Code}
 use Rattle.block_store.specs.Blocks.{Blocks}
 use Rattle.replies.specs.PlainReply.{PlainReply}
-use Rattle.history.specs.declared.rule.Rule.{Rule}
-use Rattle.history.specs.declared.rule.Rule.TheVariants as rules
-use Rattle.history.specs.declared.reason.Reason.TheVariants as reason
-use Rattle.history.specs.Tasks.{Entry, same_ticket, task_of, is_blocked, AreDistinct}
-use Rattle.history.specs.Steps.{Step, alive}
-use Rattle.history.specs.Marks.{marked}
-use Rattle.history.specs.Enabling.{enabled, is_parked, newly_enabled, newly_marked}
-use Rattle.history.specs.Released.{released}
-use Rattle.history.specs.Seen.{Seen, seen, seen_at, tasks_of, entries, waits, finished, struck, freed, others}
-use Rattle.history.specs.Contents.{Opening}
-use Rattle.history.specs.Lawful.{IsLawful, May}
-use Rattle.history.proofs.Clearing.{Each}
-use Rattle.history.proofs.Distinct.{alive_distinct}
-use Rattle.history.proofs.Filtered.{filter_found, filter_same, filter_twice, without_filter}
-use Rattle.history.proofs.Kept.{entries_tasks, others_map, others_tasks, seen_there}
-use Rattle.history.proofs.Leaving.{leaves_handed}
-use Rattle.history.proofs.Releasing.{released_by_leave, released_by_abort, released_by_reset}
-use Rattle.task_set.specs.Jobs.{PlainJob, of_tasks, but_tasks}
+use Rattle.unit_model.specs.declared.rule.Rule.{Rule}
+use Rattle.unit_model.specs.declared.rule.Rule.TheVariants as rules
+use Rattle.unit_model.specs.declared.reason.Reason.TheVariants as reason
+use Rattle.unit_model.specs.Tasks.{Entry, same_ticket, task_of, is_blocked, AreDistinct}
+use Rattle.unit_model.specs.Steps.{Step, alive}
+use Rattle.unit_model.specs.Marks.{marked}
+use Rattle.unit_model.specs.Enabling.{enabled, is_parked, newly_enabled, newly_marked}
+use Rattle.unit_model.specs.Released.{released}
+use Rattle.unit_model.specs.Seen.{Seen, seen, seen_at, tasks_of, entries, waits, finished, with_mark, freed, others}
+use Rattle.unit_model.specs.Contents.{Opening}
+use Rattle.unit_model.specs.Lawful.{IsLawful, May}
+use Rattle.unit_model.proofs.Clearing.{Each}
+use Rattle.unit_model.proofs.Distinct.{alive_distinct}
+use Rattle.unit_model.proofs.Filtered.{filter_found, filter_same, filter_twice, without_filter}
+use Rattle.unit_model.proofs.Kept.{entries_tasks, others_map, others_tasks, seen_there}
+use Rattle.unit_model.proofs.Leaving.{leaves_handed}
+use Rattle.unit_model.proofs.Releasing.{released_by_leave, released_by_abort, released_by_reset}
+use Rattle.unit_model.specs.Jobs.{PlainJob, of_tasks, but_tasks}
 use Rattle.task_set.specs.Tasks.{PlainTask, seen_of, entries_of, parked_of, moved, all_given, without, entering, run_at_once}
-use Rattle.task_set.specs.Unit.{tasks_of_jobs, IsUnit}
+use Rattle.unit_model.specs.Unit.{tasks_of_jobs, IsUnit}
 use Rattle.unit_history.specs.Parts.{AreFit, AreKept}
 use Rattle.unit_history.proofs.Fitting.{IsAmong, given_are, stay_are, entries_seen, seen_without, fit_without, parked_without, parked_entering, waiting, jobs_wait}
 
@@ -83,71 +83,71 @@ rest_parked o t past tasks set fit l =
     (leaves_handed o past t e l.0 l.1.1 l.1.2)
 
 -- a Leave hands out the jobs that it releases
-pub given_leave : (o : Opening) (past : List Step) (blocks : Blocks) (pending : List Code) (tasks : List PlainTask) (lasts : List (Option ℕ)) (room : ℕ) (t : Ticket)
-    → AreKept o past blocks pending tasks lasts room → May o (Step.Leave t) past
+pub given_leave : (o : Opening) (past : List Step) (blocks : Blocks) (pending : List Code) (tasks : List PlainTask) (last_tickets : List (Option ℕ)) (room : ℕ) (t : Ticket)
+    → AreKept o past blocks pending tasks last_tickets room → May o (Step.Leave t) past
     → all_given (freed (entries_of (without t tasks))) (without t tasks) ≡ of_tasks (released (Step.Leave t) past) (parked_of tasks)
-given_leave o past blocks pending tasks lasts room t k may =
+given_leave o past blocks pending tasks last_tickets room t k may =
     given_are (freed (entries_of (without t tasks))) (newly_enabled t past) (without t tasks) (fit_without t tasks k.fit) (rest_among o t past tasks k.set (k.lawful, may))
     ∙ ap (of_tasks (newly_enabled t past)) (rest_parked o t past tasks k.set k.fit (k.lawful, may))
 
-pub parked_leave : (o : Opening) (past : List Step) (blocks : Blocks) (pending : List Code) (tasks : List PlainTask) (lasts : List (Option ℕ)) (room : ℕ) (t : Ticket)
-    → AreKept o past blocks pending tasks lasts room → May o (Step.Leave t) past
+pub parked_leave : (o : Opening) (past : List Step) (blocks : Blocks) (pending : List Code) (tasks : List PlainTask) (last_tickets : List (Option ℕ)) (room : ℕ) (t : Ticket)
+    → AreKept o past blocks pending tasks last_tickets room → May o (Step.Leave t) past
     → parked_of (map (moved (freed (entries_of (without t tasks)))) (without t tasks)) ≡ but_tasks (released (Step.Leave t) past) (parked_of tasks)
-parked_leave o past blocks pending tasks lasts room t k may =
+parked_leave o past blocks pending tasks last_tickets room t k may =
     stay_are (freed (entries_of (without t tasks))) (newly_enabled t past) (without t tasks) (fit_without t tasks k.fit) (rest_among o t past tasks k.set (k.lawful, may))
     ∙ ap (but_tasks (newly_enabled t past)) (rest_parked o t past tasks k.set k.fit (k.lawful, may))
 
 abort_among : (o : Opening) (rule : Rule) (past : List Step) (tasks : List PlainTask) → seen_of tasks ≡ tasks_of past → IsLawful o past
-    → AllByRecursion (IsAmong (newly_marked (Step.Abort rule) past) (struck rule reason.Aborted)) (seen_of tasks)
+    → AllByRecursion (IsAmong (newly_marked (Step.Abort rule) past) (with_mark rule reason.Aborted)) (seen_of tasks)
 abort_among o rule past tasks set l =
-    subst (λ w. AllByRecursion (IsAmong (newly_marked (Step.Abort rule) past) (struck rule reason.Aborted)) w) (sym set)
-    (all_seen (struck rule reason.Aborted) (newly_marked (Step.Abort rule) past) past (alive past) (released_by_abort o rule past l))
+    subst (λ w. AllByRecursion (IsAmong (newly_marked (Step.Abort rule) past) (with_mark rule reason.Aborted)) w) (sym set)
+    (all_seen (with_mark rule reason.Aborted) (newly_marked (Step.Abort rule) past) past (alive past) (released_by_abort o rule past l))
 
 -- an Abort hands out the jobs that it releases
-pub given_abort : (o : Opening) (past : List Step) (blocks : Blocks) (pending : List Code) (tasks : List PlainTask) (lasts : List (Option ℕ)) (room : ℕ) (rule : Rule)
-    → AreKept o past blocks pending tasks lasts room
-    → all_given (struck rule reason.Aborted) tasks ≡ of_tasks (released (Step.Abort rule) past) (parked_of tasks)
-given_abort o past blocks pending tasks lasts room rule k =
-    given_are (struck rule reason.Aborted) (newly_marked (Step.Abort rule) past) tasks k.fit (abort_among o rule past tasks k.set k.lawful)
+pub given_abort : (o : Opening) (past : List Step) (blocks : Blocks) (pending : List Code) (tasks : List PlainTask) (last_tickets : List (Option ℕ)) (room : ℕ) (rule : Rule)
+    → AreKept o past blocks pending tasks last_tickets room
+    → all_given (with_mark rule reason.Aborted) tasks ≡ of_tasks (released (Step.Abort rule) past) (parked_of tasks)
+given_abort o past blocks pending tasks last_tickets room rule k =
+    given_are (with_mark rule reason.Aborted) (newly_marked (Step.Abort rule) past) tasks k.fit (abort_among o rule past tasks k.set k.lawful)
 
-pub parked_abort : (o : Opening) (past : List Step) (blocks : Blocks) (pending : List Code) (tasks : List PlainTask) (lasts : List (Option ℕ)) (room : ℕ) (rule : Rule)
-    → AreKept o past blocks pending tasks lasts room
-    → parked_of (map (moved (struck rule reason.Aborted)) tasks) ≡ but_tasks (released (Step.Abort rule) past) (parked_of tasks)
-parked_abort o past blocks pending tasks lasts room rule k =
-    stay_are (struck rule reason.Aborted) (newly_marked (Step.Abort rule) past) tasks k.fit (abort_among o rule past tasks k.set k.lawful)
+pub parked_abort : (o : Opening) (past : List Step) (blocks : Blocks) (pending : List Code) (tasks : List PlainTask) (last_tickets : List (Option ℕ)) (room : ℕ) (rule : Rule)
+    → AreKept o past blocks pending tasks last_tickets room
+    → parked_of (map (moved (with_mark rule reason.Aborted)) tasks) ≡ but_tasks (released (Step.Abort rule) past) (parked_of tasks)
+parked_abort o past blocks pending tasks last_tickets room rule k =
+    stay_are (with_mark rule reason.Aborted) (newly_marked (Step.Abort rule) past) tasks k.fit (abort_among o rule past tasks k.set k.lawful)
 
 reset_among : (o : Opening) (c : Code) (past : List Step) (tasks : List PlainTask) → seen_of tasks ≡ tasks_of past → IsLawful o past
-    → AllByRecursion (IsAmong (newly_marked (Step.Reset c) past) (struck rules.All reason.Reset)) (seen_of tasks)
+    → AllByRecursion (IsAmong (newly_marked (Step.Reset c) past) (with_mark rules.All reason.Reset)) (seen_of tasks)
 reset_among o c past tasks set l =
-    subst (λ w. AllByRecursion (IsAmong (newly_marked (Step.Reset c) past) (struck rules.All reason.Reset)) w) (sym set)
-    (all_seen (struck rules.All reason.Reset) (newly_marked (Step.Reset c) past) past (alive past) (released_by_reset o c past l))
+    subst (λ w. AllByRecursion (IsAmong (newly_marked (Step.Reset c) past) (with_mark rules.All reason.Reset)) w) (sym set)
+    (all_seen (with_mark rules.All reason.Reset) (newly_marked (Step.Reset c) past) past (alive past) (released_by_reset o c past l))
 
 -- a Reset hands out the jobs that it releases
-pub given_reset : (o : Opening) (past : List Step) (blocks : Blocks) (pending : List Code) (tasks : List PlainTask) (lasts : List (Option ℕ)) (room : ℕ) (c : Code)
-    → AreKept o past blocks pending tasks lasts room
-    → all_given (struck rules.All reason.Reset) tasks ≡ of_tasks (released (Step.Reset c) past) (parked_of tasks)
-given_reset o past blocks pending tasks lasts room c k =
-    given_are (struck rules.All reason.Reset) (newly_marked (Step.Reset c) past) tasks k.fit (reset_among o c past tasks k.set k.lawful)
+pub given_reset : (o : Opening) (past : List Step) (blocks : Blocks) (pending : List Code) (tasks : List PlainTask) (last_tickets : List (Option ℕ)) (room : ℕ) (c : Code)
+    → AreKept o past blocks pending tasks last_tickets room
+    → all_given (with_mark rules.All reason.Reset) tasks ≡ of_tasks (released (Step.Reset c) past) (parked_of tasks)
+given_reset o past blocks pending tasks last_tickets room c k =
+    given_are (with_mark rules.All reason.Reset) (newly_marked (Step.Reset c) past) tasks k.fit (reset_among o c past tasks k.set k.lawful)
 
-pub parked_reset : (o : Opening) (past : List Step) (blocks : Blocks) (pending : List Code) (tasks : List PlainTask) (lasts : List (Option ℕ)) (room : ℕ) (c : Code)
-    → AreKept o past blocks pending tasks lasts room
-    → parked_of (map (moved (struck rules.All reason.Reset)) tasks) ≡ but_tasks (released (Step.Reset c) past) (parked_of tasks)
-parked_reset o past blocks pending tasks lasts room c k =
-    stay_are (struck rules.All reason.Reset) (newly_marked (Step.Reset c) past) tasks k.fit (reset_among o c past tasks k.set k.lawful)
+pub parked_reset : (o : Opening) (past : List Step) (blocks : Blocks) (pending : List Code) (tasks : List PlainTask) (last_tickets : List (Option ℕ)) (room : ℕ) (c : Code)
+    → AreKept o past blocks pending tasks last_tickets room
+    → parked_of (map (moved (with_mark rules.All reason.Reset)) tasks) ≡ but_tasks (released (Step.Reset c) past) (parked_of tasks)
+parked_reset o past blocks pending tasks last_tickets room c k =
+    stay_are (with_mark rules.All reason.Reset) (newly_marked (Step.Reset c) past) tasks k.fit (reset_among o c past tasks k.set k.lawful)
 
 -- whoever ends keeps all jobs where they are
 finish_keeps : (t : Ticket) (tasks : List PlainTask) → AreFit tasks → parked_of (map (moved (finished t)) tasks) ≡ but_tasks [] (parked_of tasks)
 finish_keeps t tasks fit = stay_are (finished t) [] tasks fit (of_all (IsAmong [] (finished t)) (seen_of tasks) (λ s. without_out (waits s)))
 
-pub parked_commit : (o : Opening) (past : List Step) (blocks : Blocks) (pending : List Code) (tasks : List PlainTask) (lasts : List (Option ℕ)) (room : ℕ) (t : Ticket) (r : PlainReply)
-    → AreKept o past blocks pending tasks lasts room
+pub parked_commit : (o : Opening) (past : List Step) (blocks : Blocks) (pending : List Code) (tasks : List PlainTask) (last_tickets : List (Option ℕ)) (room : ℕ) (t : Ticket) (r : PlainReply)
+    → AreKept o past blocks pending tasks last_tickets room
     → parked_of (map (moved (finished t)) tasks) ≡ but_tasks (released (Step.Commit t r) past) (parked_of tasks)
-parked_commit o past blocks pending tasks lasts room t r k = finish_keeps t tasks k.fit
+parked_commit o past blocks pending tasks last_tickets room t r k = finish_keeps t tasks k.fit
 
-pub parked_busy : (o : Opening) (past : List Step) (blocks : Blocks) (pending : List Code) (tasks : List PlainTask) (lasts : List (Option ℕ)) (room : ℕ) (t : Ticket)
-    → AreKept o past blocks pending tasks lasts room
+pub parked_busy : (o : Opening) (past : List Step) (blocks : Blocks) (pending : List Code) (tasks : List PlainTask) (last_tickets : List (Option ℕ)) (room : ℕ) (t : Ticket)
+    → AreKept o past blocks pending tasks last_tickets room
     → parked_of (map (moved (finished t)) tasks) ≡ but_tasks (released (Step.Busy t) past) (parked_of tasks)
-parked_busy o past blocks pending tasks lasts room t k = finish_keeps t tasks k.fit
+parked_busy o past blocks pending tasks last_tickets room t k = finish_keeps t tasks k.fit
 
 pub parked_full : (past : List Step) (tasks : List PlainTask) (t : Ticket) → parked_of tasks ≡ but_tasks (released (Step.Full t) past) (parked_of tasks)
 parked_full past tasks t = sym (nothing_taken (parked_of tasks))
@@ -156,26 +156,26 @@ pub parked_resize : (past : List Step) (tasks : List PlainTask) (blocks : ℕ) �
 parked_resize past tasks blocks = sym (nothing_taken (parked_of tasks))
 
 -- the job of a task that enters is kept where the task is blocked
-pub parked_enter : (o : Opening) (past : List Step) (blocks : Blocks) (pending : List Code) (tasks : List PlainTask) (lasts : List (Option ℕ)) (room place : ℕ) (j : PlainJob)
-    → AreKept o past blocks pending tasks lasts room
+pub parked_enter : (o : Opening) (past : List Step) (blocks : Blocks) (pending : List Code) (tasks : List PlainTask) (last_tickets : List (Option ℕ)) (room place : ℕ) (j : PlainJob)
+    → AreKept o past blocks pending tasks last_tickets room
     → parked_of (tasks ++ entering place tasks j ∷ []) ≡ parked_of tasks ++ cond (is_blocked j.entry (alive past ++ j.entry ∷ [])) (j ∷ []) []
-parked_enter o past blocks pending tasks lasts room place j k =
+parked_enter o past blocks pending tasks last_tickets room place j k =
     parked_entering place tasks j
     ∙ ap (λ w. parked_of tasks ++ cond (is_blocked j.entry (w ++ j.entry ∷ [])) (j ∷ []) []) (alive_entries past tasks k.set)
 
 -- where it is blocked
-pub parked_blocked : (o : Opening) (past : List Step) (blocks : Blocks) (pending : List Code) (tasks : List PlainTask) (lasts : List (Option ℕ)) (room place : ℕ) (j : PlainJob)
-    → AreKept o past blocks pending tasks lasts room → is_blocked j.entry (alive (Step.Enter j.entry ∷ past)) ≡ true
+pub parked_blocked : (o : Opening) (past : List Step) (blocks : Blocks) (pending : List Code) (tasks : List PlainTask) (last_tickets : List (Option ℕ)) (room place : ℕ) (j : PlainJob)
+    → AreKept o past blocks pending tasks last_tickets room → is_blocked j.entry (alive (Step.Enter j.entry ∷ past)) ≡ true
     → parked_of (tasks ++ entering place tasks j ∷ []) ≡ parked_of tasks ++ j ∷ []
-parked_blocked o past blocks pending tasks lasts room place j k blocked =
-    parked_enter o past blocks pending tasks lasts room place j k ∙ ap (λ b. parked_of tasks ++ cond b (j ∷ []) []) blocked
+parked_blocked o past blocks pending tasks last_tickets room place j k blocked =
+    parked_enter o past blocks pending tasks last_tickets room place j k ∙ ap (λ b. parked_of tasks ++ cond b (j ∷ []) []) blocked
 
 -- where it may run at once
-pub parked_run : (o : Opening) (past : List Step) (blocks : Blocks) (pending : List Code) (tasks : List PlainTask) (lasts : List (Option ℕ)) (room place : ℕ) (j : PlainJob)
-    → AreKept o past blocks pending tasks lasts room → is_blocked j.entry (alive (Step.Enter j.entry ∷ past)) ≡ false
+pub parked_run : (o : Opening) (past : List Step) (blocks : Blocks) (pending : List Code) (tasks : List PlainTask) (last_tickets : List (Option ℕ)) (room place : ℕ) (j : PlainJob)
+    → AreKept o past blocks pending tasks last_tickets room → is_blocked j.entry (alive (Step.Enter j.entry ∷ past)) ≡ false
     → parked_of (tasks ++ entering place tasks j ∷ []) ≡ but_tasks (released (Step.Enter j.entry) past) (parked_of tasks)
-parked_run o past blocks pending tasks lasts room place j k free =
-    parked_enter o past blocks pending tasks lasts room place j k
+parked_run o past blocks pending tasks last_tickets room place j k free =
+    parked_enter o past blocks pending tasks last_tickets room place j k
     ∙ ap (λ b. parked_of tasks ++ cond b (j ∷ []) []) free
     ∙ append-nil (parked_of tasks)
     ∙ sym (nothing_taken (parked_of tasks))
@@ -193,15 +193,15 @@ blocked_same : (past : List Step) (tasks : List PlainTask) (j : PlainJob) → se
 blocked_same past tasks j set = ap (λ w. cond (is_blocked j.entry (w ++ j.entry ∷ [])) None (Some j)) (alive_entries past tasks set)
 
 -- a job that is handed out as it enters is that job, and nothing blocks it
-pub run_free : (o : Opening) (past : List Step) (blocks : Blocks) (pending : List Code) (tasks : List PlainTask) (lasts : List (Option ℕ)) (room : ℕ) (j now : PlainJob)
-    → AreKept o past blocks pending tasks lasts room → run_at_once tasks j ≡ Some now
+pub run_free : (o : Opening) (past : List Step) (blocks : Blocks) (pending : List Code) (tasks : List PlainTask) (last_tickets : List (Option ℕ)) (room : ℕ) (j now : PlainJob)
+    → AreKept o past blocks pending tasks last_tickets room → run_at_once tasks j ≡ Some now
     → (now ≡ j) × (is_blocked j.entry (alive (Step.Enter j.entry ∷ past)) ≡ false)
-run_free o past blocks pending tasks lasts room j now k h =
+run_free o past blocks pending tasks last_tickets room j now k h =
     free_job (is_blocked j.entry (alive (Step.Enter j.entry ∷ past))) j now (sym (blocked_same past tasks j k.set) ∙ h)
 
-pub run_blocked : (o : Opening) (past : List Step) (blocks : Blocks) (pending : List Code) (tasks : List PlainTask) (lasts : List (Option ℕ)) (room : ℕ) (j : PlainJob)
-    → AreKept o past blocks pending tasks lasts room → run_at_once tasks j ≡ None → is_blocked j.entry (alive (Step.Enter j.entry ∷ past)) ≡ true
-run_blocked o past blocks pending tasks lasts room j k h =
+pub run_blocked : (o : Opening) (past : List Step) (blocks : Blocks) (pending : List Code) (tasks : List PlainTask) (last_tickets : List (Option ℕ)) (room : ℕ) (j : PlainJob)
+    → AreKept o past blocks pending tasks last_tickets room → run_at_once tasks j ≡ None → is_blocked j.entry (alive (Step.Enter j.entry ∷ past)) ≡ true
+run_blocked o past blocks pending tasks last_tickets room j k h =
     no_free_job (is_blocked j.entry (alive (Step.Enter j.entry ∷ past))) j (sym (blocked_same past tasks j k.set) ∙ h)
 
 waiting_parked : (past : List Step) (es : List Entry) → waiting (map (seen past) es) ≡ filter (is_parked past) es
@@ -209,14 +209,14 @@ waiting_parked past [] = refl
 waiting_parked past (e ∷ es) = ap (λ w. cond (is_parked past e) (e ∷ w) w) (waiting_parked past es)
 
 -- the unit holds the jobs of the parked tasks and no others
-pub holds : (o : Opening) (past : List Step) (blocks : Blocks) (pending : List Code) (tasks : List PlainTask) (lasts : List (Option ℕ)) (room : ℕ)
-    → AreKept o past blocks pending tasks lasts room → tasks_of_jobs (parked_of tasks) ≡ filter (is_parked past) (alive past)
-holds o past blocks pending tasks lasts room k = jobs_wait tasks k.fit ∙ ap waiting k.set ∙ waiting_parked past (alive past)
+pub holds : (o : Opening) (past : List Step) (blocks : Blocks) (pending : List Code) (tasks : List PlainTask) (last_tickets : List (Option ℕ)) (room : ℕ)
+    → AreKept o past blocks pending tasks last_tickets room → tasks_of_jobs (parked_of tasks) ≡ filter (is_parked past) (alive past)
+holds o past blocks pending tasks last_tickets room k = jobs_wait tasks k.fit ∙ ap waiting k.set ∙ waiting_parked past (alive past)
 
 -- such parts are a unit
-pub is_unit : (o : Opening) (past : List Step) (blocks : Blocks) (pending : List Code) (tasks : List PlainTask) (lasts : List (Option ℕ)) (room : ℕ) (keeps : Bool)
-    → AreKept o past blocks pending tasks lasts room → IsUnit (record { opening = o; steps = past; parked = parked_of tasks; keeps_replies = keeps })
-is_unit o past blocks pending tasks lasts room keeps k = record { lawful = k.lawful; holds = holds o past blocks pending tasks lasts room k }
+pub is_unit : (o : Opening) (past : List Step) (blocks : Blocks) (pending : List Code) (tasks : List PlainTask) (last_tickets : List (Option ℕ)) (room : ℕ) (keeps : Bool)
+    → AreKept o past blocks pending tasks last_tickets room → IsUnit (record { opening = o; steps = past; parked = parked_of tasks; keeps_replies = keeps })
+is_unit o past blocks pending tasks last_tickets room keeps k = record { lawful = k.lawful; holds = holds o past blocks pending tasks last_tickets room k }
 
 jobs_filter : (q : Entry → Bool) (jobs : List PlainJob) → tasks_of_jobs (filter (λ (j : PlainJob). q j.entry) jobs) ≡ filter q (tasks_of_jobs jobs)
 jobs_filter q [] = refl

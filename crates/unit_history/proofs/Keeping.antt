@@ -9,45 +9,45 @@ use Rattle.unit_attention.specs.declared.code.Code.{Code}
 use Rattle.unit_attention.specs.Pending.{raised}
 use Rattle.cdb.specs.declared.commands.Command.{Command}
 use Rattle.replies.specs.PlainReply.{PlainReply, replied}
-use Rattle.command_set.specs.Attention.{met}
-use Rattle.command_set.specs.Effects.{block_after}
-use Rattle.command_set.specs.Facts.{Facts}
+use Rattle.replies.specs.Attention.{met}
+use Rattle.replies.specs.Effects.{block_after}
+use Rattle.replies.specs.Facts.{Facts}
 use Rattle.block_commands.specs.Told.{facts_of}
 use Rattle.block_commands.specs.declared.facts.UnitFacts.{UnitFacts}
-use Rattle.command_set.specs.Replies.{reply_of, reported}
+use Rattle.replies.specs.Replies.{reply_of, reported}
 use Rattle.block_commands.proofs.Ranges.{answer_of-agree}
-use Rattle.history.specs.declared.rule.Rule.{Rule}
-use Rattle.history.specs.declared.rule.Rule.TheVariants as rules
-use Rattle.history.specs.declared.reason.Reason.TheVariants as reason
-use Rattle.history.specs.Tasks.{Entry, task_of, is_blocked}
-use Rattle.history.specs.Steps.{Step, alive, done, floor}
-use Rattle.history.specs.Marks.{marked}
-use Rattle.history.specs.Enabling.{enabled}
-use Rattle.history.specs.Seen.{Seen, seen, tasks_of, entries, seen_at, others, joined, finished, struck, freed, owed}
-use Rattle.history.specs.Contents.{Opening, is_capacity, capacity_of, capacity_changed, blocks_of, block_with, pending_at_start, pending_of, taken_by, oldest, facts_after, reply_after}
-use Rattle.history.specs.Lawful.{IsReady, May, IsLawful}
-use Rattle.history.proofs.Fresh as never
-use Rattle.history.proofs.Few.{alive_few}
-use Rattle.history.proofs.Leaving.{task_ticket}
-use Rattle.history.proofs.Kept.{entries_tasks, length_tasks, seen_at_tasks, seen_is}
-use Rattle.history.proofs.Keeping.{tasks_enter, tasks_full, tasks_resize, tasks_commit, tasks_busy, tasks_abort, tasks_reset, tasks_leave}
-use Rattle.history.proofs.Owing.{owed_some, alive_owed, commit_owed, busy_owed, leave_owed}
-use Rattle.task_set.specs.Jobs.{PlainJob}
+use Rattle.unit_model.specs.declared.rule.Rule.{Rule}
+use Rattle.unit_model.specs.declared.rule.Rule.TheVariants as rules
+use Rattle.unit_model.specs.declared.reason.Reason.TheVariants as reason
+use Rattle.unit_model.specs.Tasks.{Entry, task_of, is_blocked}
+use Rattle.unit_model.specs.Steps.{Step, alive, done, floor}
+use Rattle.unit_model.specs.Marks.{marked}
+use Rattle.unit_model.specs.Enabling.{enabled}
+use Rattle.unit_model.specs.Seen.{Seen, seen, tasks_of, entries, seen_at, others, joined, finished, with_mark, freed, owed}
+use Rattle.unit_model.specs.Contents.{Opening, is_capacity, capacity_of, capacity_changed, blocks_of, block_with, pending_at_start, pending_of, taken_by, oldest, facts_after, reply_after}
+use Rattle.unit_model.specs.Lawful.{IsReady, May, IsLawful}
+use Rattle.unit_model.proofs.Fresh as never
+use Rattle.unit_model.proofs.Few.{alive_few}
+use Rattle.unit_model.proofs.Leaving.{task_ticket}
+use Rattle.unit_model.proofs.Kept.{entries_tasks, length_tasks, seen_at_tasks, seen_is}
+use Rattle.unit_model.proofs.Keeping.{tasks_enter, tasks_full, tasks_resize, tasks_commit, tasks_busy, tasks_abort, tasks_reset, tasks_leave}
+use Rattle.unit_model.proofs.Owing.{owed_some, alive_owed, commit_owed, busy_owed, leave_owed}
+use Rattle.unit_model.specs.Jobs.{PlainJob}
 use Rattle.task_set.specs.Tasks.{PlainTask, seen_of, entries_of, moved, without, task_at, entering}
-use Rattle.unit_steps.specs.Lasts.{floor_kept}
+use Rattle.unit_history.specs.LastTickets.{floor_kept}
 use Rattle.unit_history.specs.Parts.{AreKept}
-use Rattle.unit_steps.specs.Performing.{taken, told}
-use Rattle.unit_history.proofs.KeepingSet.{entries_seen, length_seen, seen_task, seen_without, seen_moved, seen_push, finished_waits, struck_waits, freed_waits, fit_moved, fit_without, fit_entering}
+use Rattle.unit_history.specs.Performing.{taken, told}
+use Rattle.unit_history.proofs.KeepingSet.{entries_seen, length_seen, seen_task, seen_without, seen_moved, seen_push, finished_waits, with_mark_waits, freed_waits, fit_moved, fit_without, fit_entering}
 
-pub keep_new : (o : Opening) (block_at : Blocks) (pending : List Code) (lasts : List (Option ℕ)) (room : ℕ)
-    → pending ≡ pending_at_start o.calm → ((b : ℕ) → block_at b ≡ blocks_in o.content b) → ((q : ℕ) → floor_kept lasts q ≡ 0)
-    → AreKept o [] block_at pending [] lasts room
-keep_new o block_at pending lasts room pends stored floors =
+pub keep_new : (o : Opening) (block_at : Blocks) (pending : List Code) (last_tickets : List (Option ℕ)) (room : ℕ)
+    → pending ≡ pending_at_start o.calm → ((b : ℕ) → block_at b ≡ blocks_in o.content b) → ((q : ℕ) → floor_kept last_tickets q ≡ 0)
+    → AreKept o [] block_at pending [] last_tickets room
+keep_new o block_at pending last_tickets room pends stored floors =
     record { lawful = tt; stored = stored; pends = pends; set = refl; fit = tt; floors = floors; reserved = omega arith }
 
 -- which floors there are once a ticket came
 abbrev pub CameTo : Ticket → List (Option ℕ) → List (Option ℕ) → Type 0
-CameTo t lasts lasts' = (q : ℕ) → floor_kept lasts' q ≡ cond (eqb t.queue q) (t.number + 1) (floor_kept lasts q)
+CameTo t last_tickets last_tickets' = (q : ℕ) → floor_kept last_tickets' q ≡ cond (eqb t.queue q) (t.number + 1) (floor_kept last_tickets q)
 
 none_by : (x : Option Entry) (past : List Step) → option_map (seen past) x ≡ None → x ≡ None
 none_by None past h = refl
@@ -64,8 +64,8 @@ same_facts : (target target' lun lun' : ℕ) (luns luns' : List ℕ) (size size'
 same_facts target target' lun lun' luns luns' size size' first first' a b c d e = cc
 
 -- Of a unit whose parts are what its history says:
-module _ {o : Opening} {past : List Step} {block_at : Blocks} {pending : List Code} {tasks : List PlainTask} {lasts : List (Option ℕ)} {room : ℕ}
-    (k : AreKept o past block_at pending tasks lasts room) where
+module _ {o : Opening} {past : List Step} {block_at : Blocks} {pending : List Code} {tasks : List PlainTask} {last_tickets : List (Option ℕ)} {room : ℕ}
+    (k : AreKept o past block_at pending tasks last_tickets room) where
   pub length_alive : length tasks ≡ length (alive past)
   length_alive = sym (length_seen tasks) ∙ ap length k.set ∙ length_tasks past
 
@@ -137,10 +137,10 @@ module _ {o : Opening} {past : List Step} {block_at : Blocks} {pending : List Co
       target lun luns blocks (ap oldest k.pends)
 
   -- parts that say the same, with no less room
-  pub keep_same : (block_at' : Blocks) (pending' : List Code) (lasts' : List (Option ℕ)) (room' : ℕ)
-      → ((b : ℕ) → block_at' b ≡ block_at b) → pending' ≡ pending → ((q : ℕ) → floor_kept lasts' q ≡ floor_kept lasts q) → room ≤ room'
-      → AreKept o past block_at' pending' tasks lasts' room'
-  keep_same block_at' pending' lasts' room' stored pends floors reserve =
+  pub keep_same : (block_at' : Blocks) (pending' : List Code) (last_tickets' : List (Option ℕ)) (room' : ℕ)
+      → ((b : ℕ) → block_at' b ≡ block_at b) → pending' ≡ pending → ((q : ℕ) → floor_kept last_tickets' q ≡ floor_kept last_tickets q) → room ≤ room'
+      → AreKept o past block_at' pending' tasks last_tickets' room'
+  keep_same block_at' pending' last_tickets' room' stored pends floors reserve =
       record {
         lawful = k.lawful;
         stored = λ b. stored b ∙ k.stored b;
@@ -175,9 +175,9 @@ module _ {o : Opening} {past : List Step} {block_at : Blocks} {pending : List Co
       (x.seen.entry, (task_at_alive t x at).0, sym (ap (λ b. b || is_some x.seen.mark) (is_done t x at) ∙ ap (λ b. done t past || b) (is_marked t x at)) ∙ ended)
 
   -- What the parts are after each:
-  pub keep_full : (t : Ticket) (lasts' : List (Option ℕ)) (room' : ℕ) → length tasks ≡ 64 → floor t.queue past ≤ t.number → CameTo t lasts lasts' → 128 ≤ room'
-      → AreKept o (Step.Full t ∷ past) block_at pending tasks lasts' room'
-  keep_full t lasts' room' full le came reserve =
+  pub keep_full : (t : Ticket) (last_tickets' : List (Option ℕ)) (room' : ℕ) → length tasks ≡ 64 → floor t.queue past ≤ t.number → CameTo t last_tickets last_tickets' → 128 ≤ room'
+      → AreKept o (Step.Full t ∷ past) block_at pending tasks last_tickets' room'
+  keep_full t last_tickets' room' full le came reserve =
       let lawful : IsLawful o (Step.Full t ∷ past) = (k.lawful, may_full t full le) in
       let set = k.set ∙ sym (tasks_full t past) in
       record {
@@ -197,10 +197,10 @@ module _ {o : Opening} {past : List Step} {block_at : Blocks} {pending : List Co
       ∙ ap (λ w. tasks_of past ++ joined (length past) (w ++ j.entry ∷ []) j.entry ∷ []) entries_alive
       ∙ sym (tasks_enter o j.entry past lawful)
 
-  pub keep_enter : (j : PlainJob) (lasts' : List (Option ℕ)) (room' : ℕ) → length tasks < 64 → floor j.entry.ticket.queue past ≤ j.entry.ticket.number
-      → CameTo j.entry.ticket lasts lasts' → 128 ≤ room'
-      → AreKept o (Step.Enter j.entry ∷ past) block_at pending (tasks ++ entering (length past) tasks j ∷ []) lasts' room'
-  keep_enter j lasts' room' few le came reserve =
+  pub keep_enter : (j : PlainJob) (last_tickets' : List (Option ℕ)) (room' : ℕ) → length tasks < 64 → floor j.entry.ticket.queue past ≤ j.entry.ticket.number
+      → CameTo j.entry.ticket last_tickets last_tickets' → 128 ≤ room'
+      → AreKept o (Step.Enter j.entry ∷ past) block_at pending (tasks ++ entering (length past) tasks j ∷ []) last_tickets' room'
+  keep_enter j last_tickets' room' few le came reserve =
       let t = j.entry.ticket in
       let lawful : IsLawful o (Step.Enter j.entry ∷ past) = (k.lawful, may_enter j.entry few le) in
       record {
@@ -215,7 +215,7 @@ module _ {o : Opening} {past : List Step} {block_at : Blocks} {pending : List Co
 
   pub keep_commit : (t : Ticket) (e : Entry) (r : PlainReply) (block_at' : Blocks) (pending' : List Code) (room' : ℕ) → IsReady t e past → r ≡ reply_after o e past
       → ((b : ℕ) → block_at' b ≡ block_after e.command e.data_out r.status block_at b) → pending' ≡ taken e.command pending → room ≤ room' + 1
-      → AreKept o (Step.Commit t r ∷ past) block_at' pending' (map (moved (finished t)) tasks) lasts room'
+      → AreKept o (Step.Commit t r ∷ past) block_at' pending' (map (moved (finished t)) tasks) last_tickets room'
   keep_commit t e r block_at' pending' room' ready is stored pends reserve =
       let lawful : IsLawful o (Step.Commit t r ∷ past) = (k.lawful, may_commit t e r ready is) in
       let set = seen_moved (finished t) tasks ∙ ap (map (finished t)) k.set ∙ sym (tasks_commit t r past) in
@@ -235,7 +235,7 @@ module _ {o : Opening} {past : List Step} {block_at : Blocks} {pending : List Co
 
   pub keep_busy : (t : Ticket) (e : Entry) (block_at' : Blocks) (pending' : List Code) (room' : ℕ) → IsReady t e past
       → ((b : ℕ) → block_at' b ≡ block_at b) → pending' ≡ pending → room ≤ room' + 1
-      → AreKept o (Step.Busy t ∷ past) block_at' pending' (map (moved (finished t)) tasks) lasts room'
+      → AreKept o (Step.Busy t ∷ past) block_at' pending' (map (moved (finished t)) tasks) last_tickets room'
   keep_busy t e block_at' pending' room' ready stored pends reserve =
       let lawful : IsLawful o (Step.Busy t ∷ past) = (k.lawful, may_busy t e ready) in
       let set = seen_moved (finished t) tasks ∙ ap (map (finished t)) k.set ∙ sym (tasks_busy t past) in
@@ -252,31 +252,31 @@ module _ {o : Opening} {past : List Step} {block_at : Blocks} {pending : List Co
       }
 
   pub keep_abort : (rule : Rule) (room' : ℕ) → 128 ≤ room'
-      → AreKept o (Step.Abort rule ∷ past) block_at pending (map (moved (struck rule reason.Aborted)) tasks) lasts room'
+      → AreKept o (Step.Abort rule ∷ past) block_at pending (map (moved (with_mark rule reason.Aborted)) tasks) last_tickets room'
   keep_abort rule room' reserve =
       let lawful : IsLawful o (Step.Abort rule ∷ past) = (k.lawful, may_abort rule) in
-      let set = seen_moved (struck rule reason.Aborted) tasks ∙ ap (map (struck rule reason.Aborted)) k.set ∙ sym (tasks_abort o rule past k.lawful) in
+      let set = seen_moved (with_mark rule reason.Aborted) tasks ∙ ap (map (with_mark rule reason.Aborted)) k.set ∙ sym (tasks_abort o rule past k.lawful) in
       record {
         lawful = lawful;
         stored = k.stored;
         pends = k.pends;
         set = set;
-        fit = fit_moved (struck rule reason.Aborted) (struck_waits rule reason.Aborted) (λ s. refl) tasks k.fit;
+        fit = fit_moved (with_mark rule reason.Aborted) (with_mark_waits rule reason.Aborted) (λ s. refl) tasks k.fit;
         floors = k.floors;
         reserved = let same = ap owed set in let most = alive_owed o (Step.Abort rule ∷ past) lawful in omega (arith, same, most, reserve);
       }
 
   pub keep_reset : (c : Code) (pending' : List Code) (room' : ℕ) → pending' ≡ raised pending c → 128 ≤ room'
-      → AreKept o (Step.Reset c ∷ past) block_at pending' (map (moved (struck rules.All reason.Reset)) tasks) lasts room'
+      → AreKept o (Step.Reset c ∷ past) block_at pending' (map (moved (with_mark rules.All reason.Reset)) tasks) last_tickets room'
   keep_reset c pending' room' pends reserve =
       let lawful : IsLawful o (Step.Reset c ∷ past) = (k.lawful, may_reset c) in
-      let set = seen_moved (struck rules.All reason.Reset) tasks ∙ ap (map (struck rules.All reason.Reset)) k.set ∙ sym (tasks_reset o c past k.lawful) in
+      let set = seen_moved (with_mark rules.All reason.Reset) tasks ∙ ap (map (with_mark rules.All reason.Reset)) k.set ∙ sym (tasks_reset o c past k.lawful) in
       record {
         lawful = lawful;
         stored = k.stored;
         pends = pends ∙ ap (λ w. raised w c) k.pends;
         set = set;
-        fit = fit_moved (struck rules.All reason.Reset) (struck_waits rules.All reason.Reset) (λ s. refl) tasks k.fit;
+        fit = fit_moved (with_mark rules.All reason.Reset) (with_mark_waits rules.All reason.Reset) (λ s. refl) tasks k.fit;
         floors = k.floors;
         reserved = let same = ap owed set in let most = alive_owed o (Step.Reset c ∷ past) lawful in omega (arith, same, most, reserve);
       }
@@ -286,7 +286,7 @@ module _ {o : Opening} {past : List Step} {block_at : Blocks} {pending : List Co
 
   pub keep_resize : (blocks : ℕ) (block_at' : Blocks) (pending' : List Code) (room' : ℕ) → is_capacity blocks ≡ true
       → ((b : ℕ) → block_at' b ≡ cond (nat_lt b (min (capacity_of o past) blocks)) (block_at b) zero_block) → pending' ≡ raised pending capacity_changed → 128 ≤ room'
-      → AreKept o (Step.Resize blocks ∷ past) block_at' pending' tasks lasts room'
+      → AreKept o (Step.Resize blocks ∷ past) block_at' pending' tasks last_tickets room'
   keep_resize blocks block_at' pending' room' is stored pends reserve =
       let lawful : IsLawful o (Step.Resize blocks ∷ past) = (k.lawful, may_resize blocks is) in
       let set = k.set ∙ sym (tasks_resize blocks past) in
@@ -309,7 +309,7 @@ module _ {o : Opening} {past : List Step} {block_at : Blocks} {pending : List Co
       ∙ sym (tasks_leave t past)
 
   pub keep_leave : (t : Ticket) (x : PlainTask) (room' : ℕ) → task_at t tasks ≡ Some x → (x.seen.done || is_some x.seen.mark) ≡ true → room ≤ room' + 1
-      → AreKept o (Step.Leave t ∷ past) block_at pending (map (moved (freed (entries_of (without t tasks)))) (without t tasks)) lasts room'
+      → AreKept o (Step.Leave t ∷ past) block_at pending (map (moved (freed (entries_of (without t tasks)))) (without t tasks)) last_tickets room'
   keep_leave t x room' at ended reserve =
       let lawful : IsLawful o (Step.Leave t ∷ past) = (k.lawful, may_leave t x at ended) in
       record {

@@ -3,12 +3,12 @@ use Rattle.std.proofs.Common.{◌≡◌, ℕ, Bool, true, false, not, ◌||◌, 
 use Rattle.std.specs.Option.{option_map}
 use Rattle.std.proofs.lemmas.List.{length-map, map-append}
 use Rattle.ring_core.specs.declared.log.Ticket.{Ticket}
-use Rattle.history.specs.declared.rule.Rule.{Rule}
-use Rattle.history.specs.declared.reason.Reason.{Reason}
-use Rattle.history.specs.Tasks.{Entry, same_ticket, is_blocked, meets}
-use Rattle.history.specs.Marks.{first_mark}
-use Rattle.history.specs.Seen.{Seen, waits, entries, seen_at, others, finished, struck, freed}
-use Rattle.task_set.specs.Jobs.{PlainJob}
+use Rattle.unit_model.specs.declared.rule.Rule.{Rule}
+use Rattle.unit_model.specs.declared.reason.Reason.{Reason}
+use Rattle.unit_model.specs.Tasks.{Entry, same_ticket, is_blocked, meets}
+use Rattle.unit_model.specs.Marks.{first_mark}
+use Rattle.unit_model.specs.Seen.{Seen, waits, entries, seen_at, others, finished, with_mark, freed}
+use Rattle.unit_model.specs.Jobs.{PlainJob}
 use Rattle.task_set.specs.Tasks.{PlainTask, seen_of, entries_of, moved, without, task_at, entering}
 use Rattle.unit_history.specs.Parts.{AreFit}
 
@@ -54,8 +54,8 @@ by_mark on met None why h =
     (elim on as (λ b. (not b && not (is_some (first_mark None met why))) ≡ true → (not b && true) ≡ true) [ true ↦ λ k. k | false ↦ λ k. refl ]) h
 by_mark on met (Some r) why h = h
 
-pub struck_waits : (rule : Rule) (why : Reason) → WaitsLess (struck rule why)
-struck_waits rule why s h = by_mark s.enabled (meets rule s.entry && not s.done) s.mark why h
+pub with_mark_waits : (rule : Rule) (why : Reason) → WaitsLess (with_mark rule why)
+with_mark_waits rule why s h = by_mark s.enabled (meets rule s.entry && not s.done) s.mark why h
 
 by_enabled : (on more marked : Bool) → (not (on || more) && not marked) ≡ true → (not on && not marked) ≡ true
 by_enabled true more marked h = h

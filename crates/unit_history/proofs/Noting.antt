@@ -4,15 +4,15 @@ use Rattle.std.proofs.lemmas.Bool.{ltb-true, ltb-false}
 use Rattle.std.specs.Prelude.{unwrap_or}
 use Rattle.ring_core.specs.declared.log.Ticket.{Ticket}
 use Rattle.block_store.specs.Blocks.{is_within, zero_block}
-use Rattle.command_set.specs.Effects.{given}
+use Rattle.replies.specs.Effects.{given}
 use Rattle.replies.specs.PlainReply.{plain_of}
-use Rattle.history.specs.Tasks.{Entry, task_of}
-use Rattle.history.specs.Steps.{Step, alive}
-use Rattle.history.specs.Contents.{Opening, blocks_of, block_with, capacity_of}
-use Rattle.unit_steps.specs.Performing.{step_for}
-use Rattle.unit_steps.specs.declared.performing.Performed.{Performed}
+use Rattle.unit_model.specs.Tasks.{Entry, task_of}
+use Rattle.unit_model.specs.Steps.{Step, alive}
+use Rattle.unit_model.specs.Contents.{Opening, blocks_of, block_with, capacity_of}
+use Rattle.unit_history.specs.Performing.{step_for}
+use Rattle.unit_history.specs.declared.performing.Performed.{Performed}
 use Rattle.unit_history.specs.Changes.{PlainChanges, is_in, as_of}
-use Rattle.unit_history.specs.Noting.{Notes, AreNoted}
+use Rattle.unit_history.specs.Noting.{Notes, AreRecorded}
 
 as_of-more : (p : ℕ) (s : Step) (past : List Step) → p ≤ length past → as_of p (s ∷ past) ≡ as_of p past
 as_of-more p s past le =
@@ -29,7 +29,7 @@ abbrev pub Leaves : Opening → Step → List Step → (ℕ → Bool) → Type 0
 Leaves o s past touched =
     (b : ℕ) → b < capacity_of o (s ∷ past) → touched b ≡ false → (b < capacity_of o past) × (blocks_of o (s ∷ past) b ≡ blocks_of o past b)
 
-module _ (o : Opening) (s : Step) (past : List Step) (touched : ℕ → Bool) (capacity : ℕ) (c c' : PlainChanges) (k : AreNoted o past c)
+module _ (o : Opening) (s : Step) (past : List Step) (touched : ℕ → Bool) (capacity : ℕ) (c c' : PlainChanges) (k : AreRecorded o past c)
     (n : Notes touched capacity (length past) c c') (le : capacity_of o (s ∷ past) ≤ capacity) (leaves : Leaves o s past touched) where
   since_past : c'.since ≤ length (s ∷ past)
   since_past = elim n.kept [
@@ -55,30 +55,30 @@ module _ (o : Opening) (s : Step) (past : List Step) (touched : ℕ → Bool) (c
         | false ↦ λ e. ap (λ (w : List Step). blocks_of o w b) (sym (as_of-now p (s ∷ past) (ltb-false p (length (s ∷ past)) e)))
       ]) refl
 
-  pub noted_by : (steps' : List Step) → steps' ≡ s ∷ past → AreNoted o steps' c'
-  noted_by steps' is = subst (λ w. AreNoted o w c') (sym is) (record { past = since_past; unchanged = unchanged })
+  pub recorded_by : (steps' : List Step) → steps' ≡ s ∷ past → AreRecorded o steps' c'
+  recorded_by steps' is = subst (λ w. AreRecorded o w c') (sym is) (record { past = since_past; unchanged = unchanged })
 
 notes_none : (capacity place : ℕ) (c : PlainChanges) → Notes (λ b. false) capacity place c c
 notes_none capacity place c = record { noted = λ b below out. refl; kept = inl (refl, λ b below out. out) }
 
 -- after a step that touches no block
-pub noted_on : (o : Opening) (s : Step) (past steps' : List Step) (c : PlainChanges) → AreNoted o past c → Leaves o s past (λ b. false) → steps' ≡ s ∷ past → AreNoted o steps' c
-noted_on o s past steps' c k leaves is =
-    noted_by o s past (λ b. false) (capacity_of o (s ∷ past)) c c k (notes_none _ _ c) (omega arith) leaves steps' is
+pub recorded_on : (o : Opening) (s : Step) (past steps' : List Step) (c : PlainChanges) → AreRecorded o past c → Leaves o s past (λ b. false) → steps' ≡ s ∷ past → AreRecorded o steps' c
+recorded_on o s past steps' c k leaves is =
+    recorded_by o s past (λ b. false) (capacity_of o (s ∷ past)) c c k (notes_none _ _ c) (omega arith) leaves steps' is
 
 -- a unit of which no step was taken
-pub noted_new : (o : Opening) (steps : List Step) (c : PlainChanges) → steps ≡ [] → c.since ≡ 0 → AreNoted o steps c
-noted_new o steps c none start =
-    subst (λ w. AreNoted o w c) (sym none)
+pub recorded_new : (o : Opening) (steps : List Step) (c : PlainChanges) → steps ≡ [] → c.since ≡ 0 → AreRecorded o steps c
+recorded_new o steps c none start =
+    subst (λ w. AreRecorded o w c) (sym none)
     (record { past = (let is = start in omega (arith, is)); unchanged = λ p b from to below out. ap (λ (w : List Step). blocks_of o w b) (sym (as_of-now p [] (omega arith))) })
 
-pub noted_again : (o o' : Opening) (steps : List Step) (c : PlainChanges) → steps ≡ [] → AreNoted o steps c → AreNoted o' steps c
-noted_again o o' steps c none k =
-    noted_new o' steps c none (let le = k.past in let is = ap (λ (w : List Step). length w) none in omega (arith, le, is))
+pub recorded_again : (o o' : Opening) (steps : List Step) (c : PlainChanges) → steps ≡ [] → AreRecorded o steps c → AreRecorded o' steps c
+recorded_again o o' steps c none k =
+    recorded_new o' steps c none (let le = k.past in let is = ap (λ (w : List Step). length w) none in omega (arith, le, is))
 
 -- nothing is noted from now on
-pub noted_anew : (o : Opening) (steps : List Step) (c : PlainChanges) → c.since ≡ length steps → AreNoted o steps c
-noted_anew o steps c start =
+pub recorded_anew : (o : Opening) (steps : List Step) (c : PlainChanges) → c.since ≡ length steps → AreRecorded o steps c
+recorded_anew o steps c start =
     record {
       past = (let is = start in omega (arith, is));
       unchanged = λ p b from to below out. ap (λ (w : List Step). blocks_of o w b) (sym (as_of-now p steps (let is = start in omega (arith, is, from))));
@@ -103,11 +103,11 @@ capacity_ran o t None past = refl
 capacity_ran o t (Some p) past = refl
 
 -- after a command ran
-pub noted_run : (o : Opening) (t : Ticket) (e : Entry) (p : Option Performed) (past steps' : List Step) (capacity : ℕ) (c c' : PlainChanges) → AreNoted o past c
+pub recorded_run : (o : Opening) (t : Ticket) (e : Entry) (p : Option Performed) (past steps' : List Step) (capacity : ℕ) (c c' : PlainChanges) → AreRecorded o past c
     → task_of t (alive past) ≡ Some e → Notes (λ b. is_some (given e.command e.data_out b)) capacity (length past) c c' → capacity ≡ capacity_of o past
-    → steps' ≡ step_for t p ∷ past → AreNoted o steps' c'
-noted_run o t e p past steps' capacity c c' k there n size is =
-    noted_by o (step_for t p) past (λ b. is_some (given e.command e.data_out b)) capacity c c' k n
+    → steps' ≡ step_for t p ∷ past → AreRecorded o steps' c'
+recorded_run o t e p past steps' capacity c c' k there n size is =
+    recorded_by o (step_for t p) past (λ b. is_some (given e.command e.data_out b)) capacity c c' k n
     (let same = capacity_ran o t p past in let h = size in omega (arith, same, h)) (leaves_run o t e p past there) steps' is
 
 -- a unit that grows leaves the blocks that it had
@@ -123,7 +123,7 @@ leaves_resize o blocks past b below out =
     outside old new b below above out = search arith
 
 -- after a unit got another capacity
-pub noted_resize : (o : Opening) (blocks : ℕ) (past steps' : List Step) (c c' : PlainChanges) → AreNoted o past c
-    → Notes (is_within (capacity_of o past) (blocks - capacity_of o past)) blocks (length past) c c' → steps' ≡ Step.Resize blocks ∷ past → AreNoted o steps' c'
-noted_resize o blocks past steps' c c' k n is =
-    noted_by o (Step.Resize blocks) past (is_within (capacity_of o past) (blocks - capacity_of o past)) blocks c c' k n (omega arith) (leaves_resize o blocks past) steps' is
+pub recorded_resize : (o : Opening) (blocks : ℕ) (past steps' : List Step) (c c' : PlainChanges) → AreRecorded o past c
+    → Notes (is_within (capacity_of o past) (blocks - capacity_of o past)) blocks (length past) c c' → steps' ≡ Step.Resize blocks ∷ past → AreRecorded o steps' c'
+recorded_resize o blocks past steps' c c' k n is =
+    recorded_by o (Step.Resize blocks) past (is_within (capacity_of o past) (blocks - capacity_of o past)) blocks c c' k n (omega arith) (leaves_resize o blocks past) steps' is

@@ -8,10 +8,10 @@ use Rattle.block_store.specs.Pages.{blocks_in}
 use Rattle.block_store.proofs.Paging.{blocks_in-none, blocks_in-whole}
 use Rattle.block_store.proofs.Runs.{length-run}
 use Rattle.unit_attention.specs.declared.code.Code.{Code}
-use Rattle.history.specs.Steps.{Step}
-use Rattle.history.specs.Contents.{Opening, pending_at_start}
+use Rattle.unit_model.specs.Steps.{Step}
+use Rattle.unit_model.specs.Contents.{Opening, pending_at_start}
 use Rattle.task_set.specs.Tasks.{PlainTask, seen_of}
-use Rattle.unit_steps.specs.Lasts.{floor_kept}
+use Rattle.unit_history.specs.LastTickets.{floor_kept}
 use Rattle.unit_history.specs.Parts.{AreKept, AreBased}
 use Rattle.unit_history.proofs.Keeping.{keep_new}
 
@@ -55,21 +55,21 @@ content_blocks f n b whole =
     nth_none k = ap (take 512) (drop_all (512 * k) [] (omega arith))
 
 -- the parts of a unit of which no step was taken
-pub kept_new : (o : Opening) (block_at : Blocks) (pending : List Code) (lasts : List (Option ℕ)) (room : ℕ) (steps : List Step) (tasks : List PlainTask)
-    → steps ≡ [] → tasks ≡ [] → pending ≡ pending_at_start o.calm → ((b : ℕ) → block_at b ≡ blocks_in o.content b) → ((q : ℕ) → floor_kept lasts q ≡ 0)
-    → AreKept o steps block_at pending tasks lasts room
-kept_new o block_at pending lasts room steps tasks none idle pends stored floors =
-    subst (λ w. AreKept o w block_at pending tasks lasts room) (sym none)
-    (subst (λ ts. AreKept o [] block_at pending ts lasts room) (sym idle) (keep_new o block_at pending lasts room pends stored floors))
+pub kept_new : (o : Opening) (block_at : Blocks) (pending : List Code) (last_tickets : List (Option ℕ)) (room : ℕ) (steps : List Step) (tasks : List PlainTask)
+    → steps ≡ [] → tasks ≡ [] → pending ≡ pending_at_start o.calm → ((b : ℕ) → block_at b ≡ blocks_in o.content b) → ((q : ℕ) → floor_kept last_tickets q ≡ 0)
+    → AreKept o steps block_at pending tasks last_tickets room
+kept_new o block_at pending last_tickets room steps tasks none idle pends stored floors =
+    subst (λ w. AreKept o w block_at pending tasks last_tickets room) (sym none)
+    (subst (λ ts. AreKept o [] block_at pending ts last_tickets room) (sym idle) (keep_new o block_at pending last_tickets room pends stored floors))
 
 -- a unit of which no step was taken opens with other blocks
-pub opens_again : (o : Opening) (blocks : ℕ) (content : List ℕ) (old new : Blocks) (pending : List Code) (lasts : List (Option ℕ)) (room : ℕ)
-    (steps : List Step) (tasks : List PlainTask) → steps ≡ [] → AreKept o steps old pending tasks lasts room
+pub opens_again : (o : Opening) (blocks : ℕ) (content : List ℕ) (old new : Blocks) (pending : List Code) (last_tickets : List (Option ℕ)) (room : ℕ)
+    (steps : List Step) (tasks : List PlainTask) → steps ≡ [] → AreKept o steps old pending tasks last_tickets room
     → ((b : ℕ) → new b ≡ blocks_in content b)
-    → AreKept (record o { blocks = blocks; content = content }) steps new pending tasks lasts room
-opens_again o blocks content old new pending lasts room steps tasks none is stored =
-    subst (λ w. AreKept (record o { blocks = blocks; content = content }) w new pending tasks lasts room) (sym none)
-    (let here = subst (λ w. AreKept o w old pending tasks lasts room) none is in
+    → AreKept (record o { blocks = blocks; content = content }) steps new pending tasks last_tickets room
+opens_again o blocks content old new pending last_tickets room steps tasks none is stored =
+    subst (λ w. AreKept (record o { blocks = blocks; content = content }) w new pending tasks last_tickets room) (sym none)
+    (let here = subst (λ w. AreKept o w old pending tasks last_tickets room) none is in
     record { lawful = tt; stored = stored; pends = here.pends; set = here.set; fit = here.fit; floors = here.floors; reserved = here.reserved })
 
 pub based_new : (base forgotten : ℕ) (steps : List Step) (tasks : List PlainTask) → steps ≡ [] → tasks ≡ [] → base ≡ 0 → forgotten ≡ 0

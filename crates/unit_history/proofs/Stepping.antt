@@ -3,16 +3,16 @@ use Rattle.std.proofs.Common.{◌≡◌, ℕ, Bool, false, ◌||◌, List, ◌�
 use Rattle.ring_core.specs.declared.log.Ticket.{Ticket}
 use Rattle.block_store.specs.Blocks.{Blocks}
 use Rattle.unit_attention.specs.declared.code.Code.{Code}
-use Rattle.history.specs.Tasks.{task_of}
-use Rattle.history.specs.Steps.{Step, alive, done}
-use Rattle.history.specs.Contents.{Opening}
-use Rattle.history.specs.Lawful.{May}
-use Rattle.history.specs.Released.{released}
-use Rattle.task_set.specs.Jobs.{PlainJob, Jobs, but_tasks}
+use Rattle.unit_model.specs.Tasks.{task_of}
+use Rattle.unit_model.specs.Steps.{Step, alive, done}
+use Rattle.unit_model.specs.Contents.{Opening}
+use Rattle.unit_model.specs.Lawful.{May}
+use Rattle.unit_model.specs.Released.{released}
+use Rattle.unit_model.specs.Jobs.{PlainJob, Jobs, but_tasks}
 use Rattle.task_set.specs.Tasks.{PlainTask, task_at}
 use Rattle.unit_history.specs.Calls.{CannotLeave}
 use Rattle.unit_history.specs.Parts.{AreKept}
-use Rattle.task_set.specs.Unit.{PlainUnit, Steps}
+use Rattle.unit_model.specs.Unit.{PlainUnit, Steps}
 use Rattle.unit_history.proofs.Keeping.{task_at_alive, task_at_none, is_done, is_marked}
 
 abbrev pub unit_with : Opening → List Step → List PlainJob → Bool → PlainUnit
@@ -35,8 +35,8 @@ pub handed_is : (out out' : Jobs) (given released : List PlainJob) → out' ≡ 
     → out' ≡ record out { jobs = out.jobs ++ released }
 handed_is out out' given released h same = h ∙ ap (λ w. let now : Jobs = record out { jobs = out.jobs ++ w } in now) same
 
-module _ {o : Opening} {past : List Step} {block_at : Blocks} {pending : List Code} {tasks : List PlainTask} {lasts : List (Option ℕ)} {room : ℕ}
-    (k : AreKept o past block_at pending tasks lasts room) where
+module _ {o : Opening} {past : List Step} {block_at : Blocks} {pending : List Code} {tasks : List PlainTask} {last_tickets : List (Option ℕ)} {room : ℕ}
+    (k : AreKept o past block_at pending tasks last_tickets room) where
   -- no task of the ticket is alive
   pub cannot_none : (t : Ticket) → task_at t tasks ≡ None → CannotLeave (task_of t (alive past)) t past
   cannot_none t at = subst (λ w. CannotLeave w t past) (sym (task_at_none k t at)) tt

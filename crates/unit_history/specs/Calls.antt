@@ -1,22 +1,22 @@
 -- What the calls of a unit answer, by cases.
 use Rattle.std.specs.Prelude.{ℕ, ◌≡◌, ◌<◌, ◌≤◌, true, false, ◌||◌, List, ◌∷◌, Option, Some, None, IsTrue, ⊤}
 use Rattle.ring_core.specs.declared.log.Ticket.{Ticket}
-use Rattle.history.specs.Tasks.{Entry, task_of, is_blocked}
-use Rattle.history.specs.Steps.{Step, alive, done, floor}
-use Rattle.history.specs.Marks.{mark_of, marked}
-use Rattle.history.specs.Contents.{is_capacity, facts_after, reply_after}
-use Rattle.history.specs.Lawful.{IsReady, May}
-use Rattle.history.specs.Receipts.{receipt_of}
-use Rattle.task_set.specs.Jobs.{PlainJob}
-use Rattle.task_set.specs.Unit.{PlainUnit, parking, Steps}
-use Rattle.task_set.specs.Asking.{IsOf, CannotCommit}
-use Rattle.unit_steps.specs.Performing.{may_run_short}
-use Rattle.unit_history.specs.declared.answers.Entered.{Entered}
-use Rattle.unit_history.specs.declared.answers.Entered.TheVariants as entered
-use Rattle.unit_history.specs.declared.answers.Outcome.{Outcome}
-use Rattle.unit_history.specs.declared.answers.Outcome.TheVariants as outcome
-use Rattle.unit_history.specs.declared.answers.ResizeFault.{ResizeFault}
-use Rattle.unit_history.specs.declared.answers.ResizeFault.TheVariants as resize_fault
+use Rattle.unit_model.specs.Tasks.{Entry, task_of, is_blocked}
+use Rattle.unit_model.specs.Steps.{Step, alive, done, floor}
+use Rattle.unit_model.specs.Marks.{mark_of, marked}
+use Rattle.unit_model.specs.Contents.{is_capacity, facts_after, reply_after}
+use Rattle.unit_model.specs.Lawful.{IsReady, May}
+use Rattle.unit_model.specs.Receipts.{receipt_of}
+use Rattle.unit_model.specs.Jobs.{PlainJob}
+use Rattle.unit_model.specs.Unit.{PlainUnit, parking, Steps}
+use Rattle.unit_model.specs.Asking.{IsOf, CannotCommit}
+use Rattle.replies.specs.Memory.{may_run_short}
+use Rattle.unit_history.specs.declared.outcomes.Entered.{Entered}
+use Rattle.unit_history.specs.declared.outcomes.Entered.TheVariants as entered
+use Rattle.unit_history.specs.declared.outcomes.Outcome.{Outcome}
+use Rattle.unit_history.specs.declared.outcomes.Outcome.TheVariants as outcome
+use Rattle.unit_history.specs.declared.outcomes.ResizeFault.{ResizeFault}
+use Rattle.unit_history.specs.declared.outcomes.ResizeFault.TheVariants as resize_fault
 
 -- own: a task entered: its job, where that is to be committed
 abbrev pub entered_of : Option PlainJob → Entered

@@ -2,9 +2,9 @@
 use Rattle.std.specs.Prelude.{ℕ, ◌≡◌, ◌-◌, ◌<◌, ◌≤◌, Bool, false, List, length, drop}
 use Rattle.std.specs.List.{list_any}
 use Rattle.block_store.specs.Blocks.{is_within}
-use Rattle.history.specs.Steps.{Step}
-use Rattle.history.specs.Contents.{Opening, blocks_of, capacity_of}
-use Rattle.task_set.specs.Unit.{PlainUnit}
+use Rattle.unit_model.specs.Steps.{Step}
+use Rattle.unit_model.specs.Contents.{Opening, blocks_of, capacity_of}
+use Rattle.unit_model.specs.Unit.{PlainUnit}
 use Rattle.unit_history.specs.declared.changes.Range.{Range}
 
 -- own: ranges of blocks, and the place of the history from which on no block outside these has changed

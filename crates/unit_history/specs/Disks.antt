@@ -3,8 +3,8 @@ use Rattle.std.specs.Prelude.{ℕ, ◌≡◌, List}
 use Rattle.block_store.specs.Blocks.{run}
 use Rattle.block_store.specs.Kept as pages
 use Rattle.block_store.specs.declared.paged.PagedStore.{PagedStore}
-use Rattle.history.specs.Contents.{Opening, blocks_of, capacity_of}
-use Rattle.task_set.specs.Unit.{PlainUnit}
+use Rattle.unit_model.specs.Contents.{Opening, blocks_of, capacity_of}
+use Rattle.unit_model.specs.Unit.{PlainUnit}
 
 -- the bytes of all blocks of a disk
 abbrev pub disk_bytes : PagedStore → List ℕ

@@ -3,9 +3,9 @@ use Rattle.std.specs.Prelude.{ℕ, ◌≤◌, length, Option, Some, None, Result
 use Rattle.block_store.specs.declared.NoMemory.{NoMemory}
 use Rattle.replies.specs.PlainReply.{PlainReply, plain_of}
 use Rattle.replies.specs.declared.reply.Reply.{Reply}
-use Rattle.history.specs.Endings.{Ending}
-use Rattle.unit_history.specs.declared.answers.Outcome.{Outcome}
-use Rattle.unit_history.specs.declared.answers.Outcome.TheVariants as outcome
+use Rattle.unit_model.specs.Endings.{Ending}
+use Rattle.unit_history.specs.declared.outcomes.Outcome.{Outcome}
+use Rattle.unit_history.specs.declared.outcomes.Outcome.TheVariants as outcome
 
 -- own: the reply, where the receipt still has it
 abbrev pub ending_of_reply : Option PlainReply → Ending

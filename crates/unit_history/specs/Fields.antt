@@ -2,12 +2,12 @@
 use Rattle.std.specs.Prelude.{ℕ, ◌≡◌, List, [], ◌∷◌}
 use Rattle.block_store.specs.Kept as pages
 use Rattle.block_store.specs.declared.paged.PagedStore.{PagedStore}
-use Rattle.history.specs.Contents.{Opening, capacity_of}
+use Rattle.unit_model.specs.Contents.{Opening, capacity_of}
 use Rattle.task_set.specs.Tasks.{parked_of, seen_of}
 use Rattle.unit_history.specs.Disks.{disk_bytes}
-use Rattle.unit_history.specs.Noting.{AreNoted}
+use Rattle.unit_history.specs.Noting.{AreRecorded}
 use Rattle.unit_history.specs.Parts.{AreKept, AreBased}
-use Rattle.task_set.specs.Unit.{PlainUnit}
+use Rattle.unit_model.specs.Unit.{PlainUnit}
 use Rattle.unit_history.specs.declared.unit.UnitState.TheInside.{Inside}
 
 -- own: the bytes of all blocks of the store that was handed in, if one was
@@ -36,7 +36,7 @@ plain_unit u =
     }
 
 pub record IsTold (u : Inside) : Type 0 where
-  pub kept : AreKept (opening_of u) u.log.steps (pages.blocks_of u.store.pages) u.attentions u.tasks u.lasts u.log.room
+  pub kept : AreKept (opening_of u) u.log.steps (pages.blocks_of u.store.pages) u.attentions u.tasks u.last_tickets u.log.room
   pub based : AreBased u.log.base u.log.forgotten u.log.steps (seen_of u.tasks)
   pub sized : u.store.capacity ≡ capacity_of (opening_of u) u.log.steps
-  pub noted : AreNoted (opening_of u) u.log.steps u.changes
+  pub noted : AreRecorded (opening_of u) u.log.steps u.changes

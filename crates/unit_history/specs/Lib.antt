@@ -1,3 +1,11 @@
+pub mod Notes
+pub mod Kept
+pub mod Runs
+pub mod Folding
+pub mod Slots
+pub mod Recorded
+pub mod LastTickets
+pub mod Performing
 pub mod Calls
 pub mod Parts
 pub mod Turns

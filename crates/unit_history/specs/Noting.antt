@@ -1,7 +1,7 @@
 -- What noting a change leaves. Only private functions and models cite it: no promise stands on it.
 use Rattle.std.specs.Prelude.{ℕ, ◌≡◌, ◌<◌, ◌≤◌, ◌⊎◌, Bool, false, List, length}
-use Rattle.history.specs.Steps.{Step}
-use Rattle.history.specs.Contents.{Opening}
+use Rattle.unit_model.specs.Steps.{Step}
+use Rattle.unit_model.specs.Contents.{Opening}
 use Rattle.unit_history.specs.Changes.{PlainChanges, is_in, AreUnchangedIn}
 
 -- own: these blocks below the capacity are noted, by a step of this place. What was noted before still is, or is
@@ -12,6 +12,6 @@ pub record Notes (touched : ℕ → Bool) (capacity place : ℕ) (old new : Plai
       ⊎ (new.since ≡ place)
 
 -- own: what a unit has noted fits its history
-pub record AreNoted (o : Opening) (steps : List Step) (c : PlainChanges) : Type 0 where
+pub record AreRecorded (o : Opening) (steps : List Step) (c : PlainChanges) : Type 0 where
   pub past : c.since ≤ length steps
   pub unchanged : AreUnchangedIn o steps c

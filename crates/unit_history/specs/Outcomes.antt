@@ -3,9 +3,9 @@ use Rattle.std.specs.Prelude.{ℕ, Option, Some, None}
 use Rattle.replies.specs.PlainReply.{plain_of}
 use Rattle.ring_core.specs.declared.log.Ticket.{Ticket}
 use Rattle.scsi_codec.specs.declared.lun.Address.{Address}
-use Rattle.unit_steps.specs.declared.performing.Performed.{Performed}
-use Rattle.unit_history.specs.declared.answers.Outcome.{Outcome}
-use Rattle.unit_history.specs.declared.answers.Outcome.TheVariants as outcome
+use Rattle.unit_history.specs.declared.performing.Performed.{Performed}
+use Rattle.unit_history.specs.declared.outcomes.Outcome.{Outcome}
+use Rattle.unit_history.specs.declared.outcomes.Outcome.TheVariants as outcome
 
 -- under the ticket and at the place of its step
 abbrev pub outcome_for : Address → ℕ → Ticket → Option Performed → Outcome

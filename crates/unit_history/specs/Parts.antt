@@ -3,14 +3,14 @@ use Rattle.std.specs.Prelude.{ℕ, ◌≡◌, ◌+◌, ◌≤◌, List, [], ◌�
 use Rattle.std.specs.Option.{option_map}
 use Rattle.block_store.specs.Blocks.{Blocks}
 use Rattle.unit_attention.specs.declared.code.Code.{Code}
-use Rattle.history.specs.Steps.{Step, floor}
-use Rattle.history.specs.Base.{base_of}
-use Rattle.history.specs.Seen.{Seen, tasks_of, owed, waits}
-use Rattle.history.specs.Contents.{Opening, blocks_of, pending_of}
-use Rattle.history.specs.Lawful.{IsLawful}
-use Rattle.task_set.specs.Jobs.{PlainJob}
+use Rattle.unit_model.specs.Steps.{Step, floor}
+use Rattle.unit_model.specs.Base.{base_of}
+use Rattle.unit_model.specs.Seen.{Seen, tasks_of, owed, waits}
+use Rattle.unit_model.specs.Contents.{Opening, blocks_of, pending_of}
+use Rattle.unit_model.specs.Lawful.{IsLawful}
+use Rattle.unit_model.specs.Jobs.{PlainJob}
 use Rattle.task_set.specs.Tasks.{PlainTask, seen_of}
-use Rattle.unit_steps.specs.Lasts.{floor_kept}
+use Rattle.unit_history.specs.LastTickets.{floor_kept}
 
 -- a task has its job as long as it waits, and no other
 abbrev pub AreFit : List PlainTask → Type 0
@@ -21,13 +21,13 @@ AreFit (t ∷ tasks) =
 
 -- the parts of a unit are what its history says
 pub record AreKept (o : Opening) (steps : List Step) (block_at : Blocks) (pending : List Code) (tasks : List PlainTask)
-    (lasts : List (Option ℕ)) (room : ℕ) : Type 0 where
+    (last_tickets : List (Option ℕ)) (room : ℕ) : Type 0 where
   pub lawful : IsLawful o steps
   pub stored : (b : ℕ) → block_at b ≡ blocks_of o steps b
   pub pends : pending ≡ pending_of o steps
   pub set : seen_of tasks ≡ tasks_of steps
   pub fit : AreFit tasks
-  pub floors : (q : ℕ) → floor_kept lasts q ≡ floor q steps
+  pub floors : (q : ℕ) → floor_kept last_tickets q ≡ floor q steps
   -- for the steps that the tasks that are alive may still take
   pub reserved : owed (seen_of tasks) ≤ room
 

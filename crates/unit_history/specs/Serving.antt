@@ -1,13 +1,13 @@
 -- A request that is served to its end in one call of its unit.
 use Rattle.std.specs.Prelude.{◌≡◌, []}
-use Rattle.history.specs.Endings.{Ending}
-use Rattle.history.specs.Steps.{Step}
-use Rattle.task_set.specs.Jobs.{PlainJob}
+use Rattle.unit_model.specs.Endings.{Ending}
+use Rattle.unit_model.specs.Steps.{Step}
+use Rattle.unit_model.specs.Jobs.{PlainJob}
 use Rattle.unit_history.specs.Calls.{Enters, Commits}
 use Rattle.unit_history.specs.Endings.{ending_of}
-use Rattle.task_set.specs.Unit.{PlainUnit, Steps}
-use Rattle.unit_history.specs.declared.answers.Entered.TheVariants as entered
-use Rattle.unit_history.specs.declared.answers.Outcome.{Outcome}
+use Rattle.unit_model.specs.Unit.{PlainUnit, Steps}
+use Rattle.unit_history.specs.declared.outcomes.Entered.TheVariants as entered
+use Rattle.unit_history.specs.declared.outcomes.Outcome.{Outcome}
 
 -- own: its task enters and nothing blocks it, its command runs whole or is refused memory, it is answered by what came
 -- of that, and its task leaves; no job waits then that this could hand out

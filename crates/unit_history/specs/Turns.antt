@@ -1,8 +1,8 @@
 -- What a task that was found may do for a job. Only private functions cite it: no promise stands on it.
 use Rattle.std.specs.Prelude.{◌≡◌, ◌≢◌, ◌⊎◌, true, false, Some, None}
-use Rattle.history.specs.Seen.{Seen}
-use Rattle.task_set.specs.Jobs.{PlainJob}
-use Rattle.task_set.specs.Asking.{asked_of}
+use Rattle.unit_model.specs.Seen.{Seen}
+use Rattle.unit_model.specs.Jobs.{PlainJob}
+use Rattle.unit_model.specs.Asking.{asked_of}
 use Rattle.unit_history.specs.declared.turn.Turn.{Turn}
 use Rattle.unit_history.specs.declared.turn.Turn.TheVariants as turn
 

@@ -2,8 +2,8 @@
 
 ghost use Rattle.std.specs.Prelude.{◌≡◌, ◌≤◌, length, IfOk};
 ghost use Rattle.cdb.specs.Need.{need_of};
-ghost use Rattle.history.specs.Endings.{Ending};
-ghost use Rattle.task_set.specs.Jobs.{PlainJob};
+ghost use Rattle.unit_model.specs.Endings.{Ending};
+ghost use Rattle.unit_model.specs.Jobs.{PlainJob};
 ghost use Rattle.unit_history.specs.Endings.{ending_of_run};
 
 use block_store::NoMemory;

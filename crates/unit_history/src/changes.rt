@@ -2,8 +2,8 @@
 
 ghost use Rattle.std.specs.Prelude.{◌≡◌, ℕ, ◌+◌, ◌-◌, ◌*◌, ◌<◌, ◌≤◌, ◌^◌, Bool, false, [], length, drop, is_some, nat_le, ◌&&◌, ◌||◌};
 ghost use Rattle.block_store.specs.Blocks.{is_within};
-ghost use Rattle.command_set.specs.Effects.{given};
-ghost use Rattle.command_set.specs.UnmapList.{descriptor, descriptors_in, descriptor_count, descriptors, is_named};
+ghost use Rattle.replies.specs.Effects.{given};
+ghost use Rattle.replies.specs.UnmapList.{descriptor, descriptors_in, descriptor_count, descriptors, is_named};
 ghost use Rattle.unit_history.specs.Changes.{is_in};
 ghost use Rattle.unit_history.specs.Noting.{Notes};
 
@@ -232,7 +232,7 @@ impl Changes {
 
 /// Returns how many descriptors of an UNMAP's parameter list are taken: the whole ones in the length that the header
 /// gives, as far as the list has them.
-#[tactic(auto, unfolding(command_set::specs::UnmapList::descriptor_count))]
+#[tactic(auto, unfolding(replies::specs::UnmapList::descriptor_count))]
 fn taken_descriptors(list: &[u8]) -> usize
     requires { 8 ≤ length list.now }
     ensures count { result ≡ descriptor_count list.now }

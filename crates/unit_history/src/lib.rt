@@ -2,20 +2,32 @@
 #![tactic(auto)]
 
 mod answering;
-mod answers;
 mod changes;
-mod given;
+mod commits;
+mod counted;
+mod folding;
+mod kind;
+mod last_tickets;
+mod log;
+mod note;
+mod outcomes;
 mod pages;
+mod performing;
+mod receipt_or_note;
+mod recorded;
+mod ring;
+mod runs;
 mod serving;
 mod turn;
 mod unit;
 
 pub use answering::Answering;
-pub use answers::{BareReceipt, Entered, Outcome, Receipt, ResizeFault, Unknown};
 pub use changes::{Changes, Range};
-pub use given::Given;
-pub use notes::{Cause, Note};
+pub use kind::StepKind;
+pub use log::{LATEST_KEPT, LONGEST_KEPT};
+pub use note::{Cause, Note};
+pub use outcomes::{BareReceipt, Entered, Outcome, Receipt, ResizeFault, Unknown};
 pub use pages::{PreparedWrite, StartedWrite};
+pub use receipt_or_note::ReceiptOrNote;
 pub use task_set::{Arrival, Job, JobList};
 pub use unit::{Place, UnitState, is_capacity};
-pub use unit_steps::{LATEST_KEPT, LONGEST_KEPT, StepKind};

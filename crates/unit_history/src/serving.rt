@@ -1,16 +1,18 @@
 //! A request that is served to its end in one call, where no other task is alive.
 
 ghost use Rattle.std.specs.Prelude.{◌≡◌, ◌+◌, ◌<◌, ◌≤◌, ◌∷◌, false, IfErr, OnOk, OnErr};
-ghost use Rattle.unit_steps.specs.Performing.{step_for, unkept};
+ghost use Rattle.unit_history.specs.Performing.{step_for, unkept};
 ghost use Rattle.unit_history.specs.Serving.{ServesAlone};
 
 use crate::answering::Answering;
-use crate::unit::{UnitState, make_way, noted_entry};
+use crate::log::StepLog;
+use crate::performing::run;
+use crate::recorded::{RecordedReply, RecordedStep};
+use crate::unit::{UnitState, make_way, recorded_entry};
 use block_store::{NoMemory, Store};
 use replies::Reply;
 use ring_core::Ticket;
 use task_set::Arrival;
-use unit_steps::{NotedReply, NotedStep, StepLog, run};
 
 /// Records what came of a command.
 #[inline(always)]
@@ -24,8 +26,8 @@ fn record_run(log: &mut StepLog, ticket: Ticket, ran: &Result<Reply, NoMemory>)
     ensures forgotten { log.new.forgotten ≡ log.old.forgotten }
 {
     match ran {
-        Ok(reply) => log.push(NotedStep::Commit(ticket, NotedReply::of(reply)), None),
-        Err(NoMemory) => log.push(NotedStep::Busy(ticket), None),
+        Ok(reply) => log.push(RecordedStep::Commit(ticket, RecordedReply::of(reply)), None),
+        Err(NoMemory) => log.push(RecordedStep::Busy(ticket), None),
     }
 }
 
@@ -52,17 +54,18 @@ impl UnitState {
         if self.log.keeps_replies() {
             return Err(arrival);
         }
-        if self.lasts.is_stale(ticket) {
+        if self.last_tickets.is_stale(ticket) {
             return Err(arrival);
         }
-        let Ok(()) = self.lasts.reserve(ticket.queue) else {
+        let Ok(()) = self.last_tickets.reserve(ticket.queue) else {
             return Err(arrival);
         };
         let Ok(()) = make_way(&mut self.log, &self.tasks) else {
             return Err(arrival);
         };
-        self.lasts.came(ticket);
-        self.log.push(NotedStep::Enter(noted_entry(&arrival)), None);
+        self.last_tickets.came(ticket);
+        self.log
+            .push(RecordedStep::Enter(recorded_entry(&arrival)), None);
         self.changes.note_command(
             &arrival.command(),
             arrival.data(),
@@ -81,7 +84,7 @@ impl UnitState {
         );
         record_run(&mut self.log, ticket, &ran);
         let answered = answering.answer(arrival, &ran);
-        self.log.push(NotedStep::Leave(answered.ticket()), None);
+        self.log.push(RecordedStep::Leave(answered.ticket()), None);
         self.keep_data(ran.ok());
         Ok(())
     }

@@ -1,12 +1,12 @@
 //! What a task that was found may do.
 
 ghost use Rattle.std.specs.Prelude.{◌≡◌, ◌≢◌, ◌||◌, is_some, IsTrue, IsFalse};
-ghost use Rattle.task_set.specs.Asking.{asked_of};
+ghost use Rattle.unit_model.specs.Asking.{asked_of};
 ghost use Rattle.unit_history.specs.Turns.{Turns};
 
 use cdb::Command;
-use history::Reason;
 use task_set::{Job, Task};
+use unit_model::Reason;
 
 /// What a task may do for a job.
 #[derive(Drop)]

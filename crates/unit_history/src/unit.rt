@@ -3,23 +3,27 @@
 ghost use Rattle.std.specs.Prelude.{◌≡◌, ◌+◌, ◌-◌, ◌<◌, ◌≤◌, ◌∷◌, ℕ, length, map, IfSome, OnOk, OnErr};
 ghost use Rattle.cdb.specs.Need.{need_of};
 ghost use Rattle.unit_history.specs.Endings.{FitsNeed};
-ghost use Rattle.history.specs.Seen.{finished};
-ghost use Rattle.history.specs.Base.{most_before};
-ghost use Rattle.history.specs.Contents.{is_capacity as may_have};
+ghost use Rattle.unit_model.specs.Seen.{finished};
+ghost use Rattle.unit_model.specs.Base.{most_before};
+ghost use Rattle.unit_model.specs.Contents.{is_capacity as may_have};
 ghost use Rattle.task_set.specs.Tasks.{moved, seen_of};
 ghost use Rattle.unit_history.specs.Parts.{AreClear};
-ghost use Rattle.unit_steps.specs.Performing.{IsKeptReply, step_for};
+ghost use Rattle.unit_history.specs.Performing.{IsKeptReply, step_for};
 ghost use Rattle.unit_history.specs.Outcomes.{outcome_for};
 
-use crate::answers::{Entered, Outcome, Receipt, ResizeFault, Unknown};
 use crate::changes::Changes;
+use crate::kind::StepKind;
+use crate::last_tickets::LastTickets;
+use crate::log::StepLog;
+use crate::outcomes::{Entered, Outcome, Receipt, ResizeFault, Unknown};
 use crate::pages::{PreparedWrite, StartedWrite, pages_for};
+use crate::performing::{Performed, attentions_at_start, perform};
+use crate::recorded::{RecordedEntry, RecordedReply, RecordedStep};
 use crate::turn::{Turn, is_ended, turn_of};
 use block_commands::UnitFacts;
 use block_store::{NoMemory, PagedStore, Store};
 use cdb::Command;
 use decisions::UnitSpec;
-use history::{Reason, Rule};
 use record::Record;
 use replies::Reply;
 use ring_core::{Answered, Ticket};
@@ -29,10 +33,7 @@ use std::marker::Model;
 use std::mem;
 use task_set::{Arrival, Full, Job, JobList, TaskSet};
 use unit_attention::{Attentions, Code};
-use unit_steps::{
-    Lasts, NotedEntry, NotedReply, NotedStep, Performed, StepKind, StepLog, attentions_at_start,
-    perform,
-};
+use unit_model::{Counts, Reason, Rule};
 
 /// How many steps stand before a step of a unit's history.
 pub type Place = u64;
@@ -57,7 +58,7 @@ pub struct UnitState {
     pub(crate) opening_blocks: u64,
     pub(crate) tasks: TaskSet,
     pub(crate) log: StepLog,
-    pub(crate) lasts: Lasts,
+    pub(crate) last_tickets: LastTickets,
     // Room for the data of the next command that returns some.
     pub(crate) room: Vec<u8>,
     // Which blocks may have changed since it was last asked.
@@ -65,7 +66,7 @@ pub struct UnitState {
 }
 
 impl Model for UnitState {
-    ghost use Rattle.task_set.specs.Unit.{PlainUnit};
+    ghost use Rattle.unit_model.specs.Unit.{PlainUnit};
 
     ghost Value = { PlainUnit };
 
@@ -78,10 +79,10 @@ impl Model for UnitState {
 
 /// The task that an arrival becomes, as the log sees it.
 #[inline(always)]
-pub(crate) fn noted_entry(arrival: &Arrival) -> NotedEntry
+pub(crate) fn recorded_entry(arrival: &Arrival) -> RecordedEntry
     ensures { result ≡ arrival.now.entry }
 {
-    NotedEntry::new(arrival.ticket(), arrival.request())
+    RecordedEntry::new(arrival.ticket(), arrival.request())
 }
 
 /// Returns whether a unit may have so many blocks: 1 to 2^40.
@@ -146,11 +147,14 @@ fn record_run(
     tasks.finish(ticket);
     match performed {
         None => {
-            log.push(NotedStep::Busy(ticket), None);
+            log.push(RecordedStep::Busy(ticket), None);
             Outcome::Busy
         }
         Some(Performed { reply, kept }) => {
-            log.push(NotedStep::Commit(ticket, NotedReply::of(&reply)), kept);
+            log.push(
+                RecordedStep::Commit(ticket, RecordedReply::of(&reply)),
+                kept,
+            );
             Outcome::Reply(Receipt::new(unit, place, ticket, reply))
         }
     }
@@ -161,24 +165,25 @@ impl UnitState {
     ghost use Rattle.std.specs.Option.{option_map};
     ghost use Rattle.block_store.specs.Blocks.{run};
     ghost use Rattle.unit_attention.specs.Code.{IsKnown};
-    ghost use Rattle.history.specs.Tasks.{task_of};
-    ghost use Rattle.history.specs.Steps.{Step, alive};
-    ghost use Rattle.history.specs.Seen.{any_met};
-    ghost use Rattle.history.specs.Clearing.{is_clear};
-    ghost use Rattle.history.specs.Contents.{blocks_of, capacity_of, pending_of};
-    ghost use Rattle.history.specs.Base.{base_of, kept_at};
-    ghost use Rattle.history.specs.Receipts.{IsConfirmed, step_at};
-    ghost use Rattle.unit_steps.specs.Kept.{kind_of};
-    ghost use Rattle.unit_steps.specs.Runs.{committed_one};
-    ghost use Rattle.task_set.specs.Unit.{opening_unit, handing, Steps, IsUnit};
+    ghost use Rattle.unit_model.specs.Tasks.{task_of};
+    ghost use Rattle.unit_model.specs.Steps.{Step, alive};
+    ghost use Rattle.unit_model.specs.Seen.{any_met};
+    ghost use Rattle.unit_model.specs.Clearing.{is_clear};
+    ghost use Rattle.unit_model.specs.Contents.{blocks_of, capacity_of, pending_of};
+    ghost use Rattle.unit_model.specs.Counts.{counts_of};
+    ghost use Rattle.unit_model.specs.Base.{base_of, kept_at};
+    ghost use Rattle.unit_model.specs.Receipts.{IsConfirmed, step_at};
+    ghost use Rattle.unit_history.specs.Kept.{kind_of};
+    ghost use Rattle.unit_history.specs.Runs.{committed_one};
+    ghost use Rattle.unit_model.specs.Unit.{opening_unit, handing, Steps, IsUnit};
     ghost use Rattle.unit_history.specs.Changes.{AreUnchanged};
     ghost use Rattle.unit_history.specs.Disks.{opening_over, IsDiskOf};
     ghost use Rattle.unit_history.specs.Calls.{Enters, Commits, ResizeRefused, CannotLeave};
 
-    /// A unit as it is specified, with the LUNs of its target by rising number, of which no step was taken. Whoever
-    /// sets the device up calls it, and says whether the replies of its Commits are kept, for receipts to be compared
-    /// with: those of its latest [`LATEST_KEPT`] steps that have at most [`LONGEST_KEPT`] bytes of data. `NoMemory`
-    /// where its blocks or the LUNs were refused memory.
+    /// Makes a unit as it is specified, with the LUNs of its target by rising number, of which no step was taken.
+    /// Whoever sets the device up calls it, and says whether the replies of its Commits are kept, for receipts to be
+    /// compared with: those of its latest [`LATEST_KEPT`] steps that have at most [`LONGEST_KEPT`] bytes of data.
+    /// `NoMemory` where its blocks or the LUNs were refused memory.
     pub fn new(
         alloc: Global,
         spec: &UnitSpec,
@@ -211,7 +216,7 @@ impl UnitState {
             opening_blocks: spec.blocks,
             tasks: TaskSet::new(),
             log: StepLog::new(alloc, keeps_replies),
-            lasts: Lasts::new(alloc),
+            last_tickets: LastTickets::new(alloc),
             room: Vec::new(alloc),
             changes: Changes::since_place(0),
         })
@@ -238,7 +243,7 @@ impl UnitState {
         self.store
     }
 
-    /// What every unit is between calls.
+    /// Returns what every unit is between calls.
     pub fn stands(&self)
         ensures { IsUnit self.now }
     {
@@ -251,25 +256,25 @@ impl UnitState {
         ensures { Enters self.old arrival result self.new }
     {
         let ticket = arrival.ticket();
-        if self.lasts.is_stale(ticket) {
+        if self.last_tickets.is_stale(ticket) {
             return Entered::Stale(arrival.into_job());
         }
-        let Ok(()) = self.lasts.reserve(ticket.queue) else {
+        let Ok(()) = self.last_tickets.reserve(ticket.queue) else {
             return Entered::Busy(arrival.into_job());
         };
         let Ok(()) = make_way(&mut self.log, &self.tasks) else {
             return Entered::Busy(arrival.into_job());
         };
         let place = self.log.len();
-        let entered = noted_entry(&arrival);
-        self.lasts.came(ticket);
+        let entered = recorded_entry(&arrival);
+        self.last_tickets.came(ticket);
         match self.tasks.enter(arrival, place) {
             Err(Full(job)) => {
-                self.log.push(NotedStep::Full(ticket), None);
+                self.log.push(RecordedStep::Full(ticket), None);
                 Entered::Full(job)
             }
             Ok(job) => {
-                self.log.push(NotedStep::Enter(entered), None);
+                self.log.push(RecordedStep::Enter(entered), None);
                 Entered::of(job)
             }
         }
@@ -337,33 +342,19 @@ impl UnitState {
                 self.changes
                     .note_command(&command, bytes, self.store.capacity(), self.log.len());
                 let pages = pages_for(prepared, task);
-                if self.log.keeps_replies() {
-                    let performed = perform(
-                        self.alloc,
-                        &mut self.room,
-                        &mut self.facts,
-                        &mut self.attentions,
-                        &mut self.store,
-                        &command,
-                        bytes,
-                        pages,
-                        true,
-                    );
-                    record_run(&mut self.log, &mut self.tasks, unit, ticket, performed)
-                } else {
-                    let performed = perform(
-                        self.alloc,
-                        &mut self.room,
-                        &mut self.facts,
-                        &mut self.attentions,
-                        &mut self.store,
-                        &command,
-                        bytes,
-                        pages,
-                        false,
-                    );
-                    record_run(&mut self.log, &mut self.tasks, unit, ticket, performed)
-                }
+                let keeps = self.log.keeps_replies();
+                let performed = perform(
+                    self.alloc,
+                    &mut self.room,
+                    &mut self.facts,
+                    &mut self.attentions,
+                    &mut self.store,
+                    &command,
+                    bytes,
+                    pages,
+                    keeps,
+                );
+                record_run(&mut self.log, &mut self.tasks, unit, ticket, performed)
             }
         }
     }
@@ -400,7 +391,7 @@ impl UnitState {
     {
         make_way(&mut self.log, &self.tasks)?;
         let place = self.log.len();
-        self.log.push(NotedStep::Abort(rule), None);
+        self.log.push(RecordedStep::Abort(rule), None);
         self.tasks.mark(rule, Reason::Aborted, out);
         Ok(place)
     }
@@ -417,7 +408,7 @@ impl UnitState {
     {
         make_way(&mut self.log, &self.tasks)?;
         let place = self.log.len();
-        self.log.push(NotedStep::Reset(code), None);
+        self.log.push(RecordedStep::Reset(code), None);
         self.attentions.raise(code);
         self.tasks.mark(Rule::All, Reason::Reset, out);
         Ok(place)
@@ -441,15 +432,15 @@ impl UnitState {
         let place = self.log.len();
         self.changes
             .note_growth(self.store.capacity(), blocks, place);
-        self.log.push(NotedStep::Resize(blocks), None);
+        self.log.push(RecordedStep::Resize(blocks), None);
         self.attentions.raise(Code::CAPACITY_DATA_CHANGED);
         self.store.resize(blocks);
         Ok(place)
     }
 
-    /// The task of a chain that was completed leaves, and what it alone blocked is handed out. It takes no memory. The
-    /// list has 64 places free, which the caller sees to. `Unknown`, with nothing changed, where no task of the ticket
-    /// is alive, or it neither ran, nor was answered BUSY, nor was marked.
+    /// Has the task of a completed chain leave, and hands out what it alone blocked. It takes no memory. The list has
+    /// 64 places free, which the caller sees to. `Unknown`, with nothing changed, where no task of the ticket is alive,
+    /// or it neither ran, nor was answered BUSY, nor was marked.
     // Apart, so that the registers of whoever serves the request aren't spilled for it.
     #[inline(never)]
     pub fn leave(&mut self, answered: Answered, out: &mut JobList) -> Result<(), Unknown>
@@ -466,13 +457,13 @@ impl UnitState {
         if !is_ended(task) {
             return Err(Unknown);
         }
-        self.log.push(NotedStep::Leave(ticket), None);
+        self.log.push(RecordedStep::Leave(ticket), None);
         self.tasks.leave(ticket, out);
         Ok(())
     }
 
-    /// Whether all tasks that were alive at the step of this place and met by it, done or not, have left. A step that
-    /// is no Abort and no Reset met none. It takes no memory.
+    /// Returns true if all tasks that were alive at the step of this place and met by it, done or not, have left. A
+    /// step that is no Abort and no Reset met none. It takes no memory.
     pub fn clear_of(&self, place: Place) -> bool
         ensures { result ≡ is_clear place self.now.steps }
     {
@@ -482,9 +473,9 @@ impl UnitState {
         }
     }
 
-    /// Whether the Commit of a receipt stands at its place in this unit's history, with its reply where both have
-    /// one: the receipt, and the unit where it still keeps it. It takes no memory. A unit that keeps no replies knows no
-    /// Commits of folded steps: there the place is asked for that isn't folded.
+    /// Returns true if the Commit of a receipt stands at its place in this unit's history, with its reply where both
+    /// have one: the receipt, and the unit where it still keeps it. It takes no memory. A unit that keeps no replies
+    /// knows no Commits of folded steps: there the place is asked for that isn't folded.
     pub fn confirm(&self, receipt: &Receipt) -> bool
         requires { (self.now.keeps_replies ≡ true) ⊎ (base_of self.now.steps ≤ receipt.now.place) }
         ensures { IsTrue result ↔ IsConfirmed self.now.opening self.now.keeps_replies self.now.steps receipt.now }
@@ -506,7 +497,7 @@ impl UnitState {
         self.log.commit_at(place)
     }
 
-    /// Whether a task that the rule meets is alive. It takes no memory.
+    /// Returns true if a task that the rule meets is alive. It takes no memory.
     pub fn is_alive(&self, rule: Rule) -> bool
         ensures { result ≡ any_met rule (alive self.now.steps) }
     {
@@ -534,35 +525,42 @@ impl UnitState {
         self.log.keeps_replies()
     }
 
-    /// How many steps its history has.
+    /// Returns how many steps its history has.
     pub fn steps(&self) -> u64
         ensures { result ≡ length self.now.steps }
     {
         self.log.len()
     }
 
-    /// How many of them are folded: the oldest.
+    /// Returns how much the unit did since it opened, by the steps of its history.
+    pub fn counts(&self) -> Counts
+        ensures { result ≡ counts_of self.now.steps }
+    {
+        self.log.counts()
+    }
+
+    /// Returns how many of them are folded: the oldest.
     pub fn base(&self) -> u64
         ensures { result ≡ base_of self.now.steps }
     {
         self.log.base()
     }
 
-    /// What the step at a place is; `None` where it is folded, or there is none yet.
+    /// Returns what the step at a place is; `None` where it is folded, or there is none yet.
     pub fn step(&self, place: Place) -> Option<StepKind>
         ensures { result ≡ option_map kind_of (kept_at place self.now.steps) }
     {
         self.log.kind_at(place)
     }
 
-    /// Its target, 0 to 255.
+    /// Returns its target, 0 to 255.
     pub fn target(&self) -> u8
         ensures { result ≡ self.now.opening.target }
     {
         self.facts.target
     }
 
-    /// Its LUN, 0 to 16,383.
+    /// Returns its LUN, 0 to 16,383.
     pub fn lun(&self) -> u16
         ensures { result ≡ self.now.opening.lun }
     {
@@ -576,7 +574,7 @@ impl UnitState {
         self.opening_blocks
     }
 
-    /// Its capacity in blocks of 512 bytes.
+    /// Returns its capacity in blocks of 512 bytes.
     pub fn capacity(&self) -> u64
         ensures { result ≡ capacity_of self.now.opening self.now.steps }
     {

@@ -3,6 +3,16 @@
 #![tactic(auto)]
 
 #[cfg(test)]
+mod acts;
+#[cfg(test)]
+mod bench;
+#[cfg(test)]
+mod calls;
+#[cfg(test)]
+mod hand;
+#[cfg(test)]
+mod port;
+#[cfg(test)]
 mod seats;
 #[cfg(test)]
 mod unit;

@@ -2,11 +2,11 @@
 
 ghost use Rattle.handoff.specs.Seats.{IsSeatOf, IsSameSeat};
 
+use crate::port::Ports;
 use handoff::{Handoff, Seat};
 use std::alloc::Global;
 use std::sync::Wait;
 use std::test::Fail;
-use unit_bench::Ports;
 use unit_history::Job;
 
 /// The identifier of a job, where there is one.

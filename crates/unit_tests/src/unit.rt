@@ -5,10 +5,11 @@ mod orders;
 mod receipts;
 mod refusals;
 
+use crate::acts::Row;
+use crate::bench::first_wrong;
 use std::alloc::Global;
 use std::process::Abort;
 use std::test::Fail;
-use unit_bench::{Row, first_wrong};
 
 /// Plays a row. Where memory is refused on the way, its acts end there: what was refused changed no more than it
 /// may, and the units serve on.

@@ -1,10 +1,14 @@
 //! `vscsi` runs a virtio SCSI host device over a guest that a script plays.
 #![tactic(auto)]
 
-use checked_script::check;
-use command_line::{Asked, Ending, Output, Play, requested};
-use guest_script::{LineFault, Options, ScriptFault, play};
-use served_script::serve;
+mod ending;
+mod output;
+mod words;
+
+use crate::ending::Ending;
+use crate::output::Output;
+use crate::words::{Asked, Play, requested};
+use guest_script::{LineFault, Options, ScriptFault, check, play, serve};
 use std::io::{BufWriter, ErrorKind, Read, Write};
 use std::process::ExitCode;
 use std::rt::{Env, Files};

@@ -39,9 +39,9 @@
 extern "C" {
 #endif
 
-/* The version of this header: 1.2.0. VSCSI_VERSION is major * 65,536 + minor * 256 + patch. */
+/* The version of this header: 1.3.0. VSCSI_VERSION is major * 65,536 + minor * 256 + patch. */
 #define VSCSI_VERSION_MAJOR 1
-#define VSCSI_VERSION_MINOR 2
+#define VSCSI_VERSION_MINOR 3
 #define VSCSI_VERSION_PATCH 0
 #define VSCSI_VERSION ((uint32_t)VSCSI_VERSION_MAJOR << 16 | (uint32_t)VSCSI_VERSION_MINOR << 8 | (uint32_t)VSCSI_VERSION_PATCH)
 
@@ -164,6 +164,17 @@ struct vscsi_fault {
   uint32_t detail;
 };
 
+/* How much a unit did since its device was made. A number that passes 2^64 - 1 begins again at 0. Since 1.3. */
+struct vscsi_counts {
+  uint64_t left;             /* requests that came to the unit, were answered and left it, whatever became of them */
+  uint64_t full;             /* requests that were refused with TASK SET FULL (SAM-5, 5.3.1) */
+  uint64_t good;             /* commands that ran and were answered GOOD */
+  uint64_t check_conditions; /* commands that ran and were answered CHECK CONDITION */
+  uint64_t busy;             /* commands that were refused memory and answered BUSY */
+  uint64_t data_out;         /* bytes that commands took from the driver */
+  uint64_t data_in;          /* bytes that commands gave to the driver */
+};
+
 /* Blocks of a unit that follow one another. Since 1.2. */
 struct vscsi_range {
   uint64_t first;
@@ -281,6 +292,12 @@ enum vscsi_answer vscsi_reset(struct vscsi *device, uint8_t target, uint16_t lun
  * The first of these, in this order, that is so: VSCSI_NO_DEVICE; VSCSI_BAD_CAPACITY; VSCSI_NO_UNIT; VSCSI_NO_MEMORY. */
 enum vscsi_answer vscsi_resize(struct vscsi *device, uint8_t target, uint16_t lun, uint64_t blocks);
 
+/* Tells how much a unit did. `left` and `full` together are the chains that were used for it. What was answered with no step
+ * of the unit is counted nowhere: requests whose unit isn't there or that were malformed, and those that were answered BUSY since
+ * memory was refused as they came to the unit. `size` is that of the structure. Takes no memory. Since 1.3.
+ * The first of these, in this order, that is so: VSCSI_BAD_LENGTH where the size is another; VSCSI_NO_DEVICE; VSCSI_NO_UNIT. */
+enum vscsi_answer vscsi_counts(const struct vscsi *device, uint8_t target, uint16_t lun, struct vscsi_counts *counts, size_t size);
+
 /* How many blocks a unit has.
  * VSCSI_NO_DEVICE; VSCSI_NO_UNIT. */
 enum vscsi_answer vscsi_capacity(const struct vscsi *device, uint8_t target, uint16_t lun, uint64_t *blocks);
@@ -298,7 +315,7 @@ enum vscsi_answer vscsi_blocks(const struct vscsi *device, uint8_t target, uint1
  *
  * `place` is a place of the unit's history, which the host keeps for each unit: 0 when its device was made, and then what the
  * last call left there. Where `all` is false, each block outside the ranges has what it had at that place. Where it is true any
- * block may have changed: more than VSCSI_MOST_RANGES ranges came together, or another call was told meanwhile. `room`
+ * block may have changed: VSCSI_MOST_RANGES ranges had come together and one more write came, or another call was told meanwhile. `room`
  * is how many ranges there is room for, and has to be VSCSI_MOST_RANGES or more; the first `count` are told. Takes no memory.
  * Since 1.2.
  * The first of these, in this order, that is so: VSCSI_NO_DEVICE; VSCSI_BAD_LENGTH where there is room for fewer;

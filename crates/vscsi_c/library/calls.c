@@ -23,6 +23,7 @@ uint32_t vscsi_raw_broken(struct vscsi *device, uint16_t queue, uint32_t *fault)
 uint32_t vscsi_raw_progress(struct vscsi *device, uint16_t queue, uint64_t *accepted, uint64_t *used);
 uint32_t vscsi_raw_reset(struct vscsi *device, uint8_t target, uint16_t lun);
 uint32_t vscsi_raw_resize(struct vscsi *device, uint8_t target, uint16_t lun, uint64_t blocks);
+uint32_t vscsi_raw_counts(struct vscsi *device, uint8_t target, uint16_t lun, struct vscsi_counts *counts);
 uint32_t vscsi_raw_capacity(struct vscsi *device, uint8_t target, uint16_t lun, uint64_t *blocks);
 uint32_t vscsi_raw_blocks(struct vscsi *device, uint8_t target, uint16_t lun, uint64_t first, uint32_t count, uint8_t *into, size_t length);
 uint32_t vscsi_raw_changed(struct vscsi *device, uint8_t target, uint16_t lun, struct told *told, struct vscsi_range *room, size_t length);
@@ -139,6 +140,12 @@ enum vscsi_answer vscsi_reset(struct vscsi *device, uint8_t target, uint16_t lun
 
 enum vscsi_answer vscsi_resize(struct vscsi *device, uint8_t target, uint16_t lun, uint64_t blocks) {
   return device ? (enum vscsi_answer)vscsi_raw_resize(device, target, lun, blocks) : VSCSI_NULL;
+}
+
+enum vscsi_answer vscsi_counts(const struct vscsi *device, uint8_t target, uint16_t lun, struct vscsi_counts *counts, size_t size) {
+  if (!device || !counts) return VSCSI_NULL;
+  if (size != sizeof *counts) return VSCSI_BAD_LENGTH;
+  return (enum vscsi_answer)vscsi_raw_counts(looked_at(device), target, lun, counts);
 }
 
 enum vscsi_answer vscsi_capacity(const struct vscsi *device, uint8_t target, uint16_t lun, uint64_t *blocks) {

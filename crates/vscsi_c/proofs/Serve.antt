@@ -1,7 +1,7 @@
 -- A call where there is a device, and one where there is none.
 use Rattle.std.proofs.Common.{◌≡◌, refl, sym, subst}
 use Rattle.std.specs.Prelude.{ℕ, true, false, List, Option, Some, None, is_some}
-use Rattle.history.specs.Contents.{is_capacity}
+use Rattle.unit_model.specs.Contents.{is_capacity}
 use Rattle.config.specs.declared.config.Config.{Config}
 use Rattle.vscsi_c.specs.Wanted.{Asks}
 use Rattle.block_store.specs.declared.paged.PagedStore.{PagedStore}

@@ -5,13 +5,13 @@ use Rattle.block_store.specs.declared.NoMemory.{NoMemory}
 use Rattle.ring_core.specs.declared.fault.RingFault.{RingFault}
 use Rattle.ring_core.specs.declared.fault.RingFault.TheVariants as ring
 use Rattle.guest_mem.specs.Memory.{LiesIn, bytes_at}
-use Rattle.history.specs.Contents.{blocks_of, capacity_of, is_capacity}
-use Rattle.task_set.specs.Unit.{PlainUnit}
-use Rattle.deeds.specs.World.{PlainQueue, PlainWorld, Opens}
+use Rattle.unit_model.specs.Contents.{blocks_of, capacity_of, is_capacity}
+use Rattle.unit_model.specs.Unit.{PlainUnit}
+use Rattle.device_model.specs.World.{PlainQueue, PlainWorld, Opens}
 use Rattle.ring_core.specs.Writes.{Write}
-use Rattle.deeds.specs.Events.{Event}
-use Rattle.deeds.specs.Happens.{Reached, MayWant}
-use Rattle.deeds.specs.Turns.{Turns, IsStep}
+use Rattle.device_model.specs.Events.{Event}
+use Rattle.device_model.specs.Happens.{Reached, MayWant}
+use Rattle.device_model.specs.Turns.{Turns, IsStep}
 use Rattle.config.specs.Config.{is_config}
 use Rattle.world.specs.Opening.{IsOpening}
 use Rattle.config.specs.ConfigFault.{IsFault}

@@ -4,12 +4,12 @@ use Rattle.std.specs.List.{list_any}
 use Rattle.block_store.specs.Blocks.{zero_block, overwritten, run}
 use Rattle.block_store.specs.Kept as pages
 use Rattle.block_store.specs.declared.paged.PagedStore.{PagedStore}
-use Rattle.history.specs.Contents.{is_capacity}
+use Rattle.unit_model.specs.Contents.{is_capacity}
 use Rattle.decisions.specs.declared.inventory.UnitSpec.{UnitSpec}
 use Rattle.config.specs.Config.{is_config}
 use Rattle.config.specs.declared.config.Config.{Config}
-use Rattle.deeds.specs.World.{Opens}
-use Rattle.deeds.specs.Happens.{Reached}
+use Rattle.device_model.specs.World.{Opens}
+use Rattle.device_model.specs.Happens.{Reached}
 use Rattle.world.specs.Opening.{AreDisksFor, AreDisksOf, IsOpeningOver}
 use Rattle.vscsi_c.specs.Wanted.{Asks}
 use Rattle.vscsi_c.specs.Calls.{Refuses, plain_cause}

@@ -6,3 +6,4 @@ pub mod Kept
 pub mod Places
 pub mod Disks
 pub mod Changes
+pub mod Counts

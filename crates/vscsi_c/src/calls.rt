@@ -4,8 +4,10 @@ ghost use Rattle.std.specs.Prelude.{◌≡◌};
 ghost use Rattle.vscsi_c.specs.Kept.{kept_in};
 ghost use Rattle.vscsi_c.specs.Calls.{Serving, Settles, ServesPortion, Pokes, Peeks, Owes, IsStatus, Breaks, Counts, Resets, Resizes, Holds, Gives, Creates, Destroys};
 ghost use Rattle.vscsi_c.specs.Changes.{TellsChanges};
+ghost use Rattle.vscsi_c.specs.Counts.{TellsCounts};
 
 use crate::answer::Answer;
+use crate::counts::UnitCounts;
 use crate::device::Device;
 use crate::ranges::{BlockRange, Told};
 use crate::served::Served;
@@ -212,6 +214,26 @@ pub(crate) fn resize(
         return Answer::NoDevice;
     };
     let answer = served.resize(target, lun, blocks);
+    device.put(served);
+    answer
+}
+
+/// How much a unit did.
+#[tactic(auto, using(crate::proofs::Serve::serving, crate::proofs::Serve::without))]
+pub(crate) fn counts(
+    device: &mut Device,
+    alloc: Global,
+    target: u8,
+    lun: u16,
+    counts: &mut UnitCounts,
+) -> Answer
+    ensures { Serving (TellsCounts target lun counts.old counts.new) (counts.new ≡ counts.old) (kept_in device.old) result
+        (kept_in device.new) }
+{
+    let Some(mut served) = device.take(alloc) else {
+        return Answer::NoDevice;
+    };
+    let answer = served.counts(target, lun, counts);
     device.put(served);
     answer
 }

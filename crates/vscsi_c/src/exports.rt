@@ -6,8 +6,10 @@ ghost use Rattle.vscsi_c.specs.Answers.{Tells};
 ghost use Rattle.vscsi_c.specs.Kept.{kept_in, disk_at, disks_at};
 ghost use Rattle.vscsi_c.specs.Calls.{Serving, Settles, ServesPortion, Pokes, Peeks, Owes, IsStatus, Breaks, Counts, Resets, Resizes, Holds, Gives, Creates, Destroys};
 ghost use Rattle.vscsi_c.specs.Changes.{TellsChanges};
+ghost use Rattle.vscsi_c.specs.Counts.{TellsCounts};
 ghost use Rattle.vscsi_c.specs.Disks.{CreatesDisk, DestroysDisk, OnDisk, HasBlocks, LoadsBlocks, Saves, CreatesOver, Closes};
 
+use crate::counts::UnitCounts;
 use crate::device::Device;
 use crate::disk::Disk;
 use crate::ranges::{BlockRange, Told};
@@ -65,7 +67,7 @@ pub extern "C" fn vscsi_raw_serve(
     calls::serve(device, alloc, queues, most, steps, more).code()
 }
 
-/// The guest's write.
+/// Writes bytes as the guest.
 #[unsafe(no_mangle)]
 pub extern "C" fn vscsi_raw_poke(device: &mut Device, alloc: Global, addr: u64, bytes: &[u8]) -> u32
     ensures { Tells result (λ a. Serving (Pokes (record { addr = addr; bytes = bytes.now })) (Unit {0})
@@ -88,7 +90,7 @@ pub extern "C" fn vscsi_raw_peek(
     calls::peek(device, alloc, addr, into).code()
 }
 
-/// Whose drivers are owed a notification since this was last asked.
+/// Returns whose drivers are owed a notification since this was last asked.
 #[unsafe(no_mangle)]
 pub extern "C" fn vscsi_raw_owed(device: &mut Device, alloc: Global, queues: &mut u32) -> u32
     ensures { Tells result (λ a. Serving (Owes queues.new) (queues.new ≡ queues.old) (kept_in device.old) a
@@ -97,7 +99,7 @@ pub extern "C" fn vscsi_raw_owed(device: &mut Device, alloc: Global, queues: &mu
     calls::owed(device, alloc, queues).code()
 }
 
-/// The device's status.
+/// Tells the device's status.
 #[unsafe(no_mangle)]
 pub extern "C" fn vscsi_raw_status(device: &mut Device, alloc: Global, status: &mut u8) -> u32
     ensures { Tells result (λ a. Serving (IsStatus status.new) (status.new ≡ status.old) (kept_in device.old) a
@@ -106,7 +108,7 @@ pub extern "C" fn vscsi_raw_status(device: &mut Device, alloc: Global, status: &
     calls::status(device, alloc, status).code()
 }
 
-/// What broke a queue.
+/// Tells what broke a queue.
 #[unsafe(no_mangle)]
 pub extern "C" fn vscsi_raw_broken(
     device: &mut Device,
@@ -120,7 +122,7 @@ pub extern "C" fn vscsi_raw_broken(
     calls::broken(device, alloc, queue, fault).code()
 }
 
-/// How many chains a queue accepted, and how many of them were used.
+/// Tells how many chains a queue accepted, and how many of them were used.
 #[unsafe(no_mangle)]
 pub extern "C" fn vscsi_raw_progress(
     device: &mut Device,
@@ -135,7 +137,7 @@ pub extern "C" fn vscsi_raw_progress(
     calls::progress(device, alloc, queue, accepted, used).code()
 }
 
-/// The operator's hard reset of a unit.
+/// Resets a unit for the operator.
 #[unsafe(no_mangle)]
 pub extern "C" fn vscsi_raw_reset(device: &mut Device, alloc: Global, target: u8, lun: u16) -> u32
     ensures { Tells result (λ a. Serving (Resets target lun) (Unit {0}) (kept_in device.old) a (kept_in device.new)) }
@@ -143,7 +145,7 @@ pub extern "C" fn vscsi_raw_reset(device: &mut Device, alloc: Global, target: u8
     calls::reset(device, alloc, target, lun).code()
 }
 
-/// The operator's resize of a unit.
+/// Resizes a unit for the operator.
 #[unsafe(no_mangle)]
 pub extern "C" fn vscsi_raw_resize(
     device: &mut Device,
@@ -158,7 +160,22 @@ pub extern "C" fn vscsi_raw_resize(
     calls::resize(device, alloc, target, lun, blocks).code()
 }
 
-/// How many blocks a unit has.
+/// Tells how much a unit did.
+#[unsafe(no_mangle)]
+pub extern "C" fn vscsi_raw_counts(
+    device: &mut Device,
+    alloc: Global,
+    target: u8,
+    lun: u16,
+    counts: &mut UnitCounts,
+) -> u32
+    ensures { Tells result (λ a. Serving (TellsCounts target lun counts.old counts.new) (counts.new ≡ counts.old)
+        (kept_in device.old) a (kept_in device.new)) }
+{
+    calls::counts(device, alloc, target, lun, counts).code()
+}
+
+/// Tells how many blocks a unit has.
 #[unsafe(no_mangle)]
 pub extern "C" fn vscsi_raw_capacity(
     device: &mut Device,

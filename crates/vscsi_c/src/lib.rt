@@ -4,6 +4,7 @@
 mod answer;
 mod calls;
 mod changes;
+mod counts;
 mod device;
 mod disk;
 mod disks;
@@ -16,14 +17,15 @@ mod ranges;
 mod served;
 mod wanted;
 
+pub use counts::UnitCounts;
 pub use device::Device;
 pub use disk::Disk;
 pub use exports::{
     vscsi_raw_blocks, vscsi_raw_broken, vscsi_raw_capacity, vscsi_raw_changed, vscsi_raw_close,
-    vscsi_raw_create, vscsi_raw_create_with, vscsi_raw_destroy, vscsi_raw_disk_blocks,
-    vscsi_raw_disk_create, vscsi_raw_disk_destroy, vscsi_raw_disk_load, vscsi_raw_disk_save,
-    vscsi_raw_owed, vscsi_raw_peek, vscsi_raw_poke, vscsi_raw_progress, vscsi_raw_reset,
-    vscsi_raw_resize, vscsi_raw_serve, vscsi_raw_settle, vscsi_raw_status,
+    vscsi_raw_counts, vscsi_raw_create, vscsi_raw_create_with, vscsi_raw_destroy,
+    vscsi_raw_disk_blocks, vscsi_raw_disk_create, vscsi_raw_disk_destroy, vscsi_raw_disk_load,
+    vscsi_raw_disk_save, vscsi_raw_owed, vscsi_raw_peek, vscsi_raw_poke, vscsi_raw_progress,
+    vscsi_raw_reset, vscsi_raw_resize, vscsi_raw_serve, vscsi_raw_settle, vscsi_raw_status,
 };
 pub use ranges::{BlockRange, Told};
 pub use wanted::{Fault, WantedQueue, WantedUnit};

@@ -6,7 +6,7 @@ ghost use Rattle.world.specs.Views.{unit_at};
 ghost use Rattle.vscsi_c.specs.Calls.{Settles, ServesPortion, Pokes, Peeks, Owes, IsStatus, Breaks, Counts, Resets, Resizes, Holds, Gives, number_of};
 
 use crate::answer::Answer;
-use deeds::Event;
+use device_model::Event;
 use std::alloc::Global;
 use unit_history::is_capacity;
 use world::{Notifications, RingFault, World};

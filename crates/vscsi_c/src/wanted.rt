@@ -25,7 +25,7 @@ pub struct WantedQueue {
 }
 
 impl WantedQueue {
-    /// As a layout.
+    /// Returns it as a layout.
     fn layout(&self) -> Layout
         ensures { result ≡ layout_of self.now }
     {
@@ -50,7 +50,7 @@ pub struct WantedUnit {
 }
 
 impl WantedUnit {
-    /// As a specification.
+    /// Returns it as a specification.
     fn spec(&self) -> UnitSpec
         ensures { result ≡ spec_of self.now }
     {

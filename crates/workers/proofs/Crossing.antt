@@ -8,14 +8,14 @@ use denote.Enum.Declared.{shape as enum_shape}
 use Rattle.std.proofs.Crossing.{crosses, send, sync, frees}
 use Rattle.std.specs.contracts.option.Option.{the_field as option_field, the_type as option_type}
 use Rattle.handoff.proofs.Crossing.{job_sends, seat_sends}
-use Rattle.keeping.proofs.Crossing.{kept_sends}
+use Rattle.report.proofs.Crossing.{kept_sends}
 use Rattle.task_set.specs.contracts.job.JobList.{the_row as list_row}
 use Rattle.task_set.specs.contracts.job.JobList.TheInside as list
 use Rattle.ring_core.proofs.answered.Answered.TheSendSync as answered
-use Rattle.unit_history.proofs.answers.Outcome.TheSendSync as outcome
+use Rattle.unit_history.proofs.outcomes.Outcome.TheSendSync as outcome
 use Rattle.unit_history.proofs.pages.PreparedWrite.TheSendSync as pages
-use Rattle.phases.specs.contracts.held.Held.{the_row as held_row}
-use Rattle.phases.specs.contracts.held.Held.TheInside as held
+use Rattle.phases.specs.contracts.job_in_hand.JobInHand.{the_row as held_row}
+use Rattle.phases.specs.contracts.job_in_hand.JobInHand.TheInside as held
 use Rattle.phases.specs.contracts.hand.Hand.{the_field as hand_field, the_type as hand_type}
 use Rattle.bays.proofs.Crossing.{unit_sends, queue_sends}
 use Rattle.guest_mem.proofs.memory.GuestMem.TheSendSync as memory
@@ -104,7 +104,10 @@ shared_syncs G gate = declared_sync (shared_type G) (
                 search (sendable, crosses) depth 20,
                 (
                   search (sendable, crosses) depth 20,
-                  (search (crosses, memory.the_send), (search (sendable, crosses) depth 20, tt)),
+                  (
+                    search (sendable, crosses) depth 20,
+                    (search (crosses, memory.the_send), (search (sendable, crosses) depth 20, tt)),
+                  ),
                 ),
               ),
             ),
@@ -135,7 +138,10 @@ shared_sends G gate = declared_send (shared_type G) (
                 search (sendable, crosses) depth 20,
                 (
                   search (sendable, crosses) depth 20,
-                  (search (crosses, memory.the_send), (search (sendable, crosses) depth 20, tt)),
+                  (
+                    search (sendable, crosses) depth 20,
+                    (search (crosses, memory.the_send), (search (sendable, crosses) depth 20, tt)),
+                  ),
                 ),
               ),
             ),

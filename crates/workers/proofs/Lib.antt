@@ -1,3 +1,5 @@
+pub mod Crews
+pub mod CrewCrossing
 pub mod Crossing
 pub mod Resetting
 pub mod Resizing

@@ -2,8 +2,8 @@
 use Rattle.std.proofs.Common.{Bool, true, false, List, Ok}
 use Rattle.std.specs.Bool.{OnTrue}
 use Rattle.scsi_codec.specs.declared.event_queue.Event.{Event as Report}
-use Rattle.task_set.specs.Jobs.{Jobs}
-use Rattle.task_set.specs.Unit.{PlainUnit, IsUnit}
+use Rattle.unit_model.specs.Jobs.{Jobs}
+use Rattle.unit_model.specs.Unit.{PlainUnit, IsUnit}
 use Rattle.phases.specs.Resetting.{Resets}
 use Rattle.workers.specs.Resetting.{WasReset}
 

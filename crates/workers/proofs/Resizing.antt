@@ -2,7 +2,7 @@
 use Rattle.std.proofs.Common.{ℕ, Bool, true, false, List, Ok}
 use Rattle.std.specs.Bool.{OnTrue}
 use Rattle.scsi_codec.specs.declared.event_queue.Event.{Event as Report}
-use Rattle.task_set.specs.Unit.{PlainUnit, IsUnit}
+use Rattle.unit_model.specs.Unit.{PlainUnit, IsUnit}
 use Rattle.phases.specs.Resizing.{ResizesUnit}
 use Rattle.workers.specs.Resizing.{WasResized}
 

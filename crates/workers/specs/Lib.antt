@@ -1,3 +1,4 @@
+pub mod Crew
 pub mod Extent
 pub mod Resetting
 pub mod Resizing

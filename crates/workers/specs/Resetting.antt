@@ -1,8 +1,8 @@
 -- The operator's reset of a unit that a lock lent.
 use Rattle.std.specs.Prelude.{true, List, Ok}
 use Rattle.scsi_codec.specs.declared.event_queue.Event.{Event as Report}
-use Rattle.task_set.specs.Jobs.{Jobs}
-use Rattle.task_set.specs.Unit.{PlainUnit, IsUnit}
+use Rattle.unit_model.specs.Jobs.{Jobs}
+use Rattle.unit_model.specs.Unit.{PlainUnit, IsUnit}
 use Rattle.phases.specs.Resetting.{Resets}
 
 -- own: some unit was reset: the jobs that this released, and the event that tells the guest, stand behind those that

@@ -1,7 +1,7 @@
 -- The operator's resize of a unit that a lock lent.
 use Rattle.std.specs.Prelude.{ℕ, Bool, true, List, Ok}
 use Rattle.scsi_codec.specs.declared.event_queue.Event.{Event as Report}
-use Rattle.task_set.specs.Unit.{PlainUnit, IsUnit}
+use Rattle.unit_model.specs.Unit.{PlainUnit, IsUnit}
 use Rattle.phases.specs.Resizing.{ResizesUnit}
 
 -- own: some unit has so many blocks, and the event that tells the guest, where it is told, stands behind those that were

@@ -3,64 +3,66 @@
 ghost use Rattle.std.specs.Prelude.{◌≡◌};
 
 use crate::post::Post;
+use crate::progress::Progress;
 use crate::shared::Shared;
-use bays::{Gate, hold};
-use event_queue::WaitingEvents;
-use lent_phases::{
-    answer_tmf_on, check_on, direct_on, fetch_control_on, fetch_event_on, mark_on, raise_on,
+use bays::{
+    Gate, answer_tmf_on, check_on, direct_on, fetch_control_on, fetch_event_on, hold, mark_on,
+    raise_on,
 };
+use event_queue::WaitingEvents;
 use phases::{OpenFunction, Slot};
+use scsi_codec::{CONTROL_QUEUE, EVENT_QUEUE};
 use std::sync::Wait;
 
-/// The number of the control queue, and of the event queue (VIRTIO 1.2 §5.6.2).
-const CONTROL: usize = 0;
+/// Where the control queue stands among the queues.
+const CONTROL: usize = CONTROL_QUEUE as usize;
 
-const EVENTS: usize = 1;
+/// Where the event queue stands among the queues.
+const EVENTS: usize = EVENT_QUEUE as usize;
 
-/// The open function takes its next step. Whether there was nothing to do.
+/// The open function takes its next step; `None` where nothing is left for it to do but to be answered.
 fn go_on<R: Wait, G: Gate + Drop>(
     rt: &R,
     shared: &Shared<G>,
     function: &mut OpenFunction,
     post: &mut Post,
-) -> Option<bool>
+) -> Option<Progress>
     ensures seat { post.new.seat ≡ post.old.seat }
 {
     if let Some(at) = function.function().next_unit() {
         if at < shared.units.len() {
             mark_on(&mut shared.bays(rt), at, function, &mut post.out);
         }
-        return Some(false);
+        return Some(Progress::Made);
     }
     let waits = function.function().waits_for()?;
     if waits.unit >= shared.units.len() {
-        return Some(true);
+        return Some(Progress::Idle);
     }
     let did = check_on(&mut shared.bays(rt), waits.unit, function);
-    Some(!did)
+    Some(Progress::of(did))
 }
 
-/// The open function is answered, where nothing is left for it to do. Whether there was nothing to do.
+/// The open function is answered, where nothing is left for it to do.
 fn answer<R: Wait, G: Gate + Drop>(
     rt: &R,
     shared: &Shared<G>,
     function: &mut Option<OpenFunction>,
-) -> bool {
+) -> Progress {
     if shared.queues.len() <= CONTROL {
-        return true;
+        return Progress::Idle;
     }
-    !answer_tmf_on(&mut shared.bays(rt), CONTROL, function)
+    Progress::of(answer_tmf_on(&mut shared.bays(rt), CONTROL, function))
 }
 
-/// The control queue's next chain is taken, and opens a function or is answered. Whether there was nothing to do: not
-/// where memory was refused.
+/// The control queue's next chain is taken, and opens a function or is answered.
 fn fetch_control<R: Wait, G: Gate + Drop>(
     rt: &R,
     shared: &Shared<G>,
     function: &mut Option<OpenFunction>,
-) -> bool {
+) -> Progress {
     if shared.queues.len() <= CONTROL {
-        return true;
+        return Progress::Idle;
     }
     let mut bays = shared.bays(rt);
     let mut slot = Slot::Empty;
@@ -69,35 +71,35 @@ fn fetch_control<R: Wait, G: Gate + Drop>(
         // A control chain has no receipt, and its note says nothing that its log doesn't.
         let _note = direct_on(&mut bays, CONTROL, &mut slot);
     }
-    fetched == Ok(false)
+    Progress::of(fetched != Ok(false))
 }
 
-/// A step of the function that is open, or else of the control queue. Whether there was nothing to do: not where memory
-/// was refused.
+/// A step of the function that is open, or else of the control queue.
 pub(crate) fn manage<R: Wait, G: Gate + Drop>(
     rt: &R,
     shared: &Shared<G>,
     function: &mut Option<OpenFunction>,
     post: &mut Post,
-) -> bool
+) -> Progress
     ensures seat { post.new.seat ≡ post.old.seat }
 {
     let Some(open) = function else {
         return fetch_control(rt, shared, function);
     };
     match go_on(rt, shared, open, post) {
-        Some(idle) => idle,
+        Some(progress) => progress,
         None => answer(rt, shared, function),
     }
 }
 
-/// The event queue's next chain is taken. Whether there was nothing to do: not where memory was refused.
-pub(crate) fn fetch_event<R: Wait, G: Gate + Drop>(rt: &R, shared: &Shared<G>) -> bool {
+/// The event queue's next chain is taken.
+pub(crate) fn fetch_event<R: Wait, G: Gate + Drop>(rt: &R, shared: &Shared<G>) -> Progress {
     if shared.queues.len() <= EVENTS {
-        return true;
+        return Progress::Idle;
     }
     let mut held = hold(rt, &shared.port);
-    fetch_event_on(&mut shared.bays(rt), EVENTS, &Slot::Empty, &mut held) == Ok(false)
+    let fetched = fetch_event_on(&mut shared.bays(rt), EVENTS, &Slot::Empty, &mut held);
+    Progress::of(fetched != Ok(false))
 }
 
 /// The oldest event that waits goes to the guest, or is missed.

@@ -10,22 +10,23 @@ ghost use Rattle.workers.specs.Resetting.{WasReset};
 ghost use Rattle.workers.specs.Resizing.{WasResized};
 ghost use Rattle.unit_history.specs.Calls.{ResizeRefused};
 
+use crate::alone::unshared;
 use crate::control::raise;
-use crate::post::{Post, clear, finish};
+use crate::crew::{Crew, hire};
+use crate::hired::{Worked, Works};
+use crate::opening::Parts;
+use crate::post::{Post, drain, finish};
 use crate::shared::Shared;
 use crate::worker::{Worker, work};
-use bays::Gate;
+use bays::{Gate, hard_on, hold, peek_on, poke_on, resize_on};
 use block_store::NoMemory;
 use config::{Config, StartFault, tells_changes};
-use crew::{Crew, Worked, Works, hire, unshared};
 use decisions::UnitSpec;
 use event_queue::WaitingEvents;
 use guest_mem::MemFault;
 use handoff::{Handoff, Seat};
-use keeping::{Kept, report};
-use lent_phases::{hard_on, peek_on, poke_on, resize_on};
-use parts::Parts;
-use report::{CloseFault, Report};
+use report::{CloseFault, Kept, Report, report_closed};
+use ring_core::RingFault;
 use std::alloc::{AllocError, Global};
 use std::marker::Model;
 use std::sync::{Arc, Wait};
@@ -126,18 +127,18 @@ fn reset<R: Wait, G: Gate + Drop>(
     ensures reset { OnOk result (at < vec_len shared.now.units → WasReset) }
     ensures there { OnErr result (at < vec_len shared.now.units) }
 {
-    clear(rt, shared, post);
+    drain(rt, shared, post);
     if at >= shared.units.len() {
         return Ok(());
     }
-    if !post.is_free() {
+    if !post.is_idle() {
         return Err(NoMemory);
     }
     if !reset_one(rt, shared, at, post, waiting) {
         return Err(NoMemory);
     }
     raise(rt, shared, waiting);
-    clear(rt, shared, post);
+    drain(rt, shared, post);
     Ok(())
 }
 
@@ -187,6 +188,20 @@ fn resize<R: Wait, G: Gate + Drop>(
     Ok(())
 }
 
+/// What a queue came to: how many chains it accepted and used, how many notices its driver wanted, and which fault of the
+/// guest broke it.
+#[derive(Clone, Copy, Debug, PartialEq, Eq)]
+pub struct Seen {
+    /// How many chains it accepted.
+    pub accepted: u64,
+    /// How many of these were used.
+    pub used: u64,
+    /// How many notices its driver wanted.
+    pub notices: u64,
+    /// The fault of the guest that broke it, if any.
+    pub broken: Option<RingFault>,
+}
+
 /// A device that threads serve. Clauses see how many workers and queues it has, and the units that it was opened with. It
 /// isn't `Drop`: who starts one closes it, which ends its threads.
 pub struct Host<G: Gate + Drop> {
@@ -205,7 +220,7 @@ pub struct Host<G: Gate + Drop> {
 impl<G: Gate + Drop> Model for Host<G> {
     ghost use Rattle.std.specs.Prelude.{◌≡◌, ◌≤◌, vec_len};
     ghost use Rattle.std.specs.Arc.{arc_value};
-    ghost use Rattle.crew.specs.Crew.{IsLastSeat};
+    ghost use Rattle.workers.specs.Crew.{IsLastSeat};
     ghost use Rattle.workers.specs.Extent.{Extent};
 
     ghost Value = { Extent };
@@ -222,10 +237,10 @@ impl<G: Gate + Drop> Model for Host<G> {
 }
 
 impl<G: Gate + Drop> Host<G> {
-    ghost use Rattle.std.specs.Prelude.{◌≡◌, ◌<◌, List, ℕ, length, IfOk, IfErr, OnOk, OnErr, vec_len};
+    ghost use Rattle.std.specs.Prelude.{◌≡◌, ◌<◌, List, ℕ, length, IfOk, IfErr, OnOk, OnErr, vec_len, is_some, nat_lt};
     ghost use Rattle.guest_mem.specs.declared.memory.MemFault.TheVariants as MemFault;
     ghost use Rattle.bays.specs.Lending.{IsMemory};
-    ghost use Rattle.lent_phases.specs.Memory.{Writes, Reads};
+    ghost use Rattle.bays.specs.Memory.{Writes, Reads};
     ghost use Rattle.report.specs.Closed.{IsReport};
     ghost use Rattle.workers.specs.Resetting.{WasReset};
     ghost use Rattle.workers.specs.Resizing.{WasResized};
@@ -258,8 +273,8 @@ impl<G: Gate + Drop> Host<G> {
         }
     }
 
-    /// The guest writes bytes, beside the workers, in one hold of the memory. `Outside`, with nothing changed, exactly
-    /// where one of them would lie behind the end.
+    /// Writes bytes as the guest, beside the workers, in one hold of the memory. `Outside`, with nothing changed,
+    /// exactly where one of them would lie behind the end.
     pub fn poke<R: Wait>(&self, rt: &R, addr: u64, bytes: &[u8]) -> Result<(), MemFault>
         ensures did { (m : List ℕ) × (n : List ℕ) × IsMemory m × Writes m addr bytes.now result n × IsMemory n }
         ensures fault { IfErr result (λ fault. fault ≡ MemFault.Outside) }
@@ -267,8 +282,8 @@ impl<G: Gate + Drop> Host<G> {
         poke_on(&mut self.shared.bays(rt), addr, bytes)
     }
 
-    /// The guest reads bytes, beside the workers, in one hold of the memory. `Outside`, with nothing read, exactly where
-    /// one of them lies behind the end.
+    /// Reads bytes as the guest, beside the workers, in one hold of the memory. `Outside`, with nothing read, exactly
+    /// where one of them lies behind the end.
     pub fn peek<R: Wait>(&self, rt: &R, addr: u64, out: &mut [u8]) -> Result<(), MemFault>
         ensures did { (m : List ℕ) × IsMemory m × Reads m addr out.old result out.new }
         ensures fault { IfErr result (λ fault. fault ≡ MemFault.Outside) }
@@ -277,7 +292,7 @@ impl<G: Gate + Drop> Host<G> {
         peek_on(&mut self.shared.bays(rt), addr, out)
     }
 
-    /// The operator resets the unit at a place of the configuration, and the guest is told (TRANSPORT_RESET). A unit
+    /// Resets the unit at an index of the configuration for the operator, and tells the guest (TRANSPORT_RESET). A unit
     /// that isn't there changes nothing. `NoMemory` where a growth was refused: the unit wasn't reset then.
     pub fn operator<R: Wait>(&mut self, rt: &R, place: u16) -> Result<(), NoMemory>
         ensures same { self.new ≡ self.old }
@@ -293,10 +308,10 @@ impl<G: Gate + Drop> Host<G> {
         )
     }
 
-    /// The operator gives the unit at a place of the configuration another capacity, in blocks of 512 bytes, and the guest
-    /// is told (PARAM_CHANGE) where its driver agreed to `CHANGE`. A unit that isn't there changes nothing.
-    /// `BadCapacity` for 0 and for more than 2^40 blocks, `NoMemory` where a growth was refused: the unit wasn't resized
-    /// then. It may wait.
+    /// Gives the unit at an index of the configuration another capacity for the operator, in blocks of 512 bytes, and
+    /// tells the guest (PARAM_CHANGE) where its driver agreed to `CHANGE`. A unit that isn't there changes nothing.
+    /// `BadCapacity` for 0 and for more than 2^40 blocks, `NoMemory` where a growth was refused: the unit wasn't
+    /// resized then. It may wait.
     pub fn resize<R: Wait>(&mut self, rt: &R, place: u16, blocks: u64) -> Result<(), ResizeFault>
         ensures same { self.new ≡ self.old }
         ensures resized { OnOk result (place < length self.old.units → WasResized blocks) }
@@ -311,6 +326,32 @@ impl<G: Gate + Drop> Host<G> {
             told,
             &mut self.waiting,
         )
+    }
+
+    /// Returns what a queue came to so far, in one hold of it; `None` where there is no such queue. It may wait.
+    pub fn look<R: Wait>(&self, rt: &R, queue: u16) -> Option<Seen>
+        ensures { is_some result ≡ nat_lt queue self.now.queues }
+    {
+        let queue = self.shared.queues.get(queue as usize)?;
+        let held = hold(rt, queue);
+        Some(Seen {
+            accepted: held.log().accepted(),
+            used: held.log().used(),
+            notices: held.notices(),
+            broken: held.fault(),
+        })
+    }
+
+    /// Closes the host as [`Host::close`] does, but for chains that the guest made available and no worker had taken:
+    /// these stay where they are. So it comes back also where the guest's own requests make chains available for ever.
+    /// What it answers is the same.
+    pub fn abandon<R: Threads + Wait>(self, rt: &R) -> Result<Report, CloseFault>
+        ensures report { IfOk result (λ r. IsReport self.units r.units.items r.queues.items r.receipts.items r.notes.items) }
+        ensures units { IfOk result (λ r. vec_len r.units ≡ length self.units) }
+        ensures queues { IfOk result (λ r. vec_len r.queues ≡ self.queues) }
+    {
+        self.shared.abandon();
+        self.close(rt)
     }
 
     /// Ends the workers once nothing is left to them, waits for that, and says what became of every chain that was
@@ -347,6 +388,6 @@ impl<G: Gate + Drop> Host<G> {
             ..
         } = unshared(rt, shared);
         handoff.gather(seats);
-        report(alloc, specs.as_slice(), units, queues, memory, all)
+        report_closed(alloc, specs.as_slice(), units, queues, memory, all)
     }
 }

@@ -3,16 +3,16 @@
 ghost use Rattle.std.specs.Prelude.{◌≡◌, ◌<◌, IfOk, vec_len};
 ghost use Rattle.handoff.specs.Seats.{IsSeatOf, IsSameSeat};
 ghost use Rattle.std.specs.Bool.{OnTrue};
-ghost use Rattle.keeping.specs.Rooms.{HasRoomForOne};
+ghost use Rattle.report.specs.Rooms.{HasRoomForOne};
 
+use crate::hired::Begins;
+use crate::progress::Progress;
 use crate::shared::Shared;
-use bays::{Gate, Point};
+use bays::{Gate, Point, answer_on, commit_on, leave_on, prepare_on};
 use cdb::Command;
-use crew::Begins;
 use handoff::Seat;
-use keeping::Kept;
-use lent_phases::{answer_on, commit_on, leave_on, prepare_on};
 use phases::Hand;
+use report::Kept;
 use ring_core::Ticket;
 use std::alloc::{AllocError, Global};
 use std::sync::Wait;
@@ -39,8 +39,8 @@ impl Begins for Post {
 /// The ticket of what is in a hand.
 fn ticket_in(hand: &Hand) -> Option<Ticket> {
     match hand {
-        Hand::Free => None,
-        Hand::Held(held) => Some(held.job().ticket()),
+        Hand::Empty => None,
+        Hand::Job(held) => Some(held.job().ticket()),
         Hand::Answered(_, answered) => Some(answered.ticket()),
     }
 }
@@ -55,16 +55,16 @@ fn pass<G: Gate>(gate: &G, point: Point, hand: &Hand) {
 /// Whether what is in a hand may have a long answer.
 pub(crate) fn is_long(hand: &Hand) -> bool {
     match hand {
-        Hand::Held(held) => held.job().lengths().writable >= LONG,
-        Hand::Free | Hand::Answered(_, _) => false,
+        Hand::Job(held) => held.job().lengths().writable >= LONG,
+        Hand::Empty | Hand::Answered(_, _) => false,
     }
 }
 
 /// Whether the job in a hand is a WRITE.
 fn is_write(hand: &Hand) -> bool {
     match hand {
-        Hand::Held(held) => matches!(held.job().command(), Command::Write { .. }),
-        Hand::Free | Hand::Answered(_, _) => false,
+        Hand::Job(held) => matches!(held.job().command(), Command::Write { .. }),
+        Hand::Empty | Hand::Answered(_, _) => false,
     }
 }
 
@@ -132,14 +132,14 @@ impl Post {
         Ok(Post {
             seat,
             out: JobList::with_limit(alloc, limit)?,
-            hand: Hand::Free,
+            hand: Hand::Empty,
             kept: Kept::new(alloc),
         })
     }
 
     /// Whether it has no job, in its hand or to be handed off.
-    pub(crate) fn is_free(&self) -> bool {
-        self.hand.is_free() && self.out.len() == 0
+    pub(crate) fn is_idle(&self) -> bool {
+        self.hand.is_empty() && self.out.len() == 0
     }
 
     /// Whether there is room for what the jobs in its list and in its hand leave, and one more request: not where a growth
@@ -167,7 +167,7 @@ fn serve<R: Wait, G: Gate + Drop>(rt: &R, shared: &Shared<G>, post: &mut Post)
 pub(crate) fn serve_hand<R: Wait, G: Gate + Drop>(rt: &R, shared: &Shared<G>, post: &mut Post)
     ensures seat { post.new.seat ≡ post.old.seat }
 {
-    if post.hand.is_free() || !post.make_room() {
+    if post.hand.is_empty() || !post.make_room() {
         return;
     }
     serve(rt, shared, post);
@@ -186,7 +186,7 @@ fn serve_job<R: Wait, G: Gate + Drop>(rt: &R, shared: &Shared<G>, post: &mut Pos
 pub(crate) fn take_own<G: Gate + Drop>(shared: &Shared<G>, post: &mut Post) -> bool
     ensures seat { post.new.seat ≡ post.old.seat }
 {
-    if !post.hand.is_free() || post.out.len() != 1 || shared.is_awaited() {
+    if !post.hand.is_empty() || post.out.len() != 1 || shared.is_awaited() {
         return false;
     }
     let Some(job) = post.out.next() else {
@@ -203,7 +203,7 @@ fn put<R: Wait, G: Gate + Drop>(rt: &R, shared: &Shared<G>, post: &mut Post) -> 
     requires seat { IsSeatOf shared.now.handoff post.old.seat }
     ensures seat { IsSameSeat post.old.seat post.new.seat }
 {
-    if !post.hand.is_free() {
+    if !post.hand.is_empty() {
         return false;
     }
     let Some(job) = post.out.next() else {
@@ -216,7 +216,7 @@ fn put<R: Wait, G: Gate + Drop>(rt: &R, shared: &Shared<G>, post: &mut Post) -> 
 }
 
 /// What this seat has is served or handed off, until it has nothing, or memory was refused to it.
-pub(crate) fn clear<R: Wait, G: Gate + Drop>(rt: &R, shared: &Shared<G>, post: &mut Post)
+pub(crate) fn drain<R: Wait, G: Gate + Drop>(rt: &R, shared: &Shared<G>, post: &mut Post)
     requires seat { IsSeatOf shared.now.handoff post.old.seat }
     ensures seat { IsSameSeat post.old.seat post.new.seat }
 {
@@ -235,31 +235,35 @@ pub(crate) fn finish<R: Wait, G: Gate + Drop>(rt: &R, shared: &Shared<G>, post: 
     requires seat { IsSeatOf shared.now.handoff post.old.seat }
     ensures seat { IsSameSeat post.old.seat post.new.seat }
 {
-    clear(rt, shared, post);
+    drain(rt, shared, post);
     for _ in rt.forever() {
-        if post.is_free() {
+        if post.is_idle() {
             return;
         }
         thread::yield_now();
-        clear(rt, shared, post);
+        drain(rt, shared, post);
     }
     unreachable!()
 }
 
-/// A job is taken from the hand-off, and served. Whether there was nothing to do: not where memory was refused.
-pub(crate) fn take<R: Wait, G: Gate + Drop>(rt: &R, shared: &Shared<G>, post: &mut Post) -> bool
+/// A job is taken from the hand-off, and served.
+pub(crate) fn serve_handed_off<R: Wait, G: Gate + Drop>(
+    rt: &R,
+    shared: &Shared<G>,
+    post: &mut Post,
+) -> Progress
     requires seat { IsSeatOf shared.now.handoff post.old.seat }
     ensures seat { IsSameSeat post.old.seat post.new.seat }
 {
-    if !post.is_free() || !post.make_room() {
-        return false;
+    if !post.is_idle() || !post.make_room() {
+        return Progress::Made;
     }
     let Some(job) = shared.handoff.take(rt, &mut post.seat) else {
-        return true;
+        return Progress::Idle;
     };
     shared.gate.pass(Point::Taken, job.ticket());
     post.hand = Hand::taken(job);
     serve(rt, shared, post);
-    clear(rt, shared, post);
-    false
+    drain(rt, shared, post);
+    Progress::Made
 }

@@ -2,16 +2,16 @@
 
 ghost use Rattle.std.specs.Prelude.{◌≡◌, ◌<◌, vec_len};
 ghost use Rattle.handoff.specs.Seats.{IsSeatOf, IsSameSeat};
-ghost use Rattle.keeping.specs.Rooms.{HasRoomForOne};
+ghost use Rattle.report.specs.Rooms.{HasRoomForOne};
 
-use crate::post::{Post, clear, commit, is_long, serve_hand, take_own};
+use crate::post::{Post, commit, drain, is_long, serve_hand, take_own};
+use crate::progress::Progress;
 use crate::shared::Shared;
-use bays::{Gate, Point};
-use lent_phases::{direct_on, enter_on, fetch_on};
+use bays::{Gate, Point, direct_on, enter_on, fetch_on};
 use phases::Slot;
 use ring_core::Ticket;
 use std::sync::Wait;
-use unit_history::Given;
+use unit_history::ReceiptOrNote;
 
 /// How many jobs of a queue a worker serves in a row.
 const IN_A_ROW: usize = 16;
@@ -20,7 +20,7 @@ const IN_A_ROW: usize = 16;
 fn arrived(slot: &Slot) -> Option<Ticket> {
     match slot {
         Slot::Arrived(arrival) => Some(arrival.ticket()),
-        Slot::Empty | Slot::Ready(_) => None,
+        Slot::Empty | Slot::Direct(_) => None,
     }
 }
 
@@ -59,7 +59,7 @@ fn direct<R: Wait, G: Gate + Drop>(
     }
     if let Some(note) = direct_on(&mut shared.bays(rt), at, slot) {
         let ticket = note.ticket();
-        post.kept.keep(Given::Note(note));
+        post.kept.keep(ReceiptOrNote::Note(note));
         shared.gate.pass(Point::Answered, ticket);
     }
 }
@@ -87,21 +87,20 @@ fn fetch_next<R: Wait, G: Gate + Drop>(
 
 /// A request queue's next chain is taken, and comes to its unit or is answered: whoever calls found the hand-off empty.
 /// The job that it gives is served, where no other worker waits for one. Before a long answer, for which the memory is
-/// held, the next chain is taken, so that there is work while others hold it. Whether there was nothing to do: not
-/// where memory was refused.
-pub(crate) fn fetch<R: Wait, G: Gate + Drop>(
+/// held, the next chain is taken, so that there is work while others hold it.
+pub(crate) fn serve_queue<R: Wait, G: Gate + Drop>(
     rt: &R,
     shared: &Shared<G>,
     at: usize,
     post: &mut Post,
-) -> bool
+) -> Progress
     requires at { at < vec_len shared.now.queues }
     requires seat { IsSeatOf shared.now.handoff post.old.seat }
     ensures seat { IsSameSeat post.old.seat post.new.seat }
 {
     // Then its list has the places that an Enter asks for.
-    if !post.is_free() {
-        return false;
+    if !post.is_idle() {
+        return Progress::Made;
     }
     let fetched = fetch_next(rt, shared, at, post);
     for _ in 0..IN_A_ROW {
@@ -114,6 +113,6 @@ pub(crate) fn fetch<R: Wait, G: Gate + Drop>(
         }
         serve_hand(rt, shared, post);
     }
-    clear(rt, shared, post);
-    fetched == Some(false)
+    drain(rt, shared, post);
+    Progress::of(fetched != Some(false))
 }

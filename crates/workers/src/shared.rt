@@ -2,12 +2,12 @@
 
 ghost use Rattle.std.specs.Prelude.{◌≡◌, length, vec_len};
 
+use crate::opening::Parts;
 use bays::{Gate, Locked};
 use decisions::Inventory;
 use event_queue::EventPort;
 use guest_mem::GuestMem;
 use handoff::Handoff;
-use parts::Parts;
 use queues::Queue;
 use std::sync::atomic::{AtomicBool, AtomicU64, Ordering};
 use std::sync::{Mutex, Wait};
@@ -24,6 +24,8 @@ pub(crate) struct Shared<G: Gate + Drop> {
     pub(crate) handoff: Handoff,
     pub(crate) gate: G,
     pub(crate) closing: AtomicBool,
+    // Whether no chain is taken any more.
+    pub(crate) abandoned: AtomicBool,
     // How many workers found nothing to do in their latest round.
     pub(crate) waiting: AtomicU64,
     // What all threads try for stands in cache lines of its own, so that what stands beside it stays with whoever reads it.
@@ -54,6 +56,7 @@ impl<G: Gate + Drop> Shared<G> {
             handoff,
             gate,
             closing: AtomicBool::new(false),
+            abandoned: AtomicBool::new(false),
             waiting: AtomicU64::new(0),
             _before: [0; 16],
             memory,
@@ -91,6 +94,16 @@ impl<G: Gate + Drop> Shared<G> {
     /// Whether its workers are to end.
     pub(crate) fn is_closing(&self) -> bool {
         self.closing.load(Ordering::SeqCst)
+    }
+
+    /// Whether its workers are to take no chain any more.
+    pub(crate) fn is_abandoned(&self) -> bool {
+        self.abandoned.load(Ordering::SeqCst)
+    }
+
+    /// Its workers are to take no chain any more.
+    pub(crate) fn abandon(&self) {
+        self.abandoned.store(true, Ordering::SeqCst);
     }
 
     /// Its workers are to end once nothing is left to them.

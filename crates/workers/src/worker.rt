@@ -4,18 +4,20 @@ ghost use Rattle.std.specs.Prelude.{◌≡◌, ◌<◌};
 ghost use Rattle.handoff.specs.Seats.{IsSeatOf, IsSameSeat};
 
 use crate::control::{fetch_event, manage};
-use crate::post::{Post, clear, take};
-use crate::requests::fetch;
+use crate::hired::Worked;
+use crate::post::{Post, drain, serve_handed_off};
+use crate::progress::Progress;
+use crate::requests::serve_queue;
 use crate::shared::Shared;
 use bays::Gate;
-use crew::Worked;
-use keeping::Kept;
 use phases::OpenFunction;
+use report::Kept;
+use scsi_codec::FIRST_REQUEST_QUEUE;
 use std::sync::Wait;
 use std::thread;
 
-/// The number of the first request queue (VIRTIO 1.2 §5.6.2).
-const FIRST_REQUEST_QUEUE: usize = 2;
+/// Where the request queues begin among the queues.
+const FIRST_REQUEST: usize = FIRST_REQUEST_QUEUE as usize;
 
 /// In how many rounds that found something the first worker looks once at the queues that have no requests.
 const LOOKS_EVERY: u8 = 16;
@@ -36,62 +38,67 @@ fn ends(post: Post) -> Worked<Kept>
     Worked { seat, kept }
 }
 
-/// The queues of the first worker that have no requests are served a step. Whether there was nothing to do.
+/// The queues of the first worker that have no requests are served a step; of an abandoned host the open function alone.
 fn serve_others<R: Wait, G: Gate + Drop>(
     rt: &R,
     shared: &Shared<G>,
     function: &mut Option<OpenFunction>,
     post: &mut Post,
-) -> bool
+) -> Progress
     ensures seat { post.new.seat ≡ post.old.seat }
 {
-    let idle = manage(rt, shared, function, post);
-    let no_event = fetch_event(rt, shared);
-    idle && no_event
+    if shared.is_abandoned() {
+        return match function {
+            None => Progress::Idle,
+            Some(_) => manage(rt, shared, function, post),
+        };
+    }
+    let managed = manage(rt, shared, function, post);
+    managed.and(fetch_event(rt, shared))
 }
 
-/// The request queues that a worker owns are served, each by one request at most. Whether there was nothing to do.
+/// The request queues that a worker owns are served, each by one request at most.
 fn serve_own<R: Wait, G: Gate + Drop>(
     rt: &R,
     shared: &Shared<G>,
     number: usize,
     workers: usize,
     post: &mut Post,
-) -> bool
+) -> Progress
     requires some { 0 < workers }
     requires seat { IsSeatOf shared.now.handoff post.old.seat }
     ensures seat { IsSameSeat post.old.seat post.new.seat }
 {
-    let mut is_idle = true;
-    for at in FIRST_REQUEST_QUEUE..shared.queues.len() {
-        if (at - FIRST_REQUEST_QUEUE) % workers == number {
-            let idle = fetch(rt, shared, at, post);
-            is_idle = is_idle && idle;
+    let mut progress = Progress::Idle;
+    for at in FIRST_REQUEST..shared.queues.len() {
+        if (at - FIRST_REQUEST) % workers == number {
+            progress = serve_queue(rt, shared, at, post).and(progress);
         }
     }
-    is_idle
+    progress
 }
 
-/// One round: what the seat has, then a job of the hand-off or, where there is none, each queue that the worker owns.
-/// Whether there was nothing to do, and no memory was refused.
+/// One round: what the seat has, then a job of the hand-off or, where there is none, each queue that the worker owns,
+/// unless the host was abandoned.
 fn round<R: Wait, G: Gate + Drop>(
     rt: &R,
     shared: &Shared<G>,
     number: usize,
     workers: usize,
     post: &mut Post,
-) -> bool
+) -> Progress
     requires some { 0 < workers }
     requires seat { IsSeatOf shared.now.handoff post.old.seat }
     ensures seat { IsSameSeat post.old.seat post.new.seat }
 {
-    if !post.is_free() {
-        clear(rt, shared, post);
+    if !post.is_idle() {
+        drain(rt, shared, post);
     }
-    if !take(rt, shared, post) {
-        return false;
+    match serve_handed_off(rt, shared, post) {
+        Progress::Made => Progress::Made,
+        Progress::Idle if shared.is_abandoned() => Progress::Idle,
+        Progress::Idle => serve_own(rt, shared, number, workers, post),
     }
-    serve_own(rt, shared, number, workers, post)
 }
 
 /// Works until the host closes, and a round then looked at all queues, found nothing to do and left the worker nothing.
@@ -115,11 +122,11 @@ pub(crate) fn work<R: Wait, G: Gate + Drop>(
     for _ in rt.forever() {
         let is_closing = shared.is_closing();
         let looks = number != 0 || rounds == 0 || function.is_some();
-        let mut no_other = true;
+        let mut others = Progress::Idle;
         if looks && number == 0 {
-            no_other = serve_others(rt, shared, &mut function, &mut post);
+            others = serve_others(rt, shared, &mut function, &mut post);
         }
-        let is_idle = round(rt, shared, number, workers, &mut post);
+        let is_idle = round(rt, shared, number, workers, &mut post).is_idle();
         if is_idle != waits {
             shared.wait_for_job(is_idle);
             waits = is_idle;
@@ -129,8 +136,8 @@ pub(crate) fn work<R: Wait, G: Gate + Drop>(
         } else {
             rounds.wrapping_add(1) % LOOKS_EVERY
         };
-        if is_idle && no_other && looks {
-            if is_closing && function.is_none() && post.is_free() {
+        if is_idle && others.is_idle() && looks {
+            if is_closing && function.is_none() && post.is_idle() {
                 return ends(post);
             }
             thread::yield_now();

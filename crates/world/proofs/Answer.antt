@@ -3,21 +3,21 @@ use Rattle.std.proofs.Common.{◌≡◌, ℕ, Bool, true, false, List, [], lengt
 use Rattle.std.specs.Prelude.{slice_get, slice_set, map}
 use Rattle.ring_core.specs.State.{Owns}
 use Rattle.ring_core.specs.Writes.{all_written}
-use Rattle.task_set.specs.Jobs.{PlainJob}
-use Rattle.deeds.specs.Parts.{Outcome, Slot, Hand}
-use Rattle.deeds.specs.World.{PlainQueue, Seat, PlainWorld, Everywhere, change}
-use Rattle.deeds.specs.Deeds.{Deed}
-use Rattle.deeds.specs.Events.{Event}
-use Rattle.deeds.specs.After.{completing, with_hand}
-use Rattle.deeds.specs.Phases.{HasHand}
-use Rattle.deeds.specs.Turns.{Turns}
-use Rattle.deeds.proofs.Lists.{same, nothing}
-use Rattle.deeds.proofs.Joining.{joins}
+use Rattle.unit_model.specs.Jobs.{PlainJob}
+use Rattle.device_model.specs.Parts.{Outcome, Slot, Hand}
+use Rattle.device_model.specs.World.{PlainQueue, Seat, PlainWorld, Everywhere, change}
+use Rattle.device_model.specs.Transitions.{Transition}
+use Rattle.device_model.specs.Events.{Event}
+use Rattle.device_model.specs.After.{completing, with_hand}
+use Rattle.device_model.specs.Phases.{HasHand}
+use Rattle.device_model.specs.Turns.{Turns}
+use Rattle.device_model.proofs.Lists.{same, nothing}
+use Rattle.device_model.proofs.Joining.{joins}
 use Rattle.phases.specs.Parts.{answering_queue}
-use Rattle.queues.specs.Queue.{Lent}
-use Rattle.queue_phases.specs.Queue.{with_slot}
-use Rattle.queue_phases.specs.Doing.{AtQueue}
-use Rattle.queue_phases.specs.Direct.{told_writes, LetsGo}
+use Rattle.queues.specs.Queue.{BareQueue}
+use Rattle.phases.specs.Queue.{with_slot}
+use Rattle.phases.specs.DoingQueue.{AtQueue}
+use Rattle.phases.specs.Direct.{decided_writes, LetsGo}
 use Rattle.phases.specs.Answering.{Answers}
 use Rattle.world.specs.Kept.{KeptSeat, seat_of}
 use Rattle.world.specs.Sound.{IsSound}
@@ -25,20 +25,20 @@ use Rattle.world.proofs.Setting.{set_change}
 use Rattle.world.proofs.Seats.{seat_set, shown, one_there, with_queue_and_seat, moved_queue}
 
 -- the phase keeps the size of the memory that the queue was made with
-pub keeps_memory : (hand : Hand) (q r : Lent) (m m' : List ℕ) (b : Bool) (h : Hand) → Answers hand q m b r m' h
+pub keeps_memory : (hand : Hand) (q r : BareQueue) (m m' : List ℕ) (b : Bool) (h : Hand) → Answers hand q m b r m' h
     → r.ring.memory ≡ q.ring.memory
-keeps_memory Hand.Free q r m m' true h c = absurd c
-keeps_memory Hand.Free q r m m' false h c = ap (λ (z : Lent). z.ring.memory) c.0.queue
+keeps_memory Hand.Empty q r m m' true h c = absurd c
+keeps_memory Hand.Empty q r m m' false h c = ap (λ (z : BareQueue). z.ring.memory) c.0.queue
 keeps_memory (Hand.Taken x) q r m m' true h c = absurd c
-keeps_memory (Hand.Taken x) q r m m' false h c = ap (λ (z : Lent). z.ring.memory) c.0.queue
+keeps_memory (Hand.Taken x) q r m m' false h c = ap (λ (z : BareQueue). z.ring.memory) c.0.queue
 keeps_memory (Hand.Answered p t) q r m m' true h c = absurd c
-keeps_memory (Hand.Answered p t) q r m m' false h c = ap (λ (z : Lent). z.ring.memory) c.0.queue
+keeps_memory (Hand.Answered p t) q r m m' false h c = ap (λ (z : BareQueue). z.ring.memory) c.0.queue
 keeps_memory (Hand.Done x o) q r m m' true h c =
     ap (λ (z : PlainQueue). z.ring.memory) (c.0 0 [] Slot.Empty).queue
-keeps_memory (Hand.Done x o) q r m m' false h c = ap (λ (z : Lent). z.ring.memory) c.0.stays.queue
+keeps_memory (Hand.Done x o) q r m m' false h c = ap (λ (z : BareQueue). z.ring.memory) c.0.stays.queue
 
 module _ (w : PlainWorld) (kept : List KeptSeat) (k : ℕ) (x : PlainJob) (o : Outcome) (jobs : List PlainJob) (limit : ℕ)
-    (slot : Slot) (q r : Lent) (m : List ℕ) (h : Hand) (seats : w.seats ≡ map seat_of kept)
+    (slot : Slot) (q r : BareQueue) (m : List ℕ) (h : Hand) (seats : w.seats ≡ map seat_of kept)
     (at : slice_get kept k ≡ Some (record { hand = Hand.Done x o; jobs = jobs; limit = limit }))
     (there : slice_get w.queues x.chain.ticket.queue ≡ Some (with_slot slot q)) where
   -- the seat, as the device shows it
@@ -46,13 +46,13 @@ module _ (w : PlainWorld) (kept : List KeptSeat) (k : ℕ) (x : PlainJob) (o : O
   held = (jobs, shown w kept k (record { hand = Hand.Done x o; jobs = jobs; limit = limit }) seats at)
 
   -- the job is answered
-  answered : AtQueue (Deed.Answer k x o (told_writes q.ring x.chain o)) q w.memory r m
+  answered : AtQueue (Transition.Answer k x o (decided_writes q.ring x.chain o)) q w.memory r m
       → h ≡ Hand.Answered x.unit x.chain.ticket
       → Turns w (Event.Answer k) true (with_queue_and_seat w m x.chain.ticket.queue (with_slot slot r) kept k
       (record { hand = h; jobs = jobs; limit = limit }))
   answered at_queue hs =
-      let xs = told_writes q.ring x.chain o in
-      let d = Deed.Answer k x o xs in
+      let xs = decided_writes q.ring x.chain o in
+      let d = Transition.Answer k x o xs in
       let i = x.chain.ticket.queue in
       let does = at_queue w.inventory slot in
       let hand = Hand.Answered x.unit x.chain.ticket in
@@ -80,13 +80,13 @@ module _ (w : PlainWorld) (kept : List KeptSeat) (k : ℕ) (x : PlainJob) (o : O
 
 -- the phase takes the event's turn
 pub answers : (w : PlainWorld) (kept : List KeptSeat) (k i : ℕ) (hand : Hand) (jobs : List PlainJob) (limit : ℕ)
-    (slot : Slot) (q r : Lent) (m : List ℕ) (h : Hand) (b : Bool) → IsSound w
+    (slot : Slot) (q r : BareQueue) (m : List ℕ) (h : Hand) (b : Bool) → IsSound w
     → Everywhere (λ i (q : PlainQueue). q.ring.memory ≡ length w.memory) w.queues
     → w.seats ≡ map seat_of kept → slice_get kept k ≡ Some (record { hand = hand; jobs = jobs; limit = limit })
     → answering_queue hand ≡ Some i → slice_get w.queues i ≡ Some (with_slot slot q) → Answers hand q w.memory b r m h
     → Turns w (Event.Answer k) b (with_queue_and_seat w m i (with_slot slot r) kept k
     (record { hand = h; jobs = jobs; limit = limit }))
-answers w kept k i Hand.Free jobs limit slot q r m h b sound fits seats at queue there c = absurd (nothing queue)
+answers w kept k i Hand.Empty jobs limit slot q r m h b sound fits seats at queue there c = absurd (nothing queue)
 answers w kept k i (Hand.Taken x) jobs limit slot q r m h b sound fits seats at queue there c = absurd (nothing queue)
 answers w kept k i (Hand.Answered p t) jobs limit slot q r m h b sound fits seats at queue there c = absurd (nothing queue)
 answers w kept k i (Hand.Done x o) jobs limit slot q r m h true sound fits seats at queue there c =

@@ -2,22 +2,22 @@
 use Rattle.std.proofs.Common.{◌≡◌, ◌≤◌, ◌<◌, ◌+◌, ◌*◌, ℕ, zero, suc, Bool, true, false, List, [], ◌∷◌, ◌++◌, length, Option, Some, None, Ok, refl, sym, ap, ◌∙◌, subst, inl, inr, arith}
 use Rattle.std.specs.Prelude.{slice_get, slice_set, map, drop}
 use Rattle.std.proofs.lemmas.Option.{slice_get_within}
-use Rattle.task_set.specs.Jobs.{PlainJob, Jobs}
-use Rattle.task_set.specs.Unit.{PlainUnit}
-use Rattle.deeds.specs.Parts.{Slot, Hand}
-use Rattle.deeds.specs.World.{PlainQueue, PlainWorld, Seat, Everywhere, IsBefore, change}
-use Rattle.deeds.specs.Events.{Event}
-use Rattle.deeds.specs.After.{slotted, with_job}
-use Rattle.deeds.specs.Applies.{Applies, MayPut, MayTake}
-use Rattle.deeds.specs.Phases.{HasHand}
-use Rattle.deeds.specs.Standing.{SlotOwns}
-use Rattle.deeds.specs.Turns.{Turns}
-use Rattle.deeds.proofs.Lists.{same, get_change}
-use Rattle.settling.specs.Order.{of_seat}
-use Rattle.queues.specs.Queue.{Lent}
-use Rattle.queue_phases.specs.Queue.{with_slot}
-use Rattle.phases.specs.Doing.{with_more}
-use Rattle.queue_phases.specs.Fetching.{FetchesRequest}
+use Rattle.unit_model.specs.Jobs.{PlainJob, Jobs}
+use Rattle.unit_model.specs.Unit.{PlainUnit}
+use Rattle.device_model.specs.Parts.{Slot, Hand}
+use Rattle.device_model.specs.World.{PlainQueue, PlainWorld, Seat, Everywhere, IsBefore, change}
+use Rattle.device_model.specs.Events.{Event}
+use Rattle.device_model.specs.After.{slotted, with_job}
+use Rattle.device_model.specs.Applies.{Applies, MayPut, MayTake}
+use Rattle.device_model.specs.Phases.{HasHand}
+use Rattle.device_model.specs.Standing.{SlotOwns}
+use Rattle.device_model.specs.Turns.{Turns}
+use Rattle.device_model.proofs.Lists.{same, get_change}
+use Rattle.device_model.specs.Order.{of_seat}
+use Rattle.queues.specs.Queue.{BareQueue}
+use Rattle.phases.specs.Queue.{with_slot}
+use Rattle.phases.specs.DoingUnit.{with_more}
+use Rattle.phases.specs.Fetching.{FetchesRequest}
 use Rattle.phases.specs.Units as phases
 use Rattle.phases.specs.Serving.{ServesAtOnce, OnlyEnters, Serves}
 use Rattle.world.specs.Kept.{KeptSeat, seat_of}
@@ -89,13 +89,13 @@ set_all w m i q p u kept s =
     }
 
 -- the first seat's first event, where its hand is empty
-first_put : (w w' : PlainWorld) → HasHand w 0 Hand.Free → Turns w (Event.Put 0) true w' → TurnsFirst (of_seat 0) w true w'
+first_put : (w w' : PlainWorld) → HasHand w 0 Hand.Empty → Turns w (Event.Put 0) true w' → TurnsFirst (of_seat 0) w true w'
 first_put w w' there t =
     let idle = stages.free w 0 there in
     taken (of_seat 0) (Event.Put 0) w w'
     (λ a. inr (idle.leave, inr (idle.answer, inr (idle.commit, inl (a, refl))))) t
 
-first_take : (w w' : PlainWorld) → slice_get w.seats 0 ≡ Some (record { hand = Hand.Free; out = [] })
+first_take : (w w' : PlainWorld) → slice_get w.seats 0 ≡ Some (record { hand = Hand.Empty; out = [] })
     → Turns w (Event.Take 0) true w' → TurnsFirst (of_seat 0) w true w'
 first_take w w' there t =
     let idle = stages.free w 0 ([], there) in
@@ -106,12 +106,12 @@ first_take w w' there t =
 
 module _ (sound : AreSound) (asked : ℕ → Bool) (w : PlainWorld) (whole : IsWhole w) (i : ℕ) (q : PlainQueue) (limit : ℕ)
     (rest : List KeptSeat)
-    (are : w.seats ≡ map seat_of (bare Hand.Free limit ∷ rest))
+    (are : w.seats ≡ map seat_of (bare Hand.Empty limit ∷ rest))
     (fits : Everywhere (λ j (z : PlainQueue). z.ring.memory ≡ length w.memory) w.queues)
-    (limits : Everywhere (λ k (s : KeptSeat). s.limit ≡ 64 * length w.units + 64) (bare Hand.Free limit ∷ rest))
+    (limits : Everywhere (λ k (s : KeptSeat). s.limit ≡ 64 * length w.units + 64) (bare Hand.Empty limit ∷ rest))
     (may : MayServe i w) (q_at : slice_get w.queues i ≡ Some q) (before : NoneBeforeFetch w) (below : NoFetchBelow asked i w)
     (is_asked : asked i ≡ true)
-    (x : PlainJob) (lent : Lent)
+    (x : PlainJob) (lent : BareQueue)
     (fetched : FetchesRequest w.inventory w.memory q (Ok true) (with_slot (Slot.Arrived x) lent)) where
   abbrev q1 : PlainQueue
   q1 = with_slot (Slot.Arrived x) lent
@@ -142,30 +142,30 @@ module _ (sound : AreSound) (asked : ℕ → Bool) (w : PlainWorld) (whole : IsW
   own : x.chain.ticket.queue ≡ i
   own = let owns : SlotOwns w1 i (Slot.Arrived x) = (sound w1 whole1.reached).owned.slots i q1 at1 in owns.0
 
-  module _ (u u' : PlainUnit) (u_at : slice_get w.units x.unit ≡ Some u) (s' : Slot) (q' : Lent) (m' : List ℕ) (out' : Jobs) where
+  module _ (u u' : PlainUnit) (u_at : slice_get w.units x.unit ≡ Some u) (s' : Slot) (q' : BareQueue) (m' : List ℕ) (out' : Jobs) where
     enter_turn : (v : PlainUnit) (slot : Slot) (out : Jobs) → phases.EntersAs x u (none limit) v slot out
         → Turns w1 (Event.Enter i) true
-        (entered_in w1 (bare Hand.Free limit ∷ rest) i (slotted slot q1) x.unit v 0 (listing out (bare Hand.Free limit)))
+        (entered_in w1 (bare Hand.Empty limit ∷ rest) i (slotted slot q1) x.unit v 0 (listing out (bare Hand.Empty limit)))
     enter_turn v slot out e =
-        enters w1 (bare Hand.Free limit ∷ rest) are (sound w1 whole1.reached) limits i x.unit 0 q1 u
-        (bare Hand.Free limit) (sym may.own) at1 u_at refl slot v out (Slot.Arrived x) refl refl true e
+        enters w1 (bare Hand.Empty limit ∷ rest) are (sound w1 whole1.reached) limits i x.unit 0 q1 u
+        (bare Hand.Empty limit) (sym may.own) at1 u_at refl slot v out (Slot.Arrived x) refl refl true e
 
     module _ (s : OnlyEnters x u lent w.memory (none limit) u' q' m' s' out') where
       abbrev e2 : PlainWorld
-      e2 = entered_in w1 (bare Hand.Free limit ∷ rest) i (slotted s' q1) x.unit u' 0 (bare Hand.Free limit)
+      e2 = entered_in w1 (bare Hand.Empty limit ∷ rest) i (slotted s' q1) x.unit u' 0 (bare Hand.Empty limit)
 
       only_next : StepsNext asked w1 cursor.Start e2
       only_next =
           enter_next asked w1 w1 e2 i true cursor.Start refl refl next1.4.0 next1.4.1 next1.4.2 next1.4.3 lt1
           (enter_turn u' s' (none limit) (s.enters (none limit))) (inl refl)
 
-      pub only_is : e2 ≡ set_all w m' i (with_slot s' q') x.unit u' (bare Hand.Free limit ∷ rest) (seat_with Hand.Free out')
+      pub only_is : e2 ≡ set_all w m' i (with_slot s' q') x.unit u' (bare Hand.Empty limit ∷ rest) (seat_with Hand.Empty out')
       only_is =
-          let seats = map seat_of (bare Hand.Free limit ∷ rest) in
+          let seats = map seat_of (bare Hand.Empty limit ∷ rest) in
           let units = slice_set w.units x.unit u' in
           ap (λ (qs : List PlainQueue). record w { queues = qs; units = units; seats = seats })
           (set_twice w.queues i q1 (with_slot s' lent))
-          ∙ ap (λ (l : Lent). record w { queues = slice_set w.queues i (with_slot s' l); units = units; seats = seats })
+          ∙ ap (λ (l : BareQueue). record w { queues = slice_set w.queues i (with_slot s' l); units = units; seats = seats })
           (sym s.queue)
           ∙ ap (λ (m : List ℕ). record w {
             memory = m;
@@ -173,11 +173,11 @@ module _ (sound : AreSound) (asked : ℕ → Bool) (w : PlainWorld) (whole : IsW
             units = units;
             seats = seats;
           }) (sym s.memory)
-          ∙ ap (λ (o : Jobs). set_all w m' i (with_slot s' q') x.unit u' (bare Hand.Free limit ∷ rest) (seat_with Hand.Free o))
+          ∙ ap (λ (o : Jobs). set_all w m' i (with_slot s' q') x.unit u' (bare Hand.Empty limit ∷ rest) (seat_with Hand.Empty o))
           (sym s.jobs)
 
       pub only_serves : ServesBy asked w 2
-          (set_all w m' i (with_slot s' q') x.unit u' (bare Hand.Free limit ∷ rest) (seat_with Hand.Free out'))
+          (set_all w m' i (with_slot s' q') x.unit u' (bare Hand.Empty limit ∷ rest) (seat_with Hand.Empty out'))
       only_serves =
           subst (λ z. ServesBy asked w 2 z) only_is
           (serves_next asked w w1 1 cursor.Start e2 (serves_one asked w (cursor.Enter i) w1 next1) only_next)
@@ -185,8 +185,8 @@ module _ (sound : AreSound) (asked : ℕ → Bool) (w : PlainWorld) (whole : IsW
     module _ (left : Bool) (s : ServesAtOnce x u lent w.memory (none limit) left u' q' m' out') where
       abbrev w2 : PlainWorld
       w2 =
-          entered_in w1 (bare Hand.Free limit ∷ rest) i (slotted Slot.Empty q1) x.unit s.entered 0
-          (listing (with_more (x ∷ []) (none limit)) (bare Hand.Free limit))
+          entered_in w1 (bare Hand.Empty limit ∷ rest) i (slotted Slot.Empty q1) x.unit s.entered 0
+          (listing (with_more (x ∷ []) (none limit)) (bare Hand.Empty limit))
 
       at2 : slice_get w2.queues i ≡ Some (slotted Slot.Empty q1)
       at2 = get_set w1.queues i (slotted Slot.Empty q1) lt1
@@ -203,15 +203,15 @@ module _ (sound : AreSound) (asked : ℕ → Bool) (w : PlainWorld) (whole : IsW
       abbrev w3 : PlainWorld
       w3 =
           record w2 {
-            seats = map seat_of (bare Hand.Free limit ∷ rest);
+            seats = map seat_of (bare Hand.Empty limit ∷ rest);
             handed_off = change (with_job x) 0 w.handed_off;
             limit = w.limit;
           }
 
       next3 : StepsNext asked w2 cursor.Seats w3
       next3 =
-          let put = puts w2 (record { hand = Hand.Free; jobs = x ∷ []; limit = limit } ∷ rest) refl 0
-          (record { hand = Hand.Free; jobs = x ∷ []; limit = limit }) (bare Hand.Free limit) refl x
+          let put = puts w2 (record { hand = Hand.Empty; jobs = x ∷ []; limit = limit } ∷ rest) refl 0
+          (record { hand = Hand.Empty; jobs = x ∷ []; limit = limit }) (bare Hand.Empty limit) refl x
           (record { lists = change (with_job x) 0 w.handed_off; limit = w.limit }) refl refl refl
           (record { off = []; there = may.handed_off; room = may.room; after = refl }) in
           seat_next asked w2 w2 w3 0 true cursor.Seats refl refl next2.4.0 next2.4.1 (none_below w2) (omega arith)
@@ -231,7 +231,7 @@ module _ (sound : AreSound) (asked : ℕ → Bool) (w : PlainWorld) (whole : IsW
       next4 : StepsNext asked w3 cursor.Seats w4
       next4 =
           let worker : 0 < w.workers = omega (arith, (sound w whole.reached).working) in
-          let take = takes w3 (bare Hand.Free limit ∷ rest) refl 0 (bare Hand.Free limit) (bare (Hand.Taken x) limit) refl x
+          let take = takes w3 (bare Hand.Empty limit ∷ rest) refl 0 (bare Hand.Empty limit) (bare (Hand.Taken x) limit) refl x
           (record { lists = change (drop 1) 0 (change (with_job x) 0 w.handed_off); limit = w.limit }) worker refl refl refl
           (record {
             from = 0;
@@ -289,20 +289,20 @@ module _ (sound : AreSound) (asked : ℕ → Bool) (w : PlainWorld) (whole : IsW
           sym (set_length x.unit (slice_set w.units x.unit s.entered) s.committed ∙ set_length x.unit w.units s.entered) in
           subst (λ (n : ℕ). Everywhere (λ k (z : KeptSeat). z.limit ≡ 64 * n + 64)
           (bare (Hand.Answered x.unit x.chain.ticket) limit ∷ rest)) size
-          (everywhere_set (λ k (z : KeptSeat). z.limit ≡ 64 * length w.units + 64) 0 (bare Hand.Free limit ∷ rest)
-          (bare (Hand.Answered x.unit x.chain.ticket) limit) limits (limits 0 (bare Hand.Free limit) refl))
+          (everywhere_set (λ k (z : KeptSeat). z.limit ≡ 64 * length w.units + 64) 0 (bare Hand.Empty limit ∷ rest)
+          (bare (Hand.Answered x.unit x.chain.ticket) limit) limits (limits 0 (bare Hand.Empty limit) refl))
 
       abbrev w7 : PlainWorld
       w7 =
           with_unit_and_seat w6 x.unit u' (bare (Hand.Answered x.unit x.chain.ticket) limit ∷ rest) 0
-          (seat_with Hand.Free out')
+          (seat_with Hand.Empty out')
 
       leave_turn : Turns w6 (Event.Leave 0) left w7
       leave_turn =
           let there : x.unit < length (slice_set w.units x.unit s.entered) =
           omega (arith, set_length x.unit w.units s.entered, unit_there) in
           leaves w6 (bare (Hand.Answered x.unit x.chain.ticket) limit ∷ rest) 0 x.unit
-          (Hand.Answered x.unit x.chain.ticket) s.committed u' (none limit) out' Hand.Free left (sound w6 whole6.reached)
+          (Hand.Answered x.unit x.chain.ticket) s.committed u' (none limit) out' Hand.Empty left (sound w6 whole6.reached)
           limits6 refl refl refl (get_set (slice_set w.units x.unit s.entered) x.unit s.committed there) s.leaves
 
       -- the task is known, so that it leaves
@@ -317,11 +317,11 @@ module _ (sound : AreSound) (asked : ℕ → Bool) (w : PlainWorld) (whole : IsW
           (inr (refl, may.closed))
 
       abbrev last : PlainWorld
-      last = set_all w m' i (with_slot Slot.Empty q') x.unit u' (bare Hand.Free limit ∷ rest) (seat_with Hand.Free out')
+      last = set_all w m' i (with_slot Slot.Empty q') x.unit u' (bare Hand.Empty limit ∷ rest) (seat_with Hand.Empty out')
 
       last_is : w7 ≡ last
       last_is =
-          let seats = map seat_of (seat_with Hand.Free out' ∷ rest) in
+          let seats = map seat_of (seat_with Hand.Empty out' ∷ rest) in
           ap (λ (qs : List PlainQueue). record w7 { queues = qs })
           (set_twice (slice_set w.queues i q1) i (slotted Slot.Empty q1) (with_slot Slot.Empty q')
           ∙ set_twice w.queues i q1 (with_slot Slot.Empty q'))
@@ -347,7 +347,7 @@ module _ (sound : AreSound) (asked : ℕ → Bool) (w : PlainWorld) (whole : IsW
       -- where the seat has no job to hand off, it is as it was
       seats_are : out'.jobs ≡ [] → last.seats ≡ w.seats
       seats_are empty =
-          ap (λ (l : List PlainJob). record { hand = Hand.Free; out = l } ∷ map seat_of rest) empty ∙ sym are
+          ap (λ (l : List PlainJob). record { hand = Hand.Empty; out = l } ∷ map seat_of rest) empty ∙ sym are
 
       still_seat : (l : List Seat) → l ≡ w.seats → NoSeat (record last { seats = l })
       still_seat l is =
@@ -404,26 +404,26 @@ fetches_only asked most w i q q' r sound few may at fits before below is_asked f
 
 -- the first seat has nothing in its hand and no jobs
 pub seat_bare : (w : PlainWorld) (i : ℕ) (kept : List KeptSeat) (s : KeptSeat) → w.seats ≡ map seat_of kept
-    → slice_get kept 0 ≡ Some s → MayServe i w → s ≡ bare Hand.Free s.limit
+    → slice_get kept 0 ≡ Some s → MayServe i w → s ≡ bare Hand.Empty s.limit
 seat_bare w i kept s are at may =
     let there : slice_get w.seats 0 ≡ Some (seat_of s) = shown w kept 0 s are at in
     ap (λ (z : Seat). record { hand = z.hand; jobs = z.out; limit = s.limit }) (same (sym there ∙ may.seat))
 
 -- so its list has room for all that a unit may hand out
-pub has_room : (s : KeptSeat) (n : ℕ) → s ≡ bare Hand.Free s.limit → s.limit ≡ 64 * n + 64 → length s.jobs + 64 ≤ s.limit
+pub has_room : (s : KeptSeat) (n : ℕ) → s ≡ bare Hand.Empty s.limit → s.limit ≡ 64 * n + 64 → length s.jobs + 64 ≤ s.limit
 has_room s n is many =
     let none : length s.jobs ≡ 0 = ap (λ (z : KeptSeat). length z.jobs) is in
     omega (arith, none, many)
 
 -- what is served keeps the memory of the queue, and the room of the list
-pub serves_keeps : (x : PlainJob) (u u' : PlainUnit) (q q' : Lent) (m m' : List ℕ) (s s' : Slot) (out out' : Jobs)
+pub serves_keeps : (x : PlainJob) (u u' : PlainUnit) (q q' : BareQueue) (m m' : List ℕ) (s s' : Slot) (out out' : Jobs)
     (done : Option Bool) → Serves x u q m s out done u' q' m' s' out'
     → (q'.ring.memory ≡ q.ring.memory) × (out'.limit ≡ out.limit)
 serves_keeps x u u' q q' m m' s s' out out' None h =
-    (ap (λ (z : Lent). z.ring.memory) h.queue, ap (λ (z : Jobs). z.limit) h.jobs)
+    (ap (λ (z : BareQueue). z.ring.memory) h.queue, ap (λ (z : Jobs). z.limit) h.jobs)
 serves_keeps x u u' q q' m m' s s' out out' (Some left) h = (
   keeps_memory (Hand.Done x h.0.outcome) q q' m m' true (Hand.Answered x.unit x.chain.ticket) h.0.answers,
-  keeps_limit (Hand.Answered x.unit x.chain.ticket) h.0.committed u' out out' left Hand.Free h.0.leaves,
+  keeps_limit (Hand.Answered x.unit x.chain.ticket) h.0.committed u' out out' left Hand.Empty h.0.leaves,
 )
 
 -- where to look then
@@ -437,22 +437,22 @@ looks_so asked most w v (suc n) left jobs few is serves seats fetch =
 
 -- what is done of a request at once are the first events that apply, one after another
 pub serves_kept : (sound : AreSound) (asked : ℕ → Bool) (w : PlainWorld) → IsWhole w → (i : ℕ) (q : PlainQueue) (limit : ℕ) (kept rest : List KeptSeat)
-    → kept ≡ bare Hand.Free limit ∷ rest → w.seats ≡ map seat_of kept
+    → kept ≡ bare Hand.Empty limit ∷ rest → w.seats ≡ map seat_of kept
     → Everywhere (λ j (z : PlainQueue). z.ring.memory ≡ length w.memory) w.queues
     → Everywhere (λ k (s : KeptSeat). s.limit ≡ 64 * length w.units + 64) kept
     → MayServe i w → slice_get w.queues i ≡ Some q → NoneBeforeFetch w
-    → NoFetchBelow asked i w → asked i ≡ true → (x : PlainJob) (lent : Lent) → FetchesRequest w.inventory w.memory q (Ok true) (with_slot (Slot.Arrived x) lent)
-    → (u u' : PlainUnit) → slice_get w.units x.unit ≡ Some u → (s s' : Slot) (q' : Lent) (m' : List ℕ) (out' : Jobs)
+    → NoFetchBelow asked i w → asked i ≡ true → (x : PlainJob) (lent : BareQueue) → FetchesRequest w.inventory w.memory q (Ok true) (with_slot (Slot.Arrived x) lent)
+    → (u u' : PlainUnit) → slice_get w.units x.unit ≡ Some u → (s s' : Slot) (q' : BareQueue) (m' : List ℕ) (out' : Jobs)
     → s ≡ Slot.Empty → (done : Option Bool)
     → Serves x u lent w.memory s (record { jobs = []; limit = limit }) done u' q' m' s' out' → (most : ℕ) → 7 ≤ most
     → (n : ℕ) → n ≡ length out'.jobs
-    → ServesNext asked most w (served_of done n) (set_all w m' i (with_slot s' q') x.unit u' kept (seat_with Hand.Free out'))
+    → ServesNext asked most w (served_of done n) (set_all w m' i (with_slot s' q') x.unit u' kept (seat_with Hand.Empty out'))
 serves_kept a asked w b i q l kept rest ka are f g may at bf bl is_asked x t ft u u' ut s s' q' m' out' e None h most few n is =
     let are' = are ∙ ap (λ (ks : List KeptSeat). map seat_of ks) ka in
     let limits' = subst (λ (ks : List KeptSeat). Everywhere (λ k (z : KeptSeat). z.limit ≡ 64 * length w.units + 64) ks) ka
     g in
     subst (λ (ks : List KeptSeat).
-    ServesNext asked most w (served_of None n) (set_all w m' i (with_slot s' q') x.unit u' ks (seat_with Hand.Free out'))) (sym ka)
+    ServesNext asked most w (served_of None n) (set_all w m' i (with_slot s' q') x.unit u' ks (seat_with Hand.Empty out'))) (sym ka)
     (record {
       some = omega arith;
       few = omega (arith, few);
@@ -465,7 +465,7 @@ serves_kept a asked w b i q l kept rest ka are f g may at bf bl is_asked x t ft 
     let limits' = subst (λ (ks : List KeptSeat). Everywhere (λ k (z : KeptSeat). z.limit ≡ 64 * length w.units + 64) ks) ka
     g in
     let slot : Slot.Empty ≡ s' = sym (h.1 ∙ e) in
-    let v = set_all w m' i (with_slot Slot.Empty q') x.unit u' (bare Hand.Free l ∷ rest) (seat_with Hand.Free out') in
+    let v = set_all w m' i (with_slot Slot.Empty q') x.unit u' (bare Hand.Empty l ∷ rest) (seat_with Hand.Empty out') in
     let serves : ServesBy asked w 7 v =
     served a asked w b i q l rest are' f limits' may at bf bl is_asked x t ft u u' ut s' q' m' out' left h.0 in
     let seats : NoneBefore cursor.Seats v =
@@ -475,9 +475,9 @@ serves_kept a asked w b i q l kept rest ka are f g may at bf bl is_asked x t ft 
     before_fetch a asked w b i q l rest are' f limits' may at bf bl is_asked x t ft u u' ut s' q' m' out'
     left h.0 in
     subst (λ (ks : List KeptSeat).
-    ServesNext asked most w (served_of (Some left) n) (set_all w m' i (with_slot s' q') x.unit u' ks (seat_with Hand.Free out')))
+    ServesNext asked most w (served_of (Some left) n) (set_all w m' i (with_slot s' q') x.unit u' ks (seat_with Hand.Empty out')))
     (sym ka)
     (subst (λ (z : Slot).
     ServesNext asked most w (served_of (Some left) n)
-    (set_all w m' i (with_slot z q') x.unit u' (bare Hand.Free l ∷ rest) (seat_with Hand.Free out'))) slot
+    (set_all w m' i (with_slot z q') x.unit u' (bare Hand.Empty l ∷ rest) (seat_with Hand.Empty out'))) slot
     (looks_so asked most w v n left out'.jobs few is serves seats fetch))

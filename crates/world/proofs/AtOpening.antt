@@ -13,12 +13,12 @@ use Rattle.ring_core.specs.declared.layout.Form.TheVariants.{Split, Packed}
 use Rattle.ring_core.specs.declared.layout.Layout.{Layout}
 use Rattle.decisions.specs.Inventory.{address_of, is_rising}
 use Rattle.decisions.specs.declared.inventory.UnitSpec.{UnitSpec}
-use Rattle.task_set.specs.Unit.{PlainUnit}
-use Rattle.deeds.specs.Parts.{Slot}
-use Rattle.deeds.specs.World.{PlainQueue, PlainWorld, Seat, Everywhere, IsNewQueue, IsNewUnit, IsNewSeat, Opens}
-use Rattle.deeds.proofs.Lists.{nothing, same}
+use Rattle.unit_model.specs.Unit.{PlainUnit}
+use Rattle.device_model.specs.Parts.{Slot}
+use Rattle.device_model.specs.World.{PlainQueue, PlainWorld, Seat, Everywhere, IsNewQueue, IsNewUnit, IsNewSeat, Opens}
+use Rattle.device_model.proofs.Lists.{nothing, same}
 use Rattle.queues.specs.Queue.{opening_ring, opening_queue, placement_of}
-use Rattle.queue_phases.specs.Queue.{with_slot}
+use Rattle.phases.specs.Queue.{with_slot}
 use Rattle.config.specs.declared.config.Config.{Config}
 use Rattle.config.specs.Config.{is_config, is_queue, is_unit, has_lun_0, are_queues, are_units, form_of, size_of}
 use Rattle.block_store.specs.declared.paged.PagedStore.{PagedStore}

@@ -6,16 +6,16 @@ use Rattle.ring_core.specs.State.{PlainChain}
 use Rattle.ring_core.specs.Writes.{all_written}
 use Rattle.ring_core.specs.Sound as ring
 use Rattle.event_queue.specs.Port.{PlainPort}
-use Rattle.deeds.specs.Parts.{Slot, is_short}
-use Rattle.deeds.specs.World.{PlainQueue, PlainWorld, change}
-use Rattle.deeds.specs.Events.{Event}
-use Rattle.deeds.specs.Deeds.{Deed}
-use Rattle.deeds.specs.After.{taking, spending, broken_by}
-use Rattle.deeds.specs.Happens.{IsOpenTo}
-use Rattle.deeds.specs.Phases.{AsksQueue}
-use Rattle.deeds.specs.Turns.{Turns}
-use Rattle.deeds.proofs.Joining.{joins}
-use Rattle.queue_phases.specs.EventQueue.{IsEventFetch, DoesAtPort, FetchesEvent, MayHold, StaysAtPort, port_after}
+use Rattle.device_model.specs.Parts.{Slot, is_short}
+use Rattle.device_model.specs.World.{PlainQueue, PlainWorld, change}
+use Rattle.device_model.specs.Events.{Event}
+use Rattle.device_model.specs.Transitions.{Transition}
+use Rattle.device_model.specs.After.{taking, spending, broken_by}
+use Rattle.device_model.specs.Happens.{IsOpenTo}
+use Rattle.device_model.specs.Phases.{AsksQueue}
+use Rattle.device_model.specs.Turns.{Turns}
+use Rattle.device_model.proofs.Joining.{joins}
+use Rattle.phases.specs.EventQueue.{IsEventFetch, DoesAtPort, FetchesEvent, MayHold, StaysAtPort, port_after}
 use Rattle.world.specs.Steps.{TurnsOrWants}
 use Rattle.world.specs.Sound.{IsSound, AreFew, size_of}
 use Rattle.world.proofs.Setting.{map_get, set_same}
@@ -34,8 +34,8 @@ open_event w (suc i) e = tt
 
 module _ (w : PlainWorld) (k : ℕ) (q q' : PlainQueue) (m' : List ℕ) (p p' : PlainPort) (second : k ≡ 1)
     (at : slice_get w.queues k ≡ Some q) (held : p.buffers ≡ w.buffers) (missed : p.missed ≡ w.missed) where
-  -- what the deed asks where the port's word stands for the world's
-  asked : (d : Deed) → AsksQueue w.inventory p.missed d q w.memory → AsksQueue w.inventory w.missed d q w.memory
+  -- what the transition asks where the port's word stands for the world's
+  asked : (d : Transition) → AsksQueue w.inventory p.missed d q w.memory → AsksQueue w.inventory w.missed d q w.memory
   asked d h = subst (λ b. AsksQueue w.inventory b d q w.memory) missed h
 
   -- the world afterwards, where only these parts changed
@@ -48,11 +48,11 @@ module _ (w : PlainWorld) (k : ℕ) (q q' : PlainQueue) (m' : List ℕ) (p p' : 
   parts_are m qs z a b c =
       ap (λ m. changed m (slice_set w.queues k q') p') a ∙ ap (λ qs. changed m qs p') b ∙ ap (λ z. changed m qs z) c
 
-  -- a fetch with its deed is a turn
-  event_deed : (d : Deed) → q.slot ≡ Slot.Empty → IsEventFetch d → DoesAtPort d q w.memory p q' m' p'
+  -- a fetch with its transition is a turn
+  event_transition : (d : Transition) → q.slot ≡ Slot.Empty → IsEventFetch d → DoesAtPort d q w.memory p q' m' p'
       → Turns w (Event.Fetch 1) true (with_port m' (slice_set w.queues k q') p' w)
-  event_deed (Deed.Hold f) empty of does =
-      let d = Deed.Hold f in
+  event_transition (Transition.Hold f) empty of does =
+      let d = Transition.Hold f in
       let here = at_number w k f.chain.ticket.queue q at (of ∙ sym second) in
       let set = set_as (taking f.chain) k f.chain.ticket.queue w.queues q q' at does.queue (of ∙ sym second) in
       let qs = change (taking f.chain) f.chain.ticket.queue w.queues in (
@@ -63,8 +63,8 @@ module _ (w : PlainWorld) (k : ℕ) (q q' : PlainQueue) (m' : List ℕ) (p p' : 
             ∙ ap (λ (b : List PlainChain). record w { queues = qs; buffers = b ++ f.chain ∷ []; missed = p.missed }) held
             ∙ ap (λ (b : Bool). record w { queues = qs; buffers = w.buffers ++ f.chain ∷ []; missed = b }) missed,
       )
-  event_deed (Deed.Spend f xs) empty of does =
-      let d = Deed.Spend f xs in
+  event_transition (Transition.UseBuffer f xs) empty of does =
+      let d = Transition.UseBuffer f xs in
       let here = at_number w k f.chain.ticket.queue q at (of ∙ sym second) in
       let m = all_written w.memory xs in
       let set = set_as (spending m f.chain) k f.chain.ticket.queue w.queues q q' at does.queue (of ∙ sym second) in
@@ -76,8 +76,8 @@ module _ (w : PlainWorld) (k : ℕ) (q q' : PlainQueue) (m' : List ℕ) (p p' : 
             ∙ ap (λ (b : List PlainChain). record w { memory = m; queues = qs; buffers = b; missed = p.missed && is_short f.chain }) held
             ∙ ap (λ (b : Bool). record w { memory = m; queues = qs; missed = b && is_short f.chain }) missed,
       )
-  event_deed (Deed.Break n fault) empty of does =
-      let d = Deed.Break n fault in
+  event_transition (Transition.Break n fault) empty of does =
+      let d = Transition.Break n fault in
       let here = at_number w k n q at (of ∙ sym second) in
       let set = set_as (broken_by fault) k n w.queues q q' at does.queue (of ∙ sym second) in
       let qs = change (broken_by fault) n w.queues in (
@@ -88,7 +88,7 @@ module _ (w : PlainWorld) (k : ℕ) (q q' : PlainQueue) (m' : List ℕ) (p p' : 
             ∙ ap (λ (b : List PlainChain). record w { queues = qs; buffers = b; missed = p.missed }) held
             ∙ ap (λ (b : Bool). record w { queues = qs; missed = b }) missed,
       )
-  event_deed d empty of does = absurd of
+  event_transition d empty of does = absurd of
 
   -- where nothing was changed the world is as it was
   event_still : StaysAtPort q w.memory p q' m' p' → with_port m' (slice_set w.queues k q') p' w ≡ w
@@ -101,7 +101,7 @@ module _ (w : PlainWorld) (k : ℕ) (q q' : PlainQueue) (m' : List ℕ) (p p' : 
   pub event_turns : (r : Result Bool NoMemory) → IsSound w → q.ring.memory ≡ length w.memory → MayHold p
       → FetchesEvent q w.memory p r q' m' p'
       → TurnsOrWants w (Event.Fetch 1) r (with_port m' (slice_set w.queues k q') p' w)
-  event_turns (Ok true) sound fits room h = event_deed h.2.0 h.1.empty h.2.1 h.2.2
+  event_turns (Ok true) sound fits room h = event_transition h.2.0 h.1.empty h.2.1 h.2.2
   event_turns (Ok false) sound fits room h = (
     event_still h.0,
     λ may.
@@ -127,12 +127,12 @@ event_memory q q' m m' p p' (Ok true) h =
 event_memory q q' m m' p p' (Ok false) h = ap (λ (z : PlainQueue). z.ring.memory) h.0.queue
 event_memory q q' m m' p p' (Err e) h = ap (λ (z : PlainQueue). z.ring.memory) h.0.queue
 
--- a deed keeps how many buffers the port may hold
-limit_after : (d : Deed) (p : PlainPort) → (port_after d p).limit ≡ p.limit
-limit_after (Deed.Hold f) p = refl
-limit_after (Deed.Spend f xs) p = refl
-limit_after (Deed.Give e c xs) p = refl
-limit_after (Deed.Miss e) p = refl
+-- a transition keeps how many buffers the port may hold
+limit_after : (d : Transition) (p : PlainPort) → (port_after d p).limit ≡ p.limit
+limit_after (Transition.Hold f) p = refl
+limit_after (Transition.UseBuffer f xs) p = refl
+limit_after (Transition.Give e c xs) p = refl
+limit_after (Transition.Miss e) p = refl
 limit_after d p = refl
 
 -- and so does a fetch

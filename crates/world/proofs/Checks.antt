@@ -1,19 +1,19 @@
 -- What a check of the open function does is a turn of its event.
 use Rattle.std.proofs.Common.{◌≡◌, ℕ, Bool, true, false, List, [], ◌∷◌, Option, Some, refl, sym, ap, ◌∙◌}
 use Rattle.std.specs.Prelude.{slice_get}
-use Rattle.history.specs.Clearing.{is_clear}
-use Rattle.task_set.specs.Unit.{PlainUnit}
+use Rattle.unit_model.specs.Clearing.{is_clear}
+use Rattle.unit_model.specs.Unit.{PlainUnit}
 use Rattle.task_mgmt.specs.Functions.{checking}
 use Rattle.task_mgmt.specs.declared.function.Mark.{Mark as Place}
-use Rattle.deeds.specs.World.{Opened, PlainWorld}
-use Rattle.deeds.specs.Events.{Event}
-use Rattle.deeds.specs.Deeds.{Deed}
-use Rattle.deeds.specs.After.{on_function}
-use Rattle.deeds.specs.Applies.{MayCheck}
-use Rattle.deeds.specs.Happens.{IsWaiting}
-use Rattle.deeds.specs.Turns.{Turns}
-use Rattle.deeds.proofs.Joining.{joins}
-use Rattle.deeds.proofs.Lists.{same}
+use Rattle.device_model.specs.World.{Opened, PlainWorld}
+use Rattle.device_model.specs.Events.{Event}
+use Rattle.device_model.specs.Transitions.{Transition}
+use Rattle.device_model.specs.After.{on_function}
+use Rattle.device_model.specs.Applies.{MayCheck}
+use Rattle.device_model.specs.Happens.{IsWaiting}
+use Rattle.device_model.specs.Turns.{Turns}
+use Rattle.device_model.proofs.Joining.{joins}
+use Rattle.device_model.proofs.Lists.{same}
 use Rattle.phases.specs.Units.{Checks, ChecksFirst}
 
 -- the world with this function
@@ -58,9 +58,9 @@ first_turns w f f' [] (p ∷ later) mark u true there left waits first at h =
     let here = ap (λ (m : Place). slice_get w.units m.unit) (same first) ∙ at in
     let waiting : IsWaiting w f.chain.ticket (p ∷ later) =
     record { opened = f; there = there; of = refl; left = left; still = waits } in (
-      Deed.Check f.chain.ticket p,
+      Transition.Check f.chain.ticket p,
       refl,
-      joins (Deed.Check f.chain.ticket p) w (later, waiting) (u, here, h.0.asks) tt,
+      joins (Transition.Check f.chain.ticket p) w (later, waiting) (u, here, h.0.asks) tt,
       ap (λ o. with_function o w)
           (ap (λ o. Some o) h.1 ∙ ap (λ o. on_function checking o) (sym there)),
     )

@@ -1,12 +1,12 @@
 -- The first of some events that changes something.
 use Rattle.std.proofs.Common.{◌≡◌, ◌⊎◌, inl, inr, ℕ, ◌<◌, ◌+◌, Bool, true, false, List, Option, Some, None, is_some, refl, sym, subst, ◌∙◌, arith}
-use Rattle.deeds.specs.World.{PlainWorld}
-use Rattle.deeds.specs.Events.{Event}
-use Rattle.deeds.specs.Applies.{Applies}
-use Rattle.deeds.specs.Turns.{Turns}
-use Rattle.deeds.proofs.Applying.{applies}
-use Rattle.deeds.proofs.Lists.{nothing}
-use Rattle.settling.specs.Order.{IsFirstOf, NoneApplies}
+use Rattle.device_model.specs.World.{PlainWorld}
+use Rattle.device_model.specs.Events.{Event}
+use Rattle.device_model.specs.Applies.{Applies}
+use Rattle.device_model.specs.Turns.{Turns}
+use Rattle.device_model.proofs.Applying.{applies}
+use Rattle.device_model.proofs.Lists.{nothing}
+use Rattle.device_model.specs.Order.{IsFirstOf, NoneApplies}
 use Rattle.world.specs.Cursors.{TurnsFirst, of_function}
 
 -- where an event changed something it applied, so it is first where it is behind those that don't apply

@@ -1,30 +1,30 @@
 -- The phase that commits the job in a seat's hand takes the turn of its event.
 use Rattle.std.proofs.Common.{◌≡◌, ℕ, Bool, true, false, List, Some, refl, sym, ap, ◌∙◌, subst, inl, inr}
 use Rattle.std.proofs.lemmas.Bool.{false≢true}
-use Rattle.history.specs.declared.reason.Reason.{Reason}
+use Rattle.unit_model.specs.declared.reason.Reason.{Reason}
 use Rattle.replies.specs.PlainReply.{PlainReply}
 use Rattle.std.specs.Prelude.{slice_get, slice_set, map, ◌||◌}
-use Rattle.history.specs.Endings.{Ending}
-use Rattle.history.specs.Tasks.{task_of}
-use Rattle.history.specs.Steps.{Step, alive, done}
-use Rattle.history.specs.Marks.{marked}
-use Rattle.history.specs.Enabling.{enabled}
-use Rattle.task_set.specs.Jobs.{PlainJob}
-use Rattle.task_set.specs.Unit.{PlainUnit, after as stepped}
-use Rattle.task_set.specs.Asking.{CannotCommit}
-use Rattle.deeds.specs.Parts.{Outcome, Hand}
-use Rattle.deeds.specs.World.{Seat, PlainWorld, change}
-use Rattle.deeds.specs.Deeds.{Deed, event_of}
-use Rattle.deeds.specs.Events.{Event}
-use Rattle.deeds.specs.After.{after, with_hand}
-use Rattle.deeds.specs.Happens.{Happens}
-use Rattle.deeds.specs.Phases.{HasHand}
-use Rattle.deeds.specs.Standing.{IsToCommit}
-use Rattle.deeds.specs.Turns.{Turns}
-use Rattle.deeds.proofs.Lists.{same, nothing}
-use Rattle.deeds.proofs.Joining.{joins}
+use Rattle.unit_model.specs.Endings.{Ending}
+use Rattle.unit_model.specs.Tasks.{task_of}
+use Rattle.unit_model.specs.Steps.{Step, alive, done}
+use Rattle.unit_model.specs.Marks.{marked}
+use Rattle.unit_model.specs.Enabling.{enabled}
+use Rattle.unit_model.specs.Jobs.{PlainJob}
+use Rattle.unit_model.specs.Unit.{PlainUnit, after as stepped}
+use Rattle.unit_model.specs.Asking.{CannotCommit}
+use Rattle.device_model.specs.Parts.{Outcome, Hand}
+use Rattle.device_model.specs.World.{Seat, PlainWorld, change}
+use Rattle.device_model.specs.Transitions.{Transition, event_of}
+use Rattle.device_model.specs.Events.{Event}
+use Rattle.device_model.specs.After.{after, with_hand}
+use Rattle.device_model.specs.Happens.{Happens}
+use Rattle.device_model.specs.Phases.{HasHand}
+use Rattle.device_model.specs.Standing.{IsToCommit}
+use Rattle.device_model.specs.Turns.{Turns}
+use Rattle.device_model.proofs.Lists.{same, nothing}
+use Rattle.device_model.proofs.Joining.{joins}
 use Rattle.phases.specs.Parts.{committing_unit}
-use Rattle.phases.specs.Doing.{DoesUnit}
+use Rattle.phases.specs.DoingUnit.{DoesUnit}
 use Rattle.phases.specs.Units.{IsCommitting, ending_after, Commits}
 use Rattle.world.specs.Kept.{KeptSeat, seat_of}
 use Rattle.world.specs.Sound.{IsSound}
@@ -68,8 +68,8 @@ module _ (w : PlainWorld) (kept : List KeptSeat) (k : ℕ) (x : PlainJob) (jobs 
   abbrev Done : Type 0
   Done = Turns w (Event.Commit k) true (with_unit_and_seat w x.unit v kept k (record { hand = h; jobs = jobs; limit = limit }))
 
-  -- a deed of the commit that leaves these units, and this in the hand
-  step : (d : Deed) (units : List PlainUnit) (hand : Hand) → event_of d ≡ Event.Commit k → Happens d w
+  -- a transition of the commit that leaves these units, and this in the hand
+  step : (d : Transition) (units : List PlainUnit) (hand : Hand) → event_of d ≡ Event.Commit k → Happens d w
       → slice_set w.units x.unit v ≡ units → h ≡ hand
       → after d w ≡ record w { seats = change (with_hand hand) k w.seats; units = units } → Done
   step d units hand of happens us hs is =
@@ -89,34 +89,34 @@ module _ (w : PlainWorld) (kept : List KeptSeat) (k : ℕ) (x : PlainJob) (jobs 
   unit_left : v ≡ u → slice_set w.units x.unit v ≡ w.units
   unit_left is = ap (λ (z : PlainUnit). slice_set w.units x.unit z) is ∙ set_same x.unit w.units u there
 
-  runs : (r : PlainReply) → DoesUnit (Deed.Commit k x r) u v → h ≡ Hand.Done x (Outcome.Ended (Ending.Replied r)) → Done
+  runs : (r : PlainReply) → DoesUnit (Transition.Commit k x r) u v → h ≡ Hand.Done x (Outcome.Ended (Ending.Replied r)) → Done
   runs r does is =
-      let d = Deed.Commit k x r in
+      let d = Transition.Commit k x r in
       step d _ _ refl (joins d w held (u, there, does.asks) tt)
       (stepped_as (Step.Commit x.entry.ticket r) does.is) is refl
 
-  wants : DoesUnit (Deed.Busy k x) u v → h ≡ Hand.Done x (Outcome.Ended Ending.Busy) → Done
+  wants : DoesUnit (Transition.CommitBusy k x) u v → h ≡ Hand.Done x (Outcome.Ended Ending.Busy) → Done
   wants does is =
-      let d = Deed.Busy k x in
+      let d = Transition.CommitBusy k x in
       step d _ _ refl (joins d w held (u, there, does.asks) tt)
       (stepped_as (Step.Busy x.entry.ticket) does.is) is refl
 
-  aborts : (why : Reason) → DoesUnit (Deed.Abort k x why) u v → h ≡ Hand.Done x (Outcome.Ended (Ending.Aborted why)) → Done
+  aborts : (why : Reason) → DoesUnit (Transition.CommitAborted k x why) u v → h ≡ Hand.Done x (Outcome.Ended (Ending.Aborted why)) → Done
   aborts why does is =
-      let d = Deed.Abort k x why in
+      let d = Transition.CommitAborted k x why in
       step d _ _ refl (joins d w held (u, there, does.asks) tt) (unit_left does.is) is refl
 
-  -- whichever deed of the commit is done
-  done_as : (d : Deed) → IsSound w → IsCommitting k x d → DoesUnit d u v → h ≡ Hand.Done x (Outcome.Ended (ending_after d))
+  -- whichever transition of the commit is done
+  done_as : (d : Transition) → IsSound w → IsCommitting k x d → DoesUnit d u v → h ≡ Hand.Done x (Outcome.Ended (ending_after d))
       → Done
-  done_as (Deed.Commit j y r) sound (ej, ey) does is =
-      runs r (along (λ i z. DoesUnit (Deed.Commit i z r) u v) ej ey does) is
-  done_as (Deed.Busy j y) sound (ej, ey) does is =
-      wants (along (λ i z. DoesUnit (Deed.Busy i z) u v) ej ey does) is
-  done_as (Deed.Abort j y why) sound (ej, ey) does is =
-      aborts why (along (λ i z. DoesUnit (Deed.Abort i z why) u v) ej ey does) is
-  done_as (Deed.Lose j y) sound (ej, ey) does is =
-      let lost = along (λ i z. DoesUnit (Deed.Lose i z) u v) ej ey does in
+  done_as (Transition.Commit j y r) sound (ej, ey) does is =
+      runs r (along (λ i z. DoesUnit (Transition.Commit i z r) u v) ej ey does) is
+  done_as (Transition.CommitBusy j y) sound (ej, ey) does is =
+      wants (along (λ i z. DoesUnit (Transition.CommitBusy i z) u v) ej ey does) is
+  done_as (Transition.CommitAborted j y why) sound (ej, ey) does is =
+      aborts why (along (λ i z. DoesUnit (Transition.CommitAborted i z why) u v) ej ey does) is
+  done_as (Transition.CommitUnknown j y) sound (ej, ey) does is =
+      let lost = along (λ i z. DoesUnit (Transition.CommitUnknown i z) u v) ej ey does in
       absurd (not_lost w x u (sound.works.seats k _ held.1).0 there lost.asks)
   done_as d sound is_it does is = absurd is_it
 
@@ -126,7 +126,7 @@ pub commits : (w : PlainWorld) (kept : List KeptSeat) (k place : ℕ) (hand : Ha
     → slice_get kept k ≡ Some (record { hand = hand; jobs = jobs; limit = limit }) → committing_unit hand ≡ Some place
     → slice_get w.units place ≡ Some u → Commits hand u b v h
     → Turns w (Event.Commit k) b (with_unit_and_seat w place v kept k (record { hand = h; jobs = jobs; limit = limit }))
-commits w kept k place Hand.Free jobs limit u v h b sound seats at unit there c = absurd (nothing unit)
+commits w kept k place Hand.Empty jobs limit u v h b sound seats at unit there c = absurd (nothing unit)
 commits w kept k place (Hand.Done x o) jobs limit u v h b sound seats at unit there c = absurd (nothing unit)
 commits w kept k place (Hand.Answered p t) jobs limit u v h b sound seats at unit there c = absurd (nothing unit)
 commits w kept k place (Hand.Taken x) jobs limit u v h false sound seats at unit there c = absurd c

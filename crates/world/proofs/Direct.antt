@@ -3,30 +3,30 @@ use Rattle.std.proofs.Common.{◌≡◌, ℕ, Bool, true, false, List, [], lengt
 use Rattle.std.specs.Prelude.{slice_get, slice_set}
 use Rattle.ring_core.specs.State.{PlainChain, Owns}
 use Rattle.ring_core.specs.Writes.{all_written}
-use Rattle.deeds.specs.Parts.{Outcome, Slot}
-use Rattle.deeds.specs.World.{PlainQueue, PlainWorld, Everywhere, change}
-use Rattle.deeds.specs.Deeds.{Deed}
-use Rattle.deeds.specs.Events.{Event}
-use Rattle.deeds.specs.After.{directing}
-use Rattle.deeds.specs.Turns.{Turns}
-use Rattle.deeds.proofs.Joining.{joins}
-use Rattle.queues.specs.Queue.{Lent}
-use Rattle.queue_phases.specs.Queue.{with_slot}
-use Rattle.queue_phases.specs.Doing.{DoesQueue}
-use Rattle.queue_phases.specs.Direct.{told_writes, Directs, LetsGo, StaysQueue}
+use Rattle.device_model.specs.Parts.{Outcome, Slot}
+use Rattle.device_model.specs.World.{PlainQueue, PlainWorld, Everywhere, change}
+use Rattle.device_model.specs.Transitions.{Transition}
+use Rattle.device_model.specs.Events.{Event}
+use Rattle.device_model.specs.After.{directing}
+use Rattle.device_model.specs.Turns.{Turns}
+use Rattle.device_model.proofs.Joining.{joins}
+use Rattle.queues.specs.Queue.{BareQueue}
+use Rattle.phases.specs.Queue.{with_slot}
+use Rattle.phases.specs.DoingQueue.{DoesQueue}
+use Rattle.phases.specs.Direct.{decided_writes, Directs, LetsGo, StaysQueue}
 use Rattle.world.specs.Sound.{IsSound}
 use Rattle.world.proofs.Setting.{set_change, set_same}
 use Rattle.world.proofs.Seats.{one_there}
 
 -- the phase keeps the size of the memory that the queue was made with
-pub keeps_memory : (slot : Slot) (q r : Lent) (m m' : List ℕ) (b : Bool) (s : Slot) → Directs slot q m b r m' s
+pub keeps_memory : (slot : Slot) (q r : BareQueue) (m m' : List ℕ) (b : Bool) (s : Slot) → Directs slot q m b r m' s
     → r.ring.memory ≡ q.ring.memory
 keeps_memory Slot.Empty q r m m' true s c = absurd c
-keeps_memory Slot.Empty q r m m' false s c = ap (λ (z : Lent). z.ring.memory) c.0.queue
+keeps_memory Slot.Empty q r m m' false s c = ap (λ (z : BareQueue). z.ring.memory) c.0.queue
 keeps_memory (Slot.Arrived x) q r m m' true s c = absurd c
-keeps_memory (Slot.Arrived x) q r m m' false s c = ap (λ (z : Lent). z.ring.memory) c.0.queue
-keeps_memory (Slot.Ready d o) q r m m' true s c = ap (λ (z : PlainQueue). z.ring.memory) (c.0 []).queue
-keeps_memory (Slot.Ready d o) q r m m' false s c = ap (λ (z : Lent). z.ring.memory) c.0.stays.queue
+keeps_memory (Slot.Arrived x) q r m m' false s c = ap (λ (z : BareQueue). z.ring.memory) c.0.queue
+keeps_memory (Slot.Direct d o) q r m m' true s c = ap (λ (z : PlainQueue). z.ring.memory) (c.0 []).queue
+keeps_memory (Slot.Direct d o) q r m m' false s c = ap (λ (z : BareQueue). z.ring.memory) c.0.stays.queue
 
 -- the device with memory and a queue set
 abbrev pub with_queue : PlainWorld → List ℕ → ℕ → PlainQueue → PlainWorld
@@ -39,21 +39,21 @@ moved w m m' queues queues' em eq =
     ap (λ (z : List ℕ). record w { memory = z; queues = queues }) em
     ∙ ap (λ (z : List PlainQueue). record w { memory = m'; queues = z }) eq
 
-module _ (w : PlainWorld) (i : ℕ) (d : PlainChain) (o : Outcome) (q r : Lent) (m : List ℕ) (s : Slot)
-    (there : slice_get w.queues i ≡ Some (with_slot (Slot.Ready d o) q)) where
+module _ (w : PlainWorld) (i : ℕ) (d : PlainChain) (o : Outcome) (q r : BareQueue) (m : List ℕ) (s : Slot)
+    (there : slice_get w.queues i ≡ Some (with_slot (Slot.Direct d o) q)) where
   -- the chain is answered
   directed : d.ticket.queue ≡ i
-      → DoesQueue w.inventory (Deed.Direct d o (told_writes q.ring d o)) (with_slot (Slot.Ready d o) q) w.memory
+      → DoesQueue w.inventory (Transition.Direct d o (decided_writes q.ring d o)) (with_slot (Slot.Direct d o) q) w.memory
       (with_slot s r) m → Turns w (Event.Direct i) true (with_queue w m i (with_slot s r))
   directed is does =
-      let xs = told_writes q.ring d o in
-      let z = with_slot (Slot.Ready d o) q in
+      let xs = decided_writes q.ring d o in
+      let z = with_slot (Slot.Direct d o) q in
       let there_d : slice_get w.queues d.ticket.queue ≡ Some z = ap (λ n. slice_get w.queues n) is ∙ there in
       let g : PlainQueue → PlainQueue = directing (all_written w.memory xs) d in
       let eq : slice_set w.queues i (with_slot s r) ≡ change g d.ticket.queue w.queues =
       ap (λ (y : PlainQueue). slice_set w.queues i y) does.queue
       ∙ (set_change g i w.queues z there ∙ ap (λ n. change g n w.queues) (sym is)) in
-      let e = Deed.Direct d o xs in (
+      let e = Transition.Direct d o xs in (
         e,
         ap (λ n. Event.Direct n) is,
         joins e w (z, there_d, refl) tt (z, there_d, does.asks w.missed),
@@ -66,20 +66,20 @@ module _ (w : PlainWorld) (i : ℕ) (d : PlainChain) (o : Outcome) (q r : Lent) 
   must_direct sound fits c =
       let (is, owned) = sound.owned.slots i _ there in
       let there_d = ap (λ n. slice_get w.queues n) is ∙ there in
-      let one : owned.queue ≡ with_slot (Slot.Ready d o) q =
-      one_there w.queues d.ticket.queue owned.queue (with_slot (Slot.Ready d o) q) owned.there there_d in
+      let one : owned.queue ≡ with_slot (Slot.Direct d o) q =
+      one_there w.queues d.ticket.queue owned.queue (with_slot (Slot.Direct d o) q) owned.there there_d in
       c.why (record {
         fits = sym (fits i _ there);
         owned = subst (λ (z : PlainQueue). Owns z.ring d) one owned.owned;
       })
 
 -- nothing is changed, and no chain is ready
-stays : (w : PlainWorld) (i : ℕ) (slot s : Slot) (q r : Lent) (m : List ℕ)
-    → slice_get w.queues i ≡ Some (with_slot slot q) → ((d : PlainChain) (o : Outcome) → slot ≡ Slot.Ready d o → ⊥)
+stays : (w : PlainWorld) (i : ℕ) (slot s : Slot) (q r : BareQueue) (m : List ℕ)
+    → slice_get w.queues i ≡ Some (with_slot slot q) → ((d : PlainChain) (o : Outcome) → slot ≡ Slot.Direct d o → ⊥)
     → StaysQueue q r w.memory m × (s ≡ slot) → Turns w (Event.Direct i) false (with_queue w m i (with_slot s r))
 stays w i slot s q r m there not_ready (same_queue, ss) =
     let eq : slice_set w.queues i (with_slot s r) ≡ w.queues =
-    ap (λ (z : Lent). slice_set w.queues i (with_slot s z)) same_queue.queue
+    ap (λ (z : BareQueue). slice_set w.queues i (with_slot s z)) same_queue.queue
     ∙ (ap (λ (z : Slot). slice_set w.queues i (with_slot z q)) ss ∙ set_same i w.queues (with_slot slot q) there) in (
       moved w _ _ _ _ same_queue.memory eq,
       λ (d, o, (z, there_z, is)).
@@ -87,7 +87,7 @@ stays w i slot s q r m there not_ready (same_queue, ss) =
     )
 
 -- the phase takes the event's turn
-pub directs : (w : PlainWorld) (i : ℕ) (slot s : Slot) (q r : Lent) (m : List ℕ) (b : Bool) → IsSound w
+pub directs : (w : PlainWorld) (i : ℕ) (slot s : Slot) (q r : BareQueue) (m : List ℕ) (b : Bool) → IsSound w
     → Everywhere (λ i (q : PlainQueue). q.ring.memory ≡ length w.memory) w.queues
     → slice_get w.queues i ≡ Some (with_slot slot q) → Directs slot q w.memory b r m s
     → Turns w (Event.Direct i) b (with_queue w m i (with_slot s r))
@@ -96,7 +96,7 @@ directs w i Slot.Empty s q r m false sound fits there c = stays w i Slot.Empty s
 directs w i (Slot.Arrived x) s q r m true sound fits there c = absurd c
 directs w i (Slot.Arrived x) s q r m false sound fits there c =
     stays w i (Slot.Arrived x) s q r m there (λ d o e. cc) c
-directs w i (Slot.Ready d o) s q r m true sound fits there c =
+directs w i (Slot.Direct d o) s q r m true sound fits there c =
     directed w i d o q r m s there (sound.owned.slots i _ there).0 (c.0 w.inventory)
-directs w i (Slot.Ready d o) s q r m false sound fits there c =
+directs w i (Slot.Direct d o) s q r m false sound fits there c =
     absurd (must_direct w i d o q r m s there sound fits c.0)

@@ -2,23 +2,23 @@
 use Rattle.std.proofs.Common.{◌≡◌, ◌<◌, ◌≤◌, ◌+◌, ◌*◌, ℕ, Bool, true, false, List, [], ◌∷◌, length, Some, refl, sym, ap, ◌∙◌, subst, arith}
 use Rattle.std.specs.Prelude.{slice_get, slice_set, map}
 use Rattle.std.proofs.Math.Path.{subst₂}
-use Rattle.history.specs.Steps.{Step, floor}
-use Rattle.history.specs.Endings.{Ending}
-use Rattle.task_set.specs.Jobs.{PlainJob, Jobs}
-use Rattle.task_set.specs.Unit.{PlainUnit, after as stepped, parking}
-use Rattle.deeds.specs.Parts.{Outcome, Slot}
-use Rattle.deeds.specs.World.{PlainQueue, Seat, PlainWorld, owner, change}
-use Rattle.deeds.specs.Events.{Event}
-use Rattle.deeds.specs.Deeds.{Deed}
-use Rattle.deeds.specs.Laws.{brings}
-use Rattle.deeds.specs.After.{slotted, with_jobs}
-use Rattle.deeds.specs.Phases.{SlotIs, HasSeat}
-use Rattle.deeds.specs.Standing.{SlotOwns, front_of}
-use Rattle.deeds.specs.Turns.{Turns}
-use Rattle.deeds.proofs.Lists.{same, nothing}
-use Rattle.deeds.proofs.Joining.{joins}
-use Rattle.queue_phases.specs.Slots.{arrived_unit}
-use Rattle.phases.specs.Doing.{DoesUnit, with_more}
+use Rattle.unit_model.specs.Steps.{Step, floor}
+use Rattle.unit_model.specs.Endings.{Ending}
+use Rattle.unit_model.specs.Jobs.{PlainJob, Jobs}
+use Rattle.unit_model.specs.Unit.{PlainUnit, after as stepped, parking}
+use Rattle.device_model.specs.Parts.{Outcome, Slot}
+use Rattle.device_model.specs.World.{PlainQueue, Seat, PlainWorld, owner, change}
+use Rattle.device_model.specs.Events.{Event}
+use Rattle.device_model.specs.Transitions.{Transition}
+use Rattle.device_model.specs.Laws.{brings}
+use Rattle.device_model.specs.After.{slotted, with_jobs}
+use Rattle.device_model.specs.Phases.{SlotIs, HasSeat}
+use Rattle.device_model.specs.Standing.{SlotOwns, front_of}
+use Rattle.device_model.specs.Turns.{Turns}
+use Rattle.device_model.proofs.Lists.{same, nothing}
+use Rattle.device_model.proofs.Joining.{joins}
+use Rattle.phases.specs.Slots.{arrived_unit}
+use Rattle.phases.specs.DoingUnit.{DoesUnit, with_more}
 use Rattle.phases.specs.Units.{Enters, IsEntering, slot_after}
 use Rattle.world.specs.Kept.{KeptSeat, seat_of}
 use Rattle.world.specs.Sound.{IsSound}
@@ -31,8 +31,8 @@ limit_stays (Slot.Arrived x) u out true v slot' out' (d, is, does, to, more) = a
 limit_stays (Slot.Arrived x) u out false v slot' out' (full, stays) = ap (λ (j : Jobs). j.limit) stays.jobs
 limit_stays Slot.Empty u out true v slot' out' e = absurd e
 limit_stays Slot.Empty u out false v slot' out' e = ap (λ (j : Jobs). j.limit) e.jobs
-limit_stays (Slot.Ready c o) u out true v slot' out' e = absurd e
-limit_stays (Slot.Ready c o) u out false v slot' out' e = ap (λ (j : Jobs). j.limit) e.jobs
+limit_stays (Slot.Direct c o) u out true v slot' out' e = absurd e
+limit_stays (Slot.Direct c o) u out false v slot' out' e = ap (λ (j : Jobs). j.limit) e.jobs
 
 -- three parts of the device
 abbrev parts : PlainWorld → List PlainQueue → List PlainUnit → List Seat → PlainWorld
@@ -72,53 +72,53 @@ module _ (w : PlainWorld) (kept : List KeptSeat) (are : w.seats ≡ map seat_of 
   seats_still : out ≡ with_more [] (list_of s) → map seat_of (slice_set kept n (listing out s)) ≡ w.seats
   seats_still is = seat_still w.seats kept are n s s_at out (none_more out s is)
 
-  abbrev Does : Deed → Type 0
+  abbrev Does : Transition → Type 0
   Does d = DoesUnit d u v
 
-  -- each deed of the job's entering
-  entered : (d : Deed) → IsEntering x d → (x.entry.ticket.number < floor x.entry.ticket.queue u.steps → ⊥)
+  -- each transition of the job's entering
+  entered : (d : Transition) → IsEntering x d → (x.entry.ticket.number < floor x.entry.ticket.queue u.steps → ⊥)
       → Does d → slot ≡ slot_after d → out ≡ with_more (brings d) (list_of s)
       → Turns w (Event.Enter x.chain.ticket.queue) true
       (entered_in w kept x.chain.ticket.queue (slotted slot q) x.unit v n (listing out s))
-  entered (Deed.Run y) is fresh does to more =
-      let h = subst (λ z. Does (Deed.Run z)) is does in (
-        Deed.Run x,
+  entered (Transition.Run y) is fresh does to more =
+      let h = subst (λ z. Does (Transition.Run z)) is does in (
+        Transition.Run x,
         refl,
-        joins (Deed.Run x) w stands (u, u_at, h.asks) tt,
+        joins (Transition.Run x) w stands (u, u_at, h.asks) tt,
         parts_are w _ _ _ _ _ _ (queues_to Slot.Empty to)
             (unit_change (stepped (Step.Enter x.entry)) w.units x.unit u v u_at h.is)
             (seats_more (x ∷ []) (subst (λ (z : PlainJob). out ≡ with_more (z ∷ []) (list_of s)) is more)),
       )
-  entered (Deed.Park y) is fresh does to more =
-      let h = subst (λ z. Does (Deed.Park z)) is does in (
-        Deed.Park x,
+  entered (Transition.Park y) is fresh does to more =
+      let h = subst (λ z. Does (Transition.Park z)) is does in (
+        Transition.Park x,
         refl,
-        joins (Deed.Park x) w stands (u, u_at, h.asks) tt,
+        joins (Transition.Park x) w stands (u, u_at, h.asks) tt,
         parts_are w _ _ _ _ _ _ (queues_to Slot.Empty to) (unit_change (parking x) w.units x.unit u v u_at h.is)
             (seats_still more),
       )
-  entered (Deed.Full y) is fresh does to more =
-      let h = subst (λ z. Does (Deed.Full z)) is does in (
-        Deed.Full x,
+  entered (Transition.EnterFull y) is fresh does to more =
+      let h = subst (λ z. Does (Transition.EnterFull z)) is does in (
+        Transition.EnterFull x,
         refl,
-        joins (Deed.Full x) w stands (u, u_at, h.asks) tt,
+        joins (Transition.EnterFull x) w stands (u, u_at, h.asks) tt,
         parts_are w _ _ _ _ _ _
-            (queues_to (Slot.Ready x.chain (Outcome.Ended Ending.Full))
-            (subst (λ (z : PlainJob). slot ≡ Slot.Ready z.chain (Outcome.Ended Ending.Full)) is to))
+            (queues_to (Slot.Direct x.chain (Outcome.Ended Ending.Full))
+            (subst (λ (z : PlainJob). slot ≡ Slot.Direct z.chain (Outcome.Ended Ending.Full)) is to))
             (unit_change (stepped (Step.Full x.entry.ticket)) w.units x.unit u v u_at h.is) (seats_still more),
       )
-  entered (Deed.Shed y) is fresh does to more =
-      let h = subst (λ z. Does (Deed.Shed z)) is does in (
-        Deed.Shed x,
+  entered (Transition.EnterBusy y) is fresh does to more =
+      let h = subst (λ z. Does (Transition.EnterBusy z)) is does in (
+        Transition.EnterBusy x,
         refl,
-        joins (Deed.Shed x) w stands (u, u_at, h.asks) tt,
+        joins (Transition.EnterBusy x) w stands (u, u_at, h.asks) tt,
         parts_are w _ _ _ _ _ _
-            (queues_to (Slot.Ready x.chain (Outcome.Ended Ending.Busy))
-            (subst (λ (z : PlainJob). slot ≡ Slot.Ready z.chain (Outcome.Ended Ending.Busy)) is to))
+            (queues_to (Slot.Direct x.chain (Outcome.Ended Ending.Busy))
+            (subst (λ (z : PlainJob). slot ≡ Slot.Direct z.chain (Outcome.Ended Ending.Busy)) is to))
             (unit_still w.units x.unit u v u_at h.is) (seats_still more),
       )
-  entered (Deed.Stall y) is fresh does to more =
-      let h = subst (λ z. Does (Deed.Stall z)) is does in
+  entered (Transition.EnterStale y) is fresh does to more =
+      let h = subst (λ z. Does (Transition.EnterStale z)) is does in
       absurd (fresh h.asks)
   entered d is fresh does to more = absurd is
 
@@ -132,7 +132,7 @@ pub enters : (w : PlainWorld) (kept : List KeptSeat) → w.seats ≡ map seat_of
     → Turns w (Event.Enter i) b (entered_in w kept i (slotted slot q) p v n (listing out s))
 enters w kept are sound limits i p n q u s n_is q_at u_at s_at slot v out Slot.Empty is place b e =
     absurd (nothing place)
-enters w kept are sound limits i p n q u s n_is q_at u_at s_at slot v out (Slot.Ready c o) is place b e =
+enters w kept are sound limits i p n q u s n_is q_at u_at s_at slot v out (Slot.Direct c o) is place b e =
     absurd (nothing place)
 enters w kept are sound limits i p n q u s n_is q_at u_at s_at slot v out (Slot.Arrived x) is place false e =
     absurd (e.0 (has_places w kept n s are sound.room limits s_at))

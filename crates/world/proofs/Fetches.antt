@@ -3,18 +3,18 @@ use Rattle.std.proofs.Common.{◌≡◌, ◌≤◌, ℕ, zero, suc, Bool, true, 
 use Rattle.std.specs.Prelude.{slice_get, slice_set}
 use Rattle.block_store.specs.declared.NoMemory.{NoMemory}
 use Rattle.scsi_codec.specs.declared.lun.Address.{Address}
-use Rattle.deeds.specs.Parts.{Outcome, Slot}
-use Rattle.deeds.specs.World.{PlainQueue, PlainWorld, Opened, change}
-use Rattle.deeds.specs.Events.{Event}
-use Rattle.deeds.specs.Deeds.{Deed}
-use Rattle.deeds.specs.After.{arriving, taking, broken_by}
-use Rattle.deeds.specs.Applies.{MayFetch}
-use Rattle.deeds.specs.Happens.{IsOpenTo}
-use Rattle.deeds.specs.Turns.{Turns}
-use Rattle.deeds.proofs.Joining.{joins}
-use Rattle.deeds.proofs.Lists.{same}
-use Rattle.queue_phases.specs.Doing.{DoesQueue}
-use Rattle.queue_phases.specs.Fetching.{HasSome, IsRequestFetch, FetchesRequest, IsControlFetch, FetchesControl, opens}
+use Rattle.device_model.specs.Parts.{Outcome, Slot}
+use Rattle.device_model.specs.World.{PlainQueue, PlainWorld, Opened, change}
+use Rattle.device_model.specs.Events.{Event}
+use Rattle.device_model.specs.Transitions.{Transition}
+use Rattle.device_model.specs.After.{arriving, taking, broken_by}
+use Rattle.device_model.specs.Applies.{MayFetch}
+use Rattle.device_model.specs.Happens.{IsOpenTo}
+use Rattle.device_model.specs.Turns.{Turns}
+use Rattle.device_model.proofs.Joining.{joins}
+use Rattle.device_model.proofs.Lists.{same}
+use Rattle.phases.specs.DoingQueue.{DoesQueue}
+use Rattle.phases.specs.Fetching.{HasSome, IsRequestFetch, FetchesRequest, IsControlFetch, FetchesControl, opens}
 use Rattle.world.specs.Steps.{TurnsOrWants}
 use Rattle.world.proofs.Setting.{set_same}
 use Rattle.world.proofs.Placing.{set_as}
@@ -44,41 +44,41 @@ pub at_number : (w : PlainWorld) (i j : ℕ) (q : PlainQueue) → slice_get w.qu
     → slice_get w.queues j ≡ Some q
 at_number w i j q at e = ap (λ k. slice_get w.queues k) e ∙ at
 
--- a fetch of a request queue with its deed is a turn
-request_deed : (w : PlainWorld) (i : ℕ) (q q' : PlainQueue) (d : Deed) → 2 ≤ i → slice_get w.queues i ≡ Some q
+-- a fetch of a request queue with its transition is a turn
+request_transition : (w : PlainWorld) (i : ℕ) (q q' : PlainQueue) (d : Transition) → 2 ≤ i → slice_get w.queues i ≡ Some q
     → q.slot ≡ Slot.Empty → IsRequestFetch i d → DoesQueue w.inventory d q w.memory q' w.memory
     → Turns w (Event.Fetch i) true (with_queues (slice_set w.queues i q') w)
-request_deed w i q q' (Deed.Arrive f x) two at empty of does =
+request_transition w i q q' (Transition.Arrive f x) two at empty of does =
     let here = at_number w i f.chain.ticket.queue q at of in
-    let d = Deed.Arrive f x in (
+    let d = Transition.Arrive f x in (
       d,
       ap (λ n. Event.Fetch n) of,
       joins d w ((q, here, empty), omega (arith, two, of)) tt (q, here, does.asks w.missed),
       ap (λ qs. with_queues qs w)
           (set_as (arriving f.chain (Slot.Arrived x)) i f.chain.ticket.queue w.queues q q' at does.queue of),
     )
-request_deed w i q q' (Deed.Refuse f a) two at empty of does =
+request_transition w i q q' (Transition.Refuse f a) two at empty of does =
     let here = at_number w i f.chain.ticket.queue q at of in
     let above : 2 ≤ f.chain.ticket.queue = omega (arith, two, of) in
-    let d = Deed.Refuse f a in (
+    let d = Transition.Refuse f a in (
       d,
       ap (λ n. Event.Fetch n) of,
       joins d w ((q, here, empty), open_request w f.chain.ticket.queue above, inr above) tt
           (q, here, does.asks w.missed),
       ap (λ qs. with_queues qs w)
-          (set_as (arriving f.chain (Slot.Ready f.chain (Outcome.Told a))) i f.chain.ticket.queue w.queues q q' at
+          (set_as (arriving f.chain (Slot.Direct f.chain (Outcome.Decided a))) i f.chain.ticket.queue w.queues q q' at
           does.queue of),
     )
-request_deed w i q q' (Deed.Break n fault) two at empty of does =
+request_transition w i q q' (Transition.Break n fault) two at empty of does =
     let here = at_number w i n q at of in
     let above : 2 ≤ n = omega (arith, two, of) in
-    let d = Deed.Break n fault in (
+    let d = Transition.Break n fault in (
       d,
       ap (λ n. Event.Fetch n) of,
       joins d w ((q, here, empty), open_request w n above) tt (q, here, does.asks w.missed),
       ap (λ qs. with_queues qs w) (set_as (broken_by fault) i n w.queues q q' at does.queue of),
     )
-request_deed w i q q' d two at empty of does = absurd of
+request_transition w i q q' d two at empty of does = absurd of
 
 -- a queue that is given back as it was changes nothing
 same_queues : (w : PlainWorld) (i : ℕ) (q q' : PlainQueue) → slice_get w.queues i ≡ Some q → q' ≡ q
@@ -104,7 +104,7 @@ pub request_turns : (w : PlainWorld) (i : ℕ) (q q' : PlainQueue) (r : Result B
     → TurnsOrWants w (Event.Fetch i) r (with_queues (slice_set w.queues i q') w)
 request_turns w i q q' (Ok true) sound two at fits h =
     let number = (sound.numbered i q at).queue in
-    request_deed w i q q' h.2.0 two at h.1.empty (rw number at h.2.1) h.2.2
+    request_transition w i q q' h.2.0 two at h.1.empty (rw number at h.2.1) h.2.2
 request_turns w i q q' (Ok false) sound two at fits h =
     let number = (sound.numbered i q at).queue in
     (same_queues w i q q' at h.0, λ may. h.1 (omega (arith, two, number)) (has_some w i q at (sym fits) may))
@@ -121,28 +121,28 @@ request_memory inventory m q q' (Ok true) h =
 request_memory inventory m q q' (Ok false) h = ap (λ (z : PlainQueue). z.ring.memory) h.0
 request_memory inventory m q q' (Err e) h = ap (λ (z : PlainQueue). z.ring.memory) h.0
 
--- a fetch of the control queue with its deed is a turn
-control_deed : (w : PlainWorld) (k : ℕ) (q q' : PlainQueue) (f' : Option Opened) (d : Deed) → k ≡ 0
+-- a fetch of the control queue with its transition is a turn
+control_transition : (w : PlainWorld) (k : ℕ) (q q' : PlainQueue) (f' : Option Opened) (d : Transition) → k ≡ 0
     → slice_get w.queues k ≡ Some q → q.slot ≡ Slot.Empty → w.function ≡ None → IsControlFetch d
     → DoesQueue w.inventory d q w.memory q' w.memory → f' ≡ opens d
     → Turns w (Event.Fetch 0) true (with_both (slice_set w.queues k q') f' w)
-control_deed w k q q' f' (Deed.Refuse f a) first at empty none of does is =
+control_transition w k q q' f' (Transition.Refuse f a) first at empty none of does is =
     let here = at_number w k f.chain.ticket.queue q at (of ∙ sym first) in
-    let d = Deed.Refuse f a in
+    let d = Transition.Refuse f a in
     let set =
-    set_as (arriving f.chain (Slot.Ready f.chain (Outcome.Told a))) k f.chain.ticket.queue w.queues q q' at
+    set_as (arriving f.chain (Slot.Direct f.chain (Outcome.Decided a))) k f.chain.ticket.queue w.queues q q' at
     does.queue (of ∙ sym first) in (
       d,
       ap (λ n. Event.Fetch n) of,
       joins d w ((q, here, empty), open_at_zero w f.chain.ticket.queue of none, inl of) tt
           (q, here, does.asks w.missed),
       ap (λ qs. with_both qs f' w) set
-          ∙ ap (λ g. with_both (change (arriving f.chain (Slot.Ready f.chain (Outcome.Told a)))
+          ∙ ap (λ g. with_both (change (arriving f.chain (Slot.Direct f.chain (Outcome.Decided a)))
           f.chain.ticket.queue w.queues) g w) (is ∙ sym none),
     )
-control_deed w k q q' f' (Deed.Open f g) first at empty none of does is =
+control_transition w k q q' f' (Transition.Open f g) first at empty none of does is =
     let here = at_number w k f.chain.ticket.queue q at (of ∙ sym first) in
-    let d = Deed.Open f g in
+    let d = Transition.Open f g in
     let set = set_as (taking f.chain) k f.chain.ticket.queue w.queues q q' at does.queue (of ∙ sym first) in (
       d,
       ap (λ n. Event.Fetch n) of,
@@ -150,9 +150,9 @@ control_deed w k q q' f' (Deed.Open f g) first at empty none of does is =
       ap (λ qs. with_both qs f' w) set
           ∙ ap (λ o. with_both (change (taking f.chain) f.chain.ticket.queue w.queues) o w) is,
     )
-control_deed w k q q' f' (Deed.Break n fault) first at empty none of does is =
+control_transition w k q q' f' (Transition.Break n fault) first at empty none of does is =
     let here = at_number w k n q at (of ∙ sym first) in
-    let d = Deed.Break n fault in
+    let d = Transition.Break n fault in
     let set = set_as (broken_by fault) k n w.queues q q' at does.queue (of ∙ sym first) in (
       d,
       ap (λ n. Event.Fetch n) of,
@@ -160,7 +160,7 @@ control_deed w k q q' f' (Deed.Break n fault) first at empty none of does is =
       ap (λ qs. with_both qs f' w) set
           ∙ ap (λ g. with_both (change (broken_by fault) n w.queues) g w) (is ∙ sym none),
     )
-control_deed w k q q' f' d first at empty none of does is = absurd of
+control_transition w k q q' f' d first at empty none of does is = absurd of
 
 -- what a fetch of the control queue does is a turn of its event, or memory was refused
 pub control_turns : (w : PlainWorld) (k : ℕ) (q q' : PlainQueue) (f' : Option Opened) (r : Result Bool NoMemory)
@@ -168,7 +168,7 @@ pub control_turns : (w : PlainWorld) (k : ℕ) (q q' : PlainQueue) (f' : Option 
     → FetchesControl w.inventory w.memory q w.function r q' f'
     → TurnsOrWants w (Event.Fetch 0) r (with_both (slice_set w.queues k q') f' w)
 control_turns w k q q' f' (Ok true) sound first at fits h =
-    control_deed w k q q' f' h.3.0 first at h.1.empty h.2 h.3.1 h.3.2 h.3.3
+    control_transition w k q q' f' h.3.0 first at h.1.empty h.2 h.3.1 h.3.2 h.3.3
 control_turns w k q q' f' (Ok false) sound first at fits h = (
   ap (λ g. with_both (slice_set w.queues k q') g w) h.1 ∙ same_queues w k q q' at h.0,
   λ may.

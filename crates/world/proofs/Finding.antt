@@ -1,7 +1,7 @@
 -- The first item of a list that does, from a place on.
 use Rattle.std.proofs.Common.{◌≡◌, ℕ, zero, suc, Bool, true, List, [], ◌∷◌, Some, refl, ap, ◌∙◌}
 use Rattle.std.specs.Prelude.{slice_get, drop, find}
-use Rattle.deeds.proofs.Lists.{nothing, same}
+use Rattle.device_model.proofs.Lists.{nothing, same}
 
 find_yes : {X : Type 0} (p : X → Bool) (x : X) (xs : List X) → p x ≡ true → find p (x ∷ xs) ≡ Some x
 find_yes p x xs holds = rw holds refl

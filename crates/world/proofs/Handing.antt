@@ -1,16 +1,16 @@
 -- A seat hands its next job off, or keeps it; a worker takes a job from the hand-off.
 use Rattle.std.proofs.Common.{◌≡◌, ◌≤◌, ◌<◌, ℕ, true, false, List, [], ◌∷◌, ◌++◌, length, Some, None, refl, sym, ap, ◌∙◌}
 use Rattle.std.specs.Prelude.{slice_get, slice_set, map, drop}
-use Rattle.task_set.specs.Jobs.{PlainJob}
-use Rattle.deeds.specs.Parts.{Hand}
-use Rattle.deeds.specs.World.{Seat, PlainWorld, change}
-use Rattle.deeds.specs.Events.{Event}
-use Rattle.deeds.specs.Deeds.{Deed}
-use Rattle.deeds.specs.After.{with_hand, without_first}
-use Rattle.deeds.specs.Happens.{SeatIs}
-use Rattle.deeds.specs.Applies.{MayPut, MayTake}
-use Rattle.deeds.specs.Turns.{Turns}
-use Rattle.deeds.proofs.Lists.{same, nothing}
+use Rattle.unit_model.specs.Jobs.{PlainJob}
+use Rattle.device_model.specs.Parts.{Hand}
+use Rattle.device_model.specs.World.{Seat, PlainWorld, change}
+use Rattle.device_model.specs.Events.{Event}
+use Rattle.device_model.specs.Transitions.{Transition}
+use Rattle.device_model.specs.After.{with_hand, without_first}
+use Rattle.device_model.specs.Happens.{SeatIs}
+use Rattle.device_model.specs.Applies.{MayPut, MayTake}
+use Rattle.device_model.specs.Turns.{Turns}
+use Rattle.device_model.proofs.Lists.{same, nothing}
 use Rattle.world.specs.Kept.{KeptSeat, seat_of}
 use Rattle.world.specs.Off.{KeptOff, AreBare, PutsAt, IsFullAt, TakesNearest}
 use Rattle.world.proofs.Setting.{set_same, map_get, seat_change}
@@ -65,35 +65,35 @@ module _ (w : PlainWorld) (kept : List KeptSeat) (seats : w.seats ≡ map seat_o
       )
 
   -- the first job is handed off
-  pub puts : (x : PlainJob) (h : KeptOff) → s.hand ≡ Hand.Free → slice_get s.jobs 0 ≡ Some x
+  pub puts : (x : PlainJob) (h : KeptOff) → s.hand ≡ Hand.Empty → slice_get s.jobs 0 ≡ Some x
       → t ≡ record s { jobs = drop 1 s.jobs } → PutsAt k x (off_of w) h
       → Turns w (Event.Put k) true (with_off w (map seat_of (slice_set kept k t)) h)
   puts x h free first is p = (
-    Deed.Put k x,
+    Transition.Put k x,
     refl,
     record {
       rest = drop 1 s.jobs;
-      seat = seat_is Hand.Free (x ∷ drop 1 s.jobs) free (begins s.jobs x first);
+      seat = seat_is Hand.Empty (x ∷ drop 1 s.jobs) free (begins s.jobs x first);
       off = p.off;
       there = p.there;
       room = p.room;
     },
     ap (λ (l : List Seat). with_off w l h)
-        (seats_after (without_first Hand.Free)
+        (seats_after (without_first Hand.Empty)
         (ap seat_of is ∙ ap (λ (a : Hand). record { hand = a; out = drop 1 s.jobs }) free))
-        ∙ ap (λ (j : KeptOff). with_off w (change (without_first Hand.Free) k w.seats) j) p.after,
+        ∙ ap (λ (j : KeptOff). with_off w (change (without_first Hand.Empty) k w.seats) j) p.after,
   )
 
   -- the first job is kept, since the own list is full
-  pub keeps : (x : PlainJob) (h : KeptOff) → s.hand ≡ Hand.Free → slice_get s.jobs 0 ≡ Some x
+  pub keeps : (x : PlainJob) (h : KeptOff) → s.hand ≡ Hand.Empty → slice_get s.jobs 0 ≡ Some x
       → t ≡ record { hand = Hand.Taken x; jobs = drop 1 s.jobs; limit = s.limit } → IsFullAt k (off_of w)
       → h ≡ off_of w → Turns w (Event.Put k) true (with_off w (map seat_of (slice_set kept k t)) h)
   keeps x h free first is f same_off = (
-    Deed.Keep k x,
+    Transition.Keep k x,
     refl,
     record {
       rest = drop 1 s.jobs;
-      seat = seat_is Hand.Free (x ∷ drop 1 s.jobs) free (begins s.jobs x first);
+      seat = seat_is Hand.Empty (x ∷ drop 1 s.jobs) free (begins s.jobs x first);
       off = f.off;
       there = f.there;
       full = f.full;
@@ -103,15 +103,15 @@ module _ (w : PlainWorld) (kept : List KeptSeat) (seats : w.seats ≡ map seat_o
   )
 
   -- a worker takes the first job of the nearest list
-  pub takes : (x : PlainJob) (h : KeptOff) → k < w.workers → s.hand ≡ Hand.Free → s.jobs ≡ []
+  pub takes : (x : PlainJob) (h : KeptOff) → k < w.workers → s.hand ≡ Hand.Empty → s.jobs ≡ []
       → t ≡ record s { hand = Hand.Taken x } → TakesNearest k x (off_of w) h
       → Turns w (Event.Take k) true (with_off w (map seat_of (slice_set kept k t)) h)
   takes x h worker free none is p = (
-    Deed.Take k p.from x,
+    Transition.Take k p.from x,
     refl,
     record {
       worker = worker;
-      seat = seat_is Hand.Free [] free none;
+      seat = seat_is Hand.Empty [] free none;
       rest = p.rest;
       handed_off = p.there;
       first = p.first;

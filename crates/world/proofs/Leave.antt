@@ -3,24 +3,24 @@ use Rattle.std.proofs.Common.{◌≡◌, ℕ, ◌+◌, ◌*◌, ◌≤◌, Bool,
 use Rattle.std.proofs.lemmas.Bool.{false≢true}
 use Rattle.std.specs.Prelude.{slice_get, slice_set, map}
 use Rattle.ring_core.specs.declared.log.Ticket.{Ticket}
-use Rattle.history.specs.Tasks.{task_of}
-use Rattle.history.specs.Steps.{Step, alive}
-use Rattle.task_set.specs.Jobs.{PlainJob, Jobs}
-use Rattle.task_set.specs.Unit.{PlainUnit, after as stepped}
+use Rattle.unit_model.specs.Tasks.{task_of}
+use Rattle.unit_model.specs.Steps.{Step, alive}
+use Rattle.unit_model.specs.Jobs.{PlainJob, Jobs}
+use Rattle.unit_model.specs.Unit.{PlainUnit, after as stepped}
 use Rattle.unit_history.specs.Calls.{CannotLeave}
-use Rattle.deeds.specs.Parts.{Hand}
-use Rattle.deeds.specs.World.{Seat, PlainWorld, Everywhere, change}
-use Rattle.deeds.specs.Deeds.{Deed}
-use Rattle.deeds.specs.Events.{Event}
-use Rattle.deeds.specs.After.{leaving}
-use Rattle.deeds.specs.Happens.{handed_out}
-use Rattle.deeds.specs.Phases.{HasHand}
-use Rattle.deeds.specs.Standing.{IsToLeave}
-use Rattle.deeds.specs.Turns.{Turns}
-use Rattle.deeds.proofs.Lists.{same, nothing}
-use Rattle.deeds.proofs.Joining.{joins}
+use Rattle.device_model.specs.Parts.{Hand}
+use Rattle.device_model.specs.World.{Seat, PlainWorld, Everywhere, change}
+use Rattle.device_model.specs.Transitions.{Transition}
+use Rattle.device_model.specs.Events.{Event}
+use Rattle.device_model.specs.After.{leaving}
+use Rattle.device_model.specs.Happens.{handed_out}
+use Rattle.device_model.specs.Phases.{HasHand}
+use Rattle.device_model.specs.Standing.{IsToLeave}
+use Rattle.device_model.specs.Turns.{Turns}
+use Rattle.device_model.proofs.Lists.{same, nothing}
+use Rattle.device_model.proofs.Joining.{joins}
 use Rattle.phases.specs.Parts.{leaving_unit}
-use Rattle.phases.specs.Doing.{DoesUnit, with_more}
+use Rattle.phases.specs.DoingUnit.{DoesUnit, with_more}
 use Rattle.phases.specs.Units.{Leaves}
 use Rattle.world.specs.Kept.{KeptSeat, seat_of}
 use Rattle.world.specs.Sound.{IsSound}
@@ -34,8 +34,8 @@ seat_with h out = record { hand = h; jobs = out.jobs; limit = out.limit }
 -- the phase keeps the room of the list
 pub keeps_limit : (hand : Hand) (u v : PlainUnit) (out more : Jobs) (b : Bool) (h : Hand) → Leaves hand u out b v h more
     → more.limit ≡ out.limit
-keeps_limit Hand.Free u v out more true h c = absurd c
-keeps_limit Hand.Free u v out more false h c = ap (λ (z : Jobs). z.limit) c.2
+keeps_limit Hand.Empty u v out more true h c = absurd c
+keeps_limit Hand.Empty u v out more false h c = ap (λ (z : Jobs). z.limit) c.2
 keeps_limit (Hand.Taken x) u v out more true h c = absurd c
 keeps_limit (Hand.Taken x) u v out more false h c = ap (λ (z : Jobs). z.limit) c.2
 keeps_limit (Hand.Done x o) u v out more true h c = absurd c
@@ -63,13 +63,13 @@ module _ (w : PlainWorld) (kept : List KeptSeat) (k place : ℕ) (t : Ticket) (u
   held = (out.jobs, shown w kept k (seat_with (Hand.Answered place t) out) seats at)
 
   -- the task leaves
-  left : (jobs : List PlainJob) → DoesUnit (Deed.Leave k place t jobs) u v → h ≡ Hand.Free → more ≡ with_more jobs out
+  left : (jobs : List PlainJob) → DoesUnit (Transition.Leave k place t jobs) u v → h ≡ Hand.Empty → more ≡ with_more jobs out
       → Turns w (Event.Leave k) true (with_unit_and_seat w place v kept k (seat_with h more))
   left jobs does hs is =
-      let d = Deed.Leave k place t jobs in
+      let d = Transition.Leave k place t jobs in
       let s = seat_with (Hand.Answered place t) out in
       let as_left : seat_of (seat_with h more) ≡ leaving jobs (seat_of s) =
-      ap (λ (z : Hand). seat_of (seat_with z more)) hs ∙ ap (λ (z : Jobs). seat_of (seat_with Hand.Free z)) is in
+      ap (λ (z : Hand). seat_of (seat_with z more)) hs ∙ ap (λ (z : Jobs). seat_of (seat_with Hand.Empty z)) is in
       let es : map seat_of (slice_set kept k (seat_with h more)) ≡ change (leaving jobs) k w.seats =
       seat_set (leaving jobs) k kept s (seat_with h more) at as_left
       ∙ ap (λ (zs : List Seat). change (leaving jobs) k zs) (sym seats) in
@@ -92,7 +92,7 @@ pub leaves : (w : PlainWorld) (kept : List KeptSeat) (k place : ℕ) (hand : Han
     → w.seats ≡ map seat_of kept → slice_get kept k ≡ Some (seat_with hand out) → leaving_unit hand ≡ Some place
     → slice_get w.units place ≡ Some u → Leaves hand u out b v h more
     → Turns w (Event.Leave k) b (with_unit_and_seat w place v kept k (seat_with h more))
-leaves w kept k place Hand.Free u v out more h b sound limits seats at unit there c = absurd (nothing unit)
+leaves w kept k place Hand.Empty u v out more h b sound limits seats at unit there c = absurd (nothing unit)
 leaves w kept k place (Hand.Done x o) u v out more h b sound limits seats at unit there c = absurd (nothing unit)
 leaves w kept k place (Hand.Taken x) u v out more h b sound limits seats at unit there c = absurd (nothing unit)
 leaves w kept k place (Hand.Answered p t) u v out more h true sound limits seats at unit there c =

@@ -4,21 +4,21 @@ use Rattle.std.specs.Prelude.{slice_get, get_or}
 use Rattle.std.proofs.lemmas.Option.{slice_get_read, slice_get_within}
 use Rattle.ring_core.specs.Offer.{Offers, Nothing}
 use Rattle.scsi_codec.specs.declared.event_queue.Event.{Event as Report}
-use Rattle.history.specs.Clearing.{is_clear}
-use Rattle.task_set.specs.Jobs.{PlainJob}
-use Rattle.task_set.specs.Unit.{PlainUnit}
+use Rattle.unit_model.specs.Clearing.{is_clear}
+use Rattle.unit_model.specs.Jobs.{PlainJob}
+use Rattle.unit_model.specs.Unit.{PlainUnit}
 use Rattle.task_mgmt.specs.declared.function.Mark.{Mark as Place}
 use Rattle.queues.specs.Looking.{IsIdle}
-use Rattle.queue_phases.specs.Slots.{arrived_unit, is_ready}
-use Rattle.deeds.specs.Parts.{Slot, Hand}
-use Rattle.deeds.specs.World.{PlainQueue, PlainWorld, Opened, Seat}
-use Rattle.deeds.specs.Events.{Event}
-use Rattle.deeds.specs.Applies.{Applies, MayFetch, MayCheck, MayMark, MayRespond, MayPut, MayTake}
-use Rattle.deeds.specs.Happens.{IsOpenTo, SeatIs}
-use Rattle.deeds.specs.Phases.{SlotIs}
-use Rattle.deeds.proofs.Lists.{same, nothing}
-use Rattle.settling.specs.Order.{of_seat, IsQuietOf, NoneApplies}
-use Rattle.settling.proofs.Quiet.{AllQuiet, all_quiet}
+use Rattle.phases.specs.Slots.{arrived_unit, is_direct}
+use Rattle.device_model.specs.Parts.{Slot, Hand}
+use Rattle.device_model.specs.World.{PlainQueue, PlainWorld, Opened, Seat}
+use Rattle.device_model.specs.Events.{Event}
+use Rattle.device_model.specs.Applies.{Applies, MayFetch, MayCheck, MayMark, MayRespond, MayPut, MayTake}
+use Rattle.device_model.specs.Happens.{IsOpenTo, SeatIs}
+use Rattle.device_model.specs.Phases.{SlotIs}
+use Rattle.device_model.proofs.Lists.{same, nothing}
+use Rattle.device_model.specs.Order.{of_seat, IsQuietOf, NoneApplies}
+use Rattle.device_model.proofs.Quiet.{AllQuiet, all_quiet}
 use Rattle.world.specs.Cursors.{Denies, of_function, NoDirect, NoSeat, NoEnter, NoFetch}
 use Rattle.world.specs.Off.{HasJob, IsNearest, AreBare}
 use Rattle.world.proofs.Choosing.{option_none}
@@ -169,27 +169,27 @@ no_raise w o is off a =
 
 -- Slots
 
-slot_ready : (w : PlainWorld) (i : ℕ) (q : PlainQueue) → slice_get w.queues i ≡ Some q → (s : Slot) → q.slot ≡ s
-    → is_ready s ≡ true → Applies w (Event.Direct i)
-slot_ready w i q at Slot.Empty is on = absurd (cc)
-slot_ready w i q at (Slot.Arrived x) is on = absurd (cc)
-slot_ready w i q at (Slot.Ready c o) is on = (c, o, (q, at, is))
+slot_direct : (w : PlainWorld) (i : ℕ) (q : PlainQueue) → slice_get w.queues i ≡ Some q → (s : Slot) → q.slot ≡ s
+    → is_direct s ≡ true → Applies w (Event.Direct i)
+slot_direct w i q at Slot.Empty is on = absurd (cc)
+slot_direct w i q at (Slot.Arrived x) is on = absurd (cc)
+slot_direct w i q at (Slot.Direct c o) is on = (c, o, (q, at, is))
 
 slot_arrived : (w : PlainWorld) (i : ℕ) (q : PlainQueue) → slice_get w.queues i ≡ Some q → (s : Slot) → q.slot ≡ s
     → is_some (arrived_unit s) ≡ true → Applies w (Event.Enter i)
 slot_arrived w i q at Slot.Empty is on = absurd (cc)
 slot_arrived w i q at (Slot.Arrived x) is on = (x, (q, at, is))
-slot_arrived w i q at (Slot.Ready c o) is on = absurd (cc)
+slot_arrived w i q at (Slot.Direct c o) is on = absurd (cc)
 
-pub ready_there : (w : PlainWorld) (i : ℕ) (q : PlainQueue) → slice_get w.queues i ≡ Some q → is_ready q.slot ≡ true
+pub ready_there : (w : PlainWorld) (i : ℕ) (q : PlainQueue) → slice_get w.queues i ≡ Some q → is_direct q.slot ≡ true
     → Applies w (Event.Direct i)
-ready_there w i q at on = slot_ready w i q at q.slot refl on
+ready_there w i q at on = slot_direct w i q at q.slot refl on
 
-pub no_ready : (w : PlainWorld) (i : ℕ) (q : PlainQueue) → slice_get w.queues i ≡ Some q → is_ready q.slot ≡ false
+pub no_ready : (w : PlainWorld) (i : ℕ) (q : PlainQueue) → slice_get w.queues i ≡ Some q → is_direct q.slot ≡ false
     → Applies w (Event.Direct i) → ⊥
 no_ready w i q at off a =
     let s = ap (λ (z : PlainQueue). z.slot) (same (sym at ∙ a.2.1)) ∙ a.2.2 in
-    false_true (sym off ∙ ap is_ready s)
+    false_true (sym off ∙ ap is_direct s)
 
 pub arrived_there : (w : PlainWorld) (i : ℕ) (q : PlainQueue) → slice_get w.queues i ≡ Some q
     → is_some (arrived_unit q.slot) ≡ true → Applies w (Event.Enter i)
@@ -256,32 +256,32 @@ chain_look w i q asked false at on opened h = λ is_asked. no_chain w i q at (λ
 -- Seats
 
 -- a hand that isn't empty has a step
-pub hand_steps : (w : PlainWorld) (k : ℕ) (h : Hand) (jobs : List PlainJob) → SeatIs w k h jobs → (h ≡ Hand.Free → ⊥)
+pub hand_steps : (w : PlainWorld) (k : ℕ) (h : Hand) (jobs : List PlainJob) → SeatIs w k h jobs → (h ≡ Hand.Empty → ⊥)
     → NoneApplies w (of_seat k) → ⊥
-hand_steps w k Hand.Free jobs at busy none = busy refl
+hand_steps w k Hand.Empty jobs at busy none = busy refl
 hand_steps w k (Hand.Taken x) jobs at busy none = none.1.1.0 (x, (jobs, at))
 hand_steps w k (Hand.Done x o) jobs at busy none = none.1.0 (x, o, (jobs, at))
 hand_steps w k (Hand.Answered place t) jobs at busy none = none.0 (place, t, (jobs, at))
 
 pub idle_there : (w : PlainWorld) (k : ℕ) (h : Hand) (jobs : List PlainJob) → SeatIs w k h jobs
-    → (h ≡ Hand.Free) × (jobs ≡ []) → SeatIs w k Hand.Free []
+    → (h ≡ Hand.Empty) × (jobs ≡ []) → SeatIs w k Hand.Empty []
 idle_there w k h jobs at idle =
-    subst (λ (out : List PlainJob). SeatIs w k Hand.Free out) idle.1
+    subst (λ (out : List PlainJob). SeatIs w k Hand.Empty out) idle.1
     (subst (λ (g : Hand). SeatIs w k g jobs) idle.0 at)
 
 -- or a job to hand off
-job_there : (w : PlainWorld) (k : ℕ) (jobs : List PlainJob) → SeatIs w k Hand.Free jobs → (jobs ≡ [] → ⊥)
+job_there : (w : PlainWorld) (k : ℕ) (jobs : List PlainJob) → SeatIs w k Hand.Empty jobs → (jobs ≡ [] → ⊥)
     → NoneApplies w (of_seat k) → ⊥
 job_there w k [] at some none = some refl
 job_there w k (x ∷ rest) at some none = none.1.1.1.0 (record { job = x; rest = rest; seat = at })
 
-pub job_steps : (w : PlainWorld) (k : ℕ) (h : Hand) (jobs : List PlainJob) → SeatIs w k h jobs → h ≡ Hand.Free
-    → ((h ≡ Hand.Free) × (jobs ≡ []) → ⊥) → NoneApplies w (of_seat k) → ⊥
+pub job_steps : (w : PlainWorld) (k : ℕ) (h : Hand) (jobs : List PlainJob) → SeatIs w k h jobs → h ≡ Hand.Empty
+    → ((h ≡ Hand.Empty) × (jobs ≡ []) → ⊥) → NoneApplies w (of_seat k) → ⊥
 job_steps w k h jobs at free busy =
     job_there w k jobs (subst (λ (g : Hand). SeatIs w k g jobs) free at) (λ none. busy (free, none))
 
 -- an idle seat: it takes a job, where it is a worker's and one was handed off
-idle_seat : (w : PlainWorld) (k : ℕ) → SeatIs w k Hand.Free [] → (MayTake w k → ⊥) → NoneApplies w (of_seat k)
+idle_seat : (w : PlainWorld) (k : ℕ) → SeatIs w k Hand.Empty [] → (MayTake w k → ⊥) → NoneApplies w (of_seat k)
 idle_seat w k at never =
     let i = stages.free w k ([], at) in (
       i.leave,
@@ -297,10 +297,10 @@ idle_seat w k at never =
       ),
     )
 
-pub no_worker : (w : PlainWorld) (k : ℕ) → SeatIs w k Hand.Free [] → (k < w.workers → ⊥) → NoneApplies w (of_seat k)
+pub no_worker : (w : PlainWorld) (k : ℕ) → SeatIs w k Hand.Empty [] → (k < w.workers → ⊥) → NoneApplies w (of_seat k)
 no_worker w k at operator = idle_seat w k at (λ (m : MayTake w k). operator m.worker)
 
-bare : (w : PlainWorld) (k i : ℕ) → SeatIs w k Hand.Free [] → k < w.workers → NoneApplies w (of_seat k)
+bare : (w : PlainWorld) (k i : ℕ) → SeatIs w k Hand.Empty [] → k < w.workers → NoneApplies w (of_seat k)
     → (jobs : List PlainJob) → slice_get w.handed_off i ≡ Some jobs → jobs ≡ []
 bare w k i at worker none [] there = refl
 bare w k i at worker none (x ∷ rest) there =
@@ -313,7 +313,7 @@ bare w k i at worker none (x ∷ rest) there =
       handed_off = there;
     }))
 
-pub takes : (w : PlainWorld) (k : ℕ) (b : Bool) → SeatIs w k Hand.Free [] → k < w.workers → Denies (AreBare w.handed_off) b
+pub takes : (w : PlainWorld) (k : ℕ) (b : Bool) → SeatIs w k Hand.Empty [] → k < w.workers → Denies (AreBare w.handed_off) b
     → Denies (NoneApplies w (of_seat k)) b
 takes w k true at worker h = λ none. h (λ i jobs there. bare w k i at worker none jobs there)
 takes w k false at worker h =

@@ -2,24 +2,24 @@
 use Rattle.std.proofs.Common.{◌≡◌, ◌+◌, ◌*◌, ℕ, Bool, true, false, List, [], ◌∷◌, length, Option, Some, refl, sym, ap, ◌∙◌, subst, inl, inr, ◌<◌, arith}
 use Rattle.std.specs.Prelude.{slice_get, slice_set, map}
 use Rattle.std.proofs.lemmas.List.{length-map}
-use Rattle.history.specs.Steps.{alive}
-use Rattle.history.specs.Seen.{any_met}
-use Rattle.task_set.specs.Jobs.{PlainJob, Jobs}
-use Rattle.task_set.specs.Unit.{PlainUnit, after as stepped}
+use Rattle.unit_model.specs.Steps.{alive}
+use Rattle.unit_model.specs.Seen.{any_met}
+use Rattle.unit_model.specs.Jobs.{PlainJob, Jobs}
+use Rattle.unit_model.specs.Unit.{PlainUnit, after as stepped}
 use Rattle.task_mgmt.specs.Functions.{PlainFunction, marking, asking, failing, step_by}
 use Rattle.task_mgmt.specs.declared.kind.Kind.{Kind}
-use Rattle.task_mgmt.specs.declared.kind.Kind.TheVariants.{Marking, Asking}
-use Rattle.deeds.specs.World.{Seat, Opened, PlainWorld, change}
-use Rattle.deeds.specs.Events.{Event}
-use Rattle.deeds.specs.Deeds.{Deed}
-use Rattle.deeds.specs.After.{on_function, with_jobs}
-use Rattle.deeds.specs.Happens.{handed_out, IsMarking}
-use Rattle.deeds.specs.Phases.{IsLeft}
-use Rattle.deeds.specs.Standing.{HaveRoom}
-use Rattle.deeds.specs.Turns.{Turns}
-use Rattle.deeds.proofs.Lists.{same, nothing}
-use Rattle.deeds.proofs.Joining.{joins}
-use Rattle.phases.specs.Doing.{with_more}
+use Rattle.task_mgmt.specs.declared.kind.Kind.TheVariants.{Marking, Querying}
+use Rattle.device_model.specs.World.{Seat, Opened, PlainWorld, change}
+use Rattle.device_model.specs.Events.{Event}
+use Rattle.device_model.specs.Transitions.{Transition}
+use Rattle.device_model.specs.After.{on_function, with_jobs}
+use Rattle.device_model.specs.Happens.{handed_out, IsMarking}
+use Rattle.device_model.specs.Phases.{IsLeft}
+use Rattle.device_model.specs.Standing.{HaveRoom}
+use Rattle.device_model.specs.Turns.{Turns}
+use Rattle.device_model.proofs.Lists.{same, nothing}
+use Rattle.device_model.proofs.Joining.{joins}
+use Rattle.phases.specs.DoingUnit.{with_more}
 use Rattle.phases.specs.Units.{MarksNext, MarksUnit, mark_at}
 use Rattle.world.specs.Kept.{KeptSeat, seat_of}
 use Rattle.world.proofs.Setting.{list_of, listing, unit_change, unit_still, seat_there, seat_more, seat_still, has_places}
@@ -29,7 +29,7 @@ limit_of_kind : (f : Opened) (place : ℕ) (kind : Kind) (u : PlainUnit) (out : 
     (out' : Jobs) → MarksUnit f place kind u out v g out' → out'.limit ≡ out.limit
 limit_of_kind f place (Marking m) u out v g out' (inl h) = ap (λ (j : Jobs). j.limit) h.2
 limit_of_kind f place (Marking m) u out v g out' (inr h) = ap (λ (j : Jobs). j.limit) h.2
-limit_of_kind f place (Asking rule) u out v g out' h = ap (λ (j : Jobs). j.limit) h.2
+limit_of_kind f place (Querying rule) u out v g out' h = ap (λ (j : Jobs). j.limit) h.2
 
 pub limit_stays : (f : Opened) (left : List ℕ) (u : PlainUnit) (out : Jobs) (b : Bool) (v : PlainUnit) (g : Opened)
     (out' : Jobs) → MarksNext f left u out b v g out' → out'.limit ≡ out.limit
@@ -93,23 +93,23 @@ module _ (w : PlainWorld) (kept : List KeptSeat) (are : w.seats ≡ map seat_of 
   marks_unit : (kind : Kind) → f.function.kind ≡ kind → MarksUnit f p kind u (list_of s) v g out
       → Turns w Event.Mark true (marked_in w kept p v 0 (listing out s) g)
   marks_unit (Marking m) is (inl h) = (
-    Deed.Mark f.chain.ticket (mark_at p u) m (handed_out u (step_by m)),
+    Transition.Mark f.chain.ticket (mark_at p u) m (handed_out u (step_by m)),
     refl,
-    joins (Deed.Mark f.chain.ticket (mark_at p u) m (handed_out u (step_by m))) w
+    joins (Transition.Mark f.chain.ticket (mark_at p u) m (handed_out u (step_by m))) w
         (is_left (Marking m) is, (seat_of s, seat_there w.seats kept are 0 s s_at out)) (u, u_at, h.0.asks) tt,
     parts_are w _ _ _ _ _ _ (unit_change (stepped (step_by m)) w.units p u v u_at h.0.is)
         (more (handed_out u (step_by m)) h.2) (function_to (marking (mark_at p u)) h.1),
   )
   marks_unit (Marking m) is (inr h) = (
-    Deed.Fail f.chain.ticket,
+    Transition.MarkRefused f.chain.ticket,
     refl,
-    record { strike = m; place = p; marking = is_marking (Marking m) is },
+    record { how = m; place = p; marking = is_marking (Marking m) is },
     parts_are w _ _ _ _ _ _ (unit_still w.units p u v u_at h.0) (still h.2) (function_to failing h.1),
   )
-  marks_unit (Asking rule) is h = (
-    Deed.Ask f.chain.ticket p rule (any_met rule (alive u.steps)),
+  marks_unit (Querying rule) is h = (
+    Transition.Ask f.chain.ticket p rule (any_met rule (alive u.steps)),
     refl,
-    joins (Deed.Ask f.chain.ticket p rule (any_met rule (alive u.steps))) w (is_left (Asking rule) is)
+    joins (Transition.Ask f.chain.ticket p rule (any_met rule (alive u.steps))) w (is_left (Querying rule) is)
         (u, u_at, h.0.asks) tt,
     parts_are w _ _ _ _ _ _ (unit_still w.units p u v u_at h.0.is) (still h.2)
         (function_to (asking (any_met rule (alive u.steps))) h.1),

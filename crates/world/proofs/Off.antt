@@ -2,9 +2,9 @@
 use Rattle.std.proofs.Common.{◌≡◌, ◌≤◌, ◌<◌, ◌⊎◌, inl, inr, ℕ, List, [], ◌∷◌, ◌++◌, length, map, drop, Option, Some, None, is_some, refl, sym, ap, ◌∙◌, subst, arith, get_or}
 use Rattle.std.specs.Prelude.{slice_get, slice_set}
 use Rattle.std.proofs.lemmas.Option.{slice_get_within, slice_get_read}
-use Rattle.task_set.specs.Jobs.{PlainJob, Jobs}
-use Rattle.deeds.specs.World.{IsBefore, change}
-use Rattle.deeds.specs.After.{with_job}
+use Rattle.unit_model.specs.Jobs.{PlainJob, Jobs}
+use Rattle.device_model.specs.World.{IsBefore, change}
+use Rattle.device_model.specs.After.{with_job}
 use Rattle.world.specs.Cursors.{Denies}
 use Rattle.world.specs.Off.{jobs_of, HaveLimit, AreBare, AreBareBetween, HasJob, IsFirstBetween, IsNearest, PutsAt, Takes}
 use Rattle.world.proofs.Setting.{set_change, map_set, map_get, everywhere_set}

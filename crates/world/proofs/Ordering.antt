@@ -1,10 +1,10 @@
 -- What is first in the order.
 use Rattle.std.proofs.Common.{◌≡◌, ◌⊎◌, inl, inr, ℕ, zero, suc, ◌<◌, Bool, true, false, if◌then◌else◌, List, [], ◌∷◌, ◌++◌, length, subst, refl, ap, ◌∙◌, arith}
-use Rattle.deeds.specs.World.{PlainWorld}
-use Rattle.deeds.specs.Events.{Event}
-use Rattle.deeds.specs.Happens.{MayWant}
-use Rattle.deeds.specs.Applies.{Applies}
-use Rattle.settling.specs.Order.{each, of_seat, fetch_of, order_by, IsFirstOf, NoneApplies, IsQuietOf}
+use Rattle.device_model.specs.World.{PlainWorld}
+use Rattle.device_model.specs.Events.{Event}
+use Rattle.device_model.specs.Happens.{MayWant}
+use Rattle.device_model.specs.Applies.{Applies}
+use Rattle.device_model.specs.Order.{each, of_seat, fetch_of, order_by, IsFirstOf, NoneApplies, IsQuietOf}
 use Rattle.world.specs.Settling.{order_for, MayWantFirst}
 use Rattle.world.specs.Cursors.{of_function, NoStart, NoDirectBelow, NoDirect, NoSeatBelow, NoSeat, NoEnterBelow, NoEnter, NoFetchBelow, NoFetch, NoneBeforeFetch}
 

@@ -1,8 +1,8 @@
 -- An item that is set where it stands, and what holds everywhere in the list then.
 use Rattle.std.proofs.Common.{◌≡◌, ◌<◌, ◌==◌, ℕ, true, false, arith, zero, suc, List, [], ◌∷◌, Some, sym, ap, ◌∙◌, subst}
 use Rattle.std.specs.Prelude.{slice_get, slice_set}
-use Rattle.deeds.specs.World.{change, Everywhere}
-use Rattle.deeds.proofs.Lists.{same, nothing}
+use Rattle.device_model.specs.World.{change, Everywhere}
+use Rattle.device_model.proofs.Lists.{same, nothing}
 use Rattle.world.proofs.Setting.{set_change}
 
 -- no falsehood is true

@@ -2,10 +2,10 @@
 use Rattle.std.proofs.Common.{◌≡◌, ◌↔◌, ℕ, Bool, true, false, List, length, Result, Ok, Err, OnOk, OnErr, IsOk, is_ok, refl, sym, ap}
 use Rattle.guest_mem.specs.Memory.{LiesIn, with_bytes}
 use Rattle.ring_core.specs.Writes.{Write}
-use Rattle.deeds.specs.World.{PlainWorld}
-use Rattle.deeds.specs.Events.{Event}
-use Rattle.deeds.specs.Deeds.{Deed}
-use Rattle.deeds.specs.Turns.{Turns}
+use Rattle.device_model.specs.World.{PlainWorld}
+use Rattle.device_model.specs.Events.{Event}
+use Rattle.device_model.specs.Transitions.{Transition}
+use Rattle.device_model.specs.Turns.{Turns}
 
 -- the world with this memory
 abbrev with_memory : List ℕ → PlainWorld → PlainWorld
@@ -21,7 +21,7 @@ pub poke_turns : {T E : Type 0} (w : PlainWorld) (x : Write) (m : List ℕ) (wri
     → OnOk written (m ≡ with_bytes w.memory x.addr x.bytes) → OnErr written (m ≡ w.memory) → r ≡ is_ok written
     → Turns w (Event.Poke x) r (with_memory m w)
 poke_turns w x m (Ok z) true inside ok err is =
-    (Deed.Poke x, refl, inside.0 refl, ap (λ m. with_memory m w) ok)
+    (Transition.Poke x, refl, inside.0 refl, ap (λ m. with_memory m w) ok)
 poke_turns w x m (Ok z) false inside ok err is = absurd (error_or_value is)
 poke_turns w x m (Err e) true inside ok err is = absurd (error_or_value (sym is))
 poke_turns w x m (Err e) false inside ok err is =

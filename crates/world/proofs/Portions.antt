@@ -4,17 +4,17 @@ use Rattle.std.specs.Prelude.{slice_get}
 use Rattle.std.proofs.lemmas.Nat.Bits.{bit_at_ones}
 use Rattle.std.proofs.lemmas.Option.{slice_get_within}
 use Rattle.block_store.specs.declared.NoMemory.{NoMemory}
-use Rattle.deeds.specs.World.{PlainWorld}
-use Rattle.deeds.specs.Events.{Event}
-use Rattle.deeds.specs.Deeds.{Deed, event_of}
-use Rattle.deeds.specs.Happens.{Happens, world_of}
-use Rattle.deeds.specs.Lawful.{KeepsParts}
-use Rattle.deeds.proofs.Staying.{deed_stays}
-use Rattle.settling.specs.Order.{order, order_by, order_of, IsFirstOf, IsNextOf, IsQuiet, IsQuietOf, IsAtRest, IsAtRestOf, NoneApplies}
-use Rattle.settling.specs.Settling.{SettlesOf}
-use Rattle.settling.proofs.Choosing.{next_or_quiet_of}
-use Rattle.settling.proofs.Runs.{settles_of_to_rest}
-use Rattle.settling.proofs.Bounds.{settles_of_short}
+use Rattle.device_model.specs.World.{PlainWorld}
+use Rattle.device_model.specs.Events.{Event}
+use Rattle.device_model.specs.Transitions.{Transition, event_of}
+use Rattle.device_model.specs.Happens.{Happens, world_of}
+use Rattle.device_model.specs.Lawful.{KeepsParts}
+use Rattle.device_model.proofs.Staying.{transition_stays}
+use Rattle.device_model.specs.Order.{order, order_by, order_of, IsFirstOf, IsNextOf, IsQuiet, IsQuietOf, IsAtRest, IsAtRestOf, NoneApplies}
+use Rattle.device_model.specs.Settling.{SettlesOf}
+use Rattle.device_model.proofs.Choosing.{next_or_quiet_of}
+use Rattle.device_model.proofs.Runs.{settles_of_to_rest}
+use Rattle.device_model.proofs.Bounds.{settles_of_short}
 use Rattle.world.specs.declared.service.Served.{Served}
 use Rattle.world.specs.Settling.{asks, asks_all, order_for, ServesBy, MayWantFirst, ServesSome, ServesUntilRefused, ServesSomeOrWants, ServesAll, ServesInPart, ServesOrWants}
 use Rattle.world.specs.Promise.{GoesOnInOrder, ServesAsPromised, SettlesAsPromised}
@@ -45,11 +45,11 @@ portion asked w most n b v r s few full h =
     let rest : IsQuietOf asked v → IsAtRestOf asked v =
     λ quiet.
     subst (λ z. IsAtRestOf asked z) (sym s.is)
-    (settles_of_to_rest asked r.old r.trace w s.deeds r.reached s.settles (subst (λ z. IsQuietOf asked z) s.is quiet)) in
+    (settles_of_to_rest asked r.old r.trace w s.transitions r.reached s.settles (subst (λ z. IsQuietOf asked z) s.is quiet)) in
     record {
       serves = s;
       few = few;
-      short = settles_of_short asked r.old r.trace w s.deeds r.reached s.settles;
+      short = settles_of_short asked r.old r.trace w s.transitions r.reached s.settles;
       left = λ on. (full on, next_left asked v b on h);
       none = λ off. let quiet = none_left (IsQuietOf asked v) b off h in (quiet, rest quiet);
     }
@@ -63,7 +63,7 @@ refused asked w most n u v r s few t =
       count = n;
       serves = s;
       few = few;
-      short = settles_of_short asked r.old r.trace w s.deeds r.reached s.settles;
+      short = settles_of_short asked r.old r.trace w s.transitions r.reached s.settles;
       wants = t.1;
     })
 
@@ -74,18 +74,18 @@ asks_each : (q : ℕ) → q < 32 → asks 4294967295 q ≡ asks_all q
 asks_each q lt = ap (λ n. n == 1) (bit_at_ones 32 q lt)
 
 -- there are as many queues as before
-as_many : (w : PlainWorld) (ds : List Deed) → length (world_of w ds).queues ≡ length w.queues
+as_many : (w : PlainWorld) (ds : List Transition) → length (world_of w ds).queues ≡ length w.queues
 as_many w [] = refl
 as_many w (d ∷ ds) =
-    let k : KeepsParts (world_of w ds) (world_of w (d ∷ ds)) = deed_stays d (world_of w ds) in
+    let k : KeepsParts (world_of w ds) (world_of w (d ∷ ds)) = transition_stays d (world_of w ds) in
     omega (arith, k.queues, as_many w ds)
 
-alike : (w : PlainWorld) (ds : List Deed) → length w.queues ≤ 18
+alike : (w : PlainWorld) (ds : List Transition) → length w.queues ≤ 18
     → AskAlike (asks 4294967295) asks_all (length (world_of w ds).queues)
 alike w ds few q lt = asks_each q (omega (arith, lt, few, as_many w ds))
 
 -- what is first is the same
-settles_alike : (w : PlainWorld) (ds : List Deed) → length w.queues ≤ 18 → SettlesOf (asks 4294967295) w ds
+settles_alike : (w : PlainWorld) (ds : List Transition) → length w.queues ≤ 18 → SettlesOf (asks 4294967295) w ds
     → SettlesOf asks_all w ds
 settles_alike w [] few h = tt
 settles_alike w (d ∷ ds) few h =
@@ -99,7 +99,7 @@ settles_alike w (d ∷ ds) few h =
 abbrev serves_alike : (w : PlainWorld) (n : ℕ) (v : PlainWorld) → length w.queues ≤ 18 → ServesBy (asks 4294967295) w n v
     → ServesBy asks_all w n v
 serves_alike w n v few s =
-    record { deeds = s.deeds; settles = settles_alike w s.deeds few s.settles; is = s.is; counted = s.counted }
+    record { transitions = s.transitions; settles = settles_alike w s.transitions few s.settles; is = s.is; counted = s.counted }
 
 -- the order is the one that asks each queue
 order_all : (queues seats : ℕ) → order_by asks_all queues seats ≡ order queues seats
@@ -110,7 +110,7 @@ order_is : (w v : PlainWorld) (n : ℕ) → length w.queues ≤ 18 → ServesBy 
     → order_for (asks 4294967295) v ≡ order_of v
 order_is w v n few s =
     let same : AskAlike (asks 4294967295) asks_all (length v.queues) =
-    subst (λ (z : PlainWorld). AskAlike (asks 4294967295) asks_all (length z.queues)) (sym s.is) (alike w s.deeds few) in
+    subst (λ (z : PlainWorld). AskAlike (asks 4294967295) asks_all (length z.queues)) (sym s.is) (alike w s.transitions few) in
     order_alike (asks 4294967295) asks_all (length v.queues) (length v.seats) same
     ∙ order_all (length v.queues) (length v.seats)
 
@@ -132,7 +132,7 @@ served_whole w s v few h off =
     let none = h.none off in
     let same : AskAlike (asks 4294967295) asks_all (length v.queues) =
     subst (λ (z : PlainWorld). AskAlike (asks 4294967295) asks_all (length z.queues)) (sym h.serves.is)
-    (alike w h.serves.deeds few) in
+    (alike w h.serves.transitions few) in
     record {
       serves = serves_alike w s.steps v few h.serves;
       quiet = subst (λ xs. NoneApplies v xs) (order_is w v s.steps few h.serves) none.0;

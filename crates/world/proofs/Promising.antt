@@ -1,13 +1,13 @@
 -- What a run of the device promises.
 use Rattle.std.proofs.Common.{◌≡◌, ℕ, ◌+◌, Bool, arith, List, [], ◌∷◌, ◌++◌, map, if◌then◌else◌, Result, Ok, Err, refl, sym, ap, ◌∙◌, subst}
 use Rattle.block_store.specs.declared.NoMemory.{NoMemory}
-use Rattle.deeds.specs.World.{PlainWorld}
-use Rattle.deeds.specs.Events.{Event}
-use Rattle.deeds.specs.Deeds.{Deed, event_of}
-use Rattle.deeds.specs.Happens.{Occurrence, Runs, Reached, occurrence_of}
-use Rattle.deeds.specs.Turns.{count_changes}
-use Rattle.interleavings.specs.Promise.{IsPromised}
-use Rattle.settling.proofs.Runs.{settles_of_run, each_changes_of}
+use Rattle.device_model.specs.World.{PlainWorld}
+use Rattle.device_model.specs.Events.{Event}
+use Rattle.device_model.specs.Transitions.{Transition, event_of}
+use Rattle.device_model.specs.Happens.{Occurrence, Runs, Reached, occurrence_of}
+use Rattle.device_model.specs.Turns.{count_changes}
+use Rattle.device_model.specs.Promise.{IsPromised}
+use Rattle.device_model.proofs.Runs.{settles_of_run, each_changes_of}
 use Rattle.world.specs.Steps.{Steps}
 use Rattle.world.specs.Settling.{ServesBy}
 use Rattle.world.specs.Promise.{GoesOn, GoesOnInOrder, StepsAsPromised}
@@ -44,18 +44,18 @@ steps_promised p g w e (Ok changed) w' h =
     (w, refl, h.step) refl (one_changes h.action.changed changed h.told)
 steps_promised p g w e (Err x) w' h = h
 
--- the events of deeds
-told : (ds : List Deed) → map (λ (o : Occurrence). o.event) (map occurrence_of ds) ≡ map event_of ds
+-- the events of transitions
+told : (ds : List Transition) → map (λ (o : Occurrence). o.event) (map occurrence_of ds) ≡ map event_of ds
 told [] = refl
 told (d ∷ ds) = ap (λ xs. event_of d ∷ xs) (told ds)
 
 pub served : AllArePromised → AllGoOn → (asked : ℕ → Bool) (w : PlainWorld) (count : ℕ) (w' : PlainWorld)
     → ServesBy asked w count w' → GoesOnInOrder asked w count w'
 served p g asked w count w' h =
-    let more = map occurrence_of h.deeds in
-    let r : Runs w more w' = subst (λ v. Runs w more v) (sym h.is) (settles_of_run asked w h.deeds h.settles) in
+    let more = map occurrence_of h.transitions in
+    let r : Runs w more w' = subst (λ v. Runs w more v) (sym h.is) (settles_of_run asked w h.transitions h.settles) in
     record {
       serves = h;
-      goes_on = goes_on p g w w' more (map event_of h.deeds) count r (told h.deeds)
-          (each_changes_of asked w h.deeds h.settles ∙ h.counted);
+      goes_on = goes_on p g w w' more (map event_of h.transitions) count r (told h.transitions)
+          (each_changes_of asked w h.transitions h.settles ∙ h.counted);
     }

@@ -7,18 +7,18 @@ use Rattle.scsi_codec.specs.EventQueue.{event_bytes}
 use Rattle.ring_core.specs.State.{PlainChain}
 use Rattle.ring_core.specs.Writes.{all_written}
 use Rattle.event_queue.specs.Port.{PlainPort}
-use Rattle.deeds.specs.Parts.{Slot, answer_writes}
-use Rattle.deeds.specs.World.{PlainQueue, PlainWorld, change}
-use Rattle.deeds.specs.Events.{Event}
-use Rattle.deeds.specs.Deeds.{Deed}
-use Rattle.deeds.specs.After.{completing}
-use Rattle.deeds.specs.Standing.{IsOwned}
-use Rattle.deeds.specs.Turns.{Turns}
-use Rattle.deeds.proofs.Joining.{joins}
-use Rattle.deeds.proofs.Lists.{same}
-use Rattle.queues.specs.Queue.{Lent, MayComplete}
-use Rattle.queue_phases.specs.Queue.{with_slot}
-use Rattle.queue_phases.specs.EventQueue.{RaisesNext, RaisesTo, StaysRaised}
+use Rattle.device_model.specs.Parts.{Slot, answer_writes}
+use Rattle.device_model.specs.World.{PlainQueue, PlainWorld, change}
+use Rattle.device_model.specs.Events.{Event}
+use Rattle.device_model.specs.Transitions.{Transition}
+use Rattle.device_model.specs.After.{completing}
+use Rattle.device_model.specs.Standing.{IsOwned}
+use Rattle.device_model.specs.Turns.{Turns}
+use Rattle.device_model.proofs.Joining.{joins}
+use Rattle.device_model.proofs.Lists.{same}
+use Rattle.queues.specs.Queue.{BareQueue, MayComplete}
+use Rattle.phases.specs.Queue.{with_slot}
+use Rattle.phases.specs.EventQueue.{RaisesNext, RaisesTo, StaysRaised}
 use Rattle.world.specs.Sound.{IsSound}
 use Rattle.world.proofs.Setting.{set_same}
 use Rattle.world.proofs.Placing.{set_as}
@@ -33,7 +33,7 @@ with_raised m qs p x w =
 none_there : {X : Type 0} {x : X} {xs : List X} → [] ≡ x ∷ xs → ⊥
 none_there e = cc
 
-module _ (w : PlainWorld) (k : ℕ) (s : Slot) (l l' : Lent) (m' : List ℕ) (p p' : PlainPort) (x' : List Report)
+module _ (w : PlainWorld) (k : ℕ) (s : Slot) (l l' : BareQueue) (m' : List ℕ) (p p' : PlainPort) (x' : List Report)
     (second : k ≡ 1) (at : slice_get w.queues k ≡ Some (with_slot s l)) (held : p.buffers ≡ w.buffers)
     (missed : p.missed ≡ w.missed) where
   -- by what the parts are
@@ -71,7 +71,7 @@ module _ (w : PlainWorld) (k : ℕ) (s : Slot) (l l' : Lent) (m' : List ℕ) (p 
   raises_to (c ∷ more) e later true has waits fits owned h =
       let xs = answer_writes l.ring c (event_bytes e) in
       let m = all_written w.memory xs in
-      let d = Deed.Give e c xs in
+      let d = Transition.Give e c xs in
       let does = h.0 w.inventory s in
       let first = owned.0.0 ∙ sym second in
       let here : slice_get w.queues c.ticket.queue ≡ Some (with_slot s l) = ap (λ i. slice_get w.queues i) first ∙ at in
@@ -105,7 +105,7 @@ module _ (w : PlainWorld) (k : ℕ) (s : Slot) (l l' : Lent) (m' : List ℕ) (p 
       )
   raises_to (c ∷ more) e later false has waits fits owned h = absurd (h.0 (may_give c fits owned.0))
   raises_to [] e later true has waits fits owned h =
-      let d = Deed.Miss e in (
+      let d = Transition.Miss e in (
         d,
         refl,
         joins d w (record { later = later; waits = waits; none = sym held ∙ has }) tt tt,
@@ -128,24 +128,24 @@ module _ (w : PlainWorld) (k : ℕ) (s : Slot) (l l' : Lent) (m' : List ℕ) (p 
       (still [] waits h, λ may. none_there (sym waits ∙ may.2))
 
 -- what holds of the sizes afterwards
-to_sizes : (cs : List PlainChain) (e : Report) (later : List Report) (l l' : Lent) (m m' : List ℕ) (p p' : PlainPort)
+to_sizes : (cs : List PlainChain) (e : Report) (later : List Report) (l l' : BareQueue) (m m' : List ℕ) (p p' : PlainPort)
     (x' : List Report) (r : Bool) → RaisesTo cs e later l m p r l' m' p' x'
     → (l'.ring.memory ≡ l.ring.memory) × (p'.limit ≡ p.limit)
 to_sizes (c ∷ more) e later l l' m m' p p' x' true h =
     let xs = answer_writes l.ring c (event_bytes e) in (
       ap (λ (q : PlainQueue). q.ring.memory) (h.0 [] Slot.Empty).queue
-          ∙ keeps_memory (Deed.Give e c xs) m (with_slot Slot.Empty l),
+          ∙ keeps_memory (Transition.Give e c xs) m (with_slot Slot.Empty l),
       ap (λ (z : PlainPort). z.limit) h.1,
     )
 to_sizes (c ∷ more) e later l l' m m' p p' x' false h =
-    (ap (λ (q : Lent). q.ring.memory) h.1.at_queue.queue, ap (λ (z : PlainPort). z.limit) h.1.port)
+    (ap (λ (q : BareQueue). q.ring.memory) h.1.at_queue.queue, ap (λ (z : PlainPort). z.limit) h.1.port)
 to_sizes [] e later l l' m m' p p' x' true h =
-    (ap (λ (q : Lent). q.ring.memory) h.0.queue, ap (λ (z : PlainPort). z.limit) h.1)
+    (ap (λ (q : BareQueue). q.ring.memory) h.0.queue, ap (λ (z : PlainPort). z.limit) h.1)
 to_sizes [] e later l l' m m' p p' x' false h = absurd h
 
-pub raise_sizes : (x : List Report) (l l' : Lent) (m m' : List ℕ) (p p' : PlainPort) (x' : List Report) (r : Bool)
+pub raise_sizes : (x : List Report) (l l' : BareQueue) (m m' : List ℕ) (p p' : PlainPort) (x' : List Report) (r : Bool)
     → RaisesNext x l m p r l' m' p' x' → (l'.ring.memory ≡ l.ring.memory) × (p'.limit ≡ p.limit)
 raise_sizes (e ∷ later) l l' m m' p p' x' r h = to_sizes p.buffers e later l l' m m' p p' x' r h
 raise_sizes [] l l' m m' p p' x' true h = absurd h
 raise_sizes [] l l' m m' p p' x' false h =
-    (ap (λ (q : Lent). q.ring.memory) h.at_queue.queue, ap (λ (z : PlainPort). z.limit) h.port)
+    (ap (λ (q : BareQueue). q.ring.memory) h.at_queue.queue, ap (λ (z : PlainPort). z.limit) h.port)

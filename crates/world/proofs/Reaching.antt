@@ -2,17 +2,17 @@
 use Rattle.std.proofs.Common.{ℕ, Bool, true, false, List, [], ◌∷◌, Option, Some, None, Result, Ok, Err, refl, sym, subst, arith}
 use Rattle.block_store.specs.declared.NoMemory.{NoMemory}
 use Rattle.std.specs.Prelude.{map, ◌≤◌}
-use Rattle.deeds.specs.World.{PlainWorld, Everywhere}
-use Rattle.deeds.specs.Events.{Event}
-use Rattle.deeds.specs.Deeds.{Deed, event_of}
-use Rattle.deeds.specs.After.{after}
-use Rattle.deeds.specs.Happens.{world_of}
-use Rattle.settling.specs.Settling.{SettlesOf}
+use Rattle.device_model.specs.World.{PlainWorld, Everywhere}
+use Rattle.device_model.specs.Events.{Event}
+use Rattle.device_model.specs.Transitions.{Transition, event_of}
+use Rattle.device_model.specs.After.{after}
+use Rattle.device_model.specs.Happens.{world_of}
+use Rattle.device_model.specs.Settling.{SettlesOf}
 use Rattle.world.specs.Settling.{ServesBy}
-use Rattle.deeds.specs.Lawful.{KeepsParts}
-use Rattle.deeds.specs.Turns.{Turns, IsStep}
-use Rattle.deeds.proofs.Staying.{deed_stays}
-use Rattle.deeds.proofs.Turning.{step_of}
+use Rattle.device_model.specs.Lawful.{KeepsParts}
+use Rattle.device_model.specs.Turns.{Turns, IsStep}
+use Rattle.device_model.proofs.Staying.{transition_stays}
+use Rattle.device_model.proofs.Turning.{step_of}
 use Rattle.world.specs.Sound.{AreFew, IsReached, IsWhole, size_of, lun_of}
 use Rattle.world.specs.Steps.{TurnsOrWants, Steps}
 use Rattle.world.specs.Cursors.{StepsNext, TurnsNext}
@@ -32,7 +32,7 @@ reached_by w e b w' r s =
 -- a turn leaves as many queues and seats
 few_by : (w : PlainWorld) (e : Event) (b : Bool) (w' : PlainWorld) → AreFew w → Turns w e b w' → AreFew w'
 few_by w e true w' f t =
-    let k : KeepsParts w w' = subst (λ z. KeepsParts w z) (sym t.3) (deed_stays t.0 w) in
+    let k : KeepsParts w w' = subst (λ z. KeepsParts w z) (sym t.3) (transition_stays t.0 w) in
     record {
       several = omega (arith, k.queues, f.several);
       queues = omega (arith, k.queues, f.queues);
@@ -50,15 +50,15 @@ pub whole_by : (w : PlainWorld) (e : Event) (b : Bool) (w' : PlainWorld) → IsW
 whole_by w e b w' h t =
     record { reached = reached_by w e b w' h.reached (step_of w e b w' t); few = few_by w e b w' h.few t }
 
--- by deeds, each of the first event that applied
-whole_by_deeds : (asked : ℕ → Bool) (w : PlainWorld) (ds : List Deed) → IsWhole w → SettlesOf asked w ds → IsWhole (world_of w ds)
-whole_by_deeds asked w [] h s = h
-whole_by_deeds asked w (d ∷ ds) h s =
-    whole_by (world_of w ds) (event_of d) true (after d (world_of w ds)) (whole_by_deeds asked w ds h s.0) (d, refl, s.1, refl)
+-- by transitions, each of the first event that applied
+whole_by_transitions : (asked : ℕ → Bool) (w : PlainWorld) (ds : List Transition) → IsWhole w → SettlesOf asked w ds → IsWhole (world_of w ds)
+whole_by_transitions asked w [] h s = h
+whole_by_transitions asked w (d ∷ ds) h s =
+    whole_by (world_of w ds) (event_of d) true (after d (world_of w ds)) (whole_by_transitions asked w ds h s.0) (d, refl, s.1, refl)
 
 -- by what was served
 pub whole_by_serving : (asked : ℕ → Bool) (w : PlainWorld) (n : ℕ) (w' : PlainWorld) → IsWhole w → ServesBy asked w n w' → IsWhole w'
-whole_by_serving asked w n w' h s = subst IsWhole (sym s.is) (whole_by_deeds asked w s.deeds h s.settles)
+whole_by_serving asked w n w' h s = subst IsWhole (sym s.is) (whole_by_transitions asked w s.transitions h s.settles)
 
 -- by what was first in the order, or where nothing was left, or memory was refused
 pub whole_by_next : (asked : ℕ → Bool) (most : ℕ) (w : PlainWorld) (r : Result (Option Progress) NoMemory) (w' : PlainWorld) → IsWhole w

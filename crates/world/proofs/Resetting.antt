@@ -4,16 +4,16 @@ use Rattle.std.specs.Prelude.{slice_get, slice_set, map}
 use Rattle.std.proofs.lemmas.List.{length-map}
 use Rattle.block_store.specs.declared.NoMemory.{NoMemory}
 use Rattle.scsi_codec.specs.declared.event_queue.Event.{Event as Report}
-use Rattle.history.specs.Steps.{Step}
-use Rattle.task_set.specs.Jobs.{Jobs}
-use Rattle.task_set.specs.Unit.{PlainUnit, after as stepped}
-use Rattle.deeds.specs.World.{Seat, PlainWorld}
-use Rattle.deeds.specs.Events.{Event}
-use Rattle.deeds.specs.Deeds.{Deed}
-use Rattle.deeds.specs.After.{hard_code, reports_of}
-use Rattle.deeds.specs.Happens.{handed_out}
-use Rattle.deeds.specs.Standing.{HaveRoom}
-use Rattle.deeds.proofs.Joining.{joins}
+use Rattle.unit_model.specs.Steps.{Step}
+use Rattle.unit_model.specs.Jobs.{Jobs}
+use Rattle.unit_model.specs.Unit.{PlainUnit, after as stepped}
+use Rattle.device_model.specs.World.{Seat, PlainWorld}
+use Rattle.device_model.specs.Events.{Event}
+use Rattle.device_model.specs.Transitions.{Transition}
+use Rattle.device_model.specs.After.{hard_code, reports_of}
+use Rattle.device_model.specs.Happens.{handed_out}
+use Rattle.device_model.specs.Standing.{HaveRoom}
+use Rattle.device_model.proofs.Joining.{joins}
 use Rattle.phases.specs.Units.{mark_at}
 use Rattle.phases.specs.Resetting.{Resets}
 use Rattle.world.specs.Kept.{KeptSeat, seat_of}
@@ -56,7 +56,7 @@ pub resets : (w : PlainWorld) (kept : List KeptSeat) → w.seats ≡ map seat_of
     → TurnsOrWants w (Event.Hard p) r (reset_in w kept p v w.workers (listing out s) waiting)
 resets w kept are room few limits p u v s out waiting u_at s_at (Ok true) h =
     let jobs = handed_out u (Step.Reset hard_code) in
-    let d = Deed.Hard (mark_at p u) jobs in
+    let d = Transition.Hard (mark_at p u) jobs in
     let does = h.0 p in (
       d,
       refl,

@@ -3,16 +3,16 @@ use Rattle.std.proofs.Common.{◌≡◌, ◌≤◌, ◌<◌, ◌++◌, ℕ, Bool
 use Rattle.std.specs.Prelude.{slice_get, slice_set}
 use Rattle.block_store.specs.declared.NoMemory.{NoMemory}
 use Rattle.scsi_codec.specs.declared.event_queue.Event.{Event as Report}
-use Rattle.history.specs.Contents.{is_capacity}
-use Rattle.history.specs.Steps.{Step}
-use Rattle.task_set.specs.Unit.{PlainUnit, after as stepped}
-use Rattle.unit_history.specs.declared.answers.ResizeFault.{ResizeFault}
-use Rattle.unit_history.specs.declared.answers.ResizeFault.TheVariants as fault
-use Rattle.deeds.specs.World.{PlainWorld}
-use Rattle.deeds.specs.Events.{Event}
-use Rattle.deeds.specs.Deeds.{Deed}
-use Rattle.deeds.specs.After.{change_reports}
-use Rattle.deeds.proofs.Joining.{joins}
+use Rattle.unit_model.specs.Contents.{is_capacity}
+use Rattle.unit_model.specs.Steps.{Step}
+use Rattle.unit_model.specs.Unit.{PlainUnit, after as stepped}
+use Rattle.unit_history.specs.declared.outcomes.ResizeFault.{ResizeFault}
+use Rattle.unit_history.specs.declared.outcomes.ResizeFault.TheVariants as fault
+use Rattle.device_model.specs.World.{PlainWorld}
+use Rattle.device_model.specs.Events.{Event}
+use Rattle.device_model.specs.Transitions.{Transition}
+use Rattle.device_model.specs.After.{change_reports}
+use Rattle.device_model.proofs.Joining.{joins}
 use Rattle.phases.specs.Resizing.{ResizesUnit}
 use Rattle.world.specs.Steps.{TurnsOrWants}
 use Rattle.world.specs.Sound.{AreFew, lun_of}
@@ -44,7 +44,7 @@ pub resizes : (w : PlainWorld) → AreFew w → (p blocks : ℕ) (u v : PlainUni
     → (r : Result Bool ResizeFault) → ResizesUnit u blocks w.tells_changes w.waiting r v waiting
     → TurnsOrWants w (Event.Resize p blocks) (told_as r) (resized_in w p v waiting)
 resizes w few p blocks u v waiting u_at (Ok true) h =
-    let d = Deed.Resize p blocks in
+    let d = Transition.Resize p blocks in
     let does = h.0 p in (
       d,
       refl,

@@ -5,19 +5,19 @@ use Rattle.std.proofs.lemmas.Bool.{eqb-true}
 use Rattle.scsi_codec.specs.ControlQueue.{function_bytes}
 use Rattle.ring_core.specs.Writes.{all_written}
 use Rattle.task_mgmt.specs.Functions.{PlainFunction, is_over, response_of}
-use Rattle.deeds.specs.Parts.{Slot, answer_writes}
-use Rattle.deeds.specs.World.{PlainQueue, Opened, PlainWorld, change}
-use Rattle.deeds.specs.Events.{Event}
-use Rattle.deeds.specs.Deeds.{Deed}
-use Rattle.deeds.specs.After.{completing}
-use Rattle.deeds.specs.Happens.{IsWaiting}
-use Rattle.deeds.specs.Standing.{FunctionOwns}
-use Rattle.deeds.specs.Turns.{Turns}
-use Rattle.deeds.proofs.Joining.{joins}
-use Rattle.deeds.proofs.Lists.{same, nothing}
-use Rattle.queues.specs.Queue.{Lent, MayComplete}
-use Rattle.queue_phases.specs.Queue.{with_slot}
-use Rattle.queue_phases.specs.Direct.{Responds, RespondsWhere, StaysQueue}
+use Rattle.device_model.specs.Parts.{Slot, answer_writes}
+use Rattle.device_model.specs.World.{PlainQueue, Opened, PlainWorld, change}
+use Rattle.device_model.specs.Events.{Event}
+use Rattle.device_model.specs.Transitions.{Transition}
+use Rattle.device_model.specs.After.{completing}
+use Rattle.device_model.specs.Happens.{IsWaiting}
+use Rattle.device_model.specs.Standing.{FunctionOwns}
+use Rattle.device_model.specs.Turns.{Turns}
+use Rattle.device_model.proofs.Joining.{joins}
+use Rattle.device_model.proofs.Lists.{same, nothing}
+use Rattle.queues.specs.Queue.{BareQueue, MayComplete}
+use Rattle.phases.specs.Queue.{with_slot}
+use Rattle.phases.specs.Direct.{Responds, RespondsWhere, StaysQueue}
 use Rattle.world.specs.Sound.{IsSound}
 use Rattle.world.proofs.Setting.{set_same}
 use Rattle.world.proofs.Placing.{set_as}
@@ -59,7 +59,7 @@ over_or_not : {b : Bool} → b ≡ false → b ≡ true → ⊥
 over_or_not e h = cc
 
 -- where nothing was changed the world is as it was
-stays : (w : PlainWorld) (k : ℕ) (s : Slot) (l l' : Lent) (m' : List ℕ) (f' : Option Opened)
+stays : (w : PlainWorld) (k : ℕ) (s : Slot) (l l' : BareQueue) (m' : List ℕ) (f' : Option Opened)
     → slice_get w.queues k ≡ Some (with_slot s l) → StaysQueue l l' w.memory m' → f' ≡ w.function
     → with_three m' (slice_set w.queues k (with_slot s l')) f' w ≡ w
 stays w k s l l' m' f' at h is =
@@ -69,7 +69,7 @@ stays w k s l l' m' f' at h is =
     m ∙ q ∙ qs ∙ ap (λ f. with_three w.memory w.queues f w) is
 
 -- the queue owns the chain of the open function
-may_complete : (w : PlainWorld) (k : ℕ) (s : Slot) (l : Lent) (f : Opened) → k ≡ 0
+may_complete : (w : PlainWorld) (k : ℕ) (s : Slot) (l : BareQueue) (f : Opened) → k ≡ 0
     → slice_get w.queues k ≡ Some (with_slot s l) → l.ring.memory ≡ length w.memory → FunctionOwns w (Some f)
     → MayComplete l w.memory f.chain
 may_complete w k s l f first at fits h =
@@ -77,7 +77,7 @@ may_complete w k s l f first at fits h =
     record { fits = sym fits; owned = rw (ap (λ (q : PlainQueue). q.ring) is) at h.1.owned }
 
 -- by whether the function is over
-where_turns : (w : PlainWorld) (k : ℕ) (s : Slot) (l l' : Lent) (m' : List ℕ) (f : Opened) (f' : Option Opened)
+where_turns : (w : PlainWorld) (k : ℕ) (s : Slot) (l l' : BareQueue) (m' : List ℕ) (f : Opened) (f' : Option Opened)
     (over r : Bool) → k ≡ 0 → slice_get w.queues k ≡ Some (with_slot s l) → l.ring.memory ≡ length w.memory
     → w.function ≡ Some f → FunctionOwns w (Some f) → is_over f.function ≡ over
     → RespondsWhere over f l w.memory r l' m' f'
@@ -86,7 +86,7 @@ where_turns w k s l l' m' f f' true true first at fits there owns over h =
     let r = response_of f.function in
     let xs = answer_writes l.ring f.chain (function_bytes r) in
     let m = all_written w.memory xs in
-    let d = Deed.Respond f.chain r xs in
+    let d = Transition.Respond f.chain r xs in
     let does = h.0 w.inventory s in
     let none = over_left f.function over in
     let here : slice_get w.queues f.chain.ticket.queue ≡ Some (with_slot s l) =
@@ -115,7 +115,7 @@ where_turns w k s l l' m' f f' false false first at fits there owns over h = (
 )
 
 -- by whether a function is open
-some_turns : (w : PlainWorld) (k : ℕ) (s : Slot) (l l' : Lent) (m' : List ℕ) (f f' : Option Opened) (r : Bool)
+some_turns : (w : PlainWorld) (k : ℕ) (s : Slot) (l l' : BareQueue) (m' : List ℕ) (f f' : Option Opened) (r : Bool)
     → k ≡ 0 → slice_get w.queues k ≡ Some (with_slot s l) → l.ring.memory ≡ length w.memory → w.function ≡ f
     → FunctionOwns w f → Responds f l w.memory r l' m' f'
     → Turns w Event.AnswerTmf r (with_three m' (slice_set w.queues k (with_slot s l')) f' w)
@@ -126,7 +126,7 @@ some_turns w k s l l' m' None f' false first at fits there owns h =
     (stays w k s l l' m' f' at h.0 (h.1 ∙ sym there), λ may. nothing (sym there ∙ may.there))
 
 -- what an answer to the open function does is a turn of its event
-pub respond_turns : (w : PlainWorld) (k : ℕ) (s : Slot) (l l' : Lent) (m' : List ℕ) (f' : Option Opened) (r : Bool)
+pub respond_turns : (w : PlainWorld) (k : ℕ) (s : Slot) (l l' : BareQueue) (m' : List ℕ) (f' : Option Opened) (r : Bool)
     → IsSound w → k ≡ 0 → slice_get w.queues k ≡ Some (with_slot s l) → l.ring.memory ≡ length w.memory
     → Responds w.function l w.memory r l' m' f'
     → Turns w Event.AnswerTmf r (with_three m' (slice_set w.queues k (with_slot s l')) f' w)
@@ -134,19 +134,19 @@ respond_turns w k s l l' m' f' r sound first at fits h =
     some_turns w k s l l' m' w.function f' r first at fits refl sound.owned.function h
 
 -- whatever is over
-where_memory : (over : Bool) (f : Opened) (f' : Option Opened) (l l' : Lent) (m m' : List ℕ) (r : Bool)
+where_memory : (over : Bool) (f : Opened) (f' : Option Opened) (l l' : BareQueue) (m m' : List ℕ) (r : Bool)
     → RespondsWhere over f l m r l' m' f' → l'.ring.memory ≡ l.ring.memory
 where_memory true f f' l l' m m' true h =
     let x = answer_writes l.ring f.chain (function_bytes (response_of f.function)) in
     ap (λ (q : PlainQueue). q.ring.memory) (h.0 [] Slot.Empty).queue
-    ∙ keeps_memory (Deed.Respond f.chain (response_of f.function) x) m (with_slot Slot.Empty l)
-where_memory true f f' l l' m m' false h = ap (λ (q : Lent). q.ring.memory) h.0.stays.queue
+    ∙ keeps_memory (Transition.Respond f.chain (response_of f.function) x) m (with_slot Slot.Empty l)
+where_memory true f f' l l' m m' false h = ap (λ (q : BareQueue). q.ring.memory) h.0.stays.queue
 where_memory false f f' l l' m m' true h = absurd h
-where_memory false f f' l l' m m' false h = ap (λ (q : Lent). q.ring.memory) h.0.queue
+where_memory false f f' l l' m m' false h = ap (λ (q : BareQueue). q.ring.memory) h.0.queue
 
 -- and the ring keeps its memory
-pub respond_memory : (f f' : Option Opened) (l l' : Lent) (m m' : List ℕ) (r : Bool) → Responds f l m r l' m' f'
+pub respond_memory : (f f' : Option Opened) (l l' : BareQueue) (m m' : List ℕ) (r : Bool) → Responds f l m r l' m' f'
     → l'.ring.memory ≡ l.ring.memory
 respond_memory (Some f) f' l l' m m' r h = where_memory (is_over f.function) f f' l l' m m' r h
 respond_memory None f' l l' m m' true h = absurd h
-respond_memory None f' l l' m m' false h = ap (λ (q : Lent). q.ring.memory) h.0.queue
+respond_memory None f' l l' m m' false h = ap (λ (q : BareQueue). q.ring.memory) h.0.queue

@@ -1,10 +1,10 @@
--- One seat, unit or queue is set: what the device keeps of each stays, and the seats are changed as a deed says.
+-- One seat, unit or queue is set: what the device keeps of each stays, and the seats are changed as a transition says.
 use Rattle.std.proofs.Common.{◌≡◌, ℕ, zero, suc, ◌+◌, ◌*◌, ◌<◌, List, [], ◌∷◌, length, get_or, Some, refl, sym, ap, ◌∙◌, subst}
 use Rattle.std.proofs.lemmas.Option.{slice_get_read}
 use Rattle.std.specs.Prelude.{slice_get, slice_set, map}
-use Rattle.task_set.specs.Unit.{PlainUnit}
-use Rattle.deeds.specs.World.{PlainQueue, Seat, PlainWorld, change}
-use Rattle.deeds.proofs.Lists.{same, nothing}
+use Rattle.unit_model.specs.Unit.{PlainUnit}
+use Rattle.device_model.specs.World.{PlainQueue, Seat, PlainWorld, change}
+use Rattle.device_model.proofs.Lists.{same, nothing}
 use Rattle.world.specs.Kept.{KeptSeat, seat_of, HasLists}
 use Rattle.world.proofs.Setting.{set_change, set_same, map_set, map_get}
 

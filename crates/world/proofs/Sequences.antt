@@ -2,16 +2,16 @@
 use Rattle.std.proofs.Common.{◌≡◌, ℕ, zero, suc, ◌+◌, Bool, true, false, if◌then◌else◌, List, [], ◌∷◌, ◌++◌, map, take, length, Some, refl, sym, ap, true≢false, subst, ◌∙◌, arith}
 use Rattle.std.specs.Prelude.{◌<◌, ◌≤◌, slice_get, get_or, reverse}
 use Rattle.std.proofs.lemmas.List.{map-append, reverse-append, length-append}
-use Rattle.deeds.specs.World.{PlainWorld}
-use Rattle.deeds.specs.Events.{plain_event}
-use Rattle.deeds.specs.declared.event.Event as declared
-use Rattle.deeds.specs.Deeds.{Deed, event_of}
-use Rattle.deeds.specs.After.{after}
-use Rattle.deeds.specs.Happens.{Happens, world_of}
-use Rattle.deeds.specs.Turns.{IsStep, count_changes}
-use Rattle.deeds.proofs.Lists.{nothing, same}
-use Rattle.settling.specs.Order.{IsNextOf}
-use Rattle.settling.specs.Settling.{SettlesOf}
+use Rattle.device_model.specs.World.{PlainWorld}
+use Rattle.device_model.specs.Events.{plain_event}
+use Rattle.device_model.specs.declared.event.Event as declared
+use Rattle.device_model.specs.Transitions.{Transition, event_of}
+use Rattle.device_model.specs.After.{after}
+use Rattle.device_model.specs.Happens.{Happens, world_of}
+use Rattle.device_model.specs.Turns.{IsStep, count_changes}
+use Rattle.device_model.proofs.Lists.{nothing, same}
+use Rattle.device_model.specs.Order.{IsNextOf}
+use Rattle.device_model.specs.Settling.{SettlesOf}
 use Rattle.world.specs.Steps.{IsRun, events_of}
 use Rattle.world.specs.Settling.{ServesBy}
 use Rattle.world.specs.Cursors.{StepsNext, ServesNext}
@@ -64,28 +64,28 @@ run_on w v xs n e b u r s =
 pub run_none : (w : PlainWorld) → IsRun w [] 0 w
 run_none w = record { trace = []; runs = refl; told = refl; counted = refl }
 
--- where more deeds lead to
-world_on : (w : PlainWorld) (ds es : List Deed) → world_of (world_of w ds) es ≡ world_of w (es ++ ds)
+-- where more transitions lead to
+world_on : (w : PlainWorld) (ds es : List Transition) → world_of (world_of w ds) es ≡ world_of w (es ++ ds)
 world_on w ds [] = refl
 world_on w ds (e ∷ es) = ap (λ z. after e z) (world_on w ds es)
 
--- one deed more that was first
-pub serves_on : (asked : ℕ → Bool) (w v : PlainWorld) (n : ℕ) (u : PlainWorld) (d : Deed) → ServesBy asked w n v → Happens d v
+-- one transition more that was first
+pub serves_on : (asked : ℕ → Bool) (w v : PlainWorld) (n : ℕ) (u : PlainWorld) (d : Transition) → ServesBy asked w n v → Happens d v
     → IsNextOf asked v (event_of d) → u ≡ after d v → ServesBy asked w (n + 1) u
 serves_on asked w v n u d r h next is =
     record {
-      deeds = d ∷ r.deeds;
+      transitions = d ∷ r.transitions;
       settles = (
         r.settles,
         subst (λ z. Happens d z) r.is h,
         subst (λ z. IsNextOf asked z (event_of d)) r.is next,
       );
       is = is ∙ ap (λ z. after d z) r.is;
-      counted = next_length (length r.deeds) n r.counted;
+      counted = next_length (length r.transitions) n r.counted;
     }
 
--- more deeds behind those that settled
-settles_on : (asked : ℕ → Bool) (w : PlainWorld) (ds es : List Deed) → SettlesOf asked w ds → SettlesOf asked (world_of w ds) es → SettlesOf asked w (es ++ ds)
+-- more transitions behind those that settled
+settles_on : (asked : ℕ → Bool) (w : PlainWorld) (ds es : List Transition) → SettlesOf asked w ds → SettlesOf asked (world_of w ds) es → SettlesOf asked w (es ++ ds)
 settles_on asked w ds [] h k = h
 settles_on asked w ds (e ∷ es) h k = (
   settles_on asked w ds es h k.0,
@@ -96,23 +96,23 @@ settles_on asked w ds (e ∷ es) h k = (
 -- what was served, and more that was
 pub serves_more : (asked : ℕ → Bool) (w v u : PlainWorld) (n m : ℕ) → ServesBy asked w n v → ServesBy asked v m u → ServesBy asked w (n + m) u
 serves_more asked w v u n m r s =
-    let settled : SettlesOf asked (world_of w r.deeds) s.deeds = subst (λ z. SettlesOf asked z s.deeds) r.is s.settles in
+    let settled : SettlesOf asked (world_of w r.transitions) s.transitions = subst (λ z. SettlesOf asked z s.transitions) r.is s.settles in
     record {
-      deeds = s.deeds ++ r.deeds;
-      settles = settles_on asked w r.deeds s.deeds r.settles settled;
-      is = s.is ∙ ap (λ z. world_of z s.deeds) r.is ∙ world_on w r.deeds s.deeds;
-      counted = omega (arith, length-append s.deeds r.deeds, r.counted, s.counted);
+      transitions = s.transitions ++ r.transitions;
+      settles = settles_on asked w r.transitions s.transitions r.settles settled;
+      is = s.is ∙ ap (λ z. world_of z s.transitions) r.is ∙ world_on w r.transitions s.transitions;
+      counted = omega (arith, length-append s.transitions r.transitions, r.counted, s.counted);
     }
 
 -- nothing was served yet
 pub serves_none : (asked : ℕ → Bool) (w : PlainWorld) → ServesBy asked w 0 w
-serves_none asked w = record { deeds = []; settles = tt; is = refl; counted = refl }
+serves_none asked w = record { transitions = []; settles = tt; is = refl; counted = refl }
 
--- one deed
+-- one transition
 pub serves_one : (asked : ℕ → Bool) (w : PlainWorld) (c : Cursor) (u : PlainWorld) → StepsNext asked w c u → ServesBy asked w 1 u
 serves_one asked w c u t = serves_on asked w w 0 u t.0 (serves_none asked w) t.1 t.2 t.3
 
--- one deed more
+-- one transition more
 pub serves_next : (asked : ℕ → Bool) (w v : PlainWorld) (n : ℕ) (c : Cursor) (u : PlainWorld) → ServesBy asked w n v → StepsNext asked v c u
     → ServesBy asked w (n + 1) u
 serves_next asked w v n c u r t = serves_on asked w v n u t.0 r t.1 t.2 t.3

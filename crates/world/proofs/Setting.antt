@@ -2,17 +2,17 @@
 use Rattle.std.proofs.Common.{◌≡◌, ◌≤◌, ℕ, ◌+◌, ◌*◌, zero, suc, Bool, List, [], ◌∷◌, length, Some, refl, sym, ap, ◌∙◌, subst, arith}
 use Rattle.std.specs.Prelude.{slice_get, slice_set, map}
 use Rattle.std.proofs.lemmas.List.{append-nil}
-use Rattle.task_set.specs.Jobs.{PlainJob, Jobs}
-use Rattle.task_set.specs.Unit.{PlainUnit}
-use Rattle.deeds.specs.Parts.{Slot}
-use Rattle.deeds.specs.World.{PlainQueue, Seat, PlainWorld, change}
-use Rattle.deeds.specs.Events.{Event}
-use Rattle.deeds.specs.After.{slotted, with_jobs}
-use Rattle.deeds.specs.Standing.{HaveRoom}
-use Rattle.deeds.specs.Turns.{Turns}
-use Rattle.phases.specs.Doing.{HasPlaces, with_more}
+use Rattle.unit_model.specs.Jobs.{PlainJob, Jobs}
+use Rattle.unit_model.specs.Unit.{PlainUnit}
+use Rattle.device_model.specs.Parts.{Slot}
+use Rattle.device_model.specs.World.{PlainQueue, Seat, PlainWorld, change}
+use Rattle.device_model.specs.Events.{Event}
+use Rattle.device_model.specs.After.{slotted, with_jobs}
+use Rattle.device_model.specs.Standing.{HaveRoom}
+use Rattle.device_model.specs.Turns.{Turns}
+use Rattle.phases.specs.DoingUnit.{HasPlaces, with_more}
 use Rattle.world.specs.Kept.{KeptSeat, seat_of, HasLists}
-use Rattle.deeds.proofs.Lists.{same, nothing}
+use Rattle.device_model.proofs.Lists.{same, nothing}
 
 -- to set what a change gives is the change
 pub set_change : {X : Type 0} (g : X → X) (k : ℕ) (xs : List X) (x : X) → slice_get xs k ≡ Some x

@@ -1,14 +1,14 @@
 -- What the stage of a seat says of its events.
 use Rattle.std.proofs.Common.{◌≡◌, inl, inr, ℕ, Bool, true, false, List, None, refl, sym, ap, ◌∙◌}
 use Rattle.std.specs.Prelude.{slice_get}
-use Rattle.deeds.specs.Parts.{Hand}
-use Rattle.deeds.specs.World.{PlainWorld, Seat}
-use Rattle.deeds.specs.Events.{Event}
-use Rattle.deeds.specs.Applies.{Applies}
-use Rattle.deeds.specs.Phases.{HasHand}
-use Rattle.deeds.specs.Turns.{Turns}
-use Rattle.deeds.proofs.Lists.{same, nothing}
-use Rattle.settling.specs.Order.{of_seat, IsFirstOf, NoneApplies}
+use Rattle.device_model.specs.Parts.{Hand}
+use Rattle.device_model.specs.World.{PlainWorld, Seat}
+use Rattle.device_model.specs.Events.{Event}
+use Rattle.device_model.specs.Applies.{Applies}
+use Rattle.device_model.specs.Phases.{HasHand}
+use Rattle.device_model.specs.Turns.{Turns}
+use Rattle.device_model.proofs.Lists.{same, nothing}
+use Rattle.device_model.specs.Order.{of_seat, IsFirstOf, NoneApplies}
 use Rattle.world.specs.Cursors.{TurnsFirst}
 use Rattle.world.specs.Stages.{stage_of}
 use Rattle.world.specs.declared.seat.Stage.{Stage}
@@ -36,60 +36,60 @@ module _ (w : PlainWorld) (k : ℕ) (h : Hand) (there : HasHand w k h) where
   one_hand : (g : Hand) → HasHand w k g → h ≡ g
   one_hand g at = ap (λ (s : Seat). s.hand) (same (sym there.1 ∙ at.1))
 
-  leaving : Applies w (Event.Leave k) → stage_of h ≡ stage.Leaving
+  leaving : Applies w (Event.Leave k) → stage_of h ≡ stage.Answered
   leaving a = ap stage_of (one_hand (Hand.Answered a.0 a.1) a.2)
 
-  answering : Applies w (Event.Answer k) → stage_of h ≡ stage.Answering
+  answering : Applies w (Event.Answer k) → stage_of h ≡ stage.Done
   answering a = ap stage_of (one_hand (Hand.Done a.0 a.1) a.2)
 
-  committing : Applies w (Event.Commit k) → stage_of h ≡ stage.Committing
+  committing : Applies w (Event.Commit k) → stage_of h ≡ stage.Taken
   committing a = ap stage_of (one_hand (Hand.Taken a.0) a.1)
 
-  no_leave : (s : Stage) → stage_of h ≡ s → (s ≡ stage.Leaving → ⊥) → Never w (Event.Leave k)
+  no_leave : (s : Stage) → stage_of h ≡ s → (s ≡ stage.Answered → ⊥) → Never w (Event.Leave k)
   no_leave s is other a = other (sym is ∙ leaving a)
 
-  no_answer : (s : Stage) → stage_of h ≡ s → (s ≡ stage.Answering → ⊥) → Never w (Event.Answer k)
+  no_answer : (s : Stage) → stage_of h ≡ s → (s ≡ stage.Done → ⊥) → Never w (Event.Answer k)
   no_answer s is other a = other (sym is ∙ answering a)
 
-  no_commit : (s : Stage) → stage_of h ≡ s → (s ≡ stage.Committing → ⊥) → Never w (Event.Commit k)
+  no_commit : (s : Stage) → stage_of h ≡ s → (s ≡ stage.Taken → ⊥) → Never w (Event.Commit k)
   no_commit s is other a = other (sym is ∙ committing a)
 
-answering_leaving : stage.Answering ≡ stage.Leaving → ⊥
+answering_leaving : stage.Done ≡ stage.Answered → ⊥
 answering_leaving e = cc
 
-committing_leaving : stage.Committing ≡ stage.Leaving → ⊥
+committing_leaving : stage.Taken ≡ stage.Answered → ⊥
 committing_leaving e = cc
 
-committing_answering : stage.Committing ≡ stage.Answering → ⊥
+committing_answering : stage.Taken ≡ stage.Done → ⊥
 committing_answering e = cc
 
-free_leaving : stage.Free ≡ stage.Leaving → ⊥
+free_leaving : stage.Empty ≡ stage.Answered → ⊥
 free_leaving e = cc
 
-free_answering : stage.Free ≡ stage.Answering → ⊥
+free_answering : stage.Empty ≡ stage.Done → ⊥
 free_answering e = cc
 
-free_committing : stage.Free ≡ stage.Committing → ⊥
+free_committing : stage.Empty ≡ stage.Taken → ⊥
 free_committing e = cc
 
 -- the event of a stage applies
-leave_there : (w : PlainWorld) (k : ℕ) (h : Hand) → HasHand w k h → stage_of h ≡ stage.Leaving
+leave_there : (w : PlainWorld) (k : ℕ) (h : Hand) → HasHand w k h → stage_of h ≡ stage.Answered
     → Applies w (Event.Leave k)
-leave_there w k Hand.Free there is = absurd (cc)
+leave_there w k Hand.Empty there is = absurd (cc)
 leave_there w k (Hand.Taken x) there is = absurd (cc)
 leave_there w k (Hand.Done x o) there is = absurd (cc)
 leave_there w k (Hand.Answered place t) there is = (place, t, there)
 
-answer_there : (w : PlainWorld) (k : ℕ) (h : Hand) → HasHand w k h → stage_of h ≡ stage.Answering
+answer_there : (w : PlainWorld) (k : ℕ) (h : Hand) → HasHand w k h → stage_of h ≡ stage.Done
     → Applies w (Event.Answer k)
-answer_there w k Hand.Free there is = absurd (cc)
+answer_there w k Hand.Empty there is = absurd (cc)
 answer_there w k (Hand.Taken x) there is = absurd (cc)
 answer_there w k (Hand.Done x o) there is = (x, o, there)
 answer_there w k (Hand.Answered place t) there is = absurd (cc)
 
-commit_there : (w : PlainWorld) (k : ℕ) (h : Hand) → HasHand w k h → stage_of h ≡ stage.Committing
+commit_there : (w : PlainWorld) (k : ℕ) (h : Hand) → HasHand w k h → stage_of h ≡ stage.Taken
     → Applies w (Event.Commit k)
-commit_there w k Hand.Free there is = absurd (cc)
+commit_there w k Hand.Empty there is = absurd (cc)
 commit_there w k (Hand.Taken x) there is = (x, there)
 commit_there w k (Hand.Done x o) there is = absurd (cc)
 commit_there w k (Hand.Answered place t) there is = absurd (cc)
@@ -100,22 +100,22 @@ only : (xs : List Event) (e : Event) (w w' : PlainWorld) (b : Bool) → (Applies
 only xs e w w' true first a t = taken xs e w w' first t
 only xs e w w' false first a t = absurd (t.1 a)
 
-pub leaves : (w w' : PlainWorld) (k : ℕ) (h : Hand) (b : Bool) → HasHand w k h → stage_of h ≡ stage.Leaving
+pub leaves : (w w' : PlainWorld) (k : ℕ) (h : Hand) (b : Bool) → HasHand w k h → stage_of h ≡ stage.Answered
     → Turns w (Event.Leave k) b w' → TurnsFirst (of_seat k) w b w'
 leaves w w' k h b there is t =
     only (of_seat k) (Event.Leave k) w w' b (λ a. inl (a, refl)) (leave_there w k h there is) t
 
-pub answers : (w w' : PlainWorld) (k : ℕ) (h : Hand) (b : Bool) → HasHand w k h → stage_of h ≡ stage.Answering
+pub answers : (w w' : PlainWorld) (k : ℕ) (h : Hand) (b : Bool) → HasHand w k h → stage_of h ≡ stage.Done
     → Turns w (Event.Answer k) b w' → TurnsFirst (of_seat k) w b w'
 answers w w' k h b there is t =
-    let leave = no_leave w k h there stage.Answering is answering_leaving in
+    let leave = no_leave w k h there stage.Done is answering_leaving in
     only (of_seat k) (Event.Answer k) w w' b (λ a. inr (leave, inl (a, refl))) (answer_there w k h there is) t
 
-pub commits : (w w' : PlainWorld) (k : ℕ) (h : Hand) (b : Bool) → HasHand w k h → stage_of h ≡ stage.Committing
+pub commits : (w w' : PlainWorld) (k : ℕ) (h : Hand) (b : Bool) → HasHand w k h → stage_of h ≡ stage.Taken
     → Turns w (Event.Commit k) b w' → TurnsFirst (of_seat k) w b w'
 commits w w' k h b there is t =
-    let leave = no_leave w k h there stage.Committing is committing_leaving in
-    let answer = no_answer w k h there stage.Committing is committing_answering in
+    let leave = no_leave w k h there stage.Taken is committing_leaving in
+    let answer = no_answer w k h there stage.Taken is committing_answering in
     only (of_seat k) (Event.Commit k) w w' b (λ a. inr (leave, inr (answer, inl (a, refl))))
     (commit_there w k h there is) t
 
@@ -125,16 +125,16 @@ pub record IsIdle (w : PlainWorld) (k : ℕ) : Type 0 where
   pub answer : Never w (Event.Answer k)
   pub commit : Never w (Event.Commit k)
 
-pub free : (w : PlainWorld) (k : ℕ) → HasHand w k Hand.Free → IsIdle w k
+pub free : (w : PlainWorld) (k : ℕ) → HasHand w k Hand.Empty → IsIdle w k
 free w k there = record {
-  leave = no_leave w k Hand.Free there stage.Free refl free_leaving;
-  answer = no_answer w k Hand.Free there stage.Free refl free_answering;
-  commit = no_commit w k Hand.Free there stage.Free refl free_committing;
+  leave = no_leave w k Hand.Empty there stage.Empty refl free_leaving;
+  answer = no_answer w k Hand.Empty there stage.Empty refl free_answering;
+  commit = no_commit w k Hand.Empty there stage.Empty refl free_committing;
 }
 
 -- a hand of this stage is empty
-pub free_hand : (w : PlainWorld) (k : ℕ) (h : Hand) → HasHand w k h → stage_of h ≡ stage.Free → HasHand w k Hand.Free
-free_hand w k Hand.Free there is = there
+pub free_hand : (w : PlainWorld) (k : ℕ) (h : Hand) → HasHand w k h → stage_of h ≡ stage.Empty → HasHand w k Hand.Empty
+free_hand w k Hand.Empty there is = there
 free_hand w k (Hand.Taken x) there is = absurd (cc)
 free_hand w k (Hand.Done x o) there is = absurd (cc)
 free_hand w k (Hand.Answered place t) there is = absurd (cc)

@@ -1,26 +1,26 @@
--- What a deed wakes, by its event alone; and so where to look next.
+-- What a transition wakes, by its event alone; and so where to look next.
 use Rattle.std.proofs.Common.{◌≡◌, inl, inr, ℕ, ◌<◌, Bool, true, List, [], ◌∷◌, length, None, is_some, refl, sym, subst, ap, ◌∙◌, arith}
 use Rattle.std.specs.Prelude.{◌≤◌, ⊤}
 use Rattle.std.specs.List.{AllByRecursion}
 use Rattle.ring_core.specs.State.{PlainChain}
-use Rattle.task_set.specs.Jobs.{PlainJob}
-use Rattle.deeds.specs.Parts.{Slot, Outcome}
-use Rattle.deeds.specs.World.{PlainQueue, PlainWorld, owner}
-use Rattle.deeds.specs.Events.{Event}
-use Rattle.deeds.specs.Deeds.{Deed, event_of, queue_fetched, queue_of_job}
-use Rattle.deeds.specs.After.{after}
-use Rattle.deeds.specs.Happens.{Happens, MayWant}
-use Rattle.deeds.specs.Applies.{Applies}
-use Rattle.deeds.specs.Phases.{SlotIs}
-use Rattle.deeds.specs.Lawful.{KeepsParts}
-use Rattle.deeds.specs.Turns.{Turns}
-use Rattle.deeds.proofs.Applying.{applies}
-use Rattle.deeds.proofs.Lists.{same}
-use Rattle.deeds.proofs.Staying.{deed_stays}
-use Rattle.settling.specs.Order.{of_seat, IsFirstOf, IsNextOf, IsQuietOf, NoneApplies}
-use Rattle.settling.specs.Waking.{IsAmong, IsFetch, IsTake, IsOwn, Wakes}
-use Rattle.queue_phases.specs.Slots.{arrived_unit}
-use Rattle.settling.proofs.Waking.{wakes}
+use Rattle.unit_model.specs.Jobs.{PlainJob}
+use Rattle.device_model.specs.Parts.{Slot, Outcome}
+use Rattle.device_model.specs.World.{PlainQueue, PlainWorld, owner}
+use Rattle.device_model.specs.Events.{Event}
+use Rattle.device_model.specs.Transitions.{Transition, event_of, queue_fetched, queue_of_job}
+use Rattle.device_model.specs.After.{after}
+use Rattle.device_model.specs.Happens.{Happens, MayWant}
+use Rattle.device_model.specs.Applies.{Applies}
+use Rattle.device_model.specs.Phases.{SlotIs}
+use Rattle.device_model.specs.Lawful.{KeepsParts}
+use Rattle.device_model.specs.Turns.{Turns}
+use Rattle.device_model.proofs.Applying.{applies}
+use Rattle.device_model.proofs.Lists.{same}
+use Rattle.device_model.proofs.Staying.{transition_stays}
+use Rattle.device_model.specs.Order.{of_seat, IsFirstOf, IsNextOf, IsQuietOf, NoneApplies}
+use Rattle.device_model.specs.Waking.{IsAmong, IsFetch, IsTake, IsOwn, Wakes}
+use Rattle.phases.specs.Slots.{arrived_unit}
+use Rattle.device_model.proofs.Waking.{wakes}
 use Rattle.world.specs.Cursors.{TurnsFirst, of_function, NoStart, NoDirectBelow, NoDirect, NoSeatBelow, NoSeat, NoEnterBelow, NoFetchBelow, NoFetch, NoneBefore, NoneBeforeFetch, LeavesNext, EntersNext, FetchesNext, StepsNext, direct_from, seat_from, enter_from}
 use Rattle.world.specs.Settling.{order_for, MayWantFirst}
 use Rattle.world.specs.declared.cursor.Cursor.{Cursor}
@@ -58,7 +58,7 @@ AfterFetch i Event.Mark = ⊤
 AfterFetch i Event.AnswerTmf = ⊤
 AfterFetch i e = ⊥
 
--- what may apply after a deed of the first event that didn't before
+-- what may apply after a transition of the first event that didn't before
 abbrev WokenBy : Event → Event → Type 0
 WokenBy (Event.Direct i) e = IsFetch e
 WokenBy (Event.Put k) e = AfterSeat e
@@ -87,58 +87,58 @@ fetch_after_fetch : (i : ℕ) (e : Event) → IsFetch e → AfterFetch i e
 fetch_after_fetch i (Event.Fetch j) h = tt
 fetch_after_fetch i e h = absurd h
 
-woken : (w : PlainWorld) (d : Deed) (e : Event) → Happens d w → Wakes w d e → WokenBy (event_of d) e
-woken w (Deed.Arrive f x) e m h =
+woken : (w : PlainWorld) (d : Transition) (e : Event) → Happens d w → Wakes w d e → WokenBy (event_of d) e
+woken w (Transition.Arrive f x) e m h =
     among (AfterFetch (queue_fetched f)) (Event.Enter (queue_fetched f) ∷ []) e (refl, tt) h
-woken w (Deed.Refuse f a) e m h =
+woken w (Transition.Refuse f a) e m h =
     among (AfterFetch (queue_fetched f)) (Event.Direct (queue_fetched f) ∷ []) e (refl, tt) h
-woken w (Deed.Open f g) e m h =
+woken w (Transition.Open f g) e m h =
     among (AfterFetch (queue_fetched f)) (Event.Mark ∷ Event.AnswerTmf ∷ []) e (tt, (tt, tt)) h
-woken w (Deed.Hold f) e m h = absurd h
-woken w (Deed.Spend f xs) e m h = fetch_after_fetch (queue_fetched f) e h
-woken w (Deed.Break q n) e m h = absurd h
-woken w (Deed.Run x) e m h =
+woken w (Transition.Hold f) e m h = absurd h
+woken w (Transition.UseBuffer f xs) e m h = fetch_after_fetch (queue_fetched f) e h
+woken w (Transition.Break q n) e m h = absurd h
+woken w (Transition.Run x) e m h =
     let i = queue_of_job x in
     among (AfterEnter i) (Event.Fetch i ∷ Event.Put (owner w.workers i) ∷ []) e (tt, (tt, tt)) h
-woken w (Deed.Park x) e m h =
+woken w (Transition.Park x) e m h =
     among (AfterEnter (queue_of_job x)) (Event.Fetch (queue_of_job x) ∷ []) e (tt, tt) h
-woken w (Deed.Full x) e m h =
+woken w (Transition.EnterFull x) e m h =
     among (AfterEnter (queue_of_job x)) (Event.Direct (queue_of_job x) ∷ []) e (refl, tt) h
-woken w (Deed.Shed x) e m h =
+woken w (Transition.EnterBusy x) e m h =
     among (AfterEnter (queue_of_job x)) (Event.Direct (queue_of_job x) ∷ []) e (refl, tt) h
-woken w (Deed.Stall x) e m h = absurd m
-woken w (Deed.Direct c o xs) e m h = h
-woken w (Deed.Put k x) e m h = take_after_seat e h
-woken w (Deed.Keep k x) e m h = among AfterSeat (Event.Commit k ∷ []) e (tt, tt) h
-woken w (Deed.Take k from x) e m h = among AfterSeat (Event.Commit k ∷ []) e (tt, tt) h
-woken w (Deed.Commit k x r) e m h = among AfterSeat (Event.Answer k ∷ []) e (tt, tt) h
-woken w (Deed.Busy k x) e m h = among AfterSeat (Event.Answer k ∷ []) e (tt, tt) h
-woken w (Deed.Abort k x why) e m h = among AfterSeat (Event.Answer k ∷ []) e (tt, tt) h
-woken w (Deed.Lose k x) e m h = absurd m
-woken w (Deed.Answer k x o xs) e m (inl h) = fetch_after_seat e h
-woken w (Deed.Answer k x o xs) e m (inr h) = among AfterSeat (Event.Leave k ∷ []) e (tt, tt) h
-woken w (Deed.Leave k place t jobs) e m h =
+woken w (Transition.EnterStale x) e m h = absurd m
+woken w (Transition.Direct c o xs) e m h = h
+woken w (Transition.Put k x) e m h = take_after_seat e h
+woken w (Transition.Keep k x) e m h = among AfterSeat (Event.Commit k ∷ []) e (tt, tt) h
+woken w (Transition.Take k from x) e m h = among AfterSeat (Event.Commit k ∷ []) e (tt, tt) h
+woken w (Transition.Commit k x r) e m h = among AfterSeat (Event.Answer k ∷ []) e (tt, tt) h
+woken w (Transition.CommitBusy k x) e m h = among AfterSeat (Event.Answer k ∷ []) e (tt, tt) h
+woken w (Transition.CommitAborted k x why) e m h = among AfterSeat (Event.Answer k ∷ []) e (tt, tt) h
+woken w (Transition.CommitUnknown k x) e m h = absurd m
+woken w (Transition.Answer k x o xs) e m (inl h) = fetch_after_seat e h
+woken w (Transition.Answer k x o xs) e m (inr h) = among AfterSeat (Event.Leave k ∷ []) e (tt, tt) h
+woken w (Transition.Leave k place t jobs) e m h =
     among AfterSeat (Event.Put k ∷ Event.Take k ∷ Event.Check ∷ []) e (tt, (tt, (tt, tt))) h
-woken w (Deed.Idle x) e m h = absurd m
+woken w (Transition.Idle x) e m h = absurd m
 woken w d e m h = tt
 
--- what didn't apply doesn't after a deed, if it doesn't where the deed woke it
-still : (w : PlainWorld) (d : Deed) (x e : Event) → event_of d ≡ x → Happens d w → IsOwn e
+-- what didn't apply doesn't after a transition, if it doesn't where the transition woke it
+still : (w : PlainWorld) (d : Transition) (x e : Event) → event_of d ≡ x → Happens d w → IsOwn e
     → (WokenBy x e → Never (after d w) e) → Never w e → Never (after d w) e
 still w d x e is m own f never a =
     f (subst (λ y. WokenBy y e) is (woken w d e m (wakes w d e own m a never))) a
 
 -- there are as many queues as before
-as_many : (w : PlainWorld) (d : Deed) (i : ℕ) → i < length (after d w).queues → i < length w.queues
-as_many w d i lt = let k : KeepsParts w (after d w) = deed_stays d w in omega (arith, lt, k.queues)
+as_many : (w : PlainWorld) (d : Transition) (i : ℕ) → i < length (after d w).queues → i < length w.queues
+as_many w d i lt = let k : KeepsParts w (after d w) = transition_stays d w in omega (arith, lt, k.queues)
 
-as_many_seats : (w : PlainWorld) (d : Deed) (i : ℕ) → i < length (after d w).seats → i < length w.seats
-as_many_seats w d i lt = let k : KeepsParts w (after d w) = deed_stays d w in omega (arith, lt, k.seats)
+as_many_seats : (w : PlainWorld) (d : Transition) (i : ℕ) → i < length (after d w).seats → i < length w.seats
+as_many_seats w d i lt = let k : KeepsParts w (after d w) = transition_stays d w in omega (arith, lt, k.seats)
 
 -- Where to look next
 
 -- after an answer of a queue: from there on
-after_direct : (w : PlainWorld) (d : Deed) (i : ℕ) → event_of d ≡ Event.Direct i → Happens d w → NoStart w
+after_direct : (w : PlainWorld) (d : Transition) (i : ℕ) → event_of d ≡ Event.Direct i → Happens d w → NoStart w
     → NoDirectBelow i w → NoneBefore (cursor.Direct i) (after d w)
 after_direct w d i is m s below =
     let x = Event.Direct i in (
@@ -170,7 +170,7 @@ wakes_after_seat w k x e h =
     first_all (WakesAfterSeat e) w (of_seat k) x (λ h. h, (λ h. h, (λ h. h, (λ h. h, (λ h. h, tt))))) h
 
 -- after an event of a seat, where no function is open: from the seats on
-after_seat : (w : PlainWorld) (d : Deed) (k : ℕ) → IsFirstOf w (of_seat k) (event_of d) → Happens d w → NoStart w
+after_seat : (w : PlainWorld) (d : Transition) (k : ℕ) → IsFirstOf w (of_seat k) (event_of d) → Happens d w → NoStart w
     → NoDirect w → (after d w).function ≡ None → NoneBefore cursor.Seats (after d w)
 after_seat w d k first m s direct closed =
     let x = event_of d in (
@@ -183,25 +183,25 @@ after_seat w d k first m s direct closed =
           (λ h. absurd (wakes_after_seat w k x (Event.Direct j) first h)) (direct j (as_many w d j lt)),
     )
 
-empty_ready : (c : PlainChain) (o : Outcome) → Slot.Empty ≡ Slot.Ready c o → ⊥
-empty_ready c o e = cc
+empty_direct : (c : PlainChain) (o : Outcome) → Slot.Empty ≡ Slot.Direct c o → ⊥
+empty_direct c o e = cc
 
-arrived_ready : (x : PlainJob) (c : PlainChain) (o : Outcome) → Slot.Arrived x ≡ Slot.Ready c o → ⊥
-arrived_ready x c o e = cc
+arrived_direct : (x : PlainJob) (c : PlainChain) (o : Outcome) → Slot.Arrived x ≡ Slot.Direct c o → ⊥
+arrived_direct x c o e = cc
 
 -- the slot of a queue is one
 one_slot : (w : PlainWorld) (i : ℕ) (s t : Slot) → SlotIs w i s → SlotIs w i t → s ≡ t
 one_slot w i s t a b = sym a.2 ∙ ap (λ (q : PlainQueue). q.slot) (same (sym a.1 ∙ b.1)) ∙ b.2
 
 -- where a slot has nothing that is ready, nothing is answered
-never_direct : (w : PlainWorld) (i j : ℕ) (s : Slot) → ((c : PlainChain) (o : Outcome) → s ≡ Slot.Ready c o → ⊥)
+never_direct : (w : PlainWorld) (i j : ℕ) (s : Slot) → ((c : PlainChain) (o : Outcome) → s ≡ Slot.Direct c o → ⊥)
     → SlotIs w i s → j ≡ i → Never w (Event.Direct j)
 never_direct w i j s other at is a =
     let here : Applies w (Event.Direct i) = subst (λ k. Applies w (Event.Direct k)) is a in
-    other here.0 here.1 (one_slot w i s (Slot.Ready here.0 here.1) at here.2)
+    other here.0 here.1 (one_slot w i s (Slot.Direct here.0 here.1) at here.2)
 
 -- after a request came to its unit, where its slot is empty: from the seats on
-after_enter : (w : PlainWorld) (d : Deed) (i : ℕ) → event_of d ≡ Event.Enter i → Happens d w → NoStart w → NoDirect w
+after_enter : (w : PlainWorld) (d : Transition) (i : ℕ) → event_of d ≡ Event.Enter i → Happens d w → NoStart w → NoDirect w
     → SlotIs (after d w) i Slot.Empty → NoneBefore cursor.Seats (after d w)
 after_enter w d i is m s direct empty =
     let x = Event.Enter i in (
@@ -215,7 +215,7 @@ after_enter w d i is m s direct empty =
         );
         waiting = still w d x Event.Raise is m tt (λ h. absurd h) s.waiting;
       },
-      λ j lt. still w d x (Event.Direct j) is m tt (never_direct (after d w) i j Slot.Empty empty_ready empty)
+      λ j lt. still w d x (Event.Direct j) is m tt (never_direct (after d w) i j Slot.Empty empty_direct empty)
           (direct j (as_many w d j lt)),
     )
 
@@ -224,7 +224,7 @@ not_below : (i j : ℕ) → j < i → j ≡ i → ⊥
 not_below i j lt e = omega (arith, lt, e)
 
 -- after a queue took a chain, where a request arrived there and no function is open: from there on
-after_fetch : (w : PlainWorld) (d : Deed) (i : ℕ) (y : PlainJob) → event_of d ≡ Event.Fetch i → Happens d w
+after_fetch : (w : PlainWorld) (d : Transition) (i : ℕ) (y : PlainJob) → event_of d ≡ Event.Fetch i → Happens d w
     → NoneBeforeFetch w → i < length w.queues → (after d w).function ≡ None
     → SlotIs (after d w) i (Slot.Arrived y) → NoneBefore (cursor.Enter i) (after d w)
 after_fetch w d i y is m none lt closed arrived =
@@ -235,7 +235,7 @@ after_fetch w d i y is m none lt closed arrived =
         waiting = still w d x Event.Raise is m tt (λ h. absurd h) none.0.waiting;
       },
       λ j less. still w d x (Event.Direct j) is m tt
-          (never_direct (after d w) i j (Slot.Arrived y) (arrived_ready y) arrived) (none.1 j (as_many w d j less)),
+          (never_direct (after d w) i j (Slot.Arrived y) (arrived_direct y) arrived) (none.1 j (as_many w d j less)),
       λ k less. (
         still w d x (Event.Leave k) is m tt (λ h. absurd h) (seat k less).0,
         (
@@ -268,7 +268,7 @@ turned : (w v w' : PlainWorld) (e : Event) (b : Bool) → b ≡ true → v ≡ w
 turned w v w' e b on same t = subst (λ z. Turns z e true w') same (rw on at t)
 
 -- it applied, and is first where it is so by its name
-next_by : (asked : ℕ → Bool) (w : PlainWorld) (d : Deed) (e : Event) → event_of d ≡ e → Happens d w
+next_by : (asked : ℕ → Bool) (w : PlainWorld) (d : Transition) (e : Event) → event_of d ≡ e → Happens d w
     → (Is w e e → IsNextOf asked w e) → IsNextOf asked w (event_of d)
 next_by asked w d e is m f =
     subst (λ x. IsNextOf asked w x) (sym is) (f (subst (λ x. Applies w x) is (applies d w m), refl))
@@ -368,7 +368,7 @@ nothing_next asked w v same none below = (same, none_left asked w none below)
 pub arrived_there : (s : Slot) → is_some (arrived_unit s) ≡ true → (x : PlainJob) × (s ≡ Slot.Arrived x)
 arrived_there Slot.Empty e = absurd (cc)
 arrived_there (Slot.Arrived x) e = (x, refl)
-arrived_there (Slot.Ready c o) e = absurd (cc)
+arrived_there (Slot.Direct c o) e = absurd (cc)
 
 -- Where a cursor begins
 

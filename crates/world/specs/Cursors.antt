@@ -1,16 +1,16 @@
 -- How far along the order nothing applies. Only private functions cite it: no promise stands on it.
 use Rattle.std.specs.Prelude.{ℕ, zero, suc, ◌≡◌, ◌<◌, ◌≤◌, ◌⊎◌, Bool, true, false, List, [], ◌∷◌, length, Option, Some, None, Result, Ok, Err, ⊤}
 use Rattle.block_store.specs.declared.NoMemory.{NoMemory}
-use Rattle.task_set.specs.Jobs.{PlainJob}
-use Rattle.deeds.specs.Parts.{Slot, Hand}
-use Rattle.deeds.specs.World.{PlainWorld, owner}
-use Rattle.deeds.specs.Events.{Event}
-use Rattle.deeds.specs.Deeds.{Deed, event_of}
-use Rattle.deeds.specs.After.{after}
-use Rattle.deeds.specs.Happens.{Happens, MayWant, SeatIs, OffIs}
-use Rattle.deeds.specs.Applies.{Applies}
-use Rattle.deeds.specs.Phases.{SlotIs}
-use Rattle.settling.specs.Order.{of_seat, IsFirstOf, IsNextOf, NoneApplies, IsQuietOf}
+use Rattle.unit_model.specs.Jobs.{PlainJob}
+use Rattle.device_model.specs.Parts.{Slot, Hand}
+use Rattle.device_model.specs.World.{PlainWorld, owner}
+use Rattle.device_model.specs.Events.{Event}
+use Rattle.device_model.specs.Transitions.{Transition, event_of}
+use Rattle.device_model.specs.After.{after}
+use Rattle.device_model.specs.Happens.{Happens, MayWant, SeatIs, OffIs}
+use Rattle.device_model.specs.Applies.{Applies}
+use Rattle.device_model.specs.Phases.{SlotIs}
+use Rattle.device_model.specs.Order.{of_seat, IsFirstOf, IsNextOf, NoneApplies, IsQuietOf}
 use Rattle.world.specs.Settling.{order_for, ServesBy, MayWantFirst}
 use Rattle.world.specs.declared.cursor.Progress.{Progress}
 use Rattle.world.specs.declared.cursor.Cursor.{Cursor}
@@ -18,7 +18,7 @@ use Rattle.world.specs.declared.cursor.Cursor.TheVariants as cursor
 
 -- the first of these events that applies was done, or none of them applies
 abbrev pub TurnsFirst : List Event → PlainWorld → Bool → PlainWorld → Type 0
-TurnsFirst xs w true w' = (d : Deed) × Happens d w × IsFirstOf w xs (event_of d) × (w' ≡ after d w)
+TurnsFirst xs w true w' = (d : Transition) × Happens d w × IsFirstOf w xs (event_of d) × (w' ≡ after d w)
 TurnsFirst xs w false w' = (w' ≡ w) × NoneApplies w xs
 
 -- the events of the open function
@@ -105,9 +105,9 @@ FetchesNext n w c =
 
 -- what is first was done, and before a place none applies then
 abbrev pub StepsNext : (ℕ → Bool) → PlainWorld → Cursor → PlainWorld → Type 0
-StepsNext asked w c w' = (d : Deed) × Happens d w × IsNextOf asked w (event_of d) × (w' ≡ after d w) × NoneBefore c w'
+StepsNext asked w c w' = (d : Transition) × Happens d w × IsNextOf asked w (event_of d) × (w' ≡ after d w) × NoneBefore c w'
 
--- so many deeds were done, each of the first event that applied, and before a place none applies then
+-- so many transitions were done, each of the first event that applied, and before a place none applies then
 pub record ServesNext (asked : ℕ → Bool) (most : ℕ) (w : PlainWorld) (s : Progress) (w' : PlainWorld) : Type 0 where
   pub some : 1 ≤ s.steps
   pub few : s.steps ≤ most
@@ -138,7 +138,7 @@ pub record MayServe (i : ℕ) (w : PlainWorld) : Type 0 where
   pub there : i < length w.queues
   pub closed : w.function ≡ None
   pub own : owner w.workers i ≡ 0
-  pub seat : SeatIs w 0 Hand.Free []
+  pub seat : SeatIs w 0 Hand.Empty []
   pub handed_off : OffIs w 0 []
   pub room : 0 < w.limit
 

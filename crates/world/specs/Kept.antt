@@ -1,9 +1,9 @@
 -- What the device keeps beside its plain value. Only private functions and models cite it: no promise stands on it.
 use Rattle.std.specs.Prelude.{ℕ, ◌≡◌, ◌+◌, ◌*◌, List, length}
-use Rattle.task_set.specs.Jobs.{PlainJob}
-use Rattle.task_set.specs.Unit.{PlainUnit}
-use Rattle.deeds.specs.Parts.{Hand}
-use Rattle.deeds.specs.World.{PlainQueue, Seat, Everywhere}
+use Rattle.unit_model.specs.Jobs.{PlainJob}
+use Rattle.unit_model.specs.Unit.{PlainUnit}
+use Rattle.device_model.specs.Parts.{Hand}
+use Rattle.device_model.specs.World.{PlainQueue, Seat, Everywhere}
 
 -- a seat, and how many jobs there is room for
 pub record KeptSeat : Type 0 where

@@ -1,6 +1,6 @@
 -- Which drivers are owed a notification.
 use Rattle.std.specs.Prelude.{ℕ, ◌+◌, ◌*◌, ◌<◌, ◌≤◌, ◌≡◌, nat_lt, Bool, cond, List, [], ◌∷◌, length, slice_get, slice_index_or, Option, Some, None}
-use Rattle.deeds.specs.World.{PlainQueue}
+use Rattle.device_model.specs.World.{PlainQueue}
 
 -- the number with these binary digits, the lowest first
 abbrev pub binary : List Bool → ℕ

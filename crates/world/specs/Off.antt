@@ -1,9 +1,9 @@
 -- The lists of the hand-off as the device keeps them, and what is done to them. Only private functions and models cite
 -- it: no promise stands on it.
 use Rattle.std.specs.Prelude.{ℕ, ◌≡◌, ◌<◌, ◌≤◌, List, [], ◌∷◌, drop, length, Option, Some, None, slice_get}
-use Rattle.task_set.specs.Jobs.{PlainJob, Jobs}
-use Rattle.deeds.specs.World.{Everywhere, IsBefore, change}
-use Rattle.deeds.specs.After.{with_job}
+use Rattle.unit_model.specs.Jobs.{PlainJob, Jobs}
+use Rattle.device_model.specs.World.{Everywhere, IsBefore, change}
+use Rattle.device_model.specs.After.{with_job}
 
 -- for each seat the jobs that it handed off, and how many these may be
 pub record KeptOff : Type 0 where

@@ -5,14 +5,14 @@ use Rattle.ring_core.specs.declared.layout.Features.{Features}
 use Rattle.ring_core.specs.declared.layout.Form.{Form}
 use Rattle.ring_core.specs.declared.layout.Layout.{Layout}
 use Rattle.queues.specs.Queue.{opening_queue}
-use Rattle.queue_phases.specs.Queue.{with_slot}
-use Rattle.deeds.specs.Parts.{Slot, Hand}
-use Rattle.deeds.specs.World.{PlainQueue, PlainWorld, IsNewSeat, Everywhere}
+use Rattle.phases.specs.Queue.{with_slot}
+use Rattle.device_model.specs.Parts.{Slot, Hand}
+use Rattle.device_model.specs.World.{PlainQueue, PlainWorld, IsNewSeat, Everywhere}
 use Rattle.world.specs.Kept.{KeptSeat}
-use Rattle.history.specs.Contents.{Opening}
-use Rattle.task_set.specs.Jobs.{PlainJob}
-use Rattle.task_set.specs.Unit.{PlainUnit}
-use Rattle.task_set.specs.Unit as unit
+use Rattle.unit_model.specs.Contents.{Opening}
+use Rattle.unit_model.specs.Jobs.{PlainJob}
+use Rattle.unit_model.specs.Unit.{PlainUnit}
+use Rattle.unit_model.specs.Unit as unit
 use Rattle.block_store.specs.declared.paged.PagedStore.{PagedStore}
 use Rattle.unit_history.specs.Disks.{opening_over, IsDiskOf}
 use Rattle.scsi_codec.specs.declared.lun.Address.{Address}
@@ -55,7 +55,7 @@ pub record AreFresh (wanted : List UnitSpec) (units : List PlainUnit) : Type 0 w
 -- so many seats, with nothing in hand and room for so many jobs
 pub record AreSeats (count limit : ℕ) (seats : List KeptSeat) : Type 0 where
   pub many : length seats ≡ count
-  pub each : Everywhere (λ (k : ℕ) (s : KeptSeat). s ≡ record { hand = Hand.Free; jobs = []; limit = limit }) seats
+  pub each : Everywhere (λ (k : ℕ) (s : KeptSeat). s ≡ record { hand = Hand.Empty; jobs = []; limit = limit }) seats
 
 -- memory is zeros, of each queue nothing was fetched, of each unit no step was taken, and no seat has anything
 pub record IsOpening (c : Config) (w : PlainWorld) : Type 0 where

@@ -2,13 +2,13 @@
 -- end.
 use Rattle.std.specs.Prelude.{ℕ, ◌≡◌, Bool, if◌then◌else◌, List, [], ◌∷◌, ◌++◌, map, take, Some, slice_get, Result, Ok, Err}
 use Rattle.block_store.specs.declared.NoMemory.{NoMemory}
-use Rattle.deeds.specs.World.{PlainWorld}
-use Rattle.deeds.specs.Events.{Event, plain_event}
-use Rattle.deeds.specs.declared.event.Event as declared
-use Rattle.deeds.specs.Deeds.{event_of}
-use Rattle.deeds.specs.Happens.{MayWant, Occurrence, Reached}
-use Rattle.deeds.specs.Turns.{count_changes}
-use Rattle.interleavings.specs.Promise.{IsPromised}
+use Rattle.device_model.specs.World.{PlainWorld}
+use Rattle.device_model.specs.Events.{Event, plain_event}
+use Rattle.device_model.specs.declared.event.Event as declared
+use Rattle.device_model.specs.Transitions.{event_of}
+use Rattle.device_model.specs.Happens.{MayWant, Occurrence, Reached}
+use Rattle.device_model.specs.Turns.{count_changes}
+use Rattle.device_model.specs.Promise.{IsPromised}
 use Rattle.world.specs.Settling.{ServesBy, asks_all}
 use Rattle.world.specs.Steps.{events_of}
 use Rattle.world.specs.declared.service.Served.{Served}
@@ -39,7 +39,7 @@ RunsAsPromised w events (Err x) w' =
 -- the trace is of these very events: so many, each the first that applied
 pub record GoesOnInOrder (asked : ℕ → Bool) (w : PlainWorld) (count : ℕ) (w' : PlainWorld) : Type 0 where
   pub serves : ServesBy asked w count w'
-  pub goes_on : GoesOn w (map event_of serves.deeds) count w'
+  pub goes_on : GoesOn w (map event_of serves.transitions) count w'
 
 -- as many as were counted; or some, until memory was refused
 abbrev pub ServesAsPromised : (ℕ → Bool) → PlainWorld → Result Served NoMemory → PlainWorld → Type 0

@@ -3,13 +3,13 @@
 use Rattle.std.specs.Prelude.{ℕ, ◌≡◌, ◌+◌, ◌≤◌, ◌<◌, ◌^◌, ◌==◌, ◌⊎◌, Bool, true, false, List, [], ◌∷◌, length, Result, Ok, Err}
 use Rattle.std.specs.Int.{bit_at}
 use Rattle.block_store.specs.declared.NoMemory.{NoMemory}
-use Rattle.deeds.specs.World.{PlainWorld}
-use Rattle.deeds.specs.Events.{Event}
-use Rattle.deeds.specs.Deeds.{Deed}
-use Rattle.deeds.specs.Happens.{MayWant, world_of}
-use Rattle.deeds.specs.Applies.{Applies}
-use Rattle.settling.specs.Order.{order_of, order_by, IsQuiet, IsAtRest, IsNextOf, IsQuietOf, IsAtRestOf}
-use Rattle.settling.specs.Settling.{SettlesOf, IsShort}
+use Rattle.device_model.specs.World.{PlainWorld}
+use Rattle.device_model.specs.Events.{Event}
+use Rattle.device_model.specs.Transitions.{Transition}
+use Rattle.device_model.specs.Happens.{MayWant, world_of}
+use Rattle.device_model.specs.Applies.{Applies}
+use Rattle.device_model.specs.Order.{order_of, order_by, IsQuiet, IsAtRest, IsNextOf, IsQuietOf, IsAtRestOf}
+use Rattle.device_model.specs.Settling.{SettlesOf, IsShort}
 use Rattle.world.specs.declared.service.Served.{Served}
 
 -- the queues whose bit is set, that of queue 0 the lowest
@@ -24,12 +24,12 @@ asks_all q = true
 abbrev pub order_for : (ℕ → Bool) → PlainWorld → List Event
 order_for asked w = order_by asked (length w.queues) (length w.seats)
 
--- the deeds lead from one world to the other, each of the first event that applies, and are so many
+-- the transitions lead from one world to the other, each of the first event that applies, and are so many
 pub record ServesBy (asked : ℕ → Bool) (w : PlainWorld) (count : ℕ) (w' : PlainWorld) : Type 0 where
-  pub deeds : List Deed
-  pub settles : SettlesOf asked w deeds
-  pub is : w' ≡ world_of w deeds
-  pub counted : length deeds ≡ count
+  pub transitions : List Transition
+  pub settles : SettlesOf asked w transitions
+  pub is : w' ≡ world_of w transitions
+  pub counted : length transitions ≡ count
 
 -- of these events the first that applies may be refused memory
 abbrev pub MayWantFirst : PlainWorld → List Event → Type 0
@@ -41,7 +41,7 @@ MayWantFirst w (x ∷ xs) = MayWant x w ⊎ ((Applies w x → ⊥) × MayWantFir
 pub record ServesSome (asked : ℕ → Bool) (w : PlainWorld) (most : ℕ) (s : Served) (w' : PlainWorld) : Type 0 where
   pub serves : ServesBy asked w s.steps w'
   pub few : s.steps ≤ most
-  pub short : IsShort w serves.deeds
+  pub short : IsShort w serves.transitions
   pub left : s.more ≡ true → (s.steps ≡ most) × ((e : Event) × IsNextOf asked w' e)
   pub none : s.more ≡ false → IsQuietOf asked w' × IsAtRestOf asked w'
 
@@ -50,7 +50,7 @@ pub record ServesUntilRefused (asked : ℕ → Bool) (w : PlainWorld) (most : �
   pub count : ℕ
   pub serves : ServesBy asked w count w'
   pub few : count < most
-  pub short : IsShort w serves.deeds
+  pub short : IsShort w serves.transitions
   pub wants : MayWantFirst w' (order_for asked w')
 
 abbrev pub ServesSomeOrWants : (ℕ → Bool) → ℕ → PlainWorld → Result Served NoMemory → PlainWorld → Type 0
@@ -62,14 +62,14 @@ pub record ServesAll (w : PlainWorld) (count : ℕ) (w' : PlainWorld) : Type 0 w
   pub serves : ServesBy asks_all w count w'
   pub quiet : IsQuiet w'
   pub rest : IsAtRest w'
-  pub short : IsShort w serves.deeds
+  pub short : IsShort w serves.transitions
 
 -- served until memory was refused for what was first, or all steps that can be counted were taken; and no more was done
 -- than there was to do
 pub record ServesInPart (w : PlainWorld) (w' : PlainWorld) : Type 0 where
   pub count : ℕ
   pub serves : ServesBy asks_all w count w'
-  pub short : IsShort w serves.deeds
+  pub short : IsShort w serves.transitions
   pub wants : MayWantFirst w' (order_of w') ⊎ (count + 1 ≡ 2 ^ 64)
 
 -- served whole, or in part

@@ -1,10 +1,10 @@
 -- What holds of the device between two steps. Only private functions and models cite it: no promise stands on it.
 use Rattle.std.specs.Prelude.{ℕ, ◌≡◌, ◌≤◌, ◌+◌, List, length, map}
-use Rattle.task_set.specs.Unit.{PlainUnit}
-use Rattle.deeds.specs.World.{PlainQueue, PlainWorld, Everywhere}
-use Rattle.deeds.specs.Happens.{Occurrence, Reached}
-use Rattle.deeds.specs.Lawful.{AreNumbered}
-use Rattle.deeds.specs.Standing.{AreOwned, AreAtWork, AreBehind, HaveRoom, FunctionIsThere, BuffersAreOutstanding}
+use Rattle.unit_model.specs.Unit.{PlainUnit}
+use Rattle.device_model.specs.World.{PlainQueue, PlainWorld, Everywhere}
+use Rattle.device_model.specs.Happens.{Occurrence, Reached}
+use Rattle.device_model.specs.Lawful.{AreNumbered}
+use Rattle.device_model.specs.Standing.{AreOwned, AreAtWork, AreBehind, HaveRoom, FunctionIsThere, BuffersAreOutstanding}
 
 -- some trace reached it from an opening
 pub record IsReached (w : PlainWorld) : Type 0 where

@@ -1,11 +1,11 @@
 -- What the device's calls do: one event, and a list of them.
 use Rattle.std.specs.Prelude.{ℕ, ◌≡◌, Bool, List, map, reverse, take, Some, slice_get, Result, Ok, Err}
 use Rattle.block_store.specs.declared.NoMemory.{NoMemory}
-use Rattle.deeds.specs.World.{PlainWorld}
-use Rattle.deeds.specs.Events.{Event, plain_event}
-use Rattle.deeds.specs.declared.event.Event as declared
-use Rattle.deeds.specs.Happens.{MayWant, Occurrence, Runs}
-use Rattle.deeds.specs.Turns.{Turns, IsStep, count_changes}
+use Rattle.device_model.specs.World.{PlainWorld}
+use Rattle.device_model.specs.Events.{Event, plain_event}
+use Rattle.device_model.specs.declared.event.Event as declared
+use Rattle.device_model.specs.Happens.{MayWant, Occurrence, Runs}
+use Rattle.device_model.specs.Turns.{Turns, IsStep, count_changes}
 
 -- a turn, or memory was refused and nothing changed
 abbrev pub TurnsOrWants : PlainWorld → Event → Result Bool NoMemory → PlainWorld → Type 0

@@ -3,11 +3,11 @@ use Rattle.std.specs.Prelude.{ℕ, ⊤, ◌≡◌, ◌≤◌, ◌+◌, ◌==◌,
 use Rattle.std.specs.List.{list_any}
 use Rattle.block_store.specs.Blocks.{run}
 use Rattle.block_store.specs.declared.NoMemory.{NoMemory}
-use Rattle.history.specs.Contents.{blocks_of, capacity_of}
-use Rattle.task_set.specs.Unit.{PlainUnit}
+use Rattle.unit_model.specs.Contents.{blocks_of, capacity_of}
+use Rattle.unit_model.specs.Unit.{PlainUnit}
 use Rattle.unit_history.specs.Changes.{PlainChanges, AreUnchanged}
 use Rattle.ring_core.specs.declared.fault.RingFault.{RingFault}
-use Rattle.deeds.specs.World.{PlainQueue, PlainWorld}
+use Rattle.device_model.specs.World.{PlainQueue, PlainWorld}
 
 -- the unit of an address
 abbrev pub unit_at : PlainWorld → ℕ → ℕ → Option PlainUnit

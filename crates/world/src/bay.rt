@@ -13,9 +13,9 @@ pub(crate) struct Bay {
 }
 
 impl Model for Bay {
-    ghost use Rattle.deeds.specs.World.{PlainQueue};
-    ghost use Rattle.queue_phases.specs.Queue.{with_slot};
-    ghost use Rattle.queue_phases.specs.Slots.{slot_of};
+    ghost use Rattle.device_model.specs.World.{PlainQueue};
+    ghost use Rattle.phases.specs.Queue.{with_slot};
+    ghost use Rattle.phases.specs.Slots.{slot_of};
 
     ghost Value = { PlainQueue };
 
@@ -24,10 +24,10 @@ impl Model for Bay {
 
 impl Bay {
     ghost use Rattle.std.specs.Prelude.{◌≡◌, ◌↔◌, IsTrue, is_some, length};
-    ghost use Rattle.deeds.specs.Parts as plain;
+    ghost use Rattle.device_model.specs.Parts as plain;
     ghost use Rattle.queues.specs.Looking.{IsIdle};
-    ghost use Rattle.queue_phases.specs.Slots.{arrived_unit, is_ready};
-    ghost use Rattle.queue_phases.specs.Queue.{with_slot};
+    ghost use Rattle.phases.specs.Slots.{arrived_unit, is_direct};
+    ghost use Rattle.phases.specs.Queue.{with_slot};
 
     /// A queue whose slot is empty.
     pub(crate) fn new(queue: Queue) -> Bay
@@ -47,10 +47,10 @@ impl Bay {
     }
 
     /// Returns true if a chain is ready to be answered.
-    pub(crate) fn is_ready(&self) -> bool
-        ensures { result ≡ is_ready self.now.slot }
+    pub(crate) fn is_direct(&self) -> bool
+        ensures { result ≡ is_direct self.now.slot }
     {
-        self.slot.is_ready()
+        self.slot.is_direct()
     }
 
     /// Returns true if a request arrived.
@@ -65,6 +65,6 @@ impl Bay {
         requires { length memory.now ≡ self.now.ring.memory }
         ensures { IsTrue result ↔ ((self.now.slot ≡ plain.Slot.Empty) × (IsIdle self.now.ring memory.now → ⊥)) }
     {
-        self.slot.is_empty() && !self.queue.is_silent(memory)
+        self.slot.is_empty() && !self.queue.is_idle(memory)
     }
 }

@@ -30,7 +30,7 @@ pub(crate) struct Device {
 
 impl Model for Device {
     ghost use Rattle.std.specs.Prelude.{map};
-    ghost use Rattle.deeds.specs.World.{PlainWorld};
+    ghost use Rattle.device_model.specs.World.{PlainWorld};
     ghost use Rattle.world.specs.Kept.{seat_of, HasLists};
 
     ghost Value = { PlainWorld };

@@ -79,7 +79,7 @@ impl HandedOff {
         Ok(())
     }
 
-    /// The first list that isn't empty of those from one number on, short of another.
+    /// Returns the first list that isn't empty of those from one number on, short of another.
     fn first_between(&self, from: usize, to: usize) -> Option<usize>
         requires { (from ≤ to) × (to ≤ length self.now.lists) }
         ensures { IsFirstBetween from to self.now.lists result }
@@ -92,8 +92,8 @@ impl HandedOff {
         None
     }
 
-    /// The first list that isn't empty: the own one comes first, then those of the next seats by rising number, and so
-    /// round to the beginning.
+    /// Returns the first list that isn't empty: the own one comes first, then those of the next seats by rising number,
+    /// and so round to the beginning.
     fn nearest(&self, own: usize) -> Option<usize>
         requires { own ≤ length self.now.lists }
         ensures { IsNearest own self.now.lists result }

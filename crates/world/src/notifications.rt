@@ -61,7 +61,7 @@ impl Model for Notifications {
 }
 
 impl Notifications {
-    /// Of a device of which nobody was told anything.
+    /// Begins with a device of which nobody was told anything.
     pub fn new() -> Notifications
         ensures { result ≡ replicate 18 0 }
     {
@@ -70,9 +70,9 @@ impl Notifications {
         }
     }
 
-    /// Whose drivers are owed a notification: bit 0 is queue 0's. A bit is set exactly where the queue has more
-    /// notices than when this was last asked. A driver that is notified looks at all that was used, so one
-    /// notification is enough for all of them (VIRTIO 1.2, 2.7.10 and 2.8.21.3).
+    /// Returns whose drivers are owed a notification: bit 0 is queue 0's. A bit is set exactly where the queue has more
+    /// notices than when this was last asked. A driver that is notified looks at all that was used, so one notification
+    /// is enough for all of them (VIRTIO 1.2, 2.7.10 and 2.8.21.3).
     pub fn owed(&mut self, world: &World) -> u32
         ensures owed { result ≡ binary (owed_of self.old world.now.queues) }
         ensures asked { IsAsked self.old world.now.queues self.new }

@@ -5,7 +5,7 @@ ghost use Rattle.decisions.specs.Inventory.{address_of};
 ghost use Rattle.std.specs.List.{list_all};
 ghost use Rattle.config.specs.Config.{is_config, is_queue};
 ghost use Rattle.ring_core.specs.State.{features_of};
-ghost use Rattle.deeds.specs.World.{Everywhere};
+ghost use Rattle.device_model.specs.World.{Everywhere};
 ghost use Rattle.std.specs.Vec.{vec_capacity};
 ghost use Rattle.world.specs.Opening.{AreOpening, AreFresh, AreSeats, IsOpening, AreDisksOf, opening_unit, AreDisksFor, over_disks};
 

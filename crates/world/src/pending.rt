@@ -1,10 +1,10 @@
 //! Looks whether an event of the order applies, and changes nothing.
 
 ghost use Rattle.std.specs.Prelude.{◌≡◌, ◌<◌, true, length};
-ghost use Rattle.settling.specs.Order.{of_seat, IsQuietOf, NoneApplies};
-ghost use Rattle.deeds.specs.Events.{Event as AnEvent};
-ghost use Rattle.deeds.specs.Applies.{Applies};
-ghost use Rattle.deeds.specs.Happens.{IsOpenTo};
+ghost use Rattle.device_model.specs.Order.{of_seat, IsQuietOf, NoneApplies};
+ghost use Rattle.device_model.specs.Events.{Event as AnEvent};
+ghost use Rattle.device_model.specs.Applies.{Applies};
+ghost use Rattle.device_model.specs.Happens.{IsOpenTo};
 ghost use Rattle.world.specs.Cursors.{Denies, of_function, NoDirect, NoSeat, NoEnter, NoFetch};
 ghost use Rattle.world.specs.Settling.{asks};
 ghost use Rattle.world.specs.Sound.{AreFew};
@@ -60,7 +60,7 @@ impl Device {
         ensures { Denies (NoDirect self.now) result }
     {
         for number in 0..self.bays.len() {
-            if self.bays[number].is_ready() {
+            if self.bays[number].is_direct() {
                 return true;
             }
         }
@@ -86,7 +86,7 @@ impl Device {
         ensures { Denies (NoneApplies self.now (of_seat number)) result }
     {
         let seat = &self.seats[number as usize];
-        if !seat.is_free() {
+        if !seat.has_empty_hand() {
             return true;
         }
         if !seat.is_idle() {

@@ -8,13 +8,13 @@ use unit_history::{Job, JobList};
 #[derive(Clone, Copy)]
 pub(crate) enum Stage {
     /// Nothing is in hand.
-    Free,
+    Empty,
     /// A job is to be committed.
-    Committing,
+    Taken,
     /// A job is to be answered.
-    Answering,
+    Done,
     /// A task is to leave.
-    Leaving,
+    Answered,
 }
 
 /// What a worker, or the operator, has between two steps: its hand, and the jobs that it is to hand off.
@@ -35,16 +35,16 @@ impl Model for Seat {
 
 impl Seat {
     ghost use Rattle.std.specs.Prelude.{◌≡◌, ◌↔◌, IsTrue, [], drop, slice_get};
-    ghost use Rattle.deeds.specs.Parts as plain;
+    ghost use Rattle.device_model.specs.Parts as plain;
     ghost use Rattle.world.specs.Stages.{stage_of};
 
     /// A seat with nothing in hand and an empty list.
     pub(crate) fn new(out: JobList) -> Seat
         requires { out.jobs ≡ [] }
-        ensures { result ≡ record { hand = plain.Hand.Free; jobs = []; limit = out.limit } }
+        ensures { result ≡ record { hand = plain.Hand.Empty; jobs = []; limit = out.limit } }
     {
         Seat {
-            hand: Hand::Free,
+            hand: Hand::Empty,
             out,
         }
     }
@@ -53,30 +53,30 @@ impl Seat {
     pub(crate) fn stage(&self) -> Stage
         ensures { result ≡ stage_of self.now.hand }
     {
-        if self.hand.is_free() {
-            return Stage::Free;
+        if self.hand.is_empty() {
+            return Stage::Empty;
         }
         if self.hand.leaving_unit().is_some() {
-            return Stage::Leaving;
+            return Stage::Answered;
         }
         if self.hand.answering_queue().is_some() {
-            return Stage::Answering;
+            return Stage::Done;
         }
-        Stage::Committing
+        Stage::Taken
     }
 
     /// Whether it has nothing in hand.
-    pub(crate) fn is_free(&self) -> bool
-        ensures { IsTrue result ↔ (self.now.hand ≡ plain.Hand.Free) }
+    pub(crate) fn has_empty_hand(&self) -> bool
+        ensures { IsTrue result ↔ (self.now.hand ≡ plain.Hand.Empty) }
     {
-        self.hand.is_free()
+        self.hand.is_empty()
     }
 
     /// Whether it has nothing in hand, and no job to hand off.
     pub(crate) fn is_idle(&self) -> bool
-        ensures { IsTrue result ↔ ((self.now.hand ≡ plain.Hand.Free) × (self.now.jobs ≡ [])) }
+        ensures { IsTrue result ↔ ((self.now.hand ≡ plain.Hand.Empty) × (self.now.jobs ≡ [])) }
     {
-        self.hand.is_free() && self.out.len() == 0
+        self.hand.is_empty() && self.out.len() == 0
     }
 
     /// The next job of the list; `None` where there is none.

@@ -2,9 +2,9 @@
 //! step can't have woken isn't looked at again.
 
 ghost use Rattle.std.specs.Prelude.{◌≡◌, ◌≤◌, ◌<◌, IsTrue, Some, true, slice_get, length};
-ghost use Rattle.settling.specs.Order.{of_seat};
-ghost use Rattle.deeds.specs.Parts.{Hand};
-ghost use Rattle.deeds.specs.Phases.{HasHand};
+ghost use Rattle.device_model.specs.Order.{of_seat};
+ghost use Rattle.device_model.specs.Parts.{Hand};
+ghost use Rattle.device_model.specs.Phases.{HasHand};
 ghost use Rattle.world.specs.Cursors.{TurnsFirst, of_function, TurnsNext, FetchesOn, MayServe, NoneBefore, NoneBeforeFetch, NoFetchBelow, EntersNext, FetchesNext, LeavesNext};
 ghost use Rattle.world.specs.Cursors.{NoStart, NoDirect, NoSeat};
 ghost use Rattle.world.specs.Settling.{asks, asks_all};
@@ -20,6 +20,7 @@ use crate::sound::all_are_sound;
 use crate::steps::owner;
 use block_store::NoMemory;
 use phases::{Slot, Taken, serve_request, take_request};
+use scsi_codec::{CONTROL_QUEUE, EVENT_QUEUE, FIRST_REQUEST_QUEUE};
 
 /// What a call of `World::serve` did.
 #[derive(Clone, Copy)]
@@ -40,7 +41,7 @@ pub(crate) fn is_asked(queues: u32, number: u16) -> bool
 }
 
 impl Device {
-    /// A step of the open function.
+    /// Takes a step of the open function.
     fn turn_function(&mut self) -> bool
         requires sound { IsSound self.old }
         ensures { TurnsFirst of_function self.old result self.new }
@@ -57,7 +58,7 @@ impl Device {
         self.mark()
     }
 
-    /// A step of a seat: which one is seen by its hand alone, unless that is empty.
+    /// Takes a step of a seat: which one is seen by its hand alone, unless that is empty.
     fn turn_seat(&mut self, number: u16) -> bool
         requires sound { IsSound self.old }
         ensures { TurnsFirst (of_seat number) self.old result self.new }
@@ -67,17 +68,17 @@ impl Device {
             return false;
         }
         match self.seats[at].stage() {
-            Stage::Leaving => self.leave(number),
-            Stage::Answering => self.answer(number),
-            Stage::Committing => self.commit(number),
-            Stage::Free => self.turn_free(number),
+            Stage::Answered => self.leave(number),
+            Stage::Done => self.answer(number),
+            Stage::Taken => self.commit(number),
+            Stage::Empty => self.turn_free(number),
         }
     }
 
-    /// A step of a seat that has nothing in hand.
+    /// Takes a step of a seat that has nothing in hand.
     fn turn_free(&mut self, number: u16) -> bool
         requires sound { IsSound self.old }
-        requires free { HasHand self.old number Hand.Free }
+        requires free { HasHand self.old number Hand.Empty }
         ensures { TurnsFirst (of_seat number) self.old result self.new }
     {
         if self.put(number) {
@@ -108,7 +109,7 @@ impl Device {
         self.from_start(cursor, queues, most)
     }
 
-    /// The same where more than the queues is to be looked at, apart so that requests served at once pass it by.
+    /// Does the same where more than the queues is to be looked at, apart so that requests served at once pass it by.
     #[inline(never)]
     fn from_start(
         &mut self,
@@ -134,7 +135,7 @@ impl Device {
         self.from_direct(cursor, queues, most)
     }
 
-    /// From the answers that are ready on, where the cursor isn't past them.
+    /// Goes on from the answers that are ready, where the cursor isn't past them.
     #[inline(always)]
     fn from_direct(
         &mut self,
@@ -158,7 +159,7 @@ impl Device {
         self.from_seats(cursor, queues, most)
     }
 
-    /// From the seats on, where the cursor isn't past them.
+    /// Goes on from the seats, where the cursor isn't past them.
     #[inline(always)]
     fn from_seats(
         &mut self,
@@ -183,7 +184,7 @@ impl Device {
         self.from_enter(cursor, queues, most)
     }
 
-    /// From the requests that arrived on, where the cursor isn't past them.
+    /// Goes on from the requests that arrived, where the cursor isn't past them.
     #[inline(always)]
     fn from_enter(
         &mut self,
@@ -229,14 +230,14 @@ impl Device {
         Ok(None)
     }
 
-    /// The first queue that may have a chain, as far as the control queue and the event queue tell.
+    /// Returns the first queue that may have a chain, as far as the control queue and the event queue tell.
     #[inline(always)]
     fn first_fetch(&self) -> usize
         requires sound { IsSound self.now }
         ensures below { NoFetchBelow asks_all result self.now }
     {
-        if self.bays.len() >= 2 && self.is_silent(0) && self.is_silent(1) {
-            2
+        if self.bays.len() >= 2 && self.is_idle(CONTROL_QUEUE) && self.is_idle(EVENT_QUEUE) {
+            FIRST_REQUEST_QUEUE as usize
         } else {
             0
         }
@@ -263,7 +264,7 @@ impl Device {
         if !is_asked(queues, number) {
             return Ok(None);
         }
-        if self.is_silent(number) {
+        if self.is_idle(number) {
             return Ok(None);
         }
         if most >= AT_ONCE && self.serves_at_once(number) {
@@ -276,7 +277,7 @@ impl Device {
         }
     }
 
-    /// Whether a request of a queue is served by the first seat and nothing stands between.
+    /// Returns true if a request of a queue is served by the first seat and nothing stands between.
     fn serves_at_once(&self, number: u16) -> bool
         requires sound { IsSound self.now }
         ensures { IsTrue result → MayServe number self.now }
@@ -292,7 +293,7 @@ impl Device {
             && self.handed_off.limit() > 0
     }
 
-    /// A request queue's next chain is taken, and its request, if it is one that nothing blocks, is served to its end.
+    /// Takes a request queue's next chain, and serves its request to the end, if nothing blocks it.
     #[inline(always)]
     fn serve(&mut self, number: u16, queues: u32, most: u64) -> Result<Option<Progress>, NoMemory>
         requires most { AT_ONCE ≤ most }
@@ -328,7 +329,7 @@ impl Device {
         }
     }
 
-    /// Where to look once a seat took a step: a function may find its mark clear.
+    /// Returns where to look once a seat took a step: a function may find its mark clear.
     fn after_seat(&self) -> Cursor
         ensures { LeavesNext self.now result }
     {
@@ -339,7 +340,7 @@ impl Device {
         }
     }
 
-    /// Where to look once a request came to its unit: it may be answered at once.
+    /// Returns where to look once a request came to its unit: it may be answered at once.
     fn after_enter(&self, number: u16) -> Cursor
         ensures { EntersNext number self.now result }
     {
@@ -351,7 +352,7 @@ impl Device {
         }
     }
 
-    /// Where to look once a queue took a chain: a request comes to its unit next.
+    /// Returns where to look once a queue took a chain: a request comes to its unit next.
     fn after_fetch(&self, number: u16) -> Cursor
         ensures { FetchesNext number self.now result }
     {

@@ -2,7 +2,7 @@
 
 ghost use Rattle.world.specs.Sound.{AreSound};
 
-use deeds::laws::{
+use device_model::laws::{
     functions_find_their_units, held_buffers_are_outstanding, lists_have_room, logs_are_numbered,
     parts_stay, tasks_are_at_work, tickets_rise, what_stands_is_owned,
 };

@@ -1,10 +1,10 @@
 //! Each event's step on the parts of the device.
 
 ghost use Rattle.std.specs.Prelude.{◌≡◌, ◌≤◌, IsTrue};
-ghost use Rattle.deeds.specs.World.{owner};
-ghost use Rattle.deeds.specs.Events.{Event as AnEvent};
-ghost use Rattle.deeds.specs.Applies.{Applies};
-ghost use Rattle.deeds.specs.Turns.{Turns};
+ghost use Rattle.device_model.specs.World.{owner};
+ghost use Rattle.device_model.specs.Events.{Event as AnEvent};
+ghost use Rattle.device_model.specs.Applies.{Applies};
+ghost use Rattle.device_model.specs.Turns.{Turns};
 ghost use Rattle.world.specs.Steps.{TurnsOrWants};
 ghost use Rattle.world.specs.Sound.{AreFew, IsSound};
 
@@ -38,12 +38,12 @@ impl Device {
     }
 
     /// Whether a queue has nothing to take, by which little more than its index is looked at.
-    pub(crate) fn is_silent(&self, number: u16) -> bool
+    pub(crate) fn is_idle(&self, number: u16) -> bool
         requires sound { IsSound self.now }
         ensures { IsTrue result → Applies self.now (AnEvent.Fetch number) → ⊥ }
     {
         let at = number as usize;
-        at >= self.bays.len() || self.bays[at].queue.is_silent(&self.memory)
+        at >= self.bays.len() || self.bays[at].queue.is_idle(&self.memory)
     }
 
     /// A queue takes its next chain.
@@ -52,7 +52,7 @@ impl Device {
         requires few { AreFew self.old }
         ensures { TurnsOrWants self.old (AnEvent.Fetch number) result self.new }
     {
-        if self.is_silent(number) {
+        if self.is_idle(number) {
             return Ok(false);
         }
         match number {
@@ -62,7 +62,7 @@ impl Device {
         }
     }
 
-    /// A request queue takes its next chain.
+    /// Takes the next chain of a request queue.
     fn fetch_request(&mut self, number: u16) -> Result<bool, NoMemory>
         requires sound { IsSound self.old }
         requires request { 2 ≤ number }
@@ -76,7 +76,7 @@ impl Device {
         phase_fetch(&mut bay.queue, &mut bay.slot, &self.memory, &self.inventory)
     }
 
-    /// The control queue takes its next chain.
+    /// Takes the next chain of the control queue.
     fn fetch_control(&mut self) -> Result<bool, NoMemory>
         requires sound { IsSound self.old }
         ensures { TurnsOrWants self.old (AnEvent.Fetch 0) result self.new }
@@ -94,7 +94,7 @@ impl Device {
         )
     }
 
-    /// The event queue takes its next chain.
+    /// Takes the next chain of the event queue.
     fn fetch_event(&mut self) -> Result<bool, NoMemory>
         requires sound { IsSound self.old }
         requires few { AreFew self.old }
@@ -147,7 +147,7 @@ impl Device {
         ensures { Turns self.old (AnEvent.Put number) result self.new }
     {
         let at = number as usize;
-        if at >= self.seats.len() || !self.seats[at].is_free() {
+        if at >= self.seats.len() || !self.seats[at].has_empty_hand() {
             return false;
         }
         let seat = &mut self.seats[at];

@@ -12,10 +12,10 @@ use crate::service::Served;
 use crate::sound::all_are_sound;
 use block_store::{NoMemory, PagedStore};
 use config::{Config, StartFault};
-use deeds::Event;
-use deeds::laws::every_run_goes_on;
+use device_model::Event;
+use device_model::laws::every_run_goes_on;
+use device_model::trace_laws::the_promise_is_kept;
 use guest_mem::GuestMem;
-use interleavings::laws::the_promise_is_kept;
 use ring_core::{QueueLog, RingFault};
 use std::alloc::Global;
 use std::marker::Model;
@@ -36,7 +36,7 @@ pub struct World {
 }
 
 impl Model for World {
-    ghost use Rattle.deeds.specs.World.{PlainWorld};
+    ghost use Rattle.device_model.specs.World.{PlainWorld};
     ghost use Rattle.world.specs.Sound.{IsWhole};
 
     ghost Value = { PlainWorld };
@@ -50,22 +50,22 @@ impl World {
     ghost use Rattle.std.specs.Prelude.{◌+◌, ◌*◌, true, Ok, [], IfSome, slice_get, MatchResult};
     ghost use Rattle.std.specs.Option.{option_copied, option_map};
     ghost use Rattle.ring_core.specs.State.{IsLawful};
-    ghost use Rattle.deeds.specs.Events.{Event as AnEvent, plain_event};
-    ghost use Rattle.deeds.specs.World as plain;
-    ghost use Rattle.history.specs.Contents.{capacity_of, pending_of};
+    ghost use Rattle.device_model.specs.Events.{Event as AnEvent, plain_event};
+    ghost use Rattle.device_model.specs.World as plain;
+    ghost use Rattle.unit_model.specs.Contents.{capacity_of, pending_of};
     ghost use Rattle.config.specs.Config.{is_config, StartRefusedAs};
     ghost use Rattle.world.specs.Opening.{IsOpening, IsOpeningOver, OpensFor, OpensAnew, OverRefusedAs, AreDisksFor, AreDisksOf};
     ghost use Rattle.world.specs.Sound.{AreFew, IsReached, IsSound};
-    ghost use Rattle.deeds.specs.Happens.{Reached};
-    ghost use Rattle.deeds.specs.Turns.{Turns};
+    ghost use Rattle.device_model.specs.Happens.{Reached};
+    ghost use Rattle.device_model.specs.Turns.{Turns};
     ghost use Rattle.world.specs.Steps.{Steps, RunsAll};
-    ghost use Rattle.settling.specs.Order.{IsQuietOf};
+    ghost use Rattle.device_model.specs.Order.{IsQuietOf};
     ghost use Rattle.world.specs.Settling.{asks, ServesSomeOrWants, ServesOrWants};
     ghost use Rattle.world.specs.Promise.{StepsAsPromised, RunsAsPromised, ServesAsPromised, SettlesAsPromised};
     ghost use Rattle.world.specs.Cursors.{Denies, NoneBefore, TurnsNext};
     ghost use Rattle.world.specs.Views.{unit_at, IsPlaceOf, fault_of, device_status, GivesBlocks, GivesChanges};
 
-    /// The device of a configuration, of which nothing has happened yet. Whoever sets it up calls it once.
+    /// Opens the device of a configuration, of which nothing has happened yet. Whoever sets it up calls it once.
     /// `BadConfig` exactly where the configuration isn't valid; else `NoMemory` where a growth was refused. The empty
     /// trace leads from the device to itself: here every trace begins.
     pub fn new(alloc: Global, config: &Config) -> Result<World, StartFault>
@@ -150,14 +150,14 @@ impl World {
         disks_of(units, empty)
     }
 
-    /// That some trace led here from an opening: every law over reached traces holds of it.
+    /// Shows that some trace led here from an opening: every law over reached traces holds of it.
     pub fn is_reached(&self)
         ensures { IsReached self.now }
     {
         let _ = &self.device.memory;
     }
 
-    /// What each step rests on.
+    /// Returns what each step rests on.
     fn is_sound(&self)
         ensures sound { IsSound self.now }
         ensures few { AreFew self.now }
@@ -166,7 +166,7 @@ impl World {
         let _ = &self.device.memory;
     }
 
-    /// One event, by reference.
+    /// Takes one event, by reference.
     fn step_by(&mut self, event: &Event) -> Result<bool, NoMemory>
         ensures { Steps self.old (plain_event event.now) result self.new }
     {
@@ -191,9 +191,9 @@ impl World {
         }
     }
 
-    /// One event. Whether it changed something; one that doesn't apply changes nothing. Only a Fetch, a Hard and a
-    /// Resize can answer `NoMemory`, and have changed nothing then. Behind every trace that led here from an opening, the
-    /// promise is kept.
+    /// Takes one event. Whether it changed something; one that doesn't apply changes nothing. Only a Fetch, a Hard and
+    /// a Resize can answer `NoMemory`, and have changed nothing then. Behind every trace that led here from an opening,
+    /// the promise is kept.
     pub fn step(&mut self, event: Event) -> Result<bool, NoMemory>
         ensures steps { Steps self.old (plain_event event) result self.new }
         ensures promise { StepsAsPromised self.old (plain_event event) result self.new }
@@ -203,7 +203,7 @@ impl World {
         self.step_by(&event)
     }
 
-    /// One event after another. Answers how many changed something. After `NoMemory` those before the refused one
+    /// Takes one event after another. Answers how many changed something. After `NoMemory` those before the refused one
     /// ran, and it changed nothing.
     ///
     /// Behind every trace that led here from an opening, a trace of these events leads to where the device is then,
@@ -296,7 +296,8 @@ impl World {
         }
     }
 
-    /// The first event of the order that applies, from a place on, or a request as a whole where that may be counted.
+    /// Takes the first event of the order that applies, from a place on, or a request as a whole where that may be
+    /// counted.
     #[inline(always)]
     fn turn(&mut self, cursor: Cursor, queues: u32, most: u64) -> Result<Option<Progress>, NoMemory>
         requires most { 1 ≤ most }
@@ -316,8 +317,8 @@ impl World {
         self.device.has_step(queues)
     }
 
-    /// The guest's write: puts bytes at an address. False, with nothing changed, where one of them would lie outside
-    /// memory. The promise is kept as by `step`.
+    /// Writes bytes as the guest: puts bytes at an address. False, with nothing changed, where one of them would lie
+    /// outside memory. The promise is kept as by `step`.
     pub fn poke(&mut self, addr: u64, bytes: &[u8]) -> bool
         ensures turns { Turns self.old (AnEvent.Poke (record { addr = addr; bytes = bytes.now })) result self.new }
         ensures promise { StepsAsPromised self.old (AnEvent.Poke (record { addr = addr; bytes = bytes.now })) (Ok result)
@@ -328,14 +329,14 @@ impl World {
         self.device.poke(addr, bytes)
     }
 
-    /// Guest memory.
+    /// Returns guest memory.
     pub fn memory(&self) -> &GuestMem
         ensures { result.now ≡ self.now.memory }
     {
         &self.device.memory
     }
 
-    /// How many queues there are.
+    /// Returns how many queues there are.
     pub fn queues(&self) -> usize
         ensures { result ≡ length self.now.queues }
     {
@@ -349,7 +350,7 @@ impl World {
         self.device.units.len()
     }
 
-    /// The log of a queue: which chains it accepted, and which were used. `None` where there is no such queue.
+    /// Returns the log of a queue: which chains it accepted, and which were used. `None` where there is no such queue.
     pub fn log(&self, number: u16) -> Option<&QueueLog>
         ensures log { option_copied result ≡ option_map (λ q. q.ring.log) (slice_get self.now.queues number) }
         ensures lawful { IfSome result (λ log. IsLawful number log.now) }
@@ -361,7 +362,7 @@ impl World {
         }
     }
 
-    /// How many notices a queue's driver wanted.
+    /// Returns how many notices a queue's driver wanted.
     pub fn notices(&self, number: u16) -> Option<u64>
         ensures { result ≡ option_map (λ q. q.notices) (slice_get self.now.queues number) }
     {
@@ -371,7 +372,7 @@ impl World {
         }
     }
 
-    /// The fault of the guest that broke a queue; `None` where none did, or where there is no such queue.
+    /// Returns the fault of the guest that broke a queue; `None` where none did, or where there is no such queue.
     pub fn broken(&self, number: u16) -> Option<RingFault>
         ensures { result ≡ fault_of (slice_get self.now.queues number) }
     {
@@ -390,8 +391,7 @@ impl World {
         self.device.bays.as_slice()
     }
 
-    /// The device's status: 64, DEVICE_NEEDS_RESET (VIRTIO 1.2, 2.1), where a queue is broken,
-    /// else 0.
+    /// Returns the device's status: 64, DEVICE_NEEDS_RESET (VIRTIO 1.2, 2.1), where a queue is broken, else 0.
     pub fn status(&self) -> u8
         ensures { result ≡ device_status self.now }
     {
@@ -402,8 +402,8 @@ impl World {
         }
     }
 
-    /// The place in the inventory of the unit of an address, by which an event names it; `None` where there is no such
-    /// unit.
+    /// Returns the index in the inventory of the unit of an address, by which an event names it; `None` where there is
+    /// no such unit.
     pub fn place(&self, target: u8, lun: u16) -> Option<u16>
         ensures { IsPlaceOf self.now target lun result }
     {
@@ -411,7 +411,7 @@ impl World {
         self.device.place(target, lun)
     }
 
-    /// The unit of an address; `None` where there is none.
+    /// Returns the unit of an address; `None` where there is none.
     pub fn unit(&self, target: u8, lun: u16) -> Option<&UnitState>
         ensures { option_copied result ≡ unit_at self.now target lun }
     {
@@ -421,7 +421,7 @@ impl World {
             .find(|unit| unit.target() == target && unit.lun() == lun)
     }
 
-    /// The capacity in blocks of the unit of an address; `None` where there is none.
+    /// Returns the capacity in blocks of the unit of an address; `None` where there is none.
     pub fn capacity(&self, target: u8, lun: u16) -> Option<u64>
         ensures { result ≡ option_map (λ u. capacity_of u.opening u.steps) (unit_at self.now target lun) }
     {

@@ -1,7 +1,8 @@
 //! Which configurations are refused.
 
 use super::are_called;
-use device_bench::{NUMBERS, Numbers, Row, UNIT};
+use crate::opening::{NUMBERS, Numbers};
+use crate::steps::{Row, UNIT};
 use std::test::Fail;
 use world::{
     ACCEPTED_FEATURES, EVENT_IDX, INDIRECT_DESC, RING_PACKED, StartFault, UnitSpec, VERSION_1,

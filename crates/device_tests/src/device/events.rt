@@ -1,6 +1,8 @@
 //! Events that don't apply, and writes of the guest.
 
-use device_bench::{Move, NUMBERS, Row, Step, UNIT};
+use crate::moves::Move;
+use crate::opening::NUMBERS;
+use crate::steps::{Row, Step, UNIT};
 
 /// A write one byte of which would lie outside memory.
 const OUTSIDE: Move = Move::Poke(65535, &[7, 7]);

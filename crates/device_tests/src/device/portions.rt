@@ -1,6 +1,8 @@
 //! Serving in portions: a guest whose requests make further requests available, and the queues beside it.
 
-use device_bench::{NUMBERS, Numbers, READY, Row, Sent, Step, UNIT};
+use crate::guest::{READY, Sent};
+use crate::opening::{NUMBERS, Numbers};
+use crate::steps::{Row, Step, UNIT};
 use world::{RING_PACKED, VERSION_1};
 
 /// A chain of a packed ring of 4 descriptors at its beginning: a READ of block 0 whose data go over that ring, behind

@@ -1,9 +1,11 @@
 //! Steps of the device: how many there are, and what they leave in the rings and in a unit's history.
 
-use device_bench::{
-    ABSENT, BUFFER, Move, NEXUS_RESET, NUMBERS, Numbers, ORDERED, QUERY, READ, READY, REJECTED,
-    Row, Sent, Step, UNIT, UNIT_RESET,
+use crate::guest::{
+    ABSENT, BUFFER, NEXUS_RESET, ORDERED, QUERY, READ, READY, REJECTED, Sent, UNIT_RESET,
 };
+use crate::moves::Move;
+use crate::opening::{NUMBERS, Numbers};
+use crate::steps::{Row, Step, UNIT};
 use ring_core::Ticket;
 use world::{RING_PACKED, StepKind, UnitSpec, VERSION_1};
 

@@ -1,6 +1,7 @@
 //! What a device tells of its units.
 
-use device_bench::{NUMBERS, Row, Step, UNIT};
+use crate::opening::NUMBERS;
+use crate::steps::{Row, Step, UNIT};
 use world::UnitSpec;
 
 /// The unit 3:0.

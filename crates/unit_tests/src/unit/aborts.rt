@@ -1,7 +1,7 @@
 //! What aborts and resets meet, and what becomes of that.
 
-use history::Rule;
-use unit_bench::{Act, Comes, DATA, Ends, ORDERED, Row, SIMPLE, Sent, WRITE};
+use crate::acts::{Act, Comes, DATA, Ends, ORDERED, Row, SIMPLE, Sent, WRITE};
+use unit_model::Rule;
 
 /// The numbers of the chains.
 const A: u64 = 0;

@@ -1,6 +1,6 @@
 //! When tasks run beside others.
 
-use unit_bench::{Act, Comes, Ends, HEAD, ORDERED, Row, SIMPLE, Told};
+use crate::acts::{Act, Comes, Ends, HEAD, ORDERED, Row, SIMPLE, Told};
 
 /// The numbers of the chains.
 const A: u64 = 0;

@@ -1,6 +1,6 @@
 //! Which receipts a unit confirms.
 
-use unit_bench::{Act, Asked, Comes, DATA, Ends, OTHER, READ, Row, SIMPLE, Sent, WRITE};
+use crate::acts::{Act, Asked, Comes, DATA, Ends, OTHER, READ, Row, SIMPLE, Sent, WRITE};
 
 /// The numbers of the chains.
 const A: u64 = 0;

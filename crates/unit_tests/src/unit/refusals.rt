@@ -1,7 +1,7 @@
 //! What is refused, and changes nothing.
 
-use history::Rule;
-use unit_bench::{Act, Comes, Ends, HEAD, OTHER, READ, Row, SIMPLE, Sent};
+use crate::acts::{Act, Comes, Ends, HEAD, OTHER, READ, Row, SIMPLE, Sent};
+use unit_model::Rule;
 
 /// The numbers of the chains.
 const A: u64 = 0;

@@ -1,4 +1,4 @@
-use Rattle.task_set.specs.Unit.{PlainUnit}
+use Rattle.unit_model.specs.Unit.{PlainUnit}
 use Rattle.report.specs.Closed.{ConfirmsOne}
 use Rattle.report.proofs.Prefixes.{EachTo}
 use Rattle.report.proofs.confirming.is_confirmed.Given as goal

@@ -1,4 +1,4 @@
-use Rattle.task_set.specs.Unit.{IsUnit}
+use Rattle.unit_model.specs.Unit.{IsUnit}
 use Rattle.report.proofs.Prefixes.{EachTo}
 use Rattle.report.proofs.confirming.stand.Given as goal
 

@@ -1,8 +1,8 @@
 use Rattle.std.proofs.Common.{refl, subst, List, None, Option}
 use Rattle.ring_core.specs.declared.log.Ticket.{Ticket}
-use Rattle.history.specs.Receipts.{Receipt}
-use Rattle.task_set.specs.Unit.{PlainUnit}
-use Rattle.queues.specs.Queue.{Lent}
+use Rattle.unit_model.specs.Receipts.{Receipt}
+use Rattle.unit_model.specs.Unit.{PlainUnit}
+use Rattle.queues.specs.Queue.{BareQueue}
 use Rattle.report.specs.Belonging.{FindsForeign}
 use Rattle.report.specs.Closed.{IsFirst, AreConfirmed, is_outstanding}
 use Rattle.report.specs.Unconfirmed.{AllStand, AllSound}
@@ -19,12 +19,12 @@ returns-in-None c =
     (subst (λ (cs : List Receipt). AreConfirmed c.as_slice.result.now cs) c.as_slice-2.ensures.value c.in_default.ensures) in
     let own : FindsForeign c.args.specs.now r.units.items r.queues.items None =
     subst (λ (us : List PlainUnit). FindsForeign c.args.specs.now us r.queues.items None) c.as_slice-in-Ok-None.ensures.value
-    (subst (λ (qs : List Lent). FindsForeign c.args.specs.now c.as_slice-in-Ok-None.result.now qs None) c.as_slice-in-Ok-None-2.ensures.value
+    (subst (λ (qs : List BareQueue). FindsForeign c.args.specs.now c.as_slice-in-Ok-None.result.now qs None) c.as_slice-in-Ok-None-2.ensures.value
     (subst (λ (o : Option Ticket). FindsForeign c.args.specs.now c.as_slice-in-Ok-None.result.now c.as_slice-in-Ok-None-2.result.now o) c.in-None.is c.first_foreign.ensures)) in (
       refl,
       adds_up r.units.items r.queues.items r.receipts.items r.notes.items none c.args.specs.now own.0 own.1
           (subst (λ (us : List PlainUnit). AllStand us) c.as_slice-3.ensures.value c.stand.ensures)
-          (subst (λ (qs : List Lent). AllSound qs) c.as_slice-4.ensures.value c.are_sound.ensures)
+          (subst (λ (qs : List BareQueue). AllSound qs) c.as_slice-4.ensures.value c.are_sound.ensures)
           confirmed,
       none,
     )

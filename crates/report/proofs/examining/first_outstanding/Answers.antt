@@ -1,12 +1,12 @@
 use Rattle.std.proofs.Common.{subst, ap, ◌∙◌, Bool, List, Vec}
 use Rattle.std.specs.List.{fold}
 use Rattle.std.specs.declared.alloc.Global.{Global}
-use Rattle.history.specs.Receipts.{Receipt}
-use Rattle.queues.specs.Queue.{Lent}
-use Rattle.notes.specs.Notes.{PlainNote}
+use Rattle.unit_model.specs.Receipts.{Receipt}
+use Rattle.queues.specs.Queue.{BareQueue}
+use Rattle.unit_history.specs.Notes.{PlainNote}
 use Rattle.report.specs.declared.tally.Tally.{Tally}
 use Rattle.report.specs.Closed.{IsFirst}
-use Rattle.task_set.specs.Unit.{PlainUnit}
+use Rattle.unit_model.specs.Unit.{PlainUnit}
 use Rattle.report.specs.Settled.{is_request, any_folded}
 use Rattle.report.specs.Sources.{amiss_of, stray}
 use Rattle.report.specs.Tallies.{fresh, AreTallies, tally_at, with_receipt, with_note, with_units}
@@ -25,7 +25,7 @@ returns c =
     let queues = c.as_slice-queues.ensures.value in
     let receipts = c.as_slice.ensures.value in
     let notes = c.as_slice-2.ensures.value in
-    let opened : AreTallies r.queues.items (λ t. fresh) first = subst (λ (qs : List Lent). AreTallies qs (λ t. fresh) first) queues c.in_ok-tables.ensures in
+    let opened : AreTallies r.queues.items (λ t. fresh) first = subst (λ (qs : List BareQueue). AreTallies qs (λ t. fresh) first) queues c.in_ok-tables.ensures in
     rw (c.lesser-2.ensures, c.lesser.ensures)
     (found_first r.units.items r.queues.items r.receipts.items r.notes.items c.requires.stand
     first second last c.first_of-of_queues.result c.read_receipts-of_receipts.result c.read_notes-of_notes.result
@@ -38,7 +38,7 @@ returns c =
     (rw receipts at (c.read_receipts-of_receipts.ensures.tallied t))
     (rw notes at (c.read_notes-of_notes.ensures.tallied t))
     (rw units at (c.read_units.ensures t)))
-    (subst (λ (qs : List Lent). IsFirst (amiss_of qs (any_folded r.units.items) last) c.first_of-of_queues.result) queues
+    (subst (λ (qs : List BareQueue). IsFirst (amiss_of qs (any_folded r.units.items) last) c.first_of-of_queues.result) queues
     (subst (λ (g : Bool). IsFirst (amiss_of c.as_slice-queues.result.now g last) c.first_of-of_queues.result)
     (c.are_any_folded.ensures ∙ ap (λ (us : List PlainUnit). any_folded us) units) c.first_of-of_queues.ensures))
     (subst (λ (xs : List Receipt). IsFirst (stray (λ (z : Receipt). z.ticket) first xs) c.read_receipts-of_receipts.result) receipts c.read_receipts-of_receipts.ensures.strays)

@@ -1,8 +1,8 @@
 use Rattle.std.proofs.Common.{ap, ◌∙◌, List, Option, arith}
 use Rattle.std.proofs.lemmas.List.{take_all}
 use Rattle.std.specs.Option.{option_map}
-use Rattle.history.specs.Tasks.{Entry}
-use Rattle.history.specs.Steps.{alive}
+use Rattle.unit_model.specs.Tasks.{Entry}
+use Rattle.unit_model.specs.Steps.{alive}
 use Rattle.report.specs.declared.tally.TicketFact.{TicketFact}
 use Rattle.report.specs.Tallies.{read_alive, tells, fact_of_alive, tally_at}
 use Rattle.report.proofs.Slots.{map_same}

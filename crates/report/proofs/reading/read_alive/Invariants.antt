@@ -1,7 +1,7 @@
 use Rattle.std.proofs.Common.{◌≡◌, take}
 use Rattle.std.specs.Option.{option_map}
 use Rattle.ring_core.specs.declared.log.Ticket.{Ticket}
-use Rattle.history.specs.Steps.{alive}
+use Rattle.unit_model.specs.Steps.{alive}
 use Rattle.report.specs.Tallies.{read_alive, tally_at}
 use Rattle.report.proofs.reading.read_alive.Given as goal
 

@@ -1,8 +1,8 @@
 use Rattle.std.proofs.Common.{◌≡◌, ◌-◌, ap, sym, ◌∙◌, ℕ, List, Option, length, drop, arith}
 use Rattle.std.specs.Option.{option_map}
-use Rattle.history.specs.Base.{base_of}
-use Rattle.history.specs.Steps.{Step}
-use Rattle.history.proofs.Base.{base_within}
+use Rattle.unit_model.specs.Base.{base_of}
+use Rattle.unit_model.specs.Steps.{Step}
+use Rattle.unit_model.proofs.Base.{base_within}
 use Rattle.report.specs.declared.tally.TicketFact.{TicketFact}
 use Rattle.report.specs.Tallies.{read_commits, tells, fact_of_commit, tally_at}
 use Rattle.report.proofs.Slots.{map_same}

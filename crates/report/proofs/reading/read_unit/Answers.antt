@@ -1,7 +1,7 @@
 use Rattle.std.proofs.Common.{ap, sym, ◌∙◌, ℕ, List, Option, arith}
 use Rattle.std.specs.Option.{option_map}
-use Rattle.history.specs.Base.{base_of}
-use Rattle.history.specs.Steps.{Step}
+use Rattle.unit_model.specs.Base.{base_of}
+use Rattle.unit_model.specs.Steps.{Step}
 use Rattle.report.specs.declared.tally.TicketFact.{TicketFact}
 use Rattle.report.specs.Tallies.{read, tells, fact_of_one, tally_at}
 use Rattle.report.proofs.Slots.{map_same}

@@ -1,8 +1,8 @@
 use Rattle.std.proofs.Common.{ap, ◌∙◌}
 use Rattle.std.specs.Option.{option_map}
-use Rattle.history.specs.Base.{kept_steps}
-use Rattle.history.specs.Steps.{alive}
-use Rattle.task_set.specs.Unit.{PlainUnit}
+use Rattle.unit_model.specs.Base.{kept_steps}
+use Rattle.unit_model.specs.Steps.{alive}
+use Rattle.unit_model.specs.Unit.{PlainUnit}
 use Rattle.report.specs.Tallies.{read, read_folded, read_alive, tally_at}
 use Rattle.report.proofs.Folding.{unit_more}
 use Rattle.report.proofs.reading.read_units.Goals as goal

@@ -2,7 +2,7 @@
 
 use super::rows::ROW;
 use super::{AVAILABLE, AVAILABLE_AT_0};
-use ring_bench::{EVENT_IDX, Move, NEXT, Row};
+use crate::moves::{EVENT_IDX, Move, NEXT, Row};
 
 /// A queue for which event indices were agreed.
 const EVENTS: Row = Row {

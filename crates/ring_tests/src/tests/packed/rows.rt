@@ -1,7 +1,7 @@
 //! What is done with a packed queue.
 
 use super::{AVAILABLE, AVAILABLE_AT_0, PLACE};
-use ring_bench::{INDIRECT, Move, NEXT, Row, WRITE};
+use crate::moves::{INDIRECT, Move, NEXT, Row, WRITE};
 use ring_core::Layout;
 
 /// A queue of three slots.

@@ -2,7 +2,7 @@
 
 use super::AVAILABLE;
 use super::rows::ROW;
-use ring_bench::{EVENT_IDX, INDIRECT, INDIRECT_DESC, Move, NEXT, Row, WRITE};
+use crate::moves::{EVENT_IDX, INDIRECT, INDIRECT_DESC, Move, NEXT, Row, WRITE};
 
 /// A queue for which indirect descriptors were agreed.
 const TABLE: Row = Row {

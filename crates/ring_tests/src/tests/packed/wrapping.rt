@@ -2,8 +2,9 @@
 
 use super::super::{Made, bench, none_is};
 use super::{AVAILABLE, AVAILABLE_AT_0, PLACE};
+use crate::bench::Bench;
+use crate::moves::{Move, NEXT};
 use packed_ring::PackedRing;
-use ring_bench::{Bench, Move, NEXT};
 use ring_core::{Layout, Ring};
 use std::alloc::Global;
 use std::test::Fail;

@@ -1,7 +1,7 @@
 //! What breaks a split queue, and what comes first of two faults.
 
 use super::rows::ROW;
-use ring_bench::{INDIRECT, Move, NEXT, Row, WRITE};
+use crate::moves::{INDIRECT, Move, NEXT, Row, WRITE};
 
 pub static FAULTS: [Row; 14] = [
     Row {

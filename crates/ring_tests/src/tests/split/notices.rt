@@ -2,7 +2,7 @@
 
 use super::super::{Made, bench, none_is};
 use super::wrapping::{TWO, serving};
-use ring_bench::{EVENT_IDX, Move};
+use crate::moves::{EVENT_IDX, Move};
 use split_ring::SplitRing;
 use std::alloc::Global;
 use std::test::Fail;

@@ -1,7 +1,7 @@
 //! What is done with a split queue.
 
 use super::PLACE;
-use ring_bench::{Move, NEXT, Row, WRITE};
+use crate::moves::{Move, NEXT, Row, WRITE};
 use ring_core::Layout;
 
 /// A queue of 8,192 descriptors.

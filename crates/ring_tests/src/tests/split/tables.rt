@@ -1,7 +1,7 @@
 //! What is done with a split queue whose chains may end in a table of descriptors.
 
 use super::rows::ROW;
-use ring_bench::{EVENT_IDX, INDIRECT, INDIRECT_DESC, Move, NEXT, Row, WRITE};
+use crate::moves::{EVENT_IDX, INDIRECT, INDIRECT_DESC, Move, NEXT, Row, WRITE};
 
 /// A queue for which indirect descriptors were agreed.
 const TABLE: Row = Row {

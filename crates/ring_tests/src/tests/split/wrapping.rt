@@ -2,7 +2,7 @@
 
 use super::super::{Made, bench, none_is};
 use super::PLACE;
-use ring_bench::Move;
+use crate::moves::Move;
 use ring_core::Layout;
 use split_ring::SplitRing;
 use std::alloc::Global;

@@ -1,5 +1,5 @@
 use Rattle.std.proofs.Common.{◌≡◌, ◌++◌, drop, take, map}
-use Rattle.history.specs.Seen.{finished}
+use Rattle.unit_model.specs.Seen.{finished}
 use Rattle.task_set.specs.Tasks.{moved}
 use Rattle.task_set.proofs.walks.finish_all.Given as goal
 

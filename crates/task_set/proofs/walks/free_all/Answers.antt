@@ -1,6 +1,6 @@
 use Rattle.std.proofs.Common.{◌≡◌, ◌∙◌, ◌<◌, length, get_or, nat_lt, ap, sym, arith, ◌||◌}
-use Rattle.history.specs.Tasks.{is_blocked, is_ordered}
-use Rattle.history.specs.Seen.{freed}
+use Rattle.unit_model.specs.Tasks.{is_blocked, is_ordered}
+use Rattle.unit_model.specs.Seen.{freed}
 use Rattle.task_set.specs.Tasks.{PlainTask, entries_of, moved, blocked_where}
 use Rattle.task_set.proofs.Before.{blocked_at, ordered_more}
 use Rattle.task_set.proofs.Lists.{mapped_at, mapped_more, given_out, freed_by, given_by}

@@ -1,6 +1,6 @@
 use Rattle.std.proofs.Common.{◌≡◌, ◌++◌, ◌+◌, ◌≤◌, length, drop, take, map}
-use Rattle.history.specs.Tasks.{any_head_of_queue, any_ordered}
-use Rattle.history.specs.Seen.{freed}
+use Rattle.unit_model.specs.Tasks.{any_head_of_queue, any_ordered}
+use Rattle.unit_model.specs.Seen.{freed}
 use Rattle.task_set.specs.Tasks.{entries_of, moved, all_given}
 use Rattle.task_set.proofs.walks.free_all.Given as goal
 

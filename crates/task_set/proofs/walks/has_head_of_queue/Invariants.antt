@@ -1,5 +1,5 @@
 use Rattle.std.proofs.Common.{◌≡◌, drop}
-use Rattle.history.specs.Tasks.{any_head_of_queue}
+use Rattle.unit_model.specs.Tasks.{any_head_of_queue}
 use Rattle.task_set.specs.Tasks.{entries_of}
 use Rattle.task_set.proofs.walks.has_head_of_queue.Given as goal
 

@@ -1,5 +1,5 @@
 use Rattle.std.proofs.Common.{◌≡◌, drop}
-use Rattle.history.specs.Seen.{any_met}
+use Rattle.unit_model.specs.Seen.{any_met}
 use Rattle.task_set.specs.Tasks.{entries_of}
 use Rattle.task_set.proofs.walks.has_met.Given as goal
 

@@ -1,5 +1,5 @@
 use Rattle.std.proofs.Common.{◌≡◌, drop}
-use Rattle.history.specs.Seen.{any_before}
+use Rattle.unit_model.specs.Seen.{any_before}
 use Rattle.task_set.specs.Tasks.{seen_of}
 use Rattle.task_set.proofs.walks.has_met_before.Given as goal
 

@@ -5,7 +5,7 @@ use mir.Syntax.{of_param}
 use Rattle.std.proofs.Common.{◌≡◌, ◌∙◌, sym, ap, subst}
 use Rattle.std.specs.Arc.{arc_value}
 use Rattle.handoff.specs.Seats.{Hub, AreAllSeats}
-use Rattle.keeping.proofs.Crossing.{kept_sends}
+use Rattle.report.proofs.Crossing.{kept_sends}
 use Rattle.workers.proofs.Crossing.{post_sends, shared_sends, shared_syncs}
 use Rattle.workers.proofs.host.started.Goals as goal
 

@@ -2,7 +2,7 @@ use Rattle.std.proofs.Common.{◌≡◌, ◌≤◌, ℕ, ◌<◌, ◌++◌, ◌�
 use Rattle.std.specs.Option.{option_to_list}
 use Rattle.std.specs.Vec.Iter.{into_iter_items, into_iter_len}
 use Rattle.std.proofs.lemmas.List.{append_assoc}
-use Rattle.task_set.specs.Unit.{PlainUnit}
+use Rattle.unit_model.specs.Unit.{PlainUnit}
 use Rattle.world.specs.Opening.{AreDisksOf}
 use Rattle.world.proofs.AtOpening.{disks_more}
 use Rattle.world.proofs.opening.disks_of.Goals as goal

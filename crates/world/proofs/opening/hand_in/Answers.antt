@@ -2,7 +2,7 @@ use Rattle.std.proofs.Common.{◌≡◌, ◌≤◌, ℕ, ◌<◌, ◌++◌, ◌�
 use Rattle.std.specs.Prelude.{slice_get, slice_set}
 use Rattle.std.specs.Option.{option_to_list}
 use Rattle.std.proofs.lemmas.Option.{slice_get_read}
-use Rattle.task_set.specs.Unit.{PlainUnit}
+use Rattle.unit_model.specs.Unit.{PlainUnit}
 use Rattle.world.specs.Opening.{over_disks}
 use Rattle.world.proofs.AtOpening.{over_last, over_none, nothing_in}
 use Rattle.world.proofs.Setting.{everywhere_set, set_length}

@@ -1,6 +1,6 @@
 use Rattle.std.proofs.Common.{◌≡◌, ◌≤◌, ℕ, [], length}
-use Rattle.task_set.specs.Unit.{PlainUnit}
-use Rattle.deeds.specs.World.{Everywhere}
+use Rattle.unit_model.specs.Unit.{PlainUnit}
+use Rattle.device_model.specs.World.{Everywhere}
 use Rattle.world.specs.Opening.{over_disks}
 use Rattle.world.proofs.opening.hand_in.Given as goal
 

@@ -2,9 +2,9 @@ use Rattle.std.proofs.Common.{◌≡◌, ◌<◌, ℕ, length, Some}
 use Rattle.std.specs.Prelude.{slice_get}
 use Rattle.ring_core.specs.State.{features_of}
 use Rattle.ring_core.specs.declared.layout.Layout.{Layout}
-use Rattle.deeds.specs.Parts.{Slot}
+use Rattle.device_model.specs.Parts.{Slot}
 use Rattle.queues.specs.Queue.{opening_queue}
-use Rattle.queue_phases.specs.Queue.{with_slot}
+use Rattle.phases.specs.Queue.{with_slot}
 use Rattle.world.proofs.opening.open_bays.Given as goal
 
 abbrev pub invariant-loop-number : goal.invariant-loop-number

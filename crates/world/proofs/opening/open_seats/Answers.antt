@@ -1,5 +1,5 @@
 use Rattle.std.proofs.Common.{◌≡◌, ◌∷◌, ◌++◌, [], refl, arith, length-append}
-use Rattle.deeds.specs.Parts.{Hand}
+use Rattle.device_model.specs.Parts.{Hand}
 use Rattle.world.specs.Kept.{KeptSeat}
 use Rattle.world.proofs.AtOpening.{everywhere_more}
 use Rattle.world.proofs.opening.open_seats.Goals as goal
@@ -14,7 +14,7 @@ loop-number-preserved c =
           (omega (arith, length-append c.loop-number.seats.items (c.new.result ∷ []), c.loop-number.invariant.count));
       each =
           rw pushed
-          (everywhere_more (λ (s : KeptSeat). s ≡ record { hand = Hand.Free; jobs = []; limit = c.args.limit })
+          (everywhere_more (λ (s : KeptSeat). s ≡ record { hand = Hand.Empty; jobs = []; limit = c.args.limit })
           c.loop-number.seats.items c.new.result c.loop-number.invariant.each
           (rw (c.new.ensures, c.in_ok-out.ensures) refl));
     }

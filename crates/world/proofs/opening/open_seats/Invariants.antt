@@ -1,6 +1,6 @@
 use Rattle.std.proofs.Common.{◌≡◌, ℕ, [], length}
-use Rattle.deeds.specs.Parts.{Hand}
-use Rattle.deeds.specs.World.{Everywhere}
+use Rattle.device_model.specs.Parts.{Hand}
+use Rattle.device_model.specs.World.{Everywhere}
 use Rattle.world.specs.Kept.{KeptSeat}
 use Rattle.world.proofs.opening.open_seats.Given as goal
 
@@ -9,6 +9,6 @@ invariant-loop-number l =
     record {
       count : length l.seats.items ≡ l._number;
       each :
-          Everywhere (λ (k : ℕ) (s : KeptSeat). s ≡ record { hand = Hand.Free; jobs = []; limit = l.limit })
+          Everywhere (λ (k : ℕ) (s : KeptSeat). s ≡ record { hand = Hand.Empty; jobs = []; limit = l.limit })
           l.seats.items;
     }

@@ -1,5 +1,5 @@
 use Rattle.std.proofs.Common.{arith}
-use Rattle.deeds.specs.Lawful.{KeepsParts}
+use Rattle.device_model.specs.Lawful.{KeepsParts}
 use Rattle.world.proofs.sound.all_are_sound.Goals as goal
 
 pub returns : goal.returns

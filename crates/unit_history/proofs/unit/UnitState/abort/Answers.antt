@@ -1,15 +1,15 @@
 use Rattle.std.proofs.Common.{◌≤◌, ◌∷◌, refl, sym, ap, subst, ◌∙◌, arith}
-use Rattle.history.specs.declared.reason.Reason.TheVariants as reason
-use Rattle.history.specs.Seen.{struck}
+use Rattle.unit_model.specs.declared.reason.Reason.TheVariants as reason
+use Rattle.unit_model.specs.Seen.{with_mark}
 use Rattle.task_set.specs.Tasks.{seen_of}
 use Rattle.unit_history.specs.Parts.{AreBehind}
 use Rattle.unit_history.proofs.Basing.{based_way, behind_moved}
-use Rattle.history.specs.Steps.{Step}
+use Rattle.unit_model.specs.Steps.{Step}
 use Rattle.task_set.specs.Tasks.{parked_of}
 use Rattle.unit_history.proofs.Keeping.{few, may_abort, keep_abort}
 use Rattle.unit_history.proofs.Handing.{given_abort, parked_abort}
 use Rattle.unit_history.proofs.Stepping.{steps_is, handed_is}
-use Rattle.unit_history.proofs.Noting.{noted_on}
+use Rattle.unit_history.proofs.Noting.{recorded_on}
 use Rattle.unit_history.proofs.unit.UnitState.abort.Goals as goal
 
 pub mark-requires : goal.mark-requires
@@ -28,10 +28,10 @@ invariant_of-self-2 c =
           based_way _ n _ (Step.Abort c.args.rule) c.self.inside.log.steps _ (seen_of c.self.inside.tasks) _ refl
           (c.push.ensures.base ∙ c.in_ok-make_way.ensures.base) c.push.ensures.forgotten
           (c.push.ensures.steps ∙ ap (λ w. Step.Abort c.args.rule ∷ w) c.make_way.ensures.steps)
-          (λ le b. subst (λ ts. AreBehind n (seen_of ts)) (sym c.mark.ensures.tasks) (behind_moved (struck c.args.rule reason.Aborted) n c.self.inside.tasks (λ s. refl) b))
+          (λ le b. subst (λ ts. AreBehind n (seen_of ts)) (sym c.mark.ensures.tasks) (behind_moved (with_mark c.args.rule reason.Aborted) n c.self.inside.tasks (λ s. refl) b))
           (c.make_way.ensures.clear c.self.invariant.based.clear);
       sized = c.self.invariant.sized ∙ rw (c.push.ensures.steps, c.in_ok-make_way.ensures.steps) refl;
-      noted = noted_on _ (Step.Abort c.args.rule) c.self.inside.log.steps _ _ c.self.invariant.noted (λ b below out. (below, refl)) (c.push.ensures.steps ∙ ap (λ w. Step.Abort c.args.rule ∷ w) c.make_way.ensures.steps);
+      noted = recorded_on _ (Step.Abort c.args.rule) c.self.inside.log.steps _ _ c.self.invariant.noted (λ b below out. (below, refl)) (c.push.ensures.steps ∙ ap (λ w. Step.Abort c.args.rule ∷ w) c.make_way.ensures.steps);
     }
 
 pub returns-clause-step : goal.returns-clause-step

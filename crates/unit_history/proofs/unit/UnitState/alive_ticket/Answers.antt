@@ -1,7 +1,7 @@
 use Rattle.std.proofs.Common.{◌∙◌, ap, List}
 use Rattle.std.specs.Prelude.{slice_get}
 use Rattle.std.specs.Option.{option_map}
-use Rattle.history.specs.Tasks.{Entry}
+use Rattle.unit_model.specs.Tasks.{Entry}
 use Rattle.unit_history.proofs.Keeping.{entries_alive}
 use Rattle.unit_history.proofs.unit.UnitState.alive_ticket.Goals as goal
 

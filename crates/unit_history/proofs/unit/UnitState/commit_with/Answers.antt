@@ -1,16 +1,16 @@
-use Rattle.std.proofs.Common.{◌≡◌, true, false, ap, sym, subst, ◌∙◌, refl}
-use Rattle.history.specs.Seen.{finished}
+use Rattle.std.proofs.Common.{◌≡◌, ap, sym, subst, ◌∙◌, refl}
+use Rattle.unit_model.specs.Seen.{finished}
 use Rattle.unit_history.specs.Parts.{AreBehind}
 use Rattle.unit_history.proofs.Basing.{based_on, behind_moved, ran_folds, ran_sized}
 use Rattle.std.specs.Option.{option_copied}
 use Rattle.block_store.specs.Kept as pages
 use Rattle.block_commands.specs.Told.{facts_of}
 use Rattle.unit_history.specs.Fields.{opening_of}
-use Rattle.unit_steps.specs.Performing.{told, step_for}
+use Rattle.unit_history.specs.Performing.{told, step_for}
 use Rattle.task_set.specs.Tasks.{task_at, seen_of}
 use Rattle.unit_history.proofs.Keeping.{has_room, is_ready, told_is, task_at_alive}
 use Rattle.unit_history.proofs.Committing.{cannot_none, cannot_turn, is_of, is_aborted, keep_run, commits_run}
-use Rattle.unit_history.proofs.Noting.{noted_run}
+use Rattle.unit_history.proofs.Noting.{recorded_run}
 use Rattle.unit_history.proofs.unit.UnitState.commit_with.Goals as goal
 
 pub returns-in_default-clause-step : goal.returns-in_default-clause-step
@@ -30,7 +30,7 @@ invariant_of-self c =
     record {
       kept =
           rw (c.record_run.ensures.tasks, c.record_run.ensures.steps, c.perform-performed.ensures.facts)
-          (keep_run c.self.invariant.kept c.ticket-ticket.result c.in-Some.task.now.seen.entry true
+          (keep_run c.self.invariant.kept c.ticket-ticket.result c.in-Some.task.now.seen.entry c.keeps_replies-keeps.result
           (facts_of (told c.self.inside.facts c.self.inside.attentions) (c.self.inside.store.capacity)) c.perform-performed.result _ _ _
           (is_ready c.self.invariant.kept c.ticket-ticket.result c.in-Some.task.now at turns.1 turns.2 turns.3)
           (told_is c.self.invariant.kept c.self.inside.facts (c.self.inside.store.capacity) refl refl refl c.self.invariant.sized)
@@ -42,7 +42,7 @@ invariant_of-self c =
       sized = c.perform-performed.ensures.size ∙ c.self.invariant.sized ∙ sym (ran_sized (opening_of c.self.inside) c.ticket-ticket.result _ c.self.inside.log.steps _ c.record_run.ensures.steps);
       noted =
           rw (c.perform-performed.ensures.facts)
-          (noted_run (opening_of c.self.inside) c.ticket-ticket.result c.in-Some.task.now.seen.entry _ c.self.inside.log.steps _ _ _ _ c.self.invariant.noted
+          (recorded_run (opening_of c.self.inside) c.ticket-ticket.result c.in-Some.task.now.seen.entry _ c.self.inside.log.steps _ _ _ _ c.self.invariant.noted
           (task_at_alive c.self.invariant.kept c.ticket-ticket.result c.in-Some.task.now at).0
           (rw (c.command-command.ensures, c.data-bytes.ensures.data, c.len.ensures) at c.note_command.ensures)
           (c.capacity.ensures ∙ c.self.invariant.sized) c.record_run.ensures.steps);
@@ -64,11 +64,11 @@ returns-in-Aborted-clause-step c =
       refl,
     )
 
-pub returns-then-keeps_replies-clause-step : goal.returns-then-keeps_replies-clause-step
-returns-then-keeps_replies-clause-step c =
+pub returns-in-Ready-clause-step : goal.returns-in-Ready-clause-step
+returns-in-Ready-clause-step c =
     let at = ap (λ t. task_at t c.self.inside.tasks) (sym c.ticket-ticket.ensures.entry) ∙ sym c.task.ensures ∙ ap option_copied c.in-Some.is in
     let turns = c.in-Ready.ensures in
-    let keeps : c.self.inside.log.keeps ≡ true = sym c.keeps_replies.ensures ∙ c.if-keeps_replies.true in
+    let keeps : c.self.inside.log.keeps ≡ c.keeps_replies-keeps.result = sym c.keeps_replies-keeps.ensures in
     rw (
       ← c.self.view_is,
       c.record_run.ensures.outcome,
@@ -85,55 +85,3 @@ returns-then-keeps_replies-clause-step c =
     (is_ready c.self.invariant.kept c.args.job.now.entry.ticket c.in-Some.task.now at turns.1 turns.2 turns.3)
     (told_is c.self.invariant.kept c.self.inside.facts (c.self.inside.store.capacity) refl refl refl c.self.invariant.sized)
     (rw keeps (rw (c.command-command.ensures, c.data-bytes.ensures.data) at c.perform-performed.ensures.performed)))
-
-pub returns-else-keeps_replies-clause-step : goal.returns-else-keeps_replies-clause-step
-returns-else-keeps_replies-clause-step c =
-    let at = ap (λ t. task_at t c.self.inside.tasks) (sym c.ticket-ticket.ensures.entry) ∙ sym c.task.ensures ∙ ap option_copied c.in-Some.is in
-    let turns = c.in-Ready.ensures in
-    let keeps : c.self.inside.log.keeps ≡ false = sym c.keeps_replies.ensures ∙ c.if-keeps_replies.false in
-    rw (
-      ← c.self.view_is,
-      c.record_run-else-keeps_replies.ensures.outcome,
-      c.record_run-else-keeps_replies.ensures.tasks,
-      c.record_run-else-keeps_replies.ensures.steps,
-      c.record_run-else-keeps_replies.ensures.keeps,
-      c.perform-performed-else-keeps_replies.ensures.facts,
-      c.ticket-ticket.ensures.entry,
-    )
-    (commits_run c.self.invariant.kept c.args.job.now c.in-Some.task.now.seen.entry c.self.inside.log.keeps
-    (facts_of (told c.self.inside.facts c.self.inside.attentions) (c.self.inside.store.capacity)) c.perform-performed-else-keeps_replies.result
-    (pages.blocks_of c.perform-performed-else-keeps_replies.new.store.pages) c.perform-performed-else-keeps_replies.new.attentions
-    (is_of c.self.invariant.kept c.args.job.now c.in-Some.task.now at turns.0)
-    (is_ready c.self.invariant.kept c.args.job.now.entry.ticket c.in-Some.task.now at turns.1 turns.2 turns.3)
-    (told_is c.self.invariant.kept c.self.inside.facts (c.self.inside.store.capacity) refl refl refl c.self.invariant.sized)
-    (rw keeps (rw (c.command-command.ensures, c.data-bytes.ensures.data) at c.perform-performed-else-keeps_replies.ensures.performed)))
-
-pub record_run-requires-else-keeps_replies-clause-room : goal.record_run-requires-else-keeps_replies-clause-room
-record_run-requires-else-keeps_replies-clause-room c =
-    has_room c.self.invariant.kept c.ticket-ticket.result c.in-Some.task.now (sym c.task.ensures ∙ ap option_copied c.in-Some.is)
-
-pub invariant_of-self-else-keeps_replies : goal.invariant_of-self-else-keeps_replies
-invariant_of-self-else-keeps_replies c =
-    let at = sym c.task.ensures ∙ ap option_copied c.in-Some.is in
-    let turns = c.in-Ready.ensures in
-    let n = c.self.inside.log.forgotten in
-    record {
-      kept =
-          rw (c.record_run-else-keeps_replies.ensures.tasks, c.record_run-else-keeps_replies.ensures.steps, c.perform-performed-else-keeps_replies.ensures.facts)
-          (keep_run c.self.invariant.kept c.ticket-ticket.result c.in-Some.task.now.seen.entry false
-          (facts_of (told c.self.inside.facts c.self.inside.attentions) (c.self.inside.store.capacity)) c.perform-performed-else-keeps_replies.result _ _ _
-          (is_ready c.self.invariant.kept c.ticket-ticket.result c.in-Some.task.now at turns.1 turns.2 turns.3)
-          (told_is c.self.invariant.kept c.self.inside.facts (c.self.inside.store.capacity) refl refl refl c.self.invariant.sized)
-          (rw (c.command-command.ensures, c.data-bytes.ensures.data) at c.perform-performed-else-keeps_replies.ensures.performed) c.record_run-else-keeps_replies.ensures.room);
-      based =
-          based_on _ _ n _ (step_for c.ticket-ticket.result _) c.self.inside.log.steps _ (seen_of c.self.inside.tasks) _ c.self.invariant.based (ran_folds c.ticket-ticket.result _)
-          c.record_run-else-keeps_replies.ensures.base c.record_run-else-keeps_replies.ensures.forgotten c.record_run-else-keeps_replies.ensures.steps
-          (λ b. subst (λ ts. AreBehind n (seen_of ts)) (sym c.record_run-else-keeps_replies.ensures.tasks) (behind_moved (finished c.ticket-ticket.result) n c.self.inside.tasks (λ s. refl) b));
-      sized = c.perform-performed-else-keeps_replies.ensures.size ∙ c.self.invariant.sized ∙ sym (ran_sized (opening_of c.self.inside) c.ticket-ticket.result _ c.self.inside.log.steps _ c.record_run-else-keeps_replies.ensures.steps);
-      noted =
-          rw (c.perform-performed-else-keeps_replies.ensures.facts)
-          (noted_run (opening_of c.self.inside) c.ticket-ticket.result c.in-Some.task.now.seen.entry _ c.self.inside.log.steps _ _ _ _ c.self.invariant.noted
-          (task_at_alive c.self.invariant.kept c.ticket-ticket.result c.in-Some.task.now at).0
-          (rw (c.command-command.ensures, c.data-bytes.ensures.data, c.len.ensures) at c.note_command.ensures)
-          (c.capacity.ensures ∙ c.self.invariant.sized) c.record_run-else-keeps_replies.ensures.steps);
-    }

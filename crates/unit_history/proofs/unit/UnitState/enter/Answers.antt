@@ -1,12 +1,12 @@
 use Rattle.std.proofs.Common.{◌≡◌, ◌≤◌, ◌∷◌, List, length, refl, sym, ap, ◌∙◌, arith, subst}
 use Rattle.ring_core.specs.declared.log.Ticket.{Ticket}
-use Rattle.history.specs.Steps.{Step, floor}
+use Rattle.unit_model.specs.Steps.{Step, floor}
 use Rattle.unit_history.proofs.Keeping.{CameTo, fresh, keep_full, keep_enter}
 use Rattle.unit_history.proofs.Entering.{not_stale, came_then, enters_full, enters_task}
 use Rattle.task_set.specs.Tasks.{seen_of}
 use Rattle.unit_history.specs.Parts.{AreBehind}
 use Rattle.unit_history.proofs.Basing.{based_way, behind_entering}
-use Rattle.unit_history.proofs.Noting.{noted_on}
+use Rattle.unit_history.proofs.Noting.{recorded_on}
 use Rattle.unit_history.proofs.unit.UnitState.enter.Goals as goal
 
 pub enter-requires : goal.enter-requires
@@ -34,7 +34,7 @@ invariant_of-self-in-Err c =
           (c.make_way.ensures.clear c.self.invariant.based.clear);
       sized = c.self.invariant.sized ∙ rw (c.push.ensures.steps, c.in-Ok-make_way.ensures.steps) refl;
       noted =
-          noted_on _ (Step.Full c.ticket-ticket.result) c.self.inside.log.steps _ _ c.self.invariant.noted (λ b below out. (below, refl))
+          recorded_on _ (Step.Full c.ticket-ticket.result) c.self.inside.log.steps _ _ c.self.invariant.noted (λ b below out. (below, refl))
           (c.push.ensures.steps ∙ ap (λ w. Step.Full c.ticket-ticket.result ∷ w) c.make_way.ensures.steps);
     }
 
@@ -48,22 +48,22 @@ invariant_of-self-in-Ok-enter c =
     let at : c.len-place.result ≡ length c.self.inside.log.steps = c.len-place.ensures ∙ ap (λ (w : List Step). length w) c.make_way.ensures.steps in
     record {
       kept =
-          rw (c.push-in-Ok-enter.ensures.steps, c.noted_entry-entered.ensures, entered.1, c.len-place.ensures, c.in-Ok-make_way.ensures.steps)
+          rw (c.push-in-Ok-enter.ensures.steps, c.recorded_entry-entered.ensures, entered.1, c.len-place.ensures, c.in-Ok-make_way.ensures.steps)
           (keep_enter c.self.invariant.kept c.args.arrival _ _ entered.0 (subst (λ (n : Ticket). floor n.queue c.self.inside.log.steps ≤ n.number) t le)
-          (subst (λ (n : Ticket). CameTo n c.self.inside.lasts c.came.new.self) t
+          (subst (λ (n : Ticket). CameTo n c.self.inside.last_tickets c.came.new.self) t
           (came_then c.ticket-ticket.result _ _ _ c.in-Ok.ensures.same c.came.ensures))
           (omega (arith, room, c.push-in-Ok-enter.ensures.room)));
       based =
           based_way _ n _ (Step.Enter c.args.arrival.entry) c.self.inside.log.steps _ (seen_of c.self.inside.tasks) _ refl
           (c.push-in-Ok-enter.ensures.base ∙ c.in-Ok-make_way.ensures.base) c.push-in-Ok-enter.ensures.forgotten
-          (c.push-in-Ok-enter.ensures.steps ∙ ap (λ e. Step.Enter e ∷ c.make_way.new.log.steps) c.noted_entry-entered.ensures
+          (c.push-in-Ok-enter.ensures.steps ∙ ap (λ e. Step.Enter e ∷ c.make_way.new.log.steps) c.recorded_entry-entered.ensures
           ∙ ap (λ w. Step.Enter c.args.arrival.entry ∷ w) c.make_way.ensures.steps)
           (λ le b. subst (λ ts. AreBehind n (seen_of ts)) (sym entered.1) (behind_entering c.len-place.result n c.self.inside.tasks c.args.arrival (omega (arith, at, le)) b))
           (c.make_way.ensures.clear c.self.invariant.based.clear);
       sized = c.self.invariant.sized ∙ rw (c.push-in-Ok-enter.ensures.steps, c.in-Ok-make_way.ensures.steps) refl;
       noted =
-          noted_on _ (Step.Enter c.args.arrival.entry) c.self.inside.log.steps _ _ c.self.invariant.noted (λ b below out. (below, refl))
-          (c.push-in-Ok-enter.ensures.steps ∙ ap (λ e. Step.Enter e ∷ c.make_way.new.log.steps) c.noted_entry-entered.ensures
+          recorded_on _ (Step.Enter c.args.arrival.entry) c.self.inside.log.steps _ _ c.self.invariant.noted (λ b below out. (below, refl))
+          (c.push-in-Ok-enter.ensures.steps ∙ ap (λ e. Step.Enter e ∷ c.make_way.new.log.steps) c.recorded_entry-entered.ensures
           ∙ ap (λ w. Step.Enter c.args.arrival.entry ∷ w) c.make_way.ensures.steps);
     }
 
@@ -84,7 +84,7 @@ returns-in-Ok-enter c =
     let le = not_stale c.self.invariant.kept c.ticket-ticket.result c.is_stale.result c.is_stale.ensures c.if-is_stale.false in
     let entered = c.in-Ok-enter.ensures.ok in
     let steps : c.push-in-Ok-enter.new.self.steps ≡ Step.Enter c.args.arrival.entry ∷ c.self.inside.log.steps =
-    c.push-in-Ok-enter.ensures.steps ∙ ap (λ e. Step.Enter e ∷ c.make_way.new.log.steps) c.noted_entry-entered.ensures
+    c.push-in-Ok-enter.ensures.steps ∙ ap (λ e. Step.Enter e ∷ c.make_way.new.log.steps) c.recorded_entry-entered.ensures
     ∙ ap (λ w. Step.Enter c.args.arrival.entry ∷ w) c.in-Ok-make_way.ensures.steps in
     rw (c.of.ensures, ← c.self.view_is, entered.1)
     (enters_task c.self.invariant.kept c.args.arrival c.in-Ok-enter.job c.len-place.result _ _ _ entered.0

@@ -3,10 +3,10 @@ use Rattle.block_store.specs.Blocks.{zero_block}
 use Rattle.block_store.specs.Kept as pages
 use Rattle.block_store.specs.Pages.{blocks_in}
 use Rattle.block_store.specs.Padding.{length-blocks_in}
-use Rattle.task_set.specs.Unit.{PlainUnit}
+use Rattle.unit_model.specs.Unit.{PlainUnit}
 use Rattle.unit_history.specs.Fields.{content_of}
 use Rattle.unit_history.proofs.Opening.{content_blocks, opens_again}
-use Rattle.unit_history.proofs.Noting.{noted_again}
+use Rattle.unit_history.proofs.Noting.{recorded_again}
 use Rattle.unit_history.proofs.unit.UnitState.hand_in.Goals as goal
 
 pub invariant_of-self : goal.invariant_of-self
@@ -24,5 +24,5 @@ invariant_of-self c =
           ∙ ap (λ w. blocks_in (content_of w) b) (sym opened));
       based = c.self.invariant.based;
       sized = rw fresh c.resize.ensures.size;
-      noted = noted_again _ _ _ _ fresh c.self.invariant.noted;
+      noted = recorded_again _ _ _ _ fresh c.self.invariant.noted;
     }

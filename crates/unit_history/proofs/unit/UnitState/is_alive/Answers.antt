@@ -1,5 +1,5 @@
 use Rattle.std.proofs.Common.{◌∙◌, ap}
-use Rattle.history.specs.Seen.{any_met}
+use Rattle.unit_model.specs.Seen.{any_met}
 use Rattle.unit_history.proofs.Keeping.{entries_alive}
 use Rattle.unit_history.proofs.unit.UnitState.is_alive.Goals as goal
 

@@ -1,6 +1,6 @@
 use Rattle.std.proofs.Common.{refl, ap, sym, subst, ◌∙◌, arith}
-use Rattle.history.specs.Steps.{Step}
-use Rattle.history.specs.Seen.{freed}
+use Rattle.unit_model.specs.Steps.{Step}
+use Rattle.unit_model.specs.Seen.{freed}
 use Rattle.task_set.specs.Tasks.{seen_of, entries_of, without}
 use Rattle.unit_history.specs.Parts.{AreBehind}
 use Rattle.unit_history.proofs.Basing.{based_on, behind_moved, behind_without}
@@ -9,7 +9,7 @@ use Rattle.task_set.specs.Tasks.{parked_of}
 use Rattle.unit_history.proofs.Keeping.{few, has_room, may_leave, keep_leave}
 use Rattle.unit_history.proofs.Handing.{given_leave, parked_leave}
 use Rattle.unit_history.proofs.Stepping.{cannot_none, cannot_open, steps_is, handed_is}
-use Rattle.unit_history.proofs.Noting.{noted_on}
+use Rattle.unit_history.proofs.Noting.{recorded_on}
 use Rattle.unit_history.proofs.unit.UnitState.leave.Goals as goal
 
 pub returns-in_default-clause-unknown : goal.returns-in_default-clause-unknown
@@ -43,7 +43,7 @@ invariant_of-self c =
           (λ b. subst (λ ts. AreBehind n (seen_of ts)) (sym c.leave.ensures.tasks)
           (behind_moved (freed (entries_of (without t c.self.inside.tasks))) n (without t c.self.inside.tasks) (λ s. refl) (behind_without t n c.self.inside.tasks b)));
       sized = c.self.invariant.sized ∙ rw (c.push.ensures.steps) refl;
-      noted = noted_on _ (Step.Leave t) c.self.inside.log.steps _ _ c.self.invariant.noted (λ b below out. (below, refl)) c.push.ensures.steps;
+      noted = recorded_on _ (Step.Leave t) c.self.inside.log.steps _ _ c.self.invariant.noted (λ b below out. (below, refl)) c.push.ensures.steps;
     }
 
 pub returns-clause-step : goal.returns-clause-step

@@ -3,7 +3,7 @@ use Rattle.block_store.specs.Pages.{blocks_in}
 use Rattle.block_store.proofs.Paging.{blocks_in-none}
 use Rattle.unit_history.specs.Fields.{content_of}
 use Rattle.unit_history.proofs.Opening.{kept_new, based_new}
-use Rattle.unit_history.proofs.Noting.{noted_new}
+use Rattle.unit_history.proofs.Noting.{recorded_new}
 use Rattle.unit_history.proofs.unit.UnitState.new.Goals as goal
 
 pub invariant_of-result-2 : goal.invariant_of-result-2
@@ -14,5 +14,5 @@ invariant_of-result-2 c =
           (λ b. c.new.ensures.zeros b ∙ sym (ap (λ w. blocks_in (content_of w) b) c.new-2.ensures ∙ blocks_in-none b)) c.new-5.ensures;
       based = based_new _ _ _ _ c.new-4.ensures.steps c.new-3.ensures c.new-4.ensures.base c.new-4.ensures.forgotten;
       sized = rw (c.new-4.ensures.steps) c.new.ensures.capacity;
-      noted = noted_new _ _ _ c.new-4.ensures.steps c.since_place.ensures.since;
+      noted = recorded_new _ _ _ c.new-4.ensures.steps c.since_place.ensures.since;
     }

@@ -2,9 +2,9 @@ use Rattle.std.proofs.Common.{◌+◌, ◌≤◌, ◌++◌, ap, sym, ◌∙◌, 
 use Rattle.block_store.specs.Blocks.{run}
 use Rattle.block_store.specs.Kept as pages
 use Rattle.block_commands.proofs.Ranges.{run-agree}
-use Rattle.history.specs.Contents.{blocks_of, capacity_of}
+use Rattle.unit_model.specs.Contents.{blocks_of, capacity_of}
 use Rattle.unit_history.specs.Fields.{opening_of}
-use Rattle.task_set.specs.Unit.{PlainUnit}
+use Rattle.unit_model.specs.Unit.{PlainUnit}
 use Rattle.unit_history.proofs.unit.UnitState.read_blocks.Goals as goal
 
 pub returns-clause-ok : goal.returns-clause-ok

@@ -1,16 +1,16 @@
 use Rattle.std.proofs.Common.{◌≤◌, ◌∷◌, refl, sym, ap, subst, ◌∙◌, arith}
-use Rattle.history.specs.declared.reason.Reason.TheVariants as reason
-use Rattle.history.specs.declared.rule.Rule.TheVariants as rules
-use Rattle.history.specs.Seen.{struck}
+use Rattle.unit_model.specs.declared.reason.Reason.TheVariants as reason
+use Rattle.unit_model.specs.declared.rule.Rule.TheVariants as rules
+use Rattle.unit_model.specs.Seen.{with_mark}
 use Rattle.task_set.specs.Tasks.{seen_of}
 use Rattle.unit_history.specs.Parts.{AreBehind}
 use Rattle.unit_history.proofs.Basing.{based_way, behind_moved}
-use Rattle.history.specs.Steps.{Step}
+use Rattle.unit_model.specs.Steps.{Step}
 use Rattle.task_set.specs.Tasks.{parked_of}
 use Rattle.unit_history.proofs.Keeping.{few, may_reset, keep_reset}
 use Rattle.unit_history.proofs.Handing.{given_reset, parked_reset}
 use Rattle.unit_history.proofs.Stepping.{steps_is, handed_is}
-use Rattle.unit_history.proofs.Noting.{noted_on}
+use Rattle.unit_history.proofs.Noting.{recorded_on}
 use Rattle.unit_history.proofs.unit.UnitState.reset.Goals as goal
 
 pub mark-requires : goal.mark-requires
@@ -29,10 +29,10 @@ invariant_of-self-2 c =
           based_way _ n _ (Step.Reset c.args.code) c.self.inside.log.steps _ (seen_of c.self.inside.tasks) _ refl
           (c.push.ensures.base ∙ c.in_ok-make_way.ensures.base) c.push.ensures.forgotten
           (c.push.ensures.steps ∙ ap (λ w. Step.Reset c.args.code ∷ w) c.make_way.ensures.steps)
-          (λ le b. subst (λ ts. AreBehind n (seen_of ts)) (sym c.mark.ensures.tasks) (behind_moved (struck rules.All reason.Reset) n c.self.inside.tasks (λ s. refl) b))
+          (λ le b. subst (λ ts. AreBehind n (seen_of ts)) (sym c.mark.ensures.tasks) (behind_moved (with_mark rules.All reason.Reset) n c.self.inside.tasks (λ s. refl) b))
           (c.make_way.ensures.clear c.self.invariant.based.clear);
       sized = c.self.invariant.sized ∙ rw (c.push.ensures.steps, c.in_ok-make_way.ensures.steps) refl;
-      noted = noted_on _ (Step.Reset c.args.code) c.self.inside.log.steps _ _ c.self.invariant.noted (λ b below out. (below, refl)) (c.push.ensures.steps ∙ ap (λ w. Step.Reset c.args.code ∷ w) c.make_way.ensures.steps);
+      noted = recorded_on _ (Step.Reset c.args.code) c.self.inside.log.steps _ _ c.self.invariant.noted (λ b below out. (below, refl)) (c.push.ensures.steps ∙ ap (λ w. Step.Reset c.args.code ∷ w) c.make_way.ensures.steps);
     }
 
 pub returns-clause-step : goal.returns-clause-step

@@ -1,15 +1,15 @@
 use Rattle.std.proofs.Common.{◌≡◌, ◌≤◌, ◌∷◌, true, refl, sym, ap, ◌∙◌, arith, cond, nat_lt, min}
 use Rattle.block_store.specs.Blocks.{zero_block}
 use Rattle.block_store.specs.Kept as pages
-use Rattle.history.specs.Contents.{is_capacity}
-use Rattle.history.specs.Steps.{Step}
+use Rattle.unit_model.specs.Contents.{is_capacity}
+use Rattle.unit_model.specs.Steps.{Step}
 use Rattle.task_set.specs.Tasks.{seen_of}
 use Rattle.unit_history.proofs.Basing.{based_way}
 use Rattle.unit_history.proofs.Keeping.{may_resize, keep_resize}
 use Rattle.unit_history.proofs.Handing.{parked_resize}
 use Rattle.unit_history.proofs.Stepping.{steps_is}
 use Rattle.unit_history.specs.Fields.{opening_of}
-use Rattle.unit_history.proofs.Noting.{noted_resize}
+use Rattle.unit_history.proofs.Noting.{recorded_resize}
 use Rattle.unit_history.proofs.unit.UnitState.resize.Goals as goal
 
 pub invariant_of-self-2 : goal.invariant_of-self-2
@@ -32,7 +32,7 @@ invariant_of-self-2 c =
           (λ le b. b) (c.make_way.ensures.clear c.self.invariant.based.clear);
       sized = rw (c.push.ensures.steps) c.resize.ensures.size;
       noted =
-          noted_resize (opening_of u) c.args.blocks u.log.steps _ _ _ c.self.invariant.noted
+          recorded_resize (opening_of u) c.args.blocks u.log.steps _ _ _ c.self.invariant.noted
           (rw (c.capacity.ensures, c.self.invariant.sized, c.len-place.ensures, c.make_way.ensures.steps) at c.note_growth.ensures.notes)
           (c.push.ensures.steps ∙ ap (λ w. Step.Resize c.args.blocks ∷ w) c.make_way.ensures.steps);
     }

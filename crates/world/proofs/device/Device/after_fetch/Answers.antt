@@ -1,6 +1,6 @@
 use Rattle.std.proofs.Common.{inr, refl, sym, ap, ◌∙◌, ◌<◌, is_some, arith}
 use Rattle.std.proofs.lemmas.Option.{slice_get_read}
-use Rattle.deeds.specs.World.{PlainQueue}
+use Rattle.device_model.specs.World.{PlainQueue}
 use Rattle.world.proofs.Choosing.{option_none}
 use Rattle.world.proofs.Woken.{arrived_there}
 use Rattle.world.proofs.device.Device.after_fetch.Goals as goal

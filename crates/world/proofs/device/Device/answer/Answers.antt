@@ -1,9 +1,9 @@
 use Rattle.std.proofs.Common.{◌≡◌, is_some, Some, sym, subst, ap, refl, ◌∙◌, length, arith}
-use Rattle.deeds.specs.Events.{Event}
-use Rattle.deeds.specs.Turns.{Turns}
+use Rattle.device_model.specs.Events.{Event}
+use Rattle.device_model.specs.Turns.{Turns}
 use Rattle.phases.specs.Parts.{answering_queue}
-use Rattle.queue_phases.specs.Slots.{slot_of}
-use Rattle.queue_phases.specs.Queue.{with_slot}
+use Rattle.phases.specs.Slots.{slot_of}
+use Rattle.phases.specs.Queue.{with_slot}
 use Rattle.world.specs.Kept.{KeptSeat}
 use Rattle.world.specs.Sound.{IsSound}
 use Rattle.world.specs.contracts.device.Device.{the_view}

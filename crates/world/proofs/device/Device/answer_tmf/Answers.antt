@@ -1,7 +1,7 @@
 use Rattle.std.proofs.Common.{◌≡◌, ◌<◌, length, refl, ◌∙◌, sym}
 use Rattle.std.proofs.lemmas.Option.{slice_get_read}
-use Rattle.deeds.specs.World.{PlainQueue}
-use Rattle.queue_phases.specs.Slots.{slot_of}
+use Rattle.device_model.specs.World.{PlainQueue}
+use Rattle.phases.specs.Slots.{slot_of}
 use Rattle.world.proofs.Placing.{everywhere_set, some_there}
 use Rattle.world.proofs.Responds.{respond_turns, respond_memory}
 use Rattle.world.proofs.device.Device.answer_tmf.Goals as goal

@@ -1,6 +1,6 @@
 use Rattle.std.proofs.Common.{◌≡◌, Some, sym, subst, ap, refl, ◌∙◌, length, arith}
-use Rattle.deeds.specs.Events.{Event}
-use Rattle.deeds.specs.Turns.{Turns}
+use Rattle.device_model.specs.Events.{Event}
+use Rattle.device_model.specs.Turns.{Turns}
 use Rattle.phases.specs.Parts.{committing_unit}
 use Rattle.world.specs.Kept.{KeptSeat}
 use Rattle.world.specs.Sound.{IsSound}

@@ -1,8 +1,8 @@
 use Rattle.std.proofs.Common.{◌≡◌, is_some, sym, subst, length, arith}
-use Rattle.deeds.specs.Events.{Event}
-use Rattle.deeds.specs.Turns.{Turns}
-use Rattle.queue_phases.specs.Slots.{slot_of}
-use Rattle.queue_phases.specs.Queue.{with_slot}
+use Rattle.device_model.specs.Events.{Event}
+use Rattle.device_model.specs.Turns.{Turns}
+use Rattle.phases.specs.Slots.{slot_of}
+use Rattle.phases.specs.Queue.{with_slot}
 use Rattle.world.specs.Sound.{IsSound}
 use Rattle.world.specs.contracts.device.Device.{the_view}
 use Rattle.world.proofs.Seats.{keeps_queue, found}

@@ -1,10 +1,10 @@
 use Rattle.std.proofs.Common.{◌≡◌, Some, refl, sym, ap, subst, ◌∙◌}
 use Rattle.std.specs.Prelude.{slice_get}
 use Rattle.std.proofs.lemmas.Option.{slice_get_read}
-use Rattle.deeds.specs.World.{PlainQueue}
-use Rattle.deeds.specs.Events.{Event as PlainEvent}
-use Rattle.deeds.proofs.Lists.{same}
-use Rattle.queue_phases.specs.Slots.{slot_of, arrived_unit}
+use Rattle.device_model.specs.World.{PlainQueue}
+use Rattle.device_model.specs.Events.{Event as PlainEvent}
+use Rattle.device_model.proofs.Lists.{same}
+use Rattle.phases.specs.Slots.{slot_of, arrived_unit}
 use Rattle.world.specs.Kept.{KeptSeat}
 use Rattle.world.specs.Sound.{IsSound}
 use Rattle.world.specs.contracts.device.Device as seen

@@ -1,6 +1,6 @@
 use Rattle.std.proofs.Common.{◌≡◌, ◌<◌, ℕ, length, refl, ◌∙◌}
 use Rattle.std.proofs.lemmas.Option.{slice_get_read}
-use Rattle.deeds.specs.World.{PlainQueue}
+use Rattle.device_model.specs.World.{PlainQueue}
 use Rattle.world.proofs.Fetches.{control_turns, control_memory}
 use Rattle.world.proofs.Placing.{everywhere_set, some_there}
 use Rattle.world.proofs.device.Device.fetch_control.Goals as goal

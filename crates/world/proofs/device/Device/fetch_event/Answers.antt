@@ -1,6 +1,6 @@
 use Rattle.std.proofs.Common.{◌≡◌, ◌<◌, length, refl, sym, ◌∙◌, arith}
 use Rattle.std.proofs.lemmas.Option.{slice_get_read}
-use Rattle.deeds.specs.World.{PlainQueue}
+use Rattle.device_model.specs.World.{PlainQueue}
 use Rattle.world.proofs.Buffering.{event_turns, event_memory, event_limit, may_hold}
 use Rattle.world.proofs.Placing.{everywhere_set}
 use Rattle.world.proofs.device.Device.fetch_event.Goals as goal

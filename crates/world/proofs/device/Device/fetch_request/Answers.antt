@@ -1,6 +1,6 @@
 use Rattle.std.proofs.Common.{◌≡◌, ◌<◌, length, arith, ◌∙◌}
 use Rattle.std.proofs.lemmas.Option.{slice_get_read}
-use Rattle.deeds.specs.World.{PlainQueue}
+use Rattle.device_model.specs.World.{PlainQueue}
 use Rattle.world.proofs.Fetches.{request_turns, request_memory}
 use Rattle.world.proofs.Placing.{everywhere_set}
 use Rattle.world.proofs.device.Device.fetch_request.Goals as goal

@@ -1,7 +1,7 @@
 use Rattle.std.proofs.Common.{◌≡◌, ◌∙◌, refl, sym, ap, subst, length, arith}
-use Rattle.deeds.specs.Events.{Event}
-use Rattle.deeds.specs.Applies.{Applies}
-use Rattle.deeds.specs.World.{PlainWorld}
+use Rattle.device_model.specs.Events.{Event}
+use Rattle.device_model.specs.Applies.{Applies}
+use Rattle.device_model.specs.World.{PlainWorld}
 use Rattle.world.specs.Cursors.{TurnsNext, NoStart, NoneBefore, NoDirectBelow, direct_from}
 use Rattle.world.proofs.Choosing.{idle, and_next}
 use Rattle.world.specs.declared.cursor.Cursor.TheVariants as cursor

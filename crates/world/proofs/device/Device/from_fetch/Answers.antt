@@ -1,7 +1,7 @@
 use Rattle.std.proofs.Common.{◌≡◌, ◌∙◌, true, refl, sym, subst, ap, length, arith}
-use Rattle.deeds.specs.Events.{Event}
-use Rattle.deeds.specs.Applies.{Applies}
-use Rattle.deeds.specs.World.{PlainWorld}
+use Rattle.device_model.specs.Events.{Event}
+use Rattle.device_model.specs.Applies.{Applies}
+use Rattle.device_model.specs.World.{PlainWorld}
 use Rattle.world.specs.Cursors.{ServesNext, NoneBeforeFetch, NoFetchBelow}
 use Rattle.world.specs.Sound.{AreFew, IsSound, IsWhole}
 use Rattle.world.specs.Settling.{asks}

@@ -1,6 +1,6 @@
 use Rattle.std.proofs.Common.{◌≡◌, ◌∙◌, refl, sym, ap, subst, length, arith}
-use Rattle.settling.specs.Order.{of_seat, NoneApplies}
-use Rattle.deeds.specs.World.{PlainWorld}
+use Rattle.device_model.specs.Order.{of_seat, NoneApplies}
+use Rattle.device_model.specs.World.{PlainWorld}
 use Rattle.std.proofs.lemmas.List.{length-map}
 use Rattle.world.specs.Kept.{seat_of}
 use Rattle.world.specs.Cursors.{TurnsNext, NoStart, NoDirect, NoneBefore, NoSeatBelow, seat_from}

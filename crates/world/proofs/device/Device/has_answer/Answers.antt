@@ -1,9 +1,9 @@
 use Rattle.std.proofs.Common.{◌≡◌, ◌<◌, Some, sym, ap, subst, ◌∙◌, length, arith}
 use Rattle.std.specs.Prelude.{slice_get}
 use Rattle.std.proofs.lemmas.Option.{slice_get_read}
-use Rattle.deeds.specs.Events.{Event}
-use Rattle.deeds.specs.Applies.{Applies}
-use Rattle.deeds.specs.World.{PlainWorld, PlainQueue}
+use Rattle.device_model.specs.Events.{Event}
+use Rattle.device_model.specs.Applies.{Applies}
+use Rattle.device_model.specs.World.{PlainWorld, PlainQueue}
 use Rattle.world.specs.contracts.device.Device.{the_view}
 use Rattle.world.proofs.Choosing.{and_next}
 use Rattle.world.proofs.Looks.{ready_there, no_ready, queue_read}
@@ -18,15 +18,15 @@ loop-number-init c =
       all = end ∙ ap (λ (w : PlainWorld). length w.queues) c.self.view_is;
     }
 
-pub returns-then-is_ready : goal.returns-then-is_ready
-returns-then-is_ready c =
+pub returns-then-is_direct : goal.returns-then-is_direct
+returns-then-is_direct c =
     let d = c.self.inside in
     let w = c.args.self.now in
     let n = c.loop-number.number in
     let at : slice_get w.queues n ≡ Some c.index.result.now =
     queue_read w d.bays.items d.bays.len n c.index.result.now (ap (λ (z : PlainWorld). z.queues) (sym c.self.view_is))
     d.bays.ok.0 (omega (arith, c.loop-number-test.true, c.loop-number.invariant.all)) c.index.ensures in
-    let applies = ready_there w n c.index.result.now at (sym c.is_ready.ensures ∙ c.if-is_ready.true) in
+    let applies = ready_there w n c.index.result.now at (sym c.is_direct.ensures ∙ c.if-is_direct.true) in
     λ none. none n (omega (arith, c.loop-number-test.true, c.loop-number.invariant.all)) applies
 
 pub loop-number-preserved : goal.loop-number-preserved
@@ -39,7 +39,7 @@ loop-number-preserved c =
     d.bays.ok.0 (omega (arith, c.loop-number-test.true, c.loop-number.invariant.all)) c.index.ensures in
     record {
       below = and_next (λ i. Applies w (Event.Direct i) → ⊥) n c.loop-number.invariant.below
-          (no_ready w n c.index.result.now at (sym c.is_ready.ensures ∙ c.if-is_ready.false));
+          (no_ready w n c.index.result.now at (sym c.is_direct.ensures ∙ c.if-is_direct.false));
       all = c.loop-number.invariant.all;
     }
 

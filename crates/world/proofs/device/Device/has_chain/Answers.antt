@@ -1,7 +1,7 @@
 use Rattle.std.proofs.Common.{◌≡◌, ◌<◌, true, sym, ap, ◌∙◌, length, arith}
-use Rattle.deeds.specs.Events.{Event}
-use Rattle.deeds.specs.Applies.{Applies}
-use Rattle.deeds.specs.World.{PlainWorld}
+use Rattle.device_model.specs.Events.{Event}
+use Rattle.device_model.specs.Applies.{Applies}
+use Rattle.device_model.specs.World.{PlainWorld}
 use Rattle.world.specs.Settling.{asks}
 use Rattle.world.proofs.Choosing.{and_next}
 use Rattle.world.proofs.Looks.{denied_by, told}

@@ -1,9 +1,9 @@
 use Rattle.std.proofs.Common.{◌≡◌, sym, ap, ◌∙◌}
 use Rattle.std.specs.Prelude.{slice_get}
-use Rattle.deeds.specs.World.{PlainWorld}
-use Rattle.settling.specs.Order.{IsQuietOf, NoneApplies}
-use Rattle.deeds.specs.Events.{Event}
-use Rattle.deeds.specs.Applies.{Applies}
+use Rattle.device_model.specs.World.{PlainWorld}
+use Rattle.device_model.specs.Order.{IsQuietOf, NoneApplies}
+use Rattle.device_model.specs.Events.{Event}
+use Rattle.device_model.specs.Applies.{Applies}
 use Rattle.world.specs.Cursors.{of_function, NoDirect, NoSeat, NoEnter}
 use Rattle.world.specs.Settling.{asks}
 use Rattle.world.proofs.Looks.{denied, told, raised, no_raise, function_quiet, raise_quiet, direct_quiet, seat_quiet, enter_quiet, last_look}

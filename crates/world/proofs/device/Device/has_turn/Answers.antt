@@ -1,7 +1,7 @@
 use Rattle.std.proofs.Common.{◌≡◌, ◌<◌, sym, ap, ◌∙◌, length, arith}
 use Rattle.std.proofs.lemmas.List.{length-map}
-use Rattle.settling.specs.Order.{of_seat, NoneApplies}
-use Rattle.deeds.specs.World.{PlainWorld}
+use Rattle.device_model.specs.Order.{of_seat, NoneApplies}
+use Rattle.device_model.specs.World.{PlainWorld}
 use Rattle.world.specs.Kept.{seat_of}
 use Rattle.world.proofs.Choosing.{and_next}
 use Rattle.world.proofs.Looks.{denied_by, told}

@@ -1,6 +1,6 @@
 use Rattle.std.proofs.Common.{is_some, ap, ◌∙◌, arith}
 use Rattle.std.proofs.lemmas.Bool.Decides.{nat_tests}
-use Rattle.deeds.specs.World.{PlainWorld}
+use Rattle.device_model.specs.World.{PlainWorld}
 use Rattle.world.proofs.Looks.{open_other, closed_so}
 use Rattle.world.proofs.device.Device.is_closed_to.Goals as goal
 

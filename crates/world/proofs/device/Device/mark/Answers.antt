@@ -2,9 +2,9 @@ use Rattle.std.proofs.Common.{◌≡◌, ◌<◌, ◌+◌, Some, refl, sym, ap, 
 use Rattle.std.specs.Prelude.{slice_get, length}
 use Rattle.std.proofs.lemmas.Option.{slice_get_read}
 use Rattle.task_mgmt.specs.Functions.{PlainFunction}
-use Rattle.deeds.specs.World.{PlainWorld}
-use Rattle.deeds.specs.Events.{Event as PlainEvent}
-use Rattle.deeds.specs.Standing.{HaveRoom}
+use Rattle.device_model.specs.World.{PlainWorld}
+use Rattle.device_model.specs.Events.{Event as PlainEvent}
+use Rattle.device_model.specs.Standing.{HaveRoom}
 use Rattle.world.specs.Kept.{KeptSeat}
 use Rattle.world.specs.contracts.device.Device as seen
 use Rattle.world.specs.contracts.seat.Seat as seat

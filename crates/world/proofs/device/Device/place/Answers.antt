@@ -1,8 +1,8 @@
 use Rattle.std.proofs.Common.{◌≡◌, Some, true≢false, sym, ap, ◌∙◌, inl, inr}
 use Rattle.std.specs.Prelude.{slice_get}
 use Rattle.std.proofs.lemmas.Option.{slice_get_read}
-use Rattle.task_set.specs.Unit.{PlainUnit}
-use Rattle.deeds.proofs.Lists.{same}
+use Rattle.unit_model.specs.Unit.{PlainUnit}
+use Rattle.device_model.proofs.Lists.{same}
 use Rattle.world.proofs.Choosing.{below_next}
 use Rattle.world.proofs.device.Device.place.Goals as goal
 

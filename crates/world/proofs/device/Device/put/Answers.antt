@@ -1,10 +1,10 @@
 use Rattle.std.proofs.Common.{◌≡◌, true, false, Some, refl, sym, ap, ◌∙◌, arith}
 use Rattle.std.specs.Prelude.{slice_get}
 use Rattle.std.proofs.lemmas.Option.{slice_get_read}
-use Rattle.task_set.specs.Jobs.{PlainJob}
-use Rattle.deeds.specs.Parts.{Hand}
-use Rattle.deeds.specs.Events.{Event as PlainEvent}
-use Rattle.deeds.proofs.Lists.{same}
+use Rattle.unit_model.specs.Jobs.{PlainJob}
+use Rattle.device_model.specs.Parts.{Hand}
+use Rattle.device_model.specs.Events.{Event as PlainEvent}
+use Rattle.device_model.proofs.Lists.{same}
 use Rattle.world.specs.Kept.{KeptSeat}
 use Rattle.world.specs.contracts.device.Device as seen
 use Rattle.world.proofs.Setting.{seat_kept, turns_seen}
@@ -57,8 +57,8 @@ returns-in_default-put c =
     let before : slice_get kept k ≡ Some c.index.result.now =
     slice_get_read kept c.len.result k c.index.result.now (c.len.ensures ∙ c.self.inside.seats.ok.0)
     c.if-at-len.false c.index.ensures in
-    let free : s.hand ≡ Hand.Free =
-    ap (λ (z : KeptSeat). z.hand) (same (sym at ∙ before)) ∙ c.if-not-is_free.ensures.0 refl in
+    let free : s.hand ≡ Hand.Empty =
+    ap (λ (z : KeptSeat). z.hand) (same (sym at ∙ before)) ∙ c.if-not-has_empty_hand.ensures.0 refl in
     turns_seen _ _ (PlainEvent.Put k) true _ c.self.view_is
     (puts (seen.the_view c.self.inside) kept refl k s c.next.new.self at c.in-Some.job c.put.new.self free
     (sym c.next.ensures.first ∙ c.in-Some.is) c.next.ensures.rest c.in_default-put.ensures.put)
@@ -74,8 +74,8 @@ returns c =
     let before : slice_get kept k ≡ Some c.index.result.now =
     slice_get_read kept c.len.result k c.index.result.now (c.len.ensures ∙ c.self.inside.seats.ok.0)
     c.if-at-len.false c.index.ensures in
-    let free : s.hand ≡ Hand.Free =
-    ap (λ (z : KeptSeat). z.hand) (same (sym at ∙ before)) ∙ c.if-not-is_free.ensures.0 refl in
+    let free : s.hand ≡ Hand.Empty =
+    ap (λ (z : KeptSeat). z.hand) (same (sym at ∙ before)) ∙ c.if-not-has_empty_hand.ensures.0 refl in
     turns_seen _ _ (PlainEvent.Put k) true _ c.self.view_is
     (keeps (seen.the_view c.self.inside) kept refl k s c.hold.new.self at c.in-Some.job c.put.new.self free
     (sym c.next.ensures.first ∙ c.in-Some.is)

@@ -1,7 +1,7 @@
 use Rattle.std.proofs.Common.{◌≡◌, ◌<◌, true, refl, sym, ap, ◌∙◌, subst, length, Some, ℕ, arith}
 use Rattle.std.specs.Prelude.{slice_get}
-use Rattle.deeds.specs.World.{PlainWorld, PlainQueue}
-use Rattle.deeds.specs.Happens.{IsOpenTo}
+use Rattle.device_model.specs.World.{PlainWorld, PlainQueue}
+use Rattle.device_model.specs.Happens.{IsOpenTo}
 use Rattle.world.specs.Settling.{asks}
 use Rattle.world.specs.contracts.device.Device.{the_view}
 use Rattle.world.proofs.Looks.{false_true, told, chain_look, queue_read}

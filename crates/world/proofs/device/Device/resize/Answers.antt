@@ -2,8 +2,8 @@ use Rattle.std.proofs.Common.{◌≡◌, Bool, Some, Result, Err, sym, ap, subst
 use Rattle.std.specs.Prelude.{slice_get}
 use Rattle.std.proofs.lemmas.Option.{slice_get_read}
 use Rattle.block_store.specs.declared.NoMemory.{NoMemory}
-use Rattle.unit_history.specs.declared.answers.ResizeFault.{ResizeFault}
-use Rattle.deeds.specs.Events.{Event}
+use Rattle.unit_history.specs.declared.outcomes.ResizeFault.{ResizeFault}
+use Rattle.device_model.specs.Events.{Event}
 use Rattle.world.specs.Steps.{TurnsOrWants}
 use Rattle.world.specs.contracts.device.Device as seen
 use Rattle.world.proofs.Resizing.{told_as, resized_in, resizes}

@@ -2,15 +2,15 @@ use Rattle.std.proofs.Common.{◌≡◌, ◌<◌, refl, sym, subst, length, arit
 use Rattle.std.specs.Prelude.{map}
 use Rattle.std.proofs.lemmas.List.{length-map}
 use Rattle.std.proofs.lemmas.Option.{slice_get_read}
-use Rattle.deeds.specs.World.{PlainWorld}
+use Rattle.device_model.specs.World.{PlainWorld}
 use Rattle.world.specs.Kept.{KeptSeat, seat_of}
 use Rattle.world.specs.contracts.device.Device.{the_view}
 use Rattle.world.proofs.Seats.{shown}
 use Rattle.world.proofs.Looks.{false_true, hand_steps, job_steps, idle_there, no_worker, takes}
 use Rattle.world.proofs.device.Device.seat_goes_on.Goals as goal
 
-pub returns-then-not-is_free : goal.returns-then-not-is_free
-returns-then-not-is_free c =
+pub returns-then-not-has_empty_hand : goal.returns-then-not-has_empty_hand
+returns-then-not-has_empty_hand c =
     let d = c.self.inside in
     let k = c.args.number in
     let s : KeptSeat = c.index-seat.result.now in
@@ -20,7 +20,7 @@ returns-then-not-is_free c =
     (slice_get_read d.seats.items d.seats.len k s d.seats.ok.0
     (omega (arith, there, d.seats.ok.0, length-map d.seats.items seat_of)) c.index-seat.ensures) in
     rw (← c.self.view_is)
-    (hand_steps (the_view d) k s.hand s.jobs at (λ free. false_true (c.if-not-is_free.ensures.1 free)))
+    (hand_steps (the_view d) k s.hand s.jobs at (λ free. false_true (c.if-not-has_empty_hand.ensures.1 free)))
 
 pub returns-then-not-is_idle : goal.returns-then-not-is_idle
 returns-then-not-is_idle c =
@@ -33,7 +33,7 @@ returns-then-not-is_idle c =
     (slice_get_read d.seats.items d.seats.len k s d.seats.ok.0
     (omega (arith, there, d.seats.ok.0, length-map d.seats.items seat_of)) c.index-seat.ensures) in
     rw (← c.self.view_is)
-    (job_steps (the_view d) k s.hand s.jobs at (c.if-not-is_free.ensures.0 refl)
+    (job_steps (the_view d) k s.hand s.jobs at (c.if-not-has_empty_hand.ensures.0 refl)
     (λ idle. false_true (c.if-not-is_idle.ensures.1 idle)))
 
 pub returns-then-number-self : goal.returns-then-number-self

@@ -2,12 +2,12 @@ use Rattle.std.proofs.Common.{ℕ, true, false, ◌∷◌, ◌≡◌, ◌∙◌,
 use Rattle.std.specs.Prelude.{slice_get, slice_set, map, drop}
 use Rattle.std.proofs.lemmas.Option.{slice_get_read, slice_get_within}
 use Rattle.std.proofs.lemmas.List.{length-map}
-use Rattle.deeds.specs.World.{PlainQueue}
-use Rattle.deeds.specs.Parts.{Slot, Hand}
-use Rattle.queue_phases.specs.Slots.{slot_of}
-use Rattle.queue_phases.specs.Queue.{with_slot}
+use Rattle.device_model.specs.World.{PlainQueue}
+use Rattle.device_model.specs.Parts.{Slot, Hand}
+use Rattle.phases.specs.Slots.{slot_of}
+use Rattle.phases.specs.Queue.{with_slot}
 use Rattle.world.specs.Kept.{KeptSeat, seat_of}
-use Rattle.task_set.specs.Jobs.{Jobs}
+use Rattle.unit_model.specs.Jobs.{Jobs}
 use Rattle.phases.specs.Serving.{Serves}
 use Rattle.world.specs.declared.cursor.Progress.{Progress}
 use Rattle.world.specs.Sound.{IsWhole}
@@ -203,7 +203,7 @@ returns-else-place-len c =
     let before = subst NoneBeforeFetch (sym c.self.view_is) c.requires.before in
     let below = subst (NoFetchBelow (asks c.args.queues) k) (sym c.self.view_is) c.requires.below in
     let bare_is = seat_bare w k d.seats.items s refl seat_at may in
-    let kept : d.seats.items ≡ bare Hand.Free s.limit ∷ drop 1 d.seats.items =
+    let kept : d.seats.items ≡ bare Hand.Empty s.limit ∷ drop 1 d.seats.items =
     begins d.seats.items s seat_at ∙ ap (λ (z : KeptSeat). z ∷ drop 1 d.seats.items) bare_is in
     let out' = done.new.out in
     let s' = slot_of done.new.slot in

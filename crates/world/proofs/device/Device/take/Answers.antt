@@ -1,8 +1,8 @@
 use Rattle.std.proofs.Common.{◌≡◌, true, Some, refl, sym, ap, ◌∙◌}
 use Rattle.std.specs.Prelude.{slice_get}
 use Rattle.std.proofs.lemmas.Option.{slice_get_read}
-use Rattle.deeds.specs.Events.{Event as PlainEvent}
-use Rattle.deeds.proofs.Lists.{same}
+use Rattle.device_model.specs.Events.{Event as PlainEvent}
+use Rattle.device_model.proofs.Lists.{same}
 use Rattle.world.specs.Kept.{KeptSeat}
 use Rattle.world.specs.contracts.device.Device as seen
 use Rattle.world.proofs.Setting.{seat_kept, turns_seen}

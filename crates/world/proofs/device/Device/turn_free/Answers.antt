@@ -1,6 +1,6 @@
 use Rattle.std.proofs.Common.{refl, inl, inr}
-use Rattle.settling.specs.Order.{of_seat}
-use Rattle.deeds.specs.Events.{Event}
+use Rattle.device_model.specs.Order.{of_seat}
+use Rattle.device_model.specs.Events.{Event}
 use Rattle.world.proofs.Choosing.{idle, last}
 use Rattle.world.proofs.Stages as stages
 use Rattle.world.proofs.device.Device.turn_free.Goals as goal

@@ -1,6 +1,6 @@
 use Rattle.std.proofs.Common.{inl, inr, refl, sym, ap, ◌∙◌}
-use Rattle.deeds.specs.World.{PlainWorld}
-use Rattle.deeds.specs.Events.{Event}
+use Rattle.device_model.specs.World.{PlainWorld}
+use Rattle.device_model.specs.Events.{Event}
 use Rattle.world.specs.Cursors.{of_function}
 use Rattle.world.proofs.Choosing.{done, idle, last, option_none, none_open}
 use Rattle.world.proofs.device.Device.turn_function.Goals as goal

@@ -1,7 +1,7 @@
 use Rattle.std.proofs.Common.{◌≡◌, Some, sym, ap, subst, ◌∙◌}
 use Rattle.std.specs.Prelude.{slice_get}
 use Rattle.std.proofs.lemmas.Option.{slice_get_read}
-use Rattle.deeds.specs.World.{PlainWorld}
+use Rattle.device_model.specs.World.{PlainWorld}
 use Rattle.world.proofs.Finding.{find_here}
 use Rattle.world.proofs.device.Device.unit_place.Goals as goal
 

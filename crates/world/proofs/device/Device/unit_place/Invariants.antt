@@ -1,6 +1,6 @@
 use Rattle.std.proofs.Common.{◌≡◌, length}
 use Rattle.std.specs.Prelude.{drop, find, ◌==◌, ◌&&◌}
-use Rattle.task_set.specs.Unit.{PlainUnit}
+use Rattle.unit_model.specs.Unit.{PlainUnit}
 use Rattle.world.specs.Views.{unit_at}
 use Rattle.world.proofs.device.Device.unit_place.Given as goal
 

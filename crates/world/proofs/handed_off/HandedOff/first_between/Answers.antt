@@ -1,7 +1,7 @@
 use Rattle.std.proofs.Common.{◌≡◌, ◌<◌, length, Some, refl, sym, ap, ◌∙◌, inl, inr, arith}
 use Rattle.std.specs.Prelude.{slice_get}
 use Rattle.std.proofs.lemmas.List.{length-map}
-use Rattle.deeds.proofs.Lists.{same}
+use Rattle.device_model.proofs.Lists.{same}
 use Rattle.world.specs.Off.{KeptOff, jobs_of}
 use Rattle.world.proofs.Choosing.{below_next}
 use Rattle.world.proofs.Off.{list_there, has_job, is_bare}

@@ -1,5 +1,5 @@
 use Rattle.std.proofs.Common.{◌≡◌, List, [], length, Some, refl, ap, ◌∙◌, arith}
-use Rattle.task_set.specs.Jobs.{PlainJob}
+use Rattle.unit_model.specs.Jobs.{PlainJob}
 use Rattle.world.specs.Off.{jobs_of}
 use Rattle.world.proofs.Off.{list_there, is_bare}
 use Rattle.world.proofs.handed_off.HandedOff.is_bare.Goals as goal

@@ -1,6 +1,6 @@
 use Rattle.std.proofs.Common.{◌≡◌, ◌∷◌, ◌++◌, ◌∙◌, [], refl, ap, arith, length-append}
 use Rattle.std.proofs.lemmas.List.{length-map}
-use Rattle.task_set.specs.Jobs.{PlainJob, Jobs}
+use Rattle.unit_model.specs.Jobs.{PlainJob, Jobs}
 use Rattle.world.specs.Off.{jobs_of}
 use Rattle.world.proofs.AtOpening.{everywhere_more, each_image}
 use Rattle.world.proofs.handed_off.HandedOff.new.Goals as goal

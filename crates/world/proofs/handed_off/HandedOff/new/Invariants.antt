@@ -1,6 +1,6 @@
 use Rattle.std.proofs.Common.{◌≡◌, ℕ, [], length}
-use Rattle.task_set.specs.Jobs.{Jobs}
-use Rattle.deeds.specs.World.{Everywhere}
+use Rattle.unit_model.specs.Jobs.{Jobs}
+use Rattle.device_model.specs.World.{Everywhere}
 use Rattle.world.proofs.handed_off.HandedOff.new.Given as goal
 
 abbrev pub invariant-loop-number : goal.invariant-loop-number

@@ -2,8 +2,8 @@ use Rattle.std.proofs.Common.{◌≡◌, ◌<◌, length, Some, refl, sym, ap, �
 use Rattle.std.specs.Prelude.{slice_get}
 use Rattle.std.proofs.lemmas.List.{length-map}
 use Rattle.std.proofs.lemmas.Option.{slice_get_read}
-use Rattle.task_set.specs.Jobs.{Jobs}
-use Rattle.deeds.proofs.Lists.{same}
+use Rattle.unit_model.specs.Jobs.{Jobs}
+use Rattle.device_model.proofs.Lists.{same}
 use Rattle.world.specs.Off.{KeptOff, jobs_of}
 use Rattle.world.proofs.Off.{put_at}
 use Rattle.world.proofs.handed_off.HandedOff.put.Goals as goal

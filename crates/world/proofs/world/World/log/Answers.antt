@@ -3,7 +3,7 @@ use Rattle.std.specs.Prelude.{slice_get}
 use Rattle.std.proofs.lemmas.Option.{slice_get_read, slice_get_past}
 use Rattle.std.proofs.lemmas.Bool.Decides.{nat_tests}
 use Rattle.ring_core.specs.State.{IsLawful, Log}
-use Rattle.deeds.specs.World.{PlainQueue}
+use Rattle.device_model.specs.World.{PlainQueue}
 use Rattle.world.proofs.world.World.log.Goals as goal
 
 pub returns-in-Some-clause-lawful : goal.returns-in-Some-clause-lawful

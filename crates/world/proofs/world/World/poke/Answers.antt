@@ -1,5 +1,5 @@
 use Rattle.std.proofs.Common.{Ok}
-use Rattle.deeds.specs.Events.{Event}
+use Rattle.device_model.specs.Events.{Event}
 use Rattle.world.proofs.Promising.{steps_promised}
 use Rattle.world.proofs.Reaching.{whole_by, steps_by}
 use Rattle.world.proofs.world.World.poke.Goals as goal

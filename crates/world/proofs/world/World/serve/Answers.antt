@@ -1,6 +1,6 @@
 use Rattle.std.proofs.Common.{◌≡◌, ◌<◌, true, false, sym, subst, arith, true≢false}
 use Rattle.std.proofs.lemmas.Bool.Decides.{nat_tests}
-use Rattle.settling.specs.Order.{IsQuietOf}
+use Rattle.device_model.specs.Order.{IsQuietOf}
 use Rattle.world.specs.Settling.{asks, ServesBy}
 use Rattle.world.proofs.Promising.{served}
 use Rattle.world.proofs.Sequences.{serves_more}

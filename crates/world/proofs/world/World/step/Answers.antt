@@ -1,4 +1,4 @@
-use Rattle.deeds.specs.Events.{plain_event}
+use Rattle.device_model.specs.Events.{plain_event}
 use Rattle.world.proofs.Promising.{steps_promised}
 use Rattle.world.proofs.world.World.step.Goals as goal
 

@@ -1,4 +1,4 @@
-use Rattle.deeds.specs.Events.{Event}
+use Rattle.device_model.specs.Events.{Event}
 use Rattle.world.proofs.Reaching.{whole_by, whole_by_result, steps_by, steps_by_result}
 use Rattle.world.proofs.world.World.step_by.Goals as goal
 

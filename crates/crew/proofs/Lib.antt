@@ -1,2 +1,0 @@
-pub mod Crews
-pub mod Crossing

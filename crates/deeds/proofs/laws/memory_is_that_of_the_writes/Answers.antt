@@ -1,5 +1,0 @@
-use Rattle.deeds.proofs.Running.{run_memory}
-use Rattle.deeds.proofs.laws.memory_is_that_of_the_writes.Goals as goal
-
-pub returns : goal.returns
-returns c = λ old trace w r. run_memory old trace w r.runs

@@ -1,0 +1,294 @@
+-- Each chain of a request queue that is used has one answer, which tells what is so.
+use Rattle.std.proofs.Common.{◌≡◌, ℕ, ◌+◌, ◌≤◌, List, ◌∷◌, Option, Some, None, refl, sym, ◌∙◌, ap, subst, arith, inl, inr, zero, suc}
+use Rattle.std.specs.List.{sum_by}
+use Rattle.replies.specs.PlainReply.{PlainReply}
+use Rattle.ring_core.specs.State.{PlainChain}
+use Rattle.ring_core.specs.Writes.{Write}
+use Rattle.ring_core.specs.declared.log.Ticket.{Ticket}
+use Rattle.unit_model.specs.declared.reason.Reason.{Reason}
+use Rattle.unit_model.specs.Tasks.{task_of}
+use Rattle.unit_model.specs.Steps.{Step, alive}
+use Rattle.unit_model.specs.Marks.{mark_of}
+use Rattle.unit_model.specs.Contents.{reply_after}
+use Rattle.unit_model.specs.Lawful.{IsReady}
+use Rattle.unit_model.specs.Endings.{Ending}
+use Rattle.unit_model.proofs.Marking.{mark_on}
+use Rattle.unit_model.specs.Jobs.{PlainJob}
+use Rattle.unit_model.specs.Unit.{PlainUnit}
+use Rattle.device_model.specs.Parts.{PlainFetch, Outcome, Hand}
+use Rattle.device_model.specs.World.{PlainWorld, Opens}
+use Rattle.device_model.specs.Transitions.{Transition}
+use Rattle.device_model.specs.Happens.{world_of, Leads}
+use Rattle.device_model.specs.Places.{only}
+use Rattle.device_model.specs.Worths.{directs, ends, answers}
+use Rattle.device_model.proofs.Lists.{same}
+use Rattle.device_model.proofs.Working.{all_work}
+use Rattle.device_model.specs.Happened.{Happened, IsBeginning, IsFetch, IsCommit, IsAbort, IsAnswer}
+use Rattle.device_model.specs.Histories.{step_of, pushed, history_of}
+use Rattle.device_model.specs.Entering.{IsSent}
+use Rattle.device_model.specs.Answering.{HasEnded, IsTrue, IsAnsweredSo, NeverRan, AreAnswered}
+use Rattle.device_model.proofs.Traces.{leads_beginning, beginning_tail, keeps_on, told_on, told_at, told_there}
+use Rattle.device_model.proofs.Steps.{at_own, stands_on, so_on, so_new, done_at, commit_of, enter_stands, busy_stands, full_stands}
+use Rattle.device_model.proofs.Saying.{IsRefused, IsEndedBy, SlotSays}
+use Rattle.device_model.proofs.Knowing.{works_at, says_at, entered_sent}
+use Rattle.device_model.proofs.Counts.{flows_at, few_at, only_one, one_is, told_two, counted_told, uses_all}
+
+-- how a request ended is still so after one more transition
+
+mark_pushed : (o : Option Step) (t : Ticket) (why : Reason) (h : List Step) → mark_of t h ≡ Some why
+    → mark_of t (pushed o h) ≡ Some why
+mark_pushed None t why h e = e
+mark_pushed (Some s) t why h e = mark_on s t why h e
+
+ended_on : (old : PlainWorld) (x : PlainJob) (e : Ending) (d : Transition) (ds : List Transition) → HasEnded old x e ds
+    → HasEnded old x e (d ∷ ds)
+ended_on old x (Ending.Replied r) d ds h = (
+  h.0,
+  h.1,
+  so_on (step_of x.unit d) (Step.Commit x.entry.ticket r)
+      (λ past. IsReady x.entry.ticket x.entry past × (r ≡ reply_after h.0.opening x.entry past))
+      (history_of x.unit ds) h.2,
+)
+ended_on old x (Ending.Aborted why) d ds h = (
+  stands_on (step_of x.unit d) (Step.Enter x.entry) (history_of x.unit ds) h.0,
+  mark_pushed (step_of x.unit d) x.entry.ticket why (history_of x.unit ds) h.1,
+)
+ended_on old x Ending.Full d ds h = stands_on (step_of x.unit d) (Step.Full x.entry.ticket) (history_of x.unit ds) h
+ended_on old x Ending.Busy d ds (inl h) =
+    inl (stands_on (step_of x.unit d) (Step.Busy x.entry.ticket) (history_of x.unit ds) h)
+ended_on old x Ending.Busy d ds (inr h) = inr (inr h)
+ended_on old x Ending.Lost d ds h = h
+
+-- A Commit replies to its job's very task
+committing : (old : PlainWorld) (k : ℕ) (x : PlainJob) (r : PlainReply) (ds : List Transition) → Opens old
+    → Leads old (Transition.Commit k x r ∷ ds) → HasEnded old x (Ending.Replied r) (Transition.Commit k x r ∷ ds)
+committing old k x r ds o l =
+    let d = Transition.Commit k x r in
+    let w = world_of old ds in
+    let m = l.1 in
+    let v = m.holds.unit in
+    let t = x.entry.ticket in
+    let work = all_work w (works_at old ds o l.0).3 in
+    let c = (work.seats k (record { hand = Hand.Taken x; out = m.holds.out }) m.holds.seat).0 in
+    let is : c.unit ≡ v = same (sym c.there ∙ m.holds.there) in
+    let there = subst (λ (z : PlainUnit). task_of t (alive z.steps) ≡ Some x.entry) is c.alive in
+    let one : m.may.0 ≡ x.entry = same (sym m.may.1.is_there ∙ there) in
+    let told = ((says_at old ds o l.0).units x.unit v m.holds.there).0 in
+    let so : List Step → Type 0 =
+    λ past. IsReady t x.entry past × (r ≡ reply_after told.opened.opening x.entry past) in
+    let ready = subst (λ z. IsReady t z v.steps) one m.may.1 in
+    let reply = m.may.2 ∙ ap (λ z. reply_after v.opening z v.steps) one
+    ∙ ap (λ z. reply_after z x.entry v.steps) told.opening in
+    let before = subst so told.steps (ready, reply) in (
+      told.opened,
+      told.there,
+      so_new (step_of x.unit d) (Step.Commit t r) so (history_of x.unit ds)
+          (at_own x.unit x.unit (Step.Commit t r) refl) before,
+    )
+
+commits : (old : PlainWorld) (x : PlainJob) (r : PlainReply) (d : Transition) (ds : List Transition) → Opens old
+    → Leads old (d ∷ ds) → IsCommit x r d → HasEnded old x (Ending.Replied r) (d ∷ ds)
+commits old x r (Transition.Commit k y q) ds o l e =
+    let d = Transition.Commit k y q in
+    subst (λ z. HasEnded old z (Ending.Replied r) (d ∷ ds)) e.0
+    (subst (λ z. HasEnded old y (Ending.Replied z) (d ∷ ds)) e.1 (committing old k y q ds o l))
+commits old x r d ds o l e = absurd e
+
+-- what was aborted had entered, and its first mark is the reason
+aborting : (old : PlainWorld) (k : ℕ) (x : PlainJob) (why : Reason) (ds : List Transition) → Opens old
+    → Leads old (Transition.CommitAborted k x why ∷ ds) → HasEnded old x (Ending.Aborted why) (Transition.CommitAborted k x why ∷ ds)
+aborting old k x why ds o l =
+    let m = l.1 in
+    let says = says_at old ds o l.0 in
+    let seat = says.seats k (record { hand = Hand.Taken x; out = m.holds.out }) m.holds.seat in
+    let told = (says.units x.unit m.holds.unit m.holds.there).0 in
+    (enter_stands x ds seat.0, subst (λ h. mark_of x.entry.ticket h ≡ Some why) told.steps m.marked)
+
+aborts : (old : PlainWorld) (x : PlainJob) (why : Reason) (d : Transition) (ds : List Transition) → Opens old
+    → Leads old (d ∷ ds) → IsAbort x why d → HasEnded old x (Ending.Aborted why) (d ∷ ds)
+aborts old x why (Transition.CommitAborted k y q) ds o l e =
+    let d = Transition.CommitAborted k y q in
+    subst (λ z. HasEnded old z (Ending.Aborted why) (d ∷ ds)) e.0
+    (subst (λ z. HasEnded old y (Ending.Aborted z) (d ∷ ds)) e.1 (aborting old k y q ds o l))
+aborts old x why d ds o l e = absurd e
+
+-- what is so once a transition was done is so from then on
+from_then : (old : PlainWorld) (x : PlainJob) (e : Ending) (P : Transition → Type 0) (ds : List Transition) → Leads old ds
+    → ((d : Transition) (past : List Transition) → Leads old (d ∷ past) → P d → HasEnded old x e (d ∷ past)) → Happened P ds
+    → HasEnded old x e ds
+from_then old x e P ds l f h =
+    let q = told_at P ds h in
+    let b = leads_beginning old (q.0 ∷ q.1) ds q.2 l in
+    keeps_on (λ z. HasEnded old x e z) (λ d z p. ended_on old x e d z p) (q.0 ∷ q.1) ds q.2 (f q.0 q.1 b q.3)
+
+-- the outcome in a hand is true of its job
+hand_true : (old : PlainWorld) (x : PlainJob) (out : Outcome) (ds : List Transition) → Opens old → Leads old ds
+    → (sent : IsSent old.inventory ds x) → IsEndedBy x out ds → IsTrue old sent.fetch out ds
+hand_true old x (Outcome.Ended (Ending.Replied r)) ds o l sent h =
+    let now = from_then old x (Ending.Replied r) (IsCommit x r) ds l (λ d past b e. commits old x r d past o b e) h in
+    (x, sent.job, now)
+hand_true old x (Outcome.Ended (Ending.Aborted why)) ds o l sent h =
+    let e = Ending.Aborted why in
+    let now = from_then old x e (IsAbort x why) ds l (λ d past b p. aborts old x why d past o b p) h in
+    (x, sent.job, now)
+hand_true old x (Outcome.Ended Ending.Busy) ds o l sent h = (x, sent.job, inl (busy_stands x ds h))
+hand_true old x (Outcome.Ended Ending.Full) ds o l sent h = absurd h
+hand_true old x (Outcome.Ended Ending.Lost) ds o l sent h = absurd h
+hand_true old x (Outcome.Decided a) ds o l sent h = absurd h
+
+-- an outcome is true of the Fetch of a chain
+abbrev IsTrueOf : PlainWorld → PlainChain → Outcome → List Transition → Type 0
+IsTrueOf old c out ds = (f : PlainFetch) × Happened (IsFetch f) ds × (f.chain ≡ c) × IsTrue old f out ds
+
+-- and so is that in a slot
+slot_true : (old : PlainWorld) (c : PlainChain) (out : Outcome) (ds : List Transition) → IsRefused old.inventory c out ds
+    → IsTrueOf old c out ds
+slot_true old c (Outcome.Decided a) ds h = (h.0, h.1, h.2, h.3)
+slot_true old c (Outcome.Ended Ending.Full) ds h =
+    let sent = h.2 in
+    (sent.fetch, sent.fetched, sent.job.chain ∙ h.1, (h.0, sent.job, full_stands h.0 ds h.3))
+slot_true old c (Outcome.Ended Ending.Busy) ds h =
+    let sent = h.2 in
+    (sent.fetch, sent.fetched, sent.job.chain ∙ h.1, (h.0, sent.job, inr h.3))
+slot_true old c (Outcome.Ended (Ending.Replied r)) ds h = absurd h
+slot_true old c (Outcome.Ended (Ending.Aborted why)) ds h = absurd h
+slot_true old c (Outcome.Ended Ending.Lost) ds h = absurd h
+
+directs_so : (old : PlainWorld) (c : PlainChain) (out : Outcome) (xs : List Write) (ds : List Transition) → Opens old
+    → Leads old (Transition.Direct c out xs ∷ ds) → IsAnsweredSo old ds c out xs
+directs_so old c out xs ds o l =
+    let m = l.1 in
+    let says = (says_at old ds o l.0).slots c.ticket.queue m.queue m.there in
+    let is = slot_true old c out ds (subst (SlotSays old.inventory ds) m.ready says) in
+    record {
+      fetch = is.0;
+      fetched = is.1;
+      chain = is.2;
+      queue = m.queue;
+      there = m.there;
+      writes = m.writes;
+      truth = is.3;
+    }
+
+answers_so : (old : PlainWorld) (k : ℕ) (x : PlainJob) (out : Outcome) (xs : List Write) (ds : List Transition) → Opens old
+    → Leads old (Transition.Answer k x out xs ∷ ds) → IsAnsweredSo old ds x.chain out xs
+answers_so old k x out xs ds o l =
+    let m = l.1 in
+    let says = ((says_at old ds o l.0).seats k (record { hand = Hand.Done x out; out = m.out }) m.seat).0 in
+    let sent = entered_sent old ds x o l.0 says.0 in
+    record {
+      fetch = sent.fetch;
+      fetched = sent.fetched;
+      chain = sent.job.chain;
+      queue = m.queue;
+      there = m.there;
+      writes = m.writes;
+      truth = hand_true old x out ds o l.0 sent says.1;
+    }
+
+-- Who was told that its task was aborted never ran
+
+one_abort : (x : PlainJob) (why : Reason) (d : Transition) → IsAbort x why d → 1 ≤ ends (only x.chain.ticket) d
+one_abort x why (Transition.CommitAborted k y q) e =
+    let n = only_one x.chain.ticket y.chain.ticket (ap (λ z. z.chain.ticket) e.0) in
+    omega (arith, n)
+one_abort x why d e = absurd e
+
+pub one_commit : (t : Ticket) (x : PlainJob) (r : PlainReply) (d : Transition) → x.chain.ticket ≡ t → IsCommit x r d
+    → 1 ≤ ends (only t) d
+one_commit t x r (Transition.Commit k y q) is e =
+    let n = only_one t y.chain.ticket (ap (λ z. z.chain.ticket) e.0 ∙ is) in
+    omega (arith, n)
+one_commit t x r d is e = absurd e
+
+not_both : (x y : PlainJob) (why : Reason) (r : PlainReply) (d : Transition) → IsAbort x why d → IsCommit y r d → ⊥
+not_both x y why r (Transition.CommitAborted k z q) a c = c
+not_both x y why r d a c = a
+
+-- a Commit's job goes by its chain's ticket
+pub commit_named : (old : PlainWorld) (d : Transition) (ds : List Transition) (x : PlainJob) (r : PlainReply) → Opens old
+    → Leads old (d ∷ ds) → IsCommit x r d → x.entry.ticket ≡ x.chain.ticket
+commit_named old (Transition.Commit k y q) ds x r o l e =
+    let m = l.1 in
+    let says = ((says_at old ds o l.0).seats k (record { hand = Hand.Taken y; out = m.holds.out }) m.holds.seat).0 in
+    let sent = entered_sent old ds y o l.0 says in
+    subst (λ (z : PlainJob). z.entry.ticket ≡ z.chain.ticket) e.0 (sent.job.ticket ∙ ap (λ c. c.ticket) sent.job.chain)
+commit_named old d ds x r o l e = absurd e
+
+-- the transition of a Commit in a history
+pub record IsRun (t : Ticket) (place : ℕ) (r : PlainReply) (d : Transition) : Type 0 where
+  pub job : PlainJob
+  pub chain : job.chain.ticket ≡ t
+  pub commit : IsCommit job r d
+
+pub runs_by : (old : PlainWorld) (d : Transition) (ds : List Transition) (place : ℕ) (t : Ticket) (r : PlainReply) → Opens old
+    → Leads old (d ∷ ds) → step_of place d ≡ Some (Step.Commit t r) → IsRun t place r d
+runs_by old d ds place t r o l e =
+    let x = commit_of d place t r e in
+    record { job = x.0; chain = sym (commit_named old d ds x.0 r o l x.3) ∙ x.2; commit = x.3 }
+
+never_ran : (old : PlainWorld) (x : PlainJob) (why : Reason) (ds : List Transition) → Opens old → Leads old ds
+    → Happened (IsAbort x why) ds → NeverRan x.chain.ticket ds
+never_ran old x why ds o l a place r h =
+    let t = x.chain.ticket in
+    let q = done_at place (Step.Commit t r) ds h in
+    let run = runs_by old q.0 q.1 place t r o (leads_beginning old (q.0 ∷ q.1) ds q.2 l) q.3 in
+    let told = told_there (IsCommit run.job r) q.0 q.1 ds q.2 run.commit in
+    let two = told_two (IsAbort x why) (IsCommit run.job r) (ends (only t)) (one_abort x why)
+    (λ d e. one_commit t run.job r d run.chain e) (not_both x run.job why r) ds a told in
+    let n = few_at old ds t o l in
+    let a = n.ended in
+    let b = n.entered in
+    let c = n.fetched in
+    omega (arith, two, a, b, c)
+
+aborted_never : (old : PlainWorld) (k : ℕ) (x : PlainJob) (why : Reason) (xs : List Write) (past ds : List Transition)
+    → Opens old → Leads old ds → IsBeginning (Transition.Answer k x (Outcome.Ended (Ending.Aborted why)) xs ∷ past) ds
+    → NeverRan x.chain.ticket ds
+aborted_never old k x why xs past ds o l b =
+    let out = Outcome.Ended (Ending.Aborted why) in
+    let d = Transition.Answer k x out xs in
+    let then = leads_beginning old (d ∷ past) ds b l in
+    let m = then.1 in
+    let says = ((says_at old past o then.0).seats k (record { hand = Hand.Done x out; out = m.out }) m.seat).0 in
+    never_ran old x why ds o l (told_on (IsAbort x why) past ds (beginning_tail d past ds b) says.1)
+
+-- what is used was answered
+
+direct_is : (t : Ticket) (d : Transition) → 1 ≤ directs (only t) d → IsAnswer t d
+direct_is t (Transition.Direct c out xs) h = one_is t c.ticket (omega (arith, h))
+direct_is t d h = absurd (omega (arith, h))
+
+pub answer_is : (t : Ticket) (d : Transition) → 1 ≤ answers (only t) d → IsAnswer t d
+answer_is t (Transition.Answer k x out xs) h = one_is t x.chain.ticket (omega (arith, h))
+answer_is t d h = absurd (omega (arith, h))
+
+some_answer : (t : Ticket) (ds : List Transition) → 1 ≤ sum_by (directs (only t)) ds + sum_by (answers (only t)) ds
+    → Happened (IsAnswer t) ds
+some_answer t ds h =
+    (elim (sum_by (directs (only t)) ds) as (λ n. sum_by (directs (only t)) ds ≡ n → Happened (IsAnswer t) ds) [
+      | zero ↦ λ e. counted_told (answers (only t)) (IsAnswer t) (answer_is t) ds (omega (arith, e, h))
+      | suc n ↦ λ e. counted_told (directs (only t)) (IsAnswer t) (direct_is t) ds (omega (arith, e))
+    ]) refl
+
+pub are_answered : (old : PlainWorld) (ds : List Transition) → Opens old → Leads old ds → AreAnswered old ds (world_of old ds)
+are_answered old ds o l =
+    let f = flows_at old ds o l in
+    record {
+      used = f.used;
+      request = λ t le. f.used (only t) ∙ uses_all old t ds le o l;
+      once = λ t.
+          let n = few_at old ds t o l in
+          let a = n.used in
+          let b = n.fetched in
+          omega (arith, a, b);
+      told = λ t le u.
+          let a = f.used (only t) in
+          let b = uses_all old t ds le o l in
+          some_answer t ds (omega (arith, a, b, u));
+      direct = λ c out xs past b.
+          directs_so old c out xs past o (leads_beginning old (Transition.Direct c out xs ∷ past) ds b l);
+      answer = λ k x out xs past b.
+          answers_so old k x out xs past o (leads_beginning old (Transition.Answer k x out xs ∷ past) ds b l);
+      aborted = λ k x why xs past b. aborted_never old k x why xs past ds o l b;
+    }

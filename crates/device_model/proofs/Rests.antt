@@ -1,0 +1,307 @@
+-- Where no event of the order applies, nothing is outstanding.
+use Rattle.std.proofs.Common.{◌≡◌, ℕ, ◌<◌, ◌≤◌, Bool, true, not, ◌&&◌, is_some, List, [], ◌∷◌, filter, length, Option, Some, None, refl, sym, ◌∙◌, ap, subst, arith, inl, inr, zero, suc}
+use Rattle.std.specs.Prelude.{slice_get}
+use Rattle.std.specs.List.{sum_by, list_all, AllByRecursion}
+use Rattle.std.proofs.lemmas.Option.{slice_get_within, slice_get_cases}
+use Rattle.std.proofs.lemmas.List.Sums.{sum_by-cons}
+use Rattle.scsi_codec.specs.declared.event_queue.Event.{Event as Report}
+use Rattle.ring_core.specs.declared.descriptor.Part.{Part}
+use Rattle.ring_core.specs.declared.fault.RingFault.{RingFault}
+use Rattle.ring_core.specs.State.{RingState, PlainChain}
+use Rattle.ring_core.specs.Offer.{Offer, Nothing, Found, Refused, Offers}
+use Rattle.ring_core.proofs.Exact.{offers_once}
+use Rattle.ring_core.proofs.Exists.{offers_some}
+use Rattle.ring_core.specs.declared.log.Ticket.{Ticket}
+use Rattle.unit_model.specs.Tasks.{Entry, any_task, task_of}
+use Rattle.unit_model.specs.Steps.{Step, alive, is_alive}
+use Rattle.unit_model.specs.Clearing.{met_at, is_clear}
+use Rattle.unit_model.specs.Enabling.{is_parked}
+use Rattle.unit_model.specs.Worths.{worth, alive_worth, each_one}
+use Rattle.unit_model.proofs.Worth.{worth_filter}
+use Rattle.unit_model.proofs.Fewer.{parked_fewer}
+use Rattle.unit_model.specs.Jobs.{PlainJob}
+use Rattle.unit_model.specs.Unit.{PlainUnit, tasks_of_jobs, IsUnit}
+use Rattle.task_mgmt.specs.declared.function.Mark.{Mark as Place}
+use Rattle.device_model.specs.Parts.{Slot, Hand}
+use Rattle.device_model.specs.World.{PlainQueue, Seat, Opened, PlainWorld, Everywhere, all_off}
+use Rattle.device_model.specs.Events.{Event}
+use Rattle.device_model.specs.Happens.{Occurrence, Reached, IsOpenTo}
+use Rattle.device_model.specs.Laws.{in_hand, at_seat}
+use Rattle.device_model.specs.Places.{of_chain, of_job, of_function, of_slot, at_queue, at_unit, accepted_worth, used_worth, only}
+use Rattle.device_model.specs.Standing.{IsOwned, FunctionIsThere}
+use Rattle.device_model.proofs.Places.{nothing_counts, balanced}
+use Rattle.device_model.proofs.Staying.{run_stays, run_keeps, units_listed}
+use Rattle.device_model.proofs.Owning.{owned}
+use Rattle.device_model.proofs.Tasks.{own, hand_worth, seat_worth, of_place, out_worth}
+use Rattle.device_model.proofs.Working.{run_works}
+use Rattle.device_model.proofs.Functions.{FindsUnits, new_finds, transition_finds}
+use Rattle.device_model.specs.Order.{IsNext, IsQuiet, IsAtRest, IsQuietOf, IsAtRestOf}
+use Rattle.device_model.proofs.Choosing.{next_or_quiet}
+use Rattle.device_model.proofs.Quiet.{Never, QuietQueue, QuietSeat, quiet_of_all, all_quiet}
+use Rattle.device_model.proofs.Off.{none_off}
+
+-- the first of both holds of all
+all_first : (P : PlainChain → Type 0) (cs : List PlainChain)
+    → AllByRecursion (λ (c : PlainChain). (c.ticket.queue ≡ 1) × P c) cs
+    → AllByRecursion (λ (c : PlainChain). c.ticket.queue ≡ 1) cs
+all_first P [] h = tt
+all_first P (c ∷ cs) h = (h.0.0, all_first P cs h.1)
+
+-- Seats
+
+pub record EmptySeat (s : Seat) : Type 0 where
+  pub hand : s.hand ≡ Hand.Empty
+  pub out : s.out ≡ []
+
+free_hand : (w : PlainWorld) (k : ℕ) (hand : Hand) (out : List PlainJob)
+    → slice_get w.seats k ≡ Some (record { hand = hand; out = out }) → QuietSeat w k → hand ≡ Hand.Empty
+free_hand w k Hand.Empty out at q = refl
+free_hand w k (Hand.Taken x) out at q = absurd (q.commit (x, (out, at)))
+free_hand w k (Hand.Done x o) out at q = absurd (q.answer (x, o, (out, at)))
+free_hand w k (Hand.Answered place t) out at q = absurd (q.leave (place, t, (out, at)))
+
+no_jobs : (w : PlainWorld) (k : ℕ) (out : List PlainJob)
+    → slice_get w.seats k ≡ Some (record { hand = Hand.Empty; out = out }) → QuietSeat w k → out ≡ []
+no_jobs w k [] at q = refl
+no_jobs w k (x ∷ rest) at q = absurd (q.put (record { job = x; rest = rest; seat = at }))
+
+-- a seat at which nothing is to be done has nothing
+empty_seat : (w : PlainWorld) (k : ℕ) (s : Seat) → slice_get w.seats k ≡ Some s → QuietSeat w k → EmptySeat s
+empty_seat w k s at q =
+    let free = free_hand w k s.hand s.out at q in
+    record {
+      hand = free;
+      out =
+          no_jobs w k s.out
+          (subst (λ h. slice_get w.seats k ≡ Some (record { hand = h; out = s.out })) free at) q;
+    }
+
+-- with a worker that has nothing each list of the hand-off is empty: whoever takes looks at all of them
+none_handed_off : (w : PlainWorld) (s : Seat) (k : ℕ) (jobs : List PlainJob) → 1 ≤ w.workers
+    → slice_get w.seats 0 ≡ Some s → EmptySeat s → Never w (Event.Take 0) → slice_get w.handed_off k ≡ Some jobs
+    → jobs ≡ []
+none_handed_off w s k [] works at e never off = refl
+none_handed_off w s k (x ∷ rest) works at e never off =
+    let free = subst (λ h. slice_get w.seats 0 ≡ Some (record { hand = h; out = s.out })) e.hand at in
+    let bare = subst (λ l. slice_get w.seats 0 ≡ Some (record { hand = Hand.Empty; out = l })) e.out free in
+    absurd (never (record { worker = works; seat = bare; from = k; job = x; rest = rest; handed_off = off }))
+
+-- Units
+
+-- what the tasks of jobs are worth
+jobs_worth : (p : Ticket → ℕ) (jobs : List PlainJob) → sum_by (own p) jobs ≡ worth p (tasks_of_jobs jobs)
+jobs_worth p [] = refl
+jobs_worth p (j ∷ jobs) =
+    let a = jobs_worth p jobs in
+    let b = sum_by-cons (own p) j jobs in
+    omega (arith, a, b)
+
+any_none : (es : List Entry) → (any_task es ≡ true → ⊥) → es ≡ []
+any_none [] h = refl
+any_none (e ∷ es) h = absurd (h refl)
+
+-- as many alive as parked: none alive
+none_alive : (u : PlainUnit) → IsUnit u → alive_worth each_one u.steps ≡ sum_by (own each_one) u.parked
+    → alive u.steps ≡ []
+none_alive u is e =
+    any_none (alive u.steps) (λ some.
+    let lt = parked_fewer u.steps some in
+    let a = jobs_worth each_one u.parked in
+    let b = ap (worth each_one) is.holds in
+    let c = worth_filter each_one (is_parked u.steps) (alive u.steps) in
+    omega (arith, lt, e, a, b, c))
+
+no_jobs_left : (jobs : List PlainJob) → tasks_of_jobs jobs ≡ [] → jobs ≡ []
+no_jobs_left [] h = refl
+no_jobs_left (j ∷ jobs) h = absurd (cc)
+
+none_parked : (u : PlainUnit) → IsUnit u → alive u.steps ≡ [] → u.parked ≡ []
+none_parked u is e = no_jobs_left u.parked (is.holds ∙ ap (filter (is_parked u.steps)) e)
+
+-- with no task alive each place is clear
+all_gone : (h : List Step) (es : List Entry) → alive h ≡ []
+    → list_all (λ (e : Entry). not (is_alive e.ticket h)) es ≡ true
+all_gone h [] n = refl
+all_gone h (e ∷ es) n =
+    let rest = list_all (λ (f : Entry). not (is_alive f.ticket h)) es in
+    ap (λ (l : List Entry). not (is_some (task_of e.ticket l)) && rest) n
+    ∙ all_gone h es n
+
+abbrev AreIdle : PlainWorld → Type 0
+AreIdle w = Everywhere (λ i u. alive u.steps ≡ []) w.units
+
+-- The function
+
+-- the place of a mark is clear
+its_place : (w : PlainWorld) (m : Place) → AreIdle w → m.unit < length w.units
+    → (u : PlainUnit) × (slice_get w.units m.unit ≡ Some u) × (is_clear m.place u.steps ≡ true)
+its_place w m idle lt =
+    elim (slice_get_cases w.units m.unit).1 [
+      | inl q ↦ (q.0, q.2, all_gone q.0.steps (met_at m.place q.0.steps) (idle m.unit q.0 q.2))
+      | inr q ↦ absurd (let le = q.0 in omega (arith, le, lt))
+    ]
+
+stuck : (w : PlainWorld) (o : Opened) (left : List ℕ) (waits : List Place) → w.function ≡ Some o
+    → o.function.left ≡ left → o.function.waits ≡ waits → AllByRecursion (λ (m : Place). m.unit < length w.units) waits
+    → AreIdle w → Never w Event.Mark → Never w Event.Check → Never w Event.AnswerTmf → ⊥
+stuck w o (place ∷ later) waits at a b there idle mark check answer =
+    mark (record { opened = o; there = at; place = place; later = later; left = a })
+stuck w o [] [] at a b there idle mark check answer =
+    answer (record { opened = o; there = at; left = a; still = b })
+stuck w o [] (m ∷ later) at a b there idle mark check answer =
+    let p = its_place w m idle there.0 in
+    check (record {
+      opened = o;
+      there = at;
+      left = a;
+      mark = m;
+      later = later;
+      still = b;
+      unit = p.0;
+      unit_there = p.1;
+      clear = p.2;
+    })
+
+-- a function that can go on in no way isn't there
+no_function : (w : PlainWorld) (o : Option Opened) → w.function ≡ o → FunctionIsThere (length w.units) o → AreIdle w
+    → Never w Event.Mark → Never w Event.Check → Never w Event.AnswerTmf → o ≡ None
+no_function w None at there idle mark check answer = refl
+no_function w (Some o) at there idle mark check answer =
+    absurd (stuck w o o.function.left o.function.waits at refl refl there.1 idle mark check answer)
+
+-- Queues
+
+empty_slot : (asked : ℕ → Bool) (w : PlainWorld) (i : ℕ) (q : PlainQueue) (s : Slot) → slice_get w.queues i ≡ Some q → q.slot ≡ s
+    → QuietQueue asked w i → s ≡ Slot.Empty
+empty_slot asked w i q Slot.Empty at e h = refl
+empty_slot asked w i q (Slot.Arrived x) at e h = absurd (h.enter (x, (q, at, e)))
+empty_slot asked w i q (Slot.Direct c o) at e h = absurd (h.direct (c, o, (q, at, e)))
+
+found_or_nothing : {id slots : ℕ} {parts : List Part} → Found id slots parts ≡ Nothing → ⊥
+found_or_nothing e = cc
+
+refused_or_nothing : {f : RingFault} → Refused f ≡ Nothing → ⊥
+refused_or_nothing e = cc
+
+-- a queue that can't but offer nothing does
+nothing_offered : (s : RingState) (m : List ℕ) (o : Offer) → Offers s m o → ((Offers s m Nothing → ⊥) → ⊥)
+    → Offers s m Nothing
+nothing_offered s m Nothing h never = h
+nothing_offered s m (Found id slots parts) h never =
+    absurd (never (λ n. found_or_nothing (offers_once s m (Found id slots parts) Nothing h n)))
+nothing_offered s m (Refused f) h never =
+    absurd (never (λ n. refused_or_nothing (offers_once s m (Refused f) Nothing h n)))
+
+open_to : (w : PlainWorld) (i : ℕ) → w.function ≡ None → IsOpenTo w i
+open_to w zero e = e
+open_to w (suc i) e = tt
+
+nothing_there : (w : PlainWorld) (i : ℕ) (q : PlainQueue) → slice_get w.queues i ≡ Some q → q.slot ≡ Slot.Empty
+    → w.function ≡ None → Never w (Event.Fetch i) → q.ring.broken ≡ None → Offers q.ring w.memory Nothing
+nothing_there w i q at empty closed never unbroken =
+    let o = offers_some q.ring w.memory in
+    nothing_offered q.ring w.memory o.0 o.1 (λ some. never (record {
+      queue = q;
+      there = at;
+      empty = empty;
+      opened = open_to w i closed;
+      whole = unbroken;
+      has_some = some;
+    }))
+
+-- The port
+
+no_report : (w : PlainWorld) (l : List Report) → w.waiting ≡ l → Never w Event.Raise → l ≡ []
+no_report w [] e never = refl
+no_report w (report ∷ later) e never = absurd (never (report, later, e))
+
+bare_seat : (n : ℕ) (s : Seat) → EmptySeat s → seat_worth n each_one s ≡ 0
+bare_seat n s e =
+    let a = ap (hand_worth n each_one) e.hand in
+    let b = ap (λ l. sum_by (of_place n each_one) l) e.out in
+    omega (arith, a, b)
+
+bare : (p : Ticket → ℕ) (s : Seat) → EmptySeat s → at_seat (of_job p) s ≡ 0
+bare p s e =
+    let a = ap (in_hand (of_job p)) e.hand in
+    let b = ap (λ l. sum_by (of_job p) l) e.out in
+    omega (arith, a, b)
+
+-- the function's units are there
+units_there : (old : PlainWorld) (trace : List Occurrence) (w : PlainWorld) → Reached old trace w
+    → FunctionIsThere (length w.units) w.function
+units_there old trace w r =
+    let finds = run_keeps FindsUnits transition_finds old trace w (new_finds old r.opens) r.runs in
+    subst (λ n. FunctionIsThere n w.function) (sym (units_listed old trace w r.opens r.runs)) finds
+
+pub quiet_rests_of : (asked : ℕ → Bool) (old : PlainWorld) (trace : List Occurrence) (w : PlainWorld)
+    → Reached old trace w → IsQuietOf asked w → IsAtRestOf asked w
+quiet_rests_of asked old trace w r h =
+    let quiet = all_quiet asked w h in
+    let parts = run_stays old trace w r.runs in
+    let own = owned old trace w r.opens r.runs in
+    let working = run_works old trace w r.opens r.runs in
+    let works : 1 ≤ w.workers = (let a = r.opens.working in let b = parts.workers in omega (arith, a, b)) in
+    let first : 0 < length w.seats = (let a = r.opens.seated in let b = parts.seats in omega (arith, a, b)) in
+    let seats : (k : ℕ) (s : Seat) → slice_get w.seats k ≡ Some s → EmptySeat s = λ k s at.
+    empty_seat w k s at (quiet.seats k (slice_get_within w.seats k s at)) in
+    let off : all_off w ≡ [] =
+    elim (slice_get_cases w.seats 0).1 [
+      | inl q ↦
+          none_off w.handed_off (λ k jobs at.
+          none_handed_off w q.0 k jobs works q.2 (seats 0 q.0 q.2) (quiet.seats 0 first).take at)
+      | inr q ↦ absurd (let le = q.0 in omega (arith, le, first))
+    ] in
+    let under_way : (n : ℕ) → out_worth n each_one w.seats (all_off w) ≡ 0 = λ n.
+    let a = nothing_counts (seat_worth n each_one) w.seats (λ k s at. bare_seat n s (seats k s at)) in
+    let b = ap (λ l. sum_by (of_place n each_one) l) off in
+    omega (arith, a, b) in
+    let idle : AreIdle w = λ i u at.
+    let a = working.2 i each_one u at in
+    let b = under_way i in
+    none_alive u (working.0 i u at) (omega (arith, a, b)) in
+    let slots : (i : ℕ) (q : PlainQueue) → slice_get w.queues i ≡ Some q → q.slot ≡ Slot.Empty = λ i q at.
+    empty_slot asked w i q q.slot at refl (quiet.queues i (slice_get_within w.queues i q at)) in
+    let there = units_there old trace w r in
+    let closed = no_function w w.function refl there idle quiet.mark quiet.check quiet.answer_tmf in
+    record {
+      chains = λ p.
+          let a = nothing_counts (at_queue p) w.queues (λ i q at. ap (of_slot p) (slots i q at)) in
+          let b = nothing_counts (at_unit p) w.units (λ i u at.
+          ap (λ l. sum_by (of_job p) l) (none_parked u (working.0 i u at) (idle i u at))) in
+          let c = nothing_counts (at_seat (of_job p)) w.seats (λ k s at. bare p s (seats k s at)) in
+          let d = ap (λ l. sum_by (of_job p) l) off in
+          let e = ap (of_function p) closed in
+          let f = balanced p old trace w r.opens r.runs in
+          omega (arith, a, b, c, d, e, f);
+      buffers = all_first (IsOwned w) w.buffers own.buffers;
+      closed = closed;
+      waiting = no_report w w.waiting refl quiet.raise;
+      queues = λ i q at is unbroken.
+          let lt = slice_get_within w.queues i q at in
+          nothing_there w i q at (slots i q at) closed ((quiet.queues i lt).fetch is) unbroken;
+    }
+
+pub quiet_rests : (old : PlainWorld) (trace : List Occurrence) (w : PlainWorld) → Reached old trace w → IsQuiet w
+    → IsAtRest w
+quiet_rests old trace w r h =
+    let rest = quiet_rests_of (λ q. true) old trace w r (quiet_of_all w h) in
+    record {
+      chains = rest.chains;
+      buffers = rest.buffers;
+      closed = rest.closed;
+      waiting = rest.waiting;
+      queues = λ i q at unbroken. rest.queues i q at refl unbroken;
+    }
+
+-- where a chain is outstanding that is no event buffer, an event is next
+pub next_there : (old : PlainWorld) (trace : List Occurrence) (w : PlainWorld) (t : Ticket) → Reached old trace w
+    → used_worth (only t) w < accepted_worth (only t) w → sum_by (of_chain (only t)) w.buffers ≡ 0
+    → (e : Event) × IsNext w e
+next_there old trace w t r out no_buffer =
+    elim (next_or_quiet w) [
+      | inl next ↦ next
+      | inr quiet ↦
+          let c = (quiet_rests old trace w r quiet).chains (only t) in
+          absurd (omega (arith, out, no_buffer, c))
+    ]

@@ -1,0 +1,59 @@
+-- The histories of the units, as the transitions of a trace tell them.
+use Rattle.std.specs.Prelude.{ℕ, ◌≡◌, ◌⊎◌, ◌==◌, List, [], ◌∷◌, Option, Some, None, if◌then◌else◌}
+use Rattle.unit_model.specs.Steps.{Step}
+use Rattle.unit_model.specs.Lawful.{IsLawful}
+use Rattle.task_mgmt.specs.Functions.{step_by}
+use Rattle.unit_model.specs.Unit.{PlainUnit}
+use Rattle.device_model.specs.World.{PlainWorld, Everywhere}
+use Rattle.device_model.specs.Transitions.{Transition}
+use Rattle.device_model.specs.After.{hard_code}
+use Rattle.device_model.specs.Happens.{UnitIs}
+
+-- the step, where it is taken at this place
+abbrev pub at_place : ℕ → ℕ → Step → Option Step
+at_place place k s = if k == place then Some s else None
+
+-- the step that a transition adds to the history of the unit at a place
+abbrev pub step_of : ℕ → Transition → Option Step
+step_of place (Transition.Run x) = at_place place x.unit (Step.Enter x.entry)
+step_of place (Transition.Park x) = at_place place x.unit (Step.Enter x.entry)
+step_of place (Transition.EnterFull x) = at_place place x.unit (Step.Full x.entry.ticket)
+step_of place (Transition.Commit k x r) = at_place place x.unit (Step.Commit x.entry.ticket r)
+step_of place (Transition.CommitBusy k x) = at_place place x.unit (Step.Busy x.entry.ticket)
+step_of place (Transition.Leave k i t jobs) = at_place place i (Step.Leave t)
+step_of place (Transition.Mark t p m jobs) = at_place place p.unit (step_by m)
+step_of place (Transition.Hard p jobs) = at_place place p.unit (Step.Reset hard_code)
+step_of place (Transition.Resize k blocks) = at_place place k (Step.Resize blocks)
+step_of place d = None
+
+abbrev pub pushed : Option Step → List Step → List Step
+pushed None h = h
+pushed (Some s) h = s ∷ h
+
+-- the history of the unit at a place
+abbrev pub history_of : ℕ → List Transition → List Step
+history_of place [] = []
+history_of place (d ∷ past) = pushed (step_of place d) (history_of place past)
+
+-- the step stands in the history, and of the steps before it P holds
+abbrev pub StandsOn : Step → (List Step → Type 0) → List Step → Type 0
+StandsOn s P [] = ⊥
+StandsOn s P (r ∷ past) = ((r ≡ s) × P past) ⊎ StandsOn s P past
+
+-- the step stands in the history
+abbrev pub Stands : Step → List Step → Type 0
+Stands s [] = ⊥
+Stands s (r ∷ past) = (r ≡ s) ⊎ Stands s past
+
+-- the unit opened as the device did, and has the history that the transitions tell
+pub record IsToldOf (old : PlainWorld) (ds : List Transition) (place : ℕ) (u : PlainUnit) : Type 0 where
+  pub opened : PlainUnit
+  pub there : UnitIs old place opened
+  pub opening : u.opening ≡ opened.opening
+  pub steps : u.steps ≡ history_of place ds
+
+-- each unit's history is the lawful one that the transitions tell, and steps are taken on units that are there
+pub record AreHistories (old : PlainWorld) (ds : List Transition) (w : PlainWorld) : Type 0 where
+  pub told : Everywhere (IsToldOf old ds) w.units
+  pub lawful : Everywhere (λ place u. IsLawful u.opening u.steps) w.units
+  pub there : (place : ℕ) (s : Step) → Stands s (history_of place ds) → (u : PlainUnit) × UnitIs w place u

@@ -1,0 +1,36 @@
+-- A device that does what is first in its order, transition by transition.
+use Rattle.std.specs.Prelude.{ℕ, Bool, ◌+◌, ◌*◌, ◌≤◌, List, [], ◌∷◌, length, ⊤}
+use Rattle.std.specs.List.{sum_by}
+use Rattle.device_model.specs.World.{PlainWorld}
+use Rattle.device_model.specs.Transitions.{Transition, event_of}
+use Rattle.device_model.specs.Happens.{Happens, world_of}
+use Rattle.device_model.specs.Places.{accepted_worth, used_worth}
+use Rattle.device_model.specs.Order.{IsNext, IsNextOf}
+use Rattle.device_model.specs.Measure.{price, visits, answered_hand}
+
+-- from this world on each transition happens, and is of the first event that applies; the newest transition first
+abbrev pub Settles : PlainWorld → List Transition → Type 0
+Settles w [] = ⊤
+Settles w (d ∷ past) = Settles w past × Happens d (world_of w past) × IsNext (world_of w past) (event_of d)
+
+-- the same, with new chains of the queues alone that are asked
+abbrev pub SettlesOf : (ℕ → Bool) → PlainWorld → List Transition → Type 0
+SettlesOf asked w [] = ⊤
+SettlesOf asked w (d ∷ past) =
+    SettlesOf asked w past × Happens d (world_of w past) × IsNextOf asked (world_of w past) (event_of d)
+
+-- 1 for a unit that a function visits
+abbrev pub visited : Transition → ℕ
+visited (Transition.Mark t p m jobs) = 1
+visited (Transition.Ask t place rule b) = 1
+visited (Transition.MarkRefused t) = 1
+visited d = 0
+
+-- the transitions, with the price of each chain that was used before, are at most the price of each chain that was accepted
+-- until the end, 1 for each task that was answered already, 1 for each mark that was waited for already, 2 for each
+-- unit that a function visits, 1 for each waiting event, and 1 for each queue
+abbrev pub IsShort : PlainWorld → List Transition → Type 0
+IsShort w more =
+    length more + used_worth price w
+    ≤ accepted_worth price (world_of w more) + sum_by answered_hand w.seats + visits w.function
+    + 2 * sum_by visited more + length w.waiting + length w.queues

@@ -1,0 +1,217 @@
+//! What holds of the device in every order of its steps. The laws say nothing of code: they hold of every program
+//! whose calls are transitions.
+
+ghost use Rattle.std.specs.Prelude.{ℕ, ◌≡◌, ◌+◌, ◌≤◌, ◌↔◌, ◌++◌, false, Bool, List, [], length, map, None, Some, slice_get};
+ghost use Rattle.std.specs.List.{sum_by};
+ghost use Rattle.ring_core.specs.State.{tickets};
+ghost use Rattle.ring_core.specs.declared.log.Ticket.{Ticket};
+ghost use Rattle.unit_model.specs.Jobs.{PlainJob};
+ghost use Rattle.unit_model.specs.Unit.{PlainUnit};
+ghost use Rattle.device_model.specs.World.{PlainQueue, PlainWorld, Everywhere, Opens};
+ghost use Rattle.device_model.specs.Events.{Event as AnEvent};
+ghost use Rattle.device_model.specs.Transitions.{Transition, action_of, event_of};
+ghost use Rattle.device_model.specs.After.{after};
+ghost use Rattle.device_model.specs.Happens.{
+  Happens,
+  May,
+  Occurrence,
+  Runs,
+  Reached,
+  Leads,
+  transitions_of,
+  occurrence_of,
+  world_of,
+};
+ghost use Rattle.device_model.specs.Phases.{
+  Under,
+  unit_of,
+  AsksUnit,
+  unit_after,
+  queue_of,
+  AsksQueue,
+  queue_after,
+  bytes_after,
+  StandsFor,
+  LendsUnit,
+  LendsQueue,
+};
+ghost use Rattle.device_model.specs.Places.{Moves, accepted_worth, standing, used_worth, only, accepted_chains, used_chains};
+ghost use Rattle.device_model.specs.Lawful.{AreNumbered, AreUnits, KeepsParts, AllLieIn};
+ghost use Rattle.device_model.specs.Standing.{
+  AreOwned,
+  BuffersAreOutstanding,
+  AreAtWork,
+  AreBehind,
+  HaveRoom,
+  FunctionIsThere,
+  IsToCheck,
+};
+ghost use Rattle.device_model.specs.Applies.{Applies};
+ghost use Rattle.device_model.specs.Turns.{Turns, IsStep};
+ghost use Rattle.device_model.specs.Laws.{AreApart, IsUsedBy, NoneIsUsed, memory_after, jobs_out, brings, ends};
+
+/// A device that was just opened is reached by the empty trace, and what runs behind a reached trace is reached by
+/// both: a law over all reached traces speaks of every moment of every run.
+pub fn every_run_goes_on()
+    ensures opening { (w : PlainWorld) → Opens w → Reached w [] w }
+    ensures run { (old : PlainWorld) (past more : List Occurrence) (w after : PlainWorld) → Reached old past w →
+        Runs w more after → Reached old (more ++ past) after }
+{}
+
+/// A reached trace is that of its transitions: they tell each event with its action, they fix the world, and each might
+/// happen in the world before it.
+pub fn a_trace_is_that_of_its_transitions()
+    ensures told { (old : PlainWorld) (trace : List Occurrence) (w : PlainWorld) (r : Reached old trace w) →
+        trace ≡ map occurrence_of (transitions_of old trace w r.runs) }
+    ensures world { (old : PlainWorld) (trace : List Occurrence) (w : PlainWorld) (r : Reached old trace w) →
+        w ≡ world_of old (transitions_of old trace w r.runs) }
+    ensures leads { (old : PlainWorld) (trace : List Occurrence) (w : PlainWorld) (r : Reached old trace w) →
+        Leads old (transitions_of old trace w r.runs) }
+{}
+
+/// Memory is what it was at the opening, with the writes of the trace in their order: whoever knows the trace knows
+/// each byte, and nothing else writes.
+pub fn memory_is_that_of_the_writes()
+    ensures { (old : PlainWorld) (trace : List Occurrence) (w : PlainWorld) → Reached old trace w →
+        w.memory ≡ memory_after old.memory trace }
+{}
+
+/// A transition finds what it asks of the unit that one lock lends, or of the queue that one lends with memory, and what it
+/// leaves there is a function of what it found there.
+pub fn each_transition_does_its_part()
+    ensures unit { (w : PlainWorld) (d : Transition) → Happens d w → Under (unit_of d) (λ i. (u : PlainUnit)
+        × (slice_get w.units i ≡ Some u) × AsksUnit d u × (slice_get (after d w).units i ≡ Some (unit_after d u))) }
+    ensures queue { (w : PlainWorld) (d : Transition) → Happens d w → Under (queue_of d) (λ i. (q : PlainQueue)
+        × (slice_get w.queues i ≡ Some q) × AsksQueue w.inventory w.missed d q w.memory
+        × (slice_get (after d w).queues i ≡ Some (queue_after d w.memory q))) }
+    ensures memory { (w : PlainWorld) (d : Transition) → (after d w).memory ≡ bytes_after d w.memory }
+{}
+
+/// Where a transition's seat, slot and function stand for it, and its part is done on what the locks lend, it happens: a
+/// thread that holds no more than one such lock at a time takes steps of the one device.
+pub fn parts_join()
+    ensures { (w : PlainWorld) (d : Transition) → StandsFor d w → LendsUnit d w → LendsQueue d w → Happens d w }
+{}
+
+/// A queue that a fault broke stays broken, and a transition changes no queue but that which it touches: a fault on one
+/// queue never changes another.
+pub fn queues_are_apart()
+    ensures { (w : PlainWorld) (d : Transition) → Happens d w → AreApart d w }
+{}
+
+/// An action says that nothing changed exactly where its transition is the idle one, which leaves the device as it is.
+pub fn a_transition_counts()
+    ensures changed { (d : Transition) → (action_of d).changed ≡ false ↔ ((e : AnEvent) × (d ≡ Transition.Idle e)) }
+    ensures idle { (w : PlainWorld) (e : AnEvent) → after (Transition.Idle e) w ≡ w }
+{}
+
+/// The ticket that an action answers is the next that its queue has used, and an action that answers none uses none:
+/// the answers of a trace are what its queues have used.
+pub fn an_answer_uses_its_chain()
+    ensures answered { (w : PlainWorld) (d : Transition) (t : Ticket) → Happens d w → (action_of d).answered ≡ Some t →
+        IsUsedBy t w (after d w) }
+    ensures none { (w : PlainWorld) (d : Transition) → Happens d w → (action_of d).answered ≡ None →
+        NoneIsUsed w (after d w) }
+{}
+
+/// No job is lost or made between a unit and its answer: a seat's list, its hand and the hand-off have those that
+/// they had, with those that the transition brought from a unit, and without the one that it answered.
+pub fn jobs_are_kept()
+    ensures { (p : PlainJob → ℕ) (w : PlainWorld) (d : Transition) → Happens d w →
+        jobs_out p (after d w) + sum_by p (ends d) ≡ jobs_out p w + sum_by p (brings d) }
+{}
+
+/// Each chain that was accepted and isn't used stands in one place of the device: a queue's slot, a unit's parked
+/// jobs, a seat, the hand-off, the open function or the event buffers. Where p counts one ticket alone, `place` says
+/// that in how many places its chain stands, and how often it was used, is together how often it was accepted: at
+/// most once, so that the chain stands in one place until it is used, is used at most once, and stands nowhere from
+/// then on (`once`). Where p is 1 for each ticket, it counts the chains (`chains`). A transition adds the chains that it
+/// accepts, takes away those that it uses, and neither loses nor doubles another.
+pub fn each_chain_stands_in_one_place()
+    ensures place { (p : Ticket → ℕ) (old : PlainWorld) (trace : List Occurrence) (w : PlainWorld) →
+        Reached old trace w → accepted_worth p w ≡ standing p w + used_worth p w }
+    ensures once { (t : Ticket) (old : PlainWorld) (trace : List Occurrence) (w : PlainWorld) →
+        Reached old trace w → standing (only t) w + used_worth (only t) w ≤ 1 }
+    ensures chains { (old : PlainWorld) (trace : List Occurrence) (w : PlainWorld) → Reached old trace w →
+        accepted_chains w ≡ standing (λ t. 1) w + used_chains w }
+    ensures transition { (p : Ticket → ℕ) (w : PlainWorld) (d : Transition) → May d w → Moves p d w (after d w) }
+{}
+
+/// In every world that is reached each queue stands at its own number, and the chains that it accepted are numbered
+/// 0, 1, 2 and so on: a ticket names one chain of one queue.
+pub fn logs_are_numbered()
+    ensures { (old : PlainWorld) (trace : List Occurrence) (w : PlainWorld) → Reached old trace w → AreNumbered w }
+{}
+
+/// The units, with their addresses, the queues, the seats and the lists of the hand-off, with their room, are in every world that is
+/// reached those that the device opened with, and memory is as long, where the writes of the trace lie in it.
+pub fn parts_stay()
+    ensures parts { (old : PlainWorld) (trace : List Occurrence) (w : PlainWorld) → Reached old trace w →
+        KeepsParts old w }
+    ensures memory { (old : PlainWorld) (trace : List Occurrence) (w : PlainWorld) → Reached old trace w →
+        AllLieIn (length old.memory) trace → length w.memory ≡ length old.memory }
+{}
+
+/// In every world that is reached the history of each unit is lawful, and the unit holds the jobs of its parked tasks
+/// and no others.
+pub fn histories_are_lawful()
+    ensures { (old : PlainWorld) (trace : List Occurrence) (w : PlainWorld) → Reached old trace w → AreUnits w }
+{}
+
+/// In every world that is reached each chain that stands somewhere is outstanding in its own queue: where a chain is
+/// answered, its queue owns it.
+pub fn what_stands_is_owned()
+    ensures { (old : PlainWorld) (trace : List Occurrence) (w : PlainWorld) → Reached old trace w → AreOwned w }
+{}
+
+/// In every world that is reached the event buffers that are held are no more than the chains that the event queue has
+/// outstanding: with the chains that it used, they are at most those that it accepted.
+pub fn held_buffers_are_outstanding()
+    ensures { (old : PlainWorld) (trace : List Occurrence) (w : PlainWorld) → Reached old trace w →
+        BuffersAreOutstanding w }
+{}
+
+/// In every world that is reached each job that was handed out is that of a task that is alive in its unit: one that is
+/// to be committed may run or was marked, and isn't done; one that is to be answered or to leave is done or was marked.
+/// So a unit knows the task of each commit and of each leave.
+pub fn tasks_are_at_work()
+    ensures { (old : PlainWorld) (trace : List Occurrence) (w : PlainWorld) → Reached old trace w → AreAtWork w }
+{}
+
+/// In every world that is reached a request that arrived is the latest of its queue, its unit is there, and no history
+/// has its ticket or a later one of its queue: no unit finds it stale.
+pub fn tickets_rise()
+    ensures { (old : PlainWorld) (trace : List Occurrence) (w : PlainWorld) → Reached old trace w → AreBehind w }
+{}
+
+/// In every world that is reached no seat has more jobs than the units' task sets have places, and of the jobs that a
+/// seat handed off no more wait than there is room for.
+pub fn lists_have_room()
+    ensures { (old : PlainWorld) (trace : List Occurrence) (w : PlainWorld) → Reached old trace w → HaveRoom w }
+{}
+
+/// In every world that is reached the units that the open function has left to mark, and those of the marks that it
+/// waits for, are there.
+pub fn functions_find_their_units()
+    ensures { (old : PlainWorld) (trace : List Occurrence) (w : PlainWorld) → Reached old trace w →
+        FunctionIsThere (length w.units) w.function }
+{}
+
+/// In every world that is reached a query that has looked at all its units checks the next one at once, whatever is alive
+/// there and whatever came to stand there since.
+pub fn queries_are_checked_at_once()
+    ensures { (old : PlainWorld) (trace : List Occurrence) (w : PlainWorld) → Reached old trace w → IsToCheck w →
+        Applies w AnEvent.Check }
+{}
+
+/// Where a transition happens, its event applies; so an event that doesn't apply may do nothing.
+pub fn what_happens_applies()
+    ensures applies { (w : PlainWorld) (d : Transition) → Happens d w → Applies w (event_of d) }
+    ensures idle { (w : PlainWorld) (e : AnEvent) → (Applies w e → ⊥) → May (Transition.Idle e) w }
+{}
+
+/// A turn of an event is a step of the device, whose action says whether something changed.
+pub fn turns_are_steps()
+    ensures { (w : PlainWorld) (e : AnEvent) (changed : Bool) (next : PlainWorld) → Turns w e changed next →
+        IsStep w e changed next }
+{}

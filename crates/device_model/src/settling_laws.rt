@@ -1,0 +1,125 @@
+//! A device that serves what is there, one atomic step at a time: where it has nothing left to do, how many steps that
+//! takes, and what each step lets go on. The laws say nothing of code: they hold of every program whose calls are
+//! transitions.
+
+ghost use Rattle.std.specs.Prelude.{ℕ, Bool, ◌≡◌, ◌⊎◌, ◌<◌, ◌≤◌, ◌+◌, List, [], ◌∷◌, length, map};
+ghost use Rattle.std.specs.List.{sum_by};
+ghost use Rattle.ring_core.specs.declared.log.Ticket.{Ticket};
+ghost use Rattle.device_model.specs.World.{PlainWorld};
+ghost use Rattle.device_model.specs.Events.{Event};
+ghost use Rattle.device_model.specs.Transitions.{Transition, event_of};
+ghost use Rattle.device_model.specs.After.{after};
+ghost use Rattle.unit_model.specs.Jobs.{PlainJob};
+ghost use Rattle.device_model.specs.Parts.{Hand};
+ghost use Rattle.device_model.specs.Happens.{Occurrence, Happens, Runs, Reached, SeatIs, OffIs, occurrence_of, world_of};
+ghost use Rattle.device_model.specs.Places.{of_chain, only, accepted_worth, used_worth};
+ghost use Rattle.device_model.specs.Turns.{count_changes};
+ghost use Rattle.device_model.specs.Applies.{Applies};
+ghost use Rattle.device_model.specs.Order.{IsNext, IsQuiet, IsAtRest, IsNextOf, IsQuietOf, IsAtRestOf};
+ghost use Rattle.device_model.specs.Measure.{measure, pays};
+ghost use Rattle.device_model.specs.Settling.{Settles, SettlesOf, IsShort};
+ghost use Rattle.device_model.specs.Waking.{IsOwn, IsFetch, Wakes};
+
+/// Where no step of the device itself is left to take, nothing is left to answer: each chain that was accepted was
+/// used, but for the event buffers that are held; no function is open, no event waits, and no queue has a chain, unless
+/// a fault broke it.
+///
+/// Nothing is stuck since of the tasks that are alive in a unit one may always run: a HEAD OF QUEUE task, or else the
+/// oldest. A task that may run isn't parked, so it stands in a seat's list, in the hand-off or in a hand, where a step
+/// takes it on. Where all of those are empty no task is alive, so that each mark of a function is clear.
+pub fn a_quiet_device_is_at_rest()
+    ensures { (old : PlainWorld) (trace : List Occurrence) (w : PlainWorld) → Reached old trace w → IsQuiet w →
+        IsAtRest w }
+{}
+
+/// What the device does next is decided by what is there: the first event of its order that applies, which is one, or
+/// none, where it has nothing left to do.
+pub fn one_event_is_next()
+    ensures some { (w : PlainWorld) → ((e : Event) × IsNext w e) ⊎ IsQuiet w }
+    ensures one { (w : PlainWorld) (e f : Event) → IsNext w e → IsNext w f → e ≡ f }
+    ensures applies { (w : PlainWorld) (e : Event) → IsNext w e → Applies w e }
+    ensures own { (w : PlainWorld) (e : Event) → IsNext w e → IsOwn e }
+{}
+
+/// The same where new chains are taken from some of the queues alone: one event is next, or nothing is left but chains
+/// of the other queues that weren't accepted.
+pub fn one_event_is_next_of_some()
+    ensures some { (asked : ℕ → Bool) (w : PlainWorld) → ((e : Event) × IsNextOf asked w e) ⊎ IsQuietOf asked w }
+    ensures one { (asked : ℕ → Bool) (w : PlainWorld) (e f : Event) → IsNextOf asked w e → IsNextOf asked w f → e ≡ f }
+    ensures applies { (asked : ℕ → Bool) (w : PlainWorld) (e : Event) → IsNextOf asked w e → Applies w e }
+    ensures rest { (asked : ℕ → Bool) (old : PlainWorld) (trace : List Occurrence) (w : PlainWorld) →
+        Reached old trace w → IsQuietOf asked w → IsAtRestOf asked w }
+{}
+
+/// A device that is served so runs, each of its steps changes something, and there are no more of them than what there
+/// is to do pays for, whether it went on to the end or was left before.
+pub fn a_portion_is_a_short_run()
+    ensures runs { (asked : ℕ → Bool) (w : PlainWorld) (more : List Transition) → SettlesOf asked w more →
+        Runs w (map occurrence_of more) (world_of w more) }
+    ensures changes { (asked : ℕ → Bool) (w : PlainWorld) (more : List Transition) → SettlesOf asked w more →
+        count_changes (map occurrence_of more) ≡ length more }
+    ensures short { (asked : ℕ → Bool) (old : PlainWorld) (trace : List Occurrence) (w : PlainWorld)
+        (more : List Transition) → Reached old trace w → SettlesOf asked w more → IsShort w more }
+    ensures rest { (asked : ℕ → Bool) (old : PlainWorld) (trace : List Occurrence) (w : PlainWorld)
+        (more : List Transition) → Reached old trace w → SettlesOf asked w more → IsQuietOf asked (world_of w more) →
+        IsAtRestOf asked (world_of w more) }
+{}
+
+/// In every world that is reached, an event of the device itself that applies can be done: the unit of a job is there
+/// and knows its task, a list or the slot has room, and each chain that is answered is outstanding in its queue. Of a
+/// Fetch this isn't said: it also asks that memory is one of bytes, and that the queue's table has a place for the
+/// chain.
+pub fn what_applies_happens()
+    ensures { (old : PlainWorld) (trace : List Occurrence) (w : PlainWorld) (e : Event) → Reached old trace w →
+        IsOwn e → (IsFetch e → ⊥) → Applies w e → (d : Transition) × (event_of d ≡ e) × Happens d w }
+{}
+
+/// As long as a chain is outstanding, and isn't an event buffer that is held, an event of the device itself is next: no
+/// chain waits for something that never comes.
+pub fn nothing_is_stuck()
+    ensures { (old : PlainWorld) (trace : List Occurrence) (w : PlainWorld) (t : Ticket) → Reached old trace w →
+        used_worth (only t) w < accepted_worth (only t) w → sum_by (of_chain (only t)) w.buffers ≡ 0 →
+        (e : Event) × IsNext w e }
+{}
+
+/// Each step lowers what is still owed, but for what it brings: a chain brings its price as it is fetched, a function
+/// that visits a unit 2, a hard reset 2, and a write of the guest 1.
+pub fn each_transition_is_paid_for()
+    ensures { (w : PlainWorld) (d : Transition) → Happens d w → measure (after d w) + 1 ≤ measure w + pays d }
+{}
+
+/// A device that is left alone takes no more steps than what there is to do pays for: at most 7 for each chain, 1 for
+/// each mark, waiting event, queue and answered task that it starts with, and 2 for each unit that a function visits.
+pub fn a_settling_is_short()
+    ensures { (old : PlainWorld) (trace : List Occurrence) (w : PlainWorld) (more : List Transition) → Reached old trace w →
+        Settles w more → IsShort w more }
+{}
+
+/// A device that does what is first in its order runs, and each of its steps changes something; where it ends by having
+/// nothing left to do, it is at rest.
+pub fn a_settling_is_a_run()
+    ensures runs { (w : PlainWorld) (more : List Transition) → Settles w more →
+        Runs w (map occurrence_of more) (world_of w more) }
+    ensures changes { (w : PlainWorld) (more : List Transition) → Settles w more →
+        count_changes (map occurrence_of more) ≡ length more }
+    ensures rest { (old : PlainWorld) (trace : List Occurrence) (w : PlainWorld) (more : List Transition) →
+        Reached old trace w → Settles w more → IsQuiet (world_of w more) → IsAtRest (world_of w more) }
+{}
+
+/// What applies after a step applied before it, or is among the few events that the step wakes. So a device that knows
+/// what applies goes on to know it where it looks, after each step, at what applied and at those.
+pub fn only_some_events_wake()
+    ensures { (w : PlainWorld) (d : Transition) (e : Event) → IsOwn e → Happens d w → Applies (after d w) e →
+        (Applies w e → ⊥) → Wakes w d e }
+{}
+
+/// A worker that has one job and nothing in hand puts it into its own list, where that is empty, and takes that very job
+/// next, since its own list comes first; together the two steps leave what keeping the job in hand would.
+pub fn a_worker_takes_what_it_put()
+    ensures puts { (w : PlainWorld) (k : ℕ) (x : PlainJob) → SeatIs w k Hand.Empty (x ∷ []) → OffIs w k [] →
+        0 < w.limit → Happens (Transition.Put k x) w }
+    ensures takes { (w : PlainWorld) (k : ℕ) (x : PlainJob) → SeatIs w k Hand.Empty (x ∷ []) → OffIs w k [] →
+        k < w.workers → Happens (Transition.Take k k x) (after (Transition.Put k x) w) }
+    ensures leaves { (w : PlainWorld) (k : ℕ) (x : PlainJob) → SeatIs w k Hand.Empty (x ∷ []) → OffIs w k [] →
+        after (Transition.Take k k x) (after (Transition.Put k x) w) ≡ after (Transition.Keep k x) w }
+{}

@@ -1,0 +1,288 @@
+//! Plays a script on a device that threads serve.
+
+ghost use Rattle.std.specs.Prelude.{◌≡◌, Ok, Err};
+
+use crate::guest::run_guest_line;
+use crate::header::{Wanted, stop_of};
+use crate::host_memory::HostMemory;
+use crate::known::Known;
+use crate::printing::print;
+use crate::script::{Script, command_of, line_number, read_whole};
+use guest_driver::Driver;
+use script_lines::{Command, LineFault, ScriptFault, Stop};
+use scsi_codec::Address;
+use std::alloc::Global;
+use std::io::{Read, Write};
+use std::sync::Wait;
+use std::thread;
+use std::thread::Threads;
+use workers::{CloseFault, Host, Open, Report, ResizeFault};
+
+/// How often the guest looks for an answer that a line waits for.
+const LOOKS: u32 = 1_000_000;
+
+/// Plays a script on a device that so many workers serve, 1 to 8, in place of the number in its header: reads it
+/// whole, then runs its lines one after the other while the workers run beside them, closes the device at `close` or `abandon`, or
+/// at the end where that is absent, and writes what the printing lines behind it ask for. A program calls it once for
+/// a script, and flushes the writer afterwards. It may wait for the workers.
+///
+/// A line at fault ends the script; what was printed before it stands, and the device is closed. A reader that fails
+/// is a fault of line 0, with nothing printed. A writer that fails ends the script at once, and isn't called again.
+/// Where memory runs out, also while the device is closed, the script ends with `NoMemory`. `Unconfirmed` or
+/// `Outstanding` where the device was closed and says so, unless a line was at fault.
+pub fn serve<R, S, W>(
+    rt: R,
+    alloc: Global,
+    script: &mut S,
+    out: &mut W,
+    workers: u16,
+) -> Result<(), ScriptFault>
+where
+    R: Threads + Wait + Copy + Send + 'static,
+    S: Read,
+    W: Write,
+{
+    let bytes = read_whole(alloc, script)?;
+    let (script, wanted) = Script::read(alloc, bytes.as_slice())?;
+    let mut service = match Service::start(rt, alloc, wanted, workers) {
+        Ok(service) => service,
+        Err(stop) => return Err(script.refused(stop)),
+    };
+    let ended = service.run(&rt, &script);
+    let closed = service.close(&rt);
+    let (rest, closed) = both(ended, closed)?;
+    closed.run(&script, rest, out)
+}
+
+/// What a script's lines and the closing of its device gave, where both went well; else the fault of a line, and where
+/// there is none what closing says.
+fn both<A: Drop, B: Drop, E: Drop>(lines: Result<A, E>, closing: Result<B, E>) -> Result<(A, B), E>
+    ensures line { (fault : E) → lines ≡ Err fault → result ≡ Err fault }
+    ensures closing { (value : A) (fault : E) → lines ≡ Ok value → closing ≡ Err fault → result ≡ Err fault }
+    ensures both { (value : A) (other : B) → lines ≡ Ok value → closing ≡ Ok other → result ≡ Ok (value, other) }
+{
+    match (lines, closing) {
+        (Err(fault), _) => Err(fault),
+        (Ok(_), Err(fault)) => Err(fault),
+        (Ok(value), Ok(other)) => Ok((value, other)),
+    }
+}
+
+/// The fault of a script whose device says this when it is closed.
+fn fault_of(fault: CloseFault) -> ScriptFault {
+    match fault {
+        CloseFault::Unconfirmed(ticket) => ScriptFault::Unconfirmed {
+            queue: ticket.queue,
+            number: ticket.number,
+        },
+        CloseFault::Outstanding(ticket) => ScriptFault::Outstanding {
+            queue: ticket.queue,
+            number: ticket.number,
+        },
+        CloseFault::NoMemory => ScriptFault::NoMemory,
+    }
+}
+
+/// A script that runs while threads serve its device, with the guest's driver.
+struct Service {
+    alloc: Global,
+    host: Host<Open>,
+    pages: u32,
+    driver: Driver,
+    known: Known,
+    // Whether the device is to take no chain any more.
+    is_abandoned: bool,
+}
+
+impl Service {
+    /// Opens the device that a header asks for, with so many workers, and the driver beside it. `BadConfig` where the
+    /// device refuses.
+    fn start<R: Threads + Wait + Copy + Send + 'static>(
+        rt: R,
+        alloc: Global,
+        wanted: Wanted,
+        workers: u16,
+    ) -> Result<Service, Stop> {
+        let Wanted {
+            config,
+            known,
+            form,
+            size,
+            features,
+        } = wanted;
+        let pages = config.pages;
+        let host = match Host::start(rt, alloc, config, Open, workers) {
+            Ok(host) => host,
+            Err(fault) => return Err(stop_of(fault)),
+        };
+        match Driver::new(alloc, form, features, known.queues, size) {
+            Ok(driver) => Ok(Service {
+                alloc,
+                host,
+                pages,
+                driver,
+                known,
+                is_abandoned: false,
+            }),
+            Err(_) => {
+                let _closed = host.close(&rt);
+                Err(Stop::NoMemory)
+            }
+        }
+    }
+
+    /// Runs the lines up to `close` or `abandon`, or to the end where both are absent. Gives how many lines that are,
+    /// with the header's and that line.
+    fn run<R: Wait>(&mut self, rt: &R, script: &Script<'_>) -> Result<usize, ScriptFault> {
+        for (index, line) in script.lines.iter().enumerate().skip(script.header) {
+            match self.run_line(rt, line) {
+                Ok(false) => {}
+                Ok(true) => return Ok(index.saturating_add(1)),
+                Err(stop) => return Err(stop.at(line_number(index))),
+            }
+        }
+        Ok(script.lines.len())
+    }
+
+    /// Runs a line, and then finds what was used. Whether the line is `close` or `abandon`.
+    fn run_line<R: Wait>(&mut self, rt: &R, line: &[u8]) -> Result<bool, Stop> {
+        if let Some(command) = command_of(self.alloc, line)? {
+            self.known.check(&command)?;
+            match command {
+                Command::Close => return Ok(true),
+                Command::Abandon => {
+                    self.is_abandoned = true;
+                    return Ok(true);
+                }
+                command => self.run_command(rt, command)?,
+            }
+        }
+        let memory = HostMemory::new(rt, &self.host, self.pages);
+        self.driver.look(&memory)?;
+        Ok(false)
+    }
+
+    /// Runs a line that was read, but for `close` and `abandon`.
+    fn run_command<R: Wait>(&mut self, rt: &R, command: Command<'_>) -> Result<(), Stop> {
+        match command {
+            Command::Guest(line) => {
+                let mut memory = HostMemory::new(rt, &self.host, self.pages);
+                run_guest_line(self.alloc, &mut self.driver, &mut memory, &line)
+            }
+            Command::Hard(unit) => self.hard(rt, unit),
+            Command::Resize(unit, blocks) => self.resize(rt, unit, blocks),
+            Command::Wait(name) => self.wait(rt, name),
+            Command::Settle
+            | Command::Step(_)
+            | Command::Print(_)
+            | Command::Close
+            | Command::Abandon => Err(Stop::Fault(LineFault::OutOfPlace)),
+        }
+    }
+
+    /// Resets a unit for the operator, and tells the guest; where the unit isn't there nothing happens.
+    fn hard<R: Wait>(&mut self, rt: &R, unit: Address) -> Result<(), Stop> {
+        if let Some(place) = self.known.place(unit) {
+            self.host.operator(rt, place)?;
+        }
+        Ok(())
+    }
+
+    /// Gives a unit so many blocks for the operator; where it isn't there, or no unit may have so many, nothing
+    /// happens.
+    fn resize<R: Wait>(&mut self, rt: &R, unit: Address, blocks: u64) -> Result<(), Stop> {
+        if let Some(place) = self.known.place(unit) {
+            match self.host.resize(rt, place, blocks) {
+                Ok(()) => self.known.resize(place, blocks),
+                Err(ResizeFault::BadCapacity) => {}
+                Err(ResizeFault::NoMemory) => return Err(Stop::NoMemory),
+            }
+        }
+        Ok(())
+    }
+
+    /// Looks for the answer of a request or a function until it is there, or the guest has looked often enough. Other
+    /// threads run between two looks. `NoSuchName` where nothing of that name was sent.
+    fn wait<R: Wait>(&mut self, rt: &R, name: &str) -> Result<(), Stop> {
+        let memory = HostMemory::new(rt, &self.host, self.pages);
+        for _ in 0..LOOKS {
+            let Some(sent) = self.driver.sent(name) else {
+                return Err(Stop::Fault(LineFault::NoSuchName));
+            };
+            if sent.used.is_some() {
+                return Ok(());
+            }
+            thread::yield_now();
+            self.driver.look_at(&memory, sent.queue as usize)?;
+        }
+        Ok(())
+    }
+
+    /// Closes the device, whose threads end, and finds what was used.
+    fn close<R: Threads + Wait>(self, rt: &R) -> Result<Closed, ScriptFault> {
+        let Service {
+            alloc,
+            host,
+            pages: _,
+            mut driver,
+            known,
+            is_abandoned,
+        } = self;
+        let closed = if is_abandoned {
+            host.abandon(rt)
+        } else {
+            host.close(rt)
+        };
+        let report = match closed {
+            Ok(report) => report,
+            Err(fault) => return Err(fault_of(fault)),
+        };
+        let Ok(()) = driver.look(&report.memory) else {
+            return Err(ScriptFault::NoMemory);
+        };
+        Ok(Closed {
+            alloc,
+            report,
+            driver,
+            known,
+        })
+    }
+}
+
+/// A script whose device was closed: what it left, with the guest's driver.
+#[derive(Drop)]
+struct Closed {
+    alloc: Global,
+    report: Report,
+    driver: Driver,
+    known: Known,
+}
+
+impl Closed {
+    /// Runs the lines from an index on.
+    fn run<W: Write>(
+        &self,
+        script: &Script<'_>,
+        rest: usize,
+        out: &mut W,
+    ) -> Result<(), ScriptFault> {
+        for (index, line) in script.lines.iter().enumerate().skip(rest) {
+            if let Err(stop) = self.run_line(line, out) {
+                return Err(stop.at(line_number(index)));
+            }
+        }
+        Ok(())
+    }
+
+    /// Runs a line, which has to be one that prints.
+    fn run_line<W: Write>(&self, line: &[u8], out: &mut W) -> Result<(), Stop> {
+        let Some(command) = command_of(self.alloc, line)? else {
+            return Ok(());
+        };
+        self.known.check(&command)?;
+        match &command {
+            Command::Print(line) => print(self.alloc, out, &self.report, &self.driver, *line),
+            _ => Err(Stop::Fault(LineFault::OutOfPlace)),
+        }
+    }
+}

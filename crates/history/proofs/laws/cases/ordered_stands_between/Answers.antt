@@ -1,5 +1,0 @@
-use Rattle.history.proofs.WorkedCases.{ordered_is_lawful}
-use Rattle.history.proofs.laws.cases.ordered_stands_between.Goals as goal
-
-pub returns-clause-lawful : goal.returns-clause-lawful
-returns-clause-lawful c = ordered_is_lawful

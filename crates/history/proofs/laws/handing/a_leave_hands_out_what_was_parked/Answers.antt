@@ -1,5 +1,0 @@
-use Rattle.history.proofs.Leaving.{leaving}
-use Rattle.history.proofs.laws.handing.a_leave_hands_out_what_was_parked.Goals as goal
-
-pub returns : goal.returns
-returns c = leaving

@@ -1,5 +1,0 @@
-use Rattle.history.proofs.Entering.{parked_enter}
-use Rattle.history.proofs.laws.handing.an_enter_parks_what_is_blocked.Goals as goal
-
-pub returns : goal.returns
-returns c = parked_enter

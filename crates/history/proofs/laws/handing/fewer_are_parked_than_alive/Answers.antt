@@ -1,5 +1,0 @@
-use Rattle.history.proofs.Fewer.{parked_fewer}
-use Rattle.history.proofs.laws.handing.fewer_are_parked_than_alive.Goals as goal
-
-pub returns : goal.returns
-returns c = parked_fewer

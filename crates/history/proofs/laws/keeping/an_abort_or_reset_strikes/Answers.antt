@@ -1,8 +1,0 @@
-use Rattle.history.proofs.Keeping.{tasks_abort, tasks_reset}
-use Rattle.history.proofs.laws.keeping.an_abort_or_reset_strikes.Goals as goal
-
-pub returns-clause-abort : goal.returns-clause-abort
-returns-clause-abort c = tasks_abort
-
-pub returns-clause-reset : goal.returns-clause-reset
-returns-clause-reset c = tasks_reset

@@ -1,8 +1,0 @@
-use Rattle.history.proofs.Owing.{alive_owed, found_owed}
-use Rattle.history.proofs.laws.owing.at_most_128_are_owed.Goals as goal
-
-pub returns-clause-few : goal.returns-clause-few
-returns-clause-few c = alive_owed
-
-pub returns-clause-some : goal.returns-clause-some
-returns-clause-some c = found_owed

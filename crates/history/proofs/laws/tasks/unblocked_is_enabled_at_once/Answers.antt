@@ -1,5 +1,0 @@
-use Rattle.history.proofs.Blocking.{enabled_entering}
-use Rattle.history.proofs.laws.tasks.unblocked_is_enabled_at_once.Goals as goal
-
-pub returns : goal.returns
-returns c = enabled_entering

@@ -1,8 +1,0 @@
-use Rattle.interleavings.specs.Ordering.{AreInOrder}
-use Rattle.interleavings.proofs.Traces.{in_run}
-use Rattle.interleavings.proofs.Ordering.{in_order}
-use Rattle.interleavings.proofs.laws.commands_keep_their_order.Goals as goal
-
-pub returns : goal.returns
-returns c = λ old trace w r.
-    in_run (λ ds v. AreInOrder ds) old (λ ds l. in_order old ds r.opens l) trace w r.runs

@@ -1,8 +1,0 @@
-use Rattle.interleavings.specs.Events.{AreEvents}
-use Rattle.interleavings.proofs.Traces.{in_run}
-use Rattle.interleavings.proofs.Events.{are_events}
-use Rattle.interleavings.proofs.laws.events_are_given_in_order.Goals as goal
-
-pub returns : goal.returns
-returns c = λ old trace w r.
-    in_run (λ ds v. AreEvents old ds v) old (λ ds l. are_events old ds r.opens l) trace w r.runs

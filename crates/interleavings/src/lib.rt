@@ -1,4 +1,0 @@
-//! What holds of every trace of the device, in whatever order its atomic steps come.
-#![tactic(auto)]
-
-pub mod laws;

@@ -1,6 +1,0 @@
-use Rattle.std.specs.Prelude.{◌≡◌, ◌≤◌, length, vec_len}
-use Rattle.std.specs.Vec.{vec_capacity}
-use Rattle.parts.proofs.opening.open_units.Given as goal
-
-abbrev pub invariant-loop-spec : goal.invariant-loop-spec
-invariant-loop-spec l = (vec_len l.units ≡ l.spec-index) × (length l.wanted ≤ vec_capacity l.units)

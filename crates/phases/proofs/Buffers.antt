@@ -1,0 +1,84 @@
+-- What a fetch from the event queue does, as transitions.
+use Rattle.std.proofs.Common.{◌≡◌, ℕ, List, Bool, true, false, ◌||◌, refl, ap, ◌∙◌, subst}
+use Rattle.ring_core.specs.State.{RingState, PlainChain}
+use Rattle.ring_core.specs.Fetch.{Takes}
+use Rattle.ring_core.specs.Writes.{Write, all_written}
+use Rattle.ring_core.specs.declared.log.Ticket.{Ticket}
+use Rattle.event_queue.specs.Port.{PlainPort}
+use Rattle.device_model.specs.Parts.{PlainFetch, Slot, answer_writes, is_short}
+use Rattle.device_model.specs.Transitions.{Transition}
+use Rattle.device_model.specs.After.{with_chain}
+use Rattle.device_model.specs.Happens.{spent_bytes}
+use Rattle.queues.specs.Queue.{BareQueue, completing}
+use Rattle.phases.specs.Queue.{with_slot}
+use Rattle.queues.specs.Looking.{Breaks}
+use Rattle.phases.specs.EventQueue.{IsEventFetch, DoesAtPort, TakesBuffer}
+
+-- what one lock lends is the same where its parts are
+same_lent : (q : BareQueue) (r : RingState) (n : ℕ) → q.ring ≡ r → q.notices ≡ n → q ≡ record { ring = r; notices = n }
+same_lent q r n ring notices =
+    ap (λ (x : RingState). record q { ring = x }) ring ∙ ap (λ (x : ℕ). record { ring = r; notices = x }) notices
+
+-- A chain with these bytes was taken from the event queue:
+module _ (old new : BareQueue) (m : List ℕ) (c : PlainChain) (bytes : List ℕ) (s : Slot) (p : PlainPort)
+    (taken : Takes old.ring m c bytes new.ring) (same : new.notices ≡ old.notices) (event : old.ring.queue ≡ 1) where
+  abbrev fetch : PlainFetch
+  fetch = record { chain = c; bytes = bytes }
+
+  -- the queue with the chain accepted
+  abbrev accepted : BareQueue
+  accepted = record { ring = with_chain c old.ring; notices = old.notices }
+
+  abbrev writes : List Write
+  writes = answer_writes (with_chain c old.ring) c (spent_bytes c)
+
+  gives : Takes old.ring m c bytes (with_chain c old.ring)
+  gives = subst (λ (r : RingState). Takes old.ring m c bytes r) taken.after taken
+
+  of_queue : c.ticket.queue ≡ 1
+  of_queue = ap (λ (t : Ticket). t.queue) taken.ticket ∙ event
+
+  is_accepted : new ≡ accepted
+  is_accepted = same_lent new (with_chain c old.ring) old.notices taken.after same
+
+  -- the transition that the taking of the buffer is
+  pub buffer_taken : (q' : BareQueue) (m' : List ℕ) (p' : PlainPort) (b : Bool) → (is_short c || p.missed) ≡ b
+      → TakesBuffer b c new m p q' m' p'
+      → (d : Transition) × IsEventFetch d × DoesAtPort d (with_slot s old) m p (with_slot s q') m' p'
+  buffer_taken q' m' p' false held (stays, port) = (
+    Transition.Hold fetch,
+    of_queue,
+    record {
+      asks = λ inventory. (gives, held);
+      queue = ap (with_slot s) (stays.queue ∙ is_accepted);
+      memory = stays.memory;
+      port = port;
+    },
+  )
+  buffer_taken q' m' p' true spent (uses, port) =
+      let memory : m' ≡ all_written m writes =
+      uses.memory ∙ ap (λ (n : BareQueue). all_written m (answer_writes n.ring c (spent_bytes c))) is_accepted in (
+        Transition.UseBuffer fetch writes,
+        of_queue,
+        record {
+          asks = λ inventory. (gives, spent, refl);
+          queue =
+              ap (with_slot s)
+              (uses.queue
+              ∙ ap (λ (n : BareQueue). completing m' c n) is_accepted
+              ∙ ap (λ (k : List ℕ). completing k c accepted) memory);
+          memory = memory;
+          port = port;
+        },
+      )
+
+-- a fault of the guest that breaks the event queue is the transition that breaks it
+pub broken_at_port : (old new : BareQueue) (m : List ℕ) (s : Slot) (p : PlainPort) (b : Breaks old m new)
+    → DoesAtPort (Transition.Break old.ring.queue b.fault) (with_slot s old) m p (with_slot s new) m p
+broken_at_port old new m s p b =
+    record {
+      asks = λ inventory. (b.whole, b.offered);
+      queue = ap (with_slot s) b.after;
+      memory = refl;
+      port = refl;
+    }

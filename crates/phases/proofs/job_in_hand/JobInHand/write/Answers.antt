@@ -1,0 +1,25 @@
+use Rattle.std.proofs.Common.{◌≡◌, ◌∙◌, ap, length}
+use Rattle.ring_core.specs.Parts.{readable_total, writable_total}
+use Rattle.ring_core.specs.State.{PlainChain}
+use Rattle.ring_core.specs.Writes.{all_written, scatter_writes}
+use Rattle.decisions.specs.declared.answer.ChainLengths.{ChainLengths}
+use Rattle.unit_model.specs.Endings.{answer_of}
+use Rattle.unit_history.specs.Endings.{ending_of}
+use Rattle.device_model.specs.Parts.{lengths_of}
+use Rattle.phases.proofs.Answered.{both_lengths}
+use Rattle.phases.proofs.job_in_hand.JobInHand.write.Goals as goal
+
+pub returns-clause-written : goal.returns-clause-written
+returns-clause-written c =
+    let m = c.args.memory.now in
+    let chain = c.self.inside.job.chain in
+    let e = ending_of c.in-Some.outcome in
+    let n = c.lengths.result in
+    let whole : n ≡ lengths_of chain = both_lengths n (readable_total chain.parts) (writable_total chain.parts)
+    c.lengths.ensures.readable c.lengths.ensures.writable in
+    rw (← c.self.view_is) (rw c.in-Some.is (record {
+      written = c.write_outcome.ensures.written ∙ ap (λ (k : ChainLengths). length (answer_of k e)) whole;
+      memory = c.write_outcome.ensures.memory
+          ∙ ap (λ (d : PlainChain). all_written m (scatter_writes d.parts 0 (answer_of n e))) c.chain.ensures
+          ∙ ap (λ (k : ChainLengths). all_written m (scatter_writes chain.parts 0 (answer_of k e))) whole;
+    }))

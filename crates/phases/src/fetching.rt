@@ -1,0 +1,123 @@
+//! The steps that take a chain from a queue.
+
+ghost use Rattle.std.specs.Prelude.{◌≡◌, ◌+◌, ◌≤◌, ◌^◌, length};
+ghost use Rattle.ring_core.specs.Parts.{PartsFit, writable_total};
+ghost use Rattle.task_mgmt.specs.Control.{Suits};
+ghost use Rattle.device_model.specs.Happens.{DecidesControl};
+ghost use Rattle.device_model.specs.Parts.{lengths_of};
+ghost use Rattle.phases.specs.Queue.{with_slot};
+ghost use Rattle.phases.specs.Slots.{slot_of};
+ghost use Rattle.phases.specs.Fetching.{FetchesRequest, FetchesControl, IsDecided};
+
+use crate::direct_chain::DirectChain;
+use crate::function::OpenFunction;
+use crate::slot::Slot;
+use crate::taking::{Taken, take_request};
+use block_store::NoMemory;
+use decisions::{ChainLengths, DirectAnswer, Inventory};
+use guest_mem::GuestMem;
+use queues::{Fetch, Queue};
+use ring_core::{Chain, Fetched};
+use scsi_codec::{CONTROL_QUEUE, one_control};
+use task_mgmt::{ControlDecision, decide_control};
+
+/// The lengths of a chain.
+pub(crate) fn lengths_of_chain(chain: &Chain) -> ChainLengths
+    ensures lengths { result ≡ lengths_of chain.now }
+    ensures sum { result.readable + result.writable ≤ 2 ^ 32 }
+    ensures fit { PartsFit chain.now.memory chain.now.parts }
+{
+    let _parts = chain.parts();
+    ChainLengths {
+        readable: chain.readable_len(),
+        writable: chain.writable_len(),
+    }
+}
+
+/// Takes the next chain of a request queue, where its slot is empty and the memory is the queue's, and decides of it:
+/// a request that arrived, or a chain that is answered directly, then stands in the slot. A fault of the guest breaks
+/// the queue. Whether something changed; `NoMemory`, with nothing changed, where the fetch was refused memory or the
+/// queue has accepted 2^64 - 1 chains.
+pub fn phase_fetch(
+    queue: &mut Queue,
+    slot: &mut Slot,
+    memory: &GuestMem,
+    inventory: &Inventory,
+) -> Result<bool, NoMemory>
+    ensures { FetchesRequest inventory.now memory.now
+        (with_slot (slot_of slot.old) queue.old) result (with_slot (slot_of slot.new) queue.new) }
+{
+    match take_request(queue, slot, memory, inventory) {
+        Err(NoMemory) => Err(NoMemory),
+        Ok(Taken::Nothing) => Ok(false),
+        Ok(Taken::Other) => Ok(true),
+        Ok(Taken::Arrived(arrival)) => {
+            *slot = Slot::Arrived(arrival);
+            Ok(true)
+        }
+    }
+}
+
+/// What is decided of a chain of the control queue with these bytes.
+fn decision_of_chain(inventory: &Inventory, chain: &Chain, bytes: &[u8]) -> ControlDecision
+    ensures decision { DecidesControl inventory.now (record { chain = chain.now; bytes = bytes.now }) result }
+    ensures suits { Suits (length inventory.now) (writable_total chain.now.parts) result }
+{
+    one_control();
+    decide_control(inventory, bytes, chain.writable_len())
+}
+
+/// What a chain of the control queue leaves in the slot, or opens.
+fn decided_control(
+    slot: &mut Slot,
+    function: &mut Option<OpenFunction>,
+    inventory: &Inventory,
+    fetched: Fetched,
+)
+    ensures { IsDecided inventory.now fetched.chain fetched.bytes.items
+        (slot_of slot.old) function.old (slot_of slot.new) function.new }
+{
+    let Fetched { chain, bytes } = fetched;
+    match decision_of_chain(inventory, &chain, bytes.as_slice()) {
+        ControlDecision::Direct(answer) => {
+            *slot = Slot::Direct(DirectChain::decided(
+                chain,
+                DirectAnswer::of_bytes(answer.as_slice()),
+            ));
+        }
+        ControlDecision::Opens(begun) => {
+            *function = Some(OpenFunction::new(chain, begun));
+        }
+    }
+}
+
+/// Takes the next chain of the control queue, where no function is open, its slot is empty and the memory is the
+/// queue's, and decides of it: a function opens, or the chain is answered directly. A fault of the guest breaks the
+/// queue. Whether something changed; `NoMemory` as of a request queue.
+pub fn phase_fetch_control(
+    queue: &mut Queue,
+    slot: &mut Slot,
+    function: &mut Option<OpenFunction>,
+    memory: &GuestMem,
+    inventory: &Inventory,
+) -> Result<bool, NoMemory>
+    ensures { FetchesControl inventory.now memory.now (with_slot (slot_of slot.old) queue.old) function.old
+        result (with_slot (slot_of slot.new) queue.new) function.new }
+{
+    if queue.number() != CONTROL_QUEUE
+        || function.is_some()
+        || !slot.is_empty()
+        || !queue.fits(memory)
+    {
+        return Ok(false);
+    }
+    match queue.fetch(memory) {
+        Err(NoMemory) => Err(NoMemory),
+        Ok(Fetch::Idle) => Ok(false),
+        Ok(Fetch::Broke) => Ok(true),
+        Ok(Fetch::Got(fetched)) => {
+            decided_control(slot, function, inventory, fetched);
+            Ok(true)
+        }
+    }
+}

@@ -1,0 +1,100 @@
+//! A job in hand.
+
+ghost use Rattle.std.specs.Prelude.{◌≡◌, is_some, Some};
+ghost use Rattle.unit_history.specs.Calls.{Commits};
+
+use crate::response::write_outcome;
+use guest_mem::GuestMem;
+use std::marker::Model;
+use unit_history::{Job, Outcome, PreparedWrite, StartedWrite, UnitState};
+
+/// A job in hand, the pages of its WRITE once they are made, and what came of its commit once that is over. The commit
+/// changes it in place, so that the job doesn't move.
+#[derive(Drop)]
+pub struct JobInHand {
+    job: Job,
+    pages: Option<PreparedWrite>,
+    outcome: Option<Outcome>,
+}
+
+impl Model for JobInHand {
+    ghost use Rattle.std.specs.Prelude.{IfSome};
+    ghost use Rattle.cdb.specs.Need.{need_of};
+    ghost use Rattle.unit_history.specs.Endings.{FitsNeed};
+    ghost use Rattle.phases.specs.Outcomes.{PlainJobInHand};
+
+    ghost Value = { PlainJobInHand };
+
+    ghost view = { λ h. record { job = h.job; outcome = h.outcome } };
+
+    ghost invariant = { λ h. IfSome h.outcome (FitsNeed (need_of h.job.entry.command).into) };
+}
+
+impl JobInHand {
+    ghost use Rattle.std.specs.Prelude.{None, true, length};
+    ghost use Rattle.phases.specs.Outcomes.{WritesEnding};
+    ghost use Rattle.unit_history.specs.declared.outcomes.Outcome as answers;
+
+    /// Makes a job that is to be committed.
+    pub fn new(job: Job) -> JobInHand
+        ensures { result ≡ record { job = job; outcome = None } }
+    {
+        JobInHand {
+            job,
+            pages: None,
+            outcome: None,
+        }
+    }
+
+    /// Returns the job.
+    pub fn job(&self) -> &Job
+        ensures { result.now ≡ self.now.job }
+    {
+        &self.job
+    }
+
+    /// Returns true if its commit is over.
+    pub fn is_over(&self) -> bool
+        ensures { result ≡ is_some self.now.outcome }
+    {
+        self.outcome.is_some()
+    }
+
+    /// The pages of its WRITE are made of what was copied for them; none where memory was refused.
+    pub(crate) fn prepare(&mut self, started: StartedWrite)
+        ensures { self.new ≡ self.old }
+    {
+        self.pages = started.prepare();
+    }
+
+    /// The job is committed at its unit, with the pages of its WRITE, if they were made.
+    pub(crate) fn commit(&mut self, unit: &mut UnitState)
+        ensures { (o : answers.Outcome) × Commits unit.old self.old.job o unit.new
+            × (self.new ≡ record { job = self.old.job; outcome = Some o }) }
+    {
+        self.outcome = Some(unit.commit_with(&self.job, self.pages.take()));
+    }
+
+    /// Writes what answers the job over the writable parts of its chain, where its commit is over: how many bytes it
+    /// has.
+    pub(crate) fn write(&self, memory: &mut GuestMem) -> u32
+        requires fits { length memory.old ≡ self.now.job.chain.memory }
+        requires over { is_some self.now.outcome ≡ true }
+        ensures written { WritesEnding self.now memory.old result memory.new }
+        ensures size { length memory.new ≡ length memory.old }
+    {
+        match &self.outcome {
+            Some(outcome) => write_outcome(memory, self.job.chain(), &self.job.lengths(), outcome),
+            None => unreachable!(),
+        }
+    }
+
+    /// The job, and what came of its commit once that is over.
+    pub(crate) fn into_parts(self) -> (Job, Option<Outcome>)
+        ensures job { result.0 ≡ self.job }
+        ensures outcome { result.1 ≡ self.outcome }
+    {
+        let JobInHand { job, outcome, .. } = self;
+        (job, outcome)
+    }
+}

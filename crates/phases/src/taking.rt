@@ -1,0 +1,79 @@
+//! The step that takes a request from its queue.
+
+ghost use Rattle.std.specs.Prelude.{◌≡◌, length, min};
+ghost use Rattle.ring_core.specs.Parts.{readable_total};
+ghost use Rattle.phases.specs.Slots.{slot_of};
+ghost use Rattle.phases.specs.Taking.{IsTakenAs, TakesRequest, IsOutstanding};
+
+use crate::direct_chain::DirectChain;
+use crate::fetching::lengths_of_chain;
+use crate::slot::Slot;
+use block_store::NoMemory;
+use decisions::{Decision, Inventory, decide};
+use guest_mem::GuestMem;
+use queues::{Fetch, Queue};
+use ring_core::Fetched;
+use scsi_codec::FIRST_REQUEST_QUEUE;
+use task_set::Arrival;
+
+/// What was taken from a request queue.
+#[derive(Drop)]
+pub enum Taken {
+    /// Nothing.
+    Nothing,
+    /// A chain whose answer stands in the slot now, or the first fault.
+    Other,
+    /// A request.
+    Arrived(Arrival),
+}
+
+/// What is decided of a chain that was taken: the request, unless its answer stands in the slot.
+#[inline(always)]
+fn decided(inventory: &Inventory, fetched: Fetched, slot: &mut Slot) -> Taken
+    requires { length fetched.bytes.items ≡ min 1048627 (readable_total fetched.chain.parts) }
+    ensures { IsTakenAs inventory.now fetched.chain fetched.bytes.items (slot_of slot.old) result (slot_of slot.new) }
+{
+    let Fetched {
+        mut chain,
+        mut bytes,
+    } = fetched;
+    let lengths = lengths_of_chain(&chain);
+    match decide(inventory, &mut bytes, &lengths) {
+        Decision::Direct(answer) => {
+            chain.keep_room(bytes);
+            *slot = Slot::Direct(DirectChain::decided(chain, answer));
+            Taken::Other
+        }
+        Decision::Enter(unit, request) => {
+            chain.keep_room(bytes);
+            Taken::Arrived(Arrival::new(unit, chain, request))
+        }
+    }
+}
+
+/// Takes the next chain of a request queue as [`phase_fetch`](crate::phase_fetch) does, but for a request that arrives:
+/// that one is given to whoever calls, who puts it into the slot or serves it. Its chain is outstanding at the queue.
+#[inline(always)]
+pub fn take_request(
+    queue: &mut Queue,
+    slot: &mut Slot,
+    memory: &GuestMem,
+    inventory: &Inventory,
+) -> Result<Taken, NoMemory>
+    ensures takes { TakesRequest inventory.now memory.now (slot_of slot.old) queue.old
+        result (slot_of slot.new) queue.new }
+    ensures owned { IsOutstanding memory.now result queue.new }
+{
+    if queue.number() < FIRST_REQUEST_QUEUE || !slot.is_empty() || !queue.fits(memory) {
+        return Ok(Taken::Nothing);
+    }
+    match queue.fetch(memory) {
+        Err(NoMemory) => Err(NoMemory),
+        Ok(Fetch::Idle) => Ok(Taken::Nothing),
+        Ok(Fetch::Broke) => Ok(Taken::Other),
+        Ok(Fetch::Got(fetched)) => {
+            let _parts = fetched.chain.parts();
+            Ok(decided(inventory, fetched, slot))
+        }
+    }
+}

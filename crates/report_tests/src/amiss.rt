@@ -1,0 +1,181 @@
+//! Reports with something amiss, and what is said of them.
+
+use crate::parts::{Parts, UNITS, queue, unit};
+use crate::serving::{REFUSED, REFUSED_FIRST, RUN, RUN_ELSEWHERE};
+use decisions::UnitSpec;
+use report::{CloseFault, Report, examine};
+use std::alloc::Global;
+use unit_history::{Note, Receipt, ReceiptOrNote, UnitState};
+
+/// What is amiss in a report of a device whose queue 2 had a request that ran, and whose queue 3 had one that was
+/// refused.
+#[derive(Clone, Copy)]
+pub enum Amiss {
+    /// Nothing.
+    Nothing,
+    /// The receipt of the first is lost.
+    ReceiptLost,
+    /// There is another receipt of the same commit.
+    ReceiptTwice,
+    /// The units are put back as they were before any request.
+    HistoryLost,
+    /// The second was fetched alone.
+    ChainUnused,
+    /// The first has a note in place of its receipt.
+    NoteOfAnother,
+    /// The note of the second is lost, and so is the receipt of the first.
+    BothLost,
+    /// In place of the second unit stands one where the first ran, too.
+    RunTwice,
+    /// The second unit, of which nothing was asked, is gone.
+    UnitGone,
+    /// In place of the second unit stands another.
+    OtherUnit(Other),
+    /// In place of the event queue stands a second control queue.
+    OtherQueue,
+}
+
+/// What another unit in place of the second has.
+#[derive(Clone, Copy)]
+pub enum Other {
+    /// Another target.
+    Target,
+    /// Another LUN.
+    Lun,
+    /// Another capacity.
+    Capacity,
+    /// No replies that it keeps.
+    Replies,
+}
+
+/// A device that was closed, and what its requests were answered with.
+#[derive(Drop)]
+struct Closed {
+    parts: Parts,
+    receipts: Vec<Receipt>,
+    notes: Vec<Note>,
+}
+
+/// The first request ran, and the second wasn't asked.
+fn with_first(alloc: Global) -> Option<Closed> {
+    let mut parts = Parts::new(alloc)?;
+    let ReceiptOrNote::Receipt(receipt) = parts.serve(alloc, &RUN)? else {
+        return None;
+    };
+    let mut receipts = Vec::new(alloc);
+    receipts.push(receipt).ok()?;
+    Some(Closed {
+        parts,
+        receipts,
+        notes: Vec::new(alloc),
+    })
+}
+
+/// Both were served.
+fn with_both(alloc: Global) -> Option<Closed> {
+    let mut closed = with_first(alloc)?;
+    let note = closed.parts.refuse(&REFUSED)?;
+    closed.notes.push(note).ok()?;
+    Some(closed)
+}
+
+/// A note of the first chain of queue 2, as another device gave it.
+fn another_note(alloc: Global) -> Option<Note> {
+    Parts::new(alloc)?.refuse(&REFUSED_FIRST)
+}
+
+/// How the unit is wanted that stands in place of the second.
+fn spec_of(other: Other) -> UnitSpec {
+    let second = UNITS[1];
+    match other {
+        Other::Target => UnitSpec {
+            target: 1,
+            ..second
+        },
+        Other::Lun => UnitSpec { lun: 2, ..second },
+        Other::Capacity => UnitSpec {
+            blocks: 9,
+            ..second
+        },
+        Other::Replies => second,
+    }
+}
+
+/// The unit that stands in place of the second.
+fn other_unit(alloc: Global, other: Other) -> Option<UnitState> {
+    unit(alloc, &spec_of(other), !matches!(other, Other::Replies))
+}
+
+/// In place of the last unit stands this one.
+fn put_last(units: &mut Vec<UnitState>, unit: UnitState) -> Option<()> {
+    units.pop()?;
+    units.push(unit).ok()
+}
+
+/// In place of the event queue stands a second control queue.
+fn put_queue(alloc: Global, parts: &mut Parts) -> Option<()> {
+    let other = queue(alloc, 0, &parts.memory)?;
+    *parts.queues.get_mut(1)? = other;
+    Some(())
+}
+
+/// With what is amiss.
+fn closed_with(alloc: Global, amiss: Amiss) -> Option<Closed> {
+    let mut closed = with_both(alloc)?;
+    match amiss {
+        Amiss::Nothing => {}
+        Amiss::ReceiptLost => closed.receipts.clear(),
+        Amiss::ReceiptTwice => {
+            closed
+                .receipts
+                .push(with_first(alloc)?.receipts.pop()?)
+                .ok()?;
+        }
+        Amiss::HistoryLost => closed.parts.units = Parts::new(alloc)?.units,
+        Amiss::ChainUnused => {
+            closed = with_first(alloc)?;
+            closed.parts.fetch(&REFUSED)?;
+        }
+        Amiss::NoteOfAnother => {
+            closed.receipts.clear();
+            closed.notes.push(another_note(alloc)?).ok()?;
+        }
+        Amiss::RunTwice => {
+            let mut other = Parts::new(alloc)?;
+            other.serve(alloc, &RUN_ELSEWHERE)?;
+            put_last(&mut closed.parts.units, other.units.pop()?)?;
+        }
+        Amiss::UnitGone => {
+            closed.parts.units.pop()?;
+        }
+        Amiss::OtherUnit(other) => {
+            put_last(&mut closed.parts.units, other_unit(alloc, other)?)?;
+        }
+        Amiss::OtherQueue => put_queue(alloc, &mut closed.parts)?,
+        Amiss::BothLost => {
+            closed.receipts.clear();
+            closed.notes.clear();
+        }
+    }
+    Some(closed)
+}
+
+/// What is said of a report with this amiss; `None` where memory was refused.
+pub fn fault_of(alloc: Global, amiss: Amiss) -> Option<Option<CloseFault>> {
+    let closed = closed_with(alloc, amiss)?;
+    let report = Report {
+        units: closed.parts.units,
+        queues: closed.parts.queues,
+        memory: closed.parts.memory,
+        receipts: closed.receipts,
+        notes: closed.notes,
+    };
+    if report.queues.len() > 65536 {
+        return None;
+    }
+    match examine(alloc, &UNITS, report) {
+        Ok(_) => Some(None),
+        Err(CloseFault::NoMemory) => None,
+        Err(fault) => Some(Some(fault)),
+    }
+}

@@ -1,0 +1,265 @@
+//! What serves a small device, through what one thread lends of it.
+
+use crate::parts::{Parts, put, used};
+use bays::{
+    Bays, Open, Plain, answer_on, answer_tmf_on, check_on, commit_on, direct_on, enter_on,
+    fetch_control_on, fetch_event_on, fetch_on, hard_on, leave_on, mark_on, raise_on,
+};
+use decisions::Inventory;
+use event_queue::{EventPort, WaitingEvents};
+use phases::{Hand, OpenFunction, Slot};
+use std::alloc::Global;
+use unit_history::{Cause, Job, JobList, Note, ReceiptOrNote};
+
+/// What a guest asks for: TEST UNIT READY of a unit on a queue.
+#[derive(Clone, Copy)]
+pub(crate) struct Asked {
+    pub queue: u16,
+    pub target: u8,
+    pub lun: u8,
+}
+
+/// One that is run.
+pub(crate) const RUN: Asked = Asked {
+    queue: 2,
+    target: 0,
+    lun: 0,
+};
+
+/// The same of the other unit.
+pub(crate) const RUN_ELSEWHERE: Asked = Asked { lun: 1, ..RUN };
+
+/// One of a target that isn't there.
+pub(crate) const REFUSED: Asked = Asked {
+    queue: 3,
+    target: 7,
+    lun: 0,
+};
+
+/// The same on the queue of the first.
+pub(crate) const REFUSED_FIRST: Asked = Asked {
+    queue: 2,
+    ..REFUSED
+};
+
+/// The bytes that ask for it (VIRTIO 1.2 §5.6.6.1).
+fn request(asked: &Asked) -> [u8; 51] {
+    let mut bytes = [0; 51];
+    bytes[0] = 1;
+    bytes[1] = asked.target;
+    bytes[3] = asked.lun;
+    bytes
+}
+
+/// LOGICAL UNIT RESET of LUN 0 (VIRTIO 1.2 §5.6.6.2).
+const RESET: [u8; 24] = [
+    0, 0, 0, 0, 5, 0, 0, 0, 1, 0, 0, 0, 0, 0, 0, 0, 0, 0, 0, 0, 0, 0, 0, 0,
+];
+
+/// The first chain of a request queue is taken.
+fn fetch_at<B: Bays>(bays: &mut B, at: usize, inventory: &Inventory) -> Option<Slot> {
+    if at >= bays.queue_count() {
+        return None;
+    }
+    let mut slot = Slot::Empty;
+    match fetch_on(bays, at, &mut slot, inventory) {
+        Ok(true) => Some(slot),
+        _ => None,
+    }
+}
+
+/// The request that arrived enters.
+fn enter<B: Bays>(bays: &mut B, mut slot: Slot, mut out: JobList) -> Option<JobList> {
+    let place = slot.unit()?;
+    if place >= bays.unit_count() {
+        return None;
+    }
+    if enter_on(bays, place, &mut slot, &mut out) && slot.is_empty() {
+        return Some(out);
+    }
+    None
+}
+
+/// A job is committed.
+fn commit<B: Bays>(bays: &mut B, job: Job) -> Option<Hand> {
+    let mut hand = Hand::taken(job);
+    let place = hand.committing_unit()?;
+    if place >= bays.unit_count() {
+        return None;
+    }
+    if commit_on(bays, &Open, place, &mut hand) {
+        return Some(hand);
+    }
+    None
+}
+
+/// The job in the hand is answered: what that leaves.
+fn answer<B: Bays>(bays: &mut B, hand: &mut Hand) -> Option<ReceiptOrNote> {
+    let at = usize::from(hand.answering_queue()?);
+    if at >= bays.queue_count() {
+        return None;
+    }
+    answer_on(bays, at, hand)
+}
+
+/// Whether the task in the hand leaves.
+fn leaves<B: Bays>(bays: &mut B, mut hand: Hand, mut out: JobList) -> Option<bool> {
+    let place = hand.leaving_unit()?;
+    if place >= bays.unit_count() {
+        return None;
+    }
+    let did = leave_on(bays, place, &mut hand, &mut out);
+    Some(did && hand.is_empty())
+}
+
+/// The first chain of a request queue is served from its fetch to its leave: what it leaves.
+fn serve_at<B: Bays>(
+    alloc: Global,
+    bays: &mut B,
+    at: usize,
+    inventory: &Inventory,
+) -> Option<ReceiptOrNote> {
+    let slot = fetch_at(bays, at, inventory)?;
+    let mut out = enter(bays, slot, JobList::with_limit(alloc, 64).ok()?)?;
+    let mut hand = commit(bays, out.next()?)?;
+    let given = answer(bays, &mut hand)?;
+    if leaves(bays, hand, out)? {
+        return Some(given);
+    }
+    None
+}
+
+/// The first chain of a request queue is answered directly: the note of it.
+fn refuse_at<B: Bays>(bays: &mut B, at: usize, inventory: &Inventory) -> Option<Note> {
+    let mut slot = fetch_at(bays, at, inventory)?;
+    if at >= bays.queue_count() {
+        return None;
+    }
+    let note = direct_on(bays, at, &mut slot);
+    if slot.is_empty() { note } else { None }
+}
+
+/// The first chain of the control queue is taken, which opens a function.
+fn open<B: Bays>(bays: &mut B, inventory: &Inventory) -> Option<OpenFunction> {
+    if bays.queue_count() == 0 {
+        return None;
+    }
+    let (mut slot, mut function) = (Slot::Empty, None);
+    match fetch_control_on(bays, 0, &mut slot, &mut function, inventory) {
+        Ok(true) if slot.is_empty() => function,
+        _ => None,
+    }
+}
+
+/// The function marks its unit, and sees that it is clear.
+fn mark_and_check<B: Bays>(
+    bays: &mut B,
+    mut function: OpenFunction,
+    mut out: JobList,
+) -> Option<OpenFunction> {
+    let place = function.function().next_unit()?;
+    if place >= bays.unit_count() || !mark_on(bays, place, &mut function, &mut out) {
+        return None;
+    }
+    let place = function.function().waits_for()?.unit;
+    if place < bays.unit_count() && check_on(bays, place, &mut function) {
+        return Some(function);
+    }
+    None
+}
+
+/// Whether a function on the control queue is served.
+fn serves_function<B: Bays>(alloc: Global, bays: &mut B, inventory: &Inventory) -> Option<bool> {
+    let function = open(bays, inventory)?;
+    let function = mark_and_check(bays, function, JobList::with_limit(alloc, 64).ok()?)?;
+    if bays.queue_count() == 0 {
+        return None;
+    }
+    let mut function = Some(function);
+    Some(answer_tmf_on(bays, 0, &mut function) && function.is_none())
+}
+
+/// Whether the operator resets the first unit, and the event goes to the one buffer of the event queue.
+fn serves_event<B: Bays>(alloc: Global, bays: &mut B) -> Option<bool> {
+    let (mut port, mut waiting) = (EventPort::new(alloc, 8).ok()?, WaitingEvents::new(alloc));
+    let mut out = JobList::with_limit(alloc, 64).ok()?;
+    if bays.queue_count() <= 1 || bays.unit_count() == 0 {
+        return None;
+    }
+    let _ = fetch_event_on(bays, 1, &Slot::Empty, &mut port);
+    let _ = hard_on(bays, 0, &mut out, &mut waiting);
+    Some(raise_on(bays, 1, &mut port, &mut waiting))
+}
+
+impl Parts {
+    /// What one thread lends of it.
+    fn lend<'a>(&'a mut self) -> (Plain<'a>, &'a Inventory) {
+        let bays = Plain {
+            units: self.units.as_mut_slice(),
+            queues: self.queues.as_mut_slice(),
+            memory: &mut self.memory,
+        };
+        (bays, &self.inventory)
+    }
+
+    /// The first chain of a request queue is made available and taken.
+    pub(crate) fn fetch(&mut self, asked: &Asked) -> Option<Slot> {
+        put(&mut self.memory, asked.queue, &request(asked), 108);
+        let (mut bays, inventory) = self.lend();
+        fetch_at(&mut bays, usize::from(asked.queue), inventory)
+    }
+
+    /// A request is served from its fetch to its leave: what it leaves.
+    pub(crate) fn serve(&mut self, alloc: Global, asked: &Asked) -> Option<ReceiptOrNote> {
+        put(&mut self.memory, asked.queue, &request(asked), 108);
+        let (mut bays, inventory) = self.lend();
+        serve_at(alloc, &mut bays, usize::from(asked.queue), inventory)
+    }
+
+    /// A request that needs no unit is answered: the note of it.
+    pub(crate) fn refuse(&mut self, asked: &Asked) -> Option<Note> {
+        put(&mut self.memory, asked.queue, &request(asked), 108);
+        let (mut bays, inventory) = self.lend();
+        refuse_at(&mut bays, usize::from(asked.queue), inventory)
+    }
+
+    /// Whether a LOGICAL UNIT RESET is served.
+    fn reset(&mut self, alloc: Global) -> Option<bool> {
+        put(&mut self.memory, 0, &RESET, 1);
+        let (mut bays, inventory) = self.lend();
+        serves_function(alloc, &mut bays, inventory)
+    }
+
+    /// Whether the operator resets the first unit, and the guest is told so.
+    fn tell(&mut self, alloc: Global) -> Option<bool> {
+        put(&mut self.memory, 1, &[0], 16);
+        let (mut bays, _) = self.lend();
+        serves_event(alloc, &mut bays)
+    }
+
+    /// Whether a queue's chain was used, and no other of it.
+    fn has_used(&self, queue: u16) -> bool {
+        used(&self.memory, queue) == Some(1)
+    }
+}
+
+/// Whether a request of each kind is served, each once; `None` where memory was refused.
+pub fn serves_plain(alloc: Global) -> Option<bool> {
+    let mut parts = Parts::new(alloc)?;
+    let ReceiptOrNote::Receipt(_) = parts.serve(alloc, &RUN)? else {
+        return Some(false);
+    };
+    let has_run = parts.has_used(RUN.queue);
+    let was_reset = parts.reset(alloc)? && parts.has_used(0);
+    let was_told = parts.tell(alloc)? && parts.has_used(1);
+    Some(has_run && was_reset && was_told)
+}
+
+/// How many chains were used once a request was refused.
+pub fn refuses_plain(alloc: Global) -> Option<u8> {
+    let mut parts = Parts::new(alloc)?;
+    if parts.refuse(&REFUSED_FIRST)?.cause() != Cause::Direct {
+        return None;
+    }
+    used(&parts.memory, REFUSED_FIRST.queue)
+}

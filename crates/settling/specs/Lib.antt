@@ -1,4 +1,0 @@
-pub mod Order
-pub mod Measure
-pub mod Settling
-pub mod Waking

@@ -1,0 +1,167 @@
+//! Running a command whole.
+
+ghost use Rattle.std.specs.Prelude.{◌≡◌, ◌≤◌, ◌<◌, IfSome, if◌then◌else◌, length, true, IfOk, OnErr, false};
+ghost use Rattle.std.specs.Option.{option_map};
+ghost use Rattle.cdb.specs.Need.{need_of};
+ghost use Rattle.replies.specs.PlainReply.{plain_of};
+ghost use Rattle.block_store.specs.Drafts.{prepared_draft};
+ghost use Rattle.block_commands.specs.Prepared.{IsOf};
+ghost use Rattle.block_commands.specs.Told.{facts_of};
+ghost use Rattle.sense.specs.Conditions.{unit_attention};
+ghost use Rattle.unit_model.specs.Contents.{pending_at_start};
+ghost use Rattle.unit_history.specs.Kept.{kept_reply};
+ghost use Rattle.unit_history.specs.Performing.{Performs, told, taken, unkept};
+
+use crate::log::LONGEST_KEPT;
+use block_commands::{UnitFacts, exec_prepared, takes_attention};
+use block_store::{NoMemory, PagedStore, Prepared, Store};
+use cdb::Command;
+use replies::Reply;
+use sense::Sense;
+use std::alloc::{AllocError, Global};
+use unit_attention::{Attentions, Code};
+
+/// Returns what is pending before any command: POWER ON OR RESET (SAM-5 §5.14), but in a unit that is configured as
+/// calm.
+pub fn attentions_at_start(calm: bool) -> Attentions
+    ensures { result ≡ pending_at_start calm }
+{
+    let mut attentions = Attentions::new();
+    if !calm {
+        attentions.raise(Code::POWER_ON_OR_RESET);
+    }
+    attentions
+}
+
+/// A code as sense, key UNIT ATTENTION.
+fn sense_of(code: Code) -> Sense
+    ensures { result ≡ unit_attention code.asc code.ascq }
+{
+    Sense::unit_attention(code.asc, code.ascq)
+}
+
+/// Puts what is pending first among the facts.
+#[inline(always)]
+fn tell_oldest(facts: &mut UnitFacts, attentions: &Attentions)
+    ensures { facts.new ≡ told facts.old attentions.now }
+{
+    facts.pending = match attentions.peek() {
+        Some(code) => Some(sense_of(code)),
+        None => None,
+    };
+}
+
+/// Clears what is pending first, where the command takes it.
+#[inline(always)]
+fn clear_oldest(attentions: &mut Attentions, command: &Command)
+    ensures { attentions.new ≡ taken command.now attentions.old }
+{
+    if takes_attention(command) {
+        let _ = attentions.take();
+    }
+}
+
+/// The reply again, to be kept: only one with data takes memory, as much as these are.
+fn again(alloc: Global, reply: &Reply) -> Result<Reply, AllocError>
+    ensures same { IfOk result (λ kept. plain_of kept ≡ plain_of reply.now) }
+    ensures want { OnErr result (0 < length reply.now.payload.items) }
+{
+    let payload = if reply.payload.is_empty() {
+        Vec::new(alloc)
+    } else {
+        Vec::from_slice(alloc, reply.payload.as_slice())?
+    };
+    Ok(Reply {
+        status: reply.status,
+        sense: reply.sense,
+        payload,
+        moved: reply.moved,
+    })
+}
+
+/// The reply again, where it isn't too long to be kept.
+fn kept_of(alloc: Global, reply: &Reply) -> Result<Option<Reply>, AllocError>
+    ensures same { IfOk result (λ kept. option_map plain_of kept ≡ kept_reply true (plain_of reply.now)) }
+    ensures want { OnErr result (0 < length reply.now.payload.items) }
+{
+    if reply.payload.len() > LONGEST_KEPT {
+        return Ok(None);
+    }
+    Ok(Some(again(alloc, reply)?))
+}
+
+/// The reply to a command that ran, and the same again where replies are kept and it isn't too long.
+#[derive(Drop)]
+pub struct Performed {
+    /// The reply.
+    pub reply: Reply,
+    /// The same again, to be kept; `None` where it isn't kept.
+    pub kept: Option<Reply>,
+}
+
+/// Runs a command, with exactly the data that it takes, on the blocks of its unit, with what is pending, and with the
+/// new pages of its write, if they were prepared; its reply is kept nowhere. The unit calls it, in the hold of its lock.
+/// `NoMemory` where memory was refused, with blocks and attentions as before.
+#[inline(always)]
+pub fn run(
+    alloc: Global,
+    room: &mut Vec<u8>,
+    facts: &mut UnitFacts,
+    attentions: &mut Attentions,
+    store: &mut PagedStore,
+    command: &Command,
+    bytes: &[u8],
+    prepared: Option<Prepared>,
+) -> Result<Reply, NoMemory>
+    requires data { length bytes.now ≡ (need_of command.now).out }
+    requires own { IfSome prepared (λ pages. IsOf command.now bytes.now (prepared_draft pages)) }
+    ensures performed { Performs false (facts_of (told facts.old attentions.old) (⟦<PagedStore as Store>⟧.size store.old))
+        command.now bytes.now (unkept result)
+        (⟦<PagedStore as Store>⟧.block_at store.old) (⟦<PagedStore as Store>⟧.block_at store.new) attentions.old attentions.new }
+    ensures facts { facts.new ≡ told facts.old attentions.old }
+    ensures size { ⟦<PagedStore as Store>⟧.size store.new ≡ ⟦<PagedStore as Store>⟧.size store.old }
+    ensures fits { IfOk result (λ r. length r.payload.items ≤ (need_of command.now).into) }
+{
+    tell_oldest(facts, attentions);
+    let reply = exec_prepared(alloc, room, store, command, bytes, facts, prepared)?;
+    clear_oldest(attentions, command);
+    Ok(reply)
+}
+
+/// Runs a command as [`run`] does, and has its reply again, where replies are kept and it isn't too long; `None`
+/// where memory was refused, also to that, with blocks and attentions as before.
+#[inline(always)]
+pub fn perform(
+    alloc: Global,
+    room: &mut Vec<u8>,
+    facts: &mut UnitFacts,
+    attentions: &mut Attentions,
+    store: &mut PagedStore,
+    command: &Command,
+    bytes: &[u8],
+    prepared: Option<Prepared>,
+    keeps_replies: bool,
+) -> Option<Performed>
+    requires data { length bytes.now ≡ (need_of command.now).out }
+    requires own { IfSome prepared (λ pages. IsOf command.now bytes.now (prepared_draft pages)) }
+    ensures performed { Performs keeps_replies (facts_of (told facts.old attentions.old) (⟦<PagedStore as Store>⟧.size store.old))
+        command.now bytes.now result
+        (⟦<PagedStore as Store>⟧.block_at store.old) (⟦<PagedStore as Store>⟧.block_at store.new) attentions.old attentions.new }
+    ensures facts { facts.new ≡ told facts.old attentions.old }
+    ensures size { ⟦<PagedStore as Store>⟧.size store.new ≡ ⟦<PagedStore as Store>⟧.size store.old }
+    ensures fits { IfSome result (λ p. length p.reply.payload.items ≤ (need_of command.now).into) }
+{
+    if !keeps_replies {
+        let reply = run(
+            alloc, room, facts, attentions, store, command, bytes, prepared,
+        )
+        .ok()?;
+        return Some(Performed { reply, kept: None });
+    }
+    tell_oldest(facts, attentions);
+    let reply = exec_prepared(alloc, room, store, command, bytes, facts, prepared).ok()?;
+    // A reply with data is that of a command that changes no block.
+    let kept = kept_of(alloc, &reply).ok()?;
+    clear_oldest(attentions, command);
+    Some(Performed { reply, kept })
+}

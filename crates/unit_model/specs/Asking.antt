@@ -1,0 +1,30 @@
+-- Whose task a job is, by what its request asked for.
+use Rattle.std.specs.Prelude.{ℕ, ◌≡◌, ◌≢◌, ◌⊎◌, true, false, List, Option, Some, None, ⊤}
+use Rattle.cdb.specs.declared.commands.Command.{Command}
+use Rattle.decisions.specs.declared.attribute.TaskAttribute.{TaskAttribute}
+use Rattle.unit_model.specs.Tasks.{Entry, task_of}
+use Rattle.unit_model.specs.Steps.{Step, alive, done}
+use Rattle.unit_model.specs.Marks.{marked}
+use Rattle.unit_model.specs.Enabling.{enabled}
+use Rattle.unit_model.specs.Jobs.{PlainJob}
+
+-- own: what a job says of its request: all but the data that its command takes
+pub record Asked : Type 0 where
+  pub id : ℕ
+  pub attribute : TaskAttribute
+  pub command : Command
+
+abbrev pub asked_of : Entry → Asked
+asked_of e = record { id = e.id; attribute = e.attribute; command = e.command }
+
+-- own: the task is alive under the job's ticket, and entered with what the job says
+pub record IsOf (j : PlainJob) (e : Entry) (steps : List Step) : Type 0 where
+  pub is_there : task_of j.entry.ticket (alive steps) ≡ Some e
+  pub as_asked : asked_of e ≡ asked_of j.entry
+
+-- own: the task of the job's ticket, if there is one, entered with another request, is done, or was never handed out
+abbrev pub CannotCommit : Option Entry → PlainJob → List Step → Type 0
+CannotCommit None j steps = ⊤
+CannotCommit (Some e) j steps =
+    (asked_of e ≢ asked_of j.entry)
+    ⊎ ((done e.ticket steps ≡ true) ⊎ ((marked e.ticket steps ≡ false) × (enabled e steps ≡ false)))

@@ -1,0 +1,34 @@
+-- Jobs as plain values.
+use Rattle.std.specs.Prelude.{ℕ, ◌+◌, ◌≤◌, ◌<◌, ◌^◌, Bool, not, is_some, List, filter}
+use Rattle.cdb.specs.declared.commands.Command.{Command}
+use Rattle.cdb.specs.Need.{need_of}
+use Rattle.ring_core.specs.State.{PlainChain}
+use Rattle.ring_core.specs.Parts.{writable_total}
+use Rattle.unit_model.specs.Tasks.{Entry, task_of}
+
+-- own: the index of its unit in the inventory, its chain, and the task as it entered
+pub record PlainJob : Type 0 where
+  pub unit : ℕ
+  pub chain : PlainChain
+  pub entry : Entry
+
+-- the chain has room for the response, 108 bytes (VIRTIO 1.2 §5.6.6.1), and for the data that the command gives
+pub record HasRoom (c : PlainChain) (command : Command) : Type 0 where
+  pub room : 108 + (need_of command).into ≤ writable_total c.parts
+  pub less : writable_total c.parts < 2 ^ 32
+
+-- own: jobs in order, and how many there may be
+pub record Jobs : Type 0 where
+  pub jobs : List PlainJob
+  pub limit : ℕ
+
+-- own: the job is that of one of these tasks
+abbrev pub is_job_of : List Entry → PlainJob → Bool
+is_job_of tasks j = is_some (task_of j.entry.ticket tasks)
+
+-- own: the jobs of these tasks, and those of others, in their order
+abbrev pub of_tasks : List Entry → List PlainJob → List PlainJob
+of_tasks tasks jobs = filter (is_job_of tasks) jobs
+
+abbrev pub but_tasks : List Entry → List PlainJob → List PlainJob
+but_tasks tasks jobs = filter (λ j. not (is_job_of tasks j)) jobs

@@ -1,0 +1,5 @@
+use Rattle.handoff.specs.Seats.{IsSameSeat}
+use Rattle.workers.proofs.post.drain.Given as goal
+
+abbrev pub invariant-loop : goal.invariant-loop
+invariant-loop g l = IsSameSeat l.fn.post.seat l.post.seat
