@@ -106,6 +106,9 @@ int main(void) {
   must("peek", vscsi_peek(&device, IN_AT, found, sizeof found));
   printf("the second device reads %s\n", memcmp(found, data, sizeof data) ? "something else" : "what was written");
   must("close", vscsi_close(&device, &disk, 1));
+  memset(found, 0, sizeof found);
+  must("disk_save", vscsi_disk_save(&disk, 3, 1, found, sizeof found));
+  printf("the disk has %s\n", memcmp(found, data, sizeof data) ? "something else" : "what was written");
   must("disk_destroy", vscsi_disk_destroy(&disk));
   return 0;
 }

@@ -79,6 +79,7 @@ static void nulls(void) {
   struct vscsi device = {0};
   struct vscsi_disk disk = {0};
   struct vscsi_range ranges[VSCSI_MOST_RANGES];
+  struct vscsi_counts counts = {.left = 5};
   struct vscsi_fault fault;
   size_t count = 5;
   uint64_t n = 5;
@@ -107,6 +108,8 @@ static void nulls(void) {
   IS(vscsi_progress(0, 0, &n, &n), VSCSI_NULL);
   IS(vscsi_reset(0, 0, 0), VSCSI_NULL);
   IS(vscsi_resize(0, 0, 0, 1), VSCSI_NULL);
+  IS(vscsi_counts(0, 0, 0, &counts, sizeof counts), VSCSI_NULL);
+  IS(vscsi_counts(&device, 0, 0, 0, sizeof counts), VSCSI_NULL);
   IS(vscsi_capacity(0, 0, 0, &n), VSCSI_NULL);
   IS(vscsi_capacity(&device, 0, 0, 0), VSCSI_NULL);
   IS(vscsi_blocks(0, 0, 0, 0, 0, &byte, 0), VSCSI_NULL);
@@ -141,6 +144,7 @@ static void no_device(void) {
   struct vscsi device = {0};
   struct vscsi_disk disk = {0};
   struct vscsi_range ranges[VSCSI_MOST_RANGES];
+  struct vscsi_counts counts = {.left = 5};
   size_t count = 5;
   uint64_t n = 5;
   uint32_t bits = 5;
@@ -160,6 +164,9 @@ static void no_device(void) {
   IS(vscsi_progress(&device, 0, 0, 0), VSCSI_NO_DEVICE);
   IS(vscsi_reset(&device, 0, 0), VSCSI_NO_DEVICE);
   IS(vscsi_resize(&device, 0, 0, 0), VSCSI_NO_DEVICE);
+  IS(vscsi_counts(&device, 0, 0, &counts, sizeof counts - 1), VSCSI_BAD_LENGTH);
+  IS(vscsi_counts(&device, 0, 0, &counts, sizeof counts), VSCSI_NO_DEVICE);
+  IS(counts.left, 5);
   IS(vscsi_capacity(&device, 0, 0, &n), VSCSI_NO_DEVICE);
   IS(vscsi_blocks(&device, 0, 0, 0, 1, bytes, 512), VSCSI_NO_DEVICE);
   IS(vscsi_close(&device, &disk, 1), VSCSI_NO_DEVICE);
@@ -208,6 +215,11 @@ static void calls(struct vscsi *device) {
   IS(vscsi_progress(device, 2, 0, 0), VSCSI_DONE);
   IS(vscsi_progress(device, QUEUES, 0, 0), VSCSI_NO_QUEUE);
   // units
+  struct vscsi_counts counts = {.left = 5};
+  IS(vscsi_counts(device, 4, 1, &counts, sizeof counts), VSCSI_NO_UNIT);
+  IS(counts.left, 5);
+  IS(vscsi_counts(device, 4, 0, &counts, sizeof counts), VSCSI_DONE);
+  IS(counts.left + counts.full + counts.good + counts.check_conditions + counts.busy + counts.data_out + counts.data_in, 0);
   IS(vscsi_capacity(device, 4, 0, &n), VSCSI_DONE);
   IS(n, 1);
   IS(vscsi_capacity(device, 4, 1, &n), VSCSI_NO_UNIT);

@@ -11,9 +11,11 @@ enum { QUEUES = 3, SIZE = 8, PAGES = 16 };
 
 // The calls, by their names.
 #define EACH(of)                                                                                                                 \
-  of(vscsi_create) of(vscsi_destroy) of(vscsi_settle) of(vscsi_serve) of(vscsi_poke) of(vscsi_peek) of(vscsi_owed) of(vscsi_status) \
-      of(vscsi_broken) of(vscsi_progress) of(vscsi_reset) of(vscsi_capacity) of(vscsi_blocks) of(vscsi_version) of(vscsi_features) \
-          of(vscsi_answer_text) of(vscsi_cause_text) of(vscsi_broken_text)
+  of(vscsi_create) of(vscsi_create_with) of(vscsi_close) of(vscsi_destroy) of(vscsi_settle) of(vscsi_serve) of(vscsi_poke)       \
+      of(vscsi_peek) of(vscsi_owed) of(vscsi_status) of(vscsi_broken) of(vscsi_progress) of(vscsi_reset) of(vscsi_resize) of(vscsi_counts) \
+          of(vscsi_capacity) of(vscsi_blocks) of(vscsi_changed) of(vscsi_disk_create) of(vscsi_disk_destroy)                     \
+              of(vscsi_disk_blocks) of(vscsi_disk_load) of(vscsi_disk_save) of(vscsi_version) of(vscsi_features)                 \
+                  of(vscsi_answer_text) of(vscsi_cause_text) of(vscsi_broken_text)
 
 #define FIELD(name) __typeof__(&name) name;
 #define LOAD(name) library.name = (__typeof__(&name))found(handle, #name);
@@ -83,6 +85,16 @@ int main(int count, char **words) {
   printf("blocks: %u\n", (unsigned)blocks);
   must("destroy", library.vscsi_destroy(&device));
   printf("destroyed twice: %s\n", library.vscsi_answer_text(library.vscsi_destroy(&device)));
+
+  // a disk goes through a device, and grows there
+  struct vscsi_disk disk = {0};
+  must("disk_create", library.vscsi_disk_create(&disk, unit.blocks));
+  must("create_with", library.vscsi_create_with(&device, &config, &disk, NULL));
+  must("resize", library.vscsi_resize(&device, 0, 0, 2000));
+  must("close", library.vscsi_close(&device, &disk, 1));
+  must("disk_blocks", library.vscsi_disk_blocks(&disk, &blocks));
+  printf("the disk has %u blocks\n", (unsigned)blocks);
+  must("disk_destroy", library.vscsi_disk_destroy(&disk));
   printf("calls: %u\n", calls);
   return dlclose(handle) ? 1 : 0;
 }

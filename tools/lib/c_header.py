@@ -3,7 +3,7 @@
 import re
 from pathlib import Path
 
-HEADER = Path(__file__).resolve().parent.parent / "crates/vscsi_c/include/vscsi.h"
+HEADER = Path(__file__).resolve().parent.parent.parent / "crates/vscsi_c/include/vscsi.h"
 
 # A declared call, behind its result.
 CALL = re.compile(r"^(?:[\w ]+?[ *])(vscsi_\w+)\([^;{]*\);", re.M)

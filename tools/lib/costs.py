@@ -16,7 +16,7 @@ EVERY = 0.5
 
 TICKS = os.sysconf("SC_CLK_TCK")
 
-ROOT = Path(__file__).resolve().parent.parent
+ROOT = Path(__file__).resolve().parent.parent.parent
 
 # The steps of a crate, as `rt ci` takes them, and what they may cost on one core of a quiet machine, in seconds.
 BUDGET = {"proof": 480, "tests": 240, "edits": 120}
