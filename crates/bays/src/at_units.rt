@@ -76,8 +76,8 @@ fn pass_locked<G: Gate>(gate: &G, hand: &Hand) {
 }
 
 /// Commits the job in the hand (`phase_commit`), in one hold of its unit, inside which, before anything is done, the
-/// gate is passed at its point Locked. The seat that has the hand calls, with its place from `Hand::committing_unit`.
-/// Whether something changed.
+/// gate is passed at its point Locked. The pages that the commit left over are freed behind the hold. The seat that has
+/// the hand calls, with its place from `Hand::committing_unit`. Whether something changed.
 pub fn commit_on<B: Bays, G: Gate>(bays: &mut B, gate: &G, at: usize, hand: &mut Hand) -> bool
     requires there { at < B.units bays.old }
     ensures did { (u : PlainUnit) × (v : PlainUnit) × B.lends_unit bays.old at u
@@ -87,7 +87,7 @@ pub fn commit_on<B: Bays, G: Gate>(bays: &mut B, gate: &G, at: usize, hand: &mut
     ensures units { B.units bays.new ≡ B.units bays.old }
     ensures queues { B.queues bays.new ≡ B.queues bays.old }
 {
-    bays.unit(
+    let changed = bays.unit(
         at,
         hand,
         &mut (),
@@ -98,7 +98,9 @@ pub fn commit_on<B: Bays, G: Gate>(bays: &mut B, gate: &G, at: usize, hand: &mut
             pass_locked(gate, hand);
             phase_commit(unit, hand)
         },
-    )
+    );
+    hand.let_go();
+    changed
 }
 
 /// Has the task in the hand leave its unit (`phase_leave`), in one hold of that. The seat that has the hand calls, with

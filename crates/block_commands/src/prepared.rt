@@ -1,12 +1,13 @@
 //! One command, run whole, with the pages of its write.
 
-ghost use Rattle.std.specs.Prelude.{◌≡◌, ◌≤◌, ◌+◌, ℕ, [], length, vec_len, IfOk, IfSome, OnErr, IsTrue, if◌then◌else◌};
+ghost use Rattle.std.specs.Prelude.{◌≡◌, ◌≤◌, ◌+◌, ℕ, [], length, vec_len, IfOk, IfSome, OnErr, IsTrue, IsFalse, IsSomeAnd, is_some, None, if◌then◌else◌};
 ghost use Rattle.block_store.specs.Drafts.{prepared_draft};
 ghost use Rattle.block_store.specs.Pages.{covered};
 ghost use Rattle.cdb.specs.Need.{need_of};
 ghost use Rattle.replies.specs.Data.{data_of};
 ghost use Rattle.replies.specs.PlainReply.{plain_of, success};
 ghost use Rattle.replies.specs.Statuses.{good};
+ghost use Rattle.replies.specs.Attention.{met};
 ghost use Rattle.replies.specs.Capacity.{is_in_range};
 ghost use Rattle.replies.specs.Effects.{block_after};
 ghost use Rattle.replies.specs.Replies.{reply_of};
@@ -25,6 +26,8 @@ use std::alloc::Global;
 
 /// Runs one command on the blocks of a unit, whole, as [`exec`] does, where `prepared` has the new pages of its write,
 /// if any: they are installed where nothing beside the range has changed in them since, and written as ever elsewhere.
+/// Gives pages back beside the reply: those that it replaced, or those of `prepared` where it didn't install them. So a
+/// caller that holds a lock frees them after it.
 #[inline(always)]
 pub fn exec_prepared(
     alloc: Global,
@@ -34,26 +37,55 @@ pub fn exec_prepared(
     out: &[u8],
     facts: &UnitFacts,
     prepared: Option<Prepared>,
-) -> Result<Reply, NoMemory>
+) -> Result<(Reply, Option<Prepared>), NoMemory>
     requires data { (need_of command.now).out ≤ length out.now }
     requires own { IfSome prepared (λ pages. IsOf command.now (data_of command.now out.now) (prepared_draft pages)) }
-    ensures reply { IfOk result (λ reply. plain_of reply
+    ensures reply { IfOk result (λ answer. plain_of answer.0
         ≡ reply_of (facts_of facts.now (⟦<PagedStore as Store>⟧.size store.old)) command.now (data_of command.now out.now)
         (⟦<PagedStore as Store>⟧.block_at store.old)) }
-    ensures blocks { IfOk result (λ reply. (b : ℕ) → ⟦<PagedStore as Store>⟧.block_at store.new b
-        ≡ block_after command.now (data_of command.now out.now) reply.status (⟦<PagedStore as Store>⟧.block_at store.old) b) }
-    ensures room { IfOk result (λ reply. vec_len reply.payload ≤ (need_of command.now).into) }
+    ensures blocks { IfOk result (λ answer. (b : ℕ) → ⟦<PagedStore as Store>⟧.block_at store.new b
+        ≡ block_after command.now (data_of command.now out.now) answer.0.status (⟦<PagedStore as Store>⟧.block_at store.old) b) }
+    ensures room { IfOk result (λ answer. vec_len answer.0.payload ≤ (need_of command.now).into) }
+    ensures back { IfOk result (λ answer. is_some answer.1 ≡ is_some prepared) }
     ensures want { OnErr result (IsTrue (may_want (facts_of facts.now (⟦<PagedStore as Store>⟧.size store.old)) command.now)) }
     ensures err { OnErr result ((b : ℕ) → ⟦<PagedStore as Store>⟧.block_at store.new b ≡ ⟦<PagedStore as Store>⟧.block_at store.old b) }
     ensures capacity { ⟦<PagedStore as Store>⟧.size store.new ≡ ⟦<PagedStore as Store>⟧.size store.old }
 {
-    if let Some(prepared) = prepared
-        && met_attention(command, facts.pending).is_none()
-        && installs(store, prepared)?
-    {
-        return Ok(written(alloc, command));
+    let (installed, back) = exchange(store, command, facts, prepared)?;
+    if installed {
+        return Ok((written(alloc, command), back));
     }
-    exec(alloc, room, store, command, out, facts)
+    let reply = exec(alloc, room, store, command, out, facts)?;
+    Ok((reply, back))
+}
+
+/// Installs the pages of a command, if there are any and no attention stops it. Whether it did, and the pages that come
+/// back.
+fn exchange(
+    store: &mut PagedStore,
+    command: &Command,
+    facts: &UnitFacts,
+    prepared: Option<Prepared>,
+) -> Result<(bool, Option<Prepared>), NoMemory>
+    ensures installed { IfOk result (λ answer. IsTrue answer.0 → (met command.now facts.now.pending ≡ None)
+        × IsSomeAnd prepared (λ pages. IsTrue (is_in_range (⟦<PagedStore as Store>⟧.size store.old) (prepared_draft pages).first (prepared_draft pages).count)
+        × ((b : ℕ) → ⟦<PagedStore as Store>⟧.block_at store.new b
+        ≡ covered (⟦<PagedStore as Store>⟧.block_at store.old) (prepared_draft pages).blocks (prepared_draft pages).first (prepared_draft pages).count b))) }
+    ensures otherwise { IfOk result (λ answer. IsFalse answer.0 → (b : ℕ) → ⟦<PagedStore as Store>⟧.block_at store.new b ≡ ⟦<PagedStore as Store>⟧.block_at store.old b) }
+    ensures back { IfOk result (λ answer. is_some answer.1 ≡ is_some prepared) }
+    ensures want { OnErr result ((met command.now facts.now.pending ≡ None)
+        × IsSomeAnd prepared (λ pages. IsTrue (is_in_range (⟦<PagedStore as Store>⟧.size store.old) (prepared_draft pages).first (prepared_draft pages).count))) }
+    ensures err { OnErr result ((b : ℕ) → ⟦<PagedStore as Store>⟧.block_at store.new b ≡ ⟦<PagedStore as Store>⟧.block_at store.old b) }
+    ensures size { ⟦<PagedStore as Store>⟧.size store.new ≡ ⟦<PagedStore as Store>⟧.size store.old }
+{
+    let Some(pages) = prepared else {
+        return Ok((false, None));
+    };
+    if met_attention(command, facts.pending).is_some() {
+        return Ok((false, Some(pages)));
+    }
+    let (installed, back) = installs(store, pages)?;
+    Ok((installed, Some(back)))
 }
 
 /// GOOD with no data. The data that a command needs are counted in 32 bits.
@@ -66,17 +98,18 @@ fn written(alloc: Global, command: &Command) -> Reply
     Reply::success(command, Vec::new(alloc))
 }
 
-/// Installs the pages, where they lie below the capacity and nothing beside their range has changed in them.
-fn installs(store: &mut PagedStore, prepared: Prepared) -> Result<bool, NoMemory>
-    ensures range { IfOk result (λ installed. IsTrue installed → IsTrue (is_in_range (⟦<PagedStore as Store>⟧.size store.old) (prepared_draft prepared).first (prepared_draft prepared).count)) }
-    ensures blocks { IfOk result (λ installed. (b : ℕ) → ⟦<PagedStore as Store>⟧.block_at store.new b
-        ≡ (if installed then covered (⟦<PagedStore as Store>⟧.block_at store.old) (prepared_draft prepared).blocks (prepared_draft prepared).first (prepared_draft prepared).count b else ⟦<PagedStore as Store>⟧.block_at store.old b)) }
+/// Installs the pages, where they lie below the capacity and nothing beside their range has changed in them. Whether it
+/// did, and the pages that come back.
+fn installs(store: &mut PagedStore, prepared: Prepared) -> Result<(bool, Prepared), NoMemory>
+    ensures range { IfOk result (λ answer. IsTrue answer.0 → IsTrue (is_in_range (⟦<PagedStore as Store>⟧.size store.old) (prepared_draft prepared).first (prepared_draft prepared).count)) }
+    ensures blocks { IfOk result (λ answer. (b : ℕ) → ⟦<PagedStore as Store>⟧.block_at store.new b
+        ≡ (if answer.0 then covered (⟦<PagedStore as Store>⟧.block_at store.old) (prepared_draft prepared).blocks (prepared_draft prepared).first (prepared_draft prepared).count b else ⟦<PagedStore as Store>⟧.block_at store.old b)) }
     ensures want { OnErr result (IsTrue (is_in_range (⟦<PagedStore as Store>⟧.size store.old) (prepared_draft prepared).first (prepared_draft prepared).count)) }
     ensures err { OnErr result ((b : ℕ) → ⟦<PagedStore as Store>⟧.block_at store.new b ≡ ⟦<PagedStore as Store>⟧.block_at store.old b) }
     ensures size { ⟦<PagedStore as Store>⟧.size store.new ≡ ⟦<PagedStore as Store>⟧.size store.old }
 {
     if !is_in_range(store.capacity(), prepared.first(), prepared.count()) {
-        return Ok(false);
+        return Ok((false, prepared));
     }
     store.install(prepared)
 }

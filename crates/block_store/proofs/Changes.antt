@@ -1,126 +1,131 @@
--- What becomes of blocks where one page of a map changes.
-use Rattle.std.specs.Prelude.{is_some}
-use Rattle.std.proofs.Common.{◌≡◌, ℕ, true, ◌+◌, ◌*◌, ◌/◌, ◌%◌, ◌<◌, ◌≤◌, ◌≢◌, false, [], Option, Some, None, length, replicate, inl, inr, refl, sym, ◌∙◌, ap, subst, arith}
+-- What becomes of the blocks of a row where one of its pages changes.
+use Rattle.std.proofs.Common.{◌≡◌, ◌≢◌, ℕ, true, false, nat_lt, ◌+◌, ◌-◌, ◌*◌, ◌/◌, ◌%◌, ◌<◌, ◌≤◌, List, [], length, set, get_or, replicate, Some, inl, inr, if◌then◌else◌, refl, sym, ◌∙◌, ap, subst, arith}
 use Rattle.std.proofs.lemmas.Bool.{cases_eq}
-use Rattle.std.proofs.lemmas.Bool.Decides.{nat_tests}
-use Rattle.std.specs.BTreeMap.{BTreeMap, get, UpdatesBy}
-use Rattle.std.specs.Ordering.{nat_cmp, is_eq}
-use Rattle.block_store.specs.Blocks.{Blocks, nth_block, zero_block, zeroed}
-use Rattle.block_store.specs.Pages.{covered, blocks_in}
-use Rattle.block_store.specs.Kept.{bytes_of, kept, blocks_of, is_made, has_place}
+use Rattle.std.proofs.lemmas.Bool.Decides.{leb_tells}
+use Rattle.std.proofs.lemmas.Option.{slice_get_past, slice_get-get_or}
+use Rattle.block_store.specs.Blocks.{Blocks, nth_block, zero_block, zeroed, is_within}
+use Rattle.block_store.specs.Pages.{covered, blocks_in, paged}
+use Rattle.block_store.specs.Kept.{bytes_of, row_kept, row_blocks, is_made_in}
 use Rattle.block_store.specs.declared.page.Page.{Page}
-use Rattle.block_store.specs.declared.pages.Pages.{Pages}
+use Rattle.block_store.proofs.Within.{Standing, before, inside, behind, standing, is_within-before, is_within-inside, is_within-behind}
+use Rattle.block_store.proofs.CutSlots.{get-set-same, get-set-other}
 use Rattle.block_store.proofs.Paging.{paged-covered, blocks_in-covered, blocks_in-none, blocks_in-zeros, clear-unmade, unmade}
-use Rattle.block_store.proofs.Within.{is_within-inside}
 
-pub is_eq-apart : (p q : ℕ) → q ≢ p → is_eq (nat_cmp p q) ≡ false
-is_eq-apart p q apart = grind (arith, nat_tests)
-
--- the other pages stay
-pub others-stay : (m n : BTreeMap ℕ Page) (p : ℕ) (w : Option Page) → UpdatesBy nat_cmp (nat_cmp p) m n w →
-    (q : ℕ) → q ≢ p → bytes_of (get nat_cmp n q) ≡ bytes_of (get nat_cmp m q)
-others-stay m n p w updates q apart = ap bytes_of (updates.2 q (is_eq-apart p q apart))
-
--- a range of one page
-pub part-covered : (m n : Pages) (w : Option Page) (given : Blocks) (first count : ℕ) → first % 8 + count ≤ 8 →
-    UpdatesBy nat_cmp (nat_cmp (first / 8)) m.held n.held w →
-    ((k : ℕ) → k < 8 → blocks_in (bytes_of w) k ≡ covered (blocks_in (kept m (first / 8))) (λ j. given (8 * (first / 8) + j)) (first % 8) count k) →
-    (b : ℕ) → blocks_of n b ≡ covered (blocks_of m) given first count b
-part-covered m n w given first count fits updates here =
-    let now : kept n (first / 8) ≡ bytes_of w = ap bytes_of updates.1 in
-    paged-covered (kept m) (kept n) given first count fits
-    (others-stay m.held n.held (first / 8) w updates)
-    (λ k below. ap (λ l. blocks_in l k) now ∙ here k below)
-
--- the same, by the numbers of the page and of the place in it
-pub part-changed : (m n : Pages) (page from first count : ℕ) (w : Option Page) (given : Blocks) →
-    page ≡ first / 8 → from ≡ first % 8 → first % 8 + count ≤ 8 →
-    UpdatesBy nat_cmp (nat_cmp page) m.held n.held w →
-    ((k : ℕ) → k < 8 → blocks_in (bytes_of w) k ≡ covered (blocks_in (kept m page)) (λ j. given (8 * page + j)) from count k) →
-    (b : ℕ) → blocks_of n b ≡ covered (blocks_of m) given first count b
-part-changed m n page from first count w given in_page at_place fits updates here =
-    part-covered m n w given first count fits
-    (subst (λ p. UpdatesBy nat_cmp (nat_cmp p) m.held n.held w) in_page updates)
-    (subst (λ r. (k : ℕ) → k < 8 → blocks_in (bytes_of w) k ≡ covered (blocks_in (kept m (first / 8))) (λ j. given (8 * (first / 8) + j)) r count k) at_place
-    (subst (λ p. (k : ℕ) → k < 8 → blocks_in (bytes_of w) k ≡ covered (blocks_in (kept m p)) (λ j. given (8 * p + j)) from count k) in_page here))
-
--- a page that was found and written
-pub part-written : (m n : Pages) (page from first count : ℕ) (old new : Page) (given : Blocks) →
-    page ≡ first / 8 → from ≡ first % 8 → first % 8 + count ≤ 8 →
-    get nat_cmp m.held page ≡ Some old → UpdatesBy nat_cmp (nat_cmp page) m.held n.held (Some new) →
-    ((k : ℕ) → from ≤ k → k < from + count → length (given (8 * page + k)) ≡ 512) →
-    ((k : ℕ) → nth_block new.bytes.items k ≡ covered (nth_block old.bytes.items) (λ j. given (8 * page + j)) from count k) →
-    (b : ℕ) → blocks_of n b ≡ covered (blocks_of m) given first count b
-part-written m n page from first count old new given in_page at_place fits found updates whole written =
-    part-changed m n page from first count (Some new) given in_page at_place fits updates
-    (λ k below. blocks_in-covered old.bytes.items new.bytes.items (λ j. given (8 * page + j)) from count whole written k
-    ∙ ap (λ l. covered (blocks_in l) (λ j. given (8 * page + j)) from count k) (sym (ap bytes_of found)))
-
--- a page that was found and cleared
-pub part-cleared : (m n : Pages) (page from first count : ℕ) (old new : Page) →
-    page ≡ first / 8 → from ≡ first % 8 → first % 8 + count ≤ 8 →
-    get nat_cmp m.held page ≡ Some old → UpdatesBy nat_cmp (nat_cmp page) m.held n.held (Some new) →
-    ((k : ℕ) → blocks_in new.bytes.items k ≡ zeroed (blocks_in old.bytes.items) from count k) →
-    (b : ℕ) → blocks_of n b ≡ zeroed (blocks_of m) first count b
-part-cleared m n page from first count old new in_page at_place fits found updates cleared =
-    part-changed m n page from first count (Some new) (λ _. zero_block) in_page at_place fits updates
-    (λ k below. cleared k ∙ ap (λ l. zeroed (blocks_in l) from count k) (sym (ap bytes_of found)))
-
--- a page that was taken out whole
-pub part-removed : (m n : Pages) (page first count : ℕ) →
-    page ≡ first / 8 → first % 8 + count ≤ 8 → count ≡ 8 →
-    UpdatesBy nat_cmp (nat_cmp page) m.held n.held None →
-    (b : ℕ) → blocks_of n b ≡ zeroed (blocks_of m) first count b
-part-removed m n page first count in_page fits all updates =
-    part-changed m n page (first % 8) first count None (λ _. zero_block) in_page refl fits updates
-    (λ k below. blocks_in-none k ∙ sym (rw (is_within-inside (first % 8) count k (omega arith) (omega arith)) refl))
+-- a page of a row
+pub kept-at : (row : List Page) (page : ℕ) (old : Page) → page < length row → old ≡ get_or row page old → row_kept row page ≡ old.bytes.items
+kept-at row page old below is = ap bytes_of (slice_get-get_or row page old below ∙ ap Some (sym is))
 
 -- a page that isn't there
-pub part-absent : (m : Pages) (page first count : ℕ) → page ≡ first / 8 → first % 8 + count ≤ 8 → get nat_cmp m.held page ≡ None →
-    (b : ℕ) → blocks_of m b ≡ zeroed (blocks_of m) first count b
-part-absent m page first count in_page fits absent =
-    let none : kept m (first / 8) ≡ [] = ap (λ p. kept m p) (sym in_page) ∙ ap bytes_of absent in
-    paged-covered (kept m) (kept m) (λ _. zero_block) first count fits (λ p apart. refl)
+pub kept-past : (row : List Page) (page : ℕ) → length row ≤ page → row_kept row page ≡ []
+kept-past row page past = ap bytes_of (slice_get_past row page past)
+
+-- a page that was put into a row
+pub kept-set : (row : List Page) (page : ℕ) (new : Page) → page < length row → row_kept (set row page new) page ≡ new.bytes.items
+kept-set row page new below = ap bytes_of (get-set-same row page new (get_or row page new) (slice_get-get_or row page new below))
+
+-- the others
+pub kept-others : (row : List Page) (page : ℕ) (new : Page) (q : ℕ) → q ≢ page → row_kept (set row page new) q ≡ row_kept row q
+kept-others row page new q apart = ap bytes_of (get-set-other row page q new apart)
+
+-- a page that keeps bytes is there
+pub made-below : (row : List Page) (page : ℕ) → is_made_in row page ≡ true → page < length row
+made-below row page made =
+    elim (leb_tells (length row) page) [
+      | inl past ↦ let none = rw (kept-past row page past.1) at made in cc
+      | inr below ↦ below.1
+    ]
+
+-- a range of one page, by the numbers of the page and of the place in it
+pub part-changed : (old new : ℕ → List ℕ) (page from first count : ℕ) (w : List ℕ) (given : Blocks) →
+    page ≡ first / 8 → from ≡ first % 8 → first % 8 + count ≤ 8 →
+    new page ≡ w → ((q : ℕ) → q ≢ page → new q ≡ old q) →
+    ((k : ℕ) → k < 8 → blocks_in w k ≡ covered (blocks_in (old page)) (λ j. given (8 * page + j)) from count k) →
+    (b : ℕ) → paged new b ≡ covered (paged old) given first count b
+part-changed old new page from first count w given in_page at_place fits now others here =
+    paged-covered old new given first count fits
+    (subst (λ p. (q : ℕ) → q ≢ p → new q ≡ old q) in_page others)
+    (subst (λ p. (k : ℕ) → k < 8 → blocks_in (new p) k ≡ covered (blocks_in (old p)) (λ j. given (8 * p + j)) (first % 8) count k) in_page
+    (subst (λ r. (k : ℕ) → k < 8 → blocks_in (new page) k ≡ covered (blocks_in (old page)) (λ j. given (8 * page + j)) r count k) at_place
+    (λ k below. ap (λ l. blocks_in l k) now ∙ here k below)))
+
+-- a page that was written
+pub part-written : (row : List Page) (page from first count : ℕ) (old new : Page) (given : Blocks) →
+    page ≡ first / 8 → from ≡ first % 8 → first % 8 + count ≤ 8 → page < length row → old ≡ get_or row page old →
+    ((k : ℕ) → from ≤ k → k < from + count → length (given (8 * page + k)) ≡ 512) →
+    ((k : ℕ) → nth_block new.bytes.items k ≡ covered (nth_block old.bytes.items) (λ j. given (8 * page + j)) from count k) →
+    (b : ℕ) → row_blocks (set row page new) b ≡ covered (row_blocks row) given first count b
+part-written row page from first count old new given in_page at_place fits there is whole written =
+    part-changed (row_kept row) (row_kept (set row page new)) page from first count new.bytes.items given in_page at_place fits
+    (kept-set row page new there) (kept-others row page new)
+    (λ k below. blocks_in-covered old.bytes.items new.bytes.items (λ j. given (8 * page + j)) from count whole written k
+    ∙ ap (λ l. covered (blocks_in l) (λ j. given (8 * page + j)) from count k) (sym (kept-at row page old there is)))
+
+-- a page that was cleared
+pub part-cleared : (row : List Page) (page from first count : ℕ) (old new : Page) →
+    page ≡ first / 8 → from ≡ first % 8 → first % 8 + count ≤ 8 → page < length row → old ≡ get_or row page old →
+    ((k : ℕ) → k < 8 → blocks_in new.bytes.items k ≡ zeroed (blocks_in old.bytes.items) from count k) →
+    (b : ℕ) → row_blocks (set row page new) b ≡ zeroed (row_blocks row) first count b
+part-cleared row page from first count old new in_page at_place fits there is cleared =
+    part-changed (row_kept row) (row_kept (set row page new)) page from first count new.bytes.items (λ _. zero_block) in_page at_place fits
+    (kept-set row page new there) (kept-others row page new)
+    (λ k below. cleared k below ∙ ap (λ l. zeroed (blocks_in l) from count k) (sym (kept-at row page old there is)))
+
+-- a page that isn't there
+pub part-absent : (row : List Page) (page first count : ℕ) → page ≡ first / 8 → first % 8 + count ≤ 8 → length row ≤ page →
+    (b : ℕ) → row_blocks row b ≡ zeroed (row_blocks row) first count b
+part-absent row page first count in_page fits past =
+    let none : row_kept row (first / 8) ≡ [] = ap (λ p. row_kept row p) (sym in_page) ∙ kept-past row page past in
+    paged-covered (row_kept row) (row_kept row) (λ _. zero_block) first count fits (λ p apart. refl)
     (λ k below. rw none (clear-unmade [] (first % 8) count refl k))
 
+-- pages keep bytes as before
+pub made-same : (row : List Page) (page : ℕ) (old new : Page) → page < length row → old ≡ get_or row page old →
+    length new.bytes.items ≡ length old.bytes.items → (p : ℕ) → is_made_in (set row page new) p ≡ is_made_in row p
+made-same row page old new there is same p =
+    elim (cases_eq p page) [
+      | inl here ↦
+          ap (λ q. is_made_in (set row page new) q) here
+          ∙ ap (λ l. nat_lt 0 (length l)) (kept-set row page new there) ∙ ap (λ n. nat_lt 0 n) same
+          ∙ sym (ap (λ l. nat_lt 0 (length l)) (kept-at row page old there is)) ∙ sym (ap (λ q. is_made_in row q) here)
+      | inr apart ↦ ap (λ l. nat_lt 0 (length l)) (kept-others row page new p apart)
+    ]
+
 -- a page of zeros in the place of one that keeps no bytes
-pub made-same : (m n : Pages) (page : ℕ) (new : Page) → UpdatesBy nat_cmp (nat_cmp page) m.held n.held (Some new) →
-    is_made m page ≡ false → new.bytes.items ≡ replicate 4096 0 → (b : ℕ) → blocks_of n b ≡ blocks_of m b
-made-same m n page new updates unmade_before zeros b =
+pub made-zeros : (row : List Page) (page : ℕ) (new : Page) → page < length row →
+    is_made_in row page ≡ false → new.bytes.items ≡ replicate 4096 0 → (b : ℕ) → row_blocks (set row page new) b ≡ row_blocks row b
+made-zeros row page new there unmade_before zeros b =
     elim (cases_eq (b / 8) page) [
       | inl same ↦
-          let now : kept n (b / 8) ≡ replicate 4096 0 = ap (λ p. kept n p) same ∙ ap bytes_of updates.1 ∙ zeros in
-          let before : kept m (b / 8) ≡ [] = ap (λ p. kept m p) same ∙ unmade (kept m page) unmade_before in
+          let now : row_kept (set row page new) (b / 8) ≡ replicate 4096 0 =
+          ap (λ p. row_kept (set row page new) p) same ∙ kept-set row page new there ∙ zeros in
+          let before : row_kept row (b / 8) ≡ [] = ap (λ p. row_kept row p) same ∙ unmade (row_kept row page) unmade_before in
           ap (λ l. blocks_in l (b % 8)) now ∙ blocks_in-zeros (b % 8) (omega arith)
           ∙ sym (ap (λ l. blocks_in l (b % 8)) before ∙ blocks_in-none (b % 8))
-      | inr apart ↦ ap (λ l. blocks_in l (b % 8)) (others-stay m.held n.held page (Some new) updates (b / 8) apart)
+      | inr apart ↦ ap (λ l. blocks_in l (b % 8)) (kept-others row page new (b / 8) apart)
     ]
 
--- a place that a page gets stays, and is there
-pub places-stay : (m n : Pages) (page : ℕ) (w : Page) → UpdatesBy nat_cmp (nat_cmp page) m.held n.held (Some w) →
-    (p : ℕ) → has_place m p ≡ true → has_place n p ≡ true
-places-stay m n page w updates p had =
-    elim (cases_eq p page) [
-      | inl same ↦ ap (λ q. has_place n q) same ∙ ap is_some updates.1
-      | inr apart ↦ ap is_some (updates.2 p (is_eq-apart page p apart)) ∙ had
-    ]
-
--- places are the same after a write
-pub places-same : (m n : Pages) (page : ℕ) (w : Page) → UpdatesBy nat_cmp (nat_cmp page) m.held n.held (Some w) →
-    has_place m page ≡ true → (p : ℕ) → has_place n p ≡ has_place m p
-places-same m n page w updates had p =
-    elim (cases_eq p page) [
-      | inl same ↦ ap (λ q. has_place n q) same ∙ ap is_some updates.1 ∙ sym (ap (λ q. has_place m q) same ∙ had)
-      | inr apart ↦ ap is_some (updates.2 p (is_eq-apart page p apart))
-    ]
-
--- a page that was found and left as it was
-pub part-same : (m n : Pages) (page : ℕ) (old new : Page) → get nat_cmp m.held page ≡ Some old → UpdatesBy nat_cmp (nat_cmp page) m.held n.held (Some new) →
-    new.bytes.items ≡ old.bytes.items → (b : ℕ) → blocks_of n b ≡ blocks_of m b
-part-same m n page old new found updates same b =
-    elim (cases_eq (b / 8) page) [
+-- a range of pages, exchanged with those of others, and one more
+pub exchanged-next : (a b a₀ b₀ : List Page) (at from i : ℕ) (x old : Page) → at + i < length a → from + i < length b →
+    old ≡ get_or b (from + i) old → x ≡ old →
+    ((p : ℕ) → row_kept a p ≡ (if is_within at i p then row_kept b₀ (from + (p - at)) else row_kept a₀ p)) →
+    ((p : ℕ) → row_kept b p ≡ (if is_within from i p then row_kept a₀ (at + (p - from)) else row_kept b₀ p)) →
+    (p : ℕ) → row_kept (set a (at + i) x) p ≡ (if is_within at (i + 1) p then row_kept b₀ (from + (p - at)) else row_kept a₀ p)
+exchanged-next a b a₀ b₀ at from i x old in_a in_b is x_is so_far others p =
+    elim (cases_eq p (at + i)) [
       | inl here ↦
-          ap (λ l. blocks_in l (b % 8))
-          (ap (λ p. kept n p) here ∙ ap bytes_of updates.1 ∙ same ∙ sym (ap (λ p. kept m p) here ∙ ap bytes_of found))
-      | inr apart ↦ ap (λ l. blocks_in l (b % 8)) (others-stay m.held n.held page (Some new) updates (b / 8) apart)
+          let number : from + (p - at) ≡ from + i = omega arith in
+          rw (is_within-inside at (i + 1) p (omega arith) (omega arith), number)
+          (ap (λ q. row_kept (set a (at + i) x) q) here ∙ kept-set a (at + i) x in_a ∙ ap (λ q. q.bytes.items) x_is
+          ∙ sym (kept-at b (from + i) old in_b is) ∙ others (from + i) ∙ rw (is_within-behind from i (from + i) (omega arith)) refl)
+      | inr apart ↦
+          kept-others a (at + i) x p apart ∙ so_far p
+          ∙ ap (λ w. if w then row_kept b₀ (from + (p - at)) else row_kept a₀ p) (next p apart)
     ]
+  where
+    next : (p : ℕ) → p ≢ at + i → is_within at i p ≡ is_within at (i + 1) p
+    next p apart = at_standing (standing at i p)
+      where
+        at_standing : Standing at i p → is_within at i p ≡ is_within at (i + 1) p
+        at_standing (before low) = rw (is_within-before at i p low, is_within-before at (i + 1) p low) refl
+        at_standing (inside reaches short) = rw (is_within-inside at i p reaches short, is_within-inside at (i + 1) p reaches (omega arith)) refl
+        at_standing (behind past) = rw (is_within-behind at i p past, is_within-behind at (i + 1) p (omega (arith, past, apart))) refl

@@ -4,6 +4,9 @@ pub mod Written
 pub mod Runs
 pub mod Paging
 pub mod Agreeing
+pub mod CutSlots
 pub mod Changes
-pub mod CutOff
+pub mod Rows
 pub mod Made
+pub mod CutOff
+pub mod Placed

@@ -18,3 +18,18 @@ made-next old new first done some fits so_far stays here b within = at_standings
     at_standings (before low) (before _) = let no = rw (is_within-before first (done + some) b low) at within in cc
     at_standings (behind past) (before low) = absurd (omega arith)
     at_standings _ (behind past) = let no = rw (is_within-behind first (done + some) b (omega arith)) at within in cc
+
+-- what is true of the numbers of two ranges that lie side by side
+pub within-further : (old new : ℕ → Bool) (first done some : ℕ) →
+    ((b : ℕ) → IsTrue (is_within first done b) → IsTrue (old b)) →
+    ((b : ℕ) → IsTrue (old b) → IsTrue (new b)) →
+    ((b : ℕ) → IsTrue (is_within (first + done) some b) → IsTrue (new b)) →
+    (b : ℕ) → IsTrue (is_within first (done + some) b) → IsTrue (new b)
+within-further old new first done some so_far stays more b within = at_standings (standing first done b) (standing (first + done) some b)
+  where
+    at_standings : Standing first done b → Standing (first + done) some b → IsTrue (new b)
+    at_standings _ (inside reaches short) = more b (is_within-inside (first + done) some b reaches short)
+    at_standings (inside reaches short) (before _) = stays b (so_far b (is_within-inside first done b reaches short))
+    at_standings (before low) (before _) = let no = rw (is_within-before first (done + some) b low) at within in cc
+    at_standings (behind past) (before low) = absurd (omega arith)
+    at_standings _ (behind past) = let no = rw (is_within-behind first (done + some) b (omega arith)) at within in cc

@@ -1,6 +1,7 @@
 -- Blocks in pages: what becomes of them where a page changes, and where a range is covered part by part.
 use Rattle.std.proofs.Common.{◌≡◌, ℕ, true, false, nat_lt, ◌∷◌, ◌+◌, ◌-◌, ◌*◌, ◌/◌, ◌%◌, ◌<◌, ◌≤◌, ◌≢◌, List, [], ◌++◌, length, take, drop, replicate, inl, inr, if◌then◌else◌, refl, sym, ◌∙◌, ap, arith, length-drop}
 use Rattle.std.proofs.lemmas.Bool.{cases_eq}
+use Rattle.std.proofs.lemmas.Nat.{div-add-mod', div-mul-add, mod_below}
 use Rattle.std.proofs.lemmas.Bool.Decides.{nat_tests}
 use Rattle.block_store.specs.Whole.{length-nth_block}
 use Rattle.std.proofs.lemmas.List.{take_all, take-append-le, take-take, drop-take, drop-drop, length-take-le, length-replicate}
@@ -33,35 +34,66 @@ covered-next old now new given first done some so_far step b =
         rw (is_within-behind (first + done) some b past, is_within-behind first (done + some) b (omega arith))
         (so_far b ∙ rw (is_within-behind first done b (omega arith)) refl)
 
+-- a range of one of the pieces that blocks stand in, of so many each
+pub pieces-covered : (size : ℕ) (old new : ℕ → Blocks) (given : Blocks) (first n : ℕ) → 0 < size → first % size + n ≤ size →
+    ((p : ℕ) → p ≢ first / size → (k : ℕ) → new p k ≡ old p k) →
+    ((k : ℕ) → k < size → new (first / size) k ≡ covered (old (first / size)) (λ j. given (first / size * size + j)) (first % size) n k) →
+    (b : ℕ) → new (b / size) (b % size) ≡ covered (λ c. old (c / size) (c % size)) given first n b
+pieces-covered size old new given first n some fits others here b =
+    elim (cases_eq (b / size) (first / size)) [
+      | inl same ↦ in_piece same (standing first n b)
+      | inr apart ↦ elsewhere apart (standing first n b)
+    ]
+  where
+    block : b / size * size + b % size ≡ b
+    block = div-add-mod' b size
+
+    start : first / size * size + first % size ≡ first
+    start = div-add-mod' first size
+
+    in_piece : b / size ≡ first / size → Standing first n b → new (b / size) (b % size) ≡ covered (λ c. old (c / size) (c % size)) given first n b
+    in_piece same stands = at_standing stands
+      where
+        products : b / size * size ≡ first / size * size
+        products = ap (λ q. q * size) same
+
+        below : b % size < size
+        below = mod_below b size some
+
+        at_standing : Standing first n b → new (b / size) (b % size) ≡ covered (λ c. old (c / size) (c % size)) given first n b
+        at_standing (before low) =
+            let out : is_within (first % size) n (b % size) ≡ false =
+            is_within-before (first % size) n (b % size) (omega (arith, low, block, start, products)) in
+            rw (is_within-before first n b low, same) (here (b % size) below ∙ rw out refl)
+        at_standing (inside reaches short) =
+            let number : first / size * size + b % size ≡ b = omega (arith, block, products) in
+            let within : is_within (first % size) n (b % size) ≡ true =
+            is_within-inside (first % size) n (b % size) (omega (arith, reaches, block, start, products)) (omega (arith, short, block, start, products)) in
+            rw (is_within-inside first n b reaches short, same) (here (b % size) below ∙ rw within (ap given number))
+        at_standing (behind past) =
+            let out : is_within (first % size) n (b % size) ≡ false =
+            is_within-behind (first % size) n (b % size) (omega (arith, past, block, start, products)) in
+            rw (is_within-behind first n b past, same) (here (b % size) below ∙ rw out refl)
+
+    elsewhere : b / size ≢ first / size → Standing first n b → new (b / size) (b % size) ≡ covered (λ c. old (c / size) (c % size)) given first n b
+    elsewhere apart (before low) = rw (is_within-before first n b low) (others (b / size) apart (b % size))
+    elsewhere apart (inside reaches short) =
+        let rest : b - first / size * size < size = omega (arith, fits, short, start) in
+        let all : first / size * size + (b - first / size * size) ≡ b = omega (arith, reaches, start) in
+        absurd (apart (sym (ap (λ c. c / size) all) ∙ div-mul-add (first / size) size (b - first / size * size) rest))
+    elsewhere apart (behind past) = rw (is_within-behind first n b past) (others (b / size) apart (b % size))
+
 -- a range of one page
 pub paged-covered : (old new : ℕ → List ℕ) (given : Blocks) (first n : ℕ) → first % 8 + n ≤ 8 →
     ((p : ℕ) → p ≢ first / 8 → new p ≡ old p) →
     ((k : ℕ) → k < 8 → blocks_in (new (first / 8)) k ≡ covered (blocks_in (old (first / 8))) (λ j. given (8 * (first / 8) + j)) (first % 8) n k) →
     (b : ℕ) → paged new b ≡ covered (paged old) given first n b
-paged-covered old new given first n fits others here b =
-    elim (cases_eq (b / 8) (first / 8)) [
-      | inl same ↦ in_page same (standing first n b)
-      | inr apart ↦ elsewhere apart (standing first n b)
-    ]
-  where
-    in_page : b / 8 ≡ first / 8 → Standing first n b → paged new b ≡ covered (paged old) given first n b
-    in_page same (before low) =
-        rw (is_within-before first n b low, same)
-        (here (b % 8) (omega arith) ∙ rw (is_within-before (first % 8) n (b % 8) (omega arith)) refl)
-    in_page same (inside reaches short) =
-        let number : 8 * (first / 8) + b % 8 ≡ b = omega arith in
-        rw (is_within-inside first n b reaches short, same)
-        (here (b % 8) (omega arith) ∙ rw (is_within-inside (first % 8) n (b % 8) (omega arith) (omega arith)) (ap given number))
-    in_page same (behind past) =
-        rw (is_within-behind first n b past, same)
-        (here (b % 8) (omega arith) ∙ rw (is_within-behind (first % 8) n (b % 8) (omega arith)) refl)
-
-    elsewhere : b / 8 ≢ first / 8 → Standing first n b → paged new b ≡ covered (paged old) given first n b
-    elsewhere apart (before low) =
-        rw (is_within-before first n b low) (ap (λ l. blocks_in l (b % 8)) (others (b / 8) apart))
-    elsewhere apart (inside reaches short) = absurd (apart (omega arith))
-    elsewhere apart (behind past) =
-        rw (is_within-behind first n b past) (ap (λ l. blocks_in l (b % 8)) (others (b / 8) apart))
+paged-covered old new given first n fits others here =
+    pieces-covered 8 (λ p. blocks_in (old p)) (λ p. blocks_in (new p)) given first n (omega arith) fits
+    (λ p apart k. ap (λ l. blocks_in l k) (others p apart))
+    (λ k below.
+    let offset : 8 * (first / 8) + k ≡ first / 8 * 8 + k = omega arith in
+    here k below ∙ ap (λ i. if is_within (first % 8) n k then given i else blocks_in (old (first / 8)) k) offset)
 
 -- a whole block isn't padded
 pub blocks_in-whole : (bytes : List ℕ) (k : ℕ) → length (nth_block bytes k) ≡ 512 → blocks_in bytes k ≡ nth_block bytes k

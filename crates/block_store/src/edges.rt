@@ -2,8 +2,9 @@
 
 ghost use Rattle.std.specs.Prelude.{◌+◌, ◌^◌, ◌<◌};
 
-use crate::NoMemory;
-use crate::pages::Pages;
+use crate::numbers::{page_of, place_of};
+use crate::page::Page;
+use crate::{NoMemory, row};
 use std::alloc::Global;
 
 /// A range of blocks, and copies of the pages that it covers in part. Clauses see it as a draft, whose
@@ -13,16 +14,17 @@ pub struct Edges {
     pub(crate) alloc: Global,
     pub(crate) first: u64,
     pub(crate) count: u32,
-    pub(crate) pages: Pages,
+    pub(crate) head: Page,
+    pub(crate) tail: Page,
     ghost fits: { first + count < 2 ^ 64 },
 }
 
-/// A range of blocks, and the new pages of the range. Clauses see it as a draft.
+/// A range of blocks, and the pages of the range. Clauses see it as a draft.
 #[derive(Drop)]
 pub struct Prepared {
     pub(crate) first: u64,
     pub(crate) count: u32,
-    pub(crate) pages: Pages,
+    pub(crate) row: Vec<Page>,
     ghost fits: { first + count < 2 ^ 64 },
 }
 
@@ -43,15 +45,15 @@ impl Edges {
             alloc,
             first,
             count,
-            mut pages,
+            head,
+            tail,
         } = self;
-        pages.make_all(alloc, first, count as usize)?;
-        pages.put(first, bytes);
-        Ok(Prepared {
-            first,
-            count,
-            pages,
-        })
+        let last = page_of(first + u64::from(count)) - page_of(first);
+        let mut row = row::between(alloc, head, last as usize, tail)?;
+        let from = place_of(first) as u64;
+        row::make_all(&mut row, alloc, from, count as usize)?;
+        row::put(&mut row, from, bytes);
+        Ok(Prepared { first, count, row })
     }
 }
 

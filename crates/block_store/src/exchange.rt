@@ -1,142 +1,175 @@
-//! Pages that go from some pages to others.
+//! Pages that go from a store to others, and from others to a store.
 
-ghost use Rattle.std.specs.Prelude.{◌≡◌, ℕ, ◌+◌, ◌/◌, ◌%◌, ◌^◌, ◌<◌, ◌≤◌, ◌==◌, ◌&&◌, ◌↔◌, false, nat_le, nat_lt, IfOk, OnOk, IsTrue, if◌then◌else◌};
+ghost use Rattle.std.specs.Prelude.{◌≡◌, ℕ, ◌+◌, ◌-◌, ◌/◌, ◌%◌, ◌^◌, ◌<◌, ◌≤◌, ◌==◌, ◌&&◌, ◌↔◌, [], nat_le, nat_lt, vec_len, IfOk, OnOk, IsTrue, if◌then◌else◌};
 ghost use Rattle.block_store.specs.Blocks.{is_within};
-ghost use Rattle.block_store.specs.Pages.{is_beside};
-ghost use Rattle.block_store.specs.Kept.{kept, blocks_of, has_place};
+ghost use Rattle.block_store.specs.Pages.{is_beside, paged};
+ghost use Rattle.block_store.specs.Kept.{kept, kept_at_ends, kept_from, blocks_of, has_place};
 
-use crate::NoMemory;
-use crate::page::{PAGE_BLOCKS, Page};
-use crate::pages::{Pages, page_of, place_of};
+use crate::numbers::{PAGE_BLOCKS, ROW_PAGES, page_of, place_of};
+use crate::page::Page;
+use crate::pages::Pages;
+use crate::table::Table;
+use crate::{NoMemory, row};
 use std::alloc::Global;
-use std::mem;
 
 impl Pages {
-    /// Copies of the pages that a range covers in part.
-    pub(crate) fn edges(&self, alloc: Global, first: u64, count: u32) -> Result<Pages, NoMemory>
-        requires { first + count < 2 ^ 64 }
-        ensures { IfOk result (λ copies. (b : ℕ) → IsTrue (is_beside first count b) → blocks_of self.now b ≡ blocks_of copies b) }
+    /// Copies a page, if it is wanted. Returns one without bytes elsewhere.
+    fn copy_where(&self, wanted: bool, alloc: Global, page: u64) -> Result<Page, NoMemory>
+        ensures { IfOk result (λ copy. copy.bytes.items ≡ (if wanted then kept self.now page else [])) }
     {
-        let mut copies = Pages::new(alloc);
-        let end = first + u64::from(count);
-        let head = count != 0 && place_of(first) != 0;
-        let tail = count != 0 && place_of(end) != 0 && !(head && page_of(end) == page_of(first));
-        copies.copy_where(head, alloc, self, page_of(first))?;
-        copies.copy_where(tail, alloc, self, page_of(end))?;
-        Ok(copies)
+        if !wanted {
+            return Ok(Page::absent(alloc));
+        }
+        let row = self.held.row(page / ROW_PAGES as u64);
+        match row.get((page % ROW_PAGES as u64) as usize) {
+            Some(found) => found.copy(alloc),
+            None => Ok(Page::absent(alloc)),
+        }
     }
 
-    /// Has a copy of a page of others, if it is wanted.
-    fn copy_where(
-        &mut self,
-        wanted: bool,
+    /// Copies the pages that a range covers in part: the first, and the last where that is another one.
+    pub(crate) fn edges(
+        &self,
         alloc: Global,
-        others: &Pages,
-        page: u64,
-    ) -> Result<(), NoMemory>
-        ensures { OnOk result ((p : ℕ) → kept self.new p ≡ (if wanted && p == page then kept others.now p else kept self.old p)) }
-    {
-        if wanted {
-            self.copy_from(alloc, others, page)?;
-        }
-        Ok(())
-    }
-
-    /// Has a copy of a page of others.
-    fn copy_from(&mut self, alloc: Global, others: &Pages, page: u64) -> Result<(), NoMemory>
-        ensures { OnOk result ((p : ℕ) → kept self.new p ≡ (if p == page then kept others.now p else kept self.old p)) }
-    {
-        let copy = match others.held.get(&page) {
-            Some(found) => found.copy(alloc)?,
-            None => Page::absent(alloc),
-        };
-        match self.held.insert(page, copy) {
-            Ok(_) => Ok(()),
-            Err(_) => Err(NoMemory),
-        }
-    }
-
-    /// Returns true if `count` blocks of one page are those of others.
-    fn is_same(&self, others: &Pages, first: u64, count: usize) -> bool
-        requires { first % 8 + count ≤ 8 }
-        ensures { IsTrue result ↔ ((b : ℕ) → IsTrue (is_within first count b) → blocks_of self.now b ≡ blocks_of others.now b) }
-    {
-        self.part(first, count) == others.part(first, count)
-    }
-
-    /// Whether the blocks beside a range, in its pages, are those of others.
-    pub(crate) fn agrees(&self, others: &Pages, first: u64, count: u32) -> bool
+        first: u64,
+        count: u32,
+    ) -> Result<(Page, Page), NoMemory>
         requires { first + count < 2 ^ 64 }
-        ensures { IsTrue result ↔ ((b : ℕ) → IsTrue (is_beside first count b) → blocks_of self.now b ≡ blocks_of others.now b) }
+        ensures { IfOk result (λ copies. (b : ℕ) → IsTrue (is_beside first count b)
+            → blocks_of self.now b ≡ paged (kept_at_ends (first / 8) ((first + count) / 8) copies.0.bytes.items copies.1.bytes.items) b) }
+    {
+        let end = first + u64::from(count);
+        let apart = page_of(end) != page_of(first);
+        let head = count != 0 && (place_of(first) != 0 || !apart);
+        let tail = count != 0 && place_of(end) != 0 && apart;
+        let head = self.copy_where(head, alloc, page_of(first))?;
+        let tail = self.copy_where(tail, alloc, page_of(end))?;
+        Ok((head, tail))
+    }
+
+    /// Returns true if `count` blocks of one page are those of a row that begins at page `start`.
+    fn is_same(&self, start: u64, row: &[Page], first: u64, count: usize) -> bool
+        requires page { first % 8 + count ≤ 8 }
+        requires begun { start ≤ first / 8 }
+        ensures { IsTrue result ↔ ((b : ℕ) → IsTrue (is_within first count b) → blocks_of self.now b ≡ paged (kept_from start row.now) b) }
+    {
+        self.part(first, count) == row::part(row, first - start * PAGE_BLOCKS as u64, count)
+    }
+
+    /// Returns true if the blocks beside a range, in its pages, are those of a row that begins at its first page.
+    pub(crate) fn agrees(&self, row: &[Page], first: u64, count: u32) -> bool
+        requires { first + count < 2 ^ 64 }
+        ensures { IsTrue result ↔ ((b : ℕ) → IsTrue (is_beside first count b) → blocks_of self.now b ≡ paged (kept_from (first / 8) row.now) b) }
     {
         if count == 0 {
             return true;
         }
+        let start = page_of(first);
         let end = first + u64::from(count);
         let before = place_of(first);
         let behind = (PAGE_BLOCKS - place_of(end)) % PAGE_BLOCKS;
-        let head = self.is_same(others, first - before as u64, before);
-        let tail = self.is_same(others, end, behind);
+        let head = self.is_same(start, row, first - before as u64, before);
+        let tail = self.is_same(start, row, end, behind);
         head && tail
     }
 
-    /// Sees to it that there is a place for a page.
-    fn place(&mut self, alloc: Global, page: u64) -> Result<(), NoMemory>
-        ensures placed { OnOk result (IsTrue (has_place self.new page)) }
-        ensures others { OnOk result ((p : ℕ) → IsTrue (has_place self.old p) → IsTrue (has_place self.new p)) }
+    /// Makes places for `count` pages of one row from `page` on.
+    fn place_part(&mut self, alloc: Global, page: u64, count: usize) -> Result<(), NoMemory>
+        requires { page % 64 + count ≤ 64 }
+        ensures placed { OnOk result ((p : ℕ) → IsTrue (is_within page count p) → IsTrue (has_place self.new p)) }
+        ensures others { (p : ℕ) → IsTrue (has_place self.old p) → IsTrue (has_place self.new p) }
         ensures kept { (p : ℕ) → kept self.new p ≡ kept self.old p }
     {
-        if self.held.contains_key(&page) {
-            return Ok(());
-        }
-        match self.held.insert(page, Page::absent(alloc)) {
-            Ok(_) => Ok(()),
-            Err(_) => Err(NoMemory),
-        }
+        let number = page / ROW_PAGES as u64;
+        self.held.place(alloc, number)?;
+        let mut row = self.held.take(alloc, number);
+        let reached = row::reach(&mut row, alloc, (page % ROW_PAGES as u64) as usize + count);
+        self.put_row(number, row);
+        reached
     }
 
-    /// Sees to it that there are places for the pages from `start` on, below `end`.
-    pub(crate) fn place_all(&mut self, alloc: Global, start: u64, end: u64) -> Result<(), NoMemory>
-        ensures placed { OnOk result ((p : ℕ) → start ≤ p → p < end → IsTrue (has_place self.new p)) }
+    /// Makes places for `count` pages from `start` on.
+    pub(crate) fn place_all(
+        &mut self,
+        alloc: Global,
+        start: u64,
+        count: usize,
+    ) -> Result<(), NoMemory>
+        requires { start + count < 2 ^ 64 }
+        ensures placed { OnOk result ((p : ℕ) → IsTrue (is_within start count p) → IsTrue (has_place self.new p)) }
         ensures kept { (p : ℕ) → kept self.new p ≡ kept self.old p }
     {
-        for page in start..end {
-            self.place(alloc, page)?;
+        let mut done = 0;
+        while done < count {
+            let at = start + done as u64;
+            let some = of_row(at, count - done);
+            self.place_part(alloc, at, some)?;
+            done += some;
         }
         Ok(())
     }
 
-    /// Gives a page away.
-    fn take_out(&mut self, alloc: Global, page: u64) -> Page
-        ensures page { result.bytes.items ≡ kept self.old page }
-        ensures others { (p : ℕ) → (p == page) ≡ false → kept self.new p ≡ kept self.old p }
-    {
-        match self.held.get_mut(&page) {
-            Some(found) => mem::replace(found, Page::absent(alloc)),
-            None => Page::absent(alloc),
-        }
-    }
-
-    /// Puts a page into its place.
-    fn put_in(&mut self, page: u64, new: Page)
-        requires { IsTrue (has_place self.old page) }
-        ensures pages { (p : ℕ) → kept self.new p ≡ (if p == page then new.bytes.items else kept self.old p) }
+    /// Exchanges `count` pages of one row from `start + done` on with those of a row that begins at page `start`.
+    fn exchange_part(
+        &mut self,
+        alloc: Global,
+        start: u64,
+        done: usize,
+        row: &mut Vec<Page>,
+        count: usize,
+    )
+        requires number { start + done + count < 2 ^ 64 }
+        requires some { 0 < count }
+        requires part { (start + done) % 64 + count ≤ 64 }
+        requires placed { (p : ℕ) → IsTrue (is_within (start + done) count p) → IsTrue (has_place self.old p) }
+        requires long { done + count ≤ vec_len row.old }
+        ensures here { (p : ℕ) → kept self.new p ≡ (if is_within (start + done) count p then kept_from start row.old.items p else kept self.old p) }
+        ensures there { (p : ℕ) → kept_from start row.new.items p ≡ (if is_within (start + done) count p then kept self.old p else kept_from start row.old.items p) }
         ensures places { (p : ℕ) → has_place self.new p ≡ has_place self.old p }
+        ensures len { vec_len row.new ≡ vec_len row.old }
     {
-        if let Some(found) = self.held.get_mut(&page) {
-            *found = new;
-        }
+        let page = start + done as u64;
+        let number = page / ROW_PAGES as u64;
+        let mut held = self.held.take(alloc, number);
+        row::exchange(
+            &mut held,
+            (page % ROW_PAGES as u64) as usize,
+            row,
+            done,
+            count,
+        );
+        self.put_row(number, held);
     }
 
-    /// Has the pages of others from `start` on, below `end`, in the places that there are for them.
-    pub(crate) fn take_over(&mut self, alloc: Global, others: &mut Pages, start: u64, end: u64)
-        requires order { start ≤ end }
-        requires placed { (p : ℕ) → start ≤ p → p < end → IsTrue (has_place self.old p) }
-        ensures { (p : ℕ) → kept self.new p ≡ (if nat_le start p && nat_lt p end then kept others.old p else kept self.old p) }
+    /// Exchanges `count` pages from `start` on with those of a row that begins there.
+    pub(crate) fn exchange_all(
+        &mut self,
+        alloc: Global,
+        start: u64,
+        row: &mut Vec<Page>,
+        count: usize,
+    )
+        requires number { start + count < 2 ^ 64 }
+        requires placed { (p : ℕ) → IsTrue (is_within start count p) → IsTrue (has_place self.old p) }
+        requires long { count ≤ vec_len row.old }
+        ensures here { (p : ℕ) → kept self.new p ≡ (if is_within start count p then kept_from start row.old.items p else kept self.old p) }
+        ensures there { (p : ℕ) → kept_from start row.new.items p ≡ (if is_within start count p then kept self.old p else kept_from start row.old.items p) }
     {
-        for page in start..end {
-            let new = others.take_out(alloc, page);
-            self.put_in(page, new);
+        let mut done = 0;
+        while done < count {
+            let some = of_row(start + done as u64, count - done);
+            self.exchange_part(alloc, start, done, row, some);
+            done += some;
         }
     }
+}
+
+/// Counts the pages of the `count` from `page` on that lie in the row of the first.
+fn of_row(page: u64, count: usize) -> usize
+    ensures some { 0 < count → 0 < result }
+    ensures bound { result ≤ count }
+    ensures fits { page % 64 + result ≤ 64 }
+{
+    let room = ROW_PAGES - (page % ROW_PAGES as u64) as usize;
+    room.min(count)
 }

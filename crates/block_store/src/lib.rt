@@ -9,10 +9,13 @@ mod exchange;
 mod fault;
 mod flat;
 mod laws;
+mod numbers;
 mod page;
 mod paged;
 mod pages;
+mod row;
 mod store;
+mod table;
 
 pub use edges::{Edges, Prepared};
 pub use fault::NoMemory;

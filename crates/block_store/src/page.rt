@@ -1,15 +1,13 @@
 //! A page of blocks.
 
-ghost use Rattle.std.specs.Prelude.{◌≡◌, ℕ, ◌+◌, ◌*◌, ◌%◌, ◌<◌, ◌≤◌, [], length, replicate, nat_lt, IfOk, IsTrue, IsFalse};
+ghost use Rattle.std.specs.Prelude.{◌≡◌, ℕ, ◌+◌, ◌*◌, ◌%◌, ◌<◌, ◌≤◌, [], length, replicate, nat_lt, IfOk};
 ghost use Rattle.block_store.specs.Blocks.{block_count, nth_block, overwritten, filled, zeroed, run, zero_block};
 ghost use Rattle.block_store.specs.Pages.{blocks_in};
 
 use crate::bytes::{blocks_at, put_blocks, put_copies, put_zeros};
+use crate::numbers::PAGE_BLOCKS;
 use crate::{BLOCK_BYTES, NoMemory};
 use std::alloc::Global;
-
-/// The blocks of a page.
-pub(crate) const PAGE_BLOCKS: usize = 8;
 
 /// The bytes of a page.
 pub(crate) const PAGE_BYTES: usize = 4096;
@@ -87,20 +85,6 @@ impl Page {
         put_blocks(&mut self.bytes, from, bytes);
     }
 
-    /// Puts the bytes over the blocks from `from` on, if the page keeps its bytes. Whether it does.
-    pub(crate) fn try_put(&mut self, from: usize, bytes: &[u8]) -> bool
-        requires whole { length bytes.now % BLOCK_BYTES ≡ 0 }
-        requires range { from + block_count bytes.now ≤ 8 }
-        ensures put { IsTrue result → (k : ℕ) → nth_block self.new.bytes.items k ≡ overwritten (nth_block self.old.bytes.items) from bytes.now k }
-        ensures same { IsFalse result → self.new.bytes.items ≡ self.old.bytes.items }
-    {
-        if !self.is_made() {
-            return false;
-        }
-        self.put(from, bytes);
-        true
-    }
-
     /// Puts the block into each of `count` places from `from` on.
     pub(crate) fn fill(&mut self, from: usize, count: usize, block: &[u8; BLOCK_BYTES])
         requires made { 0 < length self.old.bytes.items }
@@ -121,12 +105,14 @@ impl Page {
         put_zeros(&mut self.bytes, from, count);
     }
 
-    /// Puts zeros into each of `count` places from `from` on, of a page that may keep no bytes.
-    pub(crate) fn clear(&mut self, from: usize, count: usize)
+    /// Puts zeros into each of `count` places from `from` on. A page that is zeroed whole keeps no bytes.
+    pub(crate) fn clear(&mut self, alloc: Global, from: usize, count: usize)
         requires range { from + count ≤ 8 }
-        ensures { (k : ℕ) → blocks_in self.new.bytes.items k ≡ zeroed (blocks_in self.old.bytes.items) from count k }
+        ensures { (k : ℕ) → k < 8 → blocks_in self.new.bytes.items k ≡ zeroed (blocks_in self.old.bytes.items) from count k }
     {
-        if self.is_made() {
+        if count == PAGE_BLOCKS {
+            self.bytes = Vec::new(alloc);
+        } else if self.is_made() {
             self.wipe(from, count);
         }
     }

@@ -1,18 +1,19 @@
 //! A store in pages.
 
 ghost use Rattle.std.specs.Prelude.{◌≡◌, ℕ, ◌+◌, ◌^◌, ◌<◌, ◌≤◌, ◌↔◌, IsTrue, IfOk, OnErr, if◌then◌else◌};
-ghost use Rattle.block_store.specs.Blocks.{zero_block};
+ghost use Rattle.block_store.specs.Blocks.{zero_block, is_within};
 ghost use Rattle.block_store.specs.Pages.{covered};
 ghost use Rattle.block_store.specs.Drafts.{IsAsCopied, edges_draft, prepared_draft};
 
 use crate::edges::{Edges, Prepared};
-use crate::page::PAGE_BLOCKS;
-use crate::pages::{Pages, in_page, page_end, page_from, page_of, place_of};
-use crate::{BLOCK_BYTES, NoMemory, Store};
+use crate::numbers::{PAGE_BLOCKS, in_row, page_end, page_from, page_of, place_of};
+use crate::pages::Pages;
+use crate::{BLOCK_BYTES, NoMemory, Store, row};
 use std::alloc::Global;
 
-/// Blocks in pages of 8, by number. A page that was never written, or was zeroed whole, isn't there,
-/// and reads as zeros: a store costs nothing until it is written.
+/// Keeps blocks in pages of 8, by number. A page that was never written, or was zeroed whole, isn't there,
+/// and reads as zeros: a store costs nothing until it is written. A page that is far from all others costs its 4 KiB and
+/// at most 11 KiB of tables on the way to it.
 ///
 /// Writing and filling may want memory, zeroing takes none.
 #[derive(Drop)]
@@ -45,38 +46,45 @@ impl PagedStore {
         ensures count { IfOk result (λ edges. (edges_draft edges).count ≡ count) }
         ensures copied { IfOk result (λ edges. IsAsCopied (edges_draft edges) (⟦<PagedStore as Store>⟧.block_at self.now)) }
     {
-        let pages = self.pages.edges(self.alloc, first, count)?;
+        let (head, tail) = self.pages.edges(self.alloc, first, count)?;
         Ok(Edges {
             alloc: self.alloc,
             first,
             count,
-            pages,
+            head,
+            tail,
         })
     }
 
     /// Puts the new pages over the blocks of their range, where the blocks beside it, in these pages, are as they were
-    /// copied. Elsewhere answers false, and changes nothing, as after a refusal.
-    pub fn install(&mut self, prepared: Prepared) -> Result<bool, NoMemory>
+    /// copied. Answers true with the pages that stood there, or false with the new pages. After false, as after a refusal,
+    /// nothing is changed. The caller frees the pages that come back, once no one waits for the store.
+    pub fn install(&mut self, prepared: Prepared) -> Result<(bool, Prepared), NoMemory>
         requires range { (prepared_draft prepared).first + (prepared_draft prepared).count ≤ ⟦<PagedStore as Store>⟧.size self.old }
-        ensures exactly { IfOk result (λ installed. IsTrue installed ↔ IsAsCopied (prepared_draft prepared) (⟦<PagedStore as Store>⟧.block_at self.old)) }
-        ensures ok { IfOk result (λ installed. (b : ℕ) → ⟦<PagedStore as Store>⟧.block_at self.new b
-            ≡ (if installed then covered (⟦<PagedStore as Store>⟧.block_at self.old) (prepared_draft prepared).blocks (prepared_draft prepared).first (prepared_draft prepared).count b else ⟦<PagedStore as Store>⟧.block_at self.old b)) }
+        ensures exactly { IfOk result (λ answer. IsTrue answer.0 ↔ IsAsCopied (prepared_draft prepared) (⟦<PagedStore as Store>⟧.block_at self.old)) }
+        ensures ok { IfOk result (λ answer. (b : ℕ) → ⟦<PagedStore as Store>⟧.block_at self.new b
+            ≡ (if answer.0 then covered (⟦<PagedStore as Store>⟧.block_at self.old) (prepared_draft prepared).blocks (prepared_draft prepared).first (prepared_draft prepared).count b else ⟦<PagedStore as Store>⟧.block_at self.old b)) }
+        ensures first { IfOk result (λ answer. (prepared_draft answer.1).first ≡ (prepared_draft prepared).first) }
+        ensures count { IfOk result (λ answer. (prepared_draft answer.1).count ≡ (prepared_draft prepared).count) }
+        ensures back { IfOk result (λ answer. (b : ℕ) → IsTrue (is_within (prepared_draft prepared).first (prepared_draft prepared).count b) →
+            (prepared_draft answer.1).blocks b ≡ (if answer.0 then ⟦<PagedStore as Store>⟧.block_at self.old b else (prepared_draft prepared).blocks b)) }
         ensures err { OnErr result ((b : ℕ) → ⟦<PagedStore as Store>⟧.block_at self.new b ≡ ⟦<PagedStore as Store>⟧.block_at self.old b) }
         ensures size { ⟦<PagedStore as Store>⟧.size self.new ≡ ⟦<PagedStore as Store>⟧.size self.old }
     {
         let Prepared {
             first,
             count,
-            mut pages,
+            mut row,
         } = prepared;
-        if !self.pages.agrees(&pages, first, count) {
-            return Ok(false);
+        if !self.pages.agrees(&row, first, count) {
+            return Ok((false, Prepared { first, count, row }));
         }
         let start = page_of(first);
-        let end = page_end(first, count);
-        self.pages.place_all(self.alloc, start, end)?;
-        self.pages.take_over(self.alloc, &mut pages, start, end);
-        Ok(true)
+        let pages = (page_end(first, count) - start) as usize;
+        row::reach(&mut row, self.alloc, pages)?;
+        self.pages.place_all(self.alloc, start, pages)?;
+        self.pages.exchange_all(self.alloc, start, &mut row, pages);
+        Ok((true, Prepared { first, count, row }))
     }
 }
 
@@ -92,8 +100,8 @@ impl PagedStore {
     {
         let left = self.capacity.min(blocks);
         let behind = (PAGE_BLOCKS - place_of(left)) % PAGE_BLOCKS;
-        self.pages.cut(page_from(left));
-        self.pages.clear_part(left, behind);
+        self.pages.cut(self.alloc, page_from(left));
+        self.pages.clear_part(self.alloc, left, behind);
         self.capacity = blocks;
     }
 }
@@ -119,11 +127,11 @@ impl Store for PagedStore {
 
     fn write_blocks(&mut self, first: u64, bytes: &[u8]) -> Result<(), NoMemory> {
         let count = bytes.len() / BLOCK_BYTES;
-        if in_page(first, count) == count && self.pages.try_put(first, bytes) {
+        if in_row(first, count) == count && self.pages.try_put(first, bytes) {
             return Ok(());
         }
         self.pages.make_all(self.alloc, first, count)?;
-        self.pages.put(first, bytes);
+        self.pages.put(self.alloc, first, bytes);
         Ok(())
     }
 
@@ -134,11 +142,11 @@ impl Store for PagedStore {
         block: &[u8; BLOCK_BYTES],
     ) -> Result<(), NoMemory> {
         self.pages.make_all(self.alloc, first, count as usize)?;
-        self.pages.fill(first, count as usize, block);
+        self.pages.fill(self.alloc, first, count as usize, block);
         Ok(())
     }
 
     fn zero_blocks(&mut self, first: u64, count: u32) {
-        self.pages.clear(first, count as usize);
+        self.pages.clear(self.alloc, first, count as usize);
     }
 }

@@ -27,6 +27,15 @@ impl Hand {
         Hand::Job(JobInHand::new(job))
     }
 
+    /// Frees the pages that the commit of its job left over, which is done with no lock held.
+    pub fn let_go(&mut self)
+        ensures { self.new ≡ self.old }
+    {
+        if let Hand::Job(held) = self {
+            held.let_go();
+        }
+    }
+
     /// Returns true if there is nothing in it.
     pub fn is_empty(&self) -> bool
         ensures { IsTrue result ↔ (hand_of self.now ≡ plain.Hand.Empty) }

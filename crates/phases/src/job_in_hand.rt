@@ -4,6 +4,7 @@ ghost use Rattle.std.specs.Prelude.{◌≡◌, is_some, Some};
 ghost use Rattle.unit_history.specs.Calls.{Commits};
 
 use crate::response::write_outcome;
+use block_store::Prepared;
 use guest_mem::GuestMem;
 use std::marker::Model;
 use unit_history::{Job, Outcome, PreparedWrite, StartedWrite, UnitState};
@@ -14,6 +15,8 @@ use unit_history::{Job, Outcome, PreparedWrite, StartedWrite, UnitState};
 pub struct JobInHand {
     job: Job,
     pages: Option<PreparedWrite>,
+    // The pages that its commit left over, to be freed once the unit's lock is.
+    spare: Option<Prepared>,
     outcome: Option<Outcome>,
 }
 
@@ -42,6 +45,7 @@ impl JobInHand {
         JobInHand {
             job,
             pages: None,
+            spare: None,
             outcome: None,
         }
     }
@@ -72,7 +76,7 @@ impl JobInHand {
         ensures { (o : answers.Outcome) × Commits unit.old self.old.job o unit.new
             × (self.new ≡ record { job = self.old.job; outcome = Some o }) }
     {
-        self.outcome = Some(unit.commit_with(&self.job, self.pages.take()));
+        self.outcome = Some(unit.commit_with(&self.job, self.pages.take(), &mut self.spare));
     }
 
     /// Writes what answers the job over the writable parts of its chain, where its commit is over: how many bytes it
@@ -87,6 +91,13 @@ impl JobInHand {
             Some(outcome) => write_outcome(memory, self.job.chain(), &self.job.lengths(), outcome),
             None => unreachable!(),
         }
+    }
+
+    /// Frees the pages that its commit left over.
+    pub(crate) fn let_go(&mut self)
+        ensures { self.new ≡ self.old }
+    {
+        self.spare = None;
     }
 
     /// The job, and what came of its commit once that is over.

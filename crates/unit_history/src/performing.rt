@@ -101,6 +101,7 @@ pub struct Performed {
 
 /// Runs a command, with exactly the data that it takes, on the blocks of its unit, with what is pending, and with the
 /// new pages of its write, if they were prepared; its reply is kept nowhere. The unit calls it, in the hold of its lock.
+/// The pages that aren't used any more come to stand in `spare`, so that they are freed behind that.
 /// `NoMemory` where memory was refused, with blocks and attentions as before.
 #[inline(always)]
 pub fn run(
@@ -112,6 +113,7 @@ pub fn run(
     command: &Command,
     bytes: &[u8],
     prepared: Option<Prepared>,
+    spare: &mut Option<Prepared>,
 ) -> Result<Reply, NoMemory>
     requires data { length bytes.now ≡ (need_of command.now).out }
     requires own { IfSome prepared (λ pages. IsOf command.now bytes.now (prepared_draft pages)) }
@@ -123,7 +125,8 @@ pub fn run(
     ensures fits { IfOk result (λ r. length r.payload.items ≤ (need_of command.now).into) }
 {
     tell_oldest(facts, attentions);
-    let reply = exec_prepared(alloc, room, store, command, bytes, facts, prepared)?;
+    let (reply, back) = exec_prepared(alloc, room, store, command, bytes, facts, prepared)?;
+    *spare = back;
     clear_oldest(attentions, command);
     Ok(reply)
 }
@@ -140,6 +143,7 @@ pub fn perform(
     command: &Command,
     bytes: &[u8],
     prepared: Option<Prepared>,
+    spare: &mut Option<Prepared>,
     keeps_replies: bool,
 ) -> Option<Performed>
     requires data { length bytes.now ≡ (need_of command.now).out }
@@ -153,13 +157,14 @@ pub fn perform(
 {
     if !keeps_replies {
         let reply = run(
-            alloc, room, facts, attentions, store, command, bytes, prepared,
+            alloc, room, facts, attentions, store, command, bytes, prepared, spare,
         )
         .ok()?;
         return Some(Performed { reply, kept: None });
     }
     tell_oldest(facts, attentions);
-    let reply = exec_prepared(alloc, room, store, command, bytes, facts, prepared).ok()?;
+    let (reply, back) = exec_prepared(alloc, room, store, command, bytes, facts, prepared).ok()?;
+    *spare = back;
     // A reply with data is that of a command that changes no block.
     let kept = kept_of(alloc, &reply).ok()?;
     clear_oldest(attentions, command);

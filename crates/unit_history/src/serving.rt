@@ -81,6 +81,7 @@ impl UnitState {
             &arrival.command(),
             arrival.data(),
             None,
+            &mut None,
         );
         record_run(&mut self.log, ticket, &ran);
         let answered = answering.answer(arrival, &ran);

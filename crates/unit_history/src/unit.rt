@@ -21,7 +21,7 @@ use crate::performing::{Performed, attentions_at_start, perform};
 use crate::recorded::{RecordedEntry, RecordedReply, RecordedStep};
 use crate::turn::{Turn, is_ended, turn_of};
 use block_commands::UnitFacts;
-use block_store::{NoMemory, PagedStore, Store};
+use block_store::{NoMemory, PagedStore, Prepared, Store};
 use cdb::Command;
 use decisions::UnitSpec;
 use record::Record;
@@ -288,7 +288,7 @@ impl UnitState {
         ensures step { Commits self.old job.now result self.new }
         ensures fits { FitsNeed (need_of job.now.entry.command).into result }
     {
-        self.commit_with(job, None)
+        self.commit_with(job, None, &mut None)
     }
 
     /// Copies what the pages of a job's WRITE need, in one hold of the unit's lock: the pages that its range covers in
@@ -320,8 +320,14 @@ impl UnitState {
 
     /// Runs the command of a job's task as [`UnitState::commit`] does, with the pages of its WRITE, if they were made. They
     /// are put in place where they are of this very command and its data and nothing beside its range has changed in
-    /// them since; else the command writes its blocks as ever.
-    pub fn commit_with(&mut self, job: &Job, prepared: Option<PreparedWrite>) -> Outcome
+    /// them since; else the command writes its blocks as ever. The pages that aren't used any more come to stand in
+    /// `spare`: whoever holds the unit's lock frees them behind it.
+    pub fn commit_with(
+        &mut self,
+        job: &Job,
+        prepared: Option<PreparedWrite>,
+        spare: &mut Option<Prepared>,
+    ) -> Outcome
         ensures step { Commits self.old job.now result self.new }
         ensures fits { FitsNeed (need_of job.now.entry.command).into result }
     {
@@ -352,6 +358,7 @@ impl UnitState {
                     &command,
                     bytes,
                     pages,
+                    spare,
                     keeps,
                 );
                 record_run(&mut self.log, &mut self.tasks, unit, ticket, performed)

@@ -184,24 +184,89 @@ fn consist_of(
     Ok(true)
 }
 
-/// Prepares a write of block 1 of 16 and installs it. Whether that block alone has its bytes then.
+/// Prepares a write of block 1 of 16, installs it, and installs the pages that come back. Whether that block alone has
+/// its bytes in between, and all are zeros then.
 fn is_installed(alloc: Global) -> Result<bool, NoMemory> {
     let mut store = PagedStore::new(alloc, 16);
     let edges = store.edges(1, 1)?;
     let prepared = edges.prepare(&[0xab; BLOCK_BYTES])?;
-    if !store.install(prepared)? {
-        return Ok(false);
-    }
-    Ok(
-        consist_of(alloc, &store, 0, 1, 0)?
-            && consist_of(alloc, &store, 1, 1, 0xab)?
-            && consist_of(alloc, &store, 2, 14, 0)?,
-    )
+    let (installed, back) = store.install(prepared)?;
+    let is_there = consist_of(alloc, &store, 0, 1, 0)?
+        && consist_of(alloc, &store, 1, 1, 0xab)?
+        && consist_of(alloc, &store, 2, 14, 0)?;
+    let (returned, _) = store.install(back)?;
+    Ok(installed && is_there && returned && consist_of(alloc, &store, 0, 16, 0)?)
 }
 
 #[test]
 fn prepared_page(rt: HostRuntime) -> Result<(), Fail> {
     let installed = is_installed(rt.alloc())?;
     none_is(&rt, if installed { None } else { Some(0) });
+    Ok(())
+}
+
+/// Blocks that are far from one another in a store of 2^40, and the byte that each gets everywhere.
+static FAR: [(u64, u8); 9] = [
+    (0, 1),
+    (8, 2),
+    (512, 3),
+    (1 << 15, 4),
+    (1 << 21, 5),
+    (1 << 27, 6),
+    (1 << 33, 7),
+    (1 << 39, 8),
+    ((1 << 40) - 1, 9),
+];
+
+/// Fills each of these blocks with its byte. Whether they are there.
+fn fill_far(store: &mut PagedStore) -> Result<bool, NoMemory> {
+    for number in 0..FAR.len() {
+        let (block, byte) = FAR[number];
+        if !fill(store, block, 1, byte)? {
+            return Ok(false);
+        }
+    }
+    Ok(true)
+}
+
+/// The number of the first of these blocks that doesn't consist of its byte, or of zeros below `zeroed`, from 0.
+fn first_wrong_far(
+    alloc: Global,
+    store: &PagedStore,
+    zeroed: usize,
+) -> Result<Option<usize>, NoMemory> {
+    for number in 0..FAR.len() {
+        let (block, byte) = FAR[number];
+        let wanted = if number < zeroed { 0 } else { byte };
+        if !consist_of(alloc, store, block, 1, wanted)? {
+            return Ok(Some(number));
+        }
+    }
+    Ok(None)
+}
+
+/// Fills these blocks and zeroes the page of each, one after the other. The number of the first that is wrong meanwhile.
+fn first_lost(alloc: Global, store: &mut PagedStore) -> Result<Option<usize>, NoMemory> {
+    if !fill_far(store)? {
+        return Ok(Some(0));
+    }
+    for number in 0..FAR.len() {
+        let wrong = first_wrong_far(alloc, store, number)?;
+        if wrong.is_some() {
+            return Ok(wrong);
+        }
+        let (block, _) = FAR[number];
+        if !zero(store, block - block % 8, 8) {
+            return Ok(Some(number));
+        }
+    }
+    first_wrong_far(alloc, store, FAR.len())
+}
+
+#[test]
+fn far_pages(rt: HostRuntime) -> Result<(), Fail> {
+    let mut store = PagedStore::new(rt.alloc(), 1 << 40);
+    none_is(&rt, first_lost(rt.alloc(), &mut store)?);
+    none_is(&rt, first_lost(rt.alloc(), &mut store)?);
     Ok(())
 }

@@ -9,5 +9,5 @@ loop-done-preserved c = record {
   within = omega arith;
   blocks =
       covered-next (blocks_of c.args.self.now) (blocks_of c.loop-done.self) (blocks_of c.clear_part.new.self) (λ _. zero_block)
-      c.args.first c.loop-done.done c.in_page-some.result c.loop-done.invariant.blocks c.clear_part.ensures;
+      c.args.first c.loop-done.done c.in_row-some.result c.loop-done.invariant.blocks c.clear_part.ensures;
 }

@@ -1,17 +1,17 @@
-use Rattle.std.proofs.Common.{◌∙◌, arith}
+use Rattle.std.proofs.Common.{◌/◌, ◌∙◌, arith}
 use Rattle.block_store.specs.Kept.{is_made}
-use Rattle.block_store.proofs.Made.{made-next}
+use Rattle.block_store.proofs.Made.{within-further}
 use Rattle.block_store.proofs.pages.Pages.make_all.Goals as goal
 
 pub loop-done-preserved : goal.loop-done-preserved
 loop-done-preserved c =
     let first = c.args.first in
     let done = c.loop-done.done in
-    let some = c.in_page-done.result in
-    let ensured = c.in_ok-make.ensures in
+    let some = c.in_row-some.result in
+    let ensured = c.in_ok-make_part.ensures in
     record {
       within = omega arith;
-      made = made-next (is_made c.loop-done.self) (is_made c.make.new.self) first done some c.in_page-done.ensures.fits
-          c.loop-done.invariant.made ensured.others ensured.made;
-      blocks = λ b. c.in_ok-make.ensures.blocks b ∙ c.loop-done.invariant.blocks b;
+      made = within-further (λ b. is_made c.loop-done.self (b / 8)) (λ b. is_made c.make_part.new.self (b / 8)) first done some
+          c.loop-done.invariant.made (λ b. ensured.others (b / 8)) ensured.made;
+      blocks = λ b. c.in_ok-make_part.ensures.blocks b ∙ c.loop-done.invariant.blocks b;
     }

@@ -9,7 +9,7 @@ loop-done-preserved c =
     let bytes = c.args.bytes.now in
     let first = c.args.first in
     let done = c.loop-done.done in
-    let some = c.in_page-some.result in
+    let some = c.in_row-some.result in
     let size : 512 * (done + some) - 512 * done ≡ 512 * some = omega arith in
     let fits : done + some ≤ block_count bytes = omega arith in
     record {

@@ -1,34 +1,38 @@
-use Rattle.std.proofs.Common.{◌≡◌, ℕ, ◌+◌, ◌-◌, ◌*◌, ◌<◌, ◌≤◌, Some, sym, ap, ◌∙◌, rules, arith, if◌then◌else◌}
-use Rattle.std.specs.BTreeMap.{get}
-use Rattle.std.specs.Option.{option_copied_mut}
-use Rattle.std.specs.Ordering.{nat_cmp}
+use Rattle.std.proofs.Common.{◌≡◌, ◌+◌, ◌-◌, ◌*◌, if◌then◌else◌, refl, ap, ◌∙◌, arith}
 use Rattle.block_store.specs.Blocks.{block_count, nth_block, is_within}
-use Rattle.block_store.specs.Whole.{length-nth_block}
-use Rattle.block_store.proofs.Changes.{part-written, part-same}
+use Rattle.block_store.specs.Kept.{row_blocks, tree_row}
+use Rattle.block_store.proofs.Rows.{Changed, row-covered, row-same}
 use Rattle.block_store.proofs.pages.Pages.try_put.Goals as goal
 
-pub returns-in-Some-clause-put : goal.returns-in-Some-clause-put
-returns-in-Some-clause-put c = λ is_put.
-    let m = c.args.self.now in
-    let bytes = c.args.bytes.now in
-    let old = c.in-Some.page.now.bytes.items in
-    let page = c.page_of.result in
-    let from = c.place_of.result in
+pub returns-clause-put : goal.returns-clause-put
+returns-clause-put c = λ is_put.
+    let rows = tree_row c.args.self.now.held in
+    let put = tree_row c.try_put.new.self in
+    let n = c.row_of.result in
+    let from = c.in_row_of.result in
     let first = c.args.first in
-    let found : get nat_cmp m.held page ≡ Some c.in-Some.page.now = sym c.get_mut.ensures.value ∙ ap option_copied_mut c.in-Some.is in
-    let whole = λ (k : ℕ) (reaches : from ≤ k) (short : k < from + block_count bytes).
-    length-nth_block bytes (8 * page + k - first) (omega (arith, c.page_of.ensures, c.place_of.ensures)) in
-    let written = λ (k : ℕ).
-    let offset : k - from ≡ 8 * page + k - first = omega (arith, c.page_of.ensures, c.place_of.ensures) in
-    c.try_put.ensures.put is_put k ∙ ap (λ i. if is_within from (block_count bytes) k then nth_block bytes i else nth_block old k) offset in
-    part-written m (record { held = c.get_mut.follows.lender c.try_put.new.self }) page from first (block_count bytes)
-    c.in-Some.page.now c.try_put.new.self (λ b. nth_block bytes (b - first)) c.page_of.ensures c.place_of.ensures c.requires.range found
-    ((c.get_mut.follows.holds c.try_put.new.self).3 (search rules)) whole written
+    let bytes = c.args.bytes.now in
+    let changed : Changed rows rows put n (rows n) (put n) = record {
+      was = refl;
+      others = λ m apart. refl;
+      now = refl;
+      others_now = λ m apart. c.try_put.ensures.others m refl apart;
+    } in
+    row-covered rows rows put n (rows n) (put n) changed from first (block_count bytes) (λ b. nth_block bytes (b - first))
+    c.row_of.ensures c.in_row_of.ensures c.requires.range
+    (λ k.
+    let offset : k - from ≡ 512 * n + k - first = omega (arith, c.row_of.ensures, c.in_row_of.ensures) in
+    c.try_put.ensures.put is_put k ∙ ap (λ i. if is_within from (block_count bytes) k then nth_block bytes i else row_blocks (rows n) k) offset)
 
-pub returns-in-Some-clause-same : goal.returns-in-Some-clause-same
-returns-in-Some-clause-same c = λ is_not.
-    let m = c.args.self.now in
-    let page = c.page_of.result in
-    let found : get nat_cmp m.held page ≡ Some c.in-Some.page.now = sym c.get_mut.ensures.value ∙ ap option_copied_mut c.in-Some.is in
-    part-same m (record { held = c.get_mut.follows.lender c.try_put.new.self }) page c.in-Some.page.now c.try_put.new.self found
-    ((c.get_mut.follows.holds c.try_put.new.self).3 (search rules)) (c.try_put.ensures.same is_not)
+pub returns-clause-same : goal.returns-clause-same
+returns-clause-same c = λ is_not.
+    let rows = tree_row c.args.self.now.held in
+    let put = tree_row c.try_put.new.self in
+    let n = c.row_of.result in
+    let changed : Changed rows rows put n (rows n) (put n) = record {
+      was = refl;
+      others = λ m apart. refl;
+      now = refl;
+      others_now = λ m apart. c.try_put.ensures.others m refl apart;
+    } in
+    row-same rows rows put n (rows n) (put n) changed (λ b. ap (λ l. row_blocks l b) (c.try_put.ensures.same is_not))
