@@ -3,6 +3,7 @@
 use crate::failure::Failure;
 use crate::places::request_at;
 use crate::work::Work;
+use crossbeam_utils::CachePadded;
 use ring_core::{Form, Layout, Ticket};
 use std::alloc::{AllocError, Global};
 use std::hint::spin_loop;
@@ -80,28 +81,26 @@ impl Device for Alone {
 /// How many requests of each unit were answered. Two workers count these, so they stand in cache lines of their own.
 #[derive(Drop)]
 pub(crate) struct Answered {
-    _before: [u64; 16],
-    first: AtomicU64,
-    _between: [u64; 16],
-    second: AtomicU64,
-    _behind: [u64; 16],
+    first: CachePadded<AtomicU64>,
+    second: CachePadded<AtomicU64>,
 }
 
 impl Answered {
     /// None yet.
     pub(crate) fn new() -> Answered {
         Answered {
-            _before: [0; 16],
-            first: AtomicU64::new(0),
-            _between: [0; 16],
-            second: AtomicU64::new(0),
-            _behind: [0; 16],
+            first: CachePadded::new(AtomicU64::new(0)),
+            second: CachePadded::new(AtomicU64::new(0)),
         }
     }
 
     /// Returns those of a unit.
     fn of(&self, lun: u8) -> &AtomicU64 {
-        if lun == 0 { &self.first } else { &self.second }
+        if lun == 0 {
+            &*self.first
+        } else {
+            &*self.second
+        }
     }
 }
 
@@ -160,6 +159,7 @@ impl<'a, R: Wait> Device for Hosted<'a, R> {
     }
 
     fn serves(&mut self, lun: u8, count: u64) -> Result<bool, Failure> {
+        self.host.kick(self.rt);
         let answered = self.answered.of(lun);
         for look in 0..LOOKS {
             if answered.load(Ordering::SeqCst) >= count {

@@ -41,6 +41,8 @@ impl<'a, R: Wait> GuestMemory for HostMemory<'a, R> {
     }
 
     fn write(&mut self, at: u64, bytes: &[u8]) -> Result<(), MemFault> {
-        self.host.poke(self.rt, at, bytes)
+        let written = self.host.poke(self.rt, at, bytes);
+        self.host.kick(self.rt);
+        written
     }
 }

@@ -99,6 +99,7 @@ pub(crate) fn ask<R: Wait, G: Gate + Drop>(rt: &R, host: &Host<G>, asked: Asked)
     poke(rt, host, page + 16 * u64::from(slot) + 16, &written);
     poke(rt, host, page + 1028 + u64::from(slot), &[head]);
     poke(rt, host, page + 1026, &[slot / 2 + 1]);
+    host.kick(rt);
 }
 
 /// So many bytes from an address on; `None` where they aren't all there.

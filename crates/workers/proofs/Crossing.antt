@@ -14,11 +14,14 @@ use Rattle.task_set.specs.contracts.job.JobList.TheInside as list
 use Rattle.ring_core.proofs.answered.Answered.TheSendSync as answered
 use Rattle.unit_history.proofs.outcomes.Outcome.TheSendSync as outcome
 use Rattle.unit_history.proofs.pages.PreparedWrite.TheSendSync as pages
+use Rattle.block_store.proofs.edges.Prepared.TheSendSync as spare
 use Rattle.phases.specs.contracts.job_in_hand.JobInHand.{the_row as held_row}
 use Rattle.phases.specs.contracts.job_in_hand.JobInHand.TheInside as held
 use Rattle.phases.specs.contracts.hand.Hand.{the_field as hand_field, the_type as hand_type}
 use Rattle.bays.proofs.Crossing.{unit_sends, queue_sends}
 use Rattle.guest_mem.proofs.memory.GuestMem.TheSendSync as memory
+use Rattle.workers.proofs.bell.Bell.TheSendSync as bell
+use Rattle.crossbeam_utils.proofs.cache_padded.CachePadded.TheSendSync as padded
 use Rattle.event_queue.proofs.port.EventPort.TheSendSync as port
 use Rattle.decisions.proofs.inventory.Inventory.TheSendSync as inventory
 use Rattle.std.proofs.option.Option.TheSendSync as option
@@ -47,7 +50,7 @@ list_sends = search (sendable, list_fields)
 
 held_fields : IsSend held.the_row
 held_fields = recorded_send held.the_field.row _ _ held.the_type.to_one
-    (struct_send (shape held.the_type) (job_sends, (option_sends _ pages.the_send, (option_sends _ outcome.the_send, tt))))
+    (struct_send (shape held.the_type) (job_sends, (option_sends _ pages.the_send, (option_sends _ spare.the_send, (option_sends _ outcome.the_send, tt)))))
 
 held_sends : IsSend held_row
 held_sends = search (sendable, held_fields)
@@ -103,11 +106,8 @@ shared_syncs G gate = declared_sync (shared_type G) (
               (
                 search (sendable, crosses) depth 20,
                 (
-                  search (sendable, crosses) depth 20,
-                  (
-                    search (sendable, crosses) depth 20,
-                    (search (crosses, memory.the_send), (search (sendable, crosses) depth 20, tt)),
-                  ),
+                  bell.the_sync,
+                  (search (sendable, crosses) depth 20, (search (crosses, padded.the_sync, memory.the_send), tt)),
                 ),
               ),
             ),
@@ -137,11 +137,8 @@ shared_sends G gate = declared_send (shared_type G) (
               (
                 search (sendable, crosses) depth 20,
                 (
-                  search (sendable, crosses) depth 20,
-                  (
-                    search (sendable, crosses) depth 20,
-                    (search (crosses, memory.the_send), (search (sendable, crosses) depth 20, tt)),
-                  ),
+                  bell.the_send,
+                  (search (sendable, crosses) depth 20, (search (crosses, padded.the_send, memory.the_send), tt)),
                 ),
               ),
             ),

@@ -84,7 +84,7 @@ where
     for seat in seats {
         let number = hired.len();
         let Ok(worker) = start(rt, alloc, shared, seat, limit, number, count) else {
-            shared.close();
+            shared.close(&rt);
             wait_for(&rt, hired);
             return Err(AllocError);
         };

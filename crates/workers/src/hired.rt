@@ -39,7 +39,7 @@ pub trait Works<P: Begins, K: Drop> {
         ensures { IfOk result (λ p. P.seat p ≡ seat) };
 
     /// Tells them to end.
-    fn close(&self);
+    fn close<R: Wait>(&self, rt: &R);
 
     /// Works as one of so many, until they are to end.
     fn work<R: Wait>(&self, rt: &R, post: P, number: usize, workers: usize) -> Worked<K>

@@ -45,8 +45,8 @@ impl<G: Gate + Drop> Works<Post, Kept> for Shared<G> {
         Post::new(alloc, seat, limit)
     }
 
-    fn close(&self) {
-        Shared::close(self);
+    fn close<R: Wait>(&self, rt: &R) {
+        Shared::close(self, rt);
     }
 
     fn work<R: Wait>(&self, rt: &R, post: Post, number: usize, workers: usize) -> Worked<Kept> {
@@ -328,6 +328,13 @@ impl<G: Gate + Drop> Host<G> {
         )
     }
 
+    /// Wakes the workers that sleep since they found nothing to do. Whoever embeds the device calls it once chains are
+    /// available that nobody was told of: where the driver notifies (VIRTIO 1.2 §2.9). It costs one load where all are
+    /// awake, and may wait.
+    pub fn kick<R: Wait>(&self, rt: &R) {
+        self.shared.bell.ring(rt);
+    }
+
     /// Returns what a queue came to so far, in one hold of it; `None` where there is no such queue. It may wait.
     pub fn look<R: Wait>(&self, rt: &R, queue: u16) -> Option<Seen>
         ensures { is_some result ≡ nat_lt queue self.now.queues }
@@ -376,7 +383,7 @@ impl<G: Gate + Drop> Host<G> {
         } = self;
         finish(rt, &*shared, &mut post);
         let Post { seat, kept, .. } = post;
-        Shared::close(&*shared);
+        Shared::close(&*shared, rt);
         let Ok((seats, all)) = crew.join(rt, alloc, seat, kept) else {
             return Err(CloseFault::NoMemory);
         };
@@ -388,6 +395,7 @@ impl<G: Gate + Drop> Host<G> {
             ..
         } = unshared(rt, shared);
         handoff.gather(seats);
+        let memory = memory.into_inner();
         report_closed(alloc, specs.as_slice(), units, queues, memory, all)
     }
 }

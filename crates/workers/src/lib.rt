@@ -3,6 +3,7 @@
 #![tactic(auto)]
 
 mod alone;
+mod bell;
 mod control;
 mod crew;
 mod hired;

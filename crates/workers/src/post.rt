@@ -209,8 +209,9 @@ fn put<R: Wait, G: Gate + Drop>(rt: &R, shared: &Shared<G>, post: &mut Post) -> 
     let Some(job) = post.out.next() else {
         return false;
     };
-    if let Err(job) = shared.handoff.put(rt, &mut post.seat, job) {
-        serve_job(rt, shared, post, job);
+    match shared.handoff.put(rt, &mut post.seat, job) {
+        Ok(()) => shared.bell.ring(rt),
+        Err(job) => serve_job(rt, shared, post, job),
     }
     true
 }

@@ -2,8 +2,10 @@
 
 ghost use Rattle.std.specs.Prelude.{◌≡◌, length, vec_len};
 
+use crate::bell::Bell;
 use crate::opening::Parts;
 use bays::{Gate, Locked};
+use crossbeam_utils::CachePadded;
 use decisions::Inventory;
 use event_queue::EventPort;
 use guest_mem::GuestMem;
@@ -26,12 +28,11 @@ pub(crate) struct Shared<G: Gate + Drop> {
     pub(crate) closing: AtomicBool,
     // Whether no chain is taken any more.
     pub(crate) abandoned: AtomicBool,
+    pub(crate) bell: Bell,
     // How many workers found nothing to do in their latest round.
     pub(crate) waiting: AtomicU64,
     // What all threads try for stands in cache lines of its own, so that what stands beside it stays with whoever reads it.
-    pub(crate) _before: [u64; 16],
-    pub(crate) memory: Mutex<GuestMem>,
-    pub(crate) _behind: [u64; 16],
+    pub(crate) memory: CachePadded<Mutex<GuestMem>>,
 }
 
 impl<G: Gate + Drop> Shared<G> {
@@ -57,10 +58,9 @@ impl<G: Gate + Drop> Shared<G> {
             gate,
             closing: AtomicBool::new(false),
             abandoned: AtomicBool::new(false),
+            bell: Bell::new(),
             waiting: AtomicU64::new(0),
-            _before: [0; 16],
-            memory,
-            _behind: [0; 16],
+            memory: CachePadded::new(memory),
         }
     }
 
@@ -73,7 +73,7 @@ impl<G: Gate + Drop> Shared<G> {
             rt,
             units: self.units.as_slice(),
             queues: self.queues.as_slice(),
-            memory: &self.memory,
+            memory: &*self.memory,
         }
     }
 
@@ -107,7 +107,8 @@ impl<G: Gate + Drop> Shared<G> {
     }
 
     /// Its workers are to end once nothing is left to them.
-    pub(crate) fn close(&self) {
+    pub(crate) fn close<R: Wait>(&self, rt: &R) {
         self.closing.store(true, Ordering::SeqCst);
+        self.bell.ring(rt);
     }
 }

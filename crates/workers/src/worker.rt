@@ -13,11 +13,14 @@ use bays::Gate;
 use phases::OpenFunction;
 use report::Kept;
 use scsi_codec::FIRST_REQUEST_QUEUE;
+use std::hint::spin_loop;
 use std::sync::Wait;
-use std::thread;
 
 /// Where the request queues begin among the queues.
 const FIRST_REQUEST: usize = FIRST_REQUEST_QUEUE as usize;
+
+/// After how many rounds in a row that found nothing a worker sleeps.
+const SLEEPS_AFTER: u32 = 64;
 
 /// In how many rounds that found something the first worker looks once at the queues that have no requests.
 const LOOKS_EVERY: u8 = 16;
@@ -101,6 +104,33 @@ fn round<R: Wait, G: Gate + Drop>(
     }
 }
 
+/// Has a worker sleep that found nothing to do for a while: it announces that, and sleeps where the next round found
+/// nothing either. While a function is open it stays awake, since what others answer lets the function go on. What it
+/// announced, if it did.
+fn nap<R: Wait, G: Gate + Drop>(
+    rt: &R,
+    shared: &Shared<G>,
+    announced: Option<u64>,
+    idle_rounds: u32,
+    is_open: bool,
+) -> Option<u64> {
+    match announced {
+        None => {
+            if idle_rounds < SLEEPS_AFTER || is_open || shared.is_closing() {
+                return None;
+            }
+            Some(shared.bell.announce(rt))
+        }
+        Some(seen) => {
+            if idle_rounds > SLEEPS_AFTER && !is_open && !shared.is_closing() {
+                shared.bell.sleep(rt, seen);
+            }
+            shared.bell.withdraw();
+            None
+        }
+    }
+}
+
 /// Works until the host closes, and a round then looked at all queues, found nothing to do and left the worker nothing.
 pub(crate) fn work<R: Wait, G: Gate + Drop>(
     rt: &R,
@@ -119,6 +149,8 @@ pub(crate) fn work<R: Wait, G: Gate + Drop>(
     let mut function = None;
     let mut rounds: u8 = 0;
     let mut waits = false;
+    let mut idle_rounds: u32 = 0;
+    let mut announced = None;
     for _ in rt.forever() {
         let is_closing = shared.is_closing();
         let looks = number != 0 || rounds == 0 || function.is_some();
@@ -138,10 +170,17 @@ pub(crate) fn work<R: Wait, G: Gate + Drop>(
         };
         if is_idle && others.is_idle() && looks {
             if is_closing && function.is_none() && post.is_idle() {
+                if announced.is_some() {
+                    shared.bell.withdraw();
+                }
                 return ends(post);
             }
-            thread::yield_now();
+            spin_loop();
+            idle_rounds = idle_rounds.saturating_add(1);
+        } else if looks {
+            idle_rounds = 0;
         }
+        announced = nap(rt, shared, announced, idle_rounds, function.is_some());
     }
     unreachable!()
 }
