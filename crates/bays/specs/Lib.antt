@@ -1,2 +1,4 @@
+pub mod Joined
+pub mod Ledgers
 pub mod Lending
 pub mod Memory

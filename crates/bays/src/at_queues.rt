@@ -13,7 +13,7 @@ ghost use Rattle.phases.specs.DirectChain.{note_in};
 ghost use Rattle.phases.specs.Giving.{given_in};
 ghost use Rattle.phases.specs.EventQueue.{FetchesEvent, RaisesNext};
 
-use crate::lend::Bays;
+use crate::lend::QueueBays;
 use block_store::NoMemory;
 use decisions::Inventory;
 use event_queue::{EventPort, WaitingEvents};
@@ -25,7 +25,7 @@ use unit_history::{Note, ReceiptOrNote};
 
 /// Takes the next chain of a request queue (`phase_fetch`), in one hold of it and of the memory. The queue's owner
 /// calls. Whether something changed, or `NoMemory` as of the phase.
-pub fn fetch_on<B: Bays>(
+pub fn fetch_on<B: QueueBays>(
     bays: &mut B,
     at: usize,
     slot: &mut Slot,
@@ -35,7 +35,6 @@ pub fn fetch_on<B: Bays>(
     ensures did { (q : BareQueue) × (m : List ℕ) × (r : BareQueue) × B.lends_queue bays.old at q m
         × FetchesRequest inventory.now m (with_slot (slot_of slot.old) q) result (with_slot (slot_of slot.new) r)
         × B.keeps_queue bays.old at r m bays.new }
-    ensures units { B.units bays.new ≡ B.units bays.old }
     ensures queues { B.queues bays.new ≡ B.queues bays.old }
 {
     bays.queue(
@@ -51,7 +50,7 @@ pub fn fetch_on<B: Bays>(
 
 /// Takes the next chain of the control queue (`phase_fetch_control`), in one hold of it and of the memory. The queue's
 /// owner calls. Whether something changed, or `NoMemory` as of the phase.
-pub fn fetch_control_on<B: Bays>(
+pub fn fetch_control_on<B: QueueBays>(
     bays: &mut B,
     at: usize,
     slot: &mut Slot,
@@ -63,7 +62,6 @@ pub fn fetch_control_on<B: Bays>(
         × FetchesControl inventory.now m (with_slot (slot_of slot.old) q) function.old
         result (with_slot (slot_of slot.new) r) function.new
         × B.keeps_queue bays.old at r m bays.new }
-    ensures units { B.units bays.new ≡ B.units bays.old }
     ensures queues { B.queues bays.new ≡ B.queues bays.old }
 {
     bays.queue(
@@ -80,7 +78,7 @@ pub fn fetch_control_on<B: Bays>(
 
 /// Takes the next chain of the event queue (`phase_fetch_event`), in one hold of it and of the memory. Whoever has the
 /// event port calls. Whether something changed, or `NoMemory` as of the phase.
-pub fn fetch_event_on<B: Bays>(
+pub fn fetch_event_on<B: QueueBays>(
     bays: &mut B,
     at: usize,
     slot: &Slot,
@@ -90,7 +88,6 @@ pub fn fetch_event_on<B: Bays>(
     ensures did { (q : BareQueue) × (m : List ℕ) × (r : BareQueue) × (n : List ℕ) × B.lends_queue bays.old at q m
         × FetchesEvent (with_slot (slot_of slot.now) q) m port.old result (with_slot (slot_of slot.now) r) n port.new
         × (length n ≡ length m) × B.keeps_queue bays.old at r n bays.new }
-    ensures units { B.units bays.new ≡ B.units bays.old }
     ensures queues { B.queues bays.new ≡ B.queues bays.old }
 {
     bays.queue(
@@ -107,13 +104,12 @@ pub fn fetch_event_on<B: Bays>(
 
 /// Answers and uses the chain that is ready in the slot (`phase_direct`), in one hold of its queue and of the memory.
 /// The queue's owner calls. A note of why it got no receipt, where it was.
-pub fn direct_on<B: Bays>(bays: &mut B, at: usize, slot: &mut Slot) -> Option<Note>
+pub fn direct_on<B: QueueBays>(bays: &mut B, at: usize, slot: &mut Slot) -> Option<Note>
     requires there { at < B.queues bays.old }
     ensures did { (q : BareQueue) × (m : List ℕ) × (r : BareQueue) × (n : List ℕ) × B.lends_queue bays.old at q m
         × Directs (slot_of slot.old) q m (is_some result) r n (slot_of slot.new) × (length n ≡ length m)
         × B.keeps_queue bays.old at r n bays.new }
     ensures note { IfSome result (λ note. note_in (slot_of slot.old) ≡ Some note) }
-    ensures units { B.units bays.new ≡ B.units bays.old }
     ensures queues { B.queues bays.new ≡ B.queues bays.old }
 {
     bays.queue(
@@ -132,13 +128,12 @@ pub fn direct_on<B: Bays>(bays: &mut B, at: usize, slot: &mut Slot) -> Option<No
 /// Answers the job in the hand whose commit is over, and uses its chain (`phase_answer`), in one hold of its queue and
 /// of the memory. The seat that has the hand calls, with its place from `Hand::answering_queue`. Its receipt, or a note
 /// of why it got none, where it was.
-pub fn answer_on<B: Bays>(bays: &mut B, at: usize, hand: &mut Hand) -> Option<ReceiptOrNote>
+pub fn answer_on<B: QueueBays>(bays: &mut B, at: usize, hand: &mut Hand) -> Option<ReceiptOrNote>
     requires there { at < B.queues bays.old }
     ensures did { (q : BareQueue) × (m : List ℕ) × (r : BareQueue) × (n : List ℕ) × B.lends_queue bays.old at q m
         × Answers (hand_of hand.old) q m (is_some result) r n (hand_of hand.new) × (length n ≡ length m)
         × B.keeps_queue bays.old at r n bays.new }
     ensures gives { IfSome result (λ given. given_in hand.old ≡ Some given) }
-    ensures units { B.units bays.new ≡ B.units bays.old }
     ensures queues { B.queues bays.new ≡ B.queues bays.old }
 {
     bays.queue(
@@ -156,12 +151,15 @@ pub fn answer_on<B: Bays>(bays: &mut B, at: usize, hand: &mut Hand) -> Option<Re
 
 /// Answers the open function, where nothing is left for it to do, and uses its chain (`phase_answer_tmf`), in one hold
 /// of its queue and of the memory. The worker that has the function calls. Whether it was.
-pub fn answer_tmf_on<B: Bays>(bays: &mut B, at: usize, function: &mut Option<OpenFunction>) -> bool
+pub fn answer_tmf_on<B: QueueBays>(
+    bays: &mut B,
+    at: usize,
+    function: &mut Option<OpenFunction>,
+) -> bool
     requires there { at < B.queues bays.old }
     ensures did { (q : BareQueue) × (m : List ℕ) × (r : BareQueue) × (n : List ℕ) × B.lends_queue bays.old at q m
         × Responds function.old q m result r n function.new × (length n ≡ length m)
         × B.keeps_queue bays.old at r n bays.new }
-    ensures units { B.units bays.new ≡ B.units bays.old }
     ensures queues { B.queues bays.new ≡ B.queues bays.old }
 {
     bays.queue(
@@ -177,7 +175,7 @@ pub fn answer_tmf_on<B: Bays>(bays: &mut B, at: usize, function: &mut Option<Ope
 
 /// Gives the oldest event that waits to the oldest buffer, which is used, or misses it (`phase_raise`), in one hold of
 /// the event queue and of the memory. Whoever has the event port calls. Whether something changed.
-pub fn raise_on<B: Bays>(
+pub fn raise_on<B: QueueBays>(
     bays: &mut B,
     at: usize,
     port: &mut EventPort,
@@ -187,7 +185,6 @@ pub fn raise_on<B: Bays>(
     ensures did { (q : BareQueue) × (m : List ℕ) × (r : BareQueue) × (n : List ℕ) × B.lends_queue bays.old at q m
         × RaisesNext waiting.old q m port.old result r n port.new waiting.new × (length n ≡ length m)
         × B.keeps_queue bays.old at r n bays.new }
-    ensures units { B.units bays.new ≡ B.units bays.old }
     ensures queues { B.queues bays.new ≡ B.queues bays.old }
 {
     bays.queue(

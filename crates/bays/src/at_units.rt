@@ -9,9 +9,10 @@ ghost use Rattle.phases.specs.Units.{Enters, Commits, Leaves, Marks, Checks};
 ghost use Rattle.phases.specs.Giving.{KeepsOutcome};
 ghost use Rattle.phases.specs.Resetting.{Resets};
 ghost use Rattle.phases.specs.Resizing.{ResizesUnit};
+ghost use Rattle.bays.specs.Ledgers.{receipts_made};
 
 use crate::gate::{Gate, Point};
-use crate::lend::Bays;
+use crate::lend::UnitBays;
 use block_store::NoMemory;
 use event_queue::WaitingEvents;
 use phases::{
@@ -22,41 +23,43 @@ use unit_history::{JobList, ResizeFault, StartedWrite};
 
 /// Brings the request that arrived to its unit (`phase_enter`), in one hold of that. The owner of its queue calls, with
 /// its place from `Slot::unit`. Whether something changed.
-pub fn enter_on<B: Bays>(bays: &mut B, at: usize, slot: &mut Slot, out: &mut JobList) -> bool
+pub fn enter_on<B: UnitBays>(bays: &mut B, at: usize, slot: &mut Slot, out: &mut JobList) -> bool
     requires there { at < B.units bays.old }
     ensures did { (u : PlainUnit) × (v : PlainUnit) × B.lends_unit bays.old at u
         × Enters (slot_of slot.old) u out.old result v (slot_of slot.new) out.new
         × B.keeps_unit bays.old at v bays.new }
+    ensures counted { B.counts bays.old 0 bays.new }
     ensures units { B.units bays.new ≡ B.units bays.old }
-    ensures queues { B.queues bays.new ≡ B.queues bays.old }
 {
     bays.unit(
         at,
         slot,
         out,
-        |unit, slot, out| -> bool
-            ensures { Enters (slot_of slot.old) unit.old out.old result unit.new (slot_of slot.new) out.new }
-        { phase_enter(unit, slot, out) },
+        |unit, slot, out| -> (bool, u64)
+            ensures { Enters (slot_of slot.old) unit.old out.old result.0 unit.new (slot_of slot.new) out.new
+                × (result.1 ≡ 0) }
+        { (phase_enter(unit, slot, out), 0) },
     )
+    .0
 }
 
 /// Makes the pages of the WRITE in the hand ahead of its commit: what they need is copied in one hold of its unit
 /// (`phase_start_pages`), and they are made after it, with no lock held (`phase_prepare`). The seat that has the hand
 /// calls, with its place from `Hand::committing_unit`. Whether something was copied.
-pub fn prepare_on<B: Bays>(bays: &mut B, at: usize, hand: &mut Hand) -> bool
+pub fn prepare_on<B: UnitBays>(bays: &mut B, at: usize, hand: &mut Hand) -> bool
     requires there { at < B.units bays.old }
     ensures did { (u : PlainUnit) × B.lends_unit bays.old at u × B.keeps_unit bays.old at u bays.new }
     ensures same { hand_of hand.new ≡ hand_of hand.old }
+    ensures counted { B.counts bays.old 0 bays.new }
     ensures units { B.units bays.new ≡ B.units bays.old }
-    ensures queues { B.queues bays.new ≡ B.queues bays.old }
 {
-    let started = bays.unit(
+    let (started, _) = bays.unit(
         at,
         hand,
         &mut (),
-        |unit, hand, _nothing| -> Option<StartedWrite>
-            ensures { (unit.new ≡ unit.old) × (hand.new ≡ hand.old) }
-        { phase_start_pages(unit, hand) },
+        |unit, hand, _nothing| -> (Option<StartedWrite>, u64)
+            ensures { (unit.new ≡ unit.old) × (hand.new ≡ hand.old) × (result.1 ≡ 0) }
+        { (phase_start_pages(unit, hand), 0) },
     );
     match started {
         Some(started) => {
@@ -68,35 +71,44 @@ pub fn prepare_on<B: Bays>(bays: &mut B, at: usize, hand: &mut Hand) -> bool
 }
 
 /// The gate is told that the unit's lock is held for the job in the hand, where one is there.
-fn pass_locked<G: Gate>(gate: &G, hand: &Hand) {
+pub(crate) fn pass_locked<G: Gate>(gate: &G, hand: &Hand) {
     match hand {
         Hand::Job(held) => gate.pass(Point::Locked, held.job().ticket()),
         Hand::Empty | Hand::Answered(_, _) => {}
     }
 }
 
+/// How many receipts the hand is to give, where its commit changed something: how many Commits that made.
+fn receipts_made(changed: bool, hand: &Hand) -> u64
+    ensures { result ≡ receipts_made changed hand.now }
+{
+    if changed && hand.has_receipt() { 1 } else { 0 }
+}
+
 /// Commits the job in the hand (`phase_commit`), in one hold of its unit, inside which, before anything is done, the
 /// gate is passed at its point Locked. The pages that the commit left over are freed behind the hold. The seat that has
 /// the hand calls, with its place from `Hand::committing_unit`. Whether something changed.
-pub fn commit_on<B: Bays, G: Gate>(bays: &mut B, gate: &G, at: usize, hand: &mut Hand) -> bool
+pub fn commit_on<B: UnitBays, G: Gate>(bays: &mut B, gate: &G, at: usize, hand: &mut Hand) -> bool
     requires there { at < B.units bays.old }
     ensures did { (u : PlainUnit) × (v : PlainUnit) × B.lends_unit bays.old at u
         × Commits (hand_of hand.old) u result v (hand_of hand.new)
         × (IsTrue result → KeepsOutcome hand.old u v hand.new)
         × B.keeps_unit bays.old at v bays.new }
+    ensures counted { B.counts bays.old (receipts_made result hand.new) bays.new }
     ensures units { B.units bays.new ≡ B.units bays.old }
-    ensures queues { B.queues bays.new ≡ B.queues bays.old }
 {
-    let changed = bays.unit(
+    let (changed, _) = bays.unit(
         at,
         hand,
         &mut (),
-        move |unit, hand, _nothing| -> bool
-            ensures { Commits (hand_of hand.old) unit.old result unit.new (hand_of hand.new)
-                × (IsTrue result → KeepsOutcome hand.old unit.old unit.new hand.new) }
+        move |unit, hand, _nothing| -> (bool, u64)
+            ensures { Commits (hand_of hand.old) unit.old result.0 unit.new (hand_of hand.new)
+                × (IsTrue result.0 → KeepsOutcome hand.old unit.old unit.new hand.new)
+                × (result.1 ≡ receipts_made result.0 hand.new) }
         {
             pass_locked(gate, hand);
-            phase_commit(unit, hand)
+            let changed = phase_commit(unit, hand);
+            (changed, receipts_made(changed, hand))
         },
     );
     hand.let_go();
@@ -105,27 +117,29 @@ pub fn commit_on<B: Bays, G: Gate>(bays: &mut B, gate: &G, at: usize, hand: &mut
 
 /// Has the task in the hand leave its unit (`phase_leave`), in one hold of that. The seat that has the hand calls, with
 /// its place from `Hand::leaving_unit`. Whether something changed.
-pub fn leave_on<B: Bays>(bays: &mut B, at: usize, hand: &mut Hand, out: &mut JobList) -> bool
+pub fn leave_on<B: UnitBays>(bays: &mut B, at: usize, hand: &mut Hand, out: &mut JobList) -> bool
     requires there { at < B.units bays.old }
     ensures did { (u : PlainUnit) × (v : PlainUnit) × B.lends_unit bays.old at u
         × Leaves (hand_of hand.old) u out.old result v (hand_of hand.new) out.new
         × B.keeps_unit bays.old at v bays.new }
+    ensures counted { B.counts bays.old 0 bays.new }
     ensures units { B.units bays.new ≡ B.units bays.old }
-    ensures queues { B.queues bays.new ≡ B.queues bays.old }
 {
     bays.unit(
         at,
         hand,
         out,
-        |unit, hand, out| -> bool
-            ensures { Leaves (hand_of hand.old) unit.old out.old result unit.new (hand_of hand.new) out.new }
-        { phase_leave(unit, hand, out) },
+        |unit, hand, out| -> (bool, u64)
+            ensures { Leaves (hand_of hand.old) unit.old out.old result.0 unit.new (hand_of hand.new) out.new
+                × (result.1 ≡ 0) }
+        { (phase_leave(unit, hand, out), 0) },
     )
+    .0
 }
 
 /// Marks the next unit of the open function, or looks at it (`phase_mark`), in one hold of that. The worker that has
 /// the function calls, with the unit's place from `Function::next_unit`. Whether something changed.
-pub fn mark_on<B: Bays>(
+pub fn mark_on<B: UnitBays>(
     bays: &mut B,
     at: usize,
     function: &mut OpenFunction,
@@ -134,41 +148,43 @@ pub fn mark_on<B: Bays>(
     requires there { at < B.units bays.old }
     ensures did { (u : PlainUnit) × (v : PlainUnit) × B.lends_unit bays.old at u
         × Marks function.old u out.old result v function.new out.new × B.keeps_unit bays.old at v bays.new }
+    ensures counted { B.counts bays.old 0 bays.new }
     ensures units { B.units bays.new ≡ B.units bays.old }
-    ensures queues { B.queues bays.new ≡ B.queues bays.old }
 {
     bays.unit(
         at,
         function,
         out,
-        |unit, function, out| -> bool
-            ensures { Marks function.old unit.old out.old result unit.new function.new out.new }
-        { phase_mark(unit, function, out) },
+        |unit, function, out| -> (bool, u64)
+            ensures { Marks function.old unit.old out.old result.0 unit.new function.new out.new × (result.1 ≡ 0) }
+        { (phase_mark(unit, function, out), 0) },
     )
+    .0
 }
 
 /// Checks whether the open function's first mark is clear (`phase_check`), in one hold of that mark's unit, which stays
 /// as it is. The worker that has the function calls, with the unit's place from `Function::waits_for`. Whether it was.
-pub fn check_on<B: Bays>(bays: &mut B, at: usize, function: &mut OpenFunction) -> bool
+pub fn check_on<B: UnitBays>(bays: &mut B, at: usize, function: &mut OpenFunction) -> bool
     requires there { at < B.units bays.old }
     ensures did { (u : PlainUnit) × B.lends_unit bays.old at u × Checks function.old u result function.new
         × B.keeps_unit bays.old at u bays.new }
+    ensures counted { B.counts bays.old 0 bays.new }
     ensures units { B.units bays.new ≡ B.units bays.old }
-    ensures queues { B.queues bays.new ≡ B.queues bays.old }
 {
     bays.unit(
         at,
         function,
         &mut (),
-        |unit, function, _nothing| -> bool
-            ensures { Checks function.old unit.old result function.new × (unit.new ≡ unit.old) }
-        { phase_check(unit, function) },
+        |unit, function, _nothing| -> (bool, u64)
+            ensures { Checks function.old unit.old result.0 function.new × (unit.new ≡ unit.old) × (result.1 ≡ 0) }
+        { (phase_check(unit, function), 0) },
     )
+    .0
 }
 
 /// Resets a unit (`phase_hard`), in one hold of it. The operator's seat calls. Whether something changed, or `NoMemory`
 /// as of the phase.
-pub fn hard_on<B: Bays>(
+pub fn hard_on<B: UnitBays>(
     bays: &mut B,
     at: usize,
     out: &mut JobList,
@@ -177,21 +193,22 @@ pub fn hard_on<B: Bays>(
     requires there { at < B.units bays.old }
     ensures did { (u : PlainUnit) × (v : PlainUnit) × B.lends_unit bays.old at u
         × Resets u out.old waiting.old result v out.new waiting.new × B.keeps_unit bays.old at v bays.new }
+    ensures counted { B.counts bays.old 0 bays.new }
     ensures units { B.units bays.new ≡ B.units bays.old }
-    ensures queues { B.queues bays.new ≡ B.queues bays.old }
 {
     bays.unit(
         at,
         out,
         waiting,
-        |unit, out, waiting| -> Result<bool, NoMemory>
-            ensures { Resets unit.old out.old waiting.old result unit.new out.new waiting.new }
-        { phase_hard(unit, out, waiting) },
+        |unit, out, waiting| -> (Result<bool, NoMemory>, u64)
+            ensures { Resets unit.old out.old waiting.old result.0 unit.new out.new waiting.new × (result.1 ≡ 0) }
+        { (phase_hard(unit, out, waiting), 0) },
     )
+    .0
 }
 
 /// Gives a unit another capacity (`phase_resize`), in one hold of it. The operator's seat calls. Answers as the phase.
-pub fn resize_on<B: Bays>(
+pub fn resize_on<B: UnitBays>(
     bays: &mut B,
     at: usize,
     blocks: u64,
@@ -201,15 +218,16 @@ pub fn resize_on<B: Bays>(
     requires there { at < B.units bays.old }
     ensures did { (u : PlainUnit) × (v : PlainUnit) × B.lends_unit bays.old at u
         × ResizesUnit u blocks told waiting.old result v waiting.new × B.keeps_unit bays.old at v bays.new }
+    ensures counted { B.counts bays.old 0 bays.new }
     ensures units { B.units bays.new ≡ B.units bays.old }
-    ensures queues { B.queues bays.new ≡ B.queues bays.old }
 {
     bays.unit(
         at,
         waiting,
         &mut (),
-        move |unit, waiting, _nothing| -> Result<bool, ResizeFault>
-            ensures { ResizesUnit unit.old blocks told waiting.old result unit.new waiting.new }
-        { phase_resize(unit, blocks, told, waiting) },
+        move |unit, waiting, _nothing| -> (Result<bool, ResizeFault>, u64)
+            ensures { ResizesUnit unit.old blocks told waiting.old result.0 unit.new waiting.new × (result.1 ≡ 0) }
+        { (phase_resize(unit, blocks, told, waiting), 0) },
     )
+    .0
 }

@@ -25,6 +25,12 @@ pub trait Gate {
     /// Is told that the request of this ticket comes to this point. The worker that serves it calls, and goes on once
     /// this returns.
     fn pass(&self, point: Point, ticket: Ticket);
+
+    /// Returns true if a request is to be held up at each point until `pass` returns. Where it returns false, a worker may
+    /// run the Enter and the Commit of a request in one hold of the unit, and passes `Entered` and `Taken` behind that.
+    fn watches(&self) -> bool {
+        true
+    }
 }
 
 /// Lets every request pass at once.
@@ -33,4 +39,8 @@ pub struct Open;
 
 impl Gate for Open {
     fn pass(&self, _point: Point, _ticket: Ticket) {}
+
+    fn watches(&self) -> bool {
+        false
+    }
 }

@@ -2,16 +2,20 @@
 
 use std::hint::spin_loop;
 use std::sync::{Mutex, MutexGuard, Wait};
-use std::thread;
 
 /// How often a thread tries for a lock in a row.
 const TRIES: u32 = 100;
 
-/// How often it then tries once more behind a turn of other threads, before it sleeps until the lock is free.
-const TURNS: u32 = 100;
+/// How often it then tries once more behind a rest, before it sleeps until the lock is free. This takes longer than the
+/// copy of a long answer.
+const TRIES_APART: u32 = 100;
+
+/// How many times a thread spins between two tries, so that whoever holds the lock isn't disturbed.
+const SPINS: u32 = 30;
 
 /// Takes a lock that is held for a phase. It is tried for a while first: to sleep and to be woken takes longer than a
-/// phase, and where one thread sleeps all that come behind it do.
+/// phase, and where one thread sleeps all that come behind it do. It never yields, which beside one other thread that
+/// runs gives the core away for milliseconds.
 pub fn hold<'a, T, R: Wait>(rt: &R, lock: &'a Mutex<T>) -> MutexGuard<'a, T> {
     for _ in 0..TRIES {
         if let Some(guard) = lock.try_lock() {
@@ -19,11 +23,18 @@ pub fn hold<'a, T, R: Wait>(rt: &R, lock: &'a Mutex<T>) -> MutexGuard<'a, T> {
         }
         spin_loop();
     }
-    for _ in 0..TURNS {
+    for _ in 0..TRIES_APART {
         if let Some(guard) = lock.try_lock() {
             return guard;
         }
-        thread::yield_now();
+        rest();
     }
     lock.lock(rt)
+}
+
+/// Spins for a moment.
+fn rest() {
+    for _ in 0..SPINS {
+        spin_loop();
+    }
 }

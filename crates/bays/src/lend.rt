@@ -4,21 +4,53 @@ ghost use Rattle.std.specs.Prelude.{◌≡◌, ◌<◌, List, ℕ};
 ghost use Rattle.unit_model.specs.Unit.{PlainUnit};
 ghost use Rattle.queues.specs.Queue.{BareQueue};
 ghost use Rattle.bays.specs.Lending.{OnceAtTwo, OnceAtThree, OnceAtFour};
+ghost use Rattle.bays.specs.Ledgers.{CountsCommits};
 
 use guest_mem::GuestMem;
 use queues::Queue;
 use unit_history::UnitState;
 
-/// What has the units, the queues and the memory of a device, and lends one unit, or one queue with the memory, or the
-/// memory alone, for as long as one closure runs. Units are counted by their indices in the inventory, queues by their
-/// numbers.
-pub trait Bays {
+/// What has the units of a device, and lends one for as long as one closure runs. Units are counted by their indices in
+/// the inventory.
+pub trait UnitBays {
     /// The unit at this place may be lent as this.
     ghost lends_unit: { Self → ℕ → PlainUnit → Type 0 };
 
-    /// The unit at this place came back as this, and nothing else changed.
+    /// The unit at this place came back as this, and nothing else changed but what counts Commits.
     ghost keeps_unit: { Self → ℕ → PlainUnit → Self → Type 0 };
 
+    /// So many Commits were counted for whoever had the unit lent.
+    ghost counts: { Self → ℕ → Self → Type 0 };
+
+    /// How many units there are.
+    ghost units: { Self → ℕ };
+
+    /// Returns how many units there are. Whoever has a place that a request names asks before it has that unit lent.
+    fn unit_count(&self) -> usize
+        ensures { result ≡ units self.now };
+
+    /// Runs a phase on the unit at a place, and on two values of whoever calls, which stay where they are. The phase
+    /// answers how many Commits it made, too.
+    fn unit<T, X, Y, F: FnOnce(&mut UnitState, &mut X, &mut Y) -> (T, u64)>(
+        &mut self,
+        at: usize,
+        one: &mut X,
+        other: &mut Y,
+        phase: F,
+    ) -> (T, u64)
+        requires there { at < units self.old }
+        requires phase { F.IsAlwaysCallable phase }
+        requires counts { CountsCommits F.FnOnce phase }
+        ensures did { (u : PlainUnit) × (v : PlainUnit) × lends_unit self.old at u
+            × OnceAtThree F.FnOnce phase u one.old other.old result v one.new other.new
+            × keeps_unit self.old at v self.new }
+        ensures counted { counts self.old result.1 self.new }
+        ensures units { units self.new ≡ units self.old };
+}
+
+/// What has the queues and the memory of a device, and lends one queue with the memory, or the memory alone, for as long
+/// as one closure runs. Queues are counted by their numbers.
+pub trait QueueBays {
     /// The queue of this number may be lent as this, with the memory as these bytes.
     ghost lends_queue: { Self → ℕ → BareQueue → List ℕ → Type 0 };
 
@@ -31,35 +63,12 @@ pub trait Bays {
     /// The memory came back as these bytes, and nothing else changed.
     ghost keeps_memory: { Self → List ℕ → Self → Type 0 };
 
-    /// How many units there are.
-    ghost units: { Self → ℕ };
-
     /// How many queues there are.
     ghost queues: { Self → ℕ };
-
-    /// Returns how many units there are. Whoever has a place that a request names asks before it has that unit lent.
-    fn unit_count(&self) -> usize
-        ensures { result ≡ units self.now };
 
     /// Returns how many queues there are.
     fn queue_count(&self) -> usize
         ensures { result ≡ queues self.now };
-
-    /// Runs a phase on the unit at a place, and on two values of whoever calls, which stay where they are.
-    fn unit<T, X, Y, F: FnOnce(&mut UnitState, &mut X, &mut Y) -> T>(
-        &mut self,
-        at: usize,
-        one: &mut X,
-        other: &mut Y,
-        phase: F,
-    ) -> T
-        requires there { at < units self.old }
-        requires phase { F.IsAlwaysCallable phase }
-        ensures did { (u : PlainUnit) × (v : PlainUnit) × lends_unit self.old at u
-            × OnceAtThree F.FnOnce phase u one.old other.old result v one.new other.new
-            × keeps_unit self.old at v self.new }
-        ensures units { units self.new ≡ units self.old }
-        ensures queues { queues self.new ≡ queues self.old };
 
     /// Runs a phase on the queue of a number, with the memory, and on two values of whoever calls, which stay where
     /// they are.
@@ -75,7 +84,6 @@ pub trait Bays {
         ensures did { (q : BareQueue) × (m : List ℕ) × (r : BareQueue) × (n : List ℕ) × lends_queue self.old at q m
             × OnceAtFour F.FnOnce phase q m one.old other.old result r n one.new other.new
             × keeps_queue self.old at r n self.new }
-        ensures units { units self.new ≡ units self.old }
         ensures queues { queues self.new ≡ queues self.old };
 
     /// Runs what reads or writes the memory alone, with room for bytes of the caller, which stays where it is.
@@ -87,6 +95,5 @@ pub trait Bays {
         requires phase { F.IsAlwaysCallable phase }
         ensures did { (m : List ℕ) × (n : List ℕ) × lends_memory self.old m
             × OnceAtTwo F.FnOnce phase m room.old result n room.new × keeps_memory self.old n self.new }
-        ensures units { units self.new ≡ units self.old }
         ensures queues { queues self.new ≡ queues self.old };
 }

@@ -1,12 +1,16 @@
-//! Who lends the phases what they work on, locks that threads share or the plain parts of one thread; and each phase in
-//! one hold of what it works on, whoever lends that.
+//! Who lends the phases what they work on, locks that threads share or the plain parts of one thread; and each phase, or a
+//! few that follow one another, in one hold of what it works on, whoever lends that.
 #![tactic(auto)]
 
 mod at_memory;
 mod at_queues;
 mod at_units;
+mod books;
+mod counted;
 mod gate;
 mod holding;
+mod joined_queue;
+mod joined_unit;
 mod lend;
 mod locked;
 mod plain;
@@ -18,8 +22,12 @@ pub use at_queues::{
 pub use at_units::{
     check_on, commit_on, enter_on, hard_on, leave_on, mark_on, prepare_on, resize_on,
 };
+pub use books::{Books, Part};
+pub use counted::CountedUnit;
 pub use gate::{Gate, Open, Point};
 pub use holding::hold;
-pub use lend::Bays;
-pub use locked::Locked;
+pub use joined_queue::answer_fetch_on;
+pub use joined_unit::{NextJob, leave_enter_commit_on, leave_enter_on};
+pub use lend::{QueueBays, UnitBays};
+pub use locked::{LockedQueues, LockedUnits};
 pub use plain::Plain;

@@ -1,38 +1,77 @@
 //! The parts of a device that threads share, each under a lock.
 
-ghost use Rattle.std.specs.Prelude.{◌≡◌, length};
+ghost use Rattle.std.specs.Prelude.{◌≡◌, ◌+◌, length};
 ghost use Rattle.unit_model.specs.Unit.{IsUnit};
 ghost use Rattle.bays.specs.Lending.{IsQueue, IsMemory};
 
+use crate::books::{Books, Part};
+use crate::counted::CountedUnit;
 use crate::holding::hold;
-use crate::lend::Bays;
+use crate::lend::{QueueBays, UnitBays};
 use guest_mem::GuestMem;
 use queues::Queue;
+use std::sync::ledger::Ledger;
 use std::sync::{Mutex, Wait};
 use unit_history::UnitState;
 
-/// The parts of a device that threads share, each under a lock of its own, which is held while one phase runs. A
-/// unit's lock is never held with another. A queue's lock has the memory's inside it, and the memory's is also held
-/// alone. So no thread waits for a lock that waits for one of its own. What a lock held at a moment can't be said;
-/// but whenever it is free, a unit's history is lawful, its blocks and what it has pending are those of that history,
-/// a queue's log is lawful, and the memory has at most 2^28 bytes.
+/// The units that threads share, each under a lock of its own, which is held while one phase runs, or several that follow one
+/// another, with that of the books inside it where one commits. So no thread waits for a lock that waits for one of its own. What a lock held at a
+/// moment can't be said; but whenever it is free, a unit's history is lawful, its blocks and what it has pending are
+/// those of that history, and it has all Commits that were counted for it.
 #[derive(Drop)]
-pub struct Locked<'a, R: Wait> {
+pub struct LockedUnits<'a, R: Wait, C: Ledger, W: Ledger> {
     /// What lets a thread wait.
     pub rt: &'a R,
     /// The units by their indices in the inventory.
-    pub units: &'a [Mutex<UnitState>],
+    pub units: &'a [Mutex<CountedUnit<C>>],
+    /// The books of both ledgers.
+    pub books: &'a Mutex<Books<C, W>>,
+    /// The part in which the receipts of the seat that calls are counted.
+    pub seat: &'a mut Part<W>,
+}
+
+impl<'a, R: Wait, C: Ledger, W: Ledger> UnitBays for LockedUnits<'a, R, C, W> {
+    ghost lends_unit = { λ s at u. IsUnit u };
+
+    ghost keeps_unit = { λ s at v t. IsUnit v × (t.units ≡ s.units) };
+
+    ghost counts = { λ s n t. (t.seat.ghost_name ≡ s.seat.ghost_name)
+        × (t.seat.now.share.amount ≡ s.seat.now.share.amount + n) };
+
+    ghost units = { λ s. length s.units.now };
+
+    fn unit_count(&self) -> usize {
+        self.units.len()
+    }
+
+    fn unit<T, X, Y, F: FnOnce(&mut UnitState, &mut X, &mut Y) -> (T, u64)>(
+        &mut self,
+        at: usize,
+        one: &mut X,
+        other: &mut Y,
+        phase: F,
+    ) -> (T, u64) {
+        let mut held = hold(self.rt, &self.units[at]);
+        let unit = &mut *held;
+        unit.run(self.rt, self.books, &mut *self.seat, one, other, phase)
+    }
+}
+
+/// The queues and the memory that threads share, each under a lock of its own, which is held while one phase runs, or two. A
+/// queue's lock has the memory's inside it, and the memory's is also held alone; a unit's is held with neither. So no
+/// thread waits for a lock that waits for one of its own. What a lock held at a moment can't be said; but whenever it is
+/// free, a queue's log is lawful, and the memory has at most 2^28 bytes.
+#[derive(Drop)]
+pub struct LockedQueues<'a, R: Wait> {
+    /// What lets a thread wait.
+    pub rt: &'a R,
     /// The queues by their numbers.
     pub queues: &'a [Mutex<Queue>],
     /// The memory.
     pub memory: &'a Mutex<GuestMem>,
 }
 
-impl<'a, R: Wait> Bays for Locked<'a, R> {
-    ghost lends_unit = { λ s at u. IsUnit u };
-
-    ghost keeps_unit = { λ s at v t. IsUnit v × (t ≡ s) };
-
+impl<'a, R: Wait> QueueBays for LockedQueues<'a, R> {
     ghost lends_queue = { λ s at q m. IsQueue q };
 
     ghost keeps_queue = { λ s at r n t. IsQueue r × (t ≡ s) };
@@ -41,31 +80,10 @@ impl<'a, R: Wait> Bays for Locked<'a, R> {
 
     ghost keeps_memory = { λ s n t. IsMemory n × (t ≡ s) };
 
-    ghost units = { λ s. length s.units.now };
-
     ghost queues = { λ s. length s.queues.now };
-
-    fn unit_count(&self) -> usize {
-        self.units.len()
-    }
 
     fn queue_count(&self) -> usize {
         self.queues.len()
-    }
-
-    fn unit<T, X, Y, F: FnOnce(&mut UnitState, &mut X, &mut Y) -> T>(
-        &mut self,
-        at: usize,
-        one: &mut X,
-        other: &mut Y,
-        phase: F,
-    ) -> T {
-        let mut held = hold(self.rt, &self.units[at]);
-        let unit = &mut *held;
-        unit.stands();
-        let answer = phase(unit, one, other);
-        unit.stands();
-        answer
     }
 
     fn queue<T, X, Y, F: FnOnce(&mut Queue, &mut GuestMem, &mut X, &mut Y) -> T>(

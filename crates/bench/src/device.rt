@@ -1,5 +1,7 @@
 //! Who serves: the device of one thread, or a host of several.
 
+ghost use Rattle.workers.specs.Tallying.{Opens};
+
 use crate::failure::Failure;
 use crate::places::request_at;
 use crate::work::Work;
@@ -8,6 +10,7 @@ use ring_core::{Form, Layout, Ticket};
 use std::alloc::{AllocError, Global};
 use std::hint::spin_loop;
 use std::sync::atomic::{AtomicU64, Ordering};
+use std::sync::ledger::{Blank, Ledger};
 use std::sync::{Arc, Wait};
 use std::thread;
 use std::thread::Threads;
@@ -117,24 +120,42 @@ impl Gate for Counting {
             self.answered.of(lun).fetch_add(1, Ordering::SeqCst);
         }
     }
+
+    fn watches(&self) -> bool {
+        false
+    }
 }
 
 /// A host of several threads.
-pub(crate) struct Hosted<'a, R: Wait> {
+pub(crate) struct Hosted<'a, R: Wait, C: Ledger, D: Ledger> {
     rt: &'a R,
-    host: Host<Counting>,
+    host: Host<Counting, C, D>,
     answered: Arc<Answered>,
 }
 
-impl<'a, R: Threads + Wait + Copy + Send + 'static> Hosted<'a, R> {
-    /// A host of a configuration, with so many workers.
-    pub(crate) fn new(rt: &'a R, alloc: Global, work: &Work) -> Result<Hosted<'a, R>, Failure> {
+impl<'a, R, C, D> Hosted<'a, R, C, D>
+where
+    R: Threads + Wait + Copy + Send + 'static,
+    C: Ledger + Send + Sync + 'static,
+    D: Ledger + Send + Sync + 'static,
+{
+    /// A host of a configuration, with so many workers and these ledgers.
+    pub(crate) fn new(
+        rt: &'a R,
+        alloc: Global,
+        work: &Work,
+        commits: Blank,
+        receipts: Blank,
+    ) -> Result<Hosted<'a, R, C, D>, Failure>
+        requires commits { Opens commits.name commits.parts C.name C.parts 64 }
+        requires receipts { Opens receipts.name receipts.parts D.name D.parts 9 }
+    {
         let config = config(alloc, work)?;
         let answered = share(alloc)?;
         let gate = Counting {
             answered: Arc::try_clone(&answered)?,
         };
-        let host = Host::start(*rt, alloc, config, gate, work.workers)?;
+        let host = Host::start(*rt, alloc, config, gate, work.workers, commits, receipts)?;
         Ok(Hosted { rt, host, answered })
     }
 
@@ -149,7 +170,7 @@ impl<'a, R: Threads + Wait + Copy + Send + 'static> Hosted<'a, R> {
     }
 }
 
-impl<'a, R: Wait> Device for Hosted<'a, R> {
+impl<'a, R: Wait, C: Ledger, D: Ledger> Device for Hosted<'a, R, C, D> {
     fn poke(&mut self, addr: u64, bytes: &[u8]) {
         let _ = self.host.poke(self.rt, addr, bytes);
     }

@@ -1,13 +1,17 @@
 //! What is printed.
 
+ghost use Rattle.workers.specs.Tallying.{Opens};
+
 use crate::device::{Alone, Hosted};
 use crate::failure::Failure;
 use crate::guest::Guest;
 use crate::work::{KINDS, Work};
 use ring_core::Form;
 use std::alloc::Global;
+use std::marker::Brand;
 use std::rt::Clock;
 use std::sync::Wait;
+use std::sync::ledger::{Blank, Ledger};
 use std::thread::Threads;
 use std::time::{Duration, Instant};
 
@@ -64,7 +68,25 @@ fn serve_hosted<R: Clock + Threads + Wait + Copy + Send + 'static>(
     alloc: Global,
     work: &Work,
 ) -> Result<Done, Failure> {
-    let mut device = Hosted::new(rt, alloc, work)?;
+    serve_hosted_with::<Brand, Brand, R>(rt, alloc, work, Blank::new(64), Blank::new(9))
+}
+
+/// The same, with these ledgers.
+fn serve_hosted_with<C, D, R>(
+    rt: &R,
+    alloc: Global,
+    work: &Work,
+    commits: Blank,
+    receipts: Blank,
+) -> Result<Done, Failure>
+where
+    C: Ledger + Send + Sync + 'static,
+    D: Ledger + Send + Sync + 'static,
+    R: Clock + Threads + Wait + Copy + Send + 'static,
+    requires commits { Opens commits.name commits.parts C.name C.parts 64 }
+    requires receipts { Opens receipts.name receipts.parts D.name D.parts 9 }
+{
+    let mut device: Hosted<'_, R, C, D> = Hosted::new(rt, alloc, work, commits, receipts)?;
     let guest = Guest::new(alloc, &mut device, work);
     let start = Instant::now(rt).ok();
     let good = match guest {

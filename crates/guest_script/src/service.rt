@@ -1,6 +1,7 @@
 //! Plays a script on a device that threads serve.
 
 ghost use Rattle.std.specs.Prelude.{◌≡◌, Ok, Err};
+ghost use Rattle.workers.specs.Tallying.{Opens};
 
 use crate::guest::run_guest_line;
 use crate::header::{Wanted, stop_of};
@@ -13,7 +14,9 @@ use script_lines::{Command, LineFault, ScriptFault, Stop};
 use scsi_codec::Address;
 use std::alloc::Global;
 use std::io::{Read, Write};
+use std::marker::Brand;
 use std::sync::Wait;
+use std::sync::ledger::{Blank, Ledger};
 use std::thread;
 use std::thread::Threads;
 use workers::{CloseFault, Host, Open, Report, ResizeFault};
@@ -44,14 +47,44 @@ where
 {
     let bytes = read_whole(alloc, script)?;
     let (script, wanted) = Script::read(alloc, bytes.as_slice())?;
-    let mut service = match Service::start(rt, alloc, wanted, workers) {
+    let (rest, closed) = run_lines::<Brand, Brand, R>(
+        rt,
+        alloc,
+        &script,
+        wanted,
+        workers,
+        Blank::new(64),
+        Blank::new(9),
+    )?;
+    closed.run(&script, rest, out)
+}
+
+/// Runs a script's lines on the device that its header asks for, and closes that, with these ledgers. Gives how many lines
+/// were run, and what the closed device left.
+fn run_lines<C, D, R>(
+    rt: R,
+    alloc: Global,
+    script: &Script<'_>,
+    wanted: Wanted,
+    workers: u16,
+    commits: Blank,
+    receipts: Blank,
+) -> Result<(usize, Closed), ScriptFault>
+where
+    C: Ledger + Send + Sync + 'static,
+    D: Ledger + Send + Sync + 'static,
+    R: Threads + Wait + Copy + Send + 'static,
+    requires commits { Opens commits.name commits.parts C.name C.parts 64 }
+    requires receipts { Opens receipts.name receipts.parts D.name D.parts 9 }
+{
+    let started = Service::<C, D>::start(rt, alloc, wanted, workers, commits, receipts);
+    let mut service = match started {
         Ok(service) => service,
         Err(stop) => return Err(script.refused(stop)),
     };
-    let ended = service.run(&rt, &script);
+    let ended = service.run(&rt, script);
     let closed = service.close(&rt);
-    let (rest, closed) = both(ended, closed)?;
-    closed.run(&script, rest, out)
+    both(ended, closed)
 }
 
 /// What a script's lines and the closing of its device gave, where both went well; else the fault of a line, and where
@@ -84,9 +117,9 @@ fn fault_of(fault: CloseFault) -> ScriptFault {
 }
 
 /// A script that runs while threads serve its device, with the guest's driver.
-struct Service {
+struct Service<C: Ledger, D: Ledger> {
     alloc: Global,
-    host: Host<Open>,
+    host: Host<Open, C, D>,
     pages: u32,
     driver: Driver,
     known: Known,
@@ -94,15 +127,23 @@ struct Service {
     is_abandoned: bool,
 }
 
-impl Service {
-    /// Opens the device that a header asks for, with so many workers, and the driver beside it. `BadConfig` where the
-    /// device refuses.
+impl<C: Ledger, D: Ledger> Service<C, D> {
+    /// Opens the device that a header asks for, with so many workers and these ledgers, and the driver beside it.
+    /// `BadConfig` where the device refuses.
     fn start<R: Threads + Wait + Copy + Send + 'static>(
         rt: R,
         alloc: Global,
         wanted: Wanted,
         workers: u16,
-    ) -> Result<Service, Stop> {
+        commits: Blank,
+        receipts: Blank,
+    ) -> Result<Service<C, D>, Stop>
+    where
+        C: Send + Sync + 'static,
+        D: Send + Sync + 'static,
+        requires commits { Opens commits.name commits.parts C.name C.parts 64 }
+        requires receipts { Opens receipts.name receipts.parts D.name D.parts 9 }
+    {
         let Wanted {
             config,
             known,
@@ -111,7 +152,7 @@ impl Service {
             features,
         } = wanted;
         let pages = config.pages;
-        let host = match Host::start(rt, alloc, config, Open, workers) {
+        let host = match Host::start(rt, alloc, config, Open, workers, commits, receipts) {
             Ok(host) => host,
             Err(fault) => return Err(stop_of(fault)),
         };

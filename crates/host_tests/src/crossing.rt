@@ -1,11 +1,15 @@
 //! Two WRITEs into one page, whose pages are made at once.
 
+ghost use Rattle.workers.specs.Tallying.{Opens};
+
 use crate::guest::{Asked, are_answered, ask};
 use crate::meeting::LONG;
 use crate::runs::{FIRST, start};
 use ring_core::Ticket;
 use std::alloc::Global;
+use std::marker::Brand;
 use std::sync::atomic::{AtomicU64, Ordering};
+use std::sync::ledger::{Blank, Ledger};
 use std::sync::{Arc, Wait};
 use std::thread;
 use std::thread::Threads;
@@ -151,11 +155,29 @@ pub fn cross<R: Threads + Wait + Copy + Send + 'static>(
     alloc: Global,
     workers: u16,
 ) -> Option<Crossed> {
+    cross_with::<Brand, Brand, R>(rt, alloc, workers, Blank::new(64), Blank::new(9))
+}
+
+/// The same, with these ledgers.
+fn cross_with<C, D, R>(
+    rt: R,
+    alloc: Global,
+    workers: u16,
+    commits: Blank,
+    receipts: Blank,
+) -> Option<Crossed>
+where
+    C: Ledger + Send + Sync + 'static,
+    D: Ledger + Send + Sync + 'static,
+    R: Threads + Wait + Copy + Send + 'static,
+    requires commits { Opens commits.name commits.parts C.name C.parts 64 }
+    requires receipts { Opens receipts.name receipts.parts D.name D.parts 9 }
+{
     let seen = Arc::new(alloc, Seen::new()).ok()?;
     let gate = Crossing {
         seen: Arc::try_clone(&seen).ok()?,
     };
-    let host = start(rt, alloc, gate, workers, 8)?;
+    let host: Host<Crossing, C, D> = start(rt, alloc, gate, workers, 8, commits, receipts)?;
     ask(&rt, &host, EARLY_WRITE);
     ask(&rt, &host, LATE_WRITE);
     let answered = are_answered(&rt, &host, EARLY, 1) && are_answered(&rt, &host, LATE, 1);

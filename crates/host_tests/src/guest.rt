@@ -5,6 +5,7 @@ ghost use Rattle.std.specs.Prelude.{◌<◌, ◌^◌};
 use ring_core::Layout;
 use std::alloc::Global;
 use std::sync::Wait;
+use std::sync::ledger::Ledger;
 use std::thread;
 use workers::{Gate, Host};
 
@@ -63,7 +64,12 @@ pub(crate) fn layouts(alloc: Global) -> Option<Vec<Layout>> {
 }
 
 /// The guest's write. It has no contract, so that what `poke` promises is read once.
-fn poke<R: Wait, G: Gate + Drop>(rt: &R, host: &Host<G>, addr: u64, bytes: &[u8]) {
+fn poke<R: Wait, G: Gate + Drop, C: Ledger, D: Ledger>(
+    rt: &R,
+    host: &Host<G, C, D>,
+    addr: u64,
+    bytes: &[u8],
+) {
     let _ = host.poke(rt, addr, bytes);
 }
 
@@ -86,7 +92,11 @@ fn descriptor(addr: u64, len: u32, flags: u16, slot: u8) -> [u8; 16] {
 
 /// The guest makes a chain available. It takes the pair of descriptors of its number, and of these the second alone
 /// where the device reads nothing of it.
-pub(crate) fn ask<R: Wait, G: Gate + Drop>(rt: &R, host: &Host<G>, asked: Asked) {
+pub(crate) fn ask<R: Wait, G: Gate + Drop, C: Ledger, D: Ledger>(
+    rt: &R,
+    host: &Host<G, C, D>,
+    asked: Asked,
+) {
     let page = PAGE * u64::from(asked.queue);
     let place = place_of(asked.queue, asked.number);
     let slot = 2 * (asked.number % 4);
@@ -103,9 +113,9 @@ pub(crate) fn ask<R: Wait, G: Gate + Drop>(rt: &R, host: &Host<G>, asked: Asked)
 }
 
 /// So many bytes from an address on; `None` where they aren't all there.
-fn bytes<R: Wait, G: Gate + Drop, const N: usize>(
+fn bytes<R: Wait, G: Gate + Drop, C: Ledger, D: Ledger, const N: usize>(
     rt: &R,
-    host: &Host<G>,
+    host: &Host<G, C, D>,
     addr: u64,
 ) -> Option<[u8; N]> {
     let mut bytes = [0; N];
@@ -114,9 +124,9 @@ fn bytes<R: Wait, G: Gate + Drop, const N: usize>(
 }
 
 /// Whether so many chains of a queue are answered, once the guest looked often enough.
-pub(crate) fn are_answered<R: Wait, G: Gate + Drop>(
+pub(crate) fn are_answered<R: Wait, G: Gate + Drop, C: Ledger, D: Ledger>(
     rt: &R,
-    host: &Host<G>,
+    host: &Host<G, C, D>,
     queue: u16,
     count: u8,
 ) -> bool {
@@ -130,9 +140,9 @@ pub(crate) fn are_answered<R: Wait, G: Gate + Drop>(
 }
 
 /// What a device wrote first into a chain.
-pub(crate) fn written<R: Wait, G: Gate + Drop, const N: usize>(
+pub(crate) fn written<R: Wait, G: Gate + Drop, C: Ledger, D: Ledger, const N: usize>(
     rt: &R,
-    host: &Host<G>,
+    host: &Host<G, C, D>,
     queue: u16,
     number: u8,
 ) -> Option<[u8; N]> {

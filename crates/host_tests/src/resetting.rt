@@ -1,11 +1,15 @@
 //! A host whose operator resets a unit.
 
+ghost use Rattle.workers.specs.Tallying.{Opens};
+
 use crate::guest::{Asked, are_answered, ask, written};
 use crate::runs::{FIRST, Left, start, summed};
 use std::alloc::Global;
+use std::marker::Brand;
 use std::sync::Wait;
+use std::sync::ledger::{Blank, Ledger};
 use std::thread::Threads;
-use workers::Open;
+use workers::{Host, Open};
 
 /// An event buffer.
 const BUFFER: Asked = Asked {
@@ -31,7 +35,25 @@ pub fn reset<R: Threads + Wait + Copy + Send + 'static>(
     alloc: Global,
     workers: u16,
 ) -> Option<(Told, Option<Left>)> {
-    let mut host = start(rt, alloc, Open, workers, 1)?;
+    reset_with::<Brand, Brand, R>(rt, alloc, workers, Blank::new(64), Blank::new(9))
+}
+
+/// The same, with these ledgers.
+fn reset_with<C, D, R>(
+    rt: R,
+    alloc: Global,
+    workers: u16,
+    commits: Blank,
+    receipts: Blank,
+) -> Option<(Told, Option<Left>)>
+where
+    C: Ledger + Send + Sync + 'static,
+    D: Ledger + Send + Sync + 'static,
+    R: Threads + Wait + Copy + Send + 'static,
+    requires commits { Opens commits.name commits.parts C.name C.parts 64 }
+    requires receipts { Opens receipts.name receipts.parts D.name D.parts 9 }
+{
+    let mut host: Host<Open, C, D> = start(rt, alloc, Open, workers, 1, commits, receipts)?;
     let done = host.operator(&rt, 0);
     ask(&rt, &host, BUFFER);
     ask(&rt, &host, FIRST);

@@ -1,9 +1,14 @@
 //! Hosts from start to close.
 
+ghost use Rattle.workers.specs.Tallying.{Opens};
+ghost use Rattle.std.specs.Prelude.{◌≡◌};
+
 use crate::guest::{Asked, PAGES, are_answered, ask, layouts};
 use config::{UnitSpec, VERSION_1};
 use std::alloc::Global;
+use std::marker::Brand;
 use std::sync::Wait;
+use std::sync::ledger::{Blank, Ledger};
 use std::thread::Threads;
 use workers::{CloseFault, Config, Gate, Host, Open, Report, StartFault};
 
@@ -80,7 +85,29 @@ pub fn is_refused<R: Threads + Wait + Copy + Send + 'static>(
     alloc: Global,
     workers: u16,
 ) -> Option<bool> {
-    match Host::start(rt, alloc, config(alloc, 1)?, Open, workers) {
+    is_refused_with::<Brand, Brand, R>(rt, alloc, workers, Blank::new(64), Blank::new(9))
+}
+
+/// The same, with these ledgers.
+fn is_refused_with<C, D, R>(
+    rt: R,
+    alloc: Global,
+    workers: u16,
+    commits: Blank,
+    receipts: Blank,
+) -> Option<bool>
+where
+    C: Ledger + Send + Sync + 'static,
+    D: Ledger + Send + Sync + 'static,
+    R: Threads + Wait + Copy + Send + 'static,
+    requires commits { Opens commits.name commits.parts C.name C.parts 64 }
+    requires receipts { Opens receipts.name receipts.parts D.name D.parts 9 }
+{
+    let config = config(alloc, 1)?;
+    let started: Result<Host<Open, C, D>, StartFault> = Host::start(
+        rt, alloc, config, Open, workers, commits, receipts,
+    );
+    match started {
         Err(StartFault::BadConfig) => Some(true),
         Err(StartFault::NoMemory) => None,
         Ok(host) => {
@@ -90,12 +117,26 @@ pub fn is_refused<R: Threads + Wait + Copy + Send + 'static>(
     }
 }
 
-/// A host of so many workers, with a hand-off of so many jobs, and a gate.
-pub(crate) fn start<
+/// A host of so many workers, with a hand-off of so many jobs, a gate and ledgers.
+pub(crate) fn start<R, G, C, D>(
+    rt: R,
+    alloc: Global,
+    gate: G,
+    workers: u16,
+    handoff: u16,
+    commits: Blank,
+    receipts: Blank,
+) -> Option<Host<G, C, D>>
+where
     R: Threads + Wait + Copy + Send + 'static,
     G: Gate + Drop + Send + Sync + 'static,
->(rt: R, alloc: Global, gate: G, workers: u16, handoff: u16) -> Option<Host<G>> {
-    Host::start(rt, alloc, config(alloc, handoff)?, gate, workers).ok()
+    C: Ledger + Send + Sync + 'static,
+    D: Ledger + Send + Sync + 'static,
+    requires commits { Opens commits.name commits.parts C.name C.parts 64 }
+    requires receipts { Opens receipts.name receipts.parts D.name D.parts 9 }
+{
+    let config = config(alloc, handoff)?;
+    Host::start(rt, alloc, config, gate, workers, commits, receipts).ok()
 }
 
 /// What a host of so many workers leaves of which nothing was asked.
@@ -104,7 +145,25 @@ pub fn serve_nothing<R: Threads + Wait + Copy + Send + 'static>(
     alloc: Global,
     workers: u16,
 ) -> Option<Left> {
-    let host = start(rt, alloc, Open, workers, 1)?;
+    serve_nothing_with::<Brand, Brand, R>(rt, alloc, workers, Blank::new(64), Blank::new(9))
+}
+
+/// The same, with these ledgers.
+fn serve_nothing_with<C, D, R>(
+    rt: R,
+    alloc: Global,
+    workers: u16,
+    commits: Blank,
+    receipts: Blank,
+) -> Option<Left>
+where
+    C: Ledger + Send + Sync + 'static,
+    D: Ledger + Send + Sync + 'static,
+    R: Threads + Wait + Copy + Send + 'static,
+    requires commits { Opens commits.name commits.parts C.name C.parts 64 }
+    requires receipts { Opens receipts.name receipts.parts D.name D.parts 9 }
+{
+    let host: Host<Open, C, D> = start(rt, alloc, Open, workers, 1, commits, receipts)?;
     summed(host.close(&rt))
 }
 
@@ -114,7 +173,25 @@ pub fn serve<R: Threads + Wait + Copy + Send + 'static>(
     alloc: Global,
     workers: u16,
 ) -> Option<(bool, Option<Left>)> {
-    let host = start(rt, alloc, Open, workers, 1)?;
+    serve_with::<Brand, Brand, R>(rt, alloc, workers, Blank::new(64), Blank::new(9))
+}
+
+/// The same, with these ledgers.
+fn serve_with<C, D, R>(
+    rt: R,
+    alloc: Global,
+    workers: u16,
+    commits: Blank,
+    receipts: Blank,
+) -> Option<(bool, Option<Left>)>
+where
+    C: Ledger + Send + Sync + 'static,
+    D: Ledger + Send + Sync + 'static,
+    R: Threads + Wait + Copy + Send + 'static,
+    requires commits { Opens commits.name commits.parts C.name C.parts 64 }
+    requires receipts { Opens receipts.name receipts.parts D.name D.parts 9 }
+{
+    let host: Host<Open, C, D> = start(rt, alloc, Open, workers, 1, commits, receipts)?;
     ask(&rt, &host, FIRST);
     ask(&rt, &host, SECOND);
     ask(&rt, &host, ABSENT);

@@ -1,9 +1,13 @@
 //! Workers that serve at once.
 
+ghost use Rattle.workers.specs.Tallying.{Opens};
+
 use crate::guest::{Asked, are_answered, ask};
 use crate::meeting::{LONG, Meeting, SHORT, Seen};
 use crate::runs::{FIRST, Left, start};
 use std::alloc::Global;
+use std::marker::Brand;
+use std::sync::ledger::{Blank, Ledger};
 use std::sync::{Arc, Wait};
 use std::thread::Threads;
 use unit_history::{StepKind, UnitState};
@@ -125,7 +129,12 @@ fn told(alloc: Global, report: &Report, missed: Option<u64>, answered: bool) -> 
 }
 
 /// The guest asks for all, and looks whether so many of two queues are answered.
-fn ask_all<R: Wait>(rt: &R, host: &Host<Meeting>, all: &[Asked], counts: (u8, u8)) -> bool {
+fn ask_all<R: Wait, C: Ledger, D: Ledger>(
+    rt: &R,
+    host: &Host<Meeting, C, D>,
+    all: &[Asked],
+    counts: (u8, u8),
+) -> bool {
     for asked in all {
         ask(rt, host, *asked);
     }
@@ -144,13 +153,45 @@ fn serve_all<R: Threads + Wait + Copy + Send + 'static>(
     points: &'static [Point],
     turns: u32,
 ) -> Option<Together> {
+    serve_all_with::<Brand, Brand, R>(
+        rt,
+        alloc,
+        workers,
+        all,
+        counts,
+        points,
+        turns,
+        Blank::new(64),
+        Blank::new(9),
+    )
+}
+
+/// The same, with these ledgers.
+fn serve_all_with<C, D, R>(
+    rt: R,
+    alloc: Global,
+    workers: u16,
+    all: &[Asked],
+    counts: (u8, u8),
+    points: &'static [Point],
+    turns: u32,
+    commits: Blank,
+    receipts: Blank,
+) -> Option<Together>
+where
+    C: Ledger + Send + Sync + 'static,
+    D: Ledger + Send + Sync + 'static,
+    R: Threads + Wait + Copy + Send + 'static,
+    requires commits { Opens commits.name commits.parts C.name C.parts 64 }
+    requires receipts { Opens receipts.name receipts.parts D.name D.parts 9 }
+{
     let seen = Arc::new(alloc, Seen::new()).ok()?;
     let gate = Meeting {
         seen: Arc::try_clone(&seen).ok()?,
         points,
         turns,
     };
-    let host = start(rt, alloc, gate, workers, 8)?;
+    let host: Host<Meeting, C, D> = start(rt, alloc, gate, workers, 8, commits, receipts)?;
     let answered = ask_all(&rt, &host, all, counts);
     match host.close(&rt) {
         Ok(report) => told(alloc, &report, seen.missed(points), answered),

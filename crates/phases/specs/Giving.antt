@@ -1,11 +1,12 @@
 -- What a request leaves once it is answered.
-use Rattle.std.specs.Prelude.{◌≡◌, Option, Some, None, ⊤}
+use Rattle.std.specs.Prelude.{◌≡◌, Bool, true, false, Option, Some, None, ⊤}
 use Rattle.std.specs.Option.{option_map}
 use Rattle.ring_core.specs.declared.log.Ticket.{Ticket}
 use Rattle.unit_model.specs.Unit.{PlainUnit}
 use Rattle.unit_history.specs.Calls.{Commits}
 use Rattle.unit_history.specs.declared.outcomes.Outcome as answers
 use Rattle.unit_history.specs.declared.outcomes.Outcome.TheVariants as outcome
+use Rattle.phases.specs.Parts.{outcome_in}
 use Rattle.phases.specs.declared.hand.Hand.{Hand}
 use Rattle.phases.specs.declared.hand.Hand.TheVariants as hand
 use Rattle.unit_history.specs.declared.note.Cause.TheVariants as cause
@@ -25,6 +26,18 @@ abbrev pub given_in : Hand → Option ReceiptOrNote
 given_in hand.Empty = None
 given_in (hand.Job h) = option_map (given_for h.job.chain.ticket) h.outcome
 given_in (hand.Answered place t) = None
+
+-- own: a Commit was made, and left a receipt
+abbrev pub is_reply : Option answers.Outcome → Bool
+is_reply None = false
+is_reply (Some (outcome.Reply receipt)) = true
+is_reply (Some (outcome.Aborted why)) = false
+is_reply (Some outcome.Busy) = false
+is_reply (Some outcome.Unknown) = false
+
+-- own: the hand has a receipt that it is to give
+abbrev pub has_receipt : Hand → Bool
+has_receipt h = is_reply (outcome_in h)
 
 -- own: the job in the hand was committed, and the hand has what the unit answered
 abbrev pub KeepsOutcome : Hand → PlainUnit → PlainUnit → Hand → Type 0

@@ -18,6 +18,7 @@ pub enum Hand {
 impl Hand {
     ghost use Rattle.std.specs.Prelude.{IsTrue, ◌↔◌, ◌≡◌};
     ghost use Rattle.device_model.specs.Parts as plain;
+    ghost use Rattle.phases.specs.Giving.{has_receipt};
     ghost use Rattle.phases.specs.Parts.{hand_of, committing_unit, leaving_unit, answering_queue};
 
     /// Makes a job that is to be committed.
@@ -43,6 +44,16 @@ impl Hand {
         match self {
             Hand::Empty => true,
             Hand::Job(_) | Hand::Answered(_, _) => false,
+        }
+    }
+
+    /// Returns true if its job was committed and has a receipt, which is given once its chain is answered.
+    pub fn has_receipt(&self) -> bool
+        ensures { result ≡ has_receipt self.now }
+    {
+        match self {
+            Hand::Job(held) => held.has_receipt(),
+            Hand::Empty | Hand::Answered(_, _) => false,
         }
     }
 

@@ -35,6 +35,7 @@ impl Model for JobInHand {
 
 impl JobInHand {
     ghost use Rattle.std.specs.Prelude.{None, true, length};
+    ghost use Rattle.phases.specs.Giving.{is_reply};
     ghost use Rattle.phases.specs.Outcomes.{WritesEnding};
     ghost use Rattle.unit_history.specs.declared.outcomes.Outcome as answers;
 
@@ -62,6 +63,13 @@ impl JobInHand {
         ensures { result ≡ is_some self.now.outcome }
     {
         self.outcome.is_some()
+    }
+
+    /// Whether its commit is over and left a receipt.
+    pub(crate) fn has_receipt(&self) -> bool
+        ensures { result ≡ is_reply self.now.outcome }
+    {
+        matches!(self.outcome, Some(Outcome::Reply(_)))
     }
 
     /// The pages of its WRITE are made of what was copied for them; none where memory was refused.

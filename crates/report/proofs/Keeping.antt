@@ -49,7 +49,7 @@ at_place n i (c ∷ cs) rs (suc k) = at_place n (i + 1) cs rs k ∙ ap (λ p. op
     shift : (i k : ℕ) → (i + 1) + k ≡ i + suc k
     shift i k = omega arith
 
-length_with : (n i : ℕ) (cs : List Receipt) (rs : List (Option Reply)) → length (with_replies n i cs rs) ≡ length cs
+pub length_with : (n i : ℕ) (cs : List Receipt) (rs : List (Option Reply)) → length (with_replies n i cs rs) ≡ length cs
 length_with n i [] rs = refl
 length_with n i (c ∷ cs) rs = ap suc (length_with n (i + 1) cs rs)
 

@@ -1,5 +1,6 @@
 -- What a seat keeps of the requests that it answered.
 use Rattle.std.specs.Prelude.{ℕ, ◌≡◌, ◌≢◌, ◌+◌, ◌%◌, ◌<◌, nat_lt, nat_le, Bool, false, List, [], ◌∷◌, ◌++◌, length, slice_get, Option, Some, None, if◌then◌else◌}
+use Rattle.std.specs.List.{sum_by}
 use Rattle.std.specs.Option.{option_map}
 use Rattle.replies.specs.PlainReply.{PlainReply, plain_of}
 use Rattle.replies.specs.declared.reply.Reply.{Reply}
@@ -31,6 +32,10 @@ receipts_of bare replies = with_replies (length bare) 0 bare replies
 
 abbrev pub receipts_in : Kept → List Receipt
 receipts_in k = receipts_of k.receipts.items k.replies.items
+
+-- own: how many receipts seats kept
+abbrev pub receipts_kept : List Kept → ℕ
+receipts_kept all = sum_by (λ (k : Kept). length (receipts_in k)) all
 
 -- own: the receipt of a Commit whose reply was let go
 abbrev pub without_reply : Receipt → Receipt

@@ -1,7 +1,8 @@
 //! What stood under locks, and what the seats kept, as a report.
 
-ghost use Rattle.std.specs.Prelude.{◌≡◌, ◌≤◌, vec_len, length, IfOk};
+ghost use Rattle.std.specs.Prelude.{◌≡◌, ◌+◌, ◌≤◌, vec_len, length, IfOk, OnOk};
 ghost use Rattle.report.specs.Closed.{IsReport};
+ghost use Rattle.report.specs.Keeping.{receipts_in, receipts_kept};
 
 use crate::examining::examine;
 use crate::fault::CloseFault;
@@ -10,9 +11,10 @@ use crate::report::Report;
 use decisions::UnitSpec;
 use guest_mem::GuestMem;
 use queues::Queue;
+use replies::Reply;
 use std::alloc::{AllocError, Global};
 use std::sync::Mutex;
-use unit_history::{Note, Receipt, UnitState};
+use unit_history::{BareReceipt, Note, Receipt, UnitState};
 
 /// The values that stood under locks.
 fn out_of_locks<T: Drop>(alloc: Global, locks: Vec<Mutex<T>>) -> Result<Vec<T>, AllocError>
@@ -25,25 +27,35 @@ fn out_of_locks<T: Drop>(alloc: Global, locks: Vec<Mutex<T>>) -> Result<Vec<T>, 
     Ok(values)
 }
 
-/// Appends what one seat kept.
-fn append(
-    kept: Kept,
+/// Appends receipts, each with its reply where that is kept.
+fn append_receipts(
+    bare: Vec<BareReceipt>,
+    mut replies: Vec<Option<Reply>>,
     receipts: &mut Vec<Receipt>,
-    notes: &mut Vec<Note>,
-) -> Result<(), AllocError> {
-    let Kept {
-        receipts: bare,
-        mut replies,
-        notes: all,
-    } = kept;
+) -> Result<(), AllocError>
+    ensures { OnOk result (vec_len receipts.new ≡ vec_len receipts.old + vec_len bare) }
+{
     let count = bare.len();
     receipts.reserve(count)?;
-    for (place, receipt) in bare.into_iter().enumerate() {
+    let mut place = 0;
+    for receipt in bare {
         let reply = reply_out(&mut replies, count, place);
-        if receipts.push(receipt.with_reply(reply)).is_err() {
-            return Err(AllocError);
-        }
+        receipts.push_reserved(receipt.with_reply(reply));
+        place += 1;
     }
+    Ok(())
+}
+
+/// Appends what one seat kept.
+fn append(kept: Kept, receipts: &mut Vec<Receipt>, notes: &mut Vec<Note>) -> Result<(), AllocError>
+    ensures { OnOk result (vec_len receipts.new ≡ vec_len receipts.old + length (receipts_in kept)) }
+{
+    let Kept {
+        receipts: bare,
+        replies,
+        notes: all,
+    } = kept;
+    append_receipts(bare, replies, receipts)?;
     for note in all {
         if notes.push(note).is_err() {
             return Err(AllocError);
@@ -53,7 +65,9 @@ fn append(
 }
 
 /// All receipts, and all notes.
-fn together(alloc: Global, kept: Vec<Kept>) -> Result<(Vec<Receipt>, Vec<Note>), AllocError> {
+fn together(alloc: Global, kept: Vec<Kept>) -> Result<(Vec<Receipt>, Vec<Note>), AllocError>
+    ensures { IfOk result (λ r. vec_len r.0 ≡ receipts_kept kept.items) }
+{
     let mut receipts = Vec::new(alloc);
     let mut notes = Vec::new(alloc);
     for one in kept {
@@ -62,7 +76,7 @@ fn together(alloc: Global, kept: Vec<Kept>) -> Result<(Vec<Receipt>, Vec<Note>),
     Ok((receipts, notes))
 }
 
-/// Returns the report of a host that was opened with these units: of its units and queues, at most 65,536 of these, and
+/// Returns the report of a host that was opened with these specifications: of its units, of its queues, at most 65,536, and
 /// of its memory, which stood under locks, and of what each seat kept. Who closes a host calls it, once no thread
 /// shares the locks. `Unconfirmed`: the least ticket of a receipt whose Commit doesn't stand in its unit's history.
 /// `Outstanding`: the least ticket of a chain of the control queue or of a request that wasn't answered, once and as
@@ -71,19 +85,17 @@ fn together(alloc: Global, kept: Vec<Kept>) -> Result<(Vec<Receipt>, Vec<Note>),
 pub fn report_closed(
     alloc: Global,
     specs: &[UnitSpec],
-    units: Vec<Mutex<UnitState>>,
+    units: Vec<UnitState>,
     queues: Vec<Mutex<Queue>>,
     memory: Mutex<GuestMem>,
     kept: Vec<Kept>,
 ) -> Result<Report, CloseFault>
     requires few { vec_len queues ≤ 65536 }
     ensures report { IfOk result (λ r. IsReport specs.now r.units.items r.queues.items r.receipts.items r.notes.items) }
-    ensures units { IfOk result (λ r. vec_len r.units ≡ vec_len units) }
+    ensures units { IfOk result (λ r. r.units.items ≡ units.items) }
+    ensures receipts { IfOk result (λ r. vec_len r.receipts ≡ receipts_kept kept.items) }
     ensures queues { IfOk result (λ r. vec_len r.queues ≡ vec_len queues) }
 {
-    let Ok(units) = out_of_locks(alloc, units) else {
-        return Err(CloseFault::NoMemory);
-    };
     let Ok(queues) = out_of_locks(alloc, queues) else {
         return Err(CloseFault::NoMemory);
     };

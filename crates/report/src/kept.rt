@@ -10,7 +10,7 @@ use replies::Reply;
 use std::alloc::{AllocError, Global};
 use unit_history::{BareReceipt, LONGEST_KEPT, Note, Receipt, ReceiptOrNote};
 
-/// Of how many of its latest receipts a seat has the replies.
+/// Gives the number of its latest receipts of which a seat has the replies.
 const REPLIES_KEPT: usize = 4096;
 
 /// The receipts and notes of the requests that a seat answered, in order. Replies are kept of its latest

@@ -1,4 +1,4 @@
-//! What a host's seats keep of the requests that they answered; what a closed host says, and whether it adds up: each
+//! Keeps what the seats of a host answered, and tells whether what a closed host says adds up: each
 //! chain used, each request answered once, and each answer of what became of its command in a unit's history.
 #![tactic(auto)]
 

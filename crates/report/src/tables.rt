@@ -14,7 +14,7 @@ use ring_core::Ticket;
 use scsi_codec::FIRST_REQUEST_QUEUE;
 use std::alloc::Global;
 
-/// How many queues come before the request queues.
+/// Gives the number of queues before the request queues.
 const FIRST_REQUEST: usize = FIRST_REQUEST_QUEUE as usize;
 
 /// A tally of each request.

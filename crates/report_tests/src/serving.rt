@@ -2,8 +2,8 @@
 
 use crate::parts::{Parts, put, used};
 use bays::{
-    Bays, Open, Plain, answer_on, answer_tmf_on, check_on, commit_on, direct_on, enter_on,
-    fetch_control_on, fetch_event_on, fetch_on, hard_on, leave_on, mark_on, raise_on,
+    Open, Plain, QueueBays, UnitBays, answer_on, answer_tmf_on, check_on, commit_on, direct_on,
+    enter_on, fetch_control_on, fetch_event_on, fetch_on, hard_on, leave_on, mark_on, raise_on,
 };
 use decisions::Inventory;
 use event_queue::{EventPort, WaitingEvents};
@@ -57,7 +57,11 @@ const RESET: [u8; 24] = [
 ];
 
 /// The first chain of a request queue is taken.
-fn fetch_at<B: Bays>(bays: &mut B, at: usize, inventory: &Inventory) -> Option<Slot> {
+fn fetch_at<B: UnitBays + QueueBays>(
+    bays: &mut B,
+    at: usize,
+    inventory: &Inventory,
+) -> Option<Slot> {
     if at >= bays.queue_count() {
         return None;
     }
@@ -69,7 +73,11 @@ fn fetch_at<B: Bays>(bays: &mut B, at: usize, inventory: &Inventory) -> Option<S
 }
 
 /// The request that arrived enters.
-fn enter<B: Bays>(bays: &mut B, mut slot: Slot, mut out: JobList) -> Option<JobList> {
+fn enter<B: UnitBays + QueueBays>(
+    bays: &mut B,
+    mut slot: Slot,
+    mut out: JobList,
+) -> Option<JobList> {
     let place = slot.unit()?;
     if place >= bays.unit_count() {
         return None;
@@ -81,7 +89,7 @@ fn enter<B: Bays>(bays: &mut B, mut slot: Slot, mut out: JobList) -> Option<JobL
 }
 
 /// A job is committed.
-fn commit<B: Bays>(bays: &mut B, job: Job) -> Option<Hand> {
+fn commit<B: UnitBays + QueueBays>(bays: &mut B, job: Job) -> Option<Hand> {
     let mut hand = Hand::taken(job);
     let place = hand.committing_unit()?;
     if place >= bays.unit_count() {
@@ -94,7 +102,7 @@ fn commit<B: Bays>(bays: &mut B, job: Job) -> Option<Hand> {
 }
 
 /// The job in the hand is answered: what that leaves.
-fn answer<B: Bays>(bays: &mut B, hand: &mut Hand) -> Option<ReceiptOrNote> {
+fn answer<B: UnitBays + QueueBays>(bays: &mut B, hand: &mut Hand) -> Option<ReceiptOrNote> {
     let at = usize::from(hand.answering_queue()?);
     if at >= bays.queue_count() {
         return None;
@@ -103,7 +111,7 @@ fn answer<B: Bays>(bays: &mut B, hand: &mut Hand) -> Option<ReceiptOrNote> {
 }
 
 /// Whether the task in the hand leaves.
-fn leaves<B: Bays>(bays: &mut B, mut hand: Hand, mut out: JobList) -> Option<bool> {
+fn leaves<B: UnitBays + QueueBays>(bays: &mut B, mut hand: Hand, mut out: JobList) -> Option<bool> {
     let place = hand.leaving_unit()?;
     if place >= bays.unit_count() {
         return None;
@@ -113,7 +121,7 @@ fn leaves<B: Bays>(bays: &mut B, mut hand: Hand, mut out: JobList) -> Option<boo
 }
 
 /// The first chain of a request queue is served from its fetch to its leave: what it leaves.
-fn serve_at<B: Bays>(
+fn serve_at<B: UnitBays + QueueBays>(
     alloc: Global,
     bays: &mut B,
     at: usize,
@@ -130,7 +138,11 @@ fn serve_at<B: Bays>(
 }
 
 /// The first chain of a request queue is answered directly: the note of it.
-fn refuse_at<B: Bays>(bays: &mut B, at: usize, inventory: &Inventory) -> Option<Note> {
+fn refuse_at<B: UnitBays + QueueBays>(
+    bays: &mut B,
+    at: usize,
+    inventory: &Inventory,
+) -> Option<Note> {
     let mut slot = fetch_at(bays, at, inventory)?;
     if at >= bays.queue_count() {
         return None;
@@ -140,7 +152,7 @@ fn refuse_at<B: Bays>(bays: &mut B, at: usize, inventory: &Inventory) -> Option<
 }
 
 /// The first chain of the control queue is taken, which opens a function.
-fn open<B: Bays>(bays: &mut B, inventory: &Inventory) -> Option<OpenFunction> {
+fn open<B: UnitBays + QueueBays>(bays: &mut B, inventory: &Inventory) -> Option<OpenFunction> {
     if bays.queue_count() == 0 {
         return None;
     }
@@ -152,7 +164,7 @@ fn open<B: Bays>(bays: &mut B, inventory: &Inventory) -> Option<OpenFunction> {
 }
 
 /// The function marks its unit, and sees that it is clear.
-fn mark_and_check<B: Bays>(
+fn mark_and_check<B: UnitBays + QueueBays>(
     bays: &mut B,
     mut function: OpenFunction,
     mut out: JobList,
@@ -169,7 +181,11 @@ fn mark_and_check<B: Bays>(
 }
 
 /// Whether a function on the control queue is served.
-fn serves_function<B: Bays>(alloc: Global, bays: &mut B, inventory: &Inventory) -> Option<bool> {
+fn serves_function<B: UnitBays + QueueBays>(
+    alloc: Global,
+    bays: &mut B,
+    inventory: &Inventory,
+) -> Option<bool> {
     let function = open(bays, inventory)?;
     let function = mark_and_check(bays, function, JobList::with_limit(alloc, 64).ok()?)?;
     if bays.queue_count() == 0 {
@@ -180,14 +196,20 @@ fn serves_function<B: Bays>(alloc: Global, bays: &mut B, inventory: &Inventory) 
 }
 
 /// Whether the operator resets the first unit, and the event goes to the one buffer of the event queue.
-fn serves_event<B: Bays>(alloc: Global, bays: &mut B) -> Option<bool> {
+fn serves_event<B: UnitBays + QueueBays>(alloc: Global, bays: &mut B) -> Option<bool> {
     let (mut port, mut waiting) = (EventPort::new(alloc, 8).ok()?, WaitingEvents::new(alloc));
     let mut out = JobList::with_limit(alloc, 64).ok()?;
-    if bays.queue_count() <= 1 || bays.unit_count() == 0 {
+    if bays.queue_count() <= 1 {
         return None;
     }
     let _ = fetch_event_on(bays, 1, &Slot::Empty, &mut port);
+    if bays.unit_count() == 0 {
+        return None;
+    }
     let _ = hard_on(bays, 0, &mut out, &mut waiting);
+    if bays.queue_count() <= 1 {
+        return None;
+    }
     Some(raise_on(bays, 1, &mut port, &mut waiting))
 }
 

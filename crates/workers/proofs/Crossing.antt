@@ -5,7 +5,9 @@ use denote.RattleType.{RattleType}
 use denote.Struct.Declared.{shape}
 use denote.Struct.Field.{row_field}
 use denote.Enum.Declared.{shape as enum_shape}
-use Rattle.std.proofs.Crossing.{crosses, send, sync, frees}
+use Rattle.std.proofs.Crossing.{crosses, send, sync, frees, Vec-send}
+use Rattle.std.specs.contracts.sync.Mutex.{the_row as mutex_row}
+use Rattle.bays.specs.contracts.counted.CountedUnit.{the_row as counted_unit_row}
 use Rattle.std.specs.contracts.option.Option.{the_field as option_field, the_type as option_type}
 use Rattle.handoff.proofs.Crossing.{job_sends, seat_sends}
 use Rattle.report.proofs.Crossing.{kept_sends}
@@ -18,25 +20,24 @@ use Rattle.block_store.proofs.edges.Prepared.TheSendSync as spare
 use Rattle.phases.specs.contracts.job_in_hand.JobInHand.{the_row as held_row}
 use Rattle.phases.specs.contracts.job_in_hand.JobInHand.TheInside as held
 use Rattle.phases.specs.contracts.hand.Hand.{the_field as hand_field, the_type as hand_type}
-use Rattle.bays.proofs.Crossing.{unit_sends, queue_sends}
+use Rattle.bays.proofs.Crossing.{counted_unit_sends, books_sends, part_sends, queue_sends}
 use Rattle.guest_mem.proofs.memory.GuestMem.TheSendSync as memory
 use Rattle.workers.proofs.bell.Bell.TheSendSync as bell
 use Rattle.crossbeam_utils.proofs.cache_padded.CachePadded.TheSendSync as padded
 use Rattle.event_queue.proofs.port.EventPort.TheSendSync as port
 use Rattle.decisions.proofs.inventory.Inventory.TheSendSync as inventory
 use Rattle.std.proofs.option.Option.TheSendSync as option
-use denote.Exit.{yes}
-use denote.Param.{param, arg}
-use denote.Param.Send.{given_send}
-use mir.Syntax.{Ty}
-use Prim.Native.Nat.{ℕ}
 use Rattle.crossbeam_queue.proofs.array_queue.Slotted.TheSendSync as slotted
 use Rattle.handoff.specs.contracts.lane.Lane.{the_row as lane_row}
 use Rattle.handoff.specs.contracts.lane.Lane.TheInside as lane
 use Rattle.handoff.specs.contracts.queue.Handoff.{the_row as handoff_row}
 use Rattle.handoff.specs.contracts.queue.Handoff.TheInside as handoff
 use Rattle.workers.specs.contracts.shared.Shared.{the_row as shared_row, the_type as shared_type}
-use Rattle.workers.specs.contracts.post.Post.{the_field as post_field, the_type as post_type}
+use Rattle.workers.specs.contracts.tallied.Tallied.{the_row as tallied_row, the_field as tallied_field, the_type as tallied_type}
+use Rattle.workers.specs.contracts.tallied.BlankPart.{the_row as blank_part_row, the_field as blank_part_field, the_type as blank_part_type}
+use Rattle.ring_core.specs.contracts.log.Ticket.{the_row as ticket_row}
+use Rattle.std.specs.declared.sync.ledger.Ledger.{Ghosts}
+use Rattle.workers.specs.contracts.post.Post.{the_row as post_row, the_field as post_field, the_type as post_type}
 
 option_sends : (R : RattleType) → IsSend (row_field R).row → IsSend (option_field R).row
 option_sends R s = enum_send (enum_shape (option_type R)) (tt, ((s, tt), tt))
@@ -58,8 +59,28 @@ held_sends = search (sendable, held_fields)
 hand_sends : IsSend hand_field.row
 hand_sends = enum_send (enum_shape hand_type) (tt, ((held_sends, tt), ((search sendable, (answered.the_send, tt)), tt)))
 
-pub post_sends : IsSend post_field.row
-post_sends = struct_send (shape post_type) (seat_sends, (list_sends, (hand_sends, (kept_sends, tt))))
+ticket_sends : IsSend (option_field ticket_row).row
+ticket_sends = option_sends ticket_row (search sendable depth 20)
+
+post_fields : (W : RattleType) (w : Ghosts W.Denot) → IsSend (post_field W w).row
+post_fields W w = struct_send (shape (post_type W w))
+    (seat_sends, (list_sends, (hand_sends, (kept_sends, (part_sends W w, (search sendable, (ticket_sends, tt)))))))
+
+pub post_sends : (W : RattleType) (w : Ghosts W.Denot) → IsSend (post_row W w)
+post_sends W w = recorded_send (post_field W w).row _ _ (post_type W w).to_one (post_fields W w)
+
+tallied_fields : (W : RattleType) (w : Ghosts W.Denot) → IsSend (tallied_field W w).row
+tallied_fields W w = struct_send (shape (tallied_type W w)) (kept_sends, (part_sends W w, (ticket_sends, tt)))
+
+-- what a worker brings back may, too, and the part that it begins with
+pub tallied_sends : (W : RattleType) (w : Ghosts W.Denot) → IsSend (tallied_row W w)
+tallied_sends W w = recorded_send (tallied_field W w).row _ _ (tallied_type W w).to_one (tallied_fields W w)
+
+blank_part_fields : (W : RattleType) (w : Ghosts W.Denot) → IsSend (blank_part_field W w).row
+blank_part_fields W w = struct_send (shape (blank_part_type W w)) (part_sends W w, tt)
+
+pub blank_part_sends : (W : RattleType) (w : Ghosts W.Denot) → IsSend (blank_part_row W w)
+blank_part_sends W w = recorded_send (blank_part_field W w).row _ _ (blank_part_type W w).to_one (blank_part_fields W w)
 
 lane_fields_sync : IsSync lane.the_row
 lane_fields_sync = declared_sync lane.the_type
@@ -88,26 +109,32 @@ handoff_sends : IsSend handoff_row
 handoff_sends = search (sendable, handoff_fields_send)
 
 -- threads may share what a host has, where they may share its gate
-pub shared_syncs : (G : RattleType) → IsSync G → IsSync (shared_row G)
-shared_syncs G gate = declared_sync (shared_type G) (
-  search (crosses, unit_sends),
+pub shared_syncs : (G C W : RattleType) (c : Ghosts C.Denot) (w : Ghosts W.Denot) → IsSync G → IsSync (shared_row G C W c w)
+shared_syncs G C W c w gate = declared_sync (shared_type G C W c w) (
+  search (crosses, counted_unit_sends C c) depth 20,
   (
-    search (crosses, queue_sends),
+    search (crosses, books_sends C W c w) depth 20,
     (
-      search (crosses, port.the_send),
+      search (crosses, queue_sends),
       (
-        inventory.the_sync,
+        search (crosses, port.the_send),
         (
-          handoff_syncs,
+          inventory.the_sync,
           (
-            search (sendable, gate),
+            handoff_syncs,
             (
-              search (sendable, crosses) depth 20,
+              search (sendable, gate),
               (
                 search (sendable, crosses) depth 20,
                 (
-                  bell.the_sync,
-                  (search (sendable, crosses) depth 20, (search (crosses, padded.the_sync, memory.the_send), tt)),
+                  search (sendable, crosses) depth 20,
+                  (
+                    bell.the_sync,
+                    (
+                      search (sendable, crosses) depth 20,
+                      (search (crosses, padded.the_sync, memory.the_send), tt),
+                    ),
+                  ),
                 ),
               ),
             ),
@@ -119,26 +146,32 @@ shared_syncs G gate = declared_sync (shared_type G) (
 )
 
 -- and what one thread has of it may go to another
-pub shared_sends : (G : RattleType) → IsSend G → IsSend (shared_row G)
-shared_sends G gate = declared_send (shared_type G) (
-  search (crosses, unit_sends),
+pub shared_sends : (G C W : RattleType) (c : Ghosts C.Denot) (w : Ghosts W.Denot) → IsSend G → IsSend (shared_row G C W c w)
+shared_sends G C W c w gate = declared_send (shared_type G C W c w) (
+  Vec-send (mutex_row (counted_unit_row C c)) (search (crosses, counted_unit_sends C c)),
   (
-    search (crosses, queue_sends),
+    search (crosses, books_sends C W c w) depth 20,
     (
-      search (crosses, port.the_send),
+      search (crosses, queue_sends),
       (
-        inventory.the_send,
+        search (crosses, port.the_send),
         (
-          handoff_sends,
+          inventory.the_send,
           (
-            search (sendable, gate),
+            handoff_sends,
             (
-              search (sendable, crosses) depth 20,
+              search (sendable, gate),
               (
                 search (sendable, crosses) depth 20,
                 (
-                  bell.the_send,
-                  (search (sendable, crosses) depth 20, (search (crosses, padded.the_send, memory.the_send), tt)),
+                  search (sendable, crosses) depth 20,
+                  (
+                    bell.the_send,
+                    (
+                      search (sendable, crosses) depth 20,
+                      (search (crosses, padded.the_send, memory.the_send), tt),
+                    ),
+                  ),
                 ),
               ),
             ),
@@ -148,7 +181,3 @@ shared_sends G gate = declared_send (shared_type G) (
     ),
   ),
 )
-
--- the same of a gate as a caller names its type
-pub given_shared_sends : (i : ℕ) (δ : Ty) (G : RattleType) → IsSend (param i G) → IsSend (shared_row (arg δ yes G))
-given_shared_sends i δ G gate = shared_sends (arg δ yes G) (given_send i δ G gate)

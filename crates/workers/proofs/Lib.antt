@@ -3,3 +3,4 @@ pub mod CrewCrossing
 pub mod Crossing
 pub mod Resetting
 pub mod Resizing
+pub mod Tallying

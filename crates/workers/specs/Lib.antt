@@ -2,3 +2,4 @@ pub mod Crew
 pub mod Extent
 pub mod Resetting
 pub mod Resizing
+pub mod Tallying

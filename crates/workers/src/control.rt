@@ -1,6 +1,7 @@
 //! How the first worker serves the control queue and the event queue.
 
 ghost use Rattle.std.specs.Prelude.{◌≡◌};
+ghost use Rattle.workers.specs.Tallying.{Tallies};
 
 use crate::post::Post;
 use crate::progress::Progress;
@@ -13,6 +14,7 @@ use event_queue::WaitingEvents;
 use phases::{OpenFunction, Slot};
 use scsi_codec::{CONTROL_QUEUE, EVENT_QUEUE};
 use std::sync::Wait;
+use std::sync::ledger::Ledger;
 
 /// Where the control queue stands among the queues.
 const CONTROL: usize = CONTROL_QUEUE as usize;
@@ -21,17 +23,24 @@ const CONTROL: usize = CONTROL_QUEUE as usize;
 const EVENTS: usize = EVENT_QUEUE as usize;
 
 /// The open function takes its next step; `None` where nothing is left for it to do but to be answered.
-fn go_on<R: Wait, G: Gate + Drop>(
+fn go_on<R: Wait, G: Gate + Drop, C: Ledger, W: Ledger>(
     rt: &R,
-    shared: &Shared<G>,
+    shared: &Shared<G, C, W>,
     function: &mut OpenFunction,
-    post: &mut Post,
+    post: &mut Post<W>,
 ) -> Option<Progress>
+    requires tally { Tallies post.old.lost post.old.part.share.amount post.old.kept post.old.hand }
     ensures seat { post.new.seat ≡ post.old.seat }
+    ensures tally { Tallies post.new.lost post.new.part.share.amount post.new.kept post.new.hand }
 {
     if let Some(at) = function.function().next_unit() {
         if at < shared.units.len() {
-            mark_on(&mut shared.bays(rt), at, function, &mut post.out);
+            mark_on(
+                &mut shared.units(rt, &mut post.part),
+                at,
+                function,
+                &mut post.out,
+            );
         }
         return Some(Progress::Made);
     }
@@ -39,49 +48,51 @@ fn go_on<R: Wait, G: Gate + Drop>(
     if waits.unit >= shared.units.len() {
         return Some(Progress::Idle);
     }
-    let did = check_on(&mut shared.bays(rt), waits.unit, function);
+    let did = check_on(&mut shared.units(rt, &mut post.part), waits.unit, function);
     Some(Progress::of(did))
 }
 
 /// The open function is answered, where nothing is left for it to do.
-fn answer<R: Wait, G: Gate + Drop>(
+fn answer<R: Wait, G: Gate + Drop, C: Ledger, W: Ledger>(
     rt: &R,
-    shared: &Shared<G>,
+    shared: &Shared<G, C, W>,
     function: &mut Option<OpenFunction>,
 ) -> Progress {
     if shared.queues.len() <= CONTROL {
         return Progress::Idle;
     }
-    Progress::of(answer_tmf_on(&mut shared.bays(rt), CONTROL, function))
+    Progress::of(answer_tmf_on(&mut shared.queues(rt), CONTROL, function))
 }
 
 /// The control queue's next chain is taken, and opens a function or is answered.
-fn fetch_control<R: Wait, G: Gate + Drop>(
+fn fetch_control<R: Wait, G: Gate + Drop, C: Ledger, W: Ledger>(
     rt: &R,
-    shared: &Shared<G>,
+    shared: &Shared<G, C, W>,
     function: &mut Option<OpenFunction>,
 ) -> Progress {
     if shared.queues.len() <= CONTROL {
         return Progress::Idle;
     }
-    let mut bays = shared.bays(rt);
+    let mut queues = shared.queues(rt);
     let mut slot = Slot::Empty;
-    let fetched = fetch_control_on(&mut bays, CONTROL, &mut slot, function, &shared.inventory);
+    let fetched = fetch_control_on(&mut queues, CONTROL, &mut slot, function, &shared.inventory);
     if !slot.is_empty() {
         // A control chain has no receipt, and its note says nothing that its log doesn't.
-        let _note = direct_on(&mut bays, CONTROL, &mut slot);
+        let _note = direct_on(&mut queues, CONTROL, &mut slot);
     }
     Progress::of(fetched != Ok(false))
 }
 
 /// A step of the function that is open, or else of the control queue.
-pub(crate) fn manage<R: Wait, G: Gate + Drop>(
+pub(crate) fn manage<R: Wait, G: Gate + Drop, C: Ledger, W: Ledger>(
     rt: &R,
-    shared: &Shared<G>,
+    shared: &Shared<G, C, W>,
     function: &mut Option<OpenFunction>,
-    post: &mut Post,
+    post: &mut Post<W>,
 ) -> Progress
+    requires tally { Tallies post.old.lost post.old.part.share.amount post.old.kept post.old.hand }
     ensures seat { post.new.seat ≡ post.old.seat }
+    ensures tally { Tallies post.new.lost post.new.part.share.amount post.new.kept post.new.hand }
 {
     let Some(open) = function else {
         return fetch_control(rt, shared, function);
@@ -93,24 +104,27 @@ pub(crate) fn manage<R: Wait, G: Gate + Drop>(
 }
 
 /// The event queue's next chain is taken.
-pub(crate) fn fetch_event<R: Wait, G: Gate + Drop>(rt: &R, shared: &Shared<G>) -> Progress {
+pub(crate) fn fetch_event<R: Wait, G: Gate + Drop, C: Ledger, W: Ledger>(
+    rt: &R,
+    shared: &Shared<G, C, W>,
+) -> Progress {
     if shared.queues.len() <= EVENTS {
         return Progress::Idle;
     }
     let mut held = hold(rt, &shared.port);
-    let fetched = fetch_event_on(&mut shared.bays(rt), EVENTS, &Slot::Empty, &mut held);
+    let fetched = fetch_event_on(&mut shared.queues(rt), EVENTS, &Slot::Empty, &mut held);
     Progress::of(fetched != Ok(false))
 }
 
 /// The oldest event that waits goes to the guest, or is missed.
-pub(crate) fn raise<R: Wait, G: Gate + Drop>(
+pub(crate) fn raise<R: Wait, G: Gate + Drop, C: Ledger, W: Ledger>(
     rt: &R,
-    shared: &Shared<G>,
+    shared: &Shared<G, C, W>,
     waiting: &mut WaitingEvents,
 ) {
     if shared.queues.len() <= EVENTS {
         return;
     }
     let mut held = hold(rt, &shared.port);
-    raise_on(&mut shared.bays(rt), EVENTS, &mut held, waiting);
+    raise_on(&mut shared.queues(rt), EVENTS, &mut held, waiting);
 }

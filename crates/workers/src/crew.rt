@@ -39,42 +39,49 @@ fn wait_for<R: Threads, K: Drop>(rt: &R, hired: Vec<Hired<K>>) {
     }
 }
 
-/// Starts the thread of one worker, with room for so many jobs.
-fn start<R, W, P, K>(
+/// Starts the thread of one worker, with the last of the parts, and room for so many jobs.
+fn start<R, W, P, K, S>(
     rt: R,
     alloc: Global,
     shared: &Arc<W>,
     seat: Seat,
+    parts: &mut Vec<S>,
     limit: usize,
     number: usize,
     workers: usize,
 ) -> Result<Hired<K>, AllocError>
 where
     R: Threads + Wait + Copy + Send + 'static,
-    W: Works<P, K> + Drop + Send + Sync + 'static,
+    W: Works<P, K, S> + Drop + Send + Sync + 'static,
     P: Begins + Drop + Send + 'static,
     K: Drop + Send + 'static,
+    S: Drop + Send + 'static,
     requires seat { IsSeatOf (W.hub (arc_value shared.now)) seat × (seat.number ≡ number) }
     requires some { 0 < workers }
     ensures { IfOk result (λ h. (h.hub ≡ W.hub (arc_value shared.now)) × (h.number ≡ number)) }
 {
-    let post = shared.begin(alloc, seat, limit)?;
+    let Some(part) = parts.pop() else {
+        return Err(AllocError);
+    };
+    let post = shared.begin(alloc, seat, part, limit)?;
     hire_one(rt, shared, post, number, workers)
 }
 
 /// Starts a thread for each seat. Where one can't be made, those that were are ended.
-fn start_all<R, W, P, K>(
+fn start_all<R, W, P, K, S>(
     rt: R,
     alloc: Global,
     shared: &Arc<W>,
     seats: Vec<Seat>,
+    mut parts: Vec<S>,
     limit: usize,
 ) -> Result<Vec<Hired<K>>, AllocError>
 where
     R: Threads + Wait + Copy + Send + 'static,
-    W: Works<P, K> + Drop + Send + Sync + 'static,
+    W: Works<P, K, S> + Drop + Send + Sync + 'static,
     P: Begins + Drop + Send + 'static,
     K: Drop + Send + 'static,
+    S: Drop + Send + 'static,
     requires { AreSeatsFrom (W.hub (arc_value shared.now)) 0 seats.items }
     ensures hired { IfOk result (λ v. AreHired (W.hub (arc_value shared.now)) 0 v.items) }
     ensures len { IfOk result (λ v. vec_len v ≡ vec_len seats) }
@@ -83,7 +90,7 @@ where
     let mut hired = Vec::with_capacity(alloc, count)?;
     for seat in seats {
         let number = hired.len();
-        let Ok(worker) = start(rt, alloc, shared, seat, limit, number, count) else {
+        let Ok(worker) = start(rt, alloc, shared, seat, &mut parts, limit, number, count) else {
             shared.close(&rt);
             wait_for(&rt, hired);
             return Err(AllocError);
@@ -104,7 +111,7 @@ fn join_all<R: Threads, K: Drop>(
     requires room { (vec_len hired < vec_capacity seats) × (vec_len hired < vec_capacity kept) }
     ensures seats { (h : Hub) → AreHired h 0 hired.items → AreSeatsFrom h 0 result.0.items }
     ensures count { (vec_len result.0 ≡ vec_len hired) × (vec_len result.0 < vec_capacity result.0) }
-    ensures room { vec_len result.1 < vec_capacity result.1 }
+    ensures room { (vec_len result.1 ≡ vec_len hired) × (vec_len result.1 < vec_capacity result.1) }
 {
     for worker in hired {
         let Worked { seat, kept: theirs } = worker.join(rt);
@@ -115,33 +122,39 @@ fn join_all<R: Threads, K: Drop>(
 }
 
 /// Starts a thread for each of all seats of a hand-off but the last, of which it gives what that begins with: the
-/// caller works by it. Each begins with room for so many jobs. Who starts what threads share calls it once. An error
+/// caller works by it. Each begins with a part, of which there are as many as seats, and room for so many jobs. Who starts what threads share calls it once. An error
 /// where a growth was refused or a thread couldn't be made: those that were made are told to end then, and it waits
 /// for that.
-pub fn hire<R, W, P, K>(
+pub fn hire<R, W, P, K, S>(
     rt: R,
     alloc: Global,
     shared: &Arc<W>,
     mut seats: Vec<Seat>,
+    mut parts: Vec<S>,
     limit: usize,
 ) -> Result<(Crew<K>, P), AllocError>
 where
     R: Threads + Wait + Copy + Send + 'static,
-    W: Works<P, K> + Drop + Send + Sync + 'static,
+    W: Works<P, K, S> + Drop + Send + Sync + 'static,
     P: Begins + Drop + Send + 'static,
     K: Drop + Send + 'static,
+    S: Drop + Send + 'static,
     requires all { AreAllSeats (W.hub (arc_value shared.now)) seats.items }
     requires some { 0 < (W.hub (arc_value shared.now)).seats }
     ensures hub { IfOk result (λ r. r.0.hub ≡ W.hub (arc_value shared.now)) }
     ensures threads { IfOk result (λ r. r.0.threads + 1 ≡ (W.hub (arc_value shared.now)).seats) }
     ensures last { IfOk result (λ r. IsLastSeat (W.hub (arc_value shared.now)) (P.seat r.1)) }
+    ensures even { IfOk result (λ r. P.is_even r.1) }
 {
     let Some(last) = seats.pop() else {
         unreachable!()
     };
-    let post = shared.begin(alloc, last, limit)?;
+    let Some(part) = parts.pop() else {
+        return Err(AllocError);
+    };
+    let post = shared.begin(alloc, last, part, limit)?;
     let hub = Snapshot::of(shared.handoff());
-    let hired = start_all(rt, alloc, shared, seats, limit)?;
+    let hired = start_all(rt, alloc, shared, seats, parts, limit)?;
     Ok((Crew { hired, hub }, post))
 }
 
@@ -157,7 +170,8 @@ impl<K: Drop> Crew<K> {
         kept: K,
     ) -> Result<(Vec<Seat>, Vec<K>), AllocError>
         requires { IsLastSeat self.hub seat }
-        ensures { IfOk result (λ r. AreAllSeats self.hub r.0.items) }
+        ensures seats { IfOk result (λ r. AreAllSeats self.hub r.0.items) }
+        ensures count { IfOk result (λ r. vec_len r.1 ≡ self.threads + 1) }
     {
         let Crew { hired, hub: _ } = self;
         let room = hired.len() + 1;

@@ -15,6 +15,9 @@ use std::thread::{self, Promise, PromisedHandle, Threads};
 pub trait Begins {
     /// Its seat.
     ghost seat: { Self → Rattle.handoff.specs.Seats.PlainSeat };
+
+    /// As much was counted for it as it has.
+    ghost is_even: { Self → Type 0 };
 }
 
 /// What a worker brings back: its seat, and what it kept.
@@ -24,9 +27,9 @@ pub struct Worked<K: Drop> {
     pub kept: K,
 }
 
-/// What threads work at together, each beginning with a `P` and keeping a `K`. That they may share it is shown where its
-/// type is known.
-pub trait Works<P: Begins, K: Drop> {
+/// What threads work at together, each beginning with a `P`, which is made with an `S`, and keeping a `K`. That they may
+/// share it is shown where its type is known.
+pub trait Works<P: Begins, K: Drop, S: Drop> {
     /// The hand-off at which their seats are.
     ghost hub: { Self → Rattle.handoff.specs.Seats.Hub };
 
@@ -35,8 +38,9 @@ pub trait Works<P: Begins, K: Drop> {
         ensures { result.now ≡ hub self.now };
 
     /// Returns what a seat begins with, with room for so many jobs. An error where a growth was refused.
-    fn begin(&self, alloc: Global, seat: Seat, limit: usize) -> Result<P, AllocError>
-        ensures { IfOk result (λ p. P.seat p ≡ seat) };
+    fn begin(&self, alloc: Global, seat: Seat, part: S, limit: usize) -> Result<P, AllocError>
+        ensures seat { IfOk result (λ p. P.seat p ≡ seat) }
+        ensures even { IfOk result (λ p. P.is_even p) };
 
     /// Tells them to end.
     fn close<R: Wait>(&self, rt: &R);
@@ -45,6 +49,7 @@ pub trait Works<P: Begins, K: Drop> {
     fn work<R: Wait>(&self, rt: &R, post: P, number: usize, workers: usize) -> Worked<K>
         requires some { 0 < workers }
         requires seat { IsSeatOf (hub self.now) (P.seat post) }
+        requires even { P.is_even post }
         ensures seat { IsSameSeat (P.seat post) result.seat };
 }
 
@@ -84,7 +89,7 @@ impl<K: Drop> Hired<K> {
 }
 
 /// Starts the thread of one worker, of so many.
-pub(crate) fn hire_one<R, W, P, K>(
+pub(crate) fn hire_one<R, W, P, K, S>(
     rt: R,
     shared: &Arc<W>,
     post: P,
@@ -93,10 +98,12 @@ pub(crate) fn hire_one<R, W, P, K>(
 ) -> Result<Hired<K>, AllocError>
 where
     R: Threads + Wait + Copy + Send + 'static,
-    W: Works<P, K> + Drop + Send + Sync + 'static,
+    W: Works<P, K, S> + Drop + Send + Sync + 'static,
     P: Begins + Drop + Send + 'static,
     K: Drop + Send + 'static,
+    S: Drop + Send + 'static,
     requires seat { IsSeatOf (W.hub (arc_value shared.now)) (P.seat post) × ((P.seat post).number ≡ number) }
+    requires even { P.is_even post }
     requires some { 0 < workers }
     ensures { IfOk result (λ h. (h.hub ≡ W.hub (arc_value shared.now)) × (h.number ≡ number)) }
 {
@@ -106,7 +113,7 @@ where
         number,
     };
     let job = move || -> Worked<K>
-        requires { IsSeatOf (W.hub (arc_value theirs)) (P.seat post) × (0 < workers) }
+        requires { IsSeatOf (W.hub (arc_value theirs)) (P.seat post) × (0 < workers) × P.is_even post }
         ensures { IsSameSeat (P.seat post) result.seat }
     { theirs.work(&rt, post, number, workers) };
     let handle = thread::spawn_with(&rt, promise, job)?;

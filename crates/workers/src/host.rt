@@ -8,48 +8,66 @@ ghost use Rattle.config.specs.Config.{is_config};
 ghost use Rattle.workers.specs.Extent.{Starts, extent_of};
 ghost use Rattle.workers.specs.Resetting.{WasReset};
 ghost use Rattle.workers.specs.Resizing.{WasResized};
+ghost use Rattle.workers.specs.Tallying.{Opens, Tallies};
 ghost use Rattle.unit_history.specs.Calls.{ResizeRefused};
 
 use crate::alone::unshared;
 use crate::control::raise;
 use crate::crew::{Crew, hire};
+use crate::gathering::{kept_of, split_off, units_of};
 use crate::hired::{Worked, Works};
 use crate::opening::Parts;
 use crate::post::{Post, drain, finish};
 use crate::shared::Shared;
-use crate::worker::{Worker, work};
-use bays::{Gate, hard_on, hold, peek_on, poke_on, resize_on};
+use crate::tallied::{BlankPart, Tallied};
+use crate::worker::{Worker, ends, work};
+use bays::{Books, Gate, hard_on, hold, peek_on, poke_on, resize_on};
 use block_store::NoMemory;
 use config::{Config, StartFault, tells_changes};
 use decisions::UnitSpec;
 use event_queue::WaitingEvents;
 use guest_mem::MemFault;
 use handoff::{Handoff, Seat};
-use report::{CloseFault, Kept, Report, report_closed};
+use report::{CloseFault, Report, report_closed};
 use ring_core::RingFault;
 use std::alloc::{AllocError, Global};
 use std::marker::Model;
+use std::sync::ledger::{Blank, Ledger, Share};
 use std::sync::{Arc, Wait};
 use std::thread::Threads;
 use task_set::MOST_TASKS;
 use unit_history::{ResizeFault, is_capacity};
 
-impl<G: Gate + Drop> Works<Post, Kept> for Shared<G> {
+impl<G: Gate + Drop, C: Ledger, W: Ledger> Works<Post<W>, Tallied<W>, BlankPart<W>>
+    for Shared<G, C, W> {
     ghost hub = { λ s. s.handoff };
 
     fn handoff(&self) -> &Handoff {
         &self.handoff
     }
 
-    fn begin(&self, alloc: Global, seat: Seat, limit: usize) -> Result<Post, AllocError> {
-        Post::new(alloc, seat, limit)
+    fn begin(
+        &self,
+        alloc: Global,
+        seat: Seat,
+        part: BlankPart<W>,
+        limit: usize,
+    ) -> Result<Post<W>, AllocError> {
+        let BlankPart { part, .. } = part;
+        Post::new(alloc, seat, part, limit)
     }
 
     fn close<R: Wait>(&self, rt: &R) {
         Shared::close(self, rt);
     }
 
-    fn work<R: Wait>(&self, rt: &R, post: Post, number: usize, workers: usize) -> Worked<Kept> {
+    fn work<R: Wait>(
+        &self,
+        rt: &R,
+        post: Post<W>,
+        number: usize,
+        workers: usize,
+    ) -> Worked<Tallied<W>> {
         let worker = Worker {
             post,
             number,
@@ -69,25 +87,42 @@ fn share<T: Drop>(alloc: Global, value: T) -> Result<Arc<T>, NoMemory>
     }
 }
 
-/// The parts of a host of a valid configuration, with its threads.
-fn started<R, G>(rt: R, alloc: Global, config: Config, gate: G) -> Result<Host<G>, NoMemory>
+/// The parts of a host of a valid configuration, with its threads and with ledgers of their own.
+fn started<R, G, C, W>(
+    rt: R,
+    alloc: Global,
+    config: Config,
+    gate: G,
+    commits: Blank,
+    receipts: Blank,
+) -> Result<Host<G, C, W>, NoMemory>
 where
     R: Threads + Wait + Copy + Send + 'static,
     G: Gate + Drop + Send + Sync + 'static,
+    C: Ledger + Send + Sync + 'static,
+    W: Ledger + Send + Sync + 'static,
     requires valid { is_config config ≡ true }
+    requires commits { Opens commits.name commits.parts C.name C.parts 64 }
+    requires receipts { Opens receipts.name receipts.parts W.name W.parts 9 }
     ensures { IfOk result (λ h. h ≡ extent_of config) }
 {
     let seats = config.workers as usize + 1;
+    let (made, mut commits) = commits.open::<C>();
+    let (given, mut receipts) = receipts.open::<W>();
+    let seat_parts = split_off(alloc, &mut receipts, seats)?;
     let (handoff, seats) = Handoff::new(alloc, config.handoff as usize, seats)?;
     let limit = MOST_TASKS * config.units.len() + MOST_TASKS;
-    let parts = Parts::open(alloc, &config)?;
-    let shared = share(alloc, Shared::new(parts, handoff, gate))?;
-    let (crew, post) = hire(rt, alloc, &shared, seats, limit)?;
+    let parts = Parts::open(alloc, &config, &mut commits)?;
+    let books = Books::new(made, given);
+    let shared = share(alloc, Shared::new(parts, books, handoff, gate))?;
+    let (crew, post) = hire(rt, alloc, &shared, seats, seat_parts, limit)?;
     Ok(Host {
         alloc,
         shared,
         crew,
         post,
+        commits,
+        receipts,
         waiting: WaitingEvents::new(alloc),
         told: tells_changes(config.features),
         specs: config.units,
@@ -96,18 +131,25 @@ where
 
 /// A unit is reset, in one hold of its lock. Whether it was: not where memory was refused, or where the list has no room
 /// for the jobs that this releases.
-fn reset_one<R: Wait, G: Gate + Drop>(
+fn reset_one<R: Wait, G: Gate + Drop, C: Ledger, W: Ledger>(
     rt: &R,
-    shared: &Shared<G>,
+    shared: &Shared<G, C, W>,
     at: usize,
-    post: &mut Post,
+    post: &mut Post<W>,
     waiting: &mut WaitingEvents,
 ) -> bool
     requires at { at < vec_len shared.now.units }
+    requires tally { Tallies post.old.lost post.old.part.share.amount post.old.kept post.old.hand }
     ensures reset { OnTrue result WasReset }
     ensures seat { post.new.seat ≡ post.old.seat }
+    ensures tally { Tallies post.new.lost post.new.part.share.amount post.new.kept post.new.hand }
 {
-    match hard_on(&mut shared.bays(rt), at, &mut post.out, waiting) {
+    match hard_on(
+        &mut shared.units(rt, &mut post.part),
+        at,
+        &mut post.out,
+        waiting,
+    ) {
         Ok(was_reset) => was_reset,
         Err(NoMemory) => false,
     }
@@ -115,15 +157,17 @@ fn reset_one<R: Wait, G: Gate + Drop>(
 
 /// A unit is reset by the operator, and the guest is told. What the operator's seat had is served first. A unit that isn't
 /// there changes nothing. `NoMemory` where a growth was refused: the unit wasn't reset then.
-fn reset<R: Wait, G: Gate + Drop>(
+fn reset<R: Wait, G: Gate + Drop, C: Ledger, W: Ledger>(
     rt: &R,
-    shared: &Shared<G>,
+    shared: &Shared<G, C, W>,
     at: usize,
-    post: &mut Post,
+    post: &mut Post<W>,
     waiting: &mut WaitingEvents,
 ) -> Result<(), NoMemory>
     requires seat { IsSeatOf shared.now.handoff post.old.seat }
+    requires tally { Tallies post.old.lost post.old.part.share.amount post.old.kept post.old.hand }
     ensures seat { IsSameSeat post.old.seat post.new.seat }
+    ensures tally { Tallies post.new.lost post.new.part.share.amount post.new.kept post.new.hand }
     ensures reset { OnOk result (at < vec_len shared.now.units → WasReset) }
     ensures there { OnErr result (at < vec_len shared.now.units) }
 {
@@ -143,19 +187,29 @@ fn reset<R: Wait, G: Gate + Drop>(
 }
 
 /// A unit is given so many blocks, in one hold of its lock. Answers as the phase.
-fn resize_one<R: Wait, G: Gate + Drop>(
+fn resize_one<R: Wait, G: Gate + Drop, C: Ledger, W: Ledger>(
     rt: &R,
-    shared: &Shared<G>,
+    shared: &Shared<G, C, W>,
     at: usize,
     blocks: u64,
     told: bool,
+    post: &mut Post<W>,
     waiting: &mut WaitingEvents,
 ) -> Result<bool, ResizeFault>
     requires at { at < vec_len shared.now.units }
+    requires tally { Tallies post.old.lost post.old.part.share.amount post.old.kept post.old.hand }
+    ensures seat { post.new.seat ≡ post.old.seat }
+    ensures tally { Tallies post.new.lost post.new.part.share.amount post.new.kept post.new.hand }
     ensures resized { IfOk result (λ was. OnTrue was (WasResized blocks)) }
     ensures cause { IfErr result (λ fault. ResizeRefused blocks fault) }
 {
-    match resize_on(&mut shared.bays(rt), at, blocks, told, waiting) {
+    match resize_on(
+        &mut shared.units(rt, &mut post.part),
+        at,
+        blocks,
+        told,
+        waiting,
+    ) {
         Ok(was_resized) => Ok(was_resized),
         Err(fault) => Err(fault),
     }
@@ -164,14 +218,18 @@ fn resize_one<R: Wait, G: Gate + Drop>(
 /// A unit is given so many blocks by the operator, and the guest is told where it asked for that. A unit that isn't there
 /// changes nothing. `BadCapacity` where no unit may have so many blocks, `NoMemory` where a growth was refused: the unit
 /// wasn't resized then.
-fn resize<R: Wait, G: Gate + Drop>(
+fn resize<R: Wait, G: Gate + Drop, C: Ledger, W: Ledger>(
     rt: &R,
-    shared: &Shared<G>,
+    shared: &Shared<G, C, W>,
     at: usize,
     blocks: u64,
     told: bool,
+    post: &mut Post<W>,
     waiting: &mut WaitingEvents,
 ) -> Result<(), ResizeFault>
+    requires tally { Tallies post.old.lost post.old.part.share.amount post.old.kept post.old.hand }
+    ensures seat { post.new.seat ≡ post.old.seat }
+    ensures tally { Tallies post.new.lost post.new.part.share.amount post.new.kept post.new.hand }
     ensures resized { OnOk result (at < vec_len shared.now.units → WasResized blocks) }
     ensures cause { IfErr result (λ fault. ResizeRefused blocks fault) }
 {
@@ -181,7 +239,7 @@ fn resize<R: Wait, G: Gate + Drop>(
     if shared.units.len() <= at {
         return Ok(());
     }
-    if !resize_one(rt, shared, at, blocks, told, waiting)? {
+    if !resize_one(rt, shared, at, blocks, told, post, waiting)? {
         return Err(ResizeFault::NoMemory);
     }
     raise(rt, shared, waiting);
@@ -202,26 +260,31 @@ pub struct Seen {
     pub broken: Option<RingFault>,
 }
 
-/// A device that threads serve. Clauses see how many workers and queues it has, and the units that it was opened with. It
+/// A device that threads serve. Clauses see how many workers and queues it has, and the units that it was opened with. Of
+/// its two ledgers, `C` counts the Commits of its units, and `W` the receipts of its workers and of the operator. It
 /// isn't `Drop`: who starts one closes it, which ends its threads.
-pub struct Host<G: Gate + Drop> {
+pub struct Host<G: Gate + Drop, C: Ledger, W: Ledger> {
     alloc: Global,
-    shared: Arc<Shared<G>>,
-    crew: Crew<Kept>,
+    shared: Arc<Shared<G, C, W>>,
+    crew: Crew<Tallied<W>>,
     // What the operator's seat has, and the events that wait.
-    post: Post,
+    post: Post<W>,
     waiting: WaitingEvents,
+    // What no unit has of the first ledger, and no seat of the second.
+    commits: Share<C>,
+    receipts: Share<W>,
     // Whether the guest is told of capacities that change.
     told: bool,
     // What its report is held against.
     specs: Vec<UnitSpec>,
 }
 
-impl<G: Gate + Drop> Model for Host<G> {
-    ghost use Rattle.std.specs.Prelude.{◌≡◌, ◌≤◌, vec_len};
+impl<G: Gate + Drop, C: Ledger, W: Ledger> Model for Host<G, C, W> {
+    ghost use Rattle.std.specs.Prelude.{◌≡◌, ◌+◌, ◌≤◌, vec_len};
     ghost use Rattle.std.specs.Arc.{arc_value};
     ghost use Rattle.workers.specs.Crew.{IsLastSeat};
     ghost use Rattle.workers.specs.Extent.{Extent};
+    ghost use Rattle.workers.specs.Tallying.{Tallies};
 
     ghost Value = { Extent };
 
@@ -233,10 +296,13 @@ impl<G: Gate + Drop> Model for Host<G> {
 
     ghost invariant = { λ h. (vec_len (arc_value h.shared).queues ≤ 18)
         × (vec_len (arc_value h.shared).units ≡ vec_len h.specs)
-        × (h.crew.hub ≡ (arc_value h.shared).handoff) × IsLastSeat (arc_value h.shared).handoff h.post.seat };
+        × (h.crew.hub ≡ (arc_value h.shared).handoff) × IsLastSeat (arc_value h.shared).handoff h.post.seat
+        × Tallies h.post.lost h.post.part.share.amount h.post.kept h.post.hand
+        × (h.commits.parts + vec_len (arc_value h.shared).units ≡ C.parts) × (h.commits.amount ≡ 0)
+        × (h.receipts.parts + (h.crew.threads + 1) ≡ W.parts) × (h.receipts.amount ≡ 0) };
 }
 
-impl<G: Gate + Drop> Host<G> {
+impl<G: Gate + Drop, C: Ledger, W: Ledger> Host<G, C, W> {
     ghost use Rattle.std.specs.Prelude.{◌≡◌, ◌<◌, List, ℕ, length, IfOk, IfErr, OnOk, OnErr, vec_len, is_some, nat_lt};
     ghost use Rattle.guest_mem.specs.declared.memory.MemFault.TheVariants as MemFault;
     ghost use Rattle.bays.specs.Lending.{IsMemory};
@@ -244,20 +310,29 @@ impl<G: Gate + Drop> Host<G> {
     ghost use Rattle.report.specs.Closed.{IsReport};
     ghost use Rattle.workers.specs.Resetting.{WasReset};
     ghost use Rattle.workers.specs.Resizing.{WasResized};
+    ghost use Rattle.workers.specs.Tallying.{Opens, commits_in};
     ghost use Rattle.unit_history.specs.Calls.{ResizeRefused};
 
     /// Starts `n` workers, 1 to 8, in place of the number that the configuration has. Who embeds the device calls it
     /// once. `BadConfig` exactly where the device doesn't take such a configuration; else `NoMemory` where a growth
-    /// was refused, or a thread couldn't be made: those that were made are ended. It may wait for these.
+    /// was refused, or a thread couldn't be made: those that were made are ended. It may wait for these. The blanks are
+    /// those of its two ledgers, with a part for each of at most 64 units, and for each of at most 9 seats: they take no
+    /// bytes, and whoever calls makes them by `Blank::new(64)` and `Blank::new(9)`.
     pub fn start<R: Threads + Wait + Copy + Send + 'static>(
         rt: R,
         alloc: Global,
         config: Config,
         gate: G,
         n: u16,
-    ) -> Result<Host<G>, StartFault>
+        commits: Blank,
+        receipts: Blank,
+    ) -> Result<Host<G, C, W>, StartFault>
     where
         G: Send + Sync + 'static,
+        C: Send + Sync + 'static,
+        W: Send + Sync + 'static,
+        requires commits { Opens commits.name commits.parts C.name C.parts 64 }
+        requires receipts { Opens receipts.name receipts.parts W.name W.parts 9 }
         ensures { Starts config n result }
     {
         let wanted = Config {
@@ -267,7 +342,7 @@ impl<G: Gate + Drop> Host<G> {
         if !wanted.is_valid() {
             return Err(StartFault::BadConfig);
         }
-        match started(rt, alloc, wanted, gate) {
+        match started(rt, alloc, wanted, gate, commits, receipts) {
             Ok(host) => Ok(host),
             Err(NoMemory) => Err(StartFault::NoMemory),
         }
@@ -279,7 +354,7 @@ impl<G: Gate + Drop> Host<G> {
         ensures did { (m : List ℕ) × (n : List ℕ) × IsMemory m × Writes m addr bytes.now result n × IsMemory n }
         ensures fault { IfErr result (λ fault. fault ≡ MemFault.Outside) }
     {
-        poke_on(&mut self.shared.bays(rt), addr, bytes)
+        poke_on(&mut self.shared.queues(rt), addr, bytes)
     }
 
     /// Reads bytes as the guest, beside the workers, in one hold of the memory. `Outside`, with nothing read, exactly
@@ -289,7 +364,7 @@ impl<G: Gate + Drop> Host<G> {
         ensures fault { IfErr result (λ fault. fault ≡ MemFault.Outside) }
         ensures unchanged { OnErr result (out.new ≡ out.old) }
     {
-        peek_on(&mut self.shared.bays(rt), addr, out)
+        peek_on(&mut self.shared.queues(rt), addr, out)
     }
 
     /// Resets the unit at an index of the configuration for the operator, and tells the guest (TRANSPORT_RESET). A unit
@@ -324,6 +399,7 @@ impl<G: Gate + Drop> Host<G> {
             place as usize,
             blocks,
             told,
+            &mut self.post,
             &mut self.waiting,
         )
     }
@@ -356,6 +432,7 @@ impl<G: Gate + Drop> Host<G> {
         ensures report { IfOk result (λ r. IsReport self.units r.units.items r.queues.items r.receipts.items r.notes.items) }
         ensures units { IfOk result (λ r. vec_len r.units ≡ length self.units) }
         ensures queues { IfOk result (λ r. vec_len r.queues ≡ self.queues) }
+        ensures even { IfOk result (λ r. commits_in r.units.items ≡ vec_len r.receipts) }
     {
         self.shared.abandon();
         self.close(rt)
@@ -366,11 +443,13 @@ impl<G: Gate + Drop> Host<G> {
     /// `Outstanding`: the least ticket of a chain of the control queue or of a request that wasn't answered, once and
     /// as its unit's history says; or, where there is none, a ticket that tells of a unit that isn't as it was opened
     /// (0/0), or of a queue in another's place (the first of that place). `NoMemory` where a growth was refused. The host
-    /// is gone afterwards, also at an `Err`.
+    /// is gone afterwards, also at an `Err`. The Commits of all units are as many as the receipts: no look tells that, but
+    /// the two ledgers, so no unit's lock was given a history with fewer Commits than it had lent.
     pub fn close<R: Threads + Wait>(self, rt: &R) -> Result<Report, CloseFault>
         ensures report { IfOk result (λ r. IsReport self.units r.units.items r.queues.items r.receipts.items r.notes.items) }
         ensures units { IfOk result (λ r. vec_len r.units ≡ length self.units) }
         ensures queues { IfOk result (λ r. vec_len r.queues ≡ self.queues) }
+        ensures even { IfOk result (λ r. commits_in r.units.items ≡ vec_len r.receipts) }
     {
         let Host {
             alloc,
@@ -378,24 +457,32 @@ impl<G: Gate + Drop> Host<G> {
             crew,
             mut post,
             waiting: _,
+            mut commits,
+            mut receipts,
             told: _,
             specs,
         } = self;
         finish(rt, &*shared, &mut post);
-        let Post { seat, kept, .. } = post;
+        let Worked { seat, kept } = ends(post);
         Shared::close(&*shared, rt);
         let Ok((seats, all)) = crew.join(rt, alloc, seat, kept) else {
             return Err(CloseFault::NoMemory);
         };
         let Shared {
             units,
+            books,
             queues,
             memory,
             handoff,
             ..
         } = unshared(rt, shared);
         handoff.gather(seats);
+        let Ok(units) = units_of(alloc, units, &mut commits) else {
+            return Err(CloseFault::NoMemory);
+        };
+        let kept = kept_of(alloc, all, &mut receipts)?;
+        books.into_inner().audit(&mut commits, &mut receipts);
         let memory = memory.into_inner();
-        report_closed(alloc, specs.as_slice(), units, queues, memory, all)
+        report_closed(alloc, specs.as_slice(), units, queues, memory, kept)
     }
 }

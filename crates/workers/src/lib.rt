@@ -6,16 +6,19 @@ mod alone;
 mod bell;
 mod control;
 mod crew;
+mod gathering;
 mod hired;
 mod host;
+mod in_a_row;
 mod opening;
 mod post;
 mod progress;
 mod requests;
 mod shared;
+mod tallied;
 mod worker;
 
-pub use bays::{Bays, Gate, Open, Point};
+pub use bays::{Gate, Open, Point, QueueBays, UnitBays};
 pub use config::{Config, StartFault};
 pub use host::{Host, Seen};
 pub use phases::{

@@ -1,10 +1,11 @@
 //! The parts of a device that is wanted, of which nothing has happened yet.
 
-ghost use Rattle.std.specs.Prelude.{◌≡◌, ◌<◌, ◌≤◌, true, length, map, vec_len, IfOk};
+ghost use Rattle.std.specs.Prelude.{◌≡◌, ◌+◌, ◌<◌, ◌≤◌, true, length, map, vec_len, IfOk};
 ghost use Rattle.std.specs.List.{list_all};
 ghost use Rattle.decisions.specs.Inventory.{address_of};
 ghost use Rattle.config.specs.Config.{is_config, is_queue};
 
+use bays::{CountedUnit, Part};
 use block_store::NoMemory;
 use config::{Config, MOST_DESCRIPTORS, form};
 use decisions::{Inventory, UnitSpec};
@@ -14,41 +15,52 @@ use queues::Queue;
 use ring_core::{Form, Layout};
 use std::alloc::Global;
 use std::sync::Mutex;
+use std::sync::ledger::{Ledger, Share};
 use unit_history::UnitState;
 
 /// The parts of a device that threads share: its units, its queues and the memory, each under a lock, and the event port
 /// under one that is taken round that of the event queue. The inventory never changes.
 #[derive(Drop)]
-pub struct Parts {
-    pub units: Vec<Mutex<UnitState>>,
+pub struct Parts<C: Ledger> {
+    pub units: Vec<Mutex<CountedUnit<C>>>,
     pub queues: Vec<Mutex<Queue>>,
     pub memory: Mutex<GuestMem>,
     pub port: Mutex<EventPort>,
     pub inventory: Inventory,
 }
 
-/// A unit among those of an inventory, which keeps the replies of its Commits for receipts to be compared with.
-fn open_unit(
+/// A unit among those of an inventory, which keeps the replies of its Commits for receipts to be compared with, and whose
+/// Commits are counted in this part.
+fn open_unit<C: Ledger>(
     alloc: Global,
     spec: &UnitSpec,
     inventory: &Inventory,
-) -> Result<Mutex<UnitState>, NoMemory> {
+    part: Part<C>,
+) -> Result<Mutex<CountedUnit<C>>, NoMemory>
+    requires new { part.share.amount ≡ 0 }
+{
     let luns = inventory.luns_of(alloc, spec.target)?;
     let unit = UnitState::new(alloc, spec, luns.as_slice(), true)?;
-    Ok(Mutex::new(unit))
+    Ok(Mutex::new(CountedUnit::new(unit, part)))
 }
 
-/// The units that are wanted, each under a lock.
-fn open_units(
+/// The units that are wanted, each under a lock. The parts of their ledger are split off from a share.
+fn open_units<C: Ledger>(
     alloc: Global,
     wanted: &[UnitSpec],
     inventory: &Inventory,
-) -> Result<Vec<Mutex<UnitState>>, NoMemory>
-    ensures { IfOk result (λ units. vec_len units ≡ length wanted.now) }
+    commits: &mut Share<C>,
+) -> Result<Vec<Mutex<CountedUnit<C>>>, NoMemory>
+    requires parts { length wanted.now ≤ commits.old.parts }
+    requires new { commits.old.amount ≡ 0 }
+    ensures units { IfOk result (λ units. vec_len units ≡ length wanted.now) }
+    ensures parts { IfOk result (λ units. commits.new.parts + vec_len units ≡ commits.old.parts) }
+    ensures new { commits.new.amount ≡ 0 }
 {
     let mut units = Vec::with_capacity(alloc, wanted.len())?;
     for spec in wanted {
-        units.push_reserved(open_unit(alloc, spec, inventory)?);
+        let part = Part::new(commits.split_off(1, 0));
+        units.push_reserved(open_unit(alloc, spec, inventory, part)?);
     }
     Ok(units)
 }
@@ -80,11 +92,19 @@ fn open_queues(
     Ok(queues)
 }
 
-impl Parts {
-    /// Opens the parts of the device of a valid configuration. Who starts a host calls it once. `NoMemory` where a
-    /// growth was refused.
-    pub fn open(alloc: Global, config: &Config) -> Result<Parts, NoMemory>
+impl<C: Ledger> Parts<C> {
+    /// Opens the parts of the device of a valid configuration, with a part of a ledger for each unit. Who starts a host
+    /// calls it once. `NoMemory` where a growth was refused.
+    pub fn open(
+        alloc: Global,
+        config: &Config,
+        commits: &mut Share<C>,
+    ) -> Result<Parts<C>, NoMemory>
         requires valid { is_config config.now ≡ true }
+        requires parts { length config.now.units.items ≤ commits.old.parts }
+        requires new { commits.old.amount ≡ 0 }
+        ensures left { IfOk result (λ p. commits.new.parts + vec_len p.units ≡ commits.old.parts) }
+        ensures new { commits.new.amount ≡ 0 }
         ensures units { IfOk result (λ p. vec_len p.units ≡ length config.now.units.items) }
         ensures queues { IfOk result (λ p. vec_len p.queues ≡ length config.now.queues.items) }
         ensures few { IfOk result (λ p. vec_len p.queues ≤ 18) }
@@ -103,7 +123,7 @@ impl Parts {
             &memory,
         )?;
         let inventory = Inventory::new(config.units.as_slice());
-        let units = open_units(alloc, config.units.as_slice(), &inventory)?;
+        let units = open_units(alloc, config.units.as_slice(), &inventory, commits)?;
         // One place more than a queue may have chains outstanding, so that a full port keeps no fault from being found.
         let Ok(port) = EventPort::new(alloc, MOST_DESCRIPTORS as usize + 1) else {
             return Err(NoMemory);

@@ -3,12 +3,15 @@
 ghost use Rattle.std.specs.Prelude.{◌≡◌, ◌<◌, IfOk, vec_len};
 ghost use Rattle.handoff.specs.Seats.{IsSeatOf, IsSameSeat};
 ghost use Rattle.std.specs.Bool.{OnTrue};
+ghost use Rattle.phases.specs.Parts.{hand_of};
+ghost use Rattle.bays.specs.Ledgers.{receipts_due};
 ghost use Rattle.report.specs.Rooms.{HasRoomForOne};
+ghost use Rattle.workers.specs.Tallying.{Tallies};
 
 use crate::hired::Begins;
 use crate::progress::Progress;
 use crate::shared::Shared;
-use bays::{Gate, Point, answer_on, commit_on, leave_on, prepare_on};
+use bays::{Gate, Part, Point, answer_on, commit_on, leave_on, prepare_on};
 use cdb::Command;
 use handoff::Seat;
 use phases::Hand;
@@ -16,28 +19,37 @@ use report::Kept;
 use ring_core::Ticket;
 use std::alloc::{AllocError, Global};
 use std::sync::Wait;
+use std::sync::ledger::Ledger;
 use std::thread;
 use unit_history::{Job, JobList};
 
 /// The bytes that a chain has room for where its answer may be long: to copy as many takes longer than to take a chain.
 const LONG: u64 = 16_384;
 
-/// What a seat has: its place at the hand-off, the jobs that may run, the job in its hand, and what it kept of those
-/// that it answered.
+/// What a seat has: its place at the hand-off, the jobs that may run, the job in its hand, what it kept of those that it
+/// answered, and the part of the ledger that counts its receipts.
 #[derive(Drop)]
-pub(crate) struct Post {
+pub(crate) struct Post<W: Ledger> {
     pub(crate) seat: Seat,
     pub(crate) out: JobList,
     pub(crate) hand: Hand,
     pub(crate) kept: Kept,
+    pub(crate) part: Part<W>,
+    // Whether its worker is counted among those that wait for a job.
+    pub(crate) waits: bool,
+    // The first request whose chain its queue didn't know when it was to be answered, which never happens: no receipt is
+    // given then.
+    pub(crate) lost: Option<Ticket>,
 }
 
-impl Begins for Post {
+impl<W: Ledger> Begins for Post<W> {
     ghost seat = { λ p. p.seat };
+
+    ghost is_even = { λ p. Tallies p.lost p.part.share.amount p.kept p.hand };
 }
 
 /// The ticket of what is in a hand.
-fn ticket_in(hand: &Hand) -> Option<Ticket> {
+pub(crate) fn ticket_in(hand: &Hand) -> Option<Ticket> {
     match hand {
         Hand::Empty => None,
         Hand::Job(held) => Some(held.job().ticket()),
@@ -46,7 +58,7 @@ fn ticket_in(hand: &Hand) -> Option<Ticket> {
 }
 
 /// The gate is told where the request in the hand has come.
-fn pass<G: Gate>(gate: &G, point: Point, hand: &Hand) {
+pub(crate) fn pass<G: Gate>(gate: &G, point: Point, hand: &Hand) {
     if let Some(ticket) = ticket_in(hand) {
         gate.pass(point, ticket);
     }
@@ -69,18 +81,35 @@ fn is_write(hand: &Hand) -> bool {
 }
 
 /// The pages of the WRITE in the hand are made, where its job is to be committed there and its unit gives what they need.
-fn prepare<R: Wait, G: Gate + Drop>(rt: &R, shared: &Shared<G>, at: usize, hand: &mut Hand)
+fn prepare<R: Wait, G: Gate + Drop, C: Ledger, W: Ledger>(
+    rt: &R,
+    shared: &Shared<G, C, W>,
+    at: usize,
+    post: &mut Post<W>,
+)
     requires at { at < vec_len shared.now.units }
+    ensures seat { post.new.seat ≡ post.old.seat }
+    ensures kept { (post.new.kept ≡ post.old.kept) × (post.new.lost ≡ post.old.lost) }
+    ensures hand { hand_of post.new.hand ≡ hand_of post.old.hand }
+    ensures part { post.new.part.share.amount ≡ post.old.part.share.amount }
 {
-    if is_write(hand) && prepare_on(&mut shared.bays(rt), at, hand) {
-        pass(&shared.gate, Point::Prepared, hand);
+    if is_write(&post.hand)
+        && prepare_on(&mut shared.units(rt, &mut post.part), at, &mut post.hand)
+    {
+        pass(&shared.gate, Point::Prepared, &post.hand);
     }
 }
 
 /// The job in the hand is committed, where one is that isn't: a WRITE with its pages, which are made before that.
-pub(crate) fn commit<R: Wait, G: Gate + Drop>(rt: &R, shared: &Shared<G>, post: &mut Post)
+pub(crate) fn commit<R: Wait, G: Gate + Drop, C: Ledger, W: Ledger>(
+    rt: &R,
+    shared: &Shared<G, C, W>,
+    post: &mut Post<W>,
+)
+    requires tally { Tallies post.old.lost post.old.part.share.amount post.old.kept post.old.hand }
     ensures seat { post.new.seat ≡ post.old.seat }
     ensures kept { post.new.kept ≡ post.old.kept }
+    ensures tally { Tallies post.new.lost post.new.part.share.amount post.new.kept post.new.hand }
 {
     let Some(at) = post.hand.committing_unit() else {
         return;
@@ -88,15 +117,26 @@ pub(crate) fn commit<R: Wait, G: Gate + Drop>(rt: &R, shared: &Shared<G>, post: 
     if at >= shared.units.len() {
         return;
     }
-    prepare(rt, shared, at, &mut post.hand);
-    commit_on(&mut shared.bays(rt), &shared.gate, at, &mut post.hand);
+    prepare(rt, shared, at, post);
+    commit_on(
+        &mut shared.units(rt, &mut post.part),
+        &shared.gate,
+        at,
+        &mut post.hand,
+    );
     pass(&shared.gate, Point::Committed, &post.hand);
 }
 
 /// The job in the hand whose commit is over is answered, where one is, and what it leaves is kept.
-fn answer<R: Wait, G: Gate + Drop>(rt: &R, shared: &Shared<G>, post: &mut Post)
+fn answer<R: Wait, G: Gate + Drop, C: Ledger, W: Ledger>(
+    rt: &R,
+    shared: &Shared<G, C, W>,
+    post: &mut Post<W>,
+)
     requires room { HasRoomForOne post.old.kept }
+    requires tally { Tallies post.old.lost post.old.part.share.amount post.old.kept post.old.hand }
     ensures seat { post.new.seat ≡ post.old.seat }
+    ensures tally { Tallies post.new.lost post.new.part.share.amount post.new.kept post.new.hand }
 {
     let Some(queue) = post.hand.answering_queue() else {
         return;
@@ -105,15 +145,26 @@ fn answer<R: Wait, G: Gate + Drop>(rt: &R, shared: &Shared<G>, post: &mut Post)
     if at >= shared.queues.len() {
         return;
     }
-    if let Some(given) = answer_on(&mut shared.bays(rt), at, &mut post.hand) {
-        post.kept.keep(given);
+    let Some(ticket) = ticket_in(&post.hand) else {
+        return;
+    };
+    match answer_on(&mut shared.queues(rt), at, &mut post.hand) {
+        Some(given) => post.kept.keep(given),
+        None => post.lost = Some(ticket),
     }
     pass(&shared.gate, Point::Answered, &post.hand);
 }
 
 /// The task in the hand leaves, where one is; the jobs that this lets go on are to be handed off.
-fn leave<R: Wait, G: Gate + Drop>(rt: &R, shared: &Shared<G>, post: &mut Post)
+pub(crate) fn leave<R: Wait, G: Gate + Drop, C: Ledger, W: Ledger>(
+    rt: &R,
+    shared: &Shared<G, C, W>,
+    post: &mut Post<W>,
+)
+    requires tally { Tallies post.old.lost post.old.part.share.amount post.old.kept post.old.hand }
     ensures seat { post.new.seat ≡ post.old.seat }
+    ensures kept { post.new.kept ≡ post.old.kept }
+    ensures tally { Tallies post.new.lost post.new.part.share.amount post.new.kept post.new.hand }
 {
     let Some(at) = post.hand.leaving_unit() else {
         return;
@@ -121,32 +172,52 @@ fn leave<R: Wait, G: Gate + Drop>(rt: &R, shared: &Shared<G>, post: &mut Post)
     if at >= shared.units.len() {
         return;
     }
-    leave_on(&mut shared.bays(rt), at, &mut post.hand, &mut post.out);
+    leave_on(
+        &mut shared.units(rt, &mut post.part),
+        at,
+        &mut post.hand,
+        &mut post.out,
+    );
 }
 
-impl Post {
-    /// A seat that has nothing yet, and room for so many jobs.
-    pub(crate) fn new(alloc: Global, seat: Seat, limit: usize) -> Result<Post, AllocError>
-        ensures { IfOk result (λ post. post.seat ≡ seat) }
+impl<W: Ledger> Post<W> {
+    /// A seat that has nothing yet, whose receipts are counted in this part, and room for so many jobs.
+    pub(crate) fn new(
+        alloc: Global,
+        seat: Seat,
+        part: Part<W>,
+        limit: usize,
+    ) -> Result<Post<W>, AllocError>
+        requires new { part.share.amount ≡ 0 }
+        ensures seat { IfOk result (λ post. post.seat ≡ seat) }
+        ensures tally { IfOk result (λ post. Tallies post.lost post.part.share.amount post.kept post.hand) }
     {
         Ok(Post {
             seat,
             out: JobList::with_limit(alloc, limit)?,
             hand: Hand::Empty,
             kept: Kept::new(alloc),
+            part,
+            waits: false,
+            lost: None,
         })
     }
 
     /// Whether it has no job, in its hand or to be handed off.
-    pub(crate) fn is_idle(&self) -> bool {
+    pub(crate) fn is_idle(&self) -> bool
+        ensures { OnTrue result (receipts_due self.now.hand ≡ 0) }
+    {
         self.hand.is_empty() && self.out.len() == 0
     }
 
     /// Whether there is room for what the jobs in its list and in its hand leave, and one more request: not where a growth
     /// was refused.
     pub(crate) fn make_room(&mut self) -> bool
+        requires tally { Tallies self.old.lost self.old.part.share.amount self.old.kept self.old.hand }
         ensures room { OnTrue result (HasRoomForOne self.new.kept) }
         ensures seat { self.new.seat ≡ self.old.seat }
+        ensures hand { self.new.hand ≡ self.old.hand }
+        ensures tally { Tallies self.new.lost self.new.part.share.amount self.new.kept self.new.hand }
     {
         self.kept.make_room(self.out.len().saturating_add(2))
     }
@@ -154,9 +225,15 @@ impl Post {
 
 /// What is in the hand is committed, answered and leaves, as far as it has come. Room for what it leaves was made
 /// before.
-fn serve<R: Wait, G: Gate + Drop>(rt: &R, shared: &Shared<G>, post: &mut Post)
+fn serve<R: Wait, G: Gate + Drop, C: Ledger, W: Ledger>(
+    rt: &R,
+    shared: &Shared<G, C, W>,
+    post: &mut Post<W>,
+)
     requires room { HasRoomForOne post.old.kept }
+    requires tally { Tallies post.old.lost post.old.part.share.amount post.old.kept post.old.hand }
     ensures seat { post.new.seat ≡ post.old.seat }
+    ensures tally { Tallies post.new.lost post.new.part.share.amount post.new.kept post.new.hand }
 {
     commit(rt, shared, post);
     answer(rt, shared, post);
@@ -164,8 +241,14 @@ fn serve<R: Wait, G: Gate + Drop>(rt: &R, shared: &Shared<G>, post: &mut Post)
 }
 
 /// What is in the hand is served, where there is room for what it leaves.
-pub(crate) fn serve_hand<R: Wait, G: Gate + Drop>(rt: &R, shared: &Shared<G>, post: &mut Post)
+pub(crate) fn serve_hand<R: Wait, G: Gate + Drop, C: Ledger, W: Ledger>(
+    rt: &R,
+    shared: &Shared<G, C, W>,
+    post: &mut Post<W>,
+)
+    requires tally { Tallies post.old.lost post.old.part.share.amount post.old.kept post.old.hand }
     ensures seat { post.new.seat ≡ post.old.seat }
+    ensures tally { Tallies post.new.lost post.new.part.share.amount post.new.kept post.new.hand }
 {
     if post.hand.is_empty() || !post.make_room() {
         return;
@@ -174,8 +257,16 @@ pub(crate) fn serve_hand<R: Wait, G: Gate + Drop>(rt: &R, shared: &Shared<G>, po
 }
 
 /// A job that came into the hand is served, where there is room for what it leaves.
-fn serve_job<R: Wait, G: Gate + Drop>(rt: &R, shared: &Shared<G>, post: &mut Post, job: Job)
+fn serve_job<R: Wait, G: Gate + Drop, C: Ledger, W: Ledger>(
+    rt: &R,
+    shared: &Shared<G, C, W>,
+    post: &mut Post<W>,
+    job: Job,
+)
+    requires empty { receipts_due post.old.hand ≡ 0 }
+    requires tally { Tallies post.old.lost post.old.part.share.amount post.old.kept post.old.hand }
     ensures seat { post.new.seat ≡ post.old.seat }
+    ensures tally { Tallies post.new.lost post.new.part.share.amount post.new.kept post.new.hand }
 {
     shared.gate.pass(Point::Taken, job.ticket());
     post.hand = Hand::taken(job);
@@ -183,10 +274,15 @@ fn serve_job<R: Wait, G: Gate + Drop>(rt: &R, shared: &Shared<G>, post: &mut Pos
 }
 
 /// The only job that may run comes into the hand, where that is free and no other worker waits for one. Whether one did.
-pub(crate) fn take_own<G: Gate + Drop>(shared: &Shared<G>, post: &mut Post) -> bool
+pub(crate) fn take_own<G: Gate + Drop, C: Ledger, W: Ledger>(
+    shared: &Shared<G, C, W>,
+    post: &mut Post<W>,
+) -> bool
+    requires tally { Tallies post.old.lost post.old.part.share.amount post.old.kept post.old.hand }
     ensures seat { post.new.seat ≡ post.old.seat }
+    ensures tally { Tallies post.new.lost post.new.part.share.amount post.new.kept post.new.hand }
 {
-    if !post.hand.is_empty() || post.out.len() != 1 || shared.is_awaited() {
+    if !post.hand.is_empty() || post.out.len() != 1 || shared.is_awaited(post.waits) {
         return false;
     }
     let Some(job) = post.out.next() else {
@@ -199,9 +295,15 @@ pub(crate) fn take_own<G: Gate + Drop>(shared: &Shared<G>, post: &mut Post) -> b
 
 /// The next job that may run is handed off; this seat serves it where the hand-off is full. Whether there was one, and
 /// the hand free for it.
-fn put<R: Wait, G: Gate + Drop>(rt: &R, shared: &Shared<G>, post: &mut Post) -> bool
+fn put<R: Wait, G: Gate + Drop, C: Ledger, W: Ledger>(
+    rt: &R,
+    shared: &Shared<G, C, W>,
+    post: &mut Post<W>,
+) -> bool
     requires seat { IsSeatOf shared.now.handoff post.old.seat }
+    requires tally { Tallies post.old.lost post.old.part.share.amount post.old.kept post.old.hand }
     ensures seat { IsSameSeat post.old.seat post.new.seat }
+    ensures tally { Tallies post.new.lost post.new.part.share.amount post.new.kept post.new.hand }
 {
     if !post.hand.is_empty() {
         return false;
@@ -217,9 +319,15 @@ fn put<R: Wait, G: Gate + Drop>(rt: &R, shared: &Shared<G>, post: &mut Post) -> 
 }
 
 /// What this seat has is served or handed off, until it has nothing, or memory was refused to it.
-pub(crate) fn drain<R: Wait, G: Gate + Drop>(rt: &R, shared: &Shared<G>, post: &mut Post)
+pub(crate) fn drain<R: Wait, G: Gate + Drop, C: Ledger, W: Ledger>(
+    rt: &R,
+    shared: &Shared<G, C, W>,
+    post: &mut Post<W>,
+)
     requires seat { IsSeatOf shared.now.handoff post.old.seat }
+    requires tally { Tallies post.old.lost post.old.part.share.amount post.old.kept post.old.hand }
     ensures seat { IsSameSeat post.old.seat post.new.seat }
+    ensures tally { Tallies post.new.lost post.new.part.share.amount post.new.kept post.new.hand }
 {
     serve_hand(rt, shared, post);
     for _ in rt.forever() {
@@ -232,9 +340,16 @@ pub(crate) fn drain<R: Wait, G: Gate + Drop>(rt: &R, shared: &Shared<G>, post: &
 
 /// What this seat has is served or handed off until it has nothing: what memory was refused to is tried again, once
 /// other threads had their turn.
-pub(crate) fn finish<R: Wait, G: Gate + Drop>(rt: &R, shared: &Shared<G>, post: &mut Post)
+pub(crate) fn finish<R: Wait, G: Gate + Drop, C: Ledger, W: Ledger>(
+    rt: &R,
+    shared: &Shared<G, C, W>,
+    post: &mut Post<W>,
+)
     requires seat { IsSeatOf shared.now.handoff post.old.seat }
+    requires tally { Tallies post.old.lost post.old.part.share.amount post.old.kept post.old.hand }
     ensures seat { IsSameSeat post.old.seat post.new.seat }
+    ensures tally { Tallies post.new.lost post.new.part.share.amount post.new.kept post.new.hand }
+    ensures empty { receipts_due post.new.hand ≡ 0 }
 {
     drain(rt, shared, post);
     for _ in rt.forever() {
@@ -248,13 +363,15 @@ pub(crate) fn finish<R: Wait, G: Gate + Drop>(rt: &R, shared: &Shared<G>, post: 
 }
 
 /// A job is taken from the hand-off, and served.
-pub(crate) fn serve_handed_off<R: Wait, G: Gate + Drop>(
+pub(crate) fn serve_handed_off<R: Wait, G: Gate + Drop, C: Ledger, W: Ledger>(
     rt: &R,
-    shared: &Shared<G>,
-    post: &mut Post,
+    shared: &Shared<G, C, W>,
+    post: &mut Post<W>,
 ) -> Progress
     requires seat { IsSeatOf shared.now.handoff post.old.seat }
+    requires tally { Tallies post.old.lost post.old.part.share.amount post.old.kept post.old.hand }
     ensures seat { IsSameSeat post.old.seat post.new.seat }
+    ensures tally { Tallies post.new.lost post.new.part.share.amount post.new.kept post.new.hand }
 {
     if !post.is_idle() || !post.make_room() {
         return Progress::Made;

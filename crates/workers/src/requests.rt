@@ -3,61 +3,39 @@
 ghost use Rattle.std.specs.Prelude.{◌≡◌, ◌<◌, vec_len};
 ghost use Rattle.handoff.specs.Seats.{IsSeatOf, IsSameSeat};
 ghost use Rattle.report.specs.Rooms.{HasRoomForOne};
+ghost use Rattle.workers.specs.Tallying.{Tallies};
 
-use crate::post::{Post, commit, drain, is_long, serve_hand, take_own};
+use crate::in_a_row::{has_one_job, serve_and_fetch, turn};
+use crate::post::{Post, drain};
 use crate::progress::Progress;
 use crate::shared::Shared;
-use bays::{Gate, Point, direct_on, enter_on, fetch_on};
+use bays::{Gate, Point, direct_on, fetch_on};
 use phases::Slot;
-use ring_core::Ticket;
 use std::sync::Wait;
+use std::sync::ledger::Ledger;
 use unit_history::ReceiptOrNote;
 
 /// How many jobs of a queue a worker serves in a row.
 const IN_A_ROW: usize = 16;
 
-/// The ticket of a request that arrived.
-fn arrived(slot: &Slot) -> Option<Ticket> {
-    match slot {
-        Slot::Arrived(arrival) => Some(arrival.ticket()),
-        Slot::Empty | Slot::Direct(_) => None,
-    }
-}
-
-/// The request that arrived comes to its unit, where one did.
-fn enter<R: Wait, G: Gate + Drop>(rt: &R, shared: &Shared<G>, slot: &mut Slot, post: &mut Post)
-    ensures seat { post.new.seat ≡ post.old.seat }
-    ensures kept { post.new.kept ≡ post.old.kept }
-{
-    let Some(at) = slot.unit() else {
-        return;
-    };
-    if at >= shared.units.len() {
-        return;
-    }
-    let ticket = arrived(slot);
-    enter_on(&mut shared.bays(rt), at, slot, &mut post.out);
-    if let (Some(ticket), true) = (ticket, slot.is_empty()) {
-        shared.gate.pass(Point::Entered, ticket);
-    }
-}
-
 /// The chain that is ready is answered, where one is, and why it got no receipt is kept.
-fn direct<R: Wait, G: Gate + Drop>(
+pub(crate) fn direct<R: Wait, G: Gate + Drop, C: Ledger, W: Ledger>(
     rt: &R,
-    shared: &Shared<G>,
+    shared: &Shared<G, C, W>,
     at: usize,
     slot: &mut Slot,
-    post: &mut Post,
+    post: &mut Post<W>,
 )
     requires at { at < vec_len shared.now.queues }
     requires room { HasRoomForOne post.old.kept }
+    requires tally { Tallies post.old.lost post.old.part.share.amount post.old.kept post.old.hand }
     ensures seat { post.new.seat ≡ post.old.seat }
+    ensures tally { Tallies post.new.lost post.new.part.share.amount post.new.kept post.new.hand }
 {
     if slot.is_empty() {
         return;
     }
-    if let Some(note) = direct_on(&mut shared.bays(rt), at, slot) {
+    if let Some(note) = direct_on(&mut shared.queues(rt), at, slot) {
         let ticket = note.ticket();
         post.kept.keep(ReceiptOrNote::Note(note));
         shared.gate.pass(Point::Answered, ticket);
@@ -66,37 +44,41 @@ fn direct<R: Wait, G: Gate + Drop>(
 
 /// A request queue's next chain is taken, and comes to its unit or is answered. Whether there was one: `None` where memory
 /// was refused.
-fn fetch_next<R: Wait, G: Gate + Drop>(
+pub(crate) fn fetch_next<R: Wait, G: Gate + Drop, C: Ledger, W: Ledger>(
     rt: &R,
-    shared: &Shared<G>,
+    shared: &Shared<G, C, W>,
     at: usize,
-    post: &mut Post,
+    post: &mut Post<W>,
 ) -> Option<bool>
     requires at { at < vec_len shared.now.queues }
+    requires tally { Tallies post.old.lost post.old.part.share.amount post.old.kept post.old.hand }
     ensures seat { post.new.seat ≡ post.old.seat }
+    ensures tally { Tallies post.new.lost post.new.part.share.amount post.new.kept post.new.hand }
 {
     if !post.make_room() {
         return None;
     }
     let mut slot = Slot::Empty;
-    let is_some = fetch_on(&mut shared.bays(rt), at, &mut slot, &shared.inventory).ok()?;
-    enter(rt, shared, &mut slot, post);
+    let is_some = fetch_on(&mut shared.queues(rt), at, &mut slot, &shared.inventory).ok()?;
+    turn(rt, shared, &mut slot, post);
     direct(rt, shared, at, &mut slot, post);
     Some(is_some)
 }
 
 /// A request queue's next chain is taken, and comes to its unit or is answered: whoever calls found the hand-off empty.
-/// The job that it gives is served, where no other worker waits for one. Before a long answer, for which the memory is
-/// held, the next chain is taken, so that there is work while others hold it.
-pub(crate) fn serve_queue<R: Wait, G: Gate + Drop>(
+/// The job that it gives is served, where no other worker waits for one, and so are the next requests of the queue, up to
+/// [`IN_A_ROW`].
+pub(crate) fn serve_queue<R: Wait, G: Gate + Drop, C: Ledger, W: Ledger>(
     rt: &R,
-    shared: &Shared<G>,
+    shared: &Shared<G, C, W>,
     at: usize,
-    post: &mut Post,
+    post: &mut Post<W>,
 ) -> Progress
     requires at { at < vec_len shared.now.queues }
     requires seat { IsSeatOf shared.now.handoff post.old.seat }
+    requires tally { Tallies post.old.lost post.old.part.share.amount post.old.kept post.old.hand }
     ensures seat { IsSameSeat post.old.seat post.new.seat }
+    ensures tally { Tallies post.new.lost post.new.part.share.amount post.new.kept post.new.hand }
 {
     // Then its list has the places that an Enter asks for.
     if !post.is_idle() {
@@ -104,14 +86,10 @@ pub(crate) fn serve_queue<R: Wait, G: Gate + Drop>(
     }
     let fetched = fetch_next(rt, shared, at, post);
     for _ in 0..IN_A_ROW {
-        if !take_own(shared, post) {
+        if !has_one_job(shared, post) {
             break;
         }
-        if is_long(&post.hand) {
-            commit(rt, shared, post);
-            let _ = fetch_next(rt, shared, at, post);
-        }
-        serve_hand(rt, shared, post);
+        serve_and_fetch(rt, shared, at, post);
     }
     drain(rt, shared, post);
     Progress::of(fetched != Some(false))

@@ -4,7 +4,7 @@ ghost use Rattle.std.specs.Prelude.{◌≡◌, length, vec_len};
 
 use crate::bell::Bell;
 use crate::opening::Parts;
-use bays::{Gate, Locked};
+use bays::{Books, CountedUnit, Gate, LockedQueues, LockedUnits, Part};
 use crossbeam_utils::CachePadded;
 use decisions::Inventory;
 use event_queue::EventPort;
@@ -12,14 +12,17 @@ use guest_mem::GuestMem;
 use handoff::Handoff;
 use queues::Queue;
 use std::sync::atomic::{AtomicBool, AtomicU64, Ordering};
+use std::sync::ledger::Ledger;
 use std::sync::{Mutex, Wait};
-use unit_history::UnitState;
 
-/// What the threads of a host share. Locks: each unit's alone; each queue's with the memory's inside it; the memory's
-/// alone; and the event port's, round that of the event queue, which nobody takes without it.
+/// What the threads of a host share. Locks: each unit's, with that of the books inside it at a commit; each queue's with
+/// the memory's inside it; the memory's alone; and the event port's, round that of the event queue, which nobody takes
+/// without it.
 #[derive(Drop)]
-pub(crate) struct Shared<G: Gate + Drop> {
-    pub(crate) units: Vec<Mutex<UnitState>>,
+pub(crate) struct Shared<G: Gate + Drop, C: Ledger, W: Ledger> {
+    pub(crate) units: Vec<Mutex<CountedUnit<C>>>,
+    // How many Commits were counted, and how many receipts.
+    pub(crate) books: Mutex<Books<C, W>>,
     pub(crate) queues: Vec<Mutex<Queue>>,
     pub(crate) port: Mutex<EventPort>,
     pub(crate) inventory: Inventory,
@@ -35,9 +38,14 @@ pub(crate) struct Shared<G: Gate + Drop> {
     pub(crate) memory: CachePadded<Mutex<GuestMem>>,
 }
 
-impl<G: Gate + Drop> Shared<G> {
-    /// Of the parts of a device, at this hand-off. No worker is to end.
-    pub(crate) fn new(parts: Parts, handoff: Handoff, gate: G) -> Shared<G>
+impl<G: Gate + Drop, C: Ledger, W: Ledger> Shared<G, C, W> {
+    /// Of the parts of a device, at this hand-off, with the books in which nothing is counted yet. No worker is to end.
+    pub(crate) fn new(
+        parts: Parts<C>,
+        books: Books<C, W>,
+        handoff: Handoff,
+        gate: G,
+    ) -> Shared<G, C, W>
         ensures handoff { result.handoff ≡ handoff }
         ensures units { vec_len result.units ≡ vec_len parts.units }
         ensures queues { vec_len result.queues ≡ vec_len parts.queues }
@@ -51,6 +59,7 @@ impl<G: Gate + Drop> Shared<G> {
         } = parts;
         Shared {
             units,
+            books: Mutex::new(books),
             queues,
             port,
             inventory,
@@ -64,22 +73,37 @@ impl<G: Gate + Drop> Shared<G> {
         }
     }
 
-    /// What lends its units, its queues and its memory.
-    pub(crate) fn bays<'a, R: Wait>(&'a self, rt: &'a R) -> Locked<'a, R>
+    /// What lends its units to a seat, whose receipts are counted in this part.
+    pub(crate) fn units<'a, R: Wait>(
+        &'a self,
+        rt: &'a R,
+        seat: &'a mut Part<W>,
+    ) -> LockedUnits<'a, R, C, W>
         ensures units { length result.units.now ≡ vec_len self.now.units }
-        ensures queues { length result.queues.now ≡ vec_len self.now.queues }
+        ensures seat { result.seat ≡ seat.entry }
     {
-        Locked {
+        LockedUnits {
             rt,
             units: self.units.as_slice(),
+            books: &self.books,
+            seat,
+        }
+    }
+
+    /// What lends its queues and its memory.
+    pub(crate) fn queues<'a, R: Wait>(&'a self, rt: &'a R) -> LockedQueues<'a, R>
+        ensures queues { length result.queues.now ≡ vec_len self.now.queues }
+    {
+        LockedQueues {
+            rt,
             queues: self.queues.as_slice(),
             memory: &*self.memory,
         }
     }
 
-    /// Whether a worker waits for a job.
-    pub(crate) fn is_awaited(&self) -> bool {
-        self.waiting.load(Ordering::SeqCst) != 0
+    /// Whether a worker waits for a job, other than the one that asks, which is counted among those or not.
+    pub(crate) fn is_awaited(&self, waits: bool) -> bool {
+        self.waiting.load(Ordering::SeqCst) > u64::from(waits)
     }
 
     /// A worker waits for a job from now on, or no longer.

@@ -2,6 +2,8 @@
 
 ghost use Rattle.std.specs.Prelude.{◌≡◌, ◌<◌};
 ghost use Rattle.handoff.specs.Seats.{IsSeatOf, IsSameSeat};
+ghost use Rattle.bays.specs.Ledgers.{receipts_due};
+ghost use Rattle.workers.specs.Tallying.{Tallies};
 
 use crate::control::{fetch_event, manage};
 use crate::hired::Worked;
@@ -9,12 +11,13 @@ use crate::post::{Post, drain, serve_handed_off};
 use crate::progress::Progress;
 use crate::requests::serve_queue;
 use crate::shared::Shared;
+use crate::tallied::Tallied;
 use bays::Gate;
 use phases::OpenFunction;
-use report::Kept;
 use scsi_codec::FIRST_REQUEST_QUEUE;
 use std::hint::spin_loop;
 use std::sync::Wait;
+use std::sync::ledger::Ledger;
 
 /// Where the request queues begin among the queues.
 const FIRST_REQUEST: usize = FIRST_REQUEST_QUEUE as usize;
@@ -27,28 +30,41 @@ const LOOKS_EVERY: u8 = 16;
 
 /// A worker: what its seat has, and which worker it is, of how many.
 #[derive(Drop)]
-pub(crate) struct Worker {
-    pub(crate) post: Post,
+pub(crate) struct Worker<W: Ledger> {
+    pub(crate) post: Post<W>,
     pub(crate) number: usize,
     pub(crate) workers: usize,
 }
 
 /// What a seat brings back.
-fn ends(post: Post) -> Worked<Kept>
+pub(crate) fn ends<W: Ledger>(post: Post<W>) -> Worked<Tallied<W>>
+    requires empty { receipts_due post.hand ≡ 0 }
+    requires tally { Tallies post.lost post.part.share.amount post.kept post.hand }
     ensures { result.seat ≡ post.seat }
 {
-    let Post { seat, kept, .. } = post;
-    Worked { seat, kept }
+    let Post {
+        seat,
+        kept,
+        part,
+        lost,
+        ..
+    } = post;
+    Worked {
+        seat,
+        kept: Tallied { kept, part, lost },
+    }
 }
 
 /// The queues of the first worker that have no requests are served a step; of an abandoned host the open function alone.
-fn serve_others<R: Wait, G: Gate + Drop>(
+fn serve_others<R: Wait, G: Gate + Drop, C: Ledger, W: Ledger>(
     rt: &R,
-    shared: &Shared<G>,
+    shared: &Shared<G, C, W>,
     function: &mut Option<OpenFunction>,
-    post: &mut Post,
+    post: &mut Post<W>,
 ) -> Progress
+    requires tally { Tallies post.old.lost post.old.part.share.amount post.old.kept post.old.hand }
     ensures seat { post.new.seat ≡ post.old.seat }
+    ensures tally { Tallies post.new.lost post.new.part.share.amount post.new.kept post.new.hand }
 {
     if shared.is_abandoned() {
         return match function {
@@ -61,16 +77,18 @@ fn serve_others<R: Wait, G: Gate + Drop>(
 }
 
 /// The request queues that a worker owns are served, each by one request at most.
-fn serve_own<R: Wait, G: Gate + Drop>(
+fn serve_own<R: Wait, G: Gate + Drop, C: Ledger, W: Ledger>(
     rt: &R,
-    shared: &Shared<G>,
+    shared: &Shared<G, C, W>,
     number: usize,
     workers: usize,
-    post: &mut Post,
+    post: &mut Post<W>,
 ) -> Progress
     requires some { 0 < workers }
     requires seat { IsSeatOf shared.now.handoff post.old.seat }
+    requires tally { Tallies post.old.lost post.old.part.share.amount post.old.kept post.old.hand }
     ensures seat { IsSameSeat post.old.seat post.new.seat }
+    ensures tally { Tallies post.new.lost post.new.part.share.amount post.new.kept post.new.hand }
 {
     let mut progress = Progress::Idle;
     for at in FIRST_REQUEST..shared.queues.len() {
@@ -83,16 +101,18 @@ fn serve_own<R: Wait, G: Gate + Drop>(
 
 /// One round: what the seat has, then a job of the hand-off or, where there is none, each queue that the worker owns,
 /// unless the host was abandoned.
-fn round<R: Wait, G: Gate + Drop>(
+fn round<R: Wait, G: Gate + Drop, C: Ledger, W: Ledger>(
     rt: &R,
-    shared: &Shared<G>,
+    shared: &Shared<G, C, W>,
     number: usize,
     workers: usize,
-    post: &mut Post,
+    post: &mut Post<W>,
 ) -> Progress
     requires some { 0 < workers }
     requires seat { IsSeatOf shared.now.handoff post.old.seat }
+    requires tally { Tallies post.old.lost post.old.part.share.amount post.old.kept post.old.hand }
     ensures seat { IsSameSeat post.old.seat post.new.seat }
+    ensures tally { Tallies post.new.lost post.new.part.share.amount post.new.kept post.new.hand }
 {
     if !post.is_idle() {
         drain(rt, shared, post);
@@ -107,9 +127,9 @@ fn round<R: Wait, G: Gate + Drop>(
 /// Has a worker sleep that found nothing to do for a while: it announces that, and sleeps where the next round found
 /// nothing either. While a function is open it stays awake, since what others answer lets the function go on. What it
 /// announced, if it did.
-fn nap<R: Wait, G: Gate + Drop>(
+fn nap<R: Wait, G: Gate + Drop, C: Ledger, W: Ledger>(
     rt: &R,
-    shared: &Shared<G>,
+    shared: &Shared<G, C, W>,
     announced: Option<u64>,
     idle_rounds: u32,
     is_open: bool,
@@ -132,13 +152,14 @@ fn nap<R: Wait, G: Gate + Drop>(
 }
 
 /// Works until the host closes, and a round then looked at all queues, found nothing to do and left the worker nothing.
-pub(crate) fn work<R: Wait, G: Gate + Drop>(
+pub(crate) fn work<R: Wait, G: Gate + Drop, C: Ledger, W: Ledger>(
     rt: &R,
-    shared: &Shared<G>,
-    worker: Worker,
-) -> Worked<Kept>
+    shared: &Shared<G, C, W>,
+    worker: Worker<W>,
+) -> Worked<Tallied<W>>
     requires some { 0 < worker.workers }
     requires seat { IsSeatOf shared.now.handoff worker.post.seat }
+    requires tally { Tallies worker.post.lost worker.post.part.share.amount worker.post.kept worker.post.hand }
     ensures seat { IsSameSeat worker.post.seat result.seat }
 {
     let Worker {
@@ -148,7 +169,6 @@ pub(crate) fn work<R: Wait, G: Gate + Drop>(
     } = worker;
     let mut function = None;
     let mut rounds: u8 = 0;
-    let mut waits = false;
     let mut idle_rounds: u32 = 0;
     let mut announced = None;
     for _ in rt.forever() {
@@ -159,9 +179,9 @@ pub(crate) fn work<R: Wait, G: Gate + Drop>(
             others = serve_others(rt, shared, &mut function, &mut post);
         }
         let is_idle = round(rt, shared, number, workers, &mut post).is_idle();
-        if is_idle != waits {
+        if is_idle != post.waits {
             shared.wait_for_job(is_idle);
-            waits = is_idle;
+            post.waits = is_idle;
         }
         rounds = if is_idle {
             0

@@ -9,4 +9,4 @@ start_all-requires-after_bounds g c κs within =
 pub returns-clause-last : goal.returns-clause-last
 returns-clause-last g c =
     let parts = before_last (g.W.Works.hub (arc_value c.args.shared.now)) _ _ _ c.requires.all c.in-Some.ensures.items in
-    rw c.in_ok-post.ensures parts.1
+    rw c.in_ok-post.ensures.seat parts.1

@@ -4,8 +4,8 @@ use Rattle.workers.specs.Crew.{IsLastSeat}
 use Rattle.workers.proofs.Crews.{all_back}
 use Rattle.workers.proofs.crew.Crew.join.Goals as goal
 
-pub returns : goal.returns
-returns g c =
+pub returns-clause-seats : goal.returns-clause-seats
+returns-clause-seats g c =
     let joined = c.join_all-seats in
     let hub : Hub = c.self.inside.hub.value in
     let same : c.args.self.hub ≡ hub = sym (ap (λ b. b.hub) c.self.view_is) in

@@ -1,0 +1,13 @@
+use Rattle.std.proofs.Common.{◌≡◌, ◌<◌, length, vec_len, subst, ap, arith}
+use Rattle.std.specs.Prelude.{OnOk}
+use Rattle.workers.specs.Resizing.{WasResized}
+use Rattle.workers.proofs.host.Host.resize.Goals as goal
+
+-- there are as many units as were wanted
+pub returns-clause-resized : goal.returns-clause-resized
+returns-clause-resized g c =
+    let shared = ap (λ s. vec_len s.units) c.deref.ensures in
+    let view = ap (λ v. length v.units) c.self.view_is in
+    let many : vec_len c.deref.result.now.units ≡ length c.args.self.now.units =
+    omega (arith, shared, c.self.invariant.1, c.self.inside.specs.ok.0, view) in
+    subst (λ n. OnOk c.resize.result (c.args.place < n → WasResized c.args.blocks)) many c.resize.ensures.resized

@@ -1,0 +1,84 @@
+//! The parts of the ledgers, handed out and gathered.
+
+ghost use Rattle.std.specs.Prelude.{◌≡◌, ◌+◌, ◌≤◌, vec_len, IfOk, OnOk};
+ghost use Rattle.report.specs.Keeping.{receipts_kept};
+ghost use Rattle.workers.specs.Tallying.{commits_in};
+
+use crate::tallied::{BlankPart, Tallied};
+use bays::{CountedUnit, Part};
+use report::{CloseFault, Kept};
+use std::alloc::{AllocError, Global};
+use std::sync::Mutex;
+use std::sync::ledger::{Ledger, Share};
+use unit_history::UnitState;
+
+/// Splits so many parts off a share, in which nothing was counted yet.
+pub(crate) fn split_off<W: Ledger>(
+    alloc: Global,
+    share: &mut Share<W>,
+    count: usize,
+) -> Result<Vec<BlankPart<W>>, AllocError>
+    requires parts { count ≤ share.old.parts }
+    requires blank { share.old.amount ≡ 0 }
+    ensures parts { OnOk result (share.new.parts + count ≡ share.old.parts) }
+    ensures blank { share.new.amount ≡ 0 }
+{
+    let mut parts = Vec::new(alloc);
+    for _number in 0..count {
+        let part = Part::new(share.split_off(1, 0));
+        let Ok(()) = parts.push(BlankPart { part }) else {
+            return Err(AllocError);
+        };
+    }
+    Ok(parts)
+}
+
+/// Takes units out of their locks, and merges the parts of the ledger that count their Commits into a share.
+pub(crate) fn units_of<C: Ledger>(
+    alloc: Global,
+    locks: Vec<Mutex<CountedUnit<C>>>,
+    share: &mut Share<C>,
+) -> Result<Vec<UnitState>, AllocError>
+    ensures units { IfOk result (λ units. vec_len units ≡ vec_len locks) }
+    ensures parts { OnOk result (share.new.parts ≡ share.old.parts + vec_len locks) }
+    ensures commits { IfOk result (λ units. share.new.amount ≡ share.old.amount + commits_in units.items) }
+{
+    let mut units = Vec::with_capacity(alloc, locks.len())?;
+    for lock in locks {
+        let CountedUnit { unit, part, .. } = lock.into_inner();
+        let Part { share: counted, .. } = part;
+        units.push_reserved(unit);
+        share.merge(counted);
+    }
+    Ok(units)
+}
+
+/// Takes what seats kept, and merges the parts of the ledger that count their receipts into a share. `Outstanding` where
+/// one lost a receipt, which never happens; `NoMemory` where a growth was refused.
+pub(crate) fn kept_of<W: Ledger>(
+    alloc: Global,
+    seats: Vec<Tallied<W>>,
+    share: &mut Share<W>,
+) -> Result<Vec<Kept>, CloseFault>
+    ensures parts { OnOk result (share.new.parts ≡ share.old.parts + vec_len seats) }
+    ensures receipts { IfOk result (λ all. share.new.amount ≡ share.old.amount + receipts_kept all.items) }
+{
+    let Ok(mut all) = Vec::with_capacity(alloc, seats.len()) else {
+        return Err(CloseFault::NoMemory);
+    };
+    for seat in seats {
+        let Tallied {
+            kept,
+            part,
+            lost,
+            ..
+        } = seat;
+        if let Some(ticket) = lost {
+            return Err(CloseFault::Outstanding(ticket));
+        }
+        let Part { share: counted, .. } = part;
+        all.push_reserved(kept);
+        share.merge(counted);
+    }
+    Ok(all)
+}
