@@ -1,4 +1,5 @@
-"""The benchmark in C: examples/c/bench.c, over the library that `tools/c_library` left in a folder: out/c."""
+"""The benchmark in C: examples/c/bench.c, over the library that `tools/c_library` left in a folder: out/c. And what it is held
+against: the same guest over examples/c/floor.c."""
 
 import subprocess
 import sys
@@ -8,11 +9,22 @@ ROOT = Path(__file__).resolve().parent.parent.parent
 FOLDER = ROOT / "out/c"
 
 
+def compiled(folder, name, *words):
+    """A program, built anew."""
+    program = folder / name
+    subprocess.run(["cc", "-std=c11", "-O2", f"-I{folder}", ROOT / "examples/c/bench.c", *words, "-o", program], check=True)
+    return program
+
+
 def built(folder=FOLDER):
-    """The program, built anew."""
+    """The benchmark over the library."""
     archive = folder / "libvscsi.a"
     if not archive.exists():
         sys.exit(f"there is no {archive}: tools/c_library builds it")
-    program = folder / "bench"
-    subprocess.run(["cc", "-std=c11", "-O2", f"-I{folder}", ROOT / "examples/c/bench.c", archive, "-o", program], check=True)
-    return program
+    return compiled(folder, "bench", archive)
+
+
+def floors(folder=FOLDER):
+    """The same over the least that a device does, with one copy of the data, and with as many as the library makes."""
+    floor = ROOT / "examples/c/floor.c"
+    return compiled(folder, "floor", floor), compiled(folder, "floor_copies", "-DCOPIES", floor)
