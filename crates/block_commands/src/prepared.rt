@@ -68,13 +68,17 @@ fn exchange(
     prepared: Option<Prepared>,
 ) -> Result<(bool, Option<Prepared>), NoMemory>
     ensures installed { IfOk result (λ answer. IsTrue answer.0 → (met command.now facts.now.pending ≡ None)
-        × IsSomeAnd prepared (λ pages. IsTrue (is_in_range (⟦<PagedStore as Store>⟧.size store.old) (prepared_draft pages).first (prepared_draft pages).count)
+        × IsSomeAnd prepared (λ pages. IsTrue (is_in_range (⟦<PagedStore as Store>⟧.size store.old)
+        (prepared_draft pages).first (prepared_draft pages).count)
         × ((b : ℕ) → ⟦<PagedStore as Store>⟧.block_at store.new b
-        ≡ covered (⟦<PagedStore as Store>⟧.block_at store.old) (prepared_draft pages).blocks (prepared_draft pages).first (prepared_draft pages).count b))) }
-    ensures otherwise { IfOk result (λ answer. IsFalse answer.0 → (b : ℕ) → ⟦<PagedStore as Store>⟧.block_at store.new b ≡ ⟦<PagedStore as Store>⟧.block_at store.old b) }
+        ≡ covered (⟦<PagedStore as Store>⟧.block_at store.old) (prepared_draft pages).blocks
+        (prepared_draft pages).first (prepared_draft pages).count b))) }
+    ensures otherwise { IfOk result (λ answer. IsFalse answer.0 → (b : ℕ) →
+        ⟦<PagedStore as Store>⟧.block_at store.new b ≡ ⟦<PagedStore as Store>⟧.block_at store.old b) }
     ensures back { IfOk result (λ answer. is_some answer.1 ≡ is_some prepared) }
     ensures want { OnErr result ((met command.now facts.now.pending ≡ None)
-        × IsSomeAnd prepared (λ pages. IsTrue (is_in_range (⟦<PagedStore as Store>⟧.size store.old) (prepared_draft pages).first (prepared_draft pages).count))) }
+        × IsSomeAnd prepared (λ pages. IsTrue (is_in_range (⟦<PagedStore as Store>⟧.size store.old)
+        (prepared_draft pages).first (prepared_draft pages).count))) }
     ensures err { OnErr result ((b : ℕ) → ⟦<PagedStore as Store>⟧.block_at store.new b ≡ ⟦<PagedStore as Store>⟧.block_at store.old b) }
     ensures size { ⟦<PagedStore as Store>⟧.size store.new ≡ ⟦<PagedStore as Store>⟧.size store.old }
 {
@@ -101,10 +105,14 @@ fn written(alloc: Global, command: &Command) -> Reply
 /// Installs the pages, where they lie below the capacity and nothing beside their range has changed in them. Whether it
 /// did, and the pages that come back.
 fn installs(store: &mut PagedStore, prepared: Prepared) -> Result<(bool, Prepared), NoMemory>
-    ensures range { IfOk result (λ answer. IsTrue answer.0 → IsTrue (is_in_range (⟦<PagedStore as Store>⟧.size store.old) (prepared_draft prepared).first (prepared_draft prepared).count)) }
+    ensures range { IfOk result (λ answer. IsTrue answer.0 →
+        IsTrue (is_in_range (⟦<PagedStore as Store>⟧.size store.old) (prepared_draft prepared).first (prepared_draft prepared).count)) }
     ensures blocks { IfOk result (λ answer. (b : ℕ) → ⟦<PagedStore as Store>⟧.block_at store.new b
-        ≡ (if answer.0 then covered (⟦<PagedStore as Store>⟧.block_at store.old) (prepared_draft prepared).blocks (prepared_draft prepared).first (prepared_draft prepared).count b else ⟦<PagedStore as Store>⟧.block_at store.old b)) }
-    ensures want { OnErr result (IsTrue (is_in_range (⟦<PagedStore as Store>⟧.size store.old) (prepared_draft prepared).first (prepared_draft prepared).count)) }
+        ≡ (if answer.0 then covered (⟦<PagedStore as Store>⟧.block_at store.old)
+        (prepared_draft prepared).blocks (prepared_draft prepared).first (prepared_draft prepared).count b
+        else ⟦<PagedStore as Store>⟧.block_at store.old b)) }
+    ensures want { OnErr result (IsTrue (is_in_range (⟦<PagedStore as Store>⟧.size store.old)
+        (prepared_draft prepared).first (prepared_draft prepared).count)) }
     ensures err { OnErr result ((b : ℕ) → ⟦<PagedStore as Store>⟧.block_at store.new b ≡ ⟦<PagedStore as Store>⟧.block_at store.old b) }
     ensures size { ⟦<PagedStore as Store>⟧.size store.new ≡ ⟦<PagedStore as Store>⟧.size store.old }
 {

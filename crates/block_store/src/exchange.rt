@@ -59,7 +59,8 @@ impl Pages {
     /// Returns true if the blocks beside a range, in its pages, are those of a row that begins at its first page.
     pub(crate) fn agrees(&self, row: &[Page], first: u64, count: u32) -> bool
         requires { first + count < 2 ^ 64 }
-        ensures { IsTrue result ↔ ((b : ℕ) → IsTrue (is_beside first count b) → blocks_of self.now b ≡ paged (kept_from (first / 8) row.now) b) }
+        ensures { IsTrue result ↔ ((b : ℕ) → IsTrue (is_beside first count b) →
+            blocks_of self.now b ≡ paged (kept_from (first / 8) row.now) b) }
     {
         if count == 0 {
             return true;
@@ -123,8 +124,10 @@ impl Pages {
         requires part { (start + done) % 64 + count ≤ 64 }
         requires placed { (p : ℕ) → IsTrue (is_within (start + done) count p) → IsTrue (has_place self.old p) }
         requires long { done + count ≤ vec_len row.old }
-        ensures here { (p : ℕ) → kept self.new p ≡ (if is_within (start + done) count p then kept_from start row.old.items p else kept self.old p) }
-        ensures there { (p : ℕ) → kept_from start row.new.items p ≡ (if is_within (start + done) count p then kept self.old p else kept_from start row.old.items p) }
+        ensures here { (p : ℕ) → kept self.new p
+            ≡ (if is_within (start + done) count p then kept_from start row.old.items p else kept self.old p) }
+        ensures there { (p : ℕ) → kept_from start row.new.items p
+            ≡ (if is_within (start + done) count p then kept self.old p else kept_from start row.old.items p) }
         ensures places { (p : ℕ) → has_place self.new p ≡ has_place self.old p }
         ensures len { vec_len row.new ≡ vec_len row.old }
     {
@@ -152,8 +155,10 @@ impl Pages {
         requires number { start + count < 2 ^ 64 }
         requires placed { (p : ℕ) → IsTrue (is_within start count p) → IsTrue (has_place self.old p) }
         requires long { count ≤ vec_len row.old }
-        ensures here { (p : ℕ) → kept self.new p ≡ (if is_within start count p then kept_from start row.old.items p else kept self.old p) }
-        ensures there { (p : ℕ) → kept_from start row.new.items p ≡ (if is_within start count p then kept self.old p else kept_from start row.old.items p) }
+        ensures here { (p : ℕ) → kept self.new p
+            ≡ (if is_within start count p then kept_from start row.old.items p else kept self.old p) }
+        ensures there { (p : ℕ) → kept_from start row.new.items p
+            ≡ (if is_within start count p then kept self.old p else kept_from start row.old.items p) }
     {
         let mut done = 0;
         while done < count {

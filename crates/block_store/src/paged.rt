@@ -61,13 +61,18 @@ impl PagedStore {
     /// nothing is changed. The caller frees the pages that come back, once no one waits for the store.
     pub fn install(&mut self, prepared: Prepared) -> Result<(bool, Prepared), NoMemory>
         requires range { (prepared_draft prepared).first + (prepared_draft prepared).count ≤ ⟦<PagedStore as Store>⟧.size self.old }
-        ensures exactly { IfOk result (λ answer. IsTrue answer.0 ↔ IsAsCopied (prepared_draft prepared) (⟦<PagedStore as Store>⟧.block_at self.old)) }
+        ensures exactly { IfOk result (λ answer. IsTrue answer.0 ↔
+            IsAsCopied (prepared_draft prepared) (⟦<PagedStore as Store>⟧.block_at self.old)) }
         ensures ok { IfOk result (λ answer. (b : ℕ) → ⟦<PagedStore as Store>⟧.block_at self.new b
-            ≡ (if answer.0 then covered (⟦<PagedStore as Store>⟧.block_at self.old) (prepared_draft prepared).blocks (prepared_draft prepared).first (prepared_draft prepared).count b else ⟦<PagedStore as Store>⟧.block_at self.old b)) }
+            ≡ (if answer.0 then covered (⟦<PagedStore as Store>⟧.block_at self.old)
+            (prepared_draft prepared).blocks (prepared_draft prepared).first (prepared_draft prepared).count b
+            else ⟦<PagedStore as Store>⟧.block_at self.old b)) }
         ensures first { IfOk result (λ answer. (prepared_draft answer.1).first ≡ (prepared_draft prepared).first) }
         ensures count { IfOk result (λ answer. (prepared_draft answer.1).count ≡ (prepared_draft prepared).count) }
-        ensures back { IfOk result (λ answer. (b : ℕ) → IsTrue (is_within (prepared_draft prepared).first (prepared_draft prepared).count b) →
-            (prepared_draft answer.1).blocks b ≡ (if answer.0 then ⟦<PagedStore as Store>⟧.block_at self.old b else (prepared_draft prepared).blocks b)) }
+        ensures back { IfOk result (λ answer. (b : ℕ) →
+            IsTrue (is_within (prepared_draft prepared).first (prepared_draft prepared).count b) →
+            (prepared_draft answer.1).blocks b
+            ≡ (if answer.0 then ⟦<PagedStore as Store>⟧.block_at self.old b else (prepared_draft prepared).blocks b)) }
         ensures err { OnErr result ((b : ℕ) → ⟦<PagedStore as Store>⟧.block_at self.new b ≡ ⟦<PagedStore as Store>⟧.block_at self.old b) }
         ensures size { ⟦<PagedStore as Store>⟧.size self.new ≡ ⟦<PagedStore as Store>⟧.size self.old }
     {
@@ -96,7 +101,8 @@ impl PagedStore {
     pub fn resize(&mut self, blocks: u64)
         ensures size { ⟦<PagedStore as Store>⟧.size self.new ≡ blocks }
         ensures blocks { (b : ℕ) → ⟦<PagedStore as Store>⟧.block_at self.new b
-            ≡ (if nat_lt b (min (⟦<PagedStore as Store>⟧.size self.old) blocks) then ⟦<PagedStore as Store>⟧.block_at self.old b else zero_block) }
+            ≡ (if nat_lt b (min (⟦<PagedStore as Store>⟧.size self.old) blocks)
+            then ⟦<PagedStore as Store>⟧.block_at self.old b else zero_block) }
     {
         let left = self.capacity.min(blocks);
         let behind = (PAGE_BLOCKS - place_of(left)) % PAGE_BLOCKS;

@@ -31,7 +31,8 @@ pub(crate) fn between(
     tail: Page,
 ) -> Result<Vec<Page>, NoMemory>
     requires { last < 2 ^ 61 }
-    ensures { IfOk result (λ row. (p : ℕ) → row_kept row.items p ≡ (if p == 0 then head.bytes.items else if p == last then tail.bytes.items else [])) }
+    ensures { IfOk result (λ row. (p : ℕ) → row_kept row.items p
+        ≡ (if p == 0 then head.bytes.items else if p == last then tail.bytes.items else [])) }
 {
     let mut row = Vec::with_capacity(alloc, last + 1)?;
     append(&mut row, head)?;
@@ -45,7 +46,8 @@ pub(crate) fn between(
 
 /// Appends a page.
 fn append(row: &mut Vec<Page>, page: Page) -> Result<(), NoMemory>
-    ensures page { OnOk result ((p : ℕ) → row_kept row.new.items p ≡ (if p == vec_len row.old then page.bytes.items else row_kept row.old.items p)) }
+    ensures page { OnOk result ((p : ℕ) → row_kept row.new.items p
+        ≡ (if p == vec_len row.old then page.bytes.items else row_kept row.old.items p)) }
     ensures len { OnOk result (vec_len row.new ≡ vec_len row.old + 1) }
     ensures err { OnErr result (row.new.items ≡ row.old.items) }
 {
@@ -285,8 +287,10 @@ pub(crate) fn exchange(
 )
     requires range { at + count ≤ vec_len row.old }
     requires others { from + count ≤ vec_len others.old }
-    ensures row { (p : ℕ) → row_kept row.new.items p ≡ (if is_within at count p then row_kept others.old.items (from + (p - at)) else row_kept row.old.items p) }
-    ensures others { (p : ℕ) → row_kept others.new.items p ≡ (if is_within from count p then row_kept row.old.items (at + (p - from)) else row_kept others.old.items p) }
+    ensures row { (p : ℕ) → row_kept row.new.items p
+        ≡ (if is_within at count p then row_kept others.old.items (from + (p - at)) else row_kept row.old.items p) }
+    ensures others { (p : ℕ) → row_kept others.new.items p
+        ≡ (if is_within from count p then row_kept row.old.items (at + (p - from)) else row_kept others.old.items p) }
     ensures len { vec_len row.new ≡ vec_len row.old }
     ensures others_len { vec_len others.new ≡ vec_len others.old }
 {

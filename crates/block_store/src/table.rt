@@ -66,7 +66,8 @@ pub(crate) trait Table: Drop {
         requires fits { IsTrue (fits n) }
         requires range { first + block_count bytes.now < 2 ^ 64 }
         requires whole { length bytes.now % BLOCK_BYTES ≡ 0 }
-        ensures put { IsTrue result → (b : ℕ) → row_blocks (row_at self.new n) b ≡ overwritten (row_blocks (row_at self.old n)) first bytes.now b }
+        ensures put { IsTrue result → (b : ℕ) → row_blocks (row_at self.new n) b
+            ≡ overwritten (row_blocks (row_at self.old n)) first bytes.now b }
         ensures same { IsFalse result → row_at self.new n ≡ row_at self.old n }
         ensures others { (m : ℕ) → IsTrue (fits m) → m ≢ n → row_at self.new m ≡ row_at self.old m };
 
@@ -177,7 +178,8 @@ impl<T: Table> Level<T> {
     fn reach(&mut self, alloc: Global, slot: usize) -> Result<(), AllocError>
         ensures reached { OnOk result (slot < vec_len self.new.slots) }
         ensures rows { (m : ℕ) → in_slots T.rows T.row_at [] self.new.slots.items m ≡ in_slots T.rows T.row_at [] self.old.slots.items m }
-        ensures places { (m : ℕ) → IsTrue (in_slots T.rows T.has_row false self.old.slots.items m) → IsTrue (in_slots T.rows T.has_row false self.new.slots.items m) }
+        ensures places { (m : ℕ) → IsTrue (in_slots T.rows T.has_row false self.old.slots.items m) →
+            IsTrue (in_slots T.rows T.has_row false self.new.slots.items m) }
     {
         let needed = slot.saturating_add(1);
         self.slots.reserve(needed.saturating_sub(self.slots.len()))?;
@@ -190,7 +192,8 @@ impl<T: Table> Level<T> {
     /// Returns true if the last slot has no rows.
     fn ends_empty(&self) -> bool
         ensures some { IsTrue result → 0 < vec_len self.now.slots }
-        ensures rows { IsTrue result → (m : ℕ) → in_slots T.rows T.row_at [] (take (vec_len self.now.slots - 1) self.now.slots.items) m ≡ in_slots T.rows T.row_at [] self.now.slots.items m }
+        ensures rows { IsTrue result → (m : ℕ) → in_slots T.rows T.row_at [] (take (vec_len self.now.slots - 1) self.now.slots.items) m
+            ≡ in_slots T.rows T.row_at [] self.now.slots.items m }
     {
         match self.slots.last() {
             Some(last) => last.is_empty(),

@@ -202,7 +202,8 @@ impl Handoff {
     fn learn(&self, chiefs: Vec<Place>)
         requires chiefs { AreAt self.now chiefs.items × AreChiefs chiefs.items }
         requires all { KnowAll chiefs.items }
-        ensures { (left : ℕ → List PlainJob) × ((q : ℕ) (c : PlainPlace) → slice_get chiefs.items q ≡ Some c → AreSettled c.knows.accounts (left q)) }
+        ensures { (left : ℕ → List PlainJob)
+            × ((q : ℕ) (c : PlainPlace) → slice_get chiefs.items q ≡ Some c → AreSettled c.knows.accounts (left q)) }
     {
         let mut at = 0;
         for chief in chiefs {

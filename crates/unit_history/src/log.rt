@@ -69,7 +69,8 @@ impl Model for StepLog {
     ghost view = { λ l. record {
       steps = steps_recorded l.noted.items;
       keeps = l.keeps_replies;
-      room = room_left l.keeps_replies (ring_room l.base l.kinds.cap (length l.kinds.kinds)) (spare_of_deque l.replies) (steps_left (length l.kinds.kinds));
+      room = room_left l.keeps_replies (ring_room l.base l.kinds.cap (length l.kinds.kinds))
+          (spare_of_deque l.replies) (steps_left (length l.kinds.kinds));
       base = l.base;
       forgotten = l.folded.forgotten;
     } };

@@ -101,7 +101,8 @@ pub(crate) fn make_way(log: &mut StepLog, tasks: &TaskSet) -> Result<(), AllocEr
     ensures base { OnOk result (log.new.base ≡ length log.old.steps - most_before) }
     ensures room { OnOk result (129 ≤ log.new.room) }
     ensures kept { OnErr result ((log.new.base ≡ log.old.base) × (log.old.room ≤ log.new.room)) }
-    ensures clear { AreClear log.old.forgotten log.old.steps (seen_of tasks.now) → AreClear log.new.forgotten log.old.steps (seen_of tasks.now) }
+    ensures clear { AreClear log.old.forgotten log.old.steps (seen_of tasks.now) →
+        AreClear log.new.forgotten log.old.steps (seen_of tasks.now) }
 {
     forget_where_clear(log, tasks);
     log.make_way()
@@ -111,7 +112,8 @@ pub(crate) fn make_way(log: &mut StepLog, tasks: &TaskSet) -> Result<(), AllocEr
 #[inline(always)]
 fn forget_where_clear(log: &mut StepLog, tasks: &TaskSet)
     ensures same { log.new ≡ record log.old { forgotten = log.new.forgotten } }
-    ensures clear { AreClear log.old.forgotten log.old.steps (seen_of tasks.now) → AreClear log.new.forgotten log.old.steps (seen_of tasks.now) }
+    ensures clear { AreClear log.old.forgotten log.old.steps (seen_of tasks.now) →
+        AreClear log.new.forgotten log.old.steps (seen_of tasks.now) }
 {
     match log.oldest_mark() {
         None => {}
