@@ -24,7 +24,7 @@ use phases::{
 use unit_history::{Note, ReceiptOrNote};
 
 /// Takes the next chain of a request queue (`phase_fetch`), in one hold of it and of the memory. The queue's owner
-/// calls. Whether something changed, or `NoMemory` as of the phase.
+/// calls. Returns true if something changed, or `NoMemory` as the phase does.
 pub fn fetch_on<B: QueueBays>(
     bays: &mut B,
     at: usize,
@@ -49,7 +49,7 @@ pub fn fetch_on<B: QueueBays>(
 }
 
 /// Takes the next chain of the control queue (`phase_fetch_control`), in one hold of it and of the memory. The queue's
-/// owner calls. Whether something changed, or `NoMemory` as of the phase.
+/// owner calls. Returns true if something changed, or `NoMemory` as the phase does.
 pub fn fetch_control_on<B: QueueBays>(
     bays: &mut B,
     at: usize,
@@ -76,8 +76,8 @@ pub fn fetch_control_on<B: QueueBays>(
     )
 }
 
-/// Takes the next chain of the event queue (`phase_fetch_event`), in one hold of it and of the memory. Whoever has the
-/// event port calls. Whether something changed, or `NoMemory` as of the phase.
+/// Takes the next chain of the event queue (`phase_fetch_event`), in one hold of it and of the memory. The thread that
+/// has the event port calls. Returns true if something changed, or `NoMemory` as the phase does.
 pub fn fetch_event_on<B: QueueBays>(
     bays: &mut B,
     at: usize,
@@ -103,7 +103,7 @@ pub fn fetch_event_on<B: QueueBays>(
 }
 
 /// Answers and uses the chain that is ready in the slot (`phase_direct`), in one hold of its queue and of the memory.
-/// The queue's owner calls. A note of why it got no receipt, where it was.
+/// The queue's owner calls. Returns a note of why it got no receipt; `None` where no chain was answered.
 pub fn direct_on<B: QueueBays>(bays: &mut B, at: usize, slot: &mut Slot) -> Option<Note>
     requires there { at < B.queues bays.old }
     ensures did { (q : BareQueue) × (m : List ℕ) × (r : BareQueue) × (n : List ℕ) × B.lends_queue bays.old at q m
@@ -126,8 +126,8 @@ pub fn direct_on<B: QueueBays>(bays: &mut B, at: usize, slot: &mut Slot) -> Opti
 }
 
 /// Answers the job in the hand whose commit is over, and uses its chain (`phase_answer`), in one hold of its queue and
-/// of the memory. The seat that has the hand calls, with its place from `Hand::answering_queue`. Its receipt, or a note
-/// of why it got none, where it was.
+/// of the memory. The seat that has the hand calls, with its place from `Hand::answering_queue`. Returns its receipt,
+/// or a note of why it got none; `None` where no chain was answered.
 pub fn answer_on<B: QueueBays>(bays: &mut B, at: usize, hand: &mut Hand) -> Option<ReceiptOrNote>
     requires there { at < B.queues bays.old }
     ensures did { (q : BareQueue) × (m : List ℕ) × (r : BareQueue) × (n : List ℕ) × B.lends_queue bays.old at q m
@@ -150,7 +150,7 @@ pub fn answer_on<B: QueueBays>(bays: &mut B, at: usize, hand: &mut Hand) -> Opti
 }
 
 /// Answers the open function, where nothing is left for it to do, and uses its chain (`phase_answer_tmf`), in one hold
-/// of its queue and of the memory. The worker that has the function calls. Whether it was.
+/// of its queue and of the memory. The worker that has the function calls. Returns true if it was answered.
 pub fn answer_tmf_on<B: QueueBays>(
     bays: &mut B,
     at: usize,
@@ -174,7 +174,7 @@ pub fn answer_tmf_on<B: QueueBays>(
 }
 
 /// Gives the oldest event that waits to the oldest buffer, which is used, or misses it (`phase_raise`), in one hold of
-/// the event queue and of the memory. Whoever has the event port calls. Whether something changed.
+/// the event queue and of the memory. The thread that has the event port calls. Returns true if something changed.
 pub fn raise_on<B: QueueBays>(
     bays: &mut B,
     at: usize,

@@ -1,4 +1,4 @@
-//! The phases on a unit, each run on one that is lent. The clause is the phase's own, for some unit that was lent and
+//! Runs the phases on a unit, each on one that is lent. Each clause is the phase's own, for some unit that was lent and
 //! came back.
 
 ghost use Rattle.std.specs.Prelude.{◌≡◌, ◌<◌, IsTrue};
@@ -22,7 +22,7 @@ use phases::{
 use unit_history::{JobList, ResizeFault, StartedWrite};
 
 /// Brings the request that arrived to its unit (`phase_enter`), in one hold of that. The owner of its queue calls, with
-/// its place from `Slot::unit`. Whether something changed.
+/// its place from `Slot::unit`. Returns true if something changed.
 pub fn enter_on<B: UnitBays>(bays: &mut B, at: usize, slot: &mut Slot, out: &mut JobList) -> bool
     requires there { at < B.units bays.old }
     ensures did { (u : PlainUnit) × (v : PlainUnit) × B.lends_unit bays.old at u
@@ -45,7 +45,7 @@ pub fn enter_on<B: UnitBays>(bays: &mut B, at: usize, slot: &mut Slot, out: &mut
 
 /// Makes the pages of the WRITE in the hand ahead of its commit: what they need is copied in one hold of its unit
 /// (`phase_start_pages`), and they are made after it, with no lock held (`phase_prepare`). The seat that has the hand
-/// calls, with its place from `Hand::committing_unit`. Whether something was copied.
+/// calls, with its place from `Hand::committing_unit`. Returns true if something was copied.
 pub fn prepare_on<B: UnitBays>(bays: &mut B, at: usize, hand: &mut Hand) -> bool
     requires there { at < B.units bays.old }
     ensures did { (u : PlainUnit) × B.lends_unit bays.old at u × B.keeps_unit bays.old at u bays.new }
@@ -70,7 +70,7 @@ pub fn prepare_on<B: UnitBays>(bays: &mut B, at: usize, hand: &mut Hand) -> bool
     }
 }
 
-/// The gate is told that the unit's lock is held for the job in the hand, where one is there.
+/// Tells the gate that the unit's lock is held for the job in the hand, where one is there.
 pub(crate) fn pass_locked<G: Gate>(gate: &G, hand: &Hand) {
     match hand {
         Hand::Job(held) => gate.pass(Point::Locked, held.job().ticket()),
@@ -78,7 +78,8 @@ pub(crate) fn pass_locked<G: Gate>(gate: &G, hand: &Hand) {
     }
 }
 
-/// How many receipts the hand is to give, where its commit changed something: how many Commits that made.
+/// Returns how many receipts the hand is to give of a commit: 1 where it changed something and its job has a receipt,
+/// else 0. As many Commits the commit made.
 fn receipts_made(changed: bool, hand: &Hand) -> u64
     ensures { result ≡ receipts_made changed hand.now }
 {
@@ -87,7 +88,7 @@ fn receipts_made(changed: bool, hand: &Hand) -> u64
 
 /// Commits the job in the hand (`phase_commit`), in one hold of its unit, inside which, before anything is done, the
 /// gate is passed at its point Locked. The pages that the commit left over are freed behind the hold. The seat that has
-/// the hand calls, with its place from `Hand::committing_unit`. Whether something changed.
+/// the hand calls, with its place from `Hand::committing_unit`. Returns true if something changed.
 pub fn commit_on<B: UnitBays, G: Gate>(bays: &mut B, gate: &G, at: usize, hand: &mut Hand) -> bool
     requires there { at < B.units bays.old }
     ensures did { (u : PlainUnit) × (v : PlainUnit) × B.lends_unit bays.old at u
@@ -116,7 +117,7 @@ pub fn commit_on<B: UnitBays, G: Gate>(bays: &mut B, gate: &G, at: usize, hand: 
 }
 
 /// Has the task in the hand leave its unit (`phase_leave`), in one hold of that. The seat that has the hand calls, with
-/// its place from `Hand::leaving_unit`. Whether something changed.
+/// its place from `Hand::leaving_unit`. Returns true if something changed.
 pub fn leave_on<B: UnitBays>(bays: &mut B, at: usize, hand: &mut Hand, out: &mut JobList) -> bool
     requires there { at < B.units bays.old }
     ensures did { (u : PlainUnit) × (v : PlainUnit) × B.lends_unit bays.old at u
@@ -138,7 +139,7 @@ pub fn leave_on<B: UnitBays>(bays: &mut B, at: usize, hand: &mut Hand, out: &mut
 }
 
 /// Marks the next unit of the open function, or looks at it (`phase_mark`), in one hold of that. The worker that has
-/// the function calls, with the unit's place from `Function::next_unit`. Whether something changed.
+/// the function calls, with the unit's place from `Function::next_unit`. Returns true if something changed.
 pub fn mark_on<B: UnitBays>(
     bays: &mut B,
     at: usize,
@@ -163,7 +164,8 @@ pub fn mark_on<B: UnitBays>(
 }
 
 /// Checks whether the open function's first mark is clear (`phase_check`), in one hold of that mark's unit, which stays
-/// as it is. The worker that has the function calls, with the unit's place from `Function::waits_for`. Whether it was.
+/// as it is. The worker that has the function calls, with the unit's place from `Function::waits_for`. Returns true if
+/// it was clear.
 pub fn check_on<B: UnitBays>(bays: &mut B, at: usize, function: &mut OpenFunction) -> bool
     requires there { at < B.units bays.old }
     ensures did { (u : PlainUnit) × B.lends_unit bays.old at u × Checks function.old u result function.new
@@ -182,8 +184,8 @@ pub fn check_on<B: UnitBays>(bays: &mut B, at: usize, function: &mut OpenFunctio
     .0
 }
 
-/// Resets a unit (`phase_hard`), in one hold of it. The operator's seat calls. Whether something changed, or `NoMemory`
-/// as of the phase.
+/// Resets a unit (`phase_hard`), in one hold of it. The operator's seat calls. Returns true if something changed, or
+/// `NoMemory` as the phase does.
 pub fn hard_on<B: UnitBays>(
     bays: &mut B,
     at: usize,
@@ -207,7 +209,8 @@ pub fn hard_on<B: UnitBays>(
     .0
 }
 
-/// Gives a unit another capacity (`phase_resize`), in one hold of it. The operator's seat calls. Answers as the phase.
+/// Gives a unit another capacity (`phase_resize`), in one hold of it. The operator's seat calls. Answers as the phase
+/// does: `BadCapacity` or `NoMemory`, with nothing changed.
 pub fn resize_on<B: UnitBays>(
     bays: &mut B,
     at: usize,

@@ -14,7 +14,8 @@ pub struct Part<L: Ledger> {
 impl<L: Ledger> Part<L> {
     ghost use Rattle.std.specs.Prelude.{◌≡◌};
 
-    /// Makes a part of a share that is one. Who opens a ledger calls it once for each that is counted there.
+    /// Makes a part of a share that is one. Called once for each unit or seat that the ledger counts, where it is
+    /// opened.
     pub fn new(share: Share<L>) -> Part<L>
         requires { share.parts ≡ 1 }
         ensures { result.share ≡ share }
@@ -34,14 +35,14 @@ pub struct Books<C: Ledger, W: Ledger> {
 impl<C: Ledger, W: Ledger> Books<C, W> {
     ghost use Rattle.std.specs.Prelude.{◌≡◌, ◌+◌};
 
-    /// Makes the books of two ledgers in which nothing was counted. Who opens these calls it once.
+    /// Makes the books of two ledgers in which nothing was counted. Called once, where both are opened.
     pub fn new(commits: Book<C>, receipts: Book<W>) -> Books<C, W>
         requires { commits.total ≡ receipts.total }
     {
         Books { commits, receipts }
     }
 
-    /// Counts so many Commits of a unit, and as many receipts of a seat. Who has the unit lent calls it inside that hold.
+    /// Counts so many Commits of a unit, and as many receipts of a seat. Called in the hold in which the unit is lent.
     pub fn record(&mut self, unit: &mut Part<C>, seat: &mut Part<W>, commits: u64)
         ensures unit { unit.new.share.amount ≡ unit.old.share.amount + commits }
         ensures seat { seat.new.share.amount ≡ seat.old.share.amount + commits }
@@ -55,7 +56,7 @@ impl<C: Ledger, W: Ledger> Books<C, W> {
         given.add(&mut seat.share, commits);
     }
 
-    /// Says to whoever has all parts of both ledgers that the two counted the same. Who closes a host calls it.
+    /// Shows, given all parts of both ledgers, that the two counted the same. Called where a host is closed.
     pub fn audit(&mut self, units: &mut Share<C>, seats: &mut Share<W>)
         requires { (units.old.parts ≡ C.parts) × (seats.old.parts ≡ W.parts) }
         ensures { units.old.amount ≡ seats.old.amount }

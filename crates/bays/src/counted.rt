@@ -24,15 +24,15 @@ impl<C: Ledger> CountedUnit<C> {
     ghost use Rattle.bays.specs.Lending.{OnceAtThree};
     ghost use Rattle.bays.specs.Ledgers.{commits_of, CountsCommits};
 
-    /// Makes one of a unit and the part in which its Commits are counted. Who opens a host calls it once for each unit.
+    /// Joins a unit with the part in which its Commits are counted. Called once for each unit, where a host is opened.
     pub fn new(unit: UnitState, part: Part<C>) -> CountedUnit<C>
         requires { part.share.amount ≡ commits_of unit.steps }
     {
         CountedUnit { unit, part }
     }
 
-    /// Runs a phase on the unit, and counts the Commits that it answers: for the unit and for the seat that calls, in both
-    /// books, whose lock is taken inside the unit's. Who holds that lock calls.
+    /// Runs a phase on the unit, and counts the Commits that it answers: for the unit and for the seat that calls, in
+    /// both books, whose lock is taken inside the unit's. Called in a hold of the unit's lock.
     pub(crate) fn run<
         R: Wait,
         W: Ledger,

@@ -19,8 +19,8 @@ pub enum Point {
     Answered,
 }
 
-/// What looks on as requests go by, and may hold a thread up: a test has one to put threads into an order. Nothing that
-/// the device promises stands on it.
+/// A gate that requests pass, which may hold a thread up: a test has one to put threads into an order. Nothing that the
+/// device promises stands on it.
 pub trait Gate {
     /// Is told that the request of this ticket comes to this point. The worker that serves it calls, and goes on once
     /// this returns.

@@ -3,19 +3,19 @@
 use std::hint::spin_loop;
 use std::sync::{Mutex, MutexGuard, Wait};
 
-/// How often a thread tries for a lock in a row.
+/// The tries for a lock in a row.
 const TRIES: u32 = 100;
 
-/// How often it then tries once more behind a rest, before it sleeps until the lock is free. This takes longer than the
-/// copy of a long answer.
+/// The tries behind these, each after a rest, before the thread sleeps until the lock is free. All of them take longer
+/// than the copy of a long answer.
 const TRIES_APART: u32 = 100;
 
-/// How many times a thread spins between two tries, so that whoever holds the lock isn't disturbed.
+/// The spins of a rest, in which the thread that holds the lock isn't disturbed.
 const SPINS: u32 = 30;
 
-/// Takes a lock that is held for a phase. It is tried for a while first: to sleep and to be woken takes longer than a
-/// phase, and where one thread sleeps all that come behind it do. It never yields, which beside one other thread that
-/// runs gives the core away for milliseconds.
+/// Takes a lock that is held for a phase. It tries for a while before it sleeps: to sleep and to be woken takes longer
+/// than a phase, and where one thread sleeps all that come behind it do. It never yields: beside one other thread that
+/// runs, a yield gives the core away for milliseconds.
 pub fn hold<'a, T, R: Wait>(rt: &R, lock: &'a Mutex<T>) -> MutexGuard<'a, T> {
     for _ in 0..TRIES {
         if let Some(guard) = lock.try_lock() {

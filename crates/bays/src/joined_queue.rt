@@ -34,8 +34,8 @@ fn answer_fetch(
 }
 
 /// Answers the job in the hand whose commit is over (`phase_answer`), and then takes the next chain of the same request
-/// queue (`phase_fetch`), in one hold of it and of the memory. The queue's owner calls, which has the hand. What
-/// `answer_on` and then `fetch_on` would return.
+/// queue (`phase_fetch`), in one hold of it and of the memory. The queue's owner calls, which has the hand. Returns
+/// what `answer_on` and then `fetch_on` would return.
 pub fn answer_fetch_on<B: QueueBays>(
     bays: &mut B,
     at: usize,

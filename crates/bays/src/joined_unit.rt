@@ -1,4 +1,4 @@
-//! Two or three phases on a unit that share one hold.
+//! Runs two or three phases on a unit in one hold.
 
 ghost use Rattle.std.specs.Prelude.{◌≡◌, ◌<◌};
 ghost use Rattle.unit_model.specs.Unit.{PlainUnit};
@@ -17,10 +17,10 @@ use unit_history::{JobList, UnitState};
 /// is put in place faster with pages that are made before the hold.
 const LONG: u64 = 8_192;
 
-/// What came of the jobs that may run, behind an Enter.
+/// What came of the jobs that may run, behind an Enter. `leave_enter_commit_on` answers it.
 #[derive(Clone, Copy, Debug, PartialEq, Eq)]
 pub enum NextJob {
-    /// They are in the list: there isn't one alone, or the hand wasn't free.
+    /// They are in the list: there are none or several, or the hand wasn't free.
     Listed,
     /// The only one came into the hand, and is to be committed.
     Taken,
@@ -44,7 +44,8 @@ fn leave_enter(unit: &mut UnitState, hand: &mut Hand, slot: &mut Slot, out: &mut
     phase_enter(unit, slot, out);
 }
 
-/// Whether the chain of the job in a hand has so much for the device to read that its commit is a hold of its own.
+/// Returns true if the chain of the job in a hand has so much for the device to read that the commit gets a hold of its
+/// own.
 fn is_long(hand: &Hand) -> bool {
     match hand {
         Hand::Job(held) => held.job().lengths().readable >= LONG,
@@ -94,7 +95,8 @@ fn leave_enter_run<G: Gate>(
     run_next(unit, gate, at, hand, out)
 }
 
-/// How many receipts the hand is to give of a commit in this hold: how many Commits that made.
+/// Returns how many receipts the hand is to give of a commit in this hold: 1 where the job was committed and has a
+/// receipt, else 0. As many Commits were made.
 fn receipts_run(next: NextJob, hand: &Hand) -> u64
     ensures { result ≡ receipts_run next hand.now }
 {
@@ -105,8 +107,8 @@ fn receipts_run(next: NextJob, hand: &Hand) -> u64
 }
 
 /// Has the task in the hand leave its unit (`phase_leave`), and then brings the request that arrived to the same unit
-/// (`phase_enter`), in one hold of that. The owner of the request's queue calls, which has the hand, with the unit's place
-/// from `Hand::leaving_unit` and `Slot::unit`.
+/// (`phase_enter`), in one hold of that. The owner of the request's queue calls, which has the hand. It takes the
+/// unit's place from `Hand::leaving_unit` and `Slot::unit`, which agree.
 pub fn leave_enter_on<B: UnitBays>(
     bays: &mut B,
     at: usize,
@@ -135,10 +137,11 @@ pub fn leave_enter_on<B: UnitBays>(
     );
 }
 
-/// Has the task in the hand leave and brings the request that arrived to its unit as [`leave_enter_on`] does, and in the
-/// same hold, where the hand is free then and one job alone may run, takes that into the hand and commits it
-/// (`phase_commit`), unless it is a long one. Nothing is done of it where there is nothing to leave. Inside the hold the gate is
-/// passed at its point Locked, before the commit. The pages that the commit left over are freed behind the hold.
+/// Has the task in the hand leave and brings the request that arrived to its unit, as [`leave_enter_on`] does. Then, in
+/// the same hold, takes the job that may run into the hand, where that is free and the job is the only one, and commits
+/// it (`phase_commit`), unless its chain is long. Passes the gate at its point Locked inside the hold, before the
+/// commit. Frees the pages that the commit left over behind the hold. The caller is that of [`leave_enter_on`], where
+/// no gate watches and no other worker waits for a job. Returns what came of the jobs that may run.
 pub fn leave_enter_commit_on<B: UnitBays, G: Gate>(
     bays: &mut B,
     gate: &G,

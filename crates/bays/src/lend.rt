@@ -1,4 +1,4 @@
-//! What lends a phase what it works on.
+//! Lends a phase what it works on.
 
 ghost use Rattle.std.specs.Prelude.{◌≡◌, ◌<◌, List, ℕ};
 ghost use Rattle.unit_model.specs.Unit.{PlainUnit};
@@ -10,7 +10,7 @@ use guest_mem::GuestMem;
 use queues::Queue;
 use unit_history::UnitState;
 
-/// What has the units of a device, and lends one for as long as one closure runs. Units are counted by their indices in
+/// The units of a device, of which one is lent for as long as one closure runs. Units are counted by their indices in
 /// the inventory.
 pub trait UnitBays {
     /// The unit at this place may be lent as this.
@@ -25,11 +25,11 @@ pub trait UnitBays {
     /// How many units there are.
     ghost units: { Self → ℕ };
 
-    /// Returns how many units there are. Whoever has a place that a request names asks before it has that unit lent.
+    /// Returns how many units there are. Asked for a place that a request names, before that unit is lent.
     fn unit_count(&self) -> usize
         ensures { result ≡ units self.now };
 
-    /// Runs a phase on the unit at a place, and on two values of whoever calls, which stay where they are. The phase
+    /// Runs a phase on the unit at a place, and on two values of the caller, which stay where they are. The phase
     /// answers how many Commits it made, too.
     fn unit<T, X, Y, F: FnOnce(&mut UnitState, &mut X, &mut Y) -> (T, u64)>(
         &mut self,
@@ -48,7 +48,7 @@ pub trait UnitBays {
         ensures units { units self.new ≡ units self.old };
 }
 
-/// What has the queues and the memory of a device, and lends one queue with the memory, or the memory alone, for as long
+/// The queues and the memory of a device, of which one queue is lent with the memory, or the memory alone, for as long
 /// as one closure runs. Queues are counted by their numbers.
 pub trait QueueBays {
     /// The queue of this number may be lent as this, with the memory as these bytes.
@@ -70,8 +70,8 @@ pub trait QueueBays {
     fn queue_count(&self) -> usize
         ensures { result ≡ queues self.now };
 
-    /// Runs a phase on the queue of a number, with the memory, and on two values of whoever calls, which stay where
-    /// they are.
+    /// Runs a phase on the queue of a number, with the memory, and on two values of the caller, which stay where they
+    /// are.
     fn queue<T, X, Y, F: FnOnce(&mut Queue, &mut GuestMem, &mut X, &mut Y) -> T>(
         &mut self,
         at: usize,
@@ -86,7 +86,8 @@ pub trait QueueBays {
             × keeps_queue self.old at r n self.new }
         ensures queues { queues self.new ≡ queues self.old };
 
-    /// Runs what reads or writes the memory alone, with room for bytes of the caller, which stays where it is.
+    /// Runs a closure that reads or writes the memory alone, with room for bytes of the caller, which stays where it
+    /// is.
     fn memory<T, F: FnOnce(&mut GuestMem, &mut [u8]) -> T>(
         &mut self,
         room: &mut [u8],

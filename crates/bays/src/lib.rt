@@ -1,5 +1,6 @@
-//! Who lends the phases what they work on, locks that threads share or the plain parts of one thread; and each phase, or a
-//! few that follow one another, in one hold of what it works on, whoever lends that.
+//! Lends the phases what they work on: a unit, or a queue with the memory. Locks lend it where threads share a device,
+//! plain parts where one thread has it. Beside this stands a function for each phase, and for a few that follow one
+//! another, which runs it in one hold of what it works on, whatever lends that.
 #![tactic(auto)]
 
 mod at_memory;

@@ -14,13 +14,13 @@ use std::sync::ledger::Ledger;
 use std::sync::{Mutex, Wait};
 use unit_history::UnitState;
 
-/// The units that threads share, each under a lock of its own, which is held while one phase runs, or several that follow one
-/// another, with that of the books inside it where one commits. So no thread waits for a lock that waits for one of its own. What a lock held at a
-/// moment can't be said; but whenever it is free, a unit's history is lawful, its blocks and what it has pending are
-/// those of that history, and it has all Commits that were counted for it.
+/// The units that threads share, each under a lock of its own, which is held while one phase runs, or several that
+/// follow one another, with that of the books inside it where one commits. So no thread waits for a lock that waits for
+/// one of its own. No clause says what a lock held at a moment. But whenever it is free, a unit's history is lawful,
+/// its blocks and what it has pending are those of that history, and it has all Commits that were counted for it.
 #[derive(Drop)]
 pub struct LockedUnits<'a, R: Wait, C: Ledger, W: Ledger> {
-    /// What lets a thread wait.
+    /// The leave to wait, which a thread needs for a lock.
     pub rt: &'a R,
     /// The units by their indices in the inventory.
     pub units: &'a [Mutex<CountedUnit<C>>],
@@ -57,13 +57,13 @@ impl<'a, R: Wait, C: Ledger, W: Ledger> UnitBays for LockedUnits<'a, R, C, W> {
     }
 }
 
-/// The queues and the memory that threads share, each under a lock of its own, which is held while one phase runs, or two. A
-/// queue's lock has the memory's inside it, and the memory's is also held alone; a unit's is held with neither. So no
-/// thread waits for a lock that waits for one of its own. What a lock held at a moment can't be said; but whenever it is
-/// free, a queue's log is lawful, and the memory has at most 2^28 bytes.
+/// The queues and the memory that threads share, each under a lock of its own, which is held while one phase runs, or
+/// two. A queue's lock has the memory's inside it, and the memory's is also held alone; a unit's is held with neither.
+/// So no thread waits for a lock that waits for one of its own. No clause says what a lock held at a moment. But
+/// whenever it is free, a queue's log is lawful, and the memory has at most 2^28 bytes.
 #[derive(Drop)]
 pub struct LockedQueues<'a, R: Wait> {
-    /// What lets a thread wait.
+    /// The leave to wait, which a thread needs for a lock.
     pub rt: &'a R,
     /// The queues by their numbers.
     pub queues: &'a [Mutex<Queue>],

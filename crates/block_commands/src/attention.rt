@@ -11,8 +11,8 @@ use sense::Sense;
 const REPORT_LUNS: u8 = 0xa0;
 
 /// Returns true if the command takes the oldest pending attention, if there is one: every command but INQUIRY, REPORT
-/// LUNS and a refused CDB of these two or of REQUEST SENSE. Whoever keeps the attentions asks this when the command
-/// ran, and removes the oldest.
+/// LUNS and a refused CDB of these two or of REQUEST SENSE. The unit asks this once the command ran, and removes the
+/// oldest.
 pub fn takes_attention(command: &Command) -> bool
     ensures { result ≡ takes command.now }
 {

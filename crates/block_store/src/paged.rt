@@ -39,7 +39,8 @@ impl PagedStore {
 }
 
 impl PagedStore {
-    /// Copies of the pages that the range covers in part, at most two, to prepare a write of it away from the store.
+    /// Copies the pages that a range covers in part, at most two, so that a write of the range can be prepared away
+    /// from the store. `NoMemory` where memory was refused.
     pub fn edges(&self, first: u64, count: u32) -> Result<Edges, NoMemory>
         requires range { first + count ≤ ⟦<PagedStore as Store>⟧.size self.now }
         ensures first { IfOk result (λ edges. (edges_draft edges).first ≡ first) }
@@ -57,8 +58,9 @@ impl PagedStore {
     }
 
     /// Puts the new pages over the blocks of their range, where the blocks beside it, in these pages, are as they were
-    /// copied. Answers true with the pages that stood there, or false with the new pages. After false, as after a refusal,
-    /// nothing is changed. The caller frees the pages that come back, once no one waits for the store.
+    /// copied. Answers true with the pages that stood there, or false with the new pages. After false nothing is
+    /// changed; nor is it after `NoMemory`, where memory was refused. The caller frees the pages that come back, once
+    /// no one waits for the store.
     pub fn install(&mut self, prepared: Prepared) -> Result<(bool, Prepared), NoMemory>
         requires range { (prepared_draft prepared).first + (prepared_draft prepared).count ≤ ⟦<PagedStore as Store>⟧.size self.old }
         ensures exactly { IfOk result (λ answer. IsTrue answer.0 ↔

@@ -86,7 +86,7 @@ pub fn form(features: u64) -> Option<Form>
     }
 }
 
-/// Returns whether a driver that agreed to these features is told of capacities that change.
+/// Returns true if a driver that agreed to these features is told of capacities that change.
 pub fn tells_changes(features: u64) -> bool
     ensures { result ≡ has_bit features 2 }
 {
@@ -101,9 +101,9 @@ fn lies_within(number: u64, least: u64, most: u64) -> bool
 }
 
 impl Config {
-    /// Returns why the device doesn't take it; `None` exactly where it does. Whoever sets a device up asks it to say
-    /// what `World::new` answers `BadConfig` for. Pages are looked at first, then features, queues, workers, the
-    /// hand-off and units.
+    /// Returns why the device doesn't take it; `None` exactly where it does. Asked before a device is made, to say why
+    /// `World::new` would answer `BadConfig`. Pages are looked at first, then features, queues, workers, the hand-off
+    /// and units.
     pub fn fault(&self) -> Option<ConfigFault>
         ensures none { is_none result ≡ is_config self.now }
         ensures cause { IfSome result (λ fault. IsFault self.now fault) }

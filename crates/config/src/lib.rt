@@ -1,4 +1,4 @@
-//! Which device is wanted: what whoever sets one up says of it, and why it isn't taken.
+//! Says which device is wanted, and why a configuration isn't taken.
 #![tactic(auto)]
 
 mod config;

@@ -1,5 +1,5 @@
-//! What is decided of a request when it is fetched: an answer that needs no unit, or the unit that the
-//! decoded request goes to; and the bytes of answers.
+//! Decides of a request when it is fetched: it gets an answer that needs no unit, or goes to a unit, decoded. Makes the
+//! bytes of answers.
 #![tactic(auto)]
 
 mod answer;

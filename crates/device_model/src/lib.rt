@@ -1,6 +1,6 @@
-//! The device as a plain value: what may happen in it, one atomic step at a time, what holds whatever their order, and in
-//! which order a device that is served takes them. Definitions and laws alone; they hold of every program whose calls
-//! are such steps.
+//! Defines the device as a plain value: what may happen in it, one atomic step at a time, and in which order a device
+//! that is served takes these steps. States the laws of it, in whatever order they come. It has no code: the laws hold
+//! of every program whose calls are such steps.
 #![tactic(auto)]
 
 mod event;

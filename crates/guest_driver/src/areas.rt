@@ -13,8 +13,8 @@ const DRIVER_OFFSET: u64 = 4096;
 /// The bytes from the descriptors of a queue to its device area.
 const DEVICE_OFFSET: u64 = 8192;
 
-/// Returns where the guest puts a queue of this number and size, in bytes from the start of guest memory. Whoever sets
-/// the device up gives it this layout, and the driver keeps to it.
+/// Returns where the guest puts a queue of this number and size, in bytes from the start of guest memory. The device is
+/// opened with this layout, and the driver keeps to it.
 pub fn layout_of(queue: u16, size: u16) -> Layout
     ensures size { result.size ≡ size }
     ensures desc { result.desc ≡ queue * 16384 }

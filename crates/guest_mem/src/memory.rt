@@ -46,8 +46,8 @@ impl Model for GuestMem {
 }
 
 impl GuestMem {
-    /// Makes a memory of zeros for `pages` pages of 4,096 bytes, from 1 to 65,536. Whoever sets the guest up calls it
-    /// once. The one refusal is `NoMemory`.
+    /// Makes a memory of zeros for `pages` pages of 4,096 bytes, from 1 to 65,536. Called once, where a device is
+    /// opened. The one refusal is `NoMemory`.
     pub fn new(alloc: Global, pages: u32) -> Result<GuestMem, MemFault>
         requires { pages ≤ 65536 }
         ensures zeros { IfOk result (λ m. m ≡ replicate (pages * 4096) 0) }
@@ -81,7 +81,7 @@ impl GuestMem {
         Ok(self.range(addr, len))
     }
 
-    /// Returns the `len` bytes from `addr` on, where they stand: for whoever knows that they lie inside.
+    /// Returns the `len` bytes from `addr` on, where they stand. The caller knows that they lie inside.
     #[inline(always)]
     pub fn range(&self, addr: u64, len: usize) -> &[u8]
         requires inside { LiesIn (length self.now) addr len }
@@ -126,7 +126,7 @@ impl GuestMem {
         Ok(())
     }
 
-    /// Puts `bytes` at `addr`, and changes nothing else: for whoever knows that they lie inside. It takes no memory.
+    /// Puts `bytes` at `addr`, and changes nothing else. The caller knows that they lie inside. It takes no memory.
     #[inline(always)]
     pub fn put(&mut self, addr: u64, bytes: &[u8])
         requires inside { LiesIn (length self.old) addr (length bytes.now) }

@@ -12,11 +12,11 @@ use std::collections::BTreeSet;
 use std::io::Read;
 use unit_history::is_capacity;
 
-/// Says what is wrong with a script: its first fault, with the line and, where one is at fault, the word. The script is read
-/// whole, and no device stands beside it. So it isn't said where a queue is full, guest memory has no room, or steps run
-/// out: that shows only as a script is played. A script is read as one for `serve` where `wait`, `close` or `abandon` stands
-/// before each step of the device and each line that prints, else as one for `play`. Whoever wrote a script calls it before it
-/// is played.
+/// Says what is wrong with a script: its first fault, with the line and, where one is at fault, the word. The script is
+/// read whole, and no device stands beside it. So it isn't said where a queue is full, guest memory has no room, or
+/// steps run out: that shows only as a script is played. A script is read as one for `serve` where `wait`, `close` or
+/// `abandon` stands before each step of the device and each line that prints, else as one for `play`. A program calls
+/// it before a script is played.
 ///
 /// A reader that fails is a fault of line 0. Where memory runs out it ends with `NoMemory`.
 pub fn check<S: Read>(alloc: Global, script: &mut S) -> Result<(), ScriptFault> {

@@ -28,14 +28,13 @@ pub struct Options {
     pub trace: bool,
 }
 
-/// Plays a script: reads it whole, then runs its lines one after the other, and writes what its
-/// printing lines ask for. A program calls it once for a script, and flushes the writer afterwards.
+/// Plays a script: reads it whole, then runs its lines one after the other, and writes what its printing lines ask for.
+/// A program calls it once for a script, and flushes the writer afterwards.
 ///
-/// A line at fault ends the script; what was printed before it stands. A reader that fails is a
-/// fault of line 0, with nothing printed. A writer that fails ends the script at once, and isn't
-/// called again. Where memory runs out the script ends with `NoMemory`. Where the device would take more steps than the
-/// options allow, the line of the step that is one too many is at fault: `TooManySteps`. Then whoever plays a script of a
-/// guest that feeds itself has an end of it.
+/// A line at fault ends the script; what was printed before it stands. A reader that fails is a fault of line 0, with
+/// nothing printed. A writer that fails ends the script at once, and isn't called again. Where memory runs out the
+/// script ends with `NoMemory`. Where the device would take more steps than the options allow, the line of the step
+/// that is one too many is at fault: `TooManySteps`. So the play of a guest that feeds itself ends.
 pub fn play<S: Read, W: Write>(
     alloc: Global,
     script: &mut S,

@@ -80,8 +80,8 @@ impl Handoff {
     ghost use Rattle.handoff.specs.Seats.{IsSeatOf, IsSameSeat, AreAllSeats, AreNew, putting, taking, BalancesAt, WasEmpty, TakesNearest, AreGathered};
 
     /// Makes an empty hand-off with a queue for each seat, each of which holds at most `capacity` jobs, 1 to 4,096, and
-    /// all its seats, 2 to 9, in order: seat 0 stands first. Who starts the device calls it once; only this call takes
-    /// memory, and `NoMemory` says that some was refused.
+    /// all its seats, 2 to 9, in order: seat 0 stands first. Called once, where a device is opened. Only this call
+    /// takes memory, and `NoMemory` says that some was refused.
     pub fn new(
         alloc: Global,
         capacity: usize,
@@ -114,9 +114,9 @@ impl Handoff {
         Ok((Handoff { lanes, capacity }, all))
     }
 
-    /// Puts a job behind the others in the own queue of a seat of this hand-off. Whoever has the seat calls it, as a
-    /// worker with a job that may run. It may wait for other threads that are in the middle of a call, and takes no
-    /// memory. `Err` gives the job back, and is answered only where that queue was full at a moment of the call.
+    /// Puts a job behind the others in the own queue of a seat of this hand-off. The thread that has the seat calls it,
+    /// as a worker with a job that may run. It may wait for other threads that are in the middle of a call, and takes
+    /// no memory. `Err` gives the job back, and is answered only where that queue was full at a moment of the call.
     pub fn put<R: Wait>(&self, rt: &R, seat: &mut Seat, job: Job) -> Result<(), Job>
         requires { IsSeatOf self.now seat.old }
         ensures seat { IsSameSeat seat.old seat.new }
@@ -166,9 +166,10 @@ impl Handoff {
     }
 
     /// Takes the job that has stood longest in the first queue that isn't empty, by a seat of this hand-off: its own
-    /// comes first, then those of the next seats by rising number, and so round to the beginning. Whoever has the seat
-    /// calls it, as a worker whose hand is free. It may wait for other threads that are in the middle of a call, and
-    /// takes no memory. `None` is answered only where each queue was empty at a moment of the call, not all at one.
+    /// comes first, then those of the next seats by rising number, and so round to the beginning. The thread that has
+    /// the seat calls it, as a worker whose hand is free. It may wait for other threads that are in the middle of a
+    /// call, and takes no memory. `None` is answered only where each queue was empty at a moment of the call, not all
+    /// at one.
     pub fn take<R: Wait>(&self, rt: &R, seat: &mut Seat) -> Option<Job>
         requires { IsSeatOf self.now seat.old }
         ensures seat { IsSameSeat seat.old seat.new }

@@ -45,12 +45,12 @@ impl PackedRing {
     ghost use Rattle.std.specs.Prelude.{length, MatchResult};
     ghost use Rattle.packed_ring.specs.Placement.{OpensPacked, IsMisplaced};
 
-    /// Makes a queue with this number at this place, of which nothing was fetched yet. Whoever sets the device up calls
-    /// it once for each queue, with the features that were agreed, of which it looks at VIRTIO_F_INDIRECT_DESC and
-    /// VIRTIO_F_EVENT_IDX (bits 28 and 29) alone, and with the memory that all later calls get. Refused are, in this
-    /// order, a size that is 0 or above 32,768 (`BadSize`), a descriptor ring not aligned to 16 or an event suppression
-    /// area not to 4 (`BadAlignment`), and one of them that doesn't lie in memory (`Outside`). It takes no memory, so
-    /// it is never `NoMemory`.
+    /// Makes a queue with this number at this place, of which nothing was fetched yet. Called once for each queue,
+    /// where a device is opened, with the memory that all later calls get. Of the features that were agreed it looks at
+    /// VIRTIO_F_INDIRECT_DESC and VIRTIO_F_EVENT_IDX (bits 28 and 29) alone. Refused are, in this order, a size that is
+    /// 0 or above 32,768 (`BadSize`), a descriptor ring not aligned to 16 or an event suppression area not to 4
+    /// (`BadAlignment`), and one of them that doesn't lie in memory (`Outside`). It takes no memory, so it is never
+    /// `NoMemory`.
     pub fn new(
         alloc: Global,
         queue: u16,

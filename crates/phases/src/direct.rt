@@ -39,9 +39,9 @@ fn answer_chain(
     queue.complete(memory, chain, len)
 }
 
-/// Answers and uses the chain that is ready in the slot. A note of why it got no receipt; `None` where none is ready,
-/// or where the memory isn't the queue's, or the queue doesn't own the chain, which never happens in one device: the
-/// chain is let go then.
+/// Answers and uses the chain that is ready in the slot. Returns a note of why it got no receipt; `None` where none is
+/// ready, or where the memory isn't the queue's, or the queue doesn't own the chain, which never happens in one device:
+/// the chain is let go then.
 pub fn phase_direct(queue: &mut Queue, slot: &mut Slot, memory: &mut GuestMem) -> Option<Note>
     ensures directs { Directs (slot_of slot.old) queue.old memory.old (is_some result) queue.new memory.new
         (slot_of slot.new) }
@@ -64,9 +64,9 @@ pub fn phase_direct(queue: &mut Queue, slot: &mut Slot, memory: &mut GuestMem) -
     }
 }
 
-/// Answers the open function, where every unit was visited and every mark is clear, and uses its chain. Whether it was.
-/// Where the memory isn't the queue's, or the queue doesn't own the chain, which never happens in one device, the
-/// function is let go.
+/// Answers the open function, where every unit was visited and every mark is clear, and uses its chain. Returns true if
+/// it was answered. Where the memory isn't the queue's, or the queue doesn't own the chain, which never happens in one
+/// device, the function is let go.
 pub fn phase_answer_tmf(
     queue: &mut Queue,
     memory: &mut GuestMem,

@@ -34,10 +34,10 @@ pub(crate) fn lengths_of_chain(chain: &Chain) -> ChainLengths
     }
 }
 
-/// Takes the next chain of a request queue, where its slot is empty and the memory is the queue's, and decides of it:
-/// a request that arrived, or a chain that is answered directly, then stands in the slot. A fault of the guest breaks
-/// the queue. Whether something changed; `NoMemory`, with nothing changed, where the fetch was refused memory or the
-/// queue has accepted 2^64 - 1 chains.
+/// Takes the next chain of a request queue, where its slot is empty and the memory is the queue's, and decides of it: a
+/// request that arrived, or a chain that is answered directly, then stands in the slot. A fault of the guest breaks the
+/// queue. Returns true if something changed. `NoMemory`, with nothing changed, where the fetch was refused memory or
+/// the queue has accepted 2^64 - 1 chains.
 pub fn phase_fetch(
     queue: &mut Queue,
     slot: &mut Slot,
@@ -93,7 +93,7 @@ fn decided_control(
 
 /// Takes the next chain of the control queue, where no function is open, its slot is empty and the memory is the
 /// queue's, and decides of it: a function opens, or the chain is answered directly. A fault of the guest breaks the
-/// queue. Whether something changed; `NoMemory` as of a request queue.
+/// queue. Returns true if something changed. `NoMemory` as of a request queue.
 pub fn phase_fetch_control(
     queue: &mut Queue,
     slot: &mut Slot,

@@ -22,10 +22,10 @@ fn mark_tasks(unit: &mut UnitState, mark: MarkBy, out: &mut JobList) -> Result<P
     }
 }
 
-/// Marks the next unit of the open function, which whoever calls has found by `next_unit`, or looks at it; jobs of
-/// tasks that wait there and are marked are appended to the list. Where memory is refused the function fails, and
-/// leaves its other units. Whether something changed: not where no unit is left, or where the list has fewer than 64
-/// free places.
+/// Marks the next unit of the open function, which the caller found by `next_unit`, or looks at it; jobs of tasks that
+/// wait there and are marked are appended to the list. Where memory is refused the function fails, and leaves its other
+/// units. Returns true if something changed: not where no unit is left, or where the list has fewer than 64 free
+/// places.
 pub fn phase_mark(unit: &mut UnitState, function: &mut OpenFunction, out: &mut JobList) -> bool
     ensures { Marks function.old unit.old out.old result unit.new function.new out.new }
 {
@@ -42,9 +42,9 @@ pub fn phase_mark(unit: &mut UnitState, function: &mut OpenFunction, out: &mut J
     true
 }
 
-/// Checks whether the open function's first mark is clear, at that mark's unit, which whoever calls has found by
-/// `waits_for`, and goes on to the next. Whether something changed: not where a unit is left to mark, no mark is waited
-/// for, or a task that the mark met has not left.
+/// Checks whether the open function's first mark is clear, at that mark's unit, which the caller found by `waits_for`,
+/// and goes on to the next. Returns true if something changed: not where a unit is left to mark, no mark is waited for,
+/// or a task that the mark met has not left.
 pub fn phase_check(unit: &UnitState, function: &mut OpenFunction) -> bool
     ensures { Checks function.old unit.now result function.new }
 {

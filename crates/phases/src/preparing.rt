@@ -6,9 +6,9 @@ ghost use Rattle.phases.specs.Parts.{hand_of};
 use crate::hand::Hand;
 use unit_history::{StartedWrite, UnitState};
 
-/// Copies what the pages of the WRITE in the hand need from its unit, which whoever calls has found by the hand; the
-/// unit stays as it is. `None` where no job is in the hand that is to be committed, or its unit gives nothing
-/// for it (`UnitState::start_pages`).
+/// Copies what the pages of the WRITE in the hand need from its unit, which the caller found by the hand; the unit
+/// stays as it is. `None` where no job is in the hand that is to be committed, or its unit gives nothing for it
+/// (`UnitState::start_pages`).
 pub fn phase_start_pages(unit: &mut UnitState, hand: &Hand) -> Option<StartedWrite>
     ensures { unit.new ≡ unit.old }
 {

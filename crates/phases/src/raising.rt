@@ -51,8 +51,8 @@ fn take_buffer(queue: &mut Queue, memory: &mut GuestMem, port: &mut EventPort, c
 }
 
 /// Takes the next chain of the event queue, where its slot is empty, the memory is the queue's and the port may hold
-/// one more: the port holds it, or it is used at once, with no byte where it is shorter than an event, and else,
-/// where an event was missed, with what tells so. A fault of the guest breaks the queue. Whether something changed;
+/// one more: the port holds it, or it is used at once, with no byte where it is shorter than an event, and else, where
+/// an event was missed, with what tells so. A fault of the guest breaks the queue. Returns true if something changed.
 /// `NoMemory` as of a request queue.
 pub fn phase_fetch_event(
     queue: &mut Queue,
@@ -92,8 +92,8 @@ fn may_raise(queue: &Queue, memory: &GuestMem, port: &EventPort) -> bool
     }
 }
 
-/// Gives the oldest event that waits to the oldest buffer, which is used, or misses it where none is held. Whether
-/// something changed: not where no event waits. Where the memory isn't the queue's, or the queue doesn't own the
+/// Gives the oldest event that waits to the oldest buffer, which is used, or misses it where none is held. Returns true
+/// if something changed: not where no event waits. Where the memory isn't the queue's, or the queue doesn't own the
 /// buffer, which never happens in one device, nothing is changed.
 pub fn phase_raise(
     queue: &mut Queue,

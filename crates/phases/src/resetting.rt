@@ -29,8 +29,8 @@ fn reset_event(unit: &UnitState) -> Event
 }
 
 /// Resets a unit for the operator, wherever it stands: jobs of tasks that wait there are appended to the list, and the
-/// event of the reset waits. Whether something changed: not where the list has fewer than 64 free places, or no event
-/// can name the unit's LUN. `NoMemory`, with nothing changed, where the event or the step was refused memory.
+/// event of the reset waits. Returns true if something changed: not where the list has fewer than 64 free places, or no
+/// event can name the unit's LUN. `NoMemory`, with nothing changed, where the event or the step was refused memory.
 pub fn phase_hard(
     unit: &mut UnitState,
     out: &mut JobList,

@@ -26,8 +26,8 @@ fn change_event(unit: &UnitState) -> Event
     }
 }
 
-/// Gives a unit another capacity, wherever its tasks stand; the event of that waits where the driver is `told`. Answers
-/// whether something changed: not where no event can name the unit's LUN. `BadCapacity` where no unit may have so many
+/// Gives a unit another capacity, wherever its tasks stand; the event of that waits where the driver is `told`. Returns
+/// true if something changed: not where no event can name the unit's LUN. `BadCapacity` where no unit may have so many
 /// blocks, `NoMemory` where the event or the step was refused memory; nothing changed then.
 pub fn phase_resize(
     unit: &mut UnitState,

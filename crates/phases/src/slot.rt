@@ -3,7 +3,7 @@
 use crate::direct_chain::DirectChain;
 use task_set::Arrival;
 
-/// What a queue has between two steps. Whoever fetches from the queue keeps it.
+/// What a queue has between two steps. The thread that fetches from the queue keeps it.
 #[derive(Drop)]
 pub enum Slot {
     /// Nothing.

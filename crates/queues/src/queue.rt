@@ -186,7 +186,10 @@ impl Queue {
         self.broken || self.ring.is_idle(memory)
     }
 
-    /// Looks for the next chain.
+    /// Fetches the next chain, with its first readable bytes. `Fetch::Broke` where a fault of the guest broke the queue
+    /// now, `Fetch::Idle` where nothing is available or the queue was broken before. `NoMemory`, with nothing changed,
+    /// where memory was refused or the queue has accepted 2^64 - 1 chains. Called with a memory of the size that the
+    /// queue was made with.
     #[inline(always)]
     pub fn fetch(&mut self, memory: &GuestMem) -> Result<Fetch, NoMemory>
         requires { length memory.now ≡ self.old.ring.memory }
@@ -206,7 +209,8 @@ impl Queue {
         }
     }
 
-    /// Completes a chain, and counts the notice where the driver wants one.
+    /// Completes a chain into which `len` bytes were written, and counts the notice where the driver wants one. Called
+    /// once for each chain of this queue, after its bytes are written. It takes no memory.
     #[inline(always)]
     pub fn complete(&mut self, memory: &mut GuestMem, chain: Chain, len: u32) -> Answered
         requires fits { length memory.old ≡ self.old.ring.memory }

@@ -105,7 +105,8 @@ fn write_response(
     }
 }
 
-/// Writes response OK with a reply.
+/// Writes response OK with a reply (VIRTIO 1.2 §5.6.6.1) over the writable parts of a chain of these lengths, which
+/// have room for both. Returns how many bytes it wrote. Called before the chain is completed. It takes no memory.
 pub fn write_reply(
     memory: &mut GuestMem,
     chain: &Chain,
@@ -127,7 +128,8 @@ pub fn write_reply(
     write_response(memory, chain, &head, reply.payload.as_slice())
 }
 
-/// Writes an answer that needs no unit.
+/// Writes an answer that needs no unit over the writable parts of a chain, which have room for it. Returns how many
+/// bytes it wrote. Called before the chain is completed. It takes no memory.
 pub fn write_direct(memory: &mut GuestMem, chain: &Chain, answer: &DirectAnswer) -> u32
     requires fits { length memory.old ≡ chain.now.memory }
     requires room { length answer.now ≤ writable_total chain.now.parts }

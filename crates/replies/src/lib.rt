@@ -1,5 +1,5 @@
-//! What a SCSI command is answered (SPC-4, SAM-5, SBC-3): status, sense and data of each command of the profile, what
-//! each leaves in the blocks, and the whole answer of a LUN that a target lacks.
+//! Defines what a SCSI command is answered (SPC-4, SAM-5, SBC-3): status, sense and data of each command of the
+//! profile, and what each leaves in the blocks. Answers commands for a LUN that a target lacks.
 #![tactic(auto)]
 
 mod absent;

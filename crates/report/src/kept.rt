@@ -90,7 +90,7 @@ pub(crate) fn reply_out(
 }
 
 impl Kept {
-    /// Makes one that keeps nothing yet. Who makes a seat's work calls it once for each.
+    /// Makes one that keeps nothing yet. Called once for each seat.
     pub fn new(alloc: Global) -> Kept
         ensures { (receipts_in result ≡ []) × (result.notes.items ≡ []) }
     {

@@ -67,10 +67,10 @@ fn fill_part(memory: &mut GuestMem, part: &Part, skip: u64, bytes: &[u8]) -> usi
     here
 }
 
-/// Writes `bytes` over the chain's writable parts in order, from their byte `at` on, and answers
-/// how many bytes that were: all of them. Where parts overlap the later write wins. It takes no
-/// memory. Whoever answers a chain calls it before `Ring::complete`, with a memory of the size
-/// that the chain's had, and with `at` and the bytes within the writable parts and below 2^32.
+/// Writes `bytes` over the chain's writable parts in order, from their byte `at` on, and answers how many bytes that
+/// were: all of them. Where parts overlap the later write wins. It takes no memory. Called before `Ring::complete`,
+/// with a memory of the size that the chain's had, and with `at` and the bytes within the writable parts and below
+/// 2^32.
 pub fn scatter(memory: &mut GuestMem, chain: &Chain, at: u32, bytes: &[u8]) -> u32
     requires fits { length memory.old ≡ chain.now.memory }
     requires room { at + length bytes.now ≤ writable_total chain.now.parts }

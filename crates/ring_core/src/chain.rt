@@ -10,7 +10,7 @@ use std::mem;
 /// How many parts a chain has room for without a further allocation.
 const FEW_PARTS: usize = 8;
 
-/// Of how many bytes room is kept from one chain for the next, at most.
+/// The largest room kept from one chain for the next, in bytes.
 const FEW_BYTES: usize = 4096;
 
 /// A chain where it stands in memory. A chain that moves is a pointer to it.
@@ -185,8 +185,8 @@ impl Chain {
         Chain { body }
     }
 
-    /// Keeps these bytes' room for a later chain of its queue, where it isn't much. Whoever has read its first bytes
-    /// and needs them no more gives them back so.
+    /// Keeps these bytes' room for a later chain of its queue, where it isn't much. A phase that has read a chain's
+    /// first bytes, and needs them no more, gives them back so.
     pub fn keep_room(&mut self, bytes: Vec<u8>)
         ensures { self.new ≡ self.old }
     {

@@ -59,7 +59,8 @@ pub enum FunctionResponse {
     IncorrectLun = 12,
 }
 
-/// Reads the readable bytes of a chain of the control queue (VIRTIO 1.2 §5.6.6.2).
+/// Reads what the readable bytes of a chain of the control queue ask for (VIRTIO 1.2 §5.6.6.2). Whatever stands there
+/// is one of these: bytes that are too few for their type, or of another type, are malformed.
 pub fn read_control(bytes: &[u8]) -> Control
     ensures { IsControl bytes.now result }
 {

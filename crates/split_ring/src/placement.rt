@@ -15,8 +15,8 @@ fn lies_in(memory: u64, addr: u64, len: u64) -> bool
     addr <= memory && len <= memory - addr
 }
 
-/// Returns the first thing wrong with a layout, in a memory of so many bytes: what `new` refuses it for, for whoever
-/// wants to know before there is a memory. It is never `NoMemory`.
+/// Returns the first thing wrong with a layout, in a memory of so many bytes: what `new` refuses it for. Asked before
+/// there is a memory. It is never `NoMemory`.
 pub fn check_layout(layout: &Layout, memory: u64) -> Result<(), LayoutFault>
     ensures { MatchResult result
         (λ _. placement_fault memory layout.now ≡ None)

@@ -42,7 +42,7 @@ impl ControlAnswer {
         }
     }
 
-    /// Makes the response of a function. Whoever answers one that is finished calls it.
+    /// Makes the response of a function. Called where one that is finished is answered.
     pub fn of_function(response: FunctionResponse) -> ControlAnswer
         ensures { result ≡ function_bytes response }
     {
@@ -130,8 +130,8 @@ fn decide(inventory: &Inventory, control: &Control, writable: u64) -> ControlDec
 }
 
 /// Returns what is decided of a chain of the control queue, by its readable bytes, how many can be written, and the
-/// inventory of units: an answer, or a function that begins. Whoever fetched the chain calls it once, while no function
-/// is open. It takes no memory.
+/// inventory of units: an answer, or a function that begins. Called once for each chain that was fetched, while no
+/// function is open. It takes no memory.
 pub fn decide_control(inventory: &Inventory, bytes: &[u8], writable: u64) -> ControlDecision
     ensures decision { Decides inventory.now bytes.now writable result }
     ensures suits { Suits (length inventory.now) writable result }

@@ -37,8 +37,8 @@ fn places_of(units: &[Address], target: u8) -> ArrayVec<usize, MOST_UNITS>
     places
 }
 
-/// Begins a function on units of the inventory. Whoever fetched the
-/// request calls it, by [`decide_control`](crate::decide_control), while no other function is open.
+/// Begins a function on units of the inventory. Called by [`decide_control`](crate::decide_control) for a request that
+/// was fetched, while no other function is open.
 ///
 /// The first that holds is the refusal: [`FunctionResponse::Rejected`] for a subtype that isn't offered,
 /// [`FunctionResponse::BadTarget`] where the bytes name no unit or the target isn't there, and

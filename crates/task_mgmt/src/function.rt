@@ -63,7 +63,7 @@ impl Function {
         }
     }
 
-    /// Returns what it does on each of its units. Whoever visits the next one asks this first.
+    /// Returns what it does on each of its units. Asked before the next one is visited.
     pub fn kind(&self) -> Kind
         ensures kind { result ≡ self.now.kind }
         ensures known { IsKnownKind self.now.kind }

@@ -45,7 +45,7 @@ impl Model for TaskSet {
 }
 
 impl TaskSet {
-    /// Makes a set in which no task is alive. Whoever opens a unit calls it once.
+    /// Makes a set in which no task is alive. Called once, where a unit is made.
     pub fn new() -> TaskSet
         ensures { result ≡ [] }
     {
@@ -81,8 +81,8 @@ impl TaskSet {
         Some(&tasks[place])
     }
 
-    /// Shares the request of the task of a ticket. Whoever prepares the pages of its write calls it, in the hold of the
-    /// unit's lock. `None` where it isn't alive, or memory was refused.
+    /// Shares the request of the task of a ticket. Called in the hold of the unit's lock, by a thread that is to
+    /// prepare the pages of its write. `None` where it isn't alive, or memory was refused.
     pub fn share(&mut self, ticket: Ticket, alloc: Global) -> Option<SharedRequest>
         ensures same { self.new ≡ self.old }
         ensures shared { IfSome result (λ r. IfSome (task_at ticket self.old) (λ t. t.seen.entry ≡ entry_of t.seen.entry.ticket r)) }
@@ -104,7 +104,7 @@ impl TaskSet {
     }
 
     /// Enters a task at this place of its unit's history (SAM-5 §8.6). Its job is given back where nothing blocks it,
-    /// and else parked. Whoever brings a request to its unit calls it, under a ticket of which no task is alive. `Full`
+    /// and else parked. Called for a request that came to its unit, under a ticket of which no task is alive. `Full`
     /// exactly where 64 are alive, whatever its attribute; nothing changes then.
     pub fn enter(&mut self, arrival: Arrival, place: u64) -> Result<Option<Job>, Full>
         requires fresh { task_of arrival.entry.ticket (entries_of self.old) ≡ None }
@@ -134,9 +134,9 @@ impl TaskSet {
         finish_all(self.tasks.as_mut_slice(), ticket);
     }
 
-    /// Marks each task that the rule meets and that is neither done nor marked: it ends for this reason, without
-    /// having run (SAM-5 §7.2, §7.3, §7.5 to §7.7). The jobs of those that were parked go to `out` by order of
-    /// entry, to be answered. Whoever serves an abort or a reset calls it.
+    /// Marks each task that the rule meets and that is neither done nor marked: it ends for this reason, without having
+    /// run (SAM-5 §7.2, §7.3, §7.5 to §7.7). The jobs of those that were parked go to `out` by order of entry, to be
+    /// answered. Called for each abort and reset of the unit.
     pub fn mark(&mut self, rule: Rule, reason: Reason, out: &mut JobList)
         requires { length out.old.jobs + length self.old ≤ out.old.limit }
         ensures tasks { self.new ≡ map (moved (with_mark rule reason)) self.old }
@@ -173,8 +173,8 @@ impl TaskSet {
         has_met(self.tasks.as_slice(), rule)
     }
 
-    /// Returns true if the rule meets a task that entered before this place of the unit's history. Whoever serves an
-    /// abort asks it until those that it marked have left.
+    /// Returns true if the rule meets a task that entered before this place of the unit's history. Asked after an abort
+    /// or a reset, until the tasks that it met have left.
     pub fn is_met_before(&self, place: u64, rule: Rule) -> bool
         ensures { result ≡ any_before place rule (seen_of self.now) }
     {

@@ -54,7 +54,7 @@ impl SharedRequest {
         self.request.as_ref()
     }
 
-    /// Returns the command. Whoever prepares pages calls it.
+    /// Returns the command. Asked where pages are prepared.
     pub fn command(&self) -> Command
         ensures { result ≡ self.now.command }
     {

@@ -11,7 +11,7 @@ use replies::Reply;
 use ring_core::Answered;
 use task_set::Arrival;
 
-/// Whoever answers a request by what came of its command, and uses its chain.
+/// Answers a request by what came of its command, and uses its chain.
 pub trait Answering {
     /// The request may be answered.
     ghost may_answer: { Self → PlainJob → Type 0 };

@@ -290,8 +290,8 @@ impl Folding {
         self.len += 1;
     }
 
-    /// Folds one more step. It takes memory for an Abort, a Reset and a Commit that is kept: `AllocError` where that was refused, with nothing
-    /// changed.
+    /// Folds one more step. It takes memory for an Abort, a Reset and a Commit that is kept: `AllocError` where that
+    /// was refused, with nothing changed.
     #[inline(always)]
     pub(crate) fn fold(&mut self, kind: StepKind) -> Result<(), AllocError>
         requires { length self.old.kinds + 1 < 2 ^ 64 }

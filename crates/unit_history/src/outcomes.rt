@@ -17,7 +17,7 @@ use unit_model::Reason;
 /// What became of a request that came to its unit.
 #[derive(Drop)]
 pub enum Entered {
-    /// Its task entered and may run: whoever gets the job commits it.
+    /// Its task entered and may run: the thread that gets the job commits it.
     Run(Job),
     /// Its task entered and waits: a later call hands its job out.
     Parked,
@@ -150,7 +150,7 @@ impl Receipt {
     }
 }
 
-/// A receipt without its reply, in 24 bytes. Whoever keeps many receipts keeps them so, and their latest replies apart.
+/// A receipt without its reply, in 24 bytes. A host keeps receipts so, and their latest replies apart.
 #[derive(Drop)]
 pub struct BareReceipt {
     place: u64,

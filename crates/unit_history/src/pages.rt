@@ -34,7 +34,7 @@ impl StartedWrite {
         StartedWrite { edges, request }
     }
 
-    /// Makes the new pages. Whoever has the job calls it, with no lock held. `None` where memory was refused.
+    /// Makes the new pages. The thread that has the job calls it, with no lock held. `None` where memory was refused.
     pub fn prepare(self) -> Option<PreparedWrite> {
         let StartedWrite { edges, request } = self;
         match edges.prepare(request.data()) {

@@ -41,7 +41,7 @@ pub type Place = u64;
 /// The most blocks of a unit.
 const MOST_BLOCKS: u64 = 1 << 40;
 
-/// Of how many bytes room is kept from one command for the next, at most.
+/// The largest reply buffer kept from one command for the next, in bytes.
 const MOST_ROOM: usize = 4096;
 
 /// A logical unit: its history, which proofs alone see whole, and what follows from it.
@@ -85,7 +85,7 @@ pub(crate) fn recorded_entry(arrival: &Arrival) -> RecordedEntry
     RecordedEntry::new(arrival.ticket(), arrival.request())
 }
 
-/// Returns whether a unit may have so many blocks: 1 to 2^40.
+/// Returns true if a unit may have so many blocks: 1 to 2^40.
 pub fn is_capacity(blocks: u64) -> bool
     ensures { result ≡ may_have blocks }
 {
@@ -183,9 +183,9 @@ impl UnitState {
     ghost use Rattle.unit_history.specs.Calls.{Enters, Commits, ResizeRefused, CannotLeave};
 
     /// Makes a unit as it is specified, with the LUNs of its target by rising number, of which no step was taken.
-    /// Whoever sets the device up calls it, and says whether the replies of its Commits are kept, for receipts to be
-    /// compared with: those of its latest [`LATEST_KEPT`] steps that have at most [`LONGEST_KEPT`] bytes of data.
-    /// `NoMemory` where its blocks or the LUNs were refused memory.
+    /// Called once for each unit, where a device is opened; `keeps_replies` says whether the replies of its Commits are
+    /// kept, for receipts to be compared with: those of its latest [`LATEST_KEPT`] steps that have at most
+    /// [`LONGEST_KEPT`] bytes of data. `NoMemory` where its blocks or the LUNs were refused memory.
     pub fn new(
         alloc: Global,
         spec: &UnitSpec,
@@ -224,8 +224,8 @@ impl UnitState {
         })
     }
 
-    /// Gives a unit of which no step was taken the blocks of a store in place of its zeros, and as many as the store has.
-    /// Takes no memory. Who keeps a disk beyond its device calls it, with what [`UnitState::into_store`] gave.
+    /// Gives a unit of which no step was taken the blocks of a store in place of its zeros, and as many as the store
+    /// has. Takes no memory. Called for a disk that outlives its device, with what [`UnitState::into_store`] gave.
     pub fn hand_in(&mut self, mut store: PagedStore)
         requires { self.old.steps ≡ [] }
         ensures { self.new ≡ record self.old { opening = opening_over store self.old.opening } }
@@ -245,15 +245,16 @@ impl UnitState {
         self.store
     }
 
-    /// Returns what every unit is between calls.
+    /// Shows what every unit is between calls: its history is lawful, and its parts are what follows from it.
     pub fn stands(&self)
         ensures { IsUnit self.now }
     {
         let _ = &self.alloc;
     }
 
-    /// Takes a request in, in the hold of the unit's lock. Tested first to last: `Stale`; `Busy`, where room for its
-    /// steps was refused; `Full`. After the first two nothing is changed.
+    /// Enters the task of a request that was fetched, in one hold of the unit's lock (SAM-5 §8.6). Refusals are tested
+    /// first to last: `Stale`, where its ticket isn't above the last of its queue; `Busy`, where room for its steps was
+    /// refused; `Full`, where 64 tasks are alive. After the first two nothing is changed.
     pub fn enter(&mut self, arrival: Arrival) -> Entered
         ensures { Enters self.old arrival result self.new }
     {
@@ -294,9 +295,9 @@ impl UnitState {
     }
 
     /// Copies what the pages of a job's WRITE need, in one hold of the unit's lock: the pages that its range covers in
-    /// part. Whoever has the job calls it before it commits that, makes the pages with no lock held, and gives them to
-    /// [`UnitState::commit_with`]. `None` where the job's task couldn't run now, its command isn't a WRITE of blocks below
-    /// the capacity, or memory was refused: then it is committed without pages.
+    /// part. The thread that has the job calls it before it commits that, makes the pages with no lock held, and gives
+    /// them to [`UnitState::commit_with`]. `None` where the job's task couldn't run now, its command isn't a WRITE of
+    /// blocks below the capacity, or memory was refused: then it is committed without pages.
     pub fn start_pages(&mut self, job: &Job) -> Option<StartedWrite>
         ensures { self.new ≡ self.old }
     {
@@ -320,10 +321,10 @@ impl UnitState {
         }
     }
 
-    /// Runs the command of a job's task as [`UnitState::commit`] does, with the pages of its WRITE, if they were made. They
-    /// are put in place where they are of this very command and its data and nothing beside its range has changed in
-    /// them since; else the command writes its blocks as ever. The pages that aren't used any more come to stand in
-    /// `spare`: whoever holds the unit's lock frees them behind it.
+    /// Runs the command of a job's task as [`UnitState::commit`] does, with the pages of its WRITE, if they were made.
+    /// They are put in place where they are of this very command and its data and nothing beside its range has changed
+    /// in them since; else the command writes its blocks as ever. The pages that aren't used any more come to stand in
+    /// `spare`, to be freed behind the hold of the unit's lock.
     pub fn commit_with(
         &mut self,
         job: &Job,
@@ -368,8 +369,8 @@ impl UnitState {
         }
     }
 
-    /// Keeps the room of a reply's data for a later command of the unit, where it isn't much. Whoever has answered by
-    /// what came of a commit, and needs it no more, gives it back so.
+    /// Keeps the room of a reply's data for a later command of the unit, where it isn't much. A phase that has answered
+    /// by what came of a commit, and needs it no more, gives it back so.
     pub fn keep_room(&mut self, outcome: Outcome)
         ensures { self.new ≡ self.old }
     {
@@ -405,8 +406,9 @@ impl UnitState {
         Ok(place)
     }
 
-    /// Resets the unit: marks as `abort` does of all tasks, with the reason of a reset, and raises the code, which is
-    /// one of the constants of [`Code`].
+    /// Resets the unit: marks all tasks as `abort` does, with the reason of a reset, and raises the code, which is one
+    /// of the constants of [`Code`]. Answers the place of the Reset. The list has 64 places free, which the caller sees
+    /// to. After `NoMemory` all is as before.
     pub fn reset(&mut self, code: Code, out: &mut JobList) -> Result<Place, NoMemory>
         requires known { IsKnown code }
         requires room { length out.old.jobs + 64 ≤ out.old.limit }
@@ -609,8 +611,8 @@ impl UnitState {
         mem::replace(&mut self.changes, Changes::since_place(self.log.len()))
     }
 
-    /// Appends the bytes of `count` blocks from `first` on, as its commands left them; `NoMemory`
-    /// with the list as it was where that can't grow.
+    /// Appends the bytes of `count` blocks from `first` on, 512 of each, as its commands left them. All of them lie
+    /// below the capacity. `NoMemory`, with the list as it was, where that can't grow.
     pub fn read_blocks(&self, first: u64, count: u32, into: &mut Vec<u8>) -> Result<(), NoMemory>
         requires { first + count ≤ capacity_of self.now.opening self.now.steps }
         ensures ok { OnOk result (into.new.items ≡ into.old.items ++ run (blocks_of self.now.opening self.now.steps) first count) }

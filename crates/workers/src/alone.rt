@@ -1,4 +1,4 @@
-//! What threads shared, once they have ended.
+//! Takes back what threads shared, once they have ended.
 
 ghost use Rattle.std.specs.Prelude.{◌≡◌};
 ghost use Rattle.std.specs.Arc.{arc_value};
@@ -6,8 +6,8 @@ ghost use Rattle.std.specs.Arc.{arc_value};
 use std::sync::{Arc, Wait};
 use std::thread;
 
-/// Returns the value, once nobody else shares it. Who joined all threads that shared it calls it: then its last user is
-/// at its end. It waits until then.
+/// Returns the value, once nobody else shares it. Called once all threads that shared it were joined: the last of them
+/// is then about to let go of it, and this waits for that.
 pub fn unshared<R: Wait, T>(rt: &R, shared: Arc<T>) -> T
     ensures { result ≡ arc_value shared }
 {

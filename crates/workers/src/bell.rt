@@ -1,11 +1,11 @@
-//! What wakes workers that found nothing to do.
+//! A bell that wakes workers which found nothing to do.
 
 use std::sync::atomic::{AtomicU64, Ordering};
 use std::sync::{Condvar, Mutex, Wait};
 
-/// Wakes the workers that sleep. Whoever makes something to do rings it once that is there. A worker that is to sleep
-/// announces it, looks once more at all that it serves, and only then sleeps: what was made before the announcement it
-/// sees, and what is made behind it rings.
+/// Wakes the workers that sleep. A thread that makes something to do rings it once that is there. A worker that is to
+/// sleep announces it, looks once more at all that it serves, and only then sleeps. So it sees what was made before it
+/// announced, and what is made later rings.
 #[derive(Drop)]
 pub(crate) struct Bell {
     rings: Mutex<u64>,

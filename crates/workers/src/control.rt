@@ -22,7 +22,7 @@ const CONTROL: usize = CONTROL_QUEUE as usize;
 /// Where the event queue stands among the queues.
 const EVENTS: usize = EVENT_QUEUE as usize;
 
-/// The open function takes its next step; `None` where nothing is left for it to do but to be answered.
+/// Takes the next step of the open function; `None` where nothing is left for it to do but to be answered.
 fn go_on<R: Wait, G: Gate + Drop, C: Ledger, W: Ledger>(
     rt: &R,
     shared: &Shared<G, C, W>,
@@ -52,7 +52,7 @@ fn go_on<R: Wait, G: Gate + Drop, C: Ledger, W: Ledger>(
     Some(Progress::of(did))
 }
 
-/// The open function is answered, where nothing is left for it to do.
+/// Answers the open function, where nothing is left for it to do.
 fn answer<R: Wait, G: Gate + Drop, C: Ledger, W: Ledger>(
     rt: &R,
     shared: &Shared<G, C, W>,
@@ -64,7 +64,7 @@ fn answer<R: Wait, G: Gate + Drop, C: Ledger, W: Ledger>(
     Progress::of(answer_tmf_on(&mut shared.queues(rt), CONTROL, function))
 }
 
-/// The control queue's next chain is taken, and opens a function or is answered.
+/// Takes the control queue's next chain, which opens a function or is answered.
 fn fetch_control<R: Wait, G: Gate + Drop, C: Ledger, W: Ledger>(
     rt: &R,
     shared: &Shared<G, C, W>,
@@ -83,7 +83,7 @@ fn fetch_control<R: Wait, G: Gate + Drop, C: Ledger, W: Ledger>(
     Progress::of(fetched != Ok(false))
 }
 
-/// A step of the function that is open, or else of the control queue.
+/// Takes a step of the function that is open, or else of the control queue.
 pub(crate) fn manage<R: Wait, G: Gate + Drop, C: Ledger, W: Ledger>(
     rt: &R,
     shared: &Shared<G, C, W>,
@@ -103,7 +103,7 @@ pub(crate) fn manage<R: Wait, G: Gate + Drop, C: Ledger, W: Ledger>(
     }
 }
 
-/// The event queue's next chain is taken.
+/// Takes the event queue's next chain.
 pub(crate) fn fetch_event<R: Wait, G: Gate + Drop, C: Ledger, W: Ledger>(
     rt: &R,
     shared: &Shared<G, C, W>,
@@ -116,7 +116,7 @@ pub(crate) fn fetch_event<R: Wait, G: Gate + Drop, C: Ledger, W: Ledger>(
     Progress::of(fetched != Ok(false))
 }
 
-/// The oldest event that waits goes to the guest, or is missed.
+/// Gives the oldest event that waits to the guest, or misses it.
 pub(crate) fn raise<R: Wait, G: Gate + Drop, C: Ledger, W: Ledger>(
     rt: &R,
     shared: &Shared<G, C, W>,

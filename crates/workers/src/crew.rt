@@ -121,10 +121,10 @@ fn join_all<R: Threads, K: Drop>(
     (seats, kept)
 }
 
-/// Starts a thread for each of all seats of a hand-off but the last, of which it gives what that begins with: the
-/// caller works by it. Each begins with a part, of which there are as many as seats, and room for so many jobs. Who starts what threads share calls it once. An error
-/// where a growth was refused or a thread couldn't be made: those that were made are told to end then, and it waits
-/// for that.
+/// Starts a thread for each seat of a hand-off but the last, and gives what the last begins with: the caller works by
+/// that. Each begins with a part, of which there are as many as seats, and room for `limit` jobs. Called once, for all
+/// seats of the hand-off. An error where a growth was refused or a thread couldn't be made: those that were made are
+/// told to end then, and it waits for that.
 pub fn hire<R, W, P, K, S>(
     rt: R,
     alloc: Global,
@@ -159,9 +159,9 @@ where
 }
 
 impl<K: Drop> Crew<K> {
-    /// Waits for the end of all threads, which were told to end: all seats of the hand-off, in order, of which the
-    /// caller gives the last, and what each kept. Who closes what they share calls it. An error where a growth was
-    /// refused; the threads have ended then too.
+    /// Waits for the end of all threads, which were told to end. Returns all seats of the hand-off, in order, of which
+    /// the caller gives the last, and what each kept. Called once, where what they share is closed. An error where a
+    /// growth was refused; the threads have ended then too.
     pub fn join<R: Threads>(
         self,
         rt: &R,

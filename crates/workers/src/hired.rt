@@ -11,7 +11,7 @@ use std::snapshot::Snapshot;
 use std::sync::{Arc, Wait};
 use std::thread::{self, Promise, PromisedHandle, Threads};
 
-/// What a worker begins with. That it may go to a thread is shown where its type is known.
+/// A worker's beginning: what its thread starts from. `Send` is shown where the type is known.
 pub trait Begins {
     /// Its seat.
     ghost seat: { Self → Rattle.handoff.specs.Seats.PlainSeat };
@@ -20,15 +20,15 @@ pub trait Begins {
     ghost is_even: { Self → Type 0 };
 }
 
-/// What a worker brings back: its seat, and what it kept.
+/// A worker's end: its seat, and what it kept.
 #[derive(Drop)]
 pub struct Worked<K: Drop> {
     pub seat: Seat,
     pub kept: K,
 }
 
-/// What threads work at together, each beginning with a `P`, which is made with an `S`, and keeping a `K`. That they may
-/// share it is shown where its type is known.
+/// Work shared by a pool of threads: each starts from a `P`, which is made with an `S`, and returns a `K`. `Sync` is
+/// shown where the type is known.
 pub trait Works<P: Begins, K: Drop, S: Drop> {
     /// The hand-off at which their seats are.
     ghost hub: { Self → Rattle.handoff.specs.Seats.Hub };

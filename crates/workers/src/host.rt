@@ -77,7 +77,7 @@ impl<G: Gate + Drop, C: Ledger, W: Ledger> Works<Post<W>, Tallied<W>, BlankPart<
     }
 }
 
-/// A value for several threads.
+/// Shares a value among threads. `NoMemory` where memory was refused.
 fn share<T: Drop>(alloc: Global, value: T) -> Result<Arc<T>, NoMemory>
     ensures { IfOk result (λ shared. arc_value shared ≡ value) }
 {
@@ -129,8 +129,8 @@ where
     })
 }
 
-/// A unit is reset, in one hold of its lock. Whether it was: not where memory was refused, or where the list has no room
-/// for the jobs that this releases.
+/// Resets a unit, in one hold of its lock. Returns true if it did: not where memory was refused, or where the list has
+/// no room for the jobs that this releases.
 fn reset_one<R: Wait, G: Gate + Drop, C: Ledger, W: Ledger>(
     rt: &R,
     shared: &Shared<G, C, W>,
@@ -155,8 +155,9 @@ fn reset_one<R: Wait, G: Gate + Drop, C: Ledger, W: Ledger>(
     }
 }
 
-/// A unit is reset by the operator, and the guest is told. What the operator's seat had is served first. A unit that isn't
-/// there changes nothing. `NoMemory` where a growth was refused: the unit wasn't reset then.
+/// Resets a unit for the operator, and tells the guest. Serves first what the operator's seat had. A unit that isn't
+/// there changes nothing. `NoMemory` where a growth was refused: the unit wasn't reset then. It may wait, and run
+/// commands.
 fn reset<R: Wait, G: Gate + Drop, C: Ledger, W: Ledger>(
     rt: &R,
     shared: &Shared<G, C, W>,
@@ -186,7 +187,7 @@ fn reset<R: Wait, G: Gate + Drop, C: Ledger, W: Ledger>(
     Ok(())
 }
 
-/// A unit is given so many blocks, in one hold of its lock. Answers as the phase.
+/// Gives a unit so many blocks, in one hold of its lock. Answers as the phase does.
 fn resize_one<R: Wait, G: Gate + Drop, C: Ledger, W: Ledger>(
     rt: &R,
     shared: &Shared<G, C, W>,
@@ -215,9 +216,9 @@ fn resize_one<R: Wait, G: Gate + Drop, C: Ledger, W: Ledger>(
     }
 }
 
-/// A unit is given so many blocks by the operator, and the guest is told where it asked for that. A unit that isn't there
-/// changes nothing. `BadCapacity` where no unit may have so many blocks, `NoMemory` where a growth was refused: the unit
-/// wasn't resized then.
+/// Gives a unit so many blocks for the operator, and tells the guest where it asked for that. A unit that isn't there
+/// changes nothing. `BadCapacity` where no unit may have so many blocks, `NoMemory` where a growth was refused: the
+/// unit wasn't resized then.
 fn resize<R: Wait, G: Gate + Drop, C: Ledger, W: Ledger>(
     rt: &R,
     shared: &Shared<G, C, W>,
@@ -246,7 +247,7 @@ fn resize<R: Wait, G: Gate + Drop, C: Ledger, W: Ledger>(
     Ok(())
 }
 
-/// What a queue came to: how many chains it accepted and used, how many notices its driver wanted, and which fault of the
+/// A look at a queue: how many chains it accepted and used, how many notices its driver wanted, and which fault of the
 /// guest broke it.
 #[derive(Clone, Copy, Debug, PartialEq, Eq)]
 pub struct Seen {
@@ -313,11 +314,11 @@ impl<G: Gate + Drop, C: Ledger, W: Ledger> Host<G, C, W> {
     ghost use Rattle.workers.specs.Tallying.{Opens, commits_in};
     ghost use Rattle.unit_history.specs.Calls.{ResizeRefused};
 
-    /// Starts `n` workers, 1 to 8, in place of the number that the configuration has. Who embeds the device calls it
-    /// once. `BadConfig` exactly where the device doesn't take such a configuration; else `NoMemory` where a growth
-    /// was refused, or a thread couldn't be made: those that were made are ended. It may wait for these. The blanks are
-    /// those of its two ledgers, with a part for each of at most 64 units, and for each of at most 9 seats: they take no
-    /// bytes, and whoever calls makes them by `Blank::new(64)` and `Blank::new(9)`.
+    /// Starts `n` workers, 1 to 8, in place of the number that the configuration has. The embedder calls it once for
+    /// each host. `BadConfig` exactly where the device doesn't take such a configuration; else `NoMemory` where a
+    /// growth was refused, or a thread couldn't be made: those that were made are ended. It may wait for these. The
+    /// blanks are those of its two ledgers, with a part for each of at most 64 units, and for each of at most 9 seats:
+    /// they take no bytes, and the caller makes them by `Blank::new(64)` and `Blank::new(9)`.
     pub fn start<R: Threads + Wait + Copy + Send + 'static>(
         rt: R,
         alloc: Global,
@@ -349,7 +350,7 @@ impl<G: Gate + Drop, C: Ledger, W: Ledger> Host<G, C, W> {
     }
 
     /// Writes bytes as the guest, beside the workers, in one hold of the memory. `Outside`, with nothing changed,
-    /// exactly where one of them would lie behind the end.
+    /// exactly where one of them would lie behind the end. It may wait.
     pub fn poke<R: Wait>(&self, rt: &R, addr: u64, bytes: &[u8]) -> Result<(), MemFault>
         ensures did { (m : List ℕ) × (n : List ℕ) × IsMemory m × Writes m addr bytes.now result n × IsMemory n }
         ensures fault { IfErr result (λ fault. fault ≡ MemFault.Outside) }
@@ -358,7 +359,7 @@ impl<G: Gate + Drop, C: Ledger, W: Ledger> Host<G, C, W> {
     }
 
     /// Reads bytes as the guest, beside the workers, in one hold of the memory. `Outside`, with nothing read, exactly
-    /// where one of them lies behind the end.
+    /// where one of them lies behind the end. It may wait.
     pub fn peek<R: Wait>(&self, rt: &R, addr: u64, out: &mut [u8]) -> Result<(), MemFault>
         ensures did { (m : List ℕ) × IsMemory m × Reads m addr out.old result out.new }
         ensures fault { IfErr result (λ fault. fault ≡ MemFault.Outside) }
@@ -368,7 +369,8 @@ impl<G: Gate + Drop, C: Ledger, W: Ledger> Host<G, C, W> {
     }
 
     /// Resets the unit at an index of the configuration for the operator, and tells the guest (TRANSPORT_RESET). A unit
-    /// that isn't there changes nothing. `NoMemory` where a growth was refused: the unit wasn't reset then.
+    /// that isn't there changes nothing. `NoMemory` where a growth was refused: the unit wasn't reset then. It may
+    /// wait, and run commands.
     pub fn operator<R: Wait>(&mut self, rt: &R, place: u16) -> Result<(), NoMemory>
         ensures same { self.new ≡ self.old }
         ensures reset { OnOk result (place < length self.old.units → WasReset) }
@@ -404,9 +406,9 @@ impl<G: Gate + Drop, C: Ledger, W: Ledger> Host<G, C, W> {
         )
     }
 
-    /// Wakes the workers that sleep since they found nothing to do. Whoever embeds the device calls it once chains are
-    /// available that nobody was told of: where the driver notifies (VIRTIO 1.2 §2.9). It costs one load where all are
-    /// awake, and may wait.
+    /// Wakes the workers that sleep since they found nothing to do. The embedder calls it once chains are available
+    /// that nobody was told of: where the driver notifies (VIRTIO 1.2 §2.9). It costs one load where all are awake, and
+    /// may wait.
     pub fn kick<R: Wait>(&self, rt: &R) {
         self.shared.bell.ring(rt);
     }
@@ -427,7 +429,7 @@ impl<G: Gate + Drop, C: Ledger, W: Ledger> Host<G, C, W> {
 
     /// Closes the host as [`Host::close`] does, but for chains that the guest made available and no worker had taken:
     /// these stay where they are. So it comes back also where the guest's own requests make chains available for ever.
-    /// What it answers is the same.
+    /// It answers the same.
     pub fn abandon<R: Threads + Wait>(self, rt: &R) -> Result<Report, CloseFault>
         ensures report { IfOk result (λ r. IsReport self.units r.units.items r.queues.items r.receipts.items r.notes.items) }
         ensures units { IfOk result (λ r. vec_len r.units ≡ length self.units) }

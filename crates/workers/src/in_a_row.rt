@@ -17,7 +17,7 @@ use std::sync::Wait;
 use std::sync::ledger::Ledger;
 use std::thread;
 
-/// The ticket of a request that arrived.
+/// Returns the ticket of a request that arrived; `None` where none did.
 fn arrived(slot: &Slot) -> Option<Ticket> {
     match slot {
         Slot::Arrived(arrival) => Some(arrival.ticket()),
@@ -25,7 +25,7 @@ fn arrived(slot: &Slot) -> Option<Ticket> {
     }
 }
 
-/// Whether a job is in a hand: one that is to be committed, or to be answered.
+/// Returns true if a job is in a hand: one that is to be committed, or to be answered.
 fn has_job(hand: &Hand) -> bool
     ensures { OnFalse result (HasNoJob hand.now) }
 {
@@ -35,8 +35,9 @@ fn has_job(hand: &Hand) -> bool
     }
 }
 
-/// Has the task in the hand leave a unit and the request that arrived enter it, in one hold. The only job that may run then
-/// is committed in the same hold, where nobody watches and no other worker waits for a job.
+/// Has the task in the hand leave a unit and the request that arrived enter it, in one hold. Commits the only job that
+/// may run then in the same hold, where no gate watches and no other worker waits for a job. Where a job is in the hand
+/// the request enters alone.
 fn turn_at<R: Wait, G: Gate + Drop, C: Ledger, W: Ledger>(
     rt: &R,
     shared: &Shared<G, C, W>,
@@ -105,7 +106,7 @@ pub(crate) fn turn<R: Wait, G: Gate + Drop, C: Ledger, W: Ledger>(
     }
 }
 
-/// Answers the job in the hand and takes the next chain of its queue, in one hold. What the job leaves is kept.
+/// Answers the job in the hand and takes the next chain of its queue, in one hold. Keeps what the job leaves.
 fn answer_and_fetch<R: Wait, G: Gate + Drop, C: Ledger, W: Ledger>(
     rt: &R,
     shared: &Shared<G, C, W>,
@@ -162,8 +163,8 @@ fn is_of_queue<W: Ledger>(post: &Post<W>, at: usize) -> bool {
     }
 }
 
-/// Returns true if one job is in the hand, and no other may run: it takes the only one that may run into the hand where
-/// that is free and no other worker waits for one.
+/// Returns true if one job is in the hand, and no other may run. Where the hand is free it first takes the only job
+/// that may run, if no other worker waits for one.
 pub(crate) fn has_one_job<G: Gate + Drop, C: Ledger, W: Ledger>(
     shared: &Shared<G, C, W>,
     post: &mut Post<W>,

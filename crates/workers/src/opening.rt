@@ -29,8 +29,8 @@ pub struct Parts<C: Ledger> {
     pub inventory: Inventory,
 }
 
-/// A unit among those of an inventory, which keeps the replies of its Commits for receipts to be compared with, and whose
-/// Commits are counted in this part.
+/// Makes a unit of an inventory, whose Commits are counted in this part. It keeps the replies of its Commits, for
+/// receipts to be compared with.
 fn open_unit<C: Ledger>(
     alloc: Global,
     spec: &UnitSpec,
@@ -44,7 +44,7 @@ fn open_unit<C: Ledger>(
     Ok(Mutex::new(CountedUnit::new(unit, part)))
 }
 
-/// The units that are wanted, each under a lock. The parts of their ledger are split off from a share.
+/// Makes the units that are wanted, each under a lock. The parts of their ledger are split off from a share.
 fn open_units<C: Ledger>(
     alloc: Global,
     wanted: &[UnitSpec],
@@ -93,8 +93,8 @@ fn open_queues(
 }
 
 impl<C: Ledger> Parts<C> {
-    /// Opens the parts of the device of a valid configuration, with a part of a ledger for each unit. Who starts a host
-    /// calls it once. `NoMemory` where a growth was refused.
+    /// Opens the parts of the device of a valid configuration, with a part of a ledger for each unit. Called once,
+    /// where a host is started. `NoMemory` where a growth was refused.
     pub fn open(
         alloc: Global,
         config: &Config,

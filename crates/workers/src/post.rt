@@ -1,4 +1,4 @@
-//! What a seat has, and what it does with a job in its hand.
+//! A seat's post, and what its thread does with a job in its hand.
 
 ghost use Rattle.std.specs.Prelude.{◌≡◌, ◌<◌, IfOk, vec_len};
 ghost use Rattle.handoff.specs.Seats.{IsSeatOf, IsSameSeat};
@@ -23,11 +23,12 @@ use std::sync::ledger::Ledger;
 use std::thread;
 use unit_history::{Job, JobList};
 
-/// The bytes that a chain has room for where its answer may be long: to copy as many takes longer than to take a chain.
+/// An answer may be long from so many writable bytes of its chain on: to copy as many takes longer than to take a
+/// chain.
 const LONG: u64 = 16_384;
 
-/// What a seat has: its place at the hand-off, the jobs that may run, the job in its hand, what it kept of those that it
-/// answered, and the part of the ledger that counts its receipts.
+/// All that a seat has: its place at the hand-off, the jobs that may run, the job in its hand, what it kept of those
+/// that it answered, and the part of the ledger that counts its receipts.
 #[derive(Drop)]
 pub(crate) struct Post<W: Ledger> {
     pub(crate) seat: Seat,
@@ -48,7 +49,7 @@ impl<W: Ledger> Begins for Post<W> {
     ghost is_even = { λ p. Tallies p.lost p.part.share.amount p.kept p.hand };
 }
 
-/// The ticket of what is in a hand.
+/// Returns the ticket of what is in a hand; `None` where nothing is.
 pub(crate) fn ticket_in(hand: &Hand) -> Option<Ticket> {
     match hand {
         Hand::Empty => None,
@@ -57,14 +58,14 @@ pub(crate) fn ticket_in(hand: &Hand) -> Option<Ticket> {
     }
 }
 
-/// The gate is told where the request in the hand has come.
+/// Tells the gate where the request in the hand has come.
 pub(crate) fn pass<G: Gate>(gate: &G, point: Point, hand: &Hand) {
     if let Some(ticket) = ticket_in(hand) {
         gate.pass(point, ticket);
     }
 }
 
-/// Whether what is in a hand may have a long answer.
+/// Returns true if what is in a hand may have a long answer.
 pub(crate) fn is_long(hand: &Hand) -> bool {
     match hand {
         Hand::Job(held) => held.job().lengths().writable >= LONG,
@@ -72,7 +73,7 @@ pub(crate) fn is_long(hand: &Hand) -> bool {
     }
 }
 
-/// Whether the job in a hand is a WRITE.
+/// Returns true if the job in a hand is a WRITE.
 fn is_write(hand: &Hand) -> bool {
     match hand {
         Hand::Job(held) => matches!(held.job().command(), Command::Write { .. }),
@@ -80,7 +81,7 @@ fn is_write(hand: &Hand) -> bool {
     }
 }
 
-/// The pages of the WRITE in the hand are made, where its job is to be committed there and its unit gives what they need.
+/// Makes the pages of the WRITE in the hand, where its job is to be committed there and its unit gives what they need.
 fn prepare<R: Wait, G: Gate + Drop, C: Ledger, W: Ledger>(
     rt: &R,
     shared: &Shared<G, C, W>,
@@ -100,7 +101,7 @@ fn prepare<R: Wait, G: Gate + Drop, C: Ledger, W: Ledger>(
     }
 }
 
-/// The job in the hand is committed, where one is that isn't: a WRITE with its pages, which are made before that.
+/// Commits the job in the hand, where one is there that isn't committed. The pages of a WRITE are made before that.
 pub(crate) fn commit<R: Wait, G: Gate + Drop, C: Ledger, W: Ledger>(
     rt: &R,
     shared: &Shared<G, C, W>,
@@ -127,7 +128,7 @@ pub(crate) fn commit<R: Wait, G: Gate + Drop, C: Ledger, W: Ledger>(
     pass(&shared.gate, Point::Committed, &post.hand);
 }
 
-/// The job in the hand whose commit is over is answered, where one is, and what it leaves is kept.
+/// Answers the job in the hand, where one is there whose commit is over, and keeps what it leaves.
 fn answer<R: Wait, G: Gate + Drop, C: Ledger, W: Ledger>(
     rt: &R,
     shared: &Shared<G, C, W>,
@@ -155,7 +156,8 @@ fn answer<R: Wait, G: Gate + Drop, C: Ledger, W: Ledger>(
     pass(&shared.gate, Point::Answered, &post.hand);
 }
 
-/// The task in the hand leaves, where one is; the jobs that this lets go on are to be handed off.
+/// Has the task in the hand leave, where one is there. The jobs that this lets go on come to the list, to be handed
+/// off.
 pub(crate) fn leave<R: Wait, G: Gate + Drop, C: Ledger, W: Ledger>(
     rt: &R,
     shared: &Shared<G, C, W>,
@@ -181,7 +183,8 @@ pub(crate) fn leave<R: Wait, G: Gate + Drop, C: Ledger, W: Ledger>(
 }
 
 impl<W: Ledger> Post<W> {
-    /// A seat that has nothing yet, whose receipts are counted in this part, and room for so many jobs.
+    /// Makes the post of a seat that has nothing yet, with room for `limit` jobs; its receipts are counted in this
+    /// part.
     pub(crate) fn new(
         alloc: Global,
         seat: Seat,
@@ -203,15 +206,15 @@ impl<W: Ledger> Post<W> {
         })
     }
 
-    /// Whether it has no job, in its hand or to be handed off.
+    /// Returns true if it has no job, in its hand or to be handed off.
     pub(crate) fn is_idle(&self) -> bool
         ensures { OnTrue result (receipts_due self.now.hand ≡ 0) }
     {
         self.hand.is_empty() && self.out.len() == 0
     }
 
-    /// Whether there is room for what the jobs in its list and in its hand leave, and one more request: not where a growth
-    /// was refused.
+    /// Makes room for what the jobs in its list and in its hand leave, and one more request. Returns false where a
+    /// growth was refused.
     pub(crate) fn make_room(&mut self) -> bool
         requires tally { Tallies self.old.lost self.old.part.share.amount self.old.kept self.old.hand }
         ensures room { OnTrue result (HasRoomForOne self.new.kept) }
@@ -223,7 +226,7 @@ impl<W: Ledger> Post<W> {
     }
 }
 
-/// What is in the hand is committed, answered and leaves, as far as it has come. Room for what it leaves was made
+/// Commits, answers and lets leave what is in the hand, from where it has come. Room for what it leaves was made
 /// before.
 fn serve<R: Wait, G: Gate + Drop, C: Ledger, W: Ledger>(
     rt: &R,
@@ -240,7 +243,7 @@ fn serve<R: Wait, G: Gate + Drop, C: Ledger, W: Ledger>(
     leave(rt, shared, post);
 }
 
-/// What is in the hand is served, where there is room for what it leaves.
+/// Serves what is in the hand, where there is room for what it leaves.
 pub(crate) fn serve_hand<R: Wait, G: Gate + Drop, C: Ledger, W: Ledger>(
     rt: &R,
     shared: &Shared<G, C, W>,
@@ -256,7 +259,7 @@ pub(crate) fn serve_hand<R: Wait, G: Gate + Drop, C: Ledger, W: Ledger>(
     serve(rt, shared, post);
 }
 
-/// A job that came into the hand is served, where there is room for what it leaves.
+/// Takes a job into the hand, and serves it where there is room for what it leaves.
 fn serve_job<R: Wait, G: Gate + Drop, C: Ledger, W: Ledger>(
     rt: &R,
     shared: &Shared<G, C, W>,
@@ -273,7 +276,8 @@ fn serve_job<R: Wait, G: Gate + Drop, C: Ledger, W: Ledger>(
     serve_hand(rt, shared, post);
 }
 
-/// The only job that may run comes into the hand, where that is free and no other worker waits for one. Whether one did.
+/// Takes the only job that may run into the hand, where that is free and no other worker waits for a job. Returns true
+/// if it took one.
 pub(crate) fn take_own<G: Gate + Drop, C: Ledger, W: Ledger>(
     shared: &Shared<G, C, W>,
     post: &mut Post<W>,
@@ -293,8 +297,8 @@ pub(crate) fn take_own<G: Gate + Drop, C: Ledger, W: Ledger>(
     true
 }
 
-/// The next job that may run is handed off; this seat serves it where the hand-off is full. Whether there was one, and
-/// the hand free for it.
+/// Hands off the next job that may run; this seat serves it where the hand-off is full. Returns true if there was one,
+/// and the hand was free for it.
 fn put<R: Wait, G: Gate + Drop, C: Ledger, W: Ledger>(
     rt: &R,
     shared: &Shared<G, C, W>,
@@ -318,7 +322,7 @@ fn put<R: Wait, G: Gate + Drop, C: Ledger, W: Ledger>(
     true
 }
 
-/// What this seat has is served or handed off, until it has nothing, or memory was refused to it.
+/// Serves or hands off what this seat has, until it has nothing, or memory was refused to it.
 pub(crate) fn drain<R: Wait, G: Gate + Drop, C: Ledger, W: Ledger>(
     rt: &R,
     shared: &Shared<G, C, W>,
@@ -338,8 +342,8 @@ pub(crate) fn drain<R: Wait, G: Gate + Drop, C: Ledger, W: Ledger>(
     unreachable!()
 }
 
-/// What this seat has is served or handed off until it has nothing: what memory was refused to is tried again, once
-/// other threads had their turn.
+/// Serves or hands off what this seat has, until it has nothing. Where memory was refused it tries again, once other
+/// threads had their turn.
 pub(crate) fn finish<R: Wait, G: Gate + Drop, C: Ledger, W: Ledger>(
     rt: &R,
     shared: &Shared<G, C, W>,
@@ -362,7 +366,7 @@ pub(crate) fn finish<R: Wait, G: Gate + Drop, C: Ledger, W: Ledger>(
     unreachable!()
 }
 
-/// A job is taken from the hand-off, and served.
+/// Takes a job from the hand-off and serves it, and hands off the jobs that may run then.
 pub(crate) fn serve_handed_off<R: Wait, G: Gate + Drop, C: Ledger, W: Ledger>(
     rt: &R,
     shared: &Shared<G, C, W>,

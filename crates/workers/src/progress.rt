@@ -1,6 +1,6 @@
 //! Whether a worker got on.
 
-/// What came of a step, or of a round of them.
+/// The outcome of a step, or of a round of them.
 #[derive(Clone, Copy, PartialEq, Eq)]
 pub(crate) enum Progress {
     /// There was nothing to do.
@@ -10,12 +10,12 @@ pub(crate) enum Progress {
 }
 
 impl Progress {
-    /// What came of a call that answers whether it did something.
+    /// Returns `Made` if a call did something.
     pub(crate) fn of(did: bool) -> Progress {
         if did { Progress::Made } else { Progress::Idle }
     }
 
-    /// What came of this and of another.
+    /// Returns `Made` if this or the other is.
     pub(crate) fn and(self, other: Progress) -> Progress {
         match self {
             Progress::Made => Progress::Made,
@@ -23,7 +23,7 @@ impl Progress {
         }
     }
 
-    /// Whether there was nothing to do.
+    /// Returns true if idle. A refused allocation does not count as idle.
     pub(crate) fn is_idle(self) -> bool {
         match self {
             Progress::Idle => true,

@@ -15,10 +15,10 @@ use std::sync::Wait;
 use std::sync::ledger::Ledger;
 use unit_history::ReceiptOrNote;
 
-/// How many jobs of a queue a worker serves in a row.
+/// A worker serves at most so many requests of one queue in a row.
 const IN_A_ROW: usize = 16;
 
-/// The chain that is ready is answered, where one is, and why it got no receipt is kept.
+/// Answers the chain that is ready in the slot, where one is there, and keeps the note of why it got no receipt.
 pub(crate) fn direct<R: Wait, G: Gate + Drop, C: Ledger, W: Ledger>(
     rt: &R,
     shared: &Shared<G, C, W>,
@@ -42,8 +42,8 @@ pub(crate) fn direct<R: Wait, G: Gate + Drop, C: Ledger, W: Ledger>(
     }
 }
 
-/// A request queue's next chain is taken, and comes to its unit or is answered. Whether there was one: `None` where memory
-/// was refused.
+/// Takes a request queue's next chain, and brings it to its unit or answers it. Returns true if there was one; `None`
+/// where memory was refused.
 pub(crate) fn fetch_next<R: Wait, G: Gate + Drop, C: Ledger, W: Ledger>(
     rt: &R,
     shared: &Shared<G, C, W>,
@@ -65,9 +65,9 @@ pub(crate) fn fetch_next<R: Wait, G: Gate + Drop, C: Ledger, W: Ledger>(
     Some(is_some)
 }
 
-/// A request queue's next chain is taken, and comes to its unit or is answered: whoever calls found the hand-off empty.
-/// The job that it gives is served, where no other worker waits for one, and so are the next requests of the queue, up to
-/// [`IN_A_ROW`].
+/// Takes a request queue's next chain, and brings it to its unit or answers it. Serves the job that it gives, where no
+/// other worker waits for one, and likewise the next requests of the queue, up to [`IN_A_ROW`]. The caller found the
+/// hand-off empty.
 pub(crate) fn serve_queue<R: Wait, G: Gate + Drop, C: Ledger, W: Ledger>(
     rt: &R,
     shared: &Shared<G, C, W>,

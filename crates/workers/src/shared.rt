@@ -1,4 +1,4 @@
-//! What the threads of a host share.
+//! The parts of a device that the threads of a host share.
 
 ghost use Rattle.std.specs.Prelude.{◌≡◌, length, vec_len};
 
@@ -15,9 +15,9 @@ use std::sync::atomic::{AtomicBool, AtomicU64, Ordering};
 use std::sync::ledger::Ledger;
 use std::sync::{Mutex, Wait};
 
-/// What the threads of a host share. Locks: each unit's, with that of the books inside it at a commit; each queue's with
-/// the memory's inside it; the memory's alone; and the event port's, round that of the event queue, which nobody takes
-/// without it.
+/// The parts of a device that the threads of a host share. Locks: each unit's, with that of the books inside it at a
+/// commit; each queue's with the memory's inside it; the memory's alone; and the event port's, round that of the event
+/// queue, which nobody takes without it.
 #[derive(Drop)]
 pub(crate) struct Shared<G: Gate + Drop, C: Ledger, W: Ledger> {
     pub(crate) units: Vec<Mutex<CountedUnit<C>>>,
@@ -39,7 +39,7 @@ pub(crate) struct Shared<G: Gate + Drop, C: Ledger, W: Ledger> {
 }
 
 impl<G: Gate + Drop, C: Ledger, W: Ledger> Shared<G, C, W> {
-    /// Of the parts of a device, at this hand-off, with the books in which nothing is counted yet. No worker is to end.
+    /// Shares the parts of a device, at this hand-off, with books in which nothing is counted yet. No worker is to end.
     pub(crate) fn new(
         parts: Parts<C>,
         books: Books<C, W>,
@@ -73,7 +73,7 @@ impl<G: Gate + Drop, C: Ledger, W: Ledger> Shared<G, C, W> {
         }
     }
 
-    /// What lends its units to a seat, whose receipts are counted in this part.
+    /// Lends its units to a seat, whose receipts are counted in this part.
     pub(crate) fn units<'a, R: Wait>(
         &'a self,
         rt: &'a R,
@@ -90,7 +90,7 @@ impl<G: Gate + Drop, C: Ledger, W: Ledger> Shared<G, C, W> {
         }
     }
 
-    /// What lends its queues and its memory.
+    /// Lends its queues and its memory.
     pub(crate) fn queues<'a, R: Wait>(&'a self, rt: &'a R) -> LockedQueues<'a, R>
         ensures queues { length result.queues.now ≡ vec_len self.now.queues }
     {
@@ -101,12 +101,13 @@ impl<G: Gate + Drop, C: Ledger, W: Ledger> Shared<G, C, W> {
         }
     }
 
-    /// Whether a worker waits for a job, other than the one that asks, which is counted among those or not.
+    /// Returns true if another worker waits for a job than the one that asks. `waits` says whether that one is counted,
+    /// too.
     pub(crate) fn is_awaited(&self, waits: bool) -> bool {
         self.waiting.load(Ordering::SeqCst) > u64::from(waits)
     }
 
-    /// A worker waits for a job from now on, or no longer.
+    /// Counts a worker among those that wait for a job, or no longer.
     pub(crate) fn wait_for_job(&self, waits: bool) {
         if waits {
             self.waiting.fetch_add(1, Ordering::SeqCst);
@@ -115,22 +116,22 @@ impl<G: Gate + Drop, C: Ledger, W: Ledger> Shared<G, C, W> {
         }
     }
 
-    /// Whether its workers are to end.
+    /// Returns true if its workers are to end.
     pub(crate) fn is_closing(&self) -> bool {
         self.closing.load(Ordering::SeqCst)
     }
 
-    /// Whether its workers are to take no chain any more.
+    /// Returns true if its workers are to take no chain any more.
     pub(crate) fn is_abandoned(&self) -> bool {
         self.abandoned.load(Ordering::SeqCst)
     }
 
-    /// Its workers are to take no chain any more.
+    /// Tells its workers to take no chain any more.
     pub(crate) fn abandon(&self) {
         self.abandoned.store(true, Ordering::SeqCst);
     }
 
-    /// Its workers are to end once nothing is left to them.
+    /// Tells its workers to end once nothing is left to them, and wakes them.
     pub(crate) fn close<R: Wait>(&self, rt: &R) {
         self.closing.store(true, Ordering::SeqCst);
         self.bell.ring(rt);

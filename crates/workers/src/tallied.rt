@@ -1,4 +1,4 @@
-//! What a seat brings back, with what was counted for it.
+//! The end of a seat, with what was counted for it.
 
 ghost use Rattle.std.specs.Prelude.{◌≡◌};
 ghost use Rattle.workers.specs.Tallying.{kept_by, unless_lost};
@@ -8,8 +8,8 @@ use report::Kept;
 use ring_core::Ticket;
 use std::sync::ledger::Ledger;
 
-/// What a seat kept, with the part of the ledger that counts its receipts: as many were counted as it kept, unless it lost
-/// one.
+/// The kept receipts and notes of a seat, with the part of the ledger that counts its receipts: as many were counted as
+/// it kept, unless it lost one.
 #[derive(Drop)]
 pub(crate) struct Tallied<W: Ledger> {
     pub(crate) kept: Kept,

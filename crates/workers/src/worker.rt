@@ -22,10 +22,10 @@ use std::sync::ledger::Ledger;
 /// Where the request queues begin among the queues.
 const FIRST_REQUEST: usize = FIRST_REQUEST_QUEUE as usize;
 
-/// After how many rounds in a row that found nothing a worker sleeps.
+/// A worker sleeps after this many rounds in a row that found nothing.
 const SLEEPS_AFTER: u32 = 64;
 
-/// In how many rounds that found something the first worker looks once at the queues that have no requests.
+/// Under load, worker 0 looks at the control queue and the event queue once per this many rounds.
 const LOOKS_EVERY: u8 = 16;
 
 /// A worker: what its seat has, and which worker it is, of how many.
@@ -36,7 +36,7 @@ pub(crate) struct Worker<W: Ledger> {
     pub(crate) workers: usize,
 }
 
-/// What a seat brings back.
+/// Takes a post apart into what its thread brings back.
 pub(crate) fn ends<W: Ledger>(post: Post<W>) -> Worked<Tallied<W>>
     requires empty { receipts_due post.hand ≡ 0 }
     requires tally { Tallies post.lost post.part.share.amount post.kept post.hand }
@@ -55,7 +55,8 @@ pub(crate) fn ends<W: Ledger>(post: Post<W>) -> Worked<Tallied<W>>
     }
 }
 
-/// The queues of the first worker that have no requests are served a step; of an abandoned host the open function alone.
+/// Takes a step of the open function or the control queue, and one of the event queue. Of an abandoned host it takes
+/// one of the open function alone.
 fn serve_others<R: Wait, G: Gate + Drop, C: Ledger, W: Ledger>(
     rt: &R,
     shared: &Shared<G, C, W>,
@@ -76,7 +77,7 @@ fn serve_others<R: Wait, G: Gate + Drop, C: Ledger, W: Ledger>(
     managed.and(fetch_event(rt, shared))
 }
 
-/// The request queues that a worker owns are served, each by one request at most.
+/// Serves each request queue that the worker owns, in the order of their numbers.
 fn serve_own<R: Wait, G: Gate + Drop, C: Ledger, W: Ledger>(
     rt: &R,
     shared: &Shared<G, C, W>,
@@ -99,8 +100,8 @@ fn serve_own<R: Wait, G: Gate + Drop, C: Ledger, W: Ledger>(
     progress
 }
 
-/// One round: what the seat has, then a job of the hand-off or, where there is none, each queue that the worker owns,
-/// unless the host was abandoned.
+/// Goes one round: serves what the seat has, then a job of the hand-off or, where there is none, each queue that the
+/// worker owns, unless the host was abandoned.
 fn round<R: Wait, G: Gate + Drop, C: Ledger, W: Ledger>(
     rt: &R,
     shared: &Shared<G, C, W>,
@@ -125,8 +126,8 @@ fn round<R: Wait, G: Gate + Drop, C: Ledger, W: Ledger>(
 }
 
 /// Has a worker sleep that found nothing to do for a while: it announces that, and sleeps where the next round found
-/// nothing either. While a function is open it stays awake, since what others answer lets the function go on. What it
-/// announced, if it did.
+/// nothing either. While a function is open it stays awake, since what others answer lets the function go on. Returns
+/// the rings that it saw as it announced; `None` where it is awake.
 fn nap<R: Wait, G: Gate + Drop, C: Ledger, W: Ledger>(
     rt: &R,
     shared: &Shared<G, C, W>,

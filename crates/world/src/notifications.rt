@@ -44,8 +44,8 @@ fn note(asked: &mut [u64], bays: &[Bay])
     }
 }
 
-/// How many notices each queue's driver had wanted when this was last asked. Whoever embeds a device makes one beside
-/// it, and asks it whenever drivers may be owed a notification: after each `settle`, also one that ended for want of
+/// How many notices each queue's driver had wanted when this was last asked. The embedder makes one beside its device,
+/// and asks it whenever drivers may be owed a notification: after each `settle`, also one that ended for want of
 /// memory, since what it answered before stands.
 #[derive(Drop)]
 pub struct Notifications {

@@ -65,9 +65,9 @@ impl World {
     ghost use Rattle.world.specs.Cursors.{Denies, NoneBefore, TurnsNext};
     ghost use Rattle.world.specs.Views.{unit_at, IsPlaceOf, fault_of, device_status, GivesBlocks, GivesChanges};
 
-    /// Opens the device of a configuration, of which nothing has happened yet. Whoever sets it up calls it once.
-    /// `BadConfig` exactly where the configuration isn't valid; else `NoMemory` where a growth was refused. The empty
-    /// trace leads from the device to itself: here every trace begins.
+    /// Opens the device of a configuration, of which nothing has happened yet. The embedder calls it once for each
+    /// device. `BadConfig` exactly where the configuration isn't valid; else `NoMemory` where a growth was refused. The
+    /// empty trace leads from the device to itself: here every trace begins.
     pub fn new(alloc: Global, config: &Config) -> Result<World, StartFault>
         ensures opening { MatchResult result (λ w. (is_config config.now ≡ true) × IsOpening config.now w)
             (λ fault. StartRefusedAs config.now fault) }
@@ -83,9 +83,9 @@ impl World {
         }
     }
 
-    /// Opens a device as `new` does, but over disks: each unit, in the order of the configuration, has the blocks of its
-    /// disk in place of zeros. Whoever keeps disks beyond their devices calls it with those that [`World::close`] gave;
-    /// the device takes them all. `BadConfig` exactly where the configuration isn't valid, or the disks aren't as many as
+    /// Opens a device as `new` does, but over disks: each unit, in the order of the configuration, has the blocks of
+    /// its disk in place of zeros. Called for disks that outlive their devices, as [`World::close`] gives them; the
+    /// device takes them all. `BadConfig` exactly where the configuration isn't valid, or the disks aren't as many as
     /// its units, each of its unit's capacity; else `NoMemory` where a growth was refused. Then the disks are as they
     /// were.
     pub fn new_with(
@@ -112,10 +112,10 @@ impl World {
         }
     }
 
-    /// Gives each unit its disk, in the order of the configuration, in place of zeros. Whoever has to keep the disks until
-    /// nothing can be refused any more calls it once, with disks of its units' capacities, on a device that
-    /// [`World::new`] opened and to which nothing has happened yet; [`World::new_with`] does both. The device takes the
-    /// disks, and no memory.
+    /// Gives each unit its disk, in the order of the configuration, in place of zeros. Called once, with disks of its
+    /// units' capacities, on a device that [`World::new`] opened and to which nothing has happened yet.
+    /// [`World::new_with`] does both; a caller that must keep the disks until nothing can be refused any more takes
+    /// these two calls. The device takes the disks, and no memory.
     pub fn hand_in(&mut self, disks: &mut Vec<PagedStore>)
         requires opening { OpensFor self.old disks.old.items }
         ensures over { OpensAnew self.old disks.old.items self.new }
@@ -127,8 +127,8 @@ impl World {
     }
 
     /// Ends the device, and returns the disks of its units, in their order, as its histories left them: blocks and
-    /// capacities. Guest memory, queues, tasks and attentions are gone. The device as it was, where memory for the list
-    /// of disks was refused.
+    /// capacities. Guest memory, queues, tasks and attentions are gone. Gives the device back as it was where memory
+    /// for the list of disks was refused.
     pub fn close(self, alloc: Global) -> Result<Vec<PagedStore>, World>
         ensures disks { MatchResult result (λ disks. AreDisksOf self.units disks.items) (λ left. left ≡ self) }
     {
@@ -191,9 +191,9 @@ impl World {
         }
     }
 
-    /// Takes one event. Whether it changed something; one that doesn't apply changes nothing. Only a Fetch, a Hard and
-    /// a Resize can answer `NoMemory`, and have changed nothing then. Behind every trace that led here from an opening,
-    /// the promise is kept.
+    /// Takes one event. Returns true if it changed something; one that doesn't apply changes nothing. Only a Fetch, a
+    /// Hard and a Resize can answer `NoMemory`, and have changed nothing then. Behind every trace that led here from an
+    /// opening, the promise is kept.
     pub fn step(&mut self, event: Event) -> Result<bool, NoMemory>
         ensures steps { Steps self.old (plain_event event) result self.new }
         ensures promise { StepsAsPromised self.old (plain_event event) result self.new }
@@ -206,11 +206,11 @@ impl World {
     /// Takes one event after another. Answers how many changed something. After `NoMemory` those before the refused one
     /// ran, and it changed nothing.
     ///
-    /// Behind every trace that led here from an opening, a trace of these events leads to where the device is then,
-    /// and the promise is kept by both together: each unit's blocks, and each status, sense byte and data byte
-    /// answered for it, are those of one sequential disk running the commands of its history whole, one at a time, in
-    /// an order lawful for their task attributes; a command answered as aborted changed nothing, and each accepted
-    /// chain is used at most once (`IsPromised` in `interleavings/specs/Promise.antt`).
+    /// Behind every trace that led here from an opening, a trace of these events leads to where the device is then, and
+    /// the promise is kept by both together: each unit's blocks, and each status, sense byte and data byte answered for
+    /// it, are those of one sequential disk running the commands of its history whole, one at a time, in an order
+    /// lawful for their task attributes; a command answered as aborted changed nothing, and each accepted chain is used
+    /// at most once (`IsPromised` in `device_model/specs/Promise.antt`).
     pub fn run(&mut self, events: &[Event]) -> Result<u64, NoMemory>
         ensures runs { RunsAll self.old events.now result self.new }
         ensures promise { RunsAsPromised self.old events.now result self.new }
@@ -227,21 +227,21 @@ impl World {
     }
 
     /// Serves what the guest made available on some queues: takes the first event that applies, in the order of
-    /// `order_by` in `settling/specs/Order.antt`, one after another, until none does or `most` steps were taken. It takes
-    /// new chains of those queues alone whose bit is set in `queues`, that of queue 0 the lowest. It goes on with whatever
-    /// was begun before, of each queue.
+    /// `order_by` in `device_model/specs/Order.antt`, one after another, until none does or `most` steps were taken. It
+    /// takes new chains of those queues alone whose bit is set in `queues`, that of queue 0 the lowest. It goes on with
+    /// whatever was begun before, of each queue.
     ///
-    /// `more` is true exactly where an event is left that would change something: then it took `most` steps. Where it is
-    /// false, every chain that was accepted was used, but for event buffers that are held, nothing waits, and none of
-    /// those queues has a chain, unless a fault broke it. Chains of the other queues are left as they are.
+    /// `more` is true exactly where an event is left that would change something: then it took `most` steps. Where it
+    /// is false, every chain that was accepted was used, but for event buffers that are held, nothing waits, and none
+    /// of those queues has a chain, unless a fault broke it. Chains of the other queues are left as they are.
     ///
-    /// It takes at most 7 steps for each request chain, 2 for each control chain, 1 for each event buffer, 1 for each event
-    /// that waits, for each queue and for each task that was answered before, and 2 for each unit that a function visits.
-    /// A guest whose requests make further chains available has each of these counted too, so that only `most` bounds a
-    /// call: a host that goes round its queues with a bound starves none.
+    /// It takes at most 7 steps for each request chain, 2 for each control chain, 1 for each event buffer, 1 for each
+    /// event that waits, for each queue and for each task that was answered before, and 2 for each unit that a function
+    /// visits. A guest whose requests make further chains available has each of these counted too, so that only `most`
+    /// bounds a call: a host that goes round its queues with a bound starves none.
     ///
-    /// `NoMemory` where what was first was refused memory, or is a chain of a queue that has accepted 2^64 - 1: what was
-    /// served before stands, and nothing else changed. The promise is kept as by `run`.
+    /// `NoMemory` where what was first was refused memory, or is a chain of a queue that has accepted 2^64 - 1: what
+    /// was served before stands, and nothing else changed. The promise is kept as by `run`.
     #[inline(always)]
     pub fn serve(&mut self, queues: u32, most: u64) -> Result<Served, NoMemory>
         ensures serves { ServesSomeOrWants (asks queues) most self.old result self.new }
@@ -270,16 +270,16 @@ impl World {
         Ok(Served { steps, more })
     }
 
-    /// Serves what the guest made available, on each queue and until nothing is left: `serve` with all queues and no bound.
-    /// Answers how many steps it took. Then every chain that was accepted was used, but for event buffers that are held,
-    /// nothing is left that waits, and no queue has a chain, unless a fault broke it.
+    /// Serves what the guest made available, on each queue and until nothing is left: `serve` with all queues and no
+    /// bound. Answers how many steps it took. Then every chain that was accepted was used, but for event buffers that
+    /// are held, nothing is left that waits, and no queue has a chain, unless a fault broke it.
     ///
-    /// A guest whose own requests make chains available, as a READ that writes descriptors into a ring, keeps it busy for
-    /// as long as it likes. A host that must have its thread back calls `serve` with a bound.
+    /// A guest whose own requests make chains available, as a READ that writes descriptors into a ring, keeps it busy
+    /// for as long as it likes. A host that must have its thread back calls `serve` with a bound.
     ///
     /// `NoMemory` where what was first was refused memory, or is a chain of a queue that has accepted 2^64 - 1, or
-    /// where 2^64 - 1 events were counted: what was served before stands, and nothing else changed. The bound on its steps
-    /// holds there too (`IsShort` in `settling/specs/Settling.antt`). The promise is kept as by `run`.
+    /// where 2^64 - 1 events were counted: what was served before stands, and nothing else changed. The bound on its
+    /// steps holds there too (`IsShort` in `device_model/specs/Settling.antt`). The promise is kept as by `run`.
     pub fn settle(&mut self) -> Result<u64, NoMemory>
         ensures serves { ServesOrWants self.old result self.new }
         ensures promise { SettlesAsPromised self.old result self.new }
@@ -317,7 +317,7 @@ impl World {
         self.device.has_step(queues)
     }
 
-    /// Writes bytes as the guest: puts bytes at an address. False, with nothing changed, where one of them would lie
+    /// Writes bytes as the guest at an address. Returns false, with nothing changed, where one of them would lie
     /// outside memory. The promise is kept as by `step`.
     pub fn poke(&mut self, addr: u64, bytes: &[u8]) -> bool
         ensures turns { Turns self.old (AnEvent.Poke (record { addr = addr; bytes = bytes.now })) result self.new }
@@ -362,7 +362,7 @@ impl World {
         }
     }
 
-    /// Returns how many notices a queue's driver wanted.
+    /// Returns how many notices a queue's driver wanted; `None` where there is no such queue.
     pub fn notices(&self, number: u16) -> Option<u64>
         ensures { result ≡ option_map (λ q. q.notices) (slice_get self.now.queues number) }
     {
@@ -451,8 +451,9 @@ impl World {
         self.device.take_changes(target, lun)
     }
 
-    /// Appends the bytes of blocks of a unit, as its commands left them. False where the unit is
-    /// absent or a block lies at or above its capacity, `NoMemory` where the list can't grow.
+    /// Appends the bytes of `count` blocks of a unit from `first` on, 512 of each, as its commands left them. Returns
+    /// false, with the list as it was, where the unit is absent or a block lies at or above its capacity. `NoMemory`
+    /// where the list can't grow.
     pub fn read_blocks(
         &self,
         target: u8,
