@@ -1,6 +1,5 @@
-//! Tests of what no script can show, each a table of rows: of the device over its public calls, of what one thread lends
-//! the phases, and of reports, made of real units and queues. They stand in a crate of their own so that the crates
-//! below are proved once.
+//! Tests of the device over its public calls, of what no script can show, each a table of rows. They stand in a crate
+//! of their own so that the crates below are proved once.
 #![tactic(auto)]
 
 #[cfg(test)]
