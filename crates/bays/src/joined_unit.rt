@@ -17,7 +17,7 @@ use unit_history::{JobList, UnitState};
 /// is put in place faster with pages that are made before the hold.
 const LONG: u64 = 8_192;
 
-/// What came of the jobs that may run, behind an Enter. `leave_enter_commit_on` answers it.
+/// The outcome of the jobs that may run, behind an Enter. `leave_enter_commit_on` answers it.
 #[derive(Clone, Copy, Debug, PartialEq, Eq)]
 pub enum NextJob {
     /// They are in the list: there are none or several, or the hand wasn't free.

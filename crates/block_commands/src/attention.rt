@@ -1,4 +1,4 @@
-//! Which commands meet a pending unit attention (SAM-5 §5.14).
+//! Commands that meet a pending unit attention, and those that take it (SAM-5 §5.14).
 
 ghost use Rattle.std.specs.Prelude.{◌≡◌};
 ghost use Rattle.replies.specs.Attention.{takes, met};
@@ -23,8 +23,8 @@ pub fn takes_attention(command: &Command) -> bool
     }
 }
 
-/// The attention that is reported in place of the command's own answer, if any. REQUEST SENSE takes
-/// it as its data.
+/// Returns the attention that is reported in place of the command's own answer, if any. REQUEST SENSE takes it as its
+/// data.
 pub(crate) fn met_attention(command: &Command, pending: Option<Sense>) -> Option<Sense>
     ensures { result ≡ met command.now pending }
 {

@@ -8,15 +8,14 @@ use block_store::BLOCK_BYTES;
 /// LBPME and LBPRZ: the unit is thin provisioned, and unmapped blocks are zeros.
 const PROVISIONED: u8 = 0xc0;
 
-/// Whether so many blocks from `lba` on lie below the capacity. None may stand at its end.
+/// Returns true if so many blocks from `lba` on lie below the capacity. None may stand at its end.
 pub(crate) fn is_in_range(capacity: u64, lba: u64, count: u32) -> bool
     ensures { result ≡ is_in_range capacity lba count }
 {
     lba <= capacity && u64::from(count) <= capacity - lba
 }
 
-/// The data of READ CAPACITY (10): the last address, all ones where it is too large, and the bytes
-/// of a block.
+/// Returns the data of READ CAPACITY (10): the last address, all ones where it is too large, and the bytes of a block.
 #[tactic(auto, unfolding(replies::specs::Capacity::capacity_10))]
 pub(crate) fn capacity_10(capacity: u64) -> [u8; 8]
     ensures { result ≡ capacity_10 capacity }
@@ -28,7 +27,7 @@ pub(crate) fn capacity_10(capacity: u64) -> [u8; 8]
     data
 }
 
-/// The data of READ CAPACITY (16).
+/// Returns the data of READ CAPACITY (16).
 #[tactic(auto, unfolding(replies::specs::Capacity::capacity_16))]
 pub(crate) fn capacity_16(capacity: u64) -> [u8; 32]
     ensures { result ≡ capacity_16 capacity }

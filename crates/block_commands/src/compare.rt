@@ -44,7 +44,8 @@ pub(crate) fn compare_and_write<S: Store>(
     Ok(())
 }
 
-/// The offset of the first byte in which the two differ. Where they are equal, as most often, they are compared whole.
+/// Returns the offset of the first byte in which the two differ. Where they are equal, as most often, they are compared
+/// whole.
 fn first_unequal(left: &[u8], right: &[u8]) -> Option<usize>
     ensures offset { result ≡ first_unequal left.now right.now }
     ensures bound { IfSome result (λ offset. offset < length left.now) }
@@ -55,7 +56,7 @@ fn first_unequal(left: &[u8], right: &[u8]) -> Option<usize>
     find_unequal(left, right)
 }
 
-/// The same, byte after byte.
+/// Returns the same, byte after byte.
 fn find_unequal(left: &[u8], right: &[u8]) -> Option<usize>
     ensures offset { result ≡ first_unequal left.now right.now }
     ensures bound { IfSome result (λ offset. offset < length left.now) }

@@ -4,8 +4,8 @@ ghost use Rattle.std.specs.Prelude.{◌≡◌, nat_lt, take, IfOk, OnErr, IsTrue
 
 use std::alloc::{AllocError, Global};
 
-/// The bytes, or as many of them from the front as the allocation length allows (SPC-4 §4.3.5.6).
-/// For none no memory is taken.
+/// Returns the bytes, or as many of them from the front as the allocation length allows (SPC-4 §4.3.5.6). It takes no
+/// memory where there are none.
 pub(crate) fn cut(alloc: Global, bytes: &[u8], allocation: u32) -> Result<Vec<u8>, AllocError>
     ensures kept { IfOk result (λ kept. kept.items ≡ take allocation bytes.now) }
     ensures want { OnErr result (IsTrue (nat_lt 0 allocation)) }

@@ -124,7 +124,7 @@ fn run<S: Store>(
     }
 }
 
-/// No data, where a command ended well.
+/// Returns no data, where a command ended well.
 fn without_data(alloc: Global, ended: Result<(), Failure>) -> Result<Vec<u8>, Failure>
     ensures { MatchResult ended (λ _. IsOkAnd result (λ bytes. bytes.items ≡ [])) (λ failure. result ≡ Err failure) }
 {
@@ -132,7 +132,7 @@ fn without_data(alloc: Global, ended: Result<(), Failure>) -> Result<Vec<u8>, Fa
     Ok(Vec::new(alloc))
 }
 
-/// The reply to a command that gave this data, or was refused.
+/// Returns the reply to a command that gave this data, or was refused.
 fn replied(
     alloc: Global,
     command: &Command,

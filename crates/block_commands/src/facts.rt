@@ -1,10 +1,10 @@
-//! What a command is told of its logical unit.
+//! The facts of its logical unit that a command is told.
 
 ghost use Rattle.std.specs.Prelude.{◌≤◌, length};
 
 use sense::Sense;
 
-/// What a command is told of its logical unit, apart from the blocks.
+/// The facts of its logical unit that a command is told, apart from the blocks.
 #[derive(Drop)]
 pub struct UnitFacts {
     /// The target of the unit.

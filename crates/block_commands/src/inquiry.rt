@@ -17,15 +17,14 @@ const SUPPORTED_PAGES: [u8; 9] = [0x00, 0x00, 0x00, 0x05, 0x00, 0x80, 0x83, 0xb0
 /// Logical Block Provisioning: UNMAP and WRITE SAME unmap, to zeros; thin provisioning.
 const PROVISIONING_PAGE: [u8; 8] = [0x00, 0xb2, 0x00, 0x04, 0x00, 0xe4, 0x02, 0x00];
 
-/// What stands before the serial number on the page of that name.
+/// The bytes before the serial number on the page of that name.
 const SERIAL_HEADER: [u8; 4] = [0x00, 0x80, 0x00, 0x0d];
 
-/// What stands before the serial number in Device Identification: the designator is ASCII text that
-/// begins with the vendor.
+/// The bytes before the serial number in Device Identification: the designator is ASCII text that begins with the
+/// vendor.
 const IDENTIFICATION_HEADER: [u8; 16] = *b"\x00\x83\x00\x19\x02\x01\x00\x15VSCSI   ";
 
-/// The data that an INQUIRY asks for, of the unit of this target and LUN, cut to the allocation
-/// length.
+/// Returns the data that an INQUIRY asks for, of the unit of this target and LUN, cut to the allocation length.
 #[tactic(auto, unfolding(replies::specs::Inquiry::supported_pages, replies::specs::Inquiry::provisioning_page))]
 pub(crate) fn inquiry(
     alloc: Global,
@@ -49,7 +48,7 @@ pub(crate) fn inquiry(
     }
 }
 
-/// Unit Serial Number.
+/// Makes the page Unit Serial Number.
 #[tactic(auto, unfolding(replies::specs::Inquiry::serial_page, replies::specs::Inquiry::serial))]
 fn serial_page(target: u8, lun: u16) -> [u8; 17]
     ensures { result ≡ serial_page target lun }
@@ -60,7 +59,7 @@ fn serial_page(target: u8, lun: u16) -> [u8; 17]
     page
 }
 
-/// Device Identification.
+/// Makes the page Device Identification.
 #[tactic(auto, unfolding(replies::specs::Inquiry::identification_page, replies::specs::Inquiry::serial))]
 fn identification_page(target: u8, lun: u16) -> [u8; 29]
     ensures { result ≡ identification_page target lun }
@@ -71,7 +70,7 @@ fn identification_page(target: u8, lun: u16) -> [u8; 29]
     page
 }
 
-/// The serial number of the unit of this target and LUN.
+/// Returns the serial number of the unit of this target and LUN.
 #[tactic(auto, unfolding(replies::specs::Inquiry::serial))]
 fn serial(target: u8, lun: u16) -> [u8; 13]
     ensures { result ≡ serial target lun }
@@ -94,7 +93,7 @@ fn serial(target: u8, lun: u16) -> [u8; 13]
     ]
 }
 
-/// The decimal digit of the number whose place is worth so much, as text.
+/// Returns the decimal digit of the number whose place is worth so much, as text.
 fn digit(number: u16, worth: u16) -> u8
     requires { 0 < worth }
     ensures { result ≡ 0x30 + number / worth % 10 }
@@ -102,7 +101,7 @@ fn digit(number: u16, worth: u16) -> u8
     b'0' + (number / worth % 10) as u8
 }
 
-/// Block Limits: what `cdb` and UNMAP refuse to exceed.
+/// Makes the page Block Limits: what `cdb` and UNMAP refuse to exceed.
 #[tactic(auto, unfolding(replies::specs::Inquiry::limits_page))]
 fn limits_page() -> [u8; 64]
     ensures { result ≡ limits_page }

@@ -15,7 +15,7 @@ const FLAT_SPACE_FROM: u16 = 256;
 /// Flat space addressing, in the two upper bits of a LUN.
 const FLAT_SPACE: u8 = 0x40;
 
-/// The LUNs of a target that a REPORT LUNS asks for: there is no well known one.
+/// Returns the LUNs of a target that a REPORT LUNS asks for: there is no well known one.
 pub(crate) fn listed_luns(select: SelectReport, luns: &[u16]) -> &[u16]
     ensures { result.now ≡ listed select luns.now }
 {
@@ -25,7 +25,7 @@ pub(crate) fn listed_luns(select: SelectReport, luns: &[u16]) -> &[u16]
     }
 }
 
-/// The list of these LUNs, cut to the allocation length.
+/// Returns the list of these LUNs, cut to the allocation length.
 pub(crate) fn lun_list(alloc: Global, luns: &[u16], allocation: u32) -> Result<Vec<u8>, AllocError>
     requires { length luns.now ≤ 16384 }
     ensures { IfOk result (λ bytes. bytes.items ≡ take allocation (lun_list luns.now)) }
@@ -41,7 +41,7 @@ pub(crate) fn lun_list(alloc: Global, luns: &[u16], allocation: u32) -> Result<V
     Ok(list)
 }
 
-/// The entry of a LUN.
+/// Returns the entry of a LUN.
 fn lun_entry(lun: u16) -> [u8; ENTRY_BYTES]
     ensures { result ≡ lun_entry lun }
 {

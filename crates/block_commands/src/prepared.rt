@@ -59,8 +59,8 @@ pub fn exec_prepared(
     Ok((reply, back))
 }
 
-/// Installs the pages of a command, if there are any and no attention stops it. Whether it did, and the pages that come
-/// back.
+/// Installs the pages of a command, if there are any and no attention stops it. Returns true if it did, and the pages
+/// that come back.
 fn exchange(
     store: &mut PagedStore,
     command: &Command,
@@ -92,7 +92,7 @@ fn exchange(
     Ok((installed, Some(back)))
 }
 
-/// GOOD with no data. The data that a command needs are counted in 32 bits.
+/// Makes GOOD with no data. The data that a command needs are counted in 32 bits.
 fn written(alloc: Global, command: &Command) -> Reply
     ensures reply { plain_of result ≡ success command.now [] }
     ensures room { vec_len result.payload ≡ 0 }
@@ -102,8 +102,8 @@ fn written(alloc: Global, command: &Command) -> Reply
     Reply::success(command, Vec::new(alloc))
 }
 
-/// Installs the pages, where they lie below the capacity and nothing beside their range has changed in them. Whether it
-/// did, and the pages that come back.
+/// Installs the pages, where they lie below the capacity and nothing beside their range has changed in them. Returns
+/// true if it did, and the pages that come back.
 fn installs(store: &mut PagedStore, prepared: Prepared) -> Result<(bool, Prepared), NoMemory>
     ensures range { IfOk result (λ answer. IsTrue answer.0 →
         IsTrue (is_in_range (⟦<PagedStore as Store>⟧.size store.old) (prepared_draft prepared).first (prepared_draft prepared).count)) }

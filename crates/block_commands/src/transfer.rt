@@ -12,7 +12,7 @@ use block_store::{BLOCK_BYTES, Store};
 use sense::Sense;
 use std::mem;
 
-/// The bytes of the blocks (SBC-3 §5.11), in the room that is given, which grows where it is too small.
+/// Returns the bytes of the blocks (SBC-3 §5.11), in the room that is given, which grows where it is too small.
 pub(crate) fn read<S: Store>(
     room: &mut Vec<u8>,
     store: &S,
@@ -80,8 +80,8 @@ pub(crate) fn write_same<S: Store>(
     Ok(())
 }
 
-/// Whether the blocks lie below the capacity, which is all that SYNCHRONIZE CACHE asks of a store
-/// that has no cache (SBC-3 §5.26).
+/// Checks that the blocks lie below the capacity, which is all that SYNCHRONIZE CACHE asks of a store that has no cache
+/// (SBC-3 §5.26).
 pub(crate) fn synchronize<S: Store>(store: &S, lba: u64, blocks: u32) -> Result<(), Sense>
     ensures { Ends (within (S.size store.now) lba blocks done) result }
 {

@@ -56,8 +56,8 @@ pub(crate) fn unmap<S: Store>(store: &mut S, list: &[u8]) -> Result<(), Sense>
     Ok(())
 }
 
-/// How many descriptors are taken: the whole ones in the length that the header gives, as far as the
-/// list has them.
+/// Returns how many descriptors are taken: the whole ones in the length that the header gives, as far as the list has
+/// them.
 #[tactic(auto, unfolding(replies::specs::UnmapList::descriptor_count))]
 fn taken_descriptors(list: &[u8]) -> usize
     requires { 8 ≤ length list.now }
@@ -70,7 +70,7 @@ fn taken_descriptors(list: &[u8]) -> usize
     given.min(list.len() - HEADER_BYTES) / DESCRIPTOR_BYTES
 }
 
-/// Descriptor `i` of the list.
+/// Returns the blocks of descriptor `i` of the list.
 fn extent_at(taken: &[u8], i: usize) -> Extent
     requires { 16 * i + 16 ≤ length taken.now }
     ensures lba { result.lba ≡ (descriptor (drop (16 * i) taken.now)).0 }
@@ -87,7 +87,7 @@ fn extent_at(taken: &[u8], i: usize) -> Extent
     }
 }
 
-/// Whether these are more descriptors, or name more blocks in all, than an UNMAP may have.
+/// Returns true if these are more descriptors, or name more blocks in all, than an UNMAP may have.
 fn is_too_much(taken: &[u8], count: usize) -> bool
     requires { 16 * count ≤ length taken.now }
     ensures { result ≡ (nat_lt 16 count || nat_lt 65536 (blocks_named (descriptors_in count taken.now))) }
@@ -102,7 +102,7 @@ fn is_too_much(taken: &[u8], count: usize) -> bool
     blocks > MOST_BLOCKS
 }
 
-/// Whether each descriptor lies below the capacity.
+/// Returns true if each descriptor lies below the capacity.
 fn are_in_range(capacity: u64, taken: &[u8], count: usize) -> bool
     requires { 16 * count ≤ length taken.now }
     ensures { result ≡ are_in_range capacity (descriptors_in count taken.now) }

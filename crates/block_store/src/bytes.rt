@@ -5,7 +5,7 @@ ghost use Rattle.block_store.specs.Blocks.{block_count, nth_block, overwritten, 
 
 use crate::BLOCK_BYTES;
 
-/// The bytes of `count` blocks from `first` on.
+/// Returns the bytes of `count` blocks from `first` on.
 pub(crate) fn blocks_at(held: &[u8], first: usize, count: usize) -> &[u8]
     requires { first + count ≤ block_count held.now }
     ensures bytes { result.now ≡ run (nth_block held.now) first count }

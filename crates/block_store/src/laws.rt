@@ -1,10 +1,10 @@
-//! What follows from the definitions alone.
+//! Laws that follow from the definitions alone.
 
 ghost use Rattle.std.specs.Prelude.{◌≡◌, ℕ, ◌+◌, ◌-◌, ◌*◌, ◌<◌, ◌≤◌, ◌++◌, List, [], IsTrue, length, replicate};
 ghost use Rattle.block_store.specs.Pages.{covered};
 ghost use Rattle.block_store.specs.Blocks.{Blocks, block_count, nth_block, is_within, overwritten, filled, zeroed, run};
 
-/// What was written is read back.
+/// A read gives back the bytes that were written.
 pub fn written_is_read_back()
     ensures { (blocks : Blocks) (first count : ℕ) (bytes : List ℕ) → length bytes ≡ 512 * count →
         run (overwritten blocks first bytes) first count ≡ bytes }
@@ -61,7 +61,7 @@ pub fn read_gives_512_bytes_a_block()
         length (run blocks first count) ≡ 512 * count }
 {}
 
-/// What was prepared with bytes and is installed is as these bytes written, whatever stood beside the range.
+/// Pages that were prepared with bytes and are installed are as these bytes written, whatever stood beside the range.
 pub fn installed_is_written()
     ensures { (blocks copied prepared : Blocks) (first count : ℕ) (bytes : List ℕ) → length bytes ≡ 512 * count →
         ((b : ℕ) → prepared b ≡ overwritten copied first bytes b) →

@@ -22,7 +22,7 @@ pub(crate) struct Page {
     ghost whole: { length bytes.items % 4096 ≡ 0 },
 }
 
-/// The bytes of so many blocks of zeros, a page of them at most.
+/// Returns the bytes of so many blocks of zeros, a page of them at most.
 pub(crate) fn zeros(count: usize) -> &'static [u8]
     requires { count ≤ 8 }
     ensures { result.now ≡ replicate (512 * count) 0 }
@@ -31,7 +31,7 @@ pub(crate) fn zeros(count: usize) -> &'static [u8]
 }
 
 impl Page {
-    /// A page that keeps no bytes.
+    /// Makes a page that keeps no bytes.
     pub(crate) fn absent(alloc: Global) -> Page
         ensures { result.bytes.items ≡ [] }
     {
@@ -40,7 +40,7 @@ impl Page {
         }
     }
 
-    /// A page of zeros that keeps its bytes.
+    /// Makes a page of zeros that keeps its bytes.
     pub(crate) fn zeroed(alloc: Global) -> Result<Page, NoMemory>
         ensures { IfOk result (λ page. page.bytes.items ≡ replicate 4096 0) }
     {
@@ -48,7 +48,7 @@ impl Page {
         Ok(Page { bytes })
     }
 
-    /// A page of the same bytes.
+    /// Makes a page of the same bytes.
     pub(crate) fn copy(&self, alloc: Global) -> Result<Page, NoMemory>
         ensures { IfOk result (λ page. page.bytes.items ≡ self.now.bytes.items) }
     {
@@ -56,14 +56,14 @@ impl Page {
         Ok(Page { bytes })
     }
 
-    /// Whether the page keeps its bytes.
+    /// Returns true if the page keeps its bytes.
     pub(crate) fn is_made(&self) -> bool
         ensures { result ≡ nat_lt 0 (length self.now.bytes.items) }
     {
         !self.bytes.is_empty()
     }
 
-    /// The bytes of `count` blocks of the page.
+    /// Returns the bytes of `count` blocks of the page.
     pub(crate) fn part(&self, from: usize, count: usize) -> &[u8]
         requires { from + count ≤ 8 }
         ensures { result.now ≡ run (blocks_in self.now.bytes.items) from count }

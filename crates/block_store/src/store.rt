@@ -1,4 +1,4 @@
-//! What every store of blocks offers.
+//! The trait of a store of blocks.
 
 ghost use Rattle.std.specs.Prelude.{◌≡◌, ℕ, ◌+◌, ◌*◌, ◌%◌, ◌<◌, ◌≤◌, ◌++◌, List, length, vec_len, vec_capacity, OnOk, OnErr};
 ghost use Rattle.block_store.specs.Blocks.{block_count, overwritten, filled, zeroed, run};

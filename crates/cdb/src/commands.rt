@@ -13,8 +13,8 @@ pub const MOST_WRITE_SAME_BLOCKS: u32 = 65536;
 /// The most blocks that a COMPARE AND WRITE compares and writes.
 pub const MOST_COMPARE_BLOCKS: u8 = 64;
 
-/// What a CDB asks for. `decode` gives each field in the range that is said here; a logical block
-/// address isn't yet compared with a capacity.
+/// A command, as a CDB asks for it. `decode` gives each field in the range that is said here; a logical block address
+/// isn't yet compared with a capacity.
 #[derive(Clone, Copy, PartialEq, Eq)]
 pub enum Command {
     /// TEST UNIT READY (SPC-4 §6.47).
@@ -40,7 +40,7 @@ pub enum Command {
     },
     /// INQUIRY (SPC-4 §6.6).
     Inquiry {
-        /// Which data to return.
+        /// The data to return.
         what: InquiryData,
         /// The most bytes to return, 0 to 65,535.
         allocation: u32,
@@ -80,7 +80,7 @@ pub enum Command {
     },
     /// REPORT LUNS (SPC-4 §6.33).
     ReportLuns {
-        /// Which logical units to list.
+        /// The logical units to list.
         select: SelectReport,
         /// The most bytes to return.
         allocation: u32,
@@ -95,8 +95,7 @@ pub enum Command {
     Unknown,
 }
 
-/// Which data an INQUIRY asks for: the standard data, or a page of vital product data (SPC-4 §6.6,
-/// §7.8).
+/// The data that an INQUIRY asks for: the standard data, or a page of vital product data (SPC-4 §6.6, §7.8).
 #[derive(Clone, Copy, PartialEq, Eq)]
 pub enum InquiryData {
     /// Standard INQUIRY data.
@@ -113,7 +112,7 @@ pub enum InquiryData {
     LogicalBlockProvisioning,
 }
 
-/// Which logical units a REPORT LUNS lists: the field SELECT REPORT (SPC-4 §6.33).
+/// The logical units that a REPORT LUNS lists: the field SELECT REPORT (SPC-4 §6.33).
 #[derive(Clone, Copy, PartialEq, Eq)]
 pub enum SelectReport {
     /// 00h: the logical units that the target's addresses reach, well known ones left out.

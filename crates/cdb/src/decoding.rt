@@ -44,7 +44,7 @@ pub fn decode(cdb: &[u8; CDB_BYTES]) -> Command
     }
 }
 
-/// A CDB of 6 bytes.
+/// Decodes a CDB of 6 bytes.
 #[tactic(auto, using(crate::proofs::Rows::by_none))]
 fn decode_6(cdb: &[u8; CDB_BYTES]) -> Command
     requires { byte 0 cdb.now < 0x20 }
@@ -68,7 +68,7 @@ fn decode_6(cdb: &[u8; CDB_BYTES]) -> Command
     under_control(cdb, 5, fields)
 }
 
-/// A CDB of 10 bytes.
+/// Decodes a CDB of 10 bytes.
 #[tactic(auto, using(crate::proofs::Rows::by_none))]
 fn decode_10(cdb: &[u8; CDB_BYTES]) -> Command
     requires from { 0x20 ≤ byte 0 cdb.now }
@@ -88,7 +88,7 @@ fn decode_10(cdb: &[u8; CDB_BYTES]) -> Command
     under_control(cdb, 9, fields)
 }
 
-/// A CDB of 12 bytes.
+/// Decodes a CDB of 12 bytes.
 #[tactic(auto, using(crate::proofs::Rows::by_none))]
 fn decode_12(cdb: &[u8; CDB_BYTES]) -> Command
     requires from { 0xa0 ≤ byte 0 cdb.now }
@@ -105,7 +105,7 @@ fn decode_12(cdb: &[u8; CDB_BYTES]) -> Command
     under_control(cdb, 11, fields)
 }
 
-/// A CDB of 16 bytes.
+/// Decodes a CDB of 16 bytes.
 #[tactic(auto, using(crate::proofs::Rows::by_none))]
 fn decode_16(cdb: &[u8; CDB_BYTES]) -> Command
     requires from { 0x80 ≤ byte 0 cdb.now }
@@ -125,7 +125,8 @@ fn decode_16(cdb: &[u8; CDB_BYTES]) -> Command
     under_control(cdb, 15, fields)
 }
 
-/// What the fields say, if they aren't refused and the control byte at this place has no NACA.
+/// Returns the command that the fields say, if they aren't refused and the control byte at this place has no NACA; else
+/// `Bad`.
 fn under_control(cdb: &[u8; CDB_BYTES], control: usize, fields: Option<Command>) -> Command
     requires place { control < 16 }
     requires data_out { IfSome fields (λ c. (need_of c).out ≤ 1048576) }
@@ -140,7 +141,7 @@ fn under_control(cdb: &[u8; CDB_BYTES], control: usize, fields: Option<Command>)
     }
 }
 
-/// REQUEST SENSE, or nothing where its fields are refused. So with each command below.
+/// Decodes REQUEST SENSE; `None` where its fields are refused. So with each command below.
 fn request_sense(cdb: &[u8; CDB_BYTES]) -> Option<Command>
     ensures meaning { result ≡ fields_of 0x03 cdb.now }
     ensures data_out { IfSome result (λ c. (need_of c).out ≤ 1048576) }
@@ -154,7 +155,7 @@ fn request_sense(cdb: &[u8; CDB_BYTES]) -> Option<Command>
     })
 }
 
-/// INQUIRY.
+/// Decodes INQUIRY.
 fn inquiry(cdb: &[u8; CDB_BYTES]) -> Option<Command>
     ensures meaning { result ≡ fields_of 0x12 cdb.now }
     ensures data_out { IfSome result (λ c. (need_of c).out ≤ 1048576) }
@@ -173,7 +174,7 @@ fn inquiry(cdb: &[u8; CDB_BYTES]) -> Option<Command>
     })
 }
 
-/// The page of vital product data of this page code, if the device has it.
+/// Returns the page of vital product data of this page code, if the device has it.
 fn page(code: u8) -> Option<InquiryData>
     ensures { result ≡ page_of code }
 {
@@ -187,7 +188,7 @@ fn page(code: u8) -> Option<InquiryData>
     }
 }
 
-/// REPORT LUNS.
+/// Decodes REPORT LUNS.
 fn report_luns(cdb: &[u8; CDB_BYTES]) -> Option<Command>
     ensures meaning { result ≡ fields_of 0xa0 cdb.now }
     ensures data_out { IfSome result (λ c. (need_of c).out ≤ 1048576) }
@@ -204,7 +205,7 @@ fn report_luns(cdb: &[u8; CDB_BYTES]) -> Option<Command>
     })
 }
 
-/// READ CAPACITY (16), one of the service actions of its opcode.
+/// Decodes READ CAPACITY (16), one of the service actions of its opcode.
 fn read_capacity_16(cdb: &[u8; CDB_BYTES]) -> Option<Command>
     ensures meaning { result ≡ fields_of 0x9e cdb.now }
     ensures data_out { IfSome result (λ c. (need_of c).out ≤ 1048576) }
@@ -218,7 +219,7 @@ fn read_capacity_16(cdb: &[u8; CDB_BYTES]) -> Option<Command>
     })
 }
 
-/// READ (10), (12) or (16), of these blocks.
+/// Decodes READ (10), (12) or (16), of these blocks.
 fn read(cdb: &[u8; CDB_BYTES], blocks: Blocks) -> Option<Command>
     ensures meaning { result
         ≡ unless (protect cdb.now ∷ is_over 2048 blocks.count ∷ [])
@@ -231,7 +232,7 @@ fn read(cdb: &[u8; CDB_BYTES], blocks: Blocks) -> Option<Command>
     })
 }
 
-/// WRITE (10), (12) or (16), of these blocks.
+/// Decodes WRITE (10), (12) or (16), of these blocks.
 fn write(cdb: &[u8; CDB_BYTES], blocks: Blocks) -> Option<Command>
     ensures meaning { result
         ≡ unless (protect cdb.now ∷ is_over 2048 blocks.count ∷ [])
@@ -244,8 +245,7 @@ fn write(cdb: &[u8; CDB_BYTES], blocks: Blocks) -> Option<Command>
     })
 }
 
-/// How many blocks a READ or a WRITE moves, unless it asks for protection information or for too
-/// many.
+/// Returns how many blocks a READ or a WRITE moves; `None` where it asks for protection information or for too many.
 fn transfer_length(cdb: &[u8; CDB_BYTES], count: u32) -> Option<u16>
     ensures length { result ≡ unless (protect cdb.now ∷ is_over 2048 count ∷ []) count }
     ensures bounded { IfSome result (λ blocks. blocks ≤ 2048) }
@@ -256,7 +256,7 @@ fn transfer_length(cdb: &[u8; CDB_BYTES], count: u32) -> Option<u16>
     Some(count as u16)
 }
 
-/// SYNCHRONIZE CACHE, of which no field is refused.
+/// Decodes SYNCHRONIZE CACHE, of which no field is refused.
 fn synchronize_cache(blocks: Blocks) -> Command
     ensures meaning { result ≡ Command.SynchronizeCache blocks.lba blocks.count }
     ensures data_out { (need_of result).out ≤ 1048576 }
@@ -267,7 +267,7 @@ fn synchronize_cache(blocks: Blocks) -> Command
     }
 }
 
-/// WRITE SAME, but for what is (16) alone.
+/// Decodes WRITE SAME, but for what is (16) alone.
 fn write_same(cdb: &[u8; CDB_BYTES], blocks: Blocks) -> Option<Command>
     ensures meaning { result
         ≡ unless (protect cdb.now ∷ bit 1 4 cdb.now ∷ is_set (bits 1 2 1 cdb.now)
@@ -289,7 +289,7 @@ fn write_same(cdb: &[u8; CDB_BYTES], blocks: Blocks) -> Option<Command>
     })
 }
 
-/// WRITE SAME (16).
+/// Decodes WRITE SAME (16).
 fn write_same_16(cdb: &[u8; CDB_BYTES]) -> Option<Command>
     ensures meaning { result ≡ fields_of 0x93 cdb.now }
     ensures data_out { IfSome result (λ c. (need_of c).out ≤ 1048576) }
@@ -301,7 +301,7 @@ fn write_same_16(cdb: &[u8; CDB_BYTES]) -> Option<Command>
     write_same(cdb, blocks_16(cdb))
 }
 
-/// UNMAP.
+/// Decodes UNMAP.
 fn unmap(cdb: &[u8; CDB_BYTES]) -> Option<Command>
     ensures meaning { result ≡ fields_of 0x42 cdb.now }
     ensures data_out { IfSome result (λ c. (need_of c).out ≤ 1048576) }
@@ -315,7 +315,7 @@ fn unmap(cdb: &[u8; CDB_BYTES]) -> Option<Command>
     })
 }
 
-/// COMPARE AND WRITE.
+/// Decodes COMPARE AND WRITE.
 fn compare_and_write(cdb: &[u8; CDB_BYTES]) -> Option<Command>
     ensures meaning { result ≡ fields_of 0x89 cdb.now }
     ensures data_out { IfSome result (λ c. (need_of c).out ≤ 1048576) }

@@ -45,7 +45,7 @@ pub fn need(command: &Command) -> Transfer
     }
 }
 
-/// So many bytes from the driver alone.
+/// Makes a need of so many bytes from the driver alone.
 fn from_driver(bytes: u32) -> Transfer
     ensures { result ≡ bytes_out bytes }
 {
@@ -55,7 +55,7 @@ fn from_driver(bytes: u32) -> Transfer
     }
 }
 
-/// So many bytes to the driver alone.
+/// Makes a need of so many bytes to the driver alone.
 fn from_device(bytes: u32) -> Transfer
     ensures { result ≡ bytes_in bytes }
 {

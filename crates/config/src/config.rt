@@ -1,4 +1,4 @@
-//! Which device is wanted.
+//! The configuration of a device.
 
 ghost use Rattle.std.specs.Prelude.{◌≡◌, ◌&&◌, nat_le, is_none, IfSome};
 ghost use Rattle.config.specs.Config.{form_of, has_bit, is_config};
@@ -93,7 +93,7 @@ pub fn tells_changes(features: u64) -> bool
     features & CHANGE == CHANGE
 }
 
-/// Whether a number is at least the one and at most the other.
+/// Returns true if a number is at least the one and at most the other.
 fn lies_within(number: u64, least: u64, most: u64) -> bool
     ensures { result ≡ (nat_le least number && nat_le number most) }
 {

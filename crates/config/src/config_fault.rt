@@ -67,14 +67,14 @@ impl fmt::Display for ConfigFault {
 
 impl Error for ConfigFault {}
 
-/// Whether a queue lies within the limits.
+/// Returns true if a queue lies within the limits.
 fn check_queue(form: Form, memory: u64, layout: &Layout) -> bool
     ensures { result ≡ is_queue form memory layout.now }
 {
     layout.size >= 2 && layout.size <= MOST_DESCRIPTORS && placement(form, memory, layout).is_none()
 }
 
-/// Why a queue doesn't lie within the limits.
+/// Returns why a queue doesn't lie within the limits.
 fn fault_of_queue(form: Form, memory: u64, place: usize, layout: &Layout) -> ConfigFault
     requires { is_queue form memory layout.now ≡ false }
     ensures { IsQueueFault form memory place layout.now result }
@@ -88,7 +88,7 @@ fn fault_of_queue(form: Form, memory: u64, place: usize, layout: &Layout) -> Con
     }
 }
 
-/// The first queue that doesn't lie within the limits.
+/// Returns the first queue that doesn't lie within the limits.
 fn first_refused(form: Form, memory: u64, queues: &[Layout]) -> Option<usize>
     ensures { result ≡ position (λ l. not (is_queue form memory l)) queues.now }
 {
@@ -97,7 +97,7 @@ fn first_refused(form: Form, memory: u64, queues: &[Layout]) -> Option<usize>
         .position(|layout| !check_queue(form, memory, layout))
 }
 
-/// Why there aren't queues of each kind, within the limits.
+/// Returns why there aren't queues of each kind, within the limits.
 pub(crate) fn fault_of_queues(form: Form, memory: u64, queues: &[Layout]) -> Option<ConfigFault>
     ensures none { is_none result ≡ are_queues (Some form) memory queues.now }
     ensures cause { IfSome result (λ fault. IsQueuesFault form memory queues.now fault) }
@@ -111,14 +111,14 @@ pub(crate) fn fault_of_queues(form: Form, memory: u64, queues: &[Layout]) -> Opt
     }
 }
 
-/// Whether a unit lies within the limits.
+/// Returns true if a unit lies within the limits.
 fn check_unit(unit: &UnitSpec) -> bool
     ensures { result ≡ is_unit unit.now }
 {
     unit.lun <= 16383 && unit.blocks >= 1 && unit.blocks <= MOST_BLOCKS
 }
 
-/// Why a unit doesn't lie within the limits.
+/// Returns why a unit doesn't lie within the limits.
 fn fault_of_unit(place: usize, unit: &UnitSpec) -> ConfigFault
     requires { is_unit unit.now ≡ false }
     ensures { IsUnitFault place unit.now result }
@@ -130,7 +130,7 @@ fn fault_of_unit(place: usize, unit: &UnitSpec) -> ConfigFault
     }
 }
 
-/// Whether a target has LUN 0.
+/// Returns true if a target has LUN 0.
 fn check_lun_0(units: &[UnitSpec], target: u8) -> bool
     ensures { result ≡ has_lun_0 units.now target }
 {
@@ -139,14 +139,14 @@ fn check_lun_0(units: &[UnitSpec], target: u8) -> bool
         .any(|unit| unit.target == target && unit.lun == 0)
 }
 
-/// The first unit that doesn't lie within the limits.
+/// Returns the first unit that doesn't lie within the limits.
 fn first_unfit(units: &[UnitSpec]) -> Option<usize>
     ensures { result ≡ position (λ u. not (is_unit u)) units.now }
 {
     units.iter().position(|unit| !check_unit(unit))
 }
 
-/// The first unit whose target has no LUN 0.
+/// Returns the first unit whose target has no LUN 0.
 fn first_lacking(units: &[UnitSpec]) -> Option<usize>
     ensures { result ≡ position (λ u. not (has_lun_0 units.now u.target)) units.now }
 {
@@ -155,14 +155,14 @@ fn first_lacking(units: &[UnitSpec]) -> Option<usize>
         .position(|unit| !check_lun_0(units, unit.target))
 }
 
-/// Whether one unit stands above another.
+/// Returns true if one unit stands above another.
 fn stands_above(before: &UnitSpec, unit: &UnitSpec) -> bool
     ensures { result ≡ stands_before (address_of before.now) (address_of unit.now) }
 {
     before.target < unit.target || (before.target == unit.target && before.lun < unit.lun)
 }
 
-/// The first unit that doesn't stand above the one before it.
+/// Returns the first unit that doesn't stand above the one before it.
 fn first_fall(units: &[UnitSpec]) -> Option<usize>
     ensures none { is_none result ≡ is_rising (map address_of units.now) }
     ensures cause { IfSome result (λ place. Falls units.now place) }
@@ -175,7 +175,7 @@ fn first_fall(units: &[UnitSpec]) -> Option<usize>
     None
 }
 
-/// Why the units don't lie within the limits.
+/// Returns why the units don't lie within the limits.
 pub(crate) fn fault_of_units(units: &[UnitSpec]) -> Option<ConfigFault>
     ensures none { is_none result ≡ are_units units.now }
     ensures cause { IfSome result (λ fault. IsUnitsFault units.now fault) }

@@ -14,7 +14,7 @@ pub enum TaskAttribute {
     HeadOfQueue = 2,
 }
 
-/// The attribute of this number in a request (VIRTIO 1.2 §5.6.6.1), if this device knows it.
+/// Returns the attribute of this number in a request (VIRTIO 1.2 §5.6.6.1), if this device knows it.
 pub(crate) fn attribute_of(number: u8) -> Option<TaskAttribute>
     ensures { result ≡ attribute_of number }
 {

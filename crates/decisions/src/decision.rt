@@ -1,4 +1,4 @@
-//! What is decided of a request when it is fetched.
+//! The decision on a request when it is fetched.
 
 ghost use Rattle.std.specs.Prelude.{◌≡◌, ◌+◌, ◌<◌, ◌≤◌, ◌^◌, length, min};
 ghost use Rattle.cdb.specs.Decoding.{command};
@@ -13,7 +13,7 @@ use cdb::{decode, need};
 use scsi_codec::{CodecFault, REQUEST_BYTES, RESPONSE_BYTES, Request, ResponseCode, read_request};
 use sense::Sense;
 
-/// What is decided of a request when it is fetched. It is never decided again.
+/// The decision on a request when it is fetched. It is never decided again.
 #[derive(Drop)]
 pub enum Decision {
     /// It is answered so, and goes to no unit.
@@ -31,7 +31,7 @@ impl ChainLengths {
     }
 }
 
-/// A response other than OK.
+/// Makes a response other than OK.
 fn fail(code: ResponseCode) -> Decision
     ensures decision { result ≡ fails code }
     ensures len { IfDirect (λ answer. length answer ≡ RESPONSE_BYTES) result }
@@ -39,7 +39,7 @@ fn fail(code: ResponseCode) -> Decision
     Decision::Direct(DirectAnswer::failed(code))
 }
 
-/// What is decided of a request whose target is there.
+/// Returns the decision on a request whose target is there.
 fn decide_by_command(
     inventory: &Inventory,
     bytes: &mut Vec<u8>,

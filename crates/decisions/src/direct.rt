@@ -23,18 +23,18 @@ pub const MOST_OTHER_BYTES: usize = 5;
 /// The bytes of an answer that needs no unit. They stand in place, so that making them takes no memory.
 pub type DirectBytes = ArrayVec<u8, MOST_DIRECT_BYTES>;
 
-/// What is told without a unit.
+/// The answers that need no unit.
 #[derive(Drop)]
 pub(crate) enum Told {
     /// No byte.
     Nothing,
-    /// A response other than OK.
+    /// Makes the bytes of a response other than OK.
     Failed(ResponseCode),
-    /// A status with no sense data.
+    /// Makes the bytes of a status with no sense data.
     Status(u8),
     /// CHECK CONDITION with sense data.
     Refused(Sense),
-    /// What a LUN that its target lacks is answered.
+    /// Makes what a LUN that its target lacks is answered.
     Absent(Command),
     /// Bytes that another table gives.
     Other(ArrayVec<u8, MOST_OTHER_BYTES>),
@@ -59,7 +59,7 @@ impl Model for DirectAnswer {
     ghost invariant = { λ a. CanTell a.lengths a.told };
 }
 
-/// A response, and the data behind it.
+/// Makes a response, and the data behind it.
 fn with_data(head: &[u8; RESPONSE_BYTES], payload: &[u8]) -> DirectBytes
     requires { length payload.now ≤ ABSENT_BYTES }
     ensures { result.items ≡ head.now ++ payload.now }
@@ -74,7 +74,7 @@ fn with_data(head: &[u8; RESPONSE_BYTES], payload: &[u8]) -> DirectBytes
     bytes
 }
 
-/// A response other than OK.
+/// Makes the bytes of a response other than OK.
 fn failed_bytes(code: ResponseCode) -> DirectBytes
     ensures { result.items ≡ failed code }
 {
@@ -87,7 +87,7 @@ fn failed_bytes(code: ResponseCode) -> DirectBytes
     with_data(&head, &[])
 }
 
-/// CHECK CONDITION with this sense data.
+/// Makes the bytes of CHECK CONDITION with this sense data.
 fn refused_bytes(lengths: &ChainLengths, sense: Sense) -> DirectBytes
     requires sum { lengths.now.readable + lengths.now.writable ≤ 2 ^ 32 }
     requires room { RESPONSE_BYTES ≤ lengths.now.writable }
@@ -97,7 +97,7 @@ fn refused_bytes(lengths: &ChainLengths, sense: Sense) -> DirectBytes
     with_data(&head, &[])
 }
 
-/// A status with no sense data.
+/// Makes the bytes of a status with no sense data.
 fn status_bytes(lengths: &ChainLengths, status: u8) -> DirectBytes
     requires sum { lengths.now.readable + lengths.now.writable ≤ 2 ^ 32 }
     requires room { RESPONSE_BYTES ≤ lengths.now.writable }
@@ -107,7 +107,7 @@ fn status_bytes(lengths: &ChainLengths, status: u8) -> DirectBytes
     with_data(&head, &[])
 }
 
-/// What a LUN that its target lacks is answered.
+/// Makes what a LUN that its target lacks is answered.
 fn absent_bytes(lengths: &ChainLengths, command: &Command) -> DirectBytes
     requires sum { lengths.now.readable + lengths.now.writable ≤ 2 ^ 32 }
     requires room { RESPONSE_BYTES + (need_of command.now).into ≤ lengths.now.writable }
@@ -118,7 +118,7 @@ fn absent_bytes(lengths: &ChainLengths, command: &Command) -> DirectBytes
     with_data(&head, reply.payload.as_slice())
 }
 
-/// These bytes.
+/// Returns a copy of these bytes.
 fn other_bytes(from: &[u8]) -> DirectBytes
     requires { length from.now ≤ MOST_OTHER_BYTES }
     ensures { result.items ≡ from.now }
@@ -184,7 +184,7 @@ impl DirectAnswer {
         }
     }
 
-    /// What a LUN that its target lacks is answered.
+    /// Makes what a LUN that its target lacks is answered.
     pub(crate) fn absent(lengths: &ChainLengths, command: &Command) -> DirectAnswer
         requires sum { lengths.now.readable + lengths.now.writable ≤ 2 ^ 32 }
         requires room { RESPONSE_BYTES + (need_of command.now).into ≤ lengths.now.writable }

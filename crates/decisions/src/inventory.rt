@@ -1,4 +1,4 @@
-//! Which logical units there are.
+//! The inventory of logical units.
 
 ghost use Rattle.std.specs.Prelude.{◌≡◌, ◌<◌, ◌≤◌, true, map, length, IfSome, IfOk};
 ghost use Rattle.decisions.specs.Inventory.{address_of, stands_before, is_rising, has_target, place_of, luns_of};
@@ -112,7 +112,7 @@ impl Inventory {
     }
 }
 
-/// Whether one unit's address stands before another's.
+/// Returns true if one unit's address stands before another's.
 fn is_before(unit: &UnitSpec, other: &UnitSpec) -> bool
     ensures { result ≡ stands_before (address_of unit.now) (address_of other.now) }
 {

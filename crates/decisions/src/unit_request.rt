@@ -40,7 +40,7 @@ impl Model for UnitRequest {
 }
 
 impl UnitRequest {
-    /// The request in the first bytes of a chain, decoded, whose command takes so many bytes of data. It takes the
+    /// Makes the decoded request in the first bytes of a chain, whose command takes so many bytes of data. It takes the
     /// bytes where these are some.
     pub(crate) fn new(
         id: u64,

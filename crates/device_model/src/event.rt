@@ -1,4 +1,4 @@
-//! What may happen next.
+//! The events of a device: what may happen next.
 
 /// One atomic step of the device, or of its guest or its operator: one hold of a unit's lock, of a queue's with the
 /// memory's inside it, or of the memory's alone, or one put or take of the hand-off.

@@ -1,4 +1,4 @@
-//! What holds of the device in every order of its steps. The laws say nothing of code: they hold of every program
+//! Laws that hold of the device in every order of its steps. The laws say nothing of code: they hold of every program
 //! whose calls are transitions.
 
 ghost use Rattle.std.specs.Prelude.{ℕ, ◌≡◌, ◌+◌, ◌≤◌, ◌↔◌, ◌++◌, false, Bool, List, [], length, map, None, Some, slice_get};

@@ -32,7 +32,7 @@ pub fn a_quiet_device_is_at_rest()
         IsAtRest w }
 {}
 
-/// What the device does next is decided by what is there: the first event of its order that applies, which is one, or
+/// The device's next event is decided by what is there: the first event of its order that applies, which is one, or
 /// none, where it has nothing left to do.
 pub fn one_event_is_next()
     ensures some { (w : PlainWorld) → ((e : Event) × IsNext w e) ⊎ IsQuiet w }
@@ -106,8 +106,8 @@ pub fn a_settling_is_a_run()
         Reached old trace w → Settles w more → IsQuiet (world_of w more) → IsAtRest (world_of w more) }
 {}
 
-/// What applies after a step applied before it, or is among the few events that the step wakes. So a device that knows
-/// what applies goes on to know it where it looks, after each step, at what applied and at those.
+/// An event that applies after a step applied before it, or is among the few events that the step wakes. So a device
+/// that knows what applies goes on to know it where it looks, after each step, at what applied and at those.
 pub fn only_some_events_wake()
     ensures { (w : PlainWorld) (d : Transition) (e : Event) → IsOwn e → Happens d w → Applies (after d w) e →
         (Applies w e → ⊥) → Wakes w d e }

@@ -1,5 +1,5 @@
-//! What holds of the device in every order of its steps, from its opening on. `transitions_of` are the transitions of a trace, the
-//! newest first; a law over all reached traces speaks of every moment of every run.
+//! Laws that hold of the device in every order of its steps, from its opening on. `transitions_of` are the transitions
+//! of a trace, the newest first; a law over all reached traces speaks of every moment of every run.
 
 ghost use Rattle.std.specs.Prelude.{List};
 ghost use Rattle.device_model.specs.World.{PlainWorld};

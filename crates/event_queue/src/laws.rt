@@ -1,4 +1,4 @@
-//! What holds of a port whatever comes to it.
+//! A law of a port, whatever comes to it.
 
 ghost use Rattle.std.specs.Prelude.{ℕ, ◌≡◌, List};
 ghost use Rattle.event_queue.specs.Port.{Happening};

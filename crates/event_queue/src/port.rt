@@ -32,7 +32,7 @@ ghost use Rattle.std.specs.Prelude.{◌≡◌};
 ghost use Rattle.scsi_codec.specs.EventQueue.{event_bytes};
 ghost use Rattle.scsi_codec.specs.EventQueue.{missed_event};
 
-/// The bytes that tell that events were missed (VIRTIO 1.2 §5.6.6.3).
+/// Returns the bytes that tell that events were missed (VIRTIO 1.2 §5.6.6.3).
 fn missed_bytes() -> [u8; EVENT_BYTES]
     ensures { result ≡ event_bytes missed_event }
 {

@@ -102,7 +102,7 @@ impl Placed {
     }
 }
 
-/// What a chain asks for.
+/// The kinds of chains that a driver sends.
 #[derive(Clone, Copy)]
 pub enum Asks {
     /// A command, by a request.
@@ -111,10 +111,10 @@ pub enum Asks {
     Function,
 }
 
-/// What is known of a request or a function that was sent.
+/// A request or a function that was sent, as far as the driver knows.
 #[derive(Clone, Copy)]
 pub struct Sent {
-    /// Which of the two it is.
+    /// The kind: a request or a function.
     pub asks: Asks,
     /// The queue that it went to.
     pub queue: u16,
@@ -132,9 +132,9 @@ pub struct Driver {
     features: Features,
     queues: Vec<Queue>,
     space: Space,
-    /// What is open.
+    /// The chains that are open.
     open: Slab<Open>,
-    /// What was sent, by name.
+    /// The requests and functions that were sent, by name.
     sent: BTreeMap<String, Sent>,
     /// Where the event buffers lie that were used, in order.
     events: Vec<u64>,
@@ -281,8 +281,8 @@ impl Driver {
         queue.ring.offer(memory, Chain::EventBuffer(writable), key)
     }
 
-    /// Finds what was used since the last look, by reading guest memory alone. What was used is free
-    /// from here on. It fails where memory runs out.
+    /// Finds what was used since the last look, by reading guest memory alone. Chains that were used are free from here
+    /// on. It fails where memory runs out.
     pub fn look<M: GuestMemory>(&mut self, memory: &M) -> Result<(), AllocError> {
         for queue in 0..self.queues.len() {
             self.look_at(memory, queue)?;

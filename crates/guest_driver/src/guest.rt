@@ -1,4 +1,4 @@
-//! What the guest writes into its memory, and what it reads there.
+//! Writes into the guest's memory, and reads from it.
 
 ghost use Rattle.std.specs.Prelude.{◌≡◌, ◌⊎◌, List, ℕ, length, OnOk, OnErr, IfErr};
 ghost use Rattle.std.specs.Int.{w16, w32, from_le_bytes};
@@ -70,7 +70,7 @@ pub fn put<M: GuestMemory>(memory: &mut M, at: u64, bytes: &[u8]) -> Result<(), 
     }
 }
 
-/// So many copies of an item's bytes, in a row.
+/// Makes so many copies of an item's bytes, in a row.
 fn copies_of(alloc: Global, item: &Item, copies: u32) -> Result<Vec<u8>, AllocError> {
     let mut bytes = Vec::new(alloc);
     item.append_copies(copies, &mut bytes)?;

@@ -1,4 +1,4 @@
-//! What is on its way to the device: requests and functions.
+//! Requests and functions on their way to the device.
 
 ghost use Rattle.std.specs.Prelude.{◌≡◌, ◌≤◌, ◌<◌, ◌+◌, ◌^◌, ℕ, IsOk, IfOk, OnOk, IfErr, OnErr, ◌↔◌};
 ghost use Rattle.guest_mem.specs.Memory.{LiesIn};
@@ -42,9 +42,9 @@ pub fn function_request(function: &TaskManagement<'_>) -> [u8; FUNCTION_BYTES]
 /// The buffers of a request or of a function.
 #[derive(Clone, Copy)]
 pub struct Buffers {
-    /// What the device reads.
+    /// The buffer that the device reads.
     pub readable: Buffer,
-    /// What the device writes.
+    /// The buffer that the device writes.
     pub writable: Buffer,
 }
 
@@ -99,7 +99,7 @@ impl Table {
     }
 }
 
-/// What a queue says of a chain that was used.
+/// A chain that was used, as its queue says.
 #[derive(Clone, Copy)]
 pub struct Used {
     /// The key under which it was made available.

@@ -1,4 +1,4 @@
-//! What follows from the definitions of a read and a write alone.
+//! Laws that follow from the definitions of a read and a write alone.
 
 ghost use Rattle.std.specs.Prelude.{◌≡◌, ◌≤◌, ◌+◌, ◌⊎◌, ℕ, List, length};
 ghost use Rattle.guest_mem.specs.Memory.{bytes_at, with_bytes};

@@ -41,7 +41,7 @@ pub fn check<S: Read>(alloc: Global, script: &mut S) -> Result<(), ScriptFault> 
     Ok(())
 }
 
-/// The fault of a header, with its word where a line can't be read.
+/// Returns the fault of a header, with its word where a line can't be read.
 fn of_header(alloc: Global, bytes: &[u8], fault: ScriptFault) -> ScriptFault {
     let ScriptFault::Line { line, fault: cause } = fault else {
         return fault;
@@ -55,7 +55,7 @@ fn of_header(alloc: Global, bytes: &[u8], fault: ScriptFault) -> ScriptFault {
     }
 }
 
-/// Whether the device takes what a header asks for. `serve` has a number of workers of its own.
+/// Returns true if the device takes what a header asks for. `serve` has a number of workers of its own.
 fn is_taken(mut config: Config, kind: Kind) -> bool {
     if let Kind::Serve = kind {
         config.workers = 1;
@@ -63,7 +63,7 @@ fn is_taken(mut config: Config, kind: Kind) -> bool {
     config.is_valid()
 }
 
-/// What is known of a script up to a line.
+/// A script up to a line, as a check knows it.
 #[derive(Drop)]
 struct Checker {
     alloc: Global,

@@ -1,4 +1,4 @@
-//! What the guest does.
+//! Runs the lines of the guest.
 
 use guest_driver::{Driver, GuestMemory, put_bytes};
 use script_lines::{Bytes, GuestLine, Stop};

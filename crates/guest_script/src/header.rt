@@ -32,7 +32,7 @@ pub(crate) struct Header {
 }
 
 impl Header {
-    /// Of no line.
+    /// Makes a header of no line.
     pub(crate) fn new(alloc: Global) -> Header {
         Header {
             pages: None,
@@ -79,7 +79,7 @@ impl Header {
         Ok(())
     }
 
-    /// What the header asks for. `BadConfig` where a line lacks.
+    /// Returns the device that the header asks for. `BadConfig` where a line lacks.
     pub(crate) fn wanted(self, alloc: Global) -> Result<Wanted, Stop> {
         let (Some(pages), Some(form), Some(queues)) = (self.pages, self.form, self.queues) else {
             return Err(Stop::Fault(LineFault::BadConfig));
@@ -113,12 +113,12 @@ impl Header {
     }
 }
 
-/// What a header asks for, of which no line lacks.
+/// The device that a header asks for, of which no line lacks.
 #[derive(Drop)]
 pub struct Wanted {
     /// The device. Whether it takes this isn't known here.
     pub config: Config,
-    /// What lines may name.
+    /// The names that lines may use.
     pub known: Known,
     /// The form of the queues.
     pub form: Form,
@@ -136,7 +136,7 @@ pub fn stop_of(fault: StartFault) -> Stop {
     }
 }
 
-/// A disk, as the device is told of it.
+/// Returns a disk, as the device is told of it.
 fn unit_of(disk: Disk) -> UnitSpec {
     UnitSpec {
         target: disk.unit.target,
@@ -158,7 +158,7 @@ fn features_of(form: Form, features: Features) -> u64 {
     VERSION_1 | form | indirect | event_idx | change
 }
 
-/// Where the queues lie.
+/// Returns where the queues lie.
 fn layouts(alloc: Global, queues: Queues) -> Result<Vec<Layout>, AllocError> {
     (0..queues.count)
         .map(|queue| layout_of(queue, queues.size))

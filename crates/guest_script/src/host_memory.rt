@@ -18,7 +18,7 @@ pub(crate) struct HostMemory<'a, R: Wait, C: Ledger, D: Ledger> {
 }
 
 impl<'a, R: Wait, C: Ledger, D: Ledger> HostMemory<'a, R, C, D> {
-    /// The memory of this host's guest, of so many pages.
+    /// Returns the memory of this host's guest, of so many pages.
     pub(crate) fn new(
         rt: &'a R,
         host: &'a Host<Open, C, D>,

@@ -1,4 +1,4 @@
-//! Which command a script is for.
+//! The command that a script is for.
 
 use crate::script::Script;
 use script_lines::{LineText, text_of};
@@ -14,8 +14,8 @@ pub(crate) enum Kind {
 }
 
 impl Kind {
-    /// The command that a script is for: `serve` where `wait`, `close` or `abandon` stands before each step of the device and each
-    /// line that prints, else `play`. It fails where memory runs out.
+    /// Returns the command that a script is for: `serve` where `wait`, `close` or `abandon` stands before each step of
+    /// the device and each line that prints, else `play`. It fails where memory runs out.
     pub(crate) fn of(alloc: Global, script: &Script<'_>) -> Result<Kind, AllocError> {
         for line in script.lines.iter().skip(script.header) {
             let words = match text_of(alloc, line)? {

@@ -1,10 +1,10 @@
-//! What lines may name.
+//! The names that lines may use.
 
 use config::UnitSpec;
 use script_lines::{Command, GuestLine, LineFault, PrintLine};
 use scsi_codec::{Address, FIRST_REQUEST_QUEUE};
 
-/// What lines may name: so many queues, and the units of the header.
+/// The names that lines may use: so many queues, and the units of the header.
 #[derive(Drop)]
 pub struct Known {
     /// How many queues there are, the control and the event queue among them.
@@ -15,7 +15,7 @@ pub struct Known {
 
 impl Known {
     /// Refuses a line by `BadValue` where it sends to what is no queue of requests, or prints of a queue, a unit or
-    /// blocks that aren't there. That stands before where a line may stand.
+    /// blocks that aren't there. This is looked at before the line's place.
     pub fn check(&self, command: &Command<'_>) -> Result<(), LineFault> {
         let is_known = match command {
             Command::Guest(GuestLine::Send(send)) => {

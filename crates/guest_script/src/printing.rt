@@ -1,4 +1,4 @@
-//! What a script prints.
+//! Prints what a script's lines ask for.
 
 use crate::device::Device;
 use crate::runs::{Runs, written};
@@ -45,7 +45,7 @@ pub fn print<D: Device, W: Write>(
     }
 }
 
-/// The unit of an address. `BadValue` where there is none.
+/// Returns the unit of an address. `BadValue` where there is none.
 fn unit_of<D: Device>(device: &D, address: Address) -> Result<&UnitState, LineFault> {
     match device.unit(address) {
         Some(unit) => Ok(unit),

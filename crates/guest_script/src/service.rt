@@ -87,8 +87,8 @@ where
     both(ended, closed)
 }
 
-/// What a script's lines and the closing of its device gave, where both went well; else the fault of a line, and where
-/// there is none what closing says.
+/// Returns what a script's lines and the closing of its device gave, where both went well; else the fault of a line,
+/// or, where there is none, that of the closing.
 fn both<A: Drop, B: Drop, E: Drop>(lines: Result<A, E>, closing: Result<B, E>) -> Result<(A, B), E>
     ensures line { (fault : E) → lines ≡ Err fault → result ≡ Err fault }
     ensures closing { (value : A) (fault : E) → lines ≡ Ok value → closing ≡ Err fault → result ≡ Err fault }
@@ -101,7 +101,7 @@ fn both<A: Drop, B: Drop, E: Drop>(lines: Result<A, E>, closing: Result<B, E>) -
     }
 }
 
-/// The fault of a script whose device says this when it is closed.
+/// Returns the fault of a script whose device says this when it is closed.
 fn fault_of(fault: CloseFault) -> ScriptFault {
     match fault {
         CloseFault::Unconfirmed(ticket) => ScriptFault::Unconfirmed {
@@ -185,7 +185,7 @@ impl<C: Ledger, D: Ledger> Service<C, D> {
         Ok(script.lines.len())
     }
 
-    /// Runs a line, and then finds what was used. Whether the line is `close` or `abandon`.
+    /// Runs a line, and then finds what was used. Returns true if the line is `close` or `abandon`.
     fn run_line<R: Wait>(&mut self, rt: &R, line: &[u8]) -> Result<bool, Stop> {
         if let Some(command) = command_of(self.alloc, line)? {
             self.known.check(&command)?;

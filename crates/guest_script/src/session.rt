@@ -66,7 +66,7 @@ struct Session {
     tracing: Option<Tracing>,
 }
 
-/// What a session needs that prints each step.
+/// The state of a session that prints each step.
 #[derive(Drop)]
 struct Tracing {
     /// The steps of the device, in the order in which it takes them.

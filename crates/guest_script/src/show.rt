@@ -1,4 +1,4 @@
-//! What became of a request or a function.
+//! Prints what became of a request or a function.
 
 ghost use Rattle.std.specs.Prelude.{◌≤◌};
 
@@ -9,7 +9,7 @@ use script_lines::{LineFault, Stop};
 use scsi_codec::RESPONSE_BYTES;
 use std::io::Write;
 
-/// A number of four bytes of a response.
+/// Returns a number of four bytes of a response.
 fn field(response: &[u8; RESPONSE_BYTES], at: usize) -> u32
     requires { at ≤ 100 }
 {
@@ -46,7 +46,7 @@ fn print_sense<W: Write>(
     Ok(())
 }
 
-/// The data in behind a response, as far as it lies in memory.
+/// Returns the data in behind a response, as far as it lies in memory.
 fn data_in(memory: &GuestMem, response: u64, used: u32) -> &[u8] {
     let start = response.saturating_add(RESPONSE_BYTES as u64);
     let len = u64::from(used).saturating_sub(RESPONSE_BYTES as u64);

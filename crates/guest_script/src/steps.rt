@@ -4,7 +4,7 @@ use script_lines::Step;
 use std::alloc::{AllocError, Global};
 use world::Event;
 
-/// The event of a step.
+/// Returns the event of a step.
 pub(crate) fn event_of(step: Step) -> Event {
     match step {
         Step::Fetch(queue) => Event::Fetch(queue),
@@ -23,8 +23,8 @@ pub(crate) fn event_of(step: Step) -> Event {
     }
 }
 
-/// The steps of a device of so many queues and seats, in the order of `order` in `device_model/specs/Order.antt`:
-/// `settle` takes the first that applies. It fails where memory runs out.
+/// Returns the steps of a device of so many queues and seats, in the order of `order` in
+/// `device_model/specs/Order.antt`: `settle` takes the first that applies. It fails where memory runs out.
 pub(crate) fn order(alloc: Global, queues: u16, seats: u16) -> Result<Vec<Step>, AllocError> {
     let mut steps = Vec::new(alloc);
     for step in [Step::AnswerTmf, Step::Check, Step::Mark, Step::Raise] {

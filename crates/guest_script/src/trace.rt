@@ -1,4 +1,4 @@
-//! What each step of the device did, as a line.
+//! Prints what each step of the device did, as a line.
 
 use crate::known::Known;
 use crate::runs::written;
@@ -11,7 +11,7 @@ use std::io::Write;
 use unit_history::StepKind;
 use world::{Event, World};
 
-/// What was seen of a device, so that the next step is known by what it changed.
+/// A device as it was seen last, so that the next step is known by what it changed.
 #[derive(Drop)]
 pub(crate) struct Trace {
     /// How many steps each unit took.
@@ -22,19 +22,19 @@ pub(crate) struct Trace {
     buffers: u64,
 }
 
-/// What a step of a unit is about.
+/// The subject of a unit's step.
 #[derive(Clone, Copy)]
 struct Told {
     /// The unit.
     unit: Option<Address>,
     /// The chain of the request or the function.
     ticket: Option<Ticket>,
-    /// What came of it, in a word; none where that is what the step is there for.
+    /// Its outcome, in a word; none where that is what the step is there for.
     outcome: &'static str,
 }
 
 impl Trace {
-    /// Of a device of so many units and seats, of which nothing has happened. It fails where memory runs out.
+    /// Begins with a device of so many units and seats, of which nothing has happened. It fails where memory runs out.
     pub(crate) fn new(alloc: Global, units: usize, seats: u16) -> Result<Trace, AllocError> {
         Ok(Trace {
             steps: vec![in alloc; 0; units]?,
@@ -159,13 +159,13 @@ impl Trace {
     }
 }
 
-/// The chain that a queue accepted last.
+/// Returns the chain that a queue accepted last.
 fn newest(world: &World, queue: u16) -> Option<Ticket> {
     let number = world.log(queue)?.accepted().checked_sub(1)?;
     Some(Ticket { queue, number })
 }
 
-/// Whether an event was a fetch that broke its queue: of a broken one none changes anything.
+/// Returns true if an event was a fetch that broke its queue: of a broken one none changes anything.
 fn is_broken(world: &World, event: &Event) -> bool {
     match event {
         Event::Fetch(queue) => world.broken(*queue).is_some(),
@@ -200,7 +200,7 @@ fn print_event<W: Write>(out: &mut W, event: &Event) -> Result<(), Stop> {
     }
 }
 
-/// The queue or the seat of an event, if it has one.
+/// Returns the queue or the seat of an event, if it has one.
 fn place_of(event: &Event) -> Option<u16> {
     match event {
         Event::Fetch(place) | Event::Enter(place) | Event::Direct(place) => Some(*place),

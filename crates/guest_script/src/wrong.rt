@@ -1,4 +1,4 @@
-//! What is wrong with a line, and at which of its words.
+//! A line's fault, and at which of its words.
 
 ghost use Rattle.std.specs.Prelude.{ℕ, ◌≡◌, ◌+◌, ◌-◌, ◌^◌, min, Some, None};
 ghost use Rattle.script_lines.specs.Faults.{ending_at};
@@ -12,13 +12,13 @@ use std::alloc::{AllocError, Global};
 /// Why a line ends a check.
 #[derive(Clone, Copy)]
 pub(crate) struct Wrong {
-    /// Which word it is, from 0 on, where it is one.
+    /// The word at fault, from 0 on, where it is one.
     word: Option<usize>,
     stop: Stop,
 }
 
 impl Wrong {
-    /// At a word, counted from 0.
+    /// Makes a fault at a word, counted from 0.
     pub(crate) fn at(word: usize, fault: LineFault) -> Wrong
         ensures { result ≡ record { word = Some word; stop = Stop.Fault fault } }
     {
@@ -28,14 +28,14 @@ impl Wrong {
         }
     }
 
-    /// At no word of the line.
+    /// Makes a fault at no word of the line.
     pub(crate) fn without(stop: Stop) -> Wrong
         ensures { result ≡ record { word = None; stop = stop } }
     {
         Wrong { word: None, stop }
     }
 
-    /// At the word for which a line couldn't be read.
+    /// Makes a fault at the word for which a line couldn't be read.
     pub(crate) fn of_line(alloc: Global, line: &[u8], stop: Stop) -> Wrong {
         let word = match stop {
             Stop::Fault(LineFault::UnknownLine) => Ok(Some(unknown_word(line))),
@@ -49,7 +49,7 @@ impl Wrong {
         }
     }
 
-    /// The fault of a script, of which this is wrong with the line of that number. Words count from 1.
+    /// Returns the fault of a script, of which this is wrong with the line of that number. Words count from 1.
     pub(crate) fn named(self, line: u64) -> ScriptFault
         ensures at { (word : ℕ) (fault : LineFault) → self.word ≡ Some word → self.stop ≡ Stop.Fault fault →
             result ≡ ScriptFault.Word line (min (word + 1) (2 ^ 64 - 1)) fault }
@@ -66,7 +66,7 @@ impl Wrong {
     }
 }
 
-/// The word of a line that is none of the language: the first that has a byte above 7f, else the first of all.
+/// Returns the word of a line that is none of the language: the first that has a byte above 7f, else the first of all.
 fn unknown_word(line: &[u8]) -> usize {
     let mut words = line
         .split(|byte| *byte == b' ')
@@ -74,7 +74,7 @@ fn unknown_word(line: &[u8]) -> usize {
     words.position(|word| !word.is_ascii()).unwrap_or(0)
 }
 
-/// The word of a line that its place doesn't take. It fails where memory runs out.
+/// Returns the word of a line that its place doesn't take. It fails where memory runs out.
 fn wrong_value(alloc: Global, line: &[u8]) -> Result<Option<usize>, AllocError> {
     let words = match text_of(alloc, line)? {
         LineText::Words(words) => words,

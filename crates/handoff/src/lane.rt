@@ -49,7 +49,7 @@ impl Lane {
     ghost use Rattle.handoff.specs.Rule.{opening, one_more, newcomer, joined, after_put, after_take};
     ghost use Rattle.handoff.specs.Places.{IsAt, HasOne, knowing};
 
-    /// An empty queue that holds at most so many jobs, and the first place at it, the chief.
+    /// Makes an empty queue that holds at most so many jobs, and the first place at it, the chief.
     pub(crate) fn new(alloc: Global, capacity: usize) -> Result<(Lane, Place), NoMemory>
         requires { 0 < capacity }
         ensures capacity { IfOk result (λ r. r.0.capacity ≡ capacity) }
@@ -59,7 +59,7 @@ impl Lane {
         Ok((Lane { queue }, Place { pass }))
     }
 
-    /// Another place, which the chief makes.
+    /// Makes another place, by the chief.
     pub(crate) fn another(&self, chief: &mut Place) -> Place
         requires at { IsAt self.now chief.old }
         requires chief { chief.old.knows.is_chief ≡ true }
@@ -94,7 +94,7 @@ impl Lane {
         self.queue.pop_as::<Takes, R>(rt, &mut place.pass)
     }
 
-    /// The chief takes in another place.
+    /// Has the chief take in another place.
     pub(crate) fn absorb(&self, chief: &mut Place, other: Place)
         requires at { IsAt self.now chief.old × IsAt self.now other }
         requires chief { chief.old.knows.is_chief ≡ true }
@@ -103,7 +103,7 @@ impl Lane {
         self.queue.absorb::<Seats>(&mut chief.pass, other.pass);
     }
 
-    /// The chief, which has all accounts, learns the whole.
+    /// Has the chief, which has all accounts, learn the whole.
     pub(crate) fn learn(&self, chief: Place)
         requires at { IsAt self.now chief }
         requires chief { chief.knows.is_chief ≡ true }

@@ -34,7 +34,7 @@ ghost use Rattle.std.specs.Prelude.{◌≡◌, ◌+◌, ◌<◌, ◌≤◌, leng
 ghost use Rattle.handoff.specs.Rule.{newcomer};
 ghost use Rattle.handoff.specs.Lanes.{HaveCapacity, at_each, lead};
 
-/// So many empty queues, each of this capacity, and the chief of each.
+/// Makes so many empty queues, each of this capacity, and the chief of each.
 fn open(alloc: Global, capacity: usize, count: usize) -> Result<(Vec<Lane>, Vec<Place>), NoMemory>
     requires { 0 < capacity }
     ensures capacity { IfOk result (λ r. HaveCapacity capacity r.0.items) }
@@ -51,7 +51,7 @@ fn open(alloc: Global, capacity: usize, count: usize) -> Result<(Vec<Lane>, Vec<
     Ok((lanes, chiefs))
 }
 
-/// The places of one more seat, which the chiefs make.
+/// Makes the places of one more seat, by the chiefs.
 fn another(
     alloc: Global,
     lanes: &[Lane],

@@ -4,15 +4,15 @@ use crossbeam_queue::protocol::{Join, Lesson, Outcome, Protocol, Split};
 use std::collections::LinkedList;
 use unit_history::Job;
 
-/// What one seat put into a queue and took from it, in order. Only proofs speak of it: no value of it is made.
+/// The jobs that one seat put into a queue and took from it, in order. Only proofs speak of it: no value of it is made.
 pub(crate) struct Account {
     pub seat: u64,
     pub put: LinkedList<Job>,
     pub taken: LinkedList<Job>,
 }
 
-/// What one pass of a queue knows: the accounts that it has and, where it is the chief, how many seats were
-/// made. Only proofs speak of it: no value of it is made.
+/// The knowledge of one pass of a queue: the accounts that it has and, where it is the chief, how many seats were made.
+/// Only proofs speak of it: no value of it is made.
 pub(crate) struct View {
     pub accounts: LinkedList<Account>,
     pub is_chief: bool,

@@ -6,7 +6,7 @@ use std::marker::Model;
 use std::snapshot::Snapshot;
 use unit_history::Job;
 
-/// That a seat took a job, and which seat had put it. Only proofs speak of it.
+/// A job that a seat took, and which seat had put it. Only proofs speak of it.
 #[derive(Drop)]
 pub struct Taken {
     pub from: usize,

@@ -18,7 +18,7 @@ const AVAIL: u16 = 128;
 /// VIRTQ_DESC_F_USED (VIRTIO 1.2, 2.8.1).
 const USED: u16 = 32768;
 
-/// The two bytes at an address, as a number.
+/// Returns the two bytes at an address, as a number.
 pub(crate) fn number_at(memory: &GuestMem, addr: u64) -> u16
     requires { addr + 2 ≤ length memory.now }
     ensures { result ≡ little_number 2 (bytes_at memory.now addr 2) }
@@ -26,8 +26,8 @@ pub(crate) fn number_at(memory: &GuestMem, addr: u64) -> u16
     LittleEndian::read_u16(memory.range(addr, 2))
 }
 
-/// The slot that is reached once so many slots were passed. Counts below 2^64 are divided as such,
-/// which is far cheaper.
+/// Returns the slot that is reached once so many slots were passed. Counts below 2^64 are divided as such, which is far
+/// cheaper.
 pub(crate) fn slot_after(passed: u128, size: u16) -> u16
     requires { 0 < size }
     ensures { result ≡ passed % size }
@@ -39,7 +39,7 @@ pub(crate) fn slot_after(passed: u128, size: u16) -> u16
     }
 }
 
-/// The slot behind one, round and round: a walk along the ring divides once.
+/// Returns the slot behind one, round and round: a walk along the ring divides once.
 pub(crate) fn slot_behind(slot: u16, size: u16) -> u16
     requires { slot < size }
     ensures { result ≡ (slot + 1) % size }
@@ -48,7 +48,7 @@ pub(crate) fn slot_behind(slot: u16, size: u16) -> u16
     if next == size { 0 } else { next }
 }
 
-/// Where the slot lies that is reached once so many slots were passed.
+/// Returns where the slot lies that is reached once so many slots were passed.
 pub(crate) fn place_of(layout: &Layout, passed: u128) -> u64
     requires some { 0 < layout.now.size }
     requires small { layout.now.desc + 16 * layout.now.size ≤ 2 ^ 28 }
@@ -58,7 +58,7 @@ pub(crate) fn place_of(layout: &Layout, passed: u128) -> u64
     layout.desc + 16 * slot_after(passed, layout.size) as u64
 }
 
-/// The wrap counter once so many slots were passed.
+/// Returns the wrap counter once so many slots were passed.
 pub(crate) fn wrap_at(size: u16, passed: u128) -> bool
     requires { 0 < size }
     ensures { result ≡ wrap_counter size passed }
@@ -70,7 +70,7 @@ pub(crate) fn wrap_at(size: u16, passed: u128) -> bool
     }
 }
 
-/// The descriptor at an address.
+/// Returns the descriptor at an address.
 #[inline(always)]
 fn read_descriptor(memory: &GuestMem, addr: u64) -> Descriptor
     requires { addr + 16 ≤ length memory.now }
@@ -85,7 +85,7 @@ fn read_descriptor(memory: &GuestMem, addr: u64) -> Descriptor
     }
 }
 
-/// The descriptor in a slot.
+/// Returns the descriptor in a slot.
 #[inline(always)]
 pub(crate) fn in_slot(memory: &GuestMem, layout: &Layout, slot: u16) -> Descriptor
     requires there { slot < layout.now.size }
@@ -96,7 +96,7 @@ pub(crate) fn in_slot(memory: &GuestMem, layout: &Layout, slot: u16) -> Descript
     read_descriptor(memory, layout.desc + 16 * slot as u64)
 }
 
-/// The descriptor in the slot that is reached once so many slots were passed.
+/// Returns the descriptor in the slot that is reached once so many slots were passed.
 pub(crate) fn descriptor_at(memory: &GuestMem, layout: &Layout, passed: u128) -> Descriptor
     requires some { 0 < layout.now.size }
     requires inside { layout.now.desc + 16 * layout.now.size ≤ length memory.now }
@@ -106,7 +106,7 @@ pub(crate) fn descriptor_at(memory: &GuestMem, layout: &Layout, passed: u128) ->
     read_descriptor(memory, place_of(layout, passed))
 }
 
-/// The entry at a place of the table at an address.
+/// Returns the entry at a place of the table at an address.
 pub(crate) fn entry_at(memory: &GuestMem, addr: u64, place: u32) -> Descriptor
     requires inside { addr + 16 * place + 16 ≤ length memory.now }
     requires small { length memory.now ≤ 2 ^ 28 }
@@ -115,7 +115,7 @@ pub(crate) fn entry_at(memory: &GuestMem, addr: u64, place: u32) -> Descriptor
     read_descriptor(memory, addr + 16 * place as u64)
 }
 
-/// Whether one of so many slots, from where so many were passed, is the one that an offset and wrap names.
+/// Returns true if one of so many slots, from where so many were passed, is the one that an offset and wrap names.
 #[inline(never)]
 pub(crate) fn names_one(size: u16, place: u16, passed: u128, slots: u16) -> bool
     requires some { 0 < size }
@@ -134,7 +134,7 @@ pub(crate) fn names_one(size: u16, place: u16, passed: u128, slots: u16) -> bool
     }
 }
 
-/// Whether a descriptor is available under a wrap counter of the driver.
+/// Returns true if a descriptor is available under a wrap counter of the driver.
 pub(crate) fn is_available(d: &Descriptor, wrap: bool) -> bool
     ensures { result ≡ cond wrap (avail_bit d.now && not (used_bit d.now)) (not (avail_bit d.now) && used_bit d.now) }
 {
@@ -143,7 +143,7 @@ pub(crate) fn is_available(d: &Descriptor, wrap: bool) -> bool
     if wrap { avail && !used } else { !avail && used }
 }
 
-/// The flags of a used descriptor under a wrap counter of the device, with so many bytes written.
+/// Returns the flags of a used descriptor under a wrap counter of the device, with so many bytes written.
 pub(crate) fn flags_of_used(wrap: bool, len: u32) -> u16
     ensures { result ≡ used_flags wrap len }
 {

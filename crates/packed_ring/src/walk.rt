@@ -18,7 +18,7 @@ pub struct Candidate {
     pub draft: Draft,
 }
 
-/// The first thing wrong with a descriptor in the ring, in a memory and a ring of these sizes.
+/// Returns the first thing wrong with a descriptor in the ring, in a memory and a ring of these sizes.
 fn check_slot(
     before: &Before,
     d: &Descriptor,
@@ -44,8 +44,8 @@ fn check_slot(
     }
 }
 
-/// What is answered where there is no room for the chain in the slots from there on: what is wrong
-/// with its first descriptor, and want of memory where nothing is.
+/// Returns the fault where there is no room for the chain in the slots from there on: that of its first descriptor, and
+/// `NoMemory` where it has none.
 #[cold]
 pub(crate) fn fault_without_room(
     memory: &GuestMem,
@@ -102,7 +102,7 @@ fn walk_table(
     unreachable!()
 }
 
-/// The chain in the slots from there on, or the first thing wrong along it.
+/// Returns the chain in the slots from there on, or the first thing wrong along it.
 pub(crate) fn walk(
     mut draft: Draft,
     memory: &GuestMem,

@@ -50,7 +50,7 @@ fn take_job(hand: &mut Hand) -> (usize, Chain, Outcome)
     }
 }
 
-/// What a job leaves once it is answered.
+/// Returns what a job leaves once it is answered: its receipt, or a note of why it has none.
 fn given(ticket: Ticket, outcome: Outcome) -> ReceiptOrNote
     ensures { result ≡ given_for ticket outcome }
 {

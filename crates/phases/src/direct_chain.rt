@@ -37,7 +37,7 @@ impl Model for DirectChain {
         × (length r.answer ≤ writable_total r.chain.parts) };
 }
 
-/// Why a chain that is ready gets no receipt.
+/// Returns why a chain that is ready gets no receipt.
 fn cause_of(refusal: Option<Refusal>) -> Cause
     ensures { (bytes : List ℕ) → result ≡ cause_for (outcome_of bytes refusal) }
 {
@@ -50,7 +50,7 @@ fn cause_of(refusal: Option<Refusal>) -> Cause
 }
 
 impl DirectChain {
-    /// A chain with the answer that was decided when it was fetched.
+    /// Makes a chain with the answer that was decided when it was fetched.
     pub(crate) fn decided(chain: Chain, answer: DirectAnswer) -> DirectChain
         requires { length answer ≤ writable_total chain.parts }
         ensures { result ≡ record { chain = chain; outcome = Outcome.Decided answer } }
@@ -80,7 +80,7 @@ impl DirectChain {
         }
     }
 
-    /// Its chain, the bytes that answer it, for which there is room, and why it gets no receipt.
+    /// Returns its chain, the bytes that answer it, for which there is room, and why it gets no receipt.
     pub(crate) fn into_parts(self) -> (Chain, DirectAnswer, Cause)
         ensures chain { result.0 ≡ self.chain }
         ensures answer { result.1 ≡ bytes_of (lengths_of self.chain) self.outcome }

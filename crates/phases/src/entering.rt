@@ -13,14 +13,15 @@ use std::mem;
 use task_set::MOST_TASKS;
 use unit_history::{Arrival, Entered, JobList, UnitState};
 
-/// Whether there is room for all that a unit may hand out.
+/// Returns true if there is room for all that a unit may hand out.
 pub(crate) fn has_places(out: &JobList) -> bool
     ensures { IsTrue result ↔ HasPlaces out.now }
 {
     out.len() <= out.limit() && out.limit() - out.len() >= MOST_TASKS
 }
 
-/// A request comes to its unit, out of a slot that is empty now: the slot is written only where it was refused.
+/// Brings a request to its unit, out of a slot that is empty now. It writes the slot only where the unit refused the
+/// request.
 fn enter(unit: &mut UnitState, arrival: Arrival, slot: &mut Slot, out: &mut JobList)
     requires places { HasPlaces out.old }
     requires empty { slot_of slot.old ≡ plain.Slot.Empty }

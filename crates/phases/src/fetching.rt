@@ -21,7 +21,7 @@ use ring_core::{Chain, Fetched};
 use scsi_codec::{CONTROL_QUEUE, one_control};
 use task_mgmt::{ControlDecision, decide_control};
 
-/// The lengths of a chain.
+/// Returns the lengths of a chain.
 pub(crate) fn lengths_of_chain(chain: &Chain) -> ChainLengths
     ensures lengths { result ≡ lengths_of chain.now }
     ensures sum { result.readable + result.writable ≤ 2 ^ 32 }
@@ -58,7 +58,7 @@ pub fn phase_fetch(
     }
 }
 
-/// What is decided of a chain of the control queue with these bytes.
+/// Returns the decision on a chain of the control queue with these bytes.
 fn decision_of_chain(inventory: &Inventory, chain: &Chain, bytes: &[u8]) -> ControlDecision
     ensures decision { DecidesControl inventory.now (record { chain = chain.now; bytes = bytes.now }) result }
     ensures suits { Suits (length inventory.now) (writable_total chain.now.parts) result }
@@ -67,7 +67,7 @@ fn decision_of_chain(inventory: &Inventory, chain: &Chain, bytes: &[u8]) -> Cont
     decide_control(inventory, bytes, chain.writable_len())
 }
 
-/// What a chain of the control queue leaves in the slot, or opens.
+/// Puts the direct answer of a control chain into the slot, or opens its function.
 fn decided_control(
     slot: &mut Slot,
     function: &mut Option<OpenFunction>,

@@ -28,7 +28,7 @@ impl Model for OpenFunction {
 }
 
 impl OpenFunction {
-    /// A function that begins for this chain, which has room for its response.
+    /// Begins a function for this chain, which has room for its response.
     pub(crate) fn new(chain: Chain, function: Function) -> OpenFunction
         requires { 1 ≤ writable_total chain.parts }
         ensures { result ≡ record { chain = chain; function = function } }
@@ -43,7 +43,7 @@ impl OpenFunction {
         &self.function
     }
 
-    /// Its chain, and how far it has come.
+    /// Returns its chain, and how far it has come.
     pub(crate) fn into_parts(self) -> (Chain, Function)
         ensures chain { result.0 ≡ self.chain }
         ensures function { result.1 ≡ self.function }

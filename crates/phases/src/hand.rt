@@ -1,10 +1,10 @@
-//! What a seat has in hand between two steps.
+//! The hand of a seat, between two steps.
 
 use crate::job_in_hand::JobInHand;
 use ring_core::Answered;
 use unit_history::Job;
 
-/// What a seat has in hand between two steps.
+/// The hand of a seat, between two steps.
 #[derive(Drop)]
 pub enum Hand {
     /// Nothing.

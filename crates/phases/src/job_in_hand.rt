@@ -65,21 +65,21 @@ impl JobInHand {
         self.outcome.is_some()
     }
 
-    /// Whether its commit is over and left a receipt.
+    /// Returns true if its commit is over and left a receipt.
     pub(crate) fn has_receipt(&self) -> bool
         ensures { result ≡ is_reply self.now.outcome }
     {
         matches!(self.outcome, Some(Outcome::Reply(_)))
     }
 
-    /// The pages of its WRITE are made of what was copied for them; none where memory was refused.
+    /// Makes the pages of its WRITE of what was copied for them; none where memory was refused.
     pub(crate) fn prepare(&mut self, started: StartedWrite)
         ensures { self.new ≡ self.old }
     {
         self.pages = started.prepare();
     }
 
-    /// The job is committed at its unit, with the pages of its WRITE, if they were made.
+    /// Commits the job at its unit, with the pages of its WRITE, if they were made.
     pub(crate) fn commit(&mut self, unit: &mut UnitState)
         ensures { (o : answers.Outcome) × Commits unit.old self.old.job o unit.new
             × (self.new ≡ record { job = self.old.job; outcome = Some o }) }
@@ -108,7 +108,7 @@ impl JobInHand {
         self.spare = None;
     }
 
-    /// The job, and what came of its commit once that is over.
+    /// Returns the job, and what came of its commit once that is over.
     pub(crate) fn into_parts(self) -> (Job, Option<Outcome>)
         ensures job { result.0 ≡ self.job }
         ensures outcome { result.1 ≡ self.outcome }

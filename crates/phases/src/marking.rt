@@ -10,7 +10,7 @@ use block_store::NoMemory;
 use task_mgmt::{Kind, MarkBy};
 use unit_history::{JobList, Place, UnitState};
 
-/// MarksBy the tasks of a unit: the place of the step.
+/// Marks the tasks of a unit, and returns the place of the step.
 fn mark_tasks(unit: &mut UnitState, mark: MarkBy, out: &mut JobList) -> Result<Place, NoMemory>
     requires known { IsKnownMark mark }
     requires room { HasPlaces out.old }

@@ -28,7 +28,7 @@ fn use_with(queue: &mut Queue, memory: &mut GuestMem, chain: Chain, bytes: &[u8]
     let _answered = queue.complete(memory, chain, len);
 }
 
-/// A chain of the event queue is held, or is used at once: a short one with no byte, another where an event was missed.
+/// Holds a chain of the event queue, or uses it at once: a short one with no byte, another where an event was missed.
 fn take_buffer(queue: &mut Queue, memory: &mut GuestMem, port: &mut EventPort, chain: Chain)
     requires fits { length memory.old ≡ queue.old.ring.memory }
     requires owned { Owns queue.old.ring chain }
@@ -82,7 +82,7 @@ pub fn phase_fetch_event(
     }
 }
 
-/// Whether the oldest buffer, if there is one, may be completed.
+/// Returns true if the oldest buffer, if there is one, may be completed.
 fn may_raise(queue: &Queue, memory: &GuestMem, port: &EventPort) -> bool
     ensures { IsTrue result ↔ MayRaise port.now.buffers queue.now memory.now }
 {

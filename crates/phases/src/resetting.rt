@@ -14,7 +14,7 @@ use unit_history::{JobList, UnitState};
 /// How many LUNs an event may name.
 pub(crate) const LUNS: u16 = 16384;
 
-/// That a unit was reset (VIRTIO 1.2 §5.6.6.3).
+/// Makes the event that tells of a unit's reset (VIRTIO 1.2 §5.6.6.3).
 fn reset_event(unit: &UnitState) -> Event
     ensures { result ≡ hard_report unit.now }
 {

@@ -41,7 +41,7 @@ pub(crate) fn write_run(
     }
 }
 
-/// The response code of a task that was marked (VIRTIO 1.2 §5.6.6.1).
+/// Returns the response code of a task that was marked (VIRTIO 1.2 §5.6.6.1).
 fn code_of_reason(reason: Reason) -> ResponseCode
     ensures { result ≡ code_of reason }
 {

@@ -84,7 +84,7 @@ impl<'a> Answering for Answer<'a> {
     }
 }
 
-/// The task of a chain that was completed leaves. Whether the unit knew it.
+/// Has the task of a completed chain leave. Returns true if the unit knew it.
 #[inline(always)]
 fn leave(unit: &mut UnitState, answered: Answered, out: &mut JobList) -> bool
     requires { HasPlaces out.old }

@@ -1,9 +1,9 @@
-//! What a queue has between two steps.
+//! The slot of a queue, between two steps.
 
 use crate::direct_chain::DirectChain;
 use task_set::Arrival;
 
-/// What a queue has between two steps. The thread that fetches from the queue keeps it.
+/// The slot of a queue, between two steps. The thread that fetches from the queue keeps it.
 #[derive(Drop)]
 pub enum Slot {
     /// Nothing.

@@ -16,7 +16,7 @@ use ring_core::Fetched;
 use scsi_codec::FIRST_REQUEST_QUEUE;
 use task_set::Arrival;
 
-/// What was taken from a request queue.
+/// The outcome of taking a chain from a request queue.
 #[derive(Drop)]
 pub enum Taken {
     /// Nothing.
@@ -27,7 +27,7 @@ pub enum Taken {
     Arrived(Arrival),
 }
 
-/// What is decided of a chain that was taken: the request, unless its answer stands in the slot.
+/// Decides on a chain that was taken. Returns the request, unless its answer stands in the slot.
 #[inline(always)]
 fn decided(inventory: &Inventory, fetched: Fetched, slot: &mut Slot) -> Taken
     requires { length fetched.bytes.items ≡ min 1048627 (readable_total fetched.chain.parts) }

@@ -35,7 +35,7 @@ pub fn is_placed(form: Form, memory: u64, layout: &Layout) -> bool
     }
 }
 
-/// A split ring.
+/// Makes a split ring.
 fn split_of(
     alloc: Global,
     number: u16,
@@ -53,7 +53,7 @@ fn split_of(
     }
 }
 
-/// A packed ring.
+/// Makes a packed ring.
 fn packed_of(
     alloc: Global,
     number: u16,
@@ -71,7 +71,7 @@ fn packed_of(
     }
 }
 
-/// A ring of either form.
+/// Makes a ring of either form.
 fn ring_of(
     alloc: Global,
     form: Form,
@@ -89,7 +89,7 @@ fn ring_of(
     }
 }
 
-/// What a look at a queue finds.
+/// The outcome of a fetch from a queue.
 #[derive(Drop)]
 pub enum Fetch {
     /// Nothing to be done.
@@ -249,7 +249,7 @@ impl Queue {
         self.ring.broken()
     }
 
-    /// Returns its log. What is outstanding agrees with it, and is no more than the queue has descriptors.
+    /// Returns its log. The outstanding chains agree with it, and are no more than the queue has descriptors.
     pub fn log(&self) -> &QueueLog
         ensures log { result.now ≡ self.now.ring.log }
         ensures sound { IsSound self.now.ring }

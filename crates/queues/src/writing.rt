@@ -14,7 +14,7 @@ use replies::Reply;
 use ring_core::{Chain, Part, scatter};
 use scsi_codec::RESPONSE_BYTES;
 
-/// The first part of these that may be written.
+/// Returns the first part of these that may be written.
 #[inline(always)]
 fn first_writable(parts: &[Part]) -> Option<Part>
     ensures { result ≡ first_open parts.now }
@@ -27,7 +27,7 @@ fn first_writable(parts: &[Part]) -> Option<Part>
     None
 }
 
-/// The first part of these that may be written, where so many bytes lie in it.
+/// Returns the first part of these that may be written, where so many bytes lie in it.
 #[inline(always)]
 fn whole_part(parts: &[Part], len: usize) -> Option<Part>
     ensures { IfSome result (λ p. (first_open parts.now ≡ Some p) × (len ≤ p.len)) }

@@ -11,12 +11,12 @@ ghost use Rattle.std.specs.Borrow.{ftrue};
 use std::fmt;
 use std::marker::{Model, PhantomData};
 
-/// What was recorded, in order. A clause reads it as `items`; nothing can ask it at run time. It has
-/// no bytes, and it owns none of what it recorded.
+/// Items that were recorded, in order. A clause reads it as `items`; nothing can ask it at run time. It has no bytes,
+/// and it owns none of what it recorded.
 #[derive(Drop)]
 pub struct Record<T> {
     of: PhantomData<T>,
-    /// What was recorded, the oldest first.
+    /// The items that were recorded, the oldest first.
     pub ghost items: { List T },
 }
 

@@ -53,7 +53,7 @@ pub fn exec_absent(command: &Command) -> AbsentReply
     }
 }
 
-/// GOOD with these data to the driver, cut to the allocation length (SPC-4 §4.3.5.6).
+/// Makes GOOD with these data to the driver, cut to the allocation length (SPC-4 §4.3.5.6).
 fn returned(whole: &[u8], allocation: u32) -> AbsentReply
     requires { length whole.now ≤ ABSENT_BYTES }
     ensures reply { plain_of_absent result ≡ returned (take allocation whole.now) }
@@ -72,7 +72,7 @@ fn returned(whole: &[u8], allocation: u32) -> AbsentReply
     }
 }
 
-/// CHECK CONDITION with this sense data.
+/// Makes CHECK CONDITION with this sense data.
 fn refused(sense: Sense) -> AbsentReply
     ensures reply { plain_of_absent result ≡ refusal sense }
     ensures room { array_vec_len result.payload ≡ 0 }

@@ -1,4 +1,4 @@
-//! What a command is answered.
+//! The reply to a command.
 
 ghost use Rattle.std.specs.Prelude.{◌≡◌, ◌+◌, ◌<◌, ◌^◌, vec_len};
 ghost use Rattle.cdb.specs.Need.{need_of};
@@ -21,7 +21,7 @@ pub const BUSY: u8 = 0x08;
 /// runs is answered it.
 pub const TASK_SET_FULL: u8 = 0x28;
 
-/// What a command is answered.
+/// The reply to a command.
 #[derive(Debug, PartialEq, Eq, Drop)]
 pub struct Reply {
     /// The status code, one of the constants of this crate.

@@ -1,4 +1,4 @@
-//! What stood under locks, and what the seats kept, as a report.
+//! Makes a report of what stood under locks, and of what the seats kept.
 
 ghost use Rattle.std.specs.Prelude.{◌≡◌, ◌+◌, ◌≤◌, vec_len, length, IfOk, OnOk};
 ghost use Rattle.report.specs.Closed.{IsReport};
@@ -16,7 +16,7 @@ use std::alloc::{AllocError, Global};
 use std::sync::Mutex;
 use unit_history::{BareReceipt, Note, Receipt, UnitState};
 
-/// The values that stood under locks.
+/// Returns the values that stood under locks.
 fn out_of_locks<T: Drop>(alloc: Global, locks: Vec<Mutex<T>>) -> Result<Vec<T>, AllocError>
     ensures { IfOk result (λ v. vec_len v ≡ vec_len locks) }
 {
@@ -64,7 +64,7 @@ fn append(kept: Kept, receipts: &mut Vec<Receipt>, notes: &mut Vec<Note>) -> Res
     Ok(())
 }
 
-/// All receipts, and all notes.
+/// Returns all receipts, and all notes.
 fn together(alloc: Global, kept: Vec<Kept>) -> Result<(Vec<Receipt>, Vec<Note>), AllocError>
     ensures { IfOk result (λ r. vec_len r.0 ≡ receipts_kept kept.items) }
 {

@@ -29,7 +29,7 @@ fn is_confirmed_by(unit: &UnitState, receipt: &Receipt) -> bool
     unit.confirm(receipt)
 }
 
-/// Whether the Commit of a receipt stands at its place in the history of its unit.
+/// Returns true if the Commit of a receipt stands at its place in the history of its unit.
 fn is_confirmed(units: &[UnitState], receipt: &Receipt) -> bool
     ensures { IsTrue result ↔ IsConfirmedBy units.now receipt.now }
 {
@@ -41,14 +41,14 @@ fn is_confirmed(units: &[UnitState], receipt: &Receipt) -> bool
     false
 }
 
-/// The ticket, if its receipt isn't confirmed.
+/// Returns the ticket, if its receipt isn't confirmed.
 fn unless(confirmed: bool, ticket: Ticket) -> Option<Ticket>
     ensures { result ≡ with_unconfirmed confirmed ticket }
 {
     if confirmed { None } else { Some(ticket) }
 }
 
-/// The first ticket of a receipt that isn't confirmed.
+/// Returns the first ticket of a receipt that isn't confirmed.
 pub(crate) fn first_unconfirmed(units: &[UnitState], receipts: &[Receipt]) -> Option<Ticket>
     ensures { Confirms units.now receipts.now result }
 {
@@ -60,7 +60,7 @@ pub(crate) fn first_unconfirmed(units: &[UnitState], receipts: &[Receipt]) -> Op
     first
 }
 
-/// What is known of each unit.
+/// Shows what is known of each unit.
 pub(crate) fn stand(units: &[UnitState])
     ensures { AllStand units.now }
 {
@@ -69,7 +69,7 @@ pub(crate) fn stand(units: &[UnitState])
     }
 }
 
-/// What is known of each queue.
+/// Shows what is known of each queue.
 pub(crate) fn are_sound(queues: &[Queue])
     ensures { AllSound queues.now }
 {

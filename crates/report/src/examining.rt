@@ -18,7 +18,7 @@ use decisions::UnitSpec;
 use ring_core::Ticket;
 use std::alloc::Global;
 
-/// The first ticket that is outstanding.
+/// Returns the first ticket that is outstanding.
 fn first_outstanding(alloc: Global, report: &Report) -> Result<Option<Ticket>, NoMemory>
     requires few { vec_len report.now.queues ≤ 65536 }
     requires stand { AllStand report.now.units.items }

@@ -1,4 +1,4 @@
-//! What a seat keeps of the requests that it answered.
+//! The receipts and notes that a seat keeps of the requests that it answered.
 
 ghost use Rattle.std.specs.Prelude.{ℕ, ◌≡◌, ◌<◌, ◌≤◌, ◌%◌, [], ◌∷◌, ◌++◌, length, slice_get, slice_set, vec_len, None, OnOk};
 ghost use Rattle.std.specs.Bool.{OnTrue};
@@ -24,7 +24,7 @@ pub struct Kept {
     pub notes: Vec<Note>,
 }
 
-/// Whether a receipt has a reply with longer data than what a unit keeps.
+/// Returns true if a receipt has a reply with longer data than what a unit keeps.
 fn is_long(receipt: &Receipt) -> bool
     ensures { result ≡ has_long receipt.now.reply }
 {
@@ -101,8 +101,8 @@ impl Kept {
         }
     }
 
-    /// Returns true if there is room for what so many more requests leave: not where a growth was refused. What is kept
-    /// stays. A seat calls it before it serves what it has.
+    /// Returns true if there is room for what so many more requests leave: not where a growth was refused. All that is
+    /// kept stays. A seat calls it before it serves what it has.
     pub fn make_room(&mut self, requests: usize) -> bool
         requires some { 0 < requests }
         ensures room { OnTrue result (HasRoomForOne self.new) }

@@ -12,14 +12,14 @@ use crate::tables::Tables;
 use queues::Queue;
 use ring_core::Ticket;
 
-/// By queue, then by number.
+/// Returns true if a ticket comes before another: by queue, then by number.
 fn is_before(one: Ticket, other: Ticket) -> bool
     ensures { result ≡ comes_before one other }
 {
     one.queue < other.queue || (one.queue == other.queue && one.number < other.number)
 }
 
-/// The lesser of two tickets, where there are such.
+/// Returns the lesser of two tickets, where there are such.
 pub(crate) fn lesser(one: Option<Ticket>, other: Option<Ticket>) -> Option<Ticket>
     ensures { result ≡ lesser_of one other }
 {
@@ -38,8 +38,8 @@ pub(crate) fn lesser(one: Option<Ticket>, other: Option<Ticket>) -> Option<Ticke
     }
 }
 
-/// The first chain that a queue accepted and didn't use, as tickets name it by its place. One with another number used
-/// no ticket of that place.
+/// Returns the first chain that a queue accepted and didn't use, as tickets name it by its place. One with another
+/// number used no ticket of that place.
 fn first_unused(place: u16, queue: &Queue) -> Option<Ticket>
     ensures { IsFirst (unused_in place queue.now) result }
 {
@@ -56,7 +56,7 @@ fn first_unused(place: u16, queue: &Queue) -> Option<Ticket>
     }
 }
 
-/// The first of so many chains.
+/// Returns the first of so many chains.
 fn first_accepted(place: u16, count: u64) -> Option<Ticket>
     ensures { IsFirst (λ t. (t.queue == place) && nat_lt t.number count) result }
 {
@@ -70,7 +70,7 @@ fn first_accepted(place: u16, count: u64) -> Option<Ticket>
     }
 }
 
-/// The first of so many requests of a queue that isn't settled. Some unit's steps may be folded.
+/// Returns the first of so many requests of a queue that isn't settled. Some unit's steps may be folded.
 fn first_unsettled(place: u16, count: u64, folded: bool, tables: &Tables) -> Option<Ticket>
     ensures { IsFirst (unsettled_in place count folded tables.now.tables.items) result }
 {
@@ -86,7 +86,8 @@ fn first_unsettled(place: u16, count: u64, folded: bool, tables: &Tables) -> Opt
     None
 }
 
-/// The first ticket of a queue that is outstanding. The event queue's chains aren't asked for (VIRTIO 1.2, 5.6.2).
+/// Returns the first ticket of a queue that is outstanding. The event queue's chains aren't asked for (VIRTIO 1.2,
+/// 5.6.2).
 fn first_in(place: u16, queue: &Queue, folded: bool, tables: &Tables) -> Option<Ticket>
     ensures { IsFirst (amiss_in place queue.now folded tables.now.tables.items) result }
 {
@@ -101,7 +102,7 @@ fn first_in(place: u16, queue: &Queue, folded: bool, tables: &Tables) -> Option<
     )
 }
 
-/// The first ticket of these queues that is outstanding.
+/// Returns the first ticket of these queues that is outstanding.
 pub(crate) fn first_of(queues: &[Queue], folded: bool, tables: &Tables) -> Option<Ticket>
     requires { length queues.now ≤ 65536 }
     ensures { IsFirst (amiss_of queues.now folded tables.now.tables.items) result }

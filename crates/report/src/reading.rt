@@ -17,7 +17,7 @@ use crate::tally::{Answer, Fact, fact_of_alive, fact_of_commit, fact_of_one};
 use ring_core::Ticket;
 use unit_history::{Note, Receipt, UnitState};
 
-/// A ticket that is that of no request.
+/// Returns a ticket that is that of no request.
 fn stray_one(known: bool, ticket: Ticket) -> Option<Ticket>
     ensures { result ≡ stray_one known ticket }
 {

@@ -1,4 +1,4 @@
-//! What a closed host says.
+//! The report of a closed host.
 
 ghost use Rattle.std.specs.Prelude.{◌≡◌, is_some};
 ghost use Rattle.std.specs.List.{list_any};
@@ -8,14 +8,14 @@ use queues::Queue;
 use ring_core::QueueLog;
 use unit_history::{Note, Receipt, UnitState};
 
-/// Whether a fault of the guest broke a queue.
+/// Returns true if a fault of the guest broke a queue.
 fn is_any_broken(queues: &[Queue]) -> bool
     ensures { result ≡ list_any (λ q. is_some q.ring.broken) queues.now }
 {
     queues.iter().any(|queue| queue.is_broken())
 }
 
-/// What a host was when it was closed, and what its requests were answered with.
+/// A host as it was when it was closed, and what its requests were answered with.
 #[derive(Drop)]
 pub struct Report {
     /// Its units, by rising target and LUN.

@@ -23,7 +23,7 @@ pub(crate) struct Tables {
     pub tables: Vec<Vec<Tally>>,
 }
 
-/// How many requests the queue at a place accepted.
+/// Returns how many requests the queue at a place accepted.
 fn requests_of(place: usize, queue: &Queue) -> usize
     ensures { result ≡ asked_count place queue.now }
 {
@@ -34,7 +34,7 @@ fn requests_of(place: usize, queue: &Queue) -> usize
     }
 }
 
-/// As many fresh tallies.
+/// Makes so many fresh tallies.
 fn fresh_table(alloc: Global, count: usize) -> Result<Vec<Tally>, NoMemory>
     ensures { IfOk result (λ table. table.items ≡ replicate count fresh) }
 {
@@ -60,7 +60,7 @@ fn mark_in(table: &mut Vec<Tally>, number: u64, fact: Fact) -> bool
 }
 
 impl Tables {
-    /// A fresh tally of each request of these queues.
+    /// Makes a fresh tally of each request of these queues.
     pub(crate) fn new(alloc: Global, queues: &[Queue]) -> Result<Tables, NoMemory>
         ensures { IfOk result (λ t. Opens queues.now t.tables.items) }
     {
@@ -98,7 +98,7 @@ impl Tables {
         }
     }
 
-    /// Whether the request of a ticket isn't settled. Some unit's steps may be folded.
+    /// Returns true if the request of a ticket isn't settled. Some unit's steps may be folded.
     pub(crate) fn ends_amiss(&self, ticket: Ticket, folded: bool) -> bool
         ensures { result ≡ ends_amiss folded (tally_at self.now.tables.items ticket) }
     {

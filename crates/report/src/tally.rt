@@ -1,4 +1,4 @@
-//! What is kept of a request while a report is examined.
+//! The tally of a request, while a report is examined.
 
 ghost use Rattle.std.specs.Prelude.{◌≡◌, Option};
 ghost use Rattle.report.specs.Tallies.{joined, fresh, home_at, elsewhere, visited, stepped, after, is_ground, is_end, is_fine, ends_well, told, fact_of, fact_of_one, fact_of_commit, fact_of_alive};
@@ -6,7 +6,7 @@ ghost use Rattle.report.specs.Tallies.{joined, fresh, home_at, elsewhere, visite
 use ring_core::Ticket;
 use unit_history::{Cause, StepKind};
 
-/// What a request was answered with so far.
+/// The receipts and notes of a request so far.
 #[derive(Clone, Copy)]
 pub enum Answer {
     /// Nothing.
@@ -76,7 +76,7 @@ pub enum TaskStep {
     Leave,
 }
 
-/// What is told of a request.
+/// A fact that is told of a request.
 #[derive(Clone, Copy)]
 pub enum Fact {
     /// A receipt or a note.
@@ -89,7 +89,7 @@ pub enum Fact {
     Alive,
 }
 
-/// What a step tells, and of which request.
+/// The fact that a step tells, and of which request.
 #[derive(Clone, Copy)]
 pub struct TicketFact {
     pub ticket: Ticket,
@@ -176,7 +176,7 @@ fn is_elsewhere(unit: usize, home: Option<usize>) -> bool
     }
 }
 
-/// What is known of a request, as its answers and then the units are read.
+/// All that is known of a request, as its answers and then the units are read.
 #[derive(Clone, Copy)]
 pub struct Tally {
     answer: Answer,
@@ -197,7 +197,7 @@ pub struct Tally {
 }
 
 impl Tally {
-    /// Before anything is read.
+    /// Makes a tally before anything is read.
     pub(crate) fn fresh() -> Tally
         ensures { result ≡ fresh }
     {
@@ -239,7 +239,7 @@ impl Tally {
         }
     }
 
-    /// Once this was read.
+    /// Returns the tally once this was read.
     pub(crate) fn after(self, fact: Fact) -> Tally
         ensures { result ≡ after fact self }
     {
@@ -257,7 +257,7 @@ impl Tally {
         }
     }
 
-    /// Whether the request is settled, once all was read. Some unit's steps may be folded.
+    /// Returns true if the request is settled, once all was read. Some unit's steps may be folded.
     pub(crate) fn ends_well(self, folded: bool) -> bool
         ensures { result ≡ ends_well folded self }
     {

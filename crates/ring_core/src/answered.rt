@@ -1,11 +1,11 @@
-//! What a completion leaves in hand.
+//! The proof that a completion leaves in hand.
 
 ghost use Rattle.std.specs.Prelude.{◌≡◌};
 
 use crate::log::Ticket;
 use std::marker::Model;
 
-/// That a chain was completed. `Ring::complete` alone makes one.
+/// The proof that a chain was completed. `Ring::complete` alone makes one.
 #[derive(Drop)]
 pub struct Answered {
     ticket: Ticket,
@@ -20,7 +20,7 @@ impl Model for Answered {
 }
 
 impl Answered {
-    /// For `Ring::complete` alone.
+    /// Makes the proof, for `Ring::complete` alone.
     pub(crate) fn of(ticket: Ticket) -> Answered
         ensures { result ≡ ticket }
     {
@@ -43,7 +43,7 @@ pub struct Completion {
 }
 
 impl Completion {
-    /// For `Ring::complete` alone.
+    /// Makes the leave, for `Ring::complete` alone.
     pub(crate) fn begin() -> Completion {
         Completion { private: () }
     }

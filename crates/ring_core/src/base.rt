@@ -1,4 +1,4 @@
-//! What both forms of queue keep.
+//! The state that queues of both forms keep.
 
 ghost use Rattle.std.specs.Prelude.{◌≡◌, ◌+◌, ◌<◌, ◌≤◌, ◌^◌, ◌↔◌, length, IfOk, OnErr, OnOk, Some, None, [], IsTrue, is_some};
 ghost use Rattle.ring_core.specs.State.{under, accepting, using, breaking, opening, next_ticket, Owns};

@@ -1,4 +1,4 @@
-//! What the descriptors before one amount to: all that a walk along a chain has to keep.
+//! Totals of the descriptors before one: all that a walk along a chain has to keep.
 
 ghost use Rattle.std.specs.Prelude.{◌≡◌, ◌+◌, ◌≤◌, ◌^◌, ◌<◌, ◌||◌, MatchResult, None, Some, false};
 ghost use Rattle.ring_core.specs.Walk.{is_writable, first_of, buffer_tests};
@@ -6,8 +6,8 @@ ghost use Rattle.ring_core.specs.Walk.{is_writable, first_of, buffer_tests};
 use crate::descriptor::Descriptor;
 use crate::fault::RingFault;
 
-/// What the descriptors before one amount to: those of its run, and in `total` and `writable` also
-/// those of a run before it. For rings.
+/// Totals of the descriptors before one: those of its run, and in `total` and `writable` also those of a run before it.
+/// For rings.
 #[derive(Clone, Copy)]
 pub struct Before {
     /// How many of them its run has.

@@ -1,4 +1,4 @@
-//! What a queue hands out for each chain.
+//! The chain that a queue hands out.
 
 use crate::descriptor::Part;
 use crate::log::Ticket;
@@ -67,7 +67,7 @@ impl Model for Spare {
 impl Spare {
     ghost use Rattle.std.specs.Prelude.{◌≡◌, []};
 
-    /// It, for the next chain.
+    /// Returns it, for the next chain.
     pub(crate) fn into_draft(self) -> Draft
         ensures { result ≡ [] }
     {
@@ -148,7 +148,7 @@ impl Draft {
         Ok(())
     }
 
-    /// Room for the first bytes, with whatever stands there.
+    /// Takes the room for the first bytes, with whatever stands there.
     pub(crate) fn take_room(&mut self) -> Vec<u8>
         ensures { self.new ≡ self.old }
     {
@@ -156,7 +156,7 @@ impl Draft {
         mem::replace(&mut self.body.room, none)
     }
 
-    /// How many of its bytes can be read, modulo 2^64.
+    /// Returns how many of its bytes can be read, modulo 2^64.
     pub(crate) fn readable_len(&self) -> u64
         ensures { result ≡ readable_total self.now % 2 ^ 64 }
     {
@@ -172,7 +172,7 @@ impl Draft {
 }
 
 impl Chain {
-    /// A chain that was found.
+    /// Makes a chain that was found.
     pub(crate) fn of(ticket: Ticket, id: u16, slots: u16, draft: Draft, memory: u64) -> Chain
         requires { PartsFit memory draft }
         ensures { result ≡ record { ticket = ticket; id = id; slots = slots; parts = draft; memory = memory } }
@@ -195,7 +195,7 @@ impl Chain {
         }
     }
 
-    /// Its room, for a later chain; `None` where its parts took more than what stands in place.
+    /// Returns its room, for a later chain; `None` where its parts took more than what stands in place.
     pub(crate) fn into_spare(self) -> Option<Spare> {
         if self.body.parts.len() > FEW_PARTS {
             return None;

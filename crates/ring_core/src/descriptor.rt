@@ -7,7 +7,7 @@ use crate::fault::RingFault;
 use crate::layout::Features;
 use bitflags::{Flag, Flags, bitflag_items};
 
-/// What a descriptor's flags say (VIRTIO 1.2, 2.7.5 and 2.8.13). Other bits are ignored.
+/// The flags of a descriptor (VIRTIO 1.2, 2.7.5 and 2.8.13). Other bits are ignored.
 #[derive(Clone, Copy)]
 pub struct DescriptorFlags(u16);
 

@@ -1,4 +1,4 @@
-//! What follows from the definitions alone.
+//! Laws that follow from the definitions alone.
 
 ghost use Rattle.std.specs.Prelude.{◌≡◌, ◌<◌, ◌≤◌, false, ℕ, List, length};
 ghost use Rattle.ring_core.specs.State.{RingState};
@@ -32,10 +32,9 @@ pub fn some_offer()
     ensures { (s : RingState) (m : List ℕ) → (o : Offer) × Offers s m o }
 {}
 
-/// What a queue offers as a chain has at least one part, all of them in memory, and no readable one
-/// behind a writable one (VIRTIO 1.2, 2.7.4, 2.7.5 and 2.8.5). It takes at most as many slots as the
-/// queue has, and has at most as many parts where no tables of descriptors were agreed. In a split
-/// queue its head is one of the descriptor table.
+/// A chain that a queue offers has at least one part, all of them in memory, and no readable one behind a writable one
+/// (VIRTIO 1.2, 2.7.4, 2.7.5 and 2.8.5). It takes at most as many slots as the queue has, and has at most as many parts
+/// where no tables of descriptors were agreed. In a split queue its head is one of the descriptor table.
 pub fn chains_are_right()
     ensures parts { (s : RingState) (m : List ℕ) (id slots : ℕ) (parts : List Part)
         → Offers s m (Found id slots parts)

@@ -29,7 +29,7 @@ pub struct Layout {
     pub device: u64,
 }
 
-/// Which optional features of virtqueues were agreed (VIRTIO 1.2, 6).
+/// The optional features of virtqueues that were agreed (VIRTIO 1.2, 6).
 #[derive(Clone, Copy, Debug)]
 pub struct Features {
     /// VIRTIO_F_INDIRECT_DESC.

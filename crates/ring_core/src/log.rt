@@ -37,7 +37,7 @@ impl Model for QueueLog {
 }
 
 impl QueueLog {
-    /// Nothing accepted, nothing used.
+    /// Makes a log in which nothing was accepted and nothing used.
     pub(crate) fn new() -> QueueLog
         ensures { result ≡ record { accepted = []; used = [] } }
     {
@@ -63,7 +63,7 @@ impl QueueLog {
         self.used_count
     }
 
-    /// A ticket is accepted. It takes no memory, and is refused once 2^64 - 1 tickets were.
+    /// Accepts a ticket. It takes no memory, and refuses once 2^64 - 1 tickets were accepted.
     pub(crate) fn accept(&mut self, ticket: Ticket) -> Result<(), AllocError>
         ensures ok { OnOk result (self.new ≡ record self.old { accepted = self.old.accepted ++ ticket ∷ [] }) }
         ensures err { OnErr result (self.new ≡ self.old) }
@@ -77,7 +77,7 @@ impl QueueLog {
         Ok(())
     }
 
-    /// A ticket is used. It takes no memory.
+    /// Notes that a ticket is used. It takes no memory.
     pub(crate) fn record_use(&mut self, ticket: Ticket)
         requires { length self.old.used < length self.old.accepted }
         ensures state { self.new ≡ record self.old { used = self.old.used ++ ticket ∷ [] } }

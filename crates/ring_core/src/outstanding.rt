@@ -1,4 +1,4 @@
-//! Which chain is outstanding under each head or id, found by index or by key.
+//! The outstanding chain under each head or id, found by index or by key.
 
 ghost use Rattle.std.specs.Prelude.{◌≡◌, ◌<◌, ◌≤◌, ℕ, length, replicate, get_or, slice_set, None, Some, IfOk, OnOk, OnErr};
 ghost use Rattle.std.specs.Ordering.{nat_cmp};
@@ -28,7 +28,7 @@ pub enum Entries {
     ById(BTreeMap<u16, OutstandingChain>),
 }
 
-/// The chain under an id below a bound, if any.
+/// Returns the chain under an id below a bound, if any.
 fn chain_at(
     chains: &BTreeMap<u16, OutstandingChain>,
     ids: usize,
@@ -70,7 +70,7 @@ fn remove_chain(chains: &mut BTreeMap<u16, OutstandingChain>, id: u16)
     let _ = chains.remove(&id);
 }
 
-/// The lesser of a number and that of a chain, where there are such.
+/// Returns the lesser of a number and that of a chain, where there are such.
 fn lesser(least: Option<u64>, chain: Option<OutstandingChain>) -> Option<u64>
     ensures { result ≡ lesser_of least chain }
 {
@@ -81,7 +81,7 @@ fn lesser(least: Option<u64>, chain: Option<OutstandingChain>) -> Option<u64>
     }
 }
 
-/// The least number of the chains in their places.
+/// Returns the least number of the chains in their places.
 fn least_by_head(places: &[Option<OutstandingChain>]) -> Option<u64>
     ensures { IsLeastBelow places.now (length places.now) result }
 {
@@ -92,7 +92,7 @@ fn least_by_head(places: &[Option<OutstandingChain>]) -> Option<u64>
     least
 }
 
-/// The least number of the chains under the ids below a bound.
+/// Returns the least number of the chains under the ids below a bound.
 fn least_by_id(chains: &BTreeMap<u16, OutstandingChain>, ids: usize) -> Option<u64>
     requires { ids ≤ 65536 }
     ensures { IsLeastBelow (tabulated (get nat_cmp chains.now) ids) ids result }
@@ -104,7 +104,7 @@ fn least_by_id(chains: &BTreeMap<u16, OutstandingChain>, ids: usize) -> Option<u
     least
 }
 
-/// Which chain is outstanding under each head or id below a bound, seen as a list.
+/// The outstanding chain under each head or id below a bound, seen as a list.
 #[derive(Drop)]
 pub struct OutstandingTable {
     entries: Entries,
@@ -125,7 +125,7 @@ impl Model for OutstandingTable {
 }
 
 impl OutstandingTable {
-    /// None outstanding under the heads below `ids`, with a place for each.
+    /// Makes a table with none outstanding under the heads below `ids`, with a place for each.
     pub(crate) fn by_head(alloc: Global, ids: usize) -> Result<OutstandingTable, AllocError>
         requires { ids ≤ 65536 }
         ensures { IfOk result (λ table. table ≡ replicate ids None) }
@@ -138,7 +138,7 @@ impl OutstandingTable {
         })
     }
 
-    /// None outstanding under the ids below `ids`. It takes no memory.
+    /// Makes a table with none outstanding under the ids below `ids`. It takes no memory.
     pub(crate) fn by_id(alloc: Global, ids: usize) -> OutstandingTable
         requires { ids ≤ 65536 }
         ensures { result ≡ replicate ids None }
@@ -149,7 +149,7 @@ impl OutstandingTable {
         }
     }
 
-    /// The chain under a head or id, if any.
+    /// Returns the chain under a head or id, if any.
     #[inline(always)]
     pub(crate) fn get(&self, id: u16) -> Option<OutstandingChain>
         ensures { result ≡ get_or self.now id None }
@@ -160,7 +160,7 @@ impl OutstandingTable {
         }
     }
 
-    /// The least number of a chain under a head or id, if there is one.
+    /// Returns the least number of a chain under a head or id, if there is one.
     pub(crate) fn least(&self) -> Option<u64>
         ensures { IsLeastBelow self.now (length self.now) result }
     {

@@ -1,4 +1,4 @@
-//! What every virtqueue promises, in whatever form it lies in memory.
+//! The contract of every virtqueue, in whatever form it lies in memory.
 
 ghost use Rattle.std.specs.Prelude.{◌≡◌, ◌↔◌, ◌<◌, ◌≤◌, length, IsTrue};
 ghost use Rattle.ring_core.specs.State.{RingState, Owns, using};
@@ -61,8 +61,8 @@ pub trait Ring {
         requires { length memory.now ≡ (state self.now).memory }
         ensures { result ≡ wants_notice (state self.now) memory.now };
 
-    /// Returns which chains were accepted, and which were used. What the queue counts and what it holds outstanding
-    /// agree with it. No more chains are outstanding than the queue has descriptors (VIRTIO 1.2, 2.7 and 2.8).
+    /// Returns which chains were accepted, and which were used. The queue's counts and its outstanding chains agree
+    /// with it. No more chains are outstanding than the queue has descriptors (VIRTIO 1.2, 2.7 and 2.8).
     fn log(&self) -> &QueueLog
         ensures log { result.now ≡ (state self.now).log }
         ensures sound { IsSound (state self.now) }

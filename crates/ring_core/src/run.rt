@@ -13,7 +13,7 @@ use crate::fault::RingFault;
 pub struct Run {
     /// The last descriptor, past which the run doesn't go on.
     pub last: Descriptor,
-    /// What the descriptors before it amount to.
+    /// Totals of the descriptors before it.
     pub before: Before,
     /// Their parts, behind those of a run before this one.
     pub draft: Draft,

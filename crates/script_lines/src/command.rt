@@ -9,7 +9,7 @@ use crate::values::{name, number, unit_pair};
 use scsi_codec::Address;
 use std::alloc::Global;
 
-/// A line behind the header. Which of them may stand in a script, and where, isn't known here.
+/// A line behind the header. It isn't known here which of them may stand in a script, and where.
 #[derive(Drop)]
 pub enum Command<'a> {
     /// The guest writes into its memory.
@@ -58,7 +58,7 @@ impl<'a> Command<'a> {
     }
 }
 
-/// Why a line is no line behind the header: a header line comes late.
+/// Returns why a line is no line behind the header: a header line comes late.
 fn no_command(keyword: &str, values: &[&str]) -> Stop {
     match HeaderLine::read(keyword, values) {
         Ok(Some(_)) => Stop::Fault(LineFault::OutOfPlace),
@@ -77,7 +77,7 @@ fn resize<'a>(values: &[&str]) -> Result<Command<'a>, LineFault> {
     Ok(Command::Resize(unit, blocks))
 }
 
-/// A line that has no values.
+/// Returns a line that has no values; `BadValue` where it has some.
 fn alone<'a>(values: &[&str], command: Command<'a>) -> Result<Command<'a>, LineFault> {
     if values.is_empty() {
         Ok(command)

@@ -1,4 +1,4 @@
-//! What can end a script.
+//! The faults that can end a script.
 
 ghost use Rattle.std.specs.Prelude.{◌≡◌};
 ghost use Rattle.script_lines.specs.Faults.{ending_at};
@@ -8,8 +8,8 @@ use block_store::NoMemory;
 use std::alloc::{AllocError, AllocFailed};
 use thiserror::Error;
 
-/// What is wrong with a line. Where several hold of one line, the first in this order is named,
-/// but `BadConfig` stands before all.
+/// The fault of a line. Where several hold of one line, the first in this order is named, but `BadConfig` stands before
+/// all.
 #[derive(Clone, Copy, Debug, PartialEq, Eq, Error)]
 pub enum LineFault {
     /// The line begins with no word of the language, or has a byte above 7f.

@@ -1,4 +1,4 @@
-//! What the guest does, as lines say it.
+//! The acts of the guest, as lines say them.
 
 use crate::fault::{LineFault, Stop};
 use crate::send::{Send, TaskManagement};
@@ -75,7 +75,7 @@ pub(crate) fn command_block(alloc: Global, text: &str) -> Result<[u8; CDB_BYTES]
     Ok(cdb)
 }
 
-/// The data out and the room for data in, as the last words of `send` say.
+/// Returns the data out and the room for data in, as the last words of `send` say.
 fn data<'a>(values: &[&'a str]) -> Result<(Option<&'a str>, u32), LineFault> {
     let (out, room) = match values {
         [] => (None, None),

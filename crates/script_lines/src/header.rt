@@ -76,7 +76,7 @@ impl Features {
     }
 }
 
-/// A header line. Which of its numbers the device takes isn't known here.
+/// A header line. It isn't known here which of its numbers the device takes.
 #[derive(Clone, Copy)]
 pub enum HeaderLine {
     /// The pages of guest memory, of 4,096 bytes.

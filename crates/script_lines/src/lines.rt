@@ -15,7 +15,7 @@ pub fn lines_of(alloc: Global, script: &[u8]) -> Result<Vec<&[u8]>, AllocError> 
         .collect(alloc)
 }
 
-/// What a line is, before its words are looked at.
+/// A line, before its words are looked at.
 pub enum LineText<'a> {
     /// Nothing to do: an empty line, spaces alone, or a comment.
     Blank,

@@ -1,4 +1,4 @@
-//! Which word of a line doesn't fit its place.
+//! The word of a line that doesn't fit its place.
 
 ghost use Rattle.std.specs.Prelude.{◌≤◌, length, IfOk, IfSome};
 
@@ -8,7 +8,7 @@ use crate::header::{Features, LARGEST_SIZE};
 use crate::values::{Bytes, LAST_LUN, name, number, unit_pair};
 use std::alloc::{AllocError, Global};
 
-/// What a place behind the first word of a line takes.
+/// The kinds of words that a place behind the first word of a line may take.
 #[derive(Clone, Copy)]
 enum Place {
     /// A number below 2^8.
@@ -89,7 +89,7 @@ impl Place {
     }
 }
 
-/// Whether a word is a number that isn't above this one.
+/// Returns true if a word is a number that isn't above this one.
 fn is_at_most(word: &str, most: u16) -> bool {
     match number::<u16>(word) {
         Ok(number) => number <= most,
@@ -97,7 +97,7 @@ fn is_at_most(word: &str, most: u16) -> bool {
     }
 }
 
-/// Whether a word was what its place takes. It fails where memory ran out.
+/// Returns true if a word was what its place takes. It fails where memory ran out.
 fn was_read<T: Drop>(read: Result<T, Stop>) -> Result<bool, AllocError> {
     match read {
         Ok(_) => Ok(true),
@@ -106,7 +106,7 @@ fn was_read<T: Drop>(read: Result<T, Stop>) -> Result<bool, AllocError> {
     }
 }
 
-/// What a place behind the first word takes, from 0 on, in a line of the header.
+/// Returns what a place behind the first word takes, from 0 on, in a line of the header.
 fn header_place(keyword: &str, index: usize) -> Place {
     match (keyword, index) {
         ("memory", 0) => Place::Number32,
@@ -123,7 +123,7 @@ fn header_place(keyword: &str, index: usize) -> Place {
     }
 }
 
-/// What a place behind the first word takes, from 0 on, where a request or a function is sent.
+/// Returns what a place behind the first word takes, from 0 on, where a request or a function is sent.
 fn sent_place(keyword: &str, index: usize) -> Place {
     match (keyword, index) {
         ("send" | "tmf", 0) => Place::Name,
@@ -137,7 +137,8 @@ fn sent_place(keyword: &str, index: usize) -> Place {
     }
 }
 
-/// What a place behind the words of a request takes, from 0 on, where its data out stand before its room for data in.
+/// Returns what a place behind the words of a request takes, from 0 on, where its data out stand before its room for
+/// data in.
 fn data_place(has_out: bool, index: usize) -> Place {
     match (has_out, index) {
         (_, 0) => Place::OutOrIn,
@@ -148,7 +149,7 @@ fn data_place(has_out: bool, index: usize) -> Place {
     }
 }
 
-/// What a place behind the first word takes, from 0 on, in any other line.
+/// Returns what a place behind the first word takes, from 0 on, in any other line.
 fn other_place(keyword: &str, index: usize) -> Place {
     match (keyword, index) {
         ("hard" | "resize" | "history" | "blocks", 0) => Place::Unit,
@@ -165,7 +166,7 @@ fn other_place(keyword: &str, index: usize) -> Place {
 /// How many words stand behind the first of a request, before its data.
 const REQUEST_WORDS: usize = 6;
 
-/// What a place behind the first word of a line takes, from 0 on.
+/// Returns what a place behind the first word of a line takes, from 0 on.
 fn place_of(keyword: &str, values: &[&str], index: usize) -> Place {
     match keyword {
         "memory" | "ring" | "queues" | "workers" | "handoff" | "features" | "unit" => {
@@ -183,9 +184,9 @@ fn place_of(keyword: &str, values: &[&str], index: usize) -> Place {
     }
 }
 
-/// Returns which word behind the first of a line is the first that its place doesn't take, from 0 on; their number where
-/// the next one lacks, and `None` where each fits. It fails where memory runs out. What the first word isn't one of the
-/// language for has no places.
+/// Returns which word behind the first of a line is the first that its place doesn't take, from 0 on; their number
+/// where the next one lacks, and `None` where each fits. It fails where memory runs out. A line whose first word is
+/// none of the language has no places.
 pub fn first_wrong(
     alloc: Global,
     keyword: &str,

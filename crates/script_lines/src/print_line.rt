@@ -1,22 +1,22 @@
-//! What a script prints, as lines ask for it.
+//! The lines that print.
 
 use crate::fault::LineFault;
 use crate::header::only;
 use crate::values::{name, number, unit_pair};
 use scsi_codec::Address;
 
-/// A line that prints. Which queues, units and blocks there are isn't known here.
+/// A line that prints. It isn't known here which queues, units and blocks there are.
 #[derive(Clone, Copy)]
 pub enum PrintLine<'a> {
-    /// What became of a request or a function.
+    /// The end of a request or a function.
     Show(&'a str),
-    /// Which requests or functions of a queue were used, in order.
+    /// The requests or functions of a queue that were used, in order.
     Order(u16),
-    /// What stands in the blocks of a unit, from one on, so many of them.
+    /// The bytes of so many blocks of a unit, from one on.
     Blocks(Address, u64, u64),
     /// The steps of a unit.
     History(Address),
-    /// What the used event buffers tell.
+    /// The events that used buffers tell.
     Events,
     /// The status of the device.
     Status,
@@ -42,7 +42,7 @@ impl<'a> PrintLine<'a> {
     }
 }
 
-/// A line that has no values.
+/// Returns a line that has no values; `BadValue` where it has some.
 fn alone<'a>(values: &[&str], line: PrintLine<'a>) -> Result<PrintLine<'a>, LineFault> {
     if values.is_empty() {
         Ok(line)

@@ -1,9 +1,9 @@
-//! What goes to the device, as a line names it.
+//! Requests and functions for the device, as lines name them.
 
 use crate::values::Bytes;
 use scsi_codec::CDB_BYTES;
 
-/// A request as a line names it. Which queues and units there are isn't known here.
+/// A request as a line names it. It isn't known here which queues and units there are.
 #[derive(Drop)]
 pub struct Send<'a> {
     /// Its name, 1 to 16 letters or digits.
@@ -24,12 +24,12 @@ pub struct Send<'a> {
     pub room: u32,
 }
 
-/// A task management function as a line names it. Which functions and units there are isn't known here.
+/// A task management function as a line names it. It isn't known here which functions and units there are.
 #[derive(Clone, Copy)]
 pub struct TaskManagement<'a> {
     /// Its name, 1 to 16 letters or digits.
     pub name: &'a str,
-    /// Which function it is.
+    /// The number of the function.
     pub subtype: u32,
     /// The bytes of its unit's address.
     pub lun: [u8; 8],

@@ -4,7 +4,7 @@ use crate::fault::LineFault;
 use crate::header::only;
 use crate::values::number;
 
-/// A step of the device. Which queues and seats there are, and whether it applies, isn't known here.
+/// A step of the device. It isn't known here which queues and seats there are, and whether it applies.
 #[derive(Clone, Copy)]
 pub enum Step {
     /// A queue takes its next chain.
@@ -35,12 +35,12 @@ pub enum Step {
     Raise,
 }
 
-/// The number of a queue or a seat.
+/// Returns the number of a queue or a seat.
 fn place(values: &[&str]) -> Result<u16, LineFault> {
     number::<u16>(only(values)?)
 }
 
-/// A step that has no values.
+/// Returns a step that has no values; `BadValue` where it has some.
 fn alone(values: &[&str], step: Step) -> Result<Step, LineFault> {
     if values.is_empty() {
         Ok(step)

@@ -7,12 +7,12 @@ use crate::lun::{Address, read_lun_field};
 use crate::responses::ResponseCode;
 use byteorder::{ByteOrder, LittleEndian};
 
-/// What a chain of the control queue asks for (VIRTIO 1.2 §5.6.6.2).
+/// A request on the control queue (VIRTIO 1.2 §5.6.6.2).
 #[derive(Clone, Copy, Debug, PartialEq, Eq)]
 pub enum Control {
     /// A task management function.
     TaskManagement {
-        /// Which function, as it stands.
+        /// The function's subtype, as it stands.
         subtype: u32,
         /// The unit that it is for, or `None` where the bytes name none.
         address: Option<Address>,

@@ -1,4 +1,4 @@
-//! What the device writes into a buffer of the event queue.
+//! Writes the bytes of a buffer of the event queue.
 
 ghost use Rattle.std.specs.Prelude.{◌≡◌, ◌<◌};
 ghost use Rattle.std.specs.Option.{ForSome};
@@ -25,11 +25,11 @@ pub const EVENTS_MISSED: u32 = 0x8000_0000;
 /// An event (VIRTIO 1.2 §5.6.6.3).
 #[derive(Clone, Copy, Debug)]
 pub struct Event {
-    /// Which event, as [`TRANSPORT_RESET`].
+    /// The event's number, as [`TRANSPORT_RESET`].
     pub event: u32,
     /// The logical unit that it is about, if any.
     pub address: Option<Address>,
-    /// What the event gives as its reason.
+    /// The event's reason.
     pub reason: u32,
 }
 

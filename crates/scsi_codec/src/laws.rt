@@ -1,4 +1,4 @@
-//! What follows from the definitions alone.
+//! Laws that follow from the definitions alone.
 
 ghost use Rattle.std.specs.Prelude.{◌≡◌, ◌<◌, ◌^◌, ◌↔◌, ◌≢◌, ℕ, List, length, Option, Result, Some, IfSome};
 ghost use Rattle.scsi_codec.specs.Lun.{AreBytes, IsAddress, ReadsAddress, written_address, HasReadableForm};
@@ -29,7 +29,7 @@ pub fn readable_forms()
         → (HasReadableForm bytes ↔ ((a : Address) × IsAddress bytes a)) }
 {}
 
-/// What is written of a unit is read as that unit.
+/// The bytes that are written of a unit are read as that unit.
 pub fn written_reads_back()
     ensures readable { (a : Address) → a.lun < 16384 → IsAddress (written_address a) a }
     ensures back { (a : Address) (read : Option Address) → a.lun < 16384
@@ -59,7 +59,7 @@ pub fn one_reading()
         → ReadsRequest bytes len a → ReadsRequest bytes len b → a ≡ b }
 {}
 
-/// What a chain reads as is what its bytes say, place by place.
+/// A chain reads as what its bytes say, place by place.
 pub fn reading_is(bytes: &[u8], writable_len: u64)
     ensures { ReadsRequest bytes.now writable_len (reading bytes.now writable_len) }
 {

@@ -3,7 +3,7 @@
 ghost use Rattle.std.specs.Prelude.{◌≡◌, ◌<◌, length};
 ghost use Rattle.scsi_codec.specs.Lun.{ReadsAddress, address_in, written_address};
 
-/// Which logical unit of the host (VIRTIO 1.2 §5.6.6.1).
+/// The address of a logical unit of the host (VIRTIO 1.2 §5.6.6.1).
 #[derive(Clone, Copy, Debug, Default, PartialEq, Eq)]
 pub struct Address {
     /// The target, 0 to 255.
@@ -31,7 +31,7 @@ pub fn read_lun(bytes: &[u8; 8]) -> Option<Address>
     }
 }
 
-/// The unit that eight bytes of a longer layout name.
+/// Returns the unit that eight bytes of a longer layout name.
 pub(crate) fn read_lun_field(bytes: &[u8]) -> Option<Address>
     requires { length bytes.now ≡ 8 }
     ensures reads { ReadsAddress bytes.now result }

@@ -1,4 +1,4 @@
-//! What the device reads of a request.
+//! Reads the bytes of a request.
 
 ghost use Rattle.std.specs.Prelude.{◌≡◌};
 ghost use Rattle.scsi_codec.specs.Requests.{ReadsRequest, reading};

@@ -1,4 +1,4 @@
-//! What the device writes in answer to a request.
+//! Writes the bytes that answer a request.
 
 ghost use Rattle.std.specs.Prelude.{◌≡◌};
 ghost use Rattle.scsi_codec.specs.Responses.{response_bytes};
@@ -14,7 +14,7 @@ pub const SENSE_AREA_BYTES: usize = 96;
 /// The bytes of sense in fixed format (SPC-4 §4.5.3).
 pub const SENSE_BYTES: usize = 18;
 
-/// What became of a request, beside the status of its command (VIRTIO 1.2 §5.6.6.1).
+/// The response to a request, beside the status of its command (VIRTIO 1.2 §5.6.6.1).
 #[derive(Clone, Copy, Debug, PartialEq, Eq)]
 pub enum ResponseCode {
     /// The command ended with the status given, whichever that is.
@@ -42,7 +42,7 @@ pub enum ResponseCode {
 /// A response without its data in (VIRTIO 1.2 §5.6.6.1). Its status qualifier is 0.
 #[derive(Clone, Copy, Debug)]
 pub struct Response {
-    /// What became of the request.
+    /// The response to the request.
     pub code: ResponseCode,
     /// The status of the command (SAM-5 §5.3), where the code is `Ok`.
     pub status: u8,

@@ -1,4 +1,4 @@
-//! What the constants stand for.
+//! The meaning of the constants.
 
 ghost use Rattle.std.specs.Prelude.{◌≡◌};
 ghost use Rattle.sense.specs.Conditions.{no_sense, parameter_list_length_error, invalid_opcode, lba_out_of_range, invalid_field_in_cdb, logical_unit_not_supported, invalid_field_in_parameter_list, invalid_message_error};

@@ -40,8 +40,7 @@ pub struct Sense {
     pub asc: u8,
     /// The additional sense code qualifier: its detail.
     pub ascq: u8,
-    /// What the information field holds, if anything: of a miscompare the offset in bytes of the
-    /// first unequal byte.
+    /// The information field, if it is valid: of a miscompare the offset in bytes of the first unequal byte.
     pub information: Option<u32>,
 }
 

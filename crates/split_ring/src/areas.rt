@@ -9,7 +9,7 @@ use byteorder::{ByteOrder, LittleEndian};
 use guest_mem::GuestMem;
 use ring_core::Descriptor;
 
-/// The two bytes at an address, as a number.
+/// Returns the two bytes at an address, as a number.
 pub(crate) fn number_at(memory: &GuestMem, addr: u64) -> u16
     requires { addr + 2 ≤ length memory.now }
     ensures { result ≡ little_number 2 (bytes_at memory.now addr 2) }
@@ -17,7 +17,7 @@ pub(crate) fn number_at(memory: &GuestMem, addr: u64) -> u16
     LittleEndian::read_u16(memory.range(addr, 2))
 }
 
-/// The descriptor with this number in the table at an address.
+/// Returns the descriptor with this number in the table at an address.
 pub(crate) fn descriptor_at(memory: &GuestMem, table: u64, number: u16) -> Descriptor
     requires inside { table + 16 * number + 16 ≤ length memory.now }
     requires small { length memory.now ≤ 2 ^ 28 }

@@ -8,7 +8,7 @@ use ring_core::{Layout, LayoutFault};
 /// The most descriptors that a queue has.
 const MOST_SIZE: u16 = 32768;
 
-/// Whether this many bytes at an address lie in a memory of this size.
+/// Returns true if this many bytes at an address lie in a memory of this size.
 fn lies_in(memory: u64, addr: u64, len: u64) -> bool
     ensures { result ≡ nat_le (addr + len) memory }
 {

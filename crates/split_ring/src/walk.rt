@@ -42,7 +42,7 @@ impl Table {
     }
 }
 
-/// The first thing wrong with a descriptor, in a memory and a table of these sizes.
+/// Returns the first thing wrong with a descriptor, in a memory and a table of these sizes.
 fn check(before: &Before, d: &Descriptor, memory: u64, table: &Table) -> Result<(), RingFault>
     requires bounded { before.now.total ≤ 2 ^ 32 }
     requires small { memory ≤ 2 ^ 28 }
@@ -67,8 +67,8 @@ fn check(before: &Before, d: &Descriptor, memory: u64, table: &Table) -> Result<
     }
 }
 
-/// What is answered where there is no room for the chain at a head: what is wrong with its first
-/// descriptor, and want of memory where nothing is.
+/// Returns the fault where there is no room for the chain at a head: that of its first descriptor, and `NoMemory` where
+/// it has none.
 #[cold]
 pub(crate) fn fault_without_room(
     memory: &GuestMem,
@@ -90,8 +90,8 @@ pub(crate) fn fault_without_room(
     }
 }
 
-/// The run from a head of a table, behind what stands before it, or the first thing wrong along it. Its parts are put
-/// behind those in the draft.
+/// Returns the run from a head of a table, behind what stands before it, or the first thing wrong along it. Its parts
+/// are put behind those in the draft.
 #[inline(always)]
 fn walk_run(
     mut draft: Draft,
@@ -132,7 +132,8 @@ fn walk_run(
     unreachable!()
 }
 
-/// The parts of the chain at a head of the queue's table, for which there is room, or the first thing wrong along it.
+/// Returns the parts of the chain at a head of the queue's table, for which there is room, or the first thing wrong
+/// along it.
 pub(crate) fn walk(
     draft: Draft,
     memory: &GuestMem,

@@ -1,4 +1,4 @@
-//! What is decided of a chain of the control queue.
+//! Decides on a chain of the control queue.
 
 ghost use Rattle.std.specs.Prelude.{◌≡◌, ◌≤◌, [], length};
 ghost use Rattle.scsi_codec.specs.ControlQueue.{IsControl, function_bytes, notification_bytes};
@@ -33,7 +33,7 @@ impl Model for ControlAnswer {
 }
 
 impl ControlAnswer {
-    /// No byte: the chain is used with length 0.
+    /// Makes an answer of no byte: the chain is used with length 0.
     pub(crate) fn nothing() -> ControlAnswer
         ensures { result ≡ [] }
     {
@@ -49,7 +49,7 @@ impl ControlAnswer {
         ControlAnswer::copied(&write_control(response))
     }
 
-    /// The answer to a notification, which reports no event.
+    /// Returns the answer to a notification, which reports no event.
     pub(crate) fn of_notification(response: ResponseCode) -> ControlAnswer
         ensures { result ≡ notification_bytes 0 response }
     {
@@ -77,7 +77,7 @@ impl ControlAnswer {
     }
 }
 
-/// What is decided of a chain of the control queue when it is fetched. It is never decided again.
+/// The decision on a chain of the control queue when it is fetched. It is never decided again.
 #[derive(Drop)]
 pub enum ControlDecision {
     /// It is answered so.
@@ -86,7 +86,7 @@ pub enum ControlDecision {
     Opens(Function),
 }
 
-/// What is decided where there is room for the answer.
+/// Returns the decision where there is room for the answer.
 fn decide_with_room(inventory: &Inventory, control: &Control) -> ControlDecision
     ensures { result ≡ decided_with_room inventory.now control.now }
 {
@@ -118,7 +118,7 @@ fn decide_with_room(inventory: &Inventory, control: &Control) -> ControlDecision
     }
 }
 
-/// What is decided of what a chain asks for.
+/// Returns the decision on what a chain asks for.
 fn decide(inventory: &Inventory, control: &Control, writable: u64) -> ControlDecision
     ensures decision { result ≡ decided_of inventory.now control.now writable }
     ensures suits { Suits (length inventory.now) writable result }

@@ -12,10 +12,10 @@ use scsi_codec::{Address, FunctionResponse};
 /// The subtype of I_T NEXUS RESET (VIRTIO 1.2 §5.6.6.2).
 const I_T_NEXUS_RESET: u32 = 4;
 
-/// What a task management request asks for (VIRTIO 1.2 §5.6.6.2).
+/// A task management request (VIRTIO 1.2 §5.6.6.2).
 #[derive(Clone, Copy)]
 pub struct TaskManagement {
-    /// Which function, as it stands.
+    /// The function's subtype, as it stands.
     pub subtype: u32,
     /// The unit that it is for, or `None` where the bytes name none.
     pub address: Option<Address>,
@@ -23,7 +23,7 @@ pub struct TaskManagement {
     pub id: u64,
 }
 
-/// The places of a target's units, rising.
+/// Returns the places of a target's units, rising.
 fn places_of(units: &[Address], target: u8) -> ArrayVec<usize, MOST_UNITS>
     requires { length units.now ≤ MOST_UNITS }
     ensures { result.items ≡ places_of units.now target }

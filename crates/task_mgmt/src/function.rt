@@ -9,7 +9,7 @@ use decisions::MOST_UNITS;
 use scsi_codec::FunctionResponse;
 use std::marker::Model;
 
-/// That a unit was marked, or looked at: a mark is clear once every task that it met has left, a look at once.
+/// A mark of a unit, or a look at it: a mark is clear once every task that it met has left, a look at once.
 #[derive(Clone, Copy, Default)]
 pub struct Mark {
     /// The index of the unit in the inventory.
@@ -49,7 +49,7 @@ impl Model for Function {
 }
 
 impl Function {
-    /// A function that has visited none of its units.
+    /// Makes a function that has visited none of its units.
     pub(crate) fn opened(kind: Kind, units: ArrayVec<usize, MOST_UNITS>) -> Function
         requires { IsKnownKind kind }
         ensures { result ≡ opened kind units.items }

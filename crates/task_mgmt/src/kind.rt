@@ -6,7 +6,7 @@ ghost use Rattle.task_mgmt.specs.Functions.{kind_of, IsKnownKind};
 use unit_attention::Code;
 use unit_model::Rule;
 
-/// What marks the tasks of a unit.
+/// The cause that marks the tasks of a unit.
 #[derive(Clone, Copy)]
 pub enum MarkBy {
     /// They are aborted (SAM-5 §7.2, §7.3, §7.5).
@@ -24,7 +24,7 @@ pub enum Kind {
     Querying(Rule),
 }
 
-/// What the function of a subtype (VIRTIO 1.2 §5.6.6.2) does; `None` for one that isn't offered.
+/// Returns what the function of a subtype (VIRTIO 1.2 §5.6.6.2) does; `None` for one that isn't offered.
 pub(crate) fn kind_of(subtype: u32, id: u64) -> Option<Kind>
     ensures kind { result ≡ kind_of subtype id }
     ensures known { IfSome result IsKnownKind }

@@ -1,4 +1,4 @@
-//! What follows from the definitions alone.
+//! Laws that follow from the definitions alone.
 
 ghost use Rattle.std.specs.Prelude.{◌≡◌, ◌≢◌, ◌<◌, ◌≤◌, ◌==◌, nat_le, ℕ, Bool, true, false, List, [], ◌∷◌, length, map, slice_get, Option, Some, None, Ok, Err};
 ghost use Rattle.std.specs.List.{list_any};
@@ -51,7 +51,7 @@ pub fn refusals_in_order()
         → place_of units a ≡ None → demanded units subtype (Some a) id ≡ Err IncorrectLun }
 {}
 
-/// What isn't refused is for one unit, or for all units of its target, whatever the LUN.
+/// A function that isn't refused is for one unit, or for all units of its target, whatever the LUN.
 pub fn units_of_functions()
     ensures one { (units : List Address) (subtype : ℕ) (a : Address) (id place : ℕ) (kind : Kind)
         → kind_of subtype id ≡ Some kind → has_target units a.target ≡ true → subtype ≢ 4
@@ -109,7 +109,7 @@ pub fn refused_functions_fail()
     ensures fails { (f : PlainFunction) (n : ℕ) → response_of (all_checked n (failing f)) ≡ Failure }
 {}
 
-/// What a function that wasn't refused memory is answered.
+/// A function that wasn't refused memory is answered by its kind and by what it found.
 pub fn responses_of_functions()
     ensures marking { (f : PlainFunction) (mark : MarkBy)
         → f.kind ≡ Marking mark → f.refused ≡ false → response_of f ≡ Complete }

@@ -1,4 +1,4 @@
-//! What blocks a task that enters (SAM-5 §8.6).
+//! The tasks that block one that enters (SAM-5 §8.6).
 
 ghost use Rattle.std.specs.Prelude.{◌≡◌};
 ghost use Rattle.unit_model.specs.Tasks.{blocks};
@@ -7,7 +7,7 @@ ghost use Rattle.task_set.specs.Tasks.{entries_of};
 use crate::task::Task;
 use decisions::TaskAttribute;
 
-/// Whether there is a task that isn't SIMPLE.
+/// Returns true if there is a task that isn't SIMPLE.
 fn has_other_than_simple(tasks: &[Task]) -> bool
     ensures { result ≡ blocks TaskAttribute.Simple (entries_of tasks.now) (entries_of tasks.now) }
 {
@@ -19,7 +19,7 @@ fn has_other_than_simple(tasks: &[Task]) -> bool
     false
 }
 
-/// Whether these tasks block one of this attribute that enters behind them.
+/// Returns true if these tasks block one of this attribute that enters behind them.
 pub(crate) fn block_next(tasks: &[Task], attribute: TaskAttribute) -> bool
     ensures { result ≡ blocks attribute (entries_of tasks.now) (entries_of tasks.now) }
 {

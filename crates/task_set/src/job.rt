@@ -1,4 +1,4 @@
-//! What is handed from hand to hand until a request is answered.
+//! The jobs that go from hand to hand until a request is answered.
 
 ghost use Rattle.std.specs.Prelude.{◌≡◌, ◌<◌, [], ◌∷◌, ◌++◌, length, IfOk, drop, slice_get};
 ghost use Rattle.std.specs.Prelude.{◌+◌, ◌≤◌, ◌^◌};
@@ -116,7 +116,7 @@ impl Arrival {
         chain
     }
 
-    /// The job, and the request, whose data the task keeps from here on.
+    /// Returns the job, and the request, whose data the task keeps from here on.
     pub(crate) fn into_parts(self) -> (Job, UnitRequest)
         ensures job { result.0 ≡ self }
         ensures request { self.entry ≡ entry_of self.chain.ticket result.1 }

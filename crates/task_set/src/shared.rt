@@ -37,7 +37,7 @@ impl SharedRequest {
         }
     }
 
-    /// The same request once more; `None` where it can't be counted.
+    /// Returns the same request once more; `None` where it can't be counted.
     pub(crate) fn again(&self) -> Option<SharedRequest>
         ensures { IfSome result (λ shared. shared ≡ self.now) }
     {
@@ -47,7 +47,7 @@ impl SharedRequest {
         }
     }
 
-    /// The request.
+    /// Returns the request.
     pub(crate) fn request(&self) -> &UnitRequest
         ensures { result.now ≡ self.now }
     {

@@ -180,7 +180,7 @@ impl Task {
         self.mark
     }
 
-    /// Whether a rule meets it.
+    /// Returns true if a rule meets it.
     pub(crate) fn is_met(&self, rule: Rule) -> bool
         ensures { result ≡ meets rule self.now.seen.entry }
     {
@@ -190,7 +190,7 @@ impl Task {
         }
     }
 
-    /// A task that enters at this place of its unit's history and may run, and its job.
+    /// Makes a task that enters at this place of its unit's history and may run, and its job.
     pub(crate) fn enabled(arrival: Arrival, place: u64) -> (Task, Job)
         ensures task { result.0 ≡ record {
           seen = record { entry = arrival.entry; enabled = true; done = false; mark = None; place = place };
@@ -212,7 +212,7 @@ impl Task {
         (task, job)
     }
 
-    /// A task that enters at this place of its unit's history and waits, with its job.
+    /// Makes a task that enters at this place of its unit's history and waits, with its job.
     pub(crate) fn waiting(arrival: Arrival, place: u64) -> Task
         ensures { result ≡ record {
           seen = record { entry = arrival.entry; enabled = false; done = false; mark = None; place = place };
@@ -232,7 +232,7 @@ impl Task {
         }
     }
 
-    /// The command of this ticket ran, or was answered BUSY.
+    /// Tells that the command of this ticket ran, or was answered BUSY.
     pub(crate) fn finish(&mut self, ticket: Ticket)
         ensures { self.new ≡ moved (finished ticket) self.old }
     {

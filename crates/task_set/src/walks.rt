@@ -12,7 +12,7 @@ use decisions::TaskAttribute;
 use ring_core::Ticket;
 use unit_model::{Reason, Rule};
 
-/// Whether there is a HEAD OF QUEUE task.
+/// Returns true if there is a HEAD OF QUEUE task.
 fn has_head_of_queue(tasks: &[Task]) -> bool
     ensures { result ≡ any_head_of_queue (entries_of tasks.now) }
 {
@@ -24,7 +24,7 @@ fn has_head_of_queue(tasks: &[Task]) -> bool
     false
 }
 
-/// The place of the task of a ticket.
+/// Returns the place of the task of a ticket.
 pub(crate) fn place_of(tasks: &[Task], ticket: Ticket) -> Option<usize>
     ensures none { IfNone result ((task_at ticket tasks.now ≡ None) × (without ticket tasks.now ≡ tasks.now)) }
     ensures within { IfSome result (λ i. i < length tasks.now) }
@@ -40,7 +40,7 @@ pub(crate) fn place_of(tasks: &[Task], ticket: Ticket) -> Option<usize>
     None
 }
 
-/// The command of this ticket ran, or was answered BUSY.
+/// Tells that the command of this ticket ran, or was answered BUSY.
 pub(crate) fn finish_all(tasks: &mut [Task], ticket: Ticket)
     ensures { tasks.new ≡ map (moved (finished ticket)) tasks.old }
 {
@@ -60,7 +60,7 @@ pub(crate) fn mark_all(tasks: &mut [Task], rule: Rule, reason: Reason, out: &mut
     }
 }
 
-/// Whether a task of this attribute is blocked, by a HEAD OF QUEUE task anywhere, or by an ORDERED one or any
+/// Returns true if a task of this attribute is blocked, by a HEAD OF QUEUE task anywhere, or by an ORDERED one or any
 /// one before it.
 fn is_blocked(attribute: TaskAttribute, head_of_queue: bool, ordered: bool, any: bool) -> bool
     ensures { result ≡ blocked_where attribute head_of_queue ordered any }
@@ -72,7 +72,7 @@ fn is_blocked(attribute: TaskAttribute, head_of_queue: bool, ordered: bool, any:
     }
 }
 
-/// Whether an ORDERED task stands before what comes behind a task of this attribute.
+/// Returns true if an ORDERED task stands before what comes behind a task of this attribute.
 fn has_ordered(before: bool, attribute: TaskAttribute) -> bool
     ensures { result ≡ (before || is_ordered attribute) }
 {
@@ -98,7 +98,7 @@ pub(crate) fn free_all(tasks: &mut [Task], out: &mut JobList)
     }
 }
 
-/// Whether a rule meets a task.
+/// Returns true if a rule meets a task.
 pub(crate) fn has_met(tasks: &[Task], rule: Rule) -> bool
     ensures { result ≡ any_met rule (entries_of tasks.now) }
 {
@@ -110,7 +110,7 @@ pub(crate) fn has_met(tasks: &[Task], rule: Rule) -> bool
     false
 }
 
-/// Whether a rule meets a task that entered before a place of the history.
+/// Returns true if a rule meets a task that entered before a place of the history.
 pub(crate) fn has_met_before(tasks: &[Task], place: u64, rule: Rule) -> bool
     ensures { result ≡ any_before place rule (seen_of tasks.now) }
 {

@@ -1,4 +1,4 @@
-//! What follows from the definitions alone.
+//! Laws that follow from the definitions alone.
 
 ghost use Rattle.std.specs.Prelude.{◌≡◌, ◌≤◌, List, [], ◌∷◌, length, true, slice_get, Some};
 ghost use Rattle.unit_attention.specs.declared.code.Code.{Code as ACode};

@@ -1,4 +1,4 @@
-//! Who answers a request that its unit serves to its end.
+//! The trait by which a request is answered that its unit serves to its end.
 
 ghost use Rattle.std.specs.Prelude.{◌≡◌, ◌≤◌, length, IfOk};
 ghost use Rattle.cdb.specs.Need.{need_of};

@@ -1,4 +1,4 @@
-//! Which blocks of a unit may have changed.
+//! The blocks of a unit that may have changed.
 
 ghost use Rattle.std.specs.Prelude.{◌≡◌, ℕ, ◌+◌, ◌-◌, ◌*◌, ◌<◌, ◌≤◌, ◌^◌, Bool, false, [], length, drop, is_some, nat_le, ◌&&◌, ◌||◌};
 ghost use Rattle.block_store.specs.Blocks.{is_within};
@@ -57,8 +57,8 @@ impl Range {
     }
 }
 
-/// Which blocks of a unit may have changed: at most 64 ranges, and the place of its history from which on no other block
-/// has changed. Clauses see these two. [`crate::UnitState::take_changes`] gives it.
+/// The blocks of a unit that may have changed: at most 64 ranges, and the place of its history from which on no other
+/// block has changed. Clauses see these two. [`crate::UnitState::take_changes`] gives it.
 #[derive(Drop)]
 pub struct Changes {
     since: u64,
@@ -74,7 +74,7 @@ impl Model for Changes {
 }
 
 impl Changes {
-    /// Nothing has changed since a place of the history.
+    /// Makes one where nothing has changed since a place of the history.
     pub(crate) fn since_place(place: u64) -> Changes
         ensures since { result.since ≡ place }
         ensures ranges { result.ranges ≡ [] }

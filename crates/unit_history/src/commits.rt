@@ -41,7 +41,7 @@ fn grow(alloc: Global, queues: &mut Vec<Vec<Run>>, wanted: usize) -> Result<(), 
     Ok(())
 }
 
-/// The ticket of the Commit at a place, by the runs of each queue.
+/// Returns the ticket of the Commit at a place, by the runs of each queue.
 fn ticket_in(queues: &[Vec<Run>], place: u64) -> Option<Ticket>
     requires { AreTables (tables_of queues.now) }
     ensures { Finds place (tables_of queues.now) result }
@@ -58,7 +58,7 @@ fn ticket_in(queues: &[Vec<Run>], place: u64) -> Option<Ticket>
 }
 
 impl Commits {
-    /// None.
+    /// Makes a list of none.
     pub(crate) fn new(alloc: Global) -> Commits
         ensures { result ≡ [] }
     {
@@ -68,7 +68,7 @@ impl Commits {
         }
     }
 
-    /// Whether the Commit of a ticket stands at a place.
+    /// Returns true if the Commit of a ticket stands at a place.
     pub(crate) fn stands(&self, place: u64, ticket: Ticket) -> bool
         ensures { IsTrue result ↔ Stands place ticket self.now }
     {
@@ -78,14 +78,15 @@ impl Commits {
         }
     }
 
-    /// The ticket of the Commit at a place, if one stands there.
+    /// Returns the ticket of the Commit at a place, if one stands there.
     pub(crate) fn ticket_at(&self, place: u64) -> Option<Ticket>
         ensures { Finds place self.now result }
     {
         ticket_in(self.queues.as_slice(), place)
     }
 
-    /// One more, behind all of its queue. `AllocError` where memory was refused, with those that are there as before.
+    /// Adds one more, behind all of its queue. `AllocError` where memory was refused, with those that are there as
+    /// before.
     pub(crate) fn add(&mut self, place: u64, ticket: Ticket) -> Result<(), AllocError>
         requires { AreBefore place (runs_of ticket.queue self.old) }
         ensures ok { OnOk result (Adds place ticket self.old self.new) }

@@ -62,7 +62,7 @@ fn count(counts: &mut Counts, step: &RecordedStep)
 }
 
 impl CountedSteps {
-    /// No steps.
+    /// Begins with no steps.
     pub(crate) fn new() -> CountedSteps
         ensures { result.items ≡ [] }
     {
@@ -80,7 +80,7 @@ impl CountedSteps {
         }
     }
 
-    /// One more step.
+    /// Counts one more step.
     #[inline(always)]
     pub(crate) fn push(&mut self, step: &RecordedStep)
         ensures { self.new.items ≡ self.old.items ++ step.now ∷ [] }
@@ -89,7 +89,7 @@ impl CountedSteps {
         self.steps.push(step);
     }
 
-    /// How much was done by them.
+    /// Returns how much was done by them.
     pub(crate) fn counts(&self) -> Counts
         ensures { result ≡ counts_of (steps_recorded self.now.items) }
     {

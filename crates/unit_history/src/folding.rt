@@ -44,7 +44,7 @@ impl Model for Folding {
     ghost invariant = { λ f. AreFolded f.keeps f.len f.forgotten f.marks.items f.commits f.gone.items };
 }
 
-/// Which tasks a step of a kind meets.
+/// Returns which tasks a step of a kind meets.
 fn rule_of_kind(kind: StepKind) -> Option<Rule>
     ensures { result ≡ met_kind kind }
 {
@@ -56,7 +56,7 @@ fn rule_of_kind(kind: StepKind) -> Option<Rule>
     }
 }
 
-/// Which tasks a step meets, if there is one.
+/// Returns which tasks a step meets, if there is one.
 pub(crate) fn rule_of_one(kind: Option<StepKind>) -> Option<Rule>
     ensures { result ≡ met_one kind }
 {
@@ -66,7 +66,8 @@ pub(crate) fn rule_of_one(kind: Option<StepKind>) -> Option<Rule>
     }
 }
 
-/// The rule of the mark at a place, where there is one. Marks are few: those that a task alive may still wait for.
+/// Returns the rule of the mark at a place, where there is one. Marks are few: those that a task alive may still wait
+/// for.
 fn mark_there(marks: &VecDeque<FoldedMark>, place: u64) -> Option<Rule>
     ensures { result ≡ mark_at place marks.now.items }
 {
@@ -79,7 +80,7 @@ fn mark_there(marks: &VecDeque<FoldedMark>, place: u64) -> Option<Rule>
     None
 }
 
-/// The mark of an index.
+/// Returns the mark of an index.
 fn mark_of(marks: &VecDeque<FoldedMark>, at: usize) -> Option<FoldedMark>
     ensures { result ≡ slice_get marks.now.items at }
 {
@@ -89,7 +90,7 @@ fn mark_of(marks: &VecDeque<FoldedMark>, at: usize) -> Option<FoldedMark>
     }
 }
 
-/// The rule of a mark, where it is at the place.
+/// Returns the rule of a mark, where it is at the place.
 fn rule_if(mark: Option<FoldedMark>, place: u64) -> Option<Rule>
     ensures { result ≡ rule_if place mark }
 {
@@ -103,7 +104,7 @@ fn rule_if(mark: Option<FoldedMark>, place: u64) -> Option<Rule>
     }
 }
 
-/// One more mark, where the step has one.
+/// Adds a mark, where the step has one.
 #[inline(always)]
 fn push_mark(
     marks: &mut VecDeque<FoldedMark>,
@@ -122,7 +123,7 @@ fn push_mark(
     }
 }
 
-/// Whose Commit a step is.
+/// Returns whose Commit a step is; `None` where it is none.
 fn committed(kind: StepKind) -> Option<Ticket>
     ensures { result ≡ is_committed kind }
 {
@@ -133,7 +134,7 @@ fn committed(kind: StepKind) -> Option<Ticket>
     }
 }
 
-/// Whose Commit a step is, if there is one.
+/// Returns whose Commit a step is, if there is one.
 pub(crate) fn committed_of_one(kind: Option<StepKind>) -> Option<Ticket>
     ensures { result ≡ committed_one kind }
 {
@@ -143,7 +144,7 @@ pub(crate) fn committed_of_one(kind: Option<StepKind>) -> Option<Ticket>
     }
 }
 
-/// Whether of a folded step no more is kept than that it came.
+/// Returns true if of a folded step no more is kept than that it came.
 #[inline(always)]
 fn only_counts(kind: StepKind, keeps: bool) -> bool
     ensures mark { IsTrue result → met_kind kind ≡ None }
@@ -157,7 +158,7 @@ fn only_counts(kind: StepKind, keeps: bool) -> bool
     }
 }
 
-/// One more Commit, where the step is one and Commits are kept.
+/// Adds a Commit, where the step is one and Commits are kept.
 #[inline(always)]
 fn push_commit(
     keeps: bool,
@@ -179,7 +180,7 @@ fn push_commit(
     }
 }
 
-/// The oldest mark goes, where it is before a place.
+/// Removes the oldest mark, where it is before a place.
 #[inline(always)]
 fn forget_oldest(marks: &mut VecDeque<FoldedMark>, place: u64)
     ensures { Forgets place marks.old.items marks.new.items }
@@ -195,7 +196,7 @@ fn forget_oldest(marks: &mut VecDeque<FoldedMark>, place: u64)
 }
 
 impl Folding {
-    /// No steps.
+    /// Begins with no steps.
     pub(crate) fn new(alloc: Global, keeps: bool) -> Folding
         ensures kinds { result.kinds ≡ [] }
         ensures keeps { result.keeps ≡ keeps }
@@ -211,7 +212,7 @@ impl Folding {
         }
     }
 
-    /// How many there are.
+    /// Returns how many there are.
     #[inline(always)]
     pub(crate) fn len(&self) -> u64
         ensures { result ≡ length self.now.kinds }
@@ -219,7 +220,7 @@ impl Folding {
         self.len
     }
 
-    /// Whether their Commits are kept.
+    /// Returns true if their Commits are kept.
     #[inline(always)]
     pub(crate) fn keeps(&self) -> bool
         ensures { result ≡ self.now.keeps }
@@ -227,7 +228,7 @@ impl Folding {
         self.keeps
     }
 
-    /// Which tasks the step at a place met, or that it is forgotten.
+    /// Returns which tasks the step at a place met; `None` where it is no Abort and no Reset, or that is forgotten.
     pub(crate) fn rule_at(&self, place: u64) -> Option<Rule>
         ensures { result ≡ (if nat_lt place self.now.forgotten then None else met_one (slice_get self.now.kinds place)) }
     {
@@ -237,7 +238,7 @@ impl Folding {
         mark_there(&self.marks, place)
     }
 
-    /// Whether the step at a place is the Commit of a ticket, where Commits are kept.
+    /// Returns true if the step at a place is the Commit of a ticket, where Commits are kept.
     pub(crate) fn has_commit(&self, place: u64, ticket: Ticket) -> bool
         requires { self.now.keeps ≡ true }
         ensures { IsTrue result ↔ (slice_get self.now.kinds place ≡ Some (commit_kind ticket)) }
@@ -245,7 +246,7 @@ impl Folding {
         self.commits.stands(place, ticket)
     }
 
-    /// Whose Commit the step at a place is, if it is one, where Commits are kept.
+    /// Returns whose Commit the step at a place is, if it is one, where Commits are kept.
     pub(crate) fn commit_at(&self, place: u64) -> Option<Ticket>
         requires { self.now.keeps ≡ true }
         ensures { result ≡ committed_one (slice_get self.now.kinds place) }
@@ -253,7 +254,7 @@ impl Folding {
         self.commits.ticket_at(place)
     }
 
-    /// The place of the oldest Abort or Reset that is kept, if one is.
+    /// Returns the place of the oldest Abort or Reset that is kept, if one is.
     #[inline(always)]
     pub(crate) fn oldest_mark(&self) -> Option<u64>
         ensures { IfSome result (λ place. place < length self.now.kinds) }

@@ -1,10 +1,10 @@
-//! What a step was.
+//! The kinds of steps.
 
 use ring_core::Ticket;
 use unit_model::Rule;
 
-/// What a step of a unit's history was, and of which chain. A Reset's code, a Resize's
-/// capacity and a Commit's reply aren't told.
+/// A step of a unit's history: its kind, and of which chain it is. A Reset's code, a Resize's capacity and a Commit's
+/// reply aren't told.
 #[derive(Clone, Copy, PartialEq, Eq)]
 pub enum StepKind {
     /// A task entered the task set (SAM-5 §8.1).

@@ -101,7 +101,8 @@ fn cover(folded: &mut Folding, kinds: &KindRing, to: u64) -> Result<(), AllocErr
     Ok(())
 }
 
-/// The same where no Commits are kept, and none of these steps is an Abort or a Reset: nothing of them has to be read.
+/// Does the same as `cover` where no Commits are kept, and none of these steps is an Abort or a Reset: nothing of them
+/// has to be read.
 #[inline(always)]
 fn count_up(folded: &mut Folding, kinds: &KindRing, to: u64)
     requires covers { AreFirst folded.old.kinds kinds.now.kinds }
@@ -140,14 +141,14 @@ fn advance(folded: &mut Folding, kinds: &KindRing, to: u64) -> Result<(), AllocE
     cover(folded, kinds, to)
 }
 
-/// Whether replies are one.
+/// Returns true if replies are one.
 fn is_same(kept: &Reply, given: &Reply) -> bool
     ensures { IsTrue result ↔ (plain_of given.now ≡ plain_of kept.now) }
 {
     kept == given
 }
 
-/// Whether replies agree: where both are there they are one.
+/// Returns true if replies agree: where both are there they are one.
 fn are_alike(kept: &Option<Reply>, given: &Option<Reply>) -> bool
     ensures { IsTrue result ↔ AreAlike (option_map plain_of kept.now) (option_map plain_of given.now) }
 {
@@ -160,14 +161,14 @@ fn are_alike(kept: &Option<Reply>, given: &Option<Reply>) -> bool
     }
 }
 
-/// Whether the step is the Commit of a ticket.
+/// Returns true if the step is the Commit of a ticket.
 fn is_commit_of(kind: StepKind, ticket: Ticket) -> bool
     ensures { IsTrue result ↔ (kind ≡ commit_kind ticket) }
 {
     kind == StepKind::Commit(ticket)
 }
 
-/// Whether the reply that is kept of the step at a place, if one is, agrees, where so many steps came.
+/// Returns true if the reply that is kept of the step at a place, if one is, agrees, where so many steps came.
 fn agrees_there(
     replies: &VecDeque<Option<Reply>>,
     steps: u64,
@@ -202,7 +203,7 @@ fn reserve_where(
     if keeps { replies.reserve(room) } else { Ok(()) }
 }
 
-/// One more reply, where they are kept, for which the oldest goes where they are as many as are kept.
+/// Adds a reply, where replies are kept. The oldest goes where they are as many as are kept.
 #[inline(always)]
 fn push_where(keeps: bool, replies: &mut VecDeque<Option<Reply>>, reply: Option<Reply>)
     requires room { IsTrue keeps → 0 < spare_of_deque replies.old }

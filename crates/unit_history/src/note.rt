@@ -1,4 +1,4 @@
-//! What is left of a request that was answered without a receipt.
+//! Notes of requests that were answered without a receipt.
 
 ghost use Rattle.std.specs.Prelude.{◌≡◌};
 
@@ -22,7 +22,7 @@ pub enum Cause {
     Unknown,
 }
 
-/// That a request was answered without a receipt, and why. The phase that answers it makes the note.
+/// A note that a request was answered without a receipt, and why. The phase that answers it makes the note.
 #[derive(Drop)]
 pub struct Note {
     ticket: Ticket,

@@ -1,4 +1,4 @@
-//! What the calls of a unit answer.
+//! The answers of a unit's calls.
 
 ghost use Rattle.std.specs.Prelude.{◌≡◌, Option, Some, None};
 ghost use Rattle.std.specs.Option.{option_map};
@@ -14,7 +14,7 @@ use std::marker::Model;
 use task_set::Job;
 use unit_model::Reason;
 
-/// What became of a request that came to its unit.
+/// The outcome of a request that came to its unit.
 #[derive(Drop)]
 pub enum Entered {
     /// Its task entered and may run: the thread that gets the job commits it.
@@ -30,7 +30,7 @@ pub enum Entered {
 }
 
 impl Entered {
-    /// A task entered: its job, where that is to be committed.
+    /// Makes the outcome of a task that entered, with its job where that is to be committed.
     pub(crate) fn of(job: Option<Job>) -> Entered
         ensures { result ≡ entered_of job }
     {
@@ -50,7 +50,7 @@ pub enum ResizeFault {
     NoMemory,
 }
 
-/// What became of a job at its commit.
+/// The outcome of a job's commit.
 #[derive(Drop)]
 pub enum Outcome {
     /// Its command ran whole.
@@ -64,7 +64,7 @@ pub enum Outcome {
 }
 
 impl Outcome {
-    /// Its reply, if it has one, to be let go.
+    /// Returns its reply, if it has one, to be let go.
     pub(crate) fn into_reply(self) -> Option<Reply> {
         match self {
             Outcome::Reply(receipt) => {
@@ -76,7 +76,7 @@ impl Outcome {
     }
 }
 
-/// That a command ran whole, and with which reply. `UnitState::commit` alone makes one.
+/// The proof that a command ran whole, and with which reply. `UnitState::commit` alone makes one.
 #[derive(Drop)]
 pub struct Receipt {
     unit: Address,
@@ -101,7 +101,7 @@ impl Model for Receipt {
 }
 
 impl Receipt {
-    /// For `UnitState::commit` alone.
+    /// Makes a receipt, for `UnitState::commit` alone.
     pub(crate) fn new(unit: Address, place: u64, ticket: Ticket, reply: Reply) -> Receipt
         ensures { result ≡ record { unit = unit; place = place; ticket = ticket; reply = Some (plain_of reply) } }
     {

@@ -27,7 +27,7 @@ pub struct PreparedWrite {
 }
 
 impl StartedWrite {
-    /// A WRITE and the edges of its range.
+    /// Joins a WRITE and the edges of its range.
     pub(crate) fn new(edges: Edges, request: SharedRequest) -> StartedWrite
         requires { request.command ≡ Write (edges_draft edges).first (edges_draft edges).count }
     {
@@ -45,7 +45,7 @@ impl StartedWrite {
 }
 
 impl PreparedWrite {
-    /// The pages, where they are of the task's command and data: exactly then they may be put in place for it.
+    /// Returns the pages, where they are of the task's command and data: exactly then they may be put in place for it.
     pub(crate) fn pages_of(self, task: &Task) -> Option<Prepared>
         ensures { IfSome result (λ pages. IsOf task.now.seen.entry.command task.now.seen.entry.data_out (prepared_draft pages)) }
     {
@@ -57,7 +57,7 @@ impl PreparedWrite {
     }
 }
 
-/// The pages, if there are any and they are of the task's command and data.
+/// Returns the pages, if there are any and they are of the task's command and data.
 #[inline(always)]
 pub(crate) fn pages_for(prepared: Option<PreparedWrite>, task: &Task) -> Option<Prepared>
     ensures { IfSome result (λ pages. IsOf task.now.seen.entry.command task.now.seen.entry.data_out (prepared_draft pages)) }

@@ -33,7 +33,7 @@ pub fn attentions_at_start(calm: bool) -> Attentions
     attentions
 }
 
-/// A code as sense, key UNIT ATTENTION.
+/// Makes sense data of a code, with the key UNIT ATTENTION.
 fn sense_of(code: Code) -> Sense
     ensures { result ≡ unit_attention code.asc code.ascq }
 {
@@ -61,7 +61,7 @@ fn clear_oldest(attentions: &mut Attentions, command: &Command)
     }
 }
 
-/// The reply again, to be kept: only one with data takes memory, as much as these are.
+/// Returns the reply again, to be kept: only one with data takes memory, as much as these are.
 fn again(alloc: Global, reply: &Reply) -> Result<Reply, AllocError>
     ensures same { IfOk result (λ kept. plain_of kept ≡ plain_of reply.now) }
     ensures want { OnErr result (0 < length reply.now.payload.items) }
@@ -79,7 +79,7 @@ fn again(alloc: Global, reply: &Reply) -> Result<Reply, AllocError>
     })
 }
 
-/// The reply again, where it isn't too long to be kept.
+/// Returns the reply again, where it isn't too long to be kept.
 fn kept_of(alloc: Global, reply: &Reply) -> Result<Option<Reply>, AllocError>
     ensures same { IfOk result (λ kept. option_map plain_of kept ≡ kept_reply true (plain_of reply.now)) }
     ensures want { OnErr result (0 < length reply.now.payload.items) }

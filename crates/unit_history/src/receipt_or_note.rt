@@ -1,9 +1,9 @@
-//! What is left of a request once it is answered: the receipt of its Commit, or a note of why there is none.
+//! The rest of a request once it is answered: the receipt of its Commit, or a note of why there is none.
 
 use crate::note::Note;
 use crate::outcomes::Receipt;
 
-/// What is left of a request once it is answered.
+/// The rest of a request once it is answered.
 #[derive(Drop)]
 pub enum ReceiptOrNote {
     /// Its command ran whole.

@@ -142,7 +142,7 @@ pub enum RecordedStep {
 }
 
 impl RecordedStep {
-    /// What the step is.
+    /// Returns the step's kind.
     pub(crate) fn kind(&self) -> StepKind
         ensures { result ≡ kind_of (step_recorded self.now) }
     {

@@ -40,7 +40,7 @@ impl Model for KindRing {
     ghost invariant = { λ r. AreRing r.len r.calm r.slots.items r.all.items };
 }
 
-/// At which index a place is.
+/// Returns at which index a place is.
 #[inline(always)]
 pub(crate) fn index_of(place: u64) -> usize
     ensures { result ≡ place % most_kept }
@@ -48,7 +48,7 @@ pub(crate) fn index_of(place: u64) -> usize
     (place % MOST_KEPT as u64) as usize
 }
 
-/// The index of the place behind that of an index.
+/// Returns the index of the place behind that of an index.
 #[inline(always)]
 pub(crate) fn index_behind(index: usize) -> usize
     requires { index < most_kept }
@@ -57,7 +57,7 @@ pub(crate) fn index_behind(index: usize) -> usize
     if index + 1 == MOST_KEPT { 0 } else { index + 1 }
 }
 
-/// Whether a step is an Abort or a Reset.
+/// Returns true if a step is an Abort or a Reset.
 #[inline(always)]
 fn is_mark(kind: StepKind) -> bool
     ensures { result ≡ is_some (met_kind kind) }
@@ -69,7 +69,7 @@ fn is_mark(kind: StepKind) -> bool
     }
 }
 
-/// Behind which place there is no Abort and no Reset, with one more step.
+/// Returns behind which place there is no Abort and no Reset, with one more step.
 #[inline(always)]
 fn calm_with(calm: u64, len: u64, kind: StepKind) -> u64
     requires { len + 1 < 2 ^ 64 }
@@ -78,7 +78,7 @@ fn calm_with(calm: u64, len: u64, kind: StepKind) -> u64
     if is_mark(kind) { len + 1 } else { calm }
 }
 
-/// One more at an index.
+/// Puts one more at an index.
 #[inline(always)]
 fn put(slots: &mut Vec<StepKind>, at: usize, kind: StepKind)
     requires room { min (length slots.old.items) 4223 < vec_capacity slots.old }
@@ -95,7 +95,7 @@ fn put(slots: &mut Vec<StepKind>, at: usize, kind: StepKind)
 }
 
 impl KindRing {
-    /// None.
+    /// Makes a ring of none.
     pub(crate) fn new(alloc: Global) -> KindRing
         ensures { result.kinds ≡ [] }
     {
@@ -107,7 +107,7 @@ impl KindRing {
         }
     }
 
-    /// How many there are.
+    /// Returns how many there are.
     #[inline(always)]
     pub(crate) fn len(&self) -> u64
         ensures { result ≡ length self.now.kinds }
@@ -115,7 +115,7 @@ impl KindRing {
         self.len
     }
 
-    /// That of a place, whose index is given, where it still stands.
+    /// Returns the kind of the step at a place, whose index is given, where that still stands.
     #[inline(always)]
     pub(crate) fn stands_at(&self, index: usize, place: u64) -> StepKind
         requires index { index ≡ place % most_kept }
@@ -126,7 +126,7 @@ impl KindRing {
         self.slots[index]
     }
 
-    /// That of a place, where it still stands.
+    /// Returns the kind of the step at a place, where that still stands.
     #[inline(always)]
     pub(crate) fn at(&self, place: u64) -> StepKind
         requires there { place < length self.now.kinds }
@@ -136,7 +136,7 @@ impl KindRing {
         self.stands_at(index_of(place), place)
     }
 
-    /// That of a place which is none of those that stand no more, if it came.
+    /// Returns the kind of the step at a place that isn't overwritten yet; `None` where no step stands there.
     pub(crate) fn get(&self, place: u64) -> Option<StepKind>
         requires { length self.now.kinds ≤ place + most_kept }
         ensures { result ≡ slice_get self.now.kinds place }
@@ -148,7 +148,7 @@ impl KindRing {
         }
     }
 
-    /// Whether no step from a place on is an Abort or a Reset.
+    /// Returns true if no step from a place on is an Abort or a Reset.
     #[inline(always)]
     pub(crate) fn is_calm_from(&self, place: u64) -> bool
         ensures { IsTrue result → (p : ℕ) → place ≤ p → met_one (slice_get self.now.kinds p) ≡ None }
@@ -169,7 +169,7 @@ impl KindRing {
         grow(&mut self.slots)
     }
 
-    /// One more, for which there is room. It takes no memory.
+    /// Adds one more, for which there is room. It takes no memory.
     #[inline(always)]
     pub(crate) fn push(&mut self, kind: StepKind)
         requires room { min (length self.old.kinds) 4223 < self.old.cap }

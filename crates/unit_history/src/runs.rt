@@ -17,14 +17,14 @@ pub struct Run {
     more: u32,
 }
 
-/// A product, which always fits.
+/// Returns a product, which always fits.
 fn times(a: u32, b: u32) -> u64
     ensures { result ≡ a * b }
 {
     a as u64 * b as u64
 }
 
-/// A run of one Commit.
+/// Makes a run of one Commit.
 fn run_of(place: u64, number: u64) -> Run
     ensures one { OneMore (λ p n. ⊥) place number (λ p n. OnRun p n result) }
     ensures first { (result.place ≡ place) × (0 < result.by_place) × (last_place result ≡ place) }
@@ -39,7 +39,7 @@ fn run_of(place: u64, number: u64) -> Run
     }
 }
 
-/// A difference, where there is one that is small enough for a stride.
+/// Returns a difference, where there is one that is small enough for a stride.
 fn stride(from: u64, to: u64) -> Option<u32>
     ensures { IfSome result (λ by. from + by ≡ to) }
 {
@@ -49,7 +49,7 @@ fn stride(from: u64, to: u64) -> Option<u32>
     Some((to - from) as u32)
 }
 
-/// A run of two Commits.
+/// Makes a run of two Commits.
 fn run_of_two(run: Run, place: u64, number: u64) -> Option<Run>
     requires { run.more ≡ 0 }
     ensures { IfSome result (λ r. Extends run place number r) }
@@ -67,7 +67,7 @@ fn run_of_two(run: Run, place: u64, number: u64) -> Option<Run>
     })
 }
 
-/// A run with one more, where that is the next by its strides.
+/// Returns a run with one more, where that is the next by its strides.
 fn run_of_more(run: Run, place: u64, number: u64) -> Option<Run>
     requires { 0 < run.by_place }
     ensures { IfSome result (λ r. Extends run place number r) }
@@ -85,7 +85,7 @@ fn run_of_more(run: Run, place: u64, number: u64) -> Option<Run>
     Some(Run { more, ..run })
 }
 
-/// A run with one more Commit, where there is such a run.
+/// Returns a run with one more Commit, where there is such a run.
 fn extended(run: Run, place: u64, number: u64) -> Option<Run>
     requires { 0 < run.by_place }
     ensures { IfSome result (λ r. Extends run place number r) }
@@ -97,7 +97,7 @@ fn extended(run: Run, place: u64, number: u64) -> Option<Run>
     }
 }
 
-/// Whether the Commit of a number stands at a place, by a run.
+/// Returns true if the Commit of a number stands at a place, by a run.
 fn is_on(run: Run, place: u64, number: u64) -> bool
     requires { 0 < run.by_place }
     ensures { IsTrue result ↔ OnRun place number run }
@@ -114,7 +114,7 @@ fn is_on(run: Run, place: u64, number: u64) -> bool
         && times(steps as u32, run.by_number) == number - run.number
 }
 
-/// Whether the Commit of a number stands at a place, by one of the runs. It halves them until one is left.
+/// Returns true if the Commit of a number stands at a place, by one of the runs. It halves them until one is left.
 pub(crate) fn is_in(runs: &[Run], place: u64, number: u64) -> bool
     requires { AreRising 0 runs.now }
     ensures { IsTrue result ↔ InRuns place number runs.now }
@@ -130,7 +130,7 @@ pub(crate) fn is_in(runs: &[Run], place: u64, number: u64) -> bool
     is_on(runs[behind - 1], place, number)
 }
 
-/// The number of the Commit at a place, by a run.
+/// Returns the number of the Commit at a place, by a run.
 fn number_on(run: Run, place: u64) -> Option<u64>
     requires strides { 0 < run.by_place }
     requires numbered { last_number run < 2 ^ 64 }
@@ -150,7 +150,7 @@ fn number_on(run: Run, place: u64) -> Option<u64>
     Some(run.number + times(steps as u32, run.by_number))
 }
 
-/// The number of the Commit at a place, by one of the runs. It halves them until one is left.
+/// Returns the number of the Commit at a place, by one of the runs. It halves them until one is left.
 pub(crate) fn number_at(runs: &[Run], place: u64) -> Option<u64>
     requires rising { AreRising 0 runs.now }
     requires numbered { AreNumbered runs.now }
@@ -167,7 +167,7 @@ pub(crate) fn number_at(runs: &[Run], place: u64) -> Option<u64>
     number_on(runs[behind - 1], place)
 }
 
-/// One more Commit, behind all that are there.
+/// Adds a Commit, behind all that are there.
 pub(crate) fn add(runs: &mut Vec<Run>, place: u64, number: u64) -> Result<(), AllocError>
     requires rising { AreRising 0 runs.old.items }
     requires numbered { AreNumbered runs.old.items }

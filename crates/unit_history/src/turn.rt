@@ -1,4 +1,4 @@
-//! What a task that was found may do.
+//! The turn of a task that was found.
 
 ghost use Rattle.std.specs.Prelude.{◌≡◌, ◌≢◌, ◌||◌, is_some, IsTrue, IsFalse};
 ghost use Rattle.unit_model.specs.Asking.{asked_of};
@@ -8,7 +8,7 @@ use cdb::Command;
 use task_set::{Job, Task};
 use unit_model::Reason;
 
-/// What a task may do for a job.
+/// The turn of a task for its job: it may run, it was marked, or it can't take the step.
 #[derive(Drop)]
 pub(crate) enum Turn {
     /// Nothing: it is another's, it did already, or it was never handed out.
@@ -19,7 +19,7 @@ pub(crate) enum Turn {
     Ready,
 }
 
-/// Whether two commands are one.
+/// Returns true if two commands are one.
 fn is_same(command: Command, other: Command) -> bool
     ensures yes { IsTrue result → command ≡ other }
     ensures no { IsFalse result → command ≢ other }
@@ -27,7 +27,7 @@ fn is_same(command: Command, other: Command) -> bool
     command == other
 }
 
-/// Whether the task entered with what the job says.
+/// Returns true if the task entered with what the job says.
 fn is_as_asked(task: &Task, job: &Job) -> bool
     ensures yes { IsTrue result → asked_of task.now.seen.entry ≡ asked_of job.now.entry }
     ensures no { IsFalse result → asked_of task.now.seen.entry ≢ asked_of job.now.entry }
@@ -37,7 +37,7 @@ fn is_as_asked(task: &Task, job: &Job) -> bool
         && is_same(task.command(), job.command())
 }
 
-/// What the task may do for the job of its ticket.
+/// Returns what the task may do for the job of its ticket.
 pub(crate) fn turn_of(task: &Task, job: &Job) -> Turn
     ensures { Turns task.now.seen job.now result }
 {
@@ -56,7 +56,7 @@ pub(crate) fn turn_of(task: &Task, job: &Job) -> Turn
     }
 }
 
-/// Whether the task may leave: its command ran or was answered BUSY, or it was marked.
+/// Returns true if the task may leave: its command ran or was answered BUSY, or it was marked.
 pub(crate) fn is_ended(task: &Task) -> bool
     ensures { result ≡ (task.now.seen.done || is_some task.now.seen.mark) }
 {

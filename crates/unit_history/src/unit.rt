@@ -77,7 +77,7 @@ impl Model for UnitState {
     ghost invariant = { IsTold };
 }
 
-/// The task that an arrival becomes, as the log sees it.
+/// Returns the task that an arrival becomes, as the log sees it.
 #[inline(always)]
 pub(crate) fn recorded_entry(arrival: &Arrival) -> RecordedEntry
     ensures { result ≡ arrival.now.entry }
@@ -92,8 +92,8 @@ pub fn is_capacity(blocks: u64) -> bool
     1 <= blocks && blocks <= MOST_BLOCKS
 }
 
-/// Makes way in a unit's log for a step that brings more, and for those ahead. What the oldest folded Abort or Reset met
-/// is forgotten, where no task is alive that entered before it. Where memory was refused, the log says the same as before.
+/// Makes way in a unit's log for a step that brings more, and for those ahead. Forgets what the oldest folded Abort or
+/// Reset met, where no task is alive that entered before it. Where memory was refused, the log says the same as before.
 #[inline(always)]
 pub(crate) fn make_way(log: &mut StepLog, tasks: &TaskSet) -> Result<(), AllocError>
     ensures steps { log.new.steps ≡ log.old.steps }

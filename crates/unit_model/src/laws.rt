@@ -1,4 +1,4 @@
-//! What follows from the definitions alone.
+//! Laws that follow from the definitions alone.
 
 mod base;
 mod cases;

@@ -110,7 +110,7 @@ where
     ended(outcome, out.flush())
 }
 
-/// Why the program ends behind a script, whose output was flushed.
+/// Returns why the program ends behind a script, whose output was flushed.
 fn ended(outcome: Result<(), ScriptFault>, flushed: io::Result<()>) -> Ending {
     if flushed.is_err() {
         return Ending::CannotWrite;

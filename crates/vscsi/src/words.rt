@@ -1,11 +1,11 @@
-//! What the words of the command line ask for.
+//! Parses the words of the command line.
 
 use crate::ending::Ending;
 use clap::error::ErrorKind;
 use clap::{Arg, ArgAction, ArgMatches, Command, Error};
 use std::alloc::{AllocError, Global};
 
-/// What the words ask for.
+/// The call that the words ask for.
 #[derive(Drop)]
 pub enum Asked<'a> {
     /// To play a script.
@@ -29,7 +29,7 @@ pub struct Play<'a> {
     pub trace: bool,
 }
 
-/// What a script is, below the help.
+/// The text on scripts, below the help.
 const ABOUT_SCRIPTS: &str =
     "A script is text, a line for each thing that the guest does. Its header says how
 much memory, which queues and which disks there are; the lines behind it send
@@ -55,14 +55,14 @@ error, a closed device that doesn't add up, or a standard output that fails;
 2 words that are refused, or ask for help; 3 no memory.
 ";
 
-/// The word that names a script.
+/// Makes the word that names a script.
 fn file<'a>(alloc: Global) -> Arg<'a> {
     Arg::new(alloc, "FILE")
         .required(true)
         .help("The script; - for standard input")
 }
 
-/// `play`.
+/// Makes the command `play`.
 fn play_command<'a>(alloc: Global) -> Result<Command<'a>, AllocError> {
     let steps = Arg::new(alloc, "steps")
         .long("steps")
@@ -81,7 +81,7 @@ fn play_command<'a>(alloc: Global) -> Result<Command<'a>, AllocError> {
         .arg(trace)
 }
 
-/// `check`.
+/// Makes the command `check`.
 fn check_command<'a>(alloc: Global) -> Result<Command<'a>, AllocError> {
     Command::new(alloc, "check")
         .about("Says what is wrong with a script, and at which word, without a device")
@@ -89,7 +89,7 @@ fn check_command<'a>(alloc: Global) -> Result<Command<'a>, AllocError> {
         .arg(file(alloc))
 }
 
-/// `serve`.
+/// Makes the command `serve`.
 fn serve_command<'a>(alloc: Global) -> Result<Command<'a>, AllocError> {
     let workers = Arg::new(alloc, "workers")
         .long("workers")
@@ -104,7 +104,7 @@ fn serve_command<'a>(alloc: Global) -> Result<Command<'a>, AllocError> {
         .arg(workers)
 }
 
-/// The command line.
+/// Makes the command line.
 fn command<'a>(alloc: Global) -> Result<Command<'a>, AllocError> {
     Command::new(alloc, "vscsi")
         .version("0.1.0")
@@ -130,7 +130,7 @@ pub fn requested<'a>(alloc: Global, words: &'a [String]) -> Asked<'a> {
     }
 }
 
-/// What words that were parsed ask for.
+/// Returns what words that were parsed ask for.
 fn asked_of<'a>(matches: &ArgMatches<'a>) -> Option<Asked<'a>> {
     if let Some(play) = matches.subcommand_matches("play") {
         return Some(Asked::Play(Play {

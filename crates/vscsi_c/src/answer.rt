@@ -1,9 +1,9 @@
-//! What a call answers.
+//! The answers of calls.
 
 ghost use Rattle.std.specs.Prelude.{◌≡◌};
 ghost use Rattle.vscsi_c.specs.Answers.{code_of};
 
-/// What a call answers, as the header's `enum vscsi_answer`.
+/// The answer of a call, as the header's `enum vscsi_answer`.
 #[derive(Clone, Copy, PartialEq, Eq)]
 pub(crate) enum Answer {
     /// It was done.
@@ -31,7 +31,7 @@ pub(crate) enum Answer {
 }
 
 impl Answer {
-    /// Its number.
+    /// Returns its number.
     pub(crate) fn code(self) -> u32
         ensures { result ≡ code_of self }
     {

@@ -98,7 +98,7 @@ pub(crate) fn serve(
     answer
 }
 
-/// The guest's write.
+/// Writes bytes as the guest.
 #[tactic(auto, using(crate::proofs::Serve::serving, crate::proofs::Serve::without))]
 pub(crate) fn poke(device: &mut Device, alloc: Global, addr: u64, bytes: &[u8]) -> Answer
     ensures { Serving (Pokes (record { addr = addr; bytes = bytes.now })) (Unit {0}) (kept_in device.old) result
@@ -126,7 +126,7 @@ pub(crate) fn peek(device: &mut Device, alloc: Global, addr: u64, into: &mut [u8
     answer
 }
 
-/// Whose drivers are owed a notification since this was last asked.
+/// Tells which queues' drivers are owed a notification since this was last asked.
 #[tactic(auto, using(crate::proofs::Serve::serving, crate::proofs::Serve::without))]
 pub(crate) fn owed(device: &mut Device, alloc: Global, queues: &mut u32) -> Answer
     ensures { Serving (Owes queues.new) (queues.new ≡ queues.old) (kept_in device.old) result (kept_in device.new) }
@@ -139,7 +139,7 @@ pub(crate) fn owed(device: &mut Device, alloc: Global, queues: &mut u32) -> Answ
     answer
 }
 
-/// The device's status.
+/// Tells the device's status.
 #[tactic(auto, using(crate::proofs::Serve::serving, crate::proofs::Serve::without))]
 pub(crate) fn status(device: &mut Device, alloc: Global, status: &mut u8) -> Answer
     ensures { Serving (IsStatus status.new) (status.new ≡ status.old) (kept_in device.old) result (kept_in device.new) }
@@ -152,7 +152,7 @@ pub(crate) fn status(device: &mut Device, alloc: Global, status: &mut u8) -> Ans
     answer
 }
 
-/// What broke a queue.
+/// Tells what broke a queue.
 #[tactic(auto, using(crate::proofs::Serve::serving, crate::proofs::Serve::without))]
 pub(crate) fn broken(device: &mut Device, alloc: Global, queue: u16, fault: &mut u32) -> Answer
     ensures { Serving (Breaks queue fault.old fault.new) (fault.new ≡ fault.old) (kept_in device.old) result
@@ -166,7 +166,7 @@ pub(crate) fn broken(device: &mut Device, alloc: Global, queue: u16, fault: &mut
     answer
 }
 
-/// How many chains a queue accepted, and how many of them were used.
+/// Tells how many chains a queue accepted, and how many of them were used.
 #[tactic(auto, using(crate::proofs::Serve::serving, crate::proofs::Serve::without))]
 pub(crate) fn progress(
     device: &mut Device,
@@ -186,7 +186,7 @@ pub(crate) fn progress(
     answer
 }
 
-/// The operator's hard reset of a unit.
+/// Resets a unit for the operator.
 #[tactic(auto, using(crate::proofs::Serve::serving, crate::proofs::Serve::without))]
 pub(crate) fn reset(device: &mut Device, alloc: Global, target: u8, lun: u16) -> Answer
     ensures { Serving (Resets target lun) (Unit {0}) (kept_in device.old) result (kept_in device.new) }
@@ -199,7 +199,7 @@ pub(crate) fn reset(device: &mut Device, alloc: Global, target: u8, lun: u16) ->
     answer
 }
 
-/// The operator's resize of a unit.
+/// Resizes a unit for the operator.
 #[tactic(auto, using(crate::proofs::Serve::serving, crate::proofs::Serve::without))]
 pub(crate) fn resize(
     device: &mut Device,
@@ -218,7 +218,7 @@ pub(crate) fn resize(
     answer
 }
 
-/// How much a unit did.
+/// Tells how much a unit did.
 #[tactic(auto, using(crate::proofs::Serve::serving, crate::proofs::Serve::without))]
 pub(crate) fn counts(
     device: &mut Device,
@@ -238,7 +238,7 @@ pub(crate) fn counts(
     answer
 }
 
-/// How many blocks a unit has.
+/// Tells how many blocks a unit has.
 #[tactic(auto, using(crate::proofs::Serve::serving, crate::proofs::Serve::without))]
 pub(crate) fn capacity(
     device: &mut Device,

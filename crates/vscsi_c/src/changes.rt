@@ -1,4 +1,4 @@
-//! Which blocks of a unit may have changed, for C.
+//! Tells C which blocks of a unit may have changed.
 
 ghost use Rattle.std.specs.Prelude.{◌≡◌, ◌≤◌, length, map, take};
 ghost use Rattle.vscsi_c.specs.Changes.{TellsChanges, range_of};

@@ -1,4 +1,4 @@
-//! What C keeps of a device.
+//! The device, as C keeps it.
 
 ghost use Rattle.std.specs.Prelude.{◌≡◌, true};
 ghost use Rattle.vscsi_c.specs.Places.{has_device};

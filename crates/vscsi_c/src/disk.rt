@@ -1,4 +1,4 @@
-//! What C keeps of a disk.
+//! The disk, as C keeps it.
 
 ghost use Rattle.std.specs.Prelude.{◌≡◌, true};
 ghost use Rattle.vscsi_c.specs.Places.{has_disk};

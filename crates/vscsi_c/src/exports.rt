@@ -1,5 +1,5 @@
-//! What C calls: each export is one call, and its answer's number. The header says what C owes for each: a `Device`
-//! that C made of zeros or that a call left, and room where a call writes.
+//! The exports, which C calls: each is one call, and its answer's number. The header says what C owes for each: a
+//! `Device` that C made of zeros or that a call left, and room where a call writes.
 
 ghost use Rattle.std.specs.Prelude.{◌≡◌};
 ghost use Rattle.vscsi_c.specs.Answers.{Tells};

@@ -118,7 +118,7 @@ pub(crate) fn create_with(
     Answer::Done
 }
 
-/// What a device's disks are put into when it closes: an empty list with room for them, and a box for each.
+/// The room for a device's disks when it closes: an empty list with room for them, and a box for each.
 struct Room {
     stores: Vec<PagedStore>,
     boxes: Vec<Box<PagedStore, Global>>,

@@ -6,7 +6,7 @@ ghost use Rattle.std.specs.Box.Ownership.{box_owns};
 use std::alloc::Allocator;
 use std::marker::Model;
 
-/// What a box was made of: its pointer, and the allocator that its block came from. It owns what the box did.
+/// The parts of a box: its pointer, and the allocator that its block came from. It owns what the box did.
 pub(crate) struct Loose<T, A: Allocator> {
     pub(crate) at: *mut T,
     pub(crate) alloc: A,
@@ -26,7 +26,7 @@ impl<T: Drop, A: Allocator> Loose<T, A> {
         Loose { at, alloc }
     }
 
-    /// The box again.
+    /// Returns the box again.
     pub(crate) fn into_box(self) -> Box<T, A>
         ensures { result.value ≡ self.value }
     {

@@ -1,4 +1,4 @@
-//! What a pointer that C keeps owns.
+//! The owner of what C's pointer points to.
 
 ghost use Rattle.std.specs.Prelude.{◌≡◌, Option, Some, None, is_some, true};
 ghost use Rattle.std.specs.Coded.{coded_option};

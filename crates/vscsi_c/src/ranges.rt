@@ -1,4 +1,4 @@
-//! What C is told of changes.
+//! The changes that C is told of.
 
 /// Blocks that follow one another: the header's `struct vscsi_range`.
 #[repr(C)]

@@ -1,4 +1,4 @@
-//! What each call does with a device.
+//! The device's calls, each with its answer.
 
 ghost use Rattle.std.specs.Prelude.{◌≡◌, length};
 ghost use Rattle.std.specs.Option.{option_map};
@@ -18,7 +18,7 @@ pub(crate) struct Served {
     pub(crate) told: Notifications,
 }
 
-/// The number of what broke a queue; 0 for nothing.
+/// Returns the number of what broke a queue; 0 for nothing.
 fn number_of_fault(fault: Option<RingFault>) -> u32
     ensures { result ≡ number_of fault }
 {
@@ -71,7 +71,7 @@ impl Served {
         }
     }
 
-    /// The guest's write.
+    /// Writes bytes as the guest.
     pub(crate) fn poke(&mut self, addr: u64, bytes: &[u8]) -> Answer
         ensures { Pokes (record { addr = addr; bytes = bytes.now }) self.old result self.new }
     {
@@ -92,7 +92,7 @@ impl Served {
         }
     }
 
-    /// Whose drivers are owed a notification since this was last asked.
+    /// Tells which queues' drivers are owed a notification since this was last asked.
     pub(crate) fn owed(&mut self, queues: &mut u32) -> Answer
         ensures { Owes queues.new self.old result self.new }
     {
@@ -100,7 +100,7 @@ impl Served {
         Answer::Done
     }
 
-    /// The device's status.
+    /// Tells the device's status.
     pub(crate) fn status(&mut self, status: &mut u8) -> Answer
         ensures { IsStatus status.new self.old result self.new }
     {
@@ -108,7 +108,7 @@ impl Served {
         Answer::Done
     }
 
-    /// What broke a queue.
+    /// Tells what broke a queue.
     pub(crate) fn broken(&mut self, queue: u16, fault: &mut u32) -> Answer
         ensures { Breaks queue fault.old fault.new self.old result self.new }
     {
@@ -119,7 +119,7 @@ impl Served {
         Answer::Done
     }
 
-    /// How many chains a queue accepted, and how many of them were used.
+    /// Tells how many chains a queue accepted, and how many of them were used.
     pub(crate) fn progress(&mut self, queue: u16, accepted: &mut u64, used: &mut u64) -> Answer
         ensures { Counts queue accepted.old used.old accepted.new used.new self.old result self.new }
     {
@@ -133,7 +133,7 @@ impl Served {
         }
     }
 
-    /// The operator's hard reset of a unit.
+    /// Resets a unit for the operator.
     pub(crate) fn reset(&mut self, target: u8, lun: u16) -> Answer
         ensures { Resets target lun self.old result self.new }
     {
@@ -146,7 +146,7 @@ impl Served {
         }
     }
 
-    /// The operator's resize of a unit.
+    /// Resizes a unit for the operator.
     pub(crate) fn resize(&mut self, target: u8, lun: u16, blocks: u64) -> Answer
         ensures { Resizes target lun blocks self.old result self.new }
     {
@@ -162,7 +162,7 @@ impl Served {
         }
     }
 
-    /// How many blocks a unit has.
+    /// Tells how many blocks a unit has.
     pub(crate) fn capacity(&mut self, target: u8, lun: u16, blocks: &mut u64) -> Answer
         ensures { Holds target lun blocks.old blocks.new self.old result self.new }
     {

@@ -72,7 +72,7 @@ pub struct Fault {
     pub detail: u32,
 }
 
-/// The number of what a ring says of a layout.
+/// Returns the number of what a ring says of a layout.
 fn layout_number(fault: LayoutFault) -> u32
     ensures { result ≡ number_of_layout fault }
 {
@@ -84,7 +84,7 @@ fn layout_number(fault: LayoutFault) -> u32
     }
 }
 
-/// A cause in numbers.
+/// Returns a cause in numbers.
 fn cause(cause: u32, place: usize, detail: u32) -> Fault
     ensures { plain_cause result ≡ record { cause = cause; place = place; detail = detail } }
 {
@@ -95,7 +95,7 @@ fn cause(cause: u32, place: usize, detail: u32) -> Fault
     }
 }
 
-/// Why a configuration isn't taken, in numbers.
+/// Returns why a configuration isn't taken, in numbers.
 pub(crate) fn fault_of(fault: ConfigFault) -> Fault
     ensures { plain_cause result ≡ cause_of fault }
 {
@@ -115,21 +115,21 @@ pub(crate) fn fault_of(fault: ConfigFault) -> Fault
     }
 }
 
-/// The layouts of queues.
+/// Returns the layouts of queues.
 fn layouts_of(alloc: Global, queues: &[WantedQueue]) -> Result<Vec<Layout>, AllocError>
     ensures { IfOk result (λ layouts. layouts.items ≡ map layout_of queues.now) }
 {
     queues.iter().map(|queue| queue.layout()).collect(alloc)
 }
 
-/// The specifications of units.
+/// Returns the specifications of units.
 fn specs_of(alloc: Global, units: &[WantedUnit]) -> Result<Vec<UnitSpec>, AllocError>
     ensures { IfOk result (λ specs. specs.items ≡ map spec_of units.now) }
 {
     units.iter().map(|unit| unit.spec()).collect(alloc)
 }
 
-/// The configuration that is asked for.
+/// Returns the configuration that is asked for.
 pub(crate) fn config_of(
     alloc: Global,
     pages: u32,

@@ -87,7 +87,7 @@ fn share<T: Drop>(alloc: Global, value: T) -> Result<Arc<T>, NoMemory>
     }
 }
 
-/// The parts of a host of a valid configuration, with its threads and with ledgers of their own.
+/// Starts a host of a valid configuration, with its threads and with ledgers of its own.
 fn started<R, G, C, W>(
     rt: R,
     alloc: Global,

@@ -29,7 +29,7 @@ impl Bay {
     ghost use Rattle.phases.specs.Slots.{arrived_unit, is_direct};
     ghost use Rattle.phases.specs.Queue.{with_slot};
 
-    /// A queue whose slot is empty.
+    /// Makes a bay of a queue whose slot is empty.
     pub(crate) fn new(queue: Queue) -> Bay
         ensures { result ≡ with_slot plain.Slot.Empty queue }
     {
@@ -39,7 +39,7 @@ impl Bay {
         }
     }
 
-    /// How many notices its driver wanted.
+    /// Returns how many notices its driver wanted.
     pub(crate) fn notices(&self) -> u64
         ensures { result ≡ self.now.notices }
     {

@@ -18,7 +18,7 @@ pub(crate) enum Cursor {
     Fetch,
 }
 
-/// What was served, and from where on to look then.
+/// The events that were served, and from where on to look then.
 #[derive(Clone, Copy)]
 pub(crate) struct Progress {
     /// From where on to look.
@@ -30,14 +30,14 @@ pub(crate) struct Progress {
 /// How many events a request is that is served at once.
 pub(crate) const AT_ONCE: u64 = 7;
 
-/// One event was served.
+/// Returns the progress where one event was served.
 pub(crate) fn one(next: Cursor) -> Progress
     ensures { result ≡ record { next = next; steps = 1 } }
 {
     Progress { next, steps: 1 }
 }
 
-/// What was done of a request at once, where the first seat has so many jobs to hand off then.
+/// Returns the progress of a request that was served at once, where the first seat has so many jobs to hand off then.
 pub(crate) fn served_so(done: Option<bool>, jobs: usize) -> Progress
     ensures { result ≡ served_of done jobs }
 {
@@ -58,7 +58,7 @@ pub(crate) fn served_so(done: Option<bool>, jobs: usize) -> Progress
     }
 }
 
-/// Whether it is the beginning.
+/// Returns true if it is the beginning.
 pub(crate) fn is_start(cursor: Cursor) -> bool
     ensures { IsTrue result ↔ (cursor ≡ Cursor.Start) }
 {
@@ -68,7 +68,7 @@ pub(crate) fn is_start(cursor: Cursor) -> bool
     }
 }
 
-/// Whether it is the first queue's next chain.
+/// Returns true if it is the first queue's next chain.
 pub(crate) fn is_fetch(cursor: Cursor) -> bool
     ensures { IsTrue result ↔ (cursor ≡ Cursor.Fetch) }
 {
@@ -78,7 +78,7 @@ pub(crate) fn is_fetch(cursor: Cursor) -> bool
     }
 }
 
-/// The first queue whose answer may be ready, of so many.
+/// Returns the first queue whose answer may be ready, of so many.
 pub(crate) fn first_direct(cursor: Cursor, queues: usize) -> usize
     ensures { result ≡ direct_from cursor queues }
 {
@@ -89,7 +89,7 @@ pub(crate) fn first_direct(cursor: Cursor, queues: usize) -> usize
     }
 }
 
-/// The first seat that may have a step to take, of so many.
+/// Returns the first seat that may have a step to take, of so many.
 pub(crate) fn first_seat(cursor: Cursor, seats: usize) -> usize
     ensures { result ≡ seat_from cursor seats }
 {
@@ -99,7 +99,7 @@ pub(crate) fn first_seat(cursor: Cursor, seats: usize) -> usize
     }
 }
 
-/// The first queue on which a request may have arrived, of so many.
+/// Returns the first queue on which a request may have arrived, of so many.
 pub(crate) fn first_enter(cursor: Cursor, queues: usize) -> usize
     ensures { result ≡ enter_from cursor queues }
 {

@@ -56,7 +56,7 @@ impl Model for Device {
 
 ghost use Rattle.std.specs.Prelude.{◌≡◌, ◌↔◌, ◌==◌, ◌&&◌, IsTrue};
 
-/// Whether a unit has this address.
+/// Returns true if a unit has this address.
 fn has_address(unit: &UnitState, target: u8, lun: u16) -> bool
     ensures is { IsTrue result ↔ ((unit.now.opening.target ≡ target) × (unit.now.opening.lun ≡ lun)) }
     ensures test { result ≡ ((unit.now.opening.target == target) && (unit.now.opening.lun == lun)) }
@@ -68,7 +68,7 @@ impl Device {
     ghost use Rattle.world.specs.Sound.{AreFew};
     ghost use Rattle.world.specs.Views.{IsPlaceOf, FindsUnit, unit_at, GivesChanges};
 
-    /// The place of the unit of an address.
+    /// Returns the place of the unit of an address.
     pub(crate) fn place(&self, target: u8, lun: u16) -> Option<u16>
         requires few { AreFew self.now }
         ensures { IsPlaceOf self.now target lun result }

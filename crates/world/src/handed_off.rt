@@ -28,7 +28,7 @@ impl HandedOff {
     ghost use Rattle.world.specs.Cursors.{Denies};
     ghost use Rattle.world.specs.Off.{AreBare, PutsAt, IsFullAt, IsFirstBetween, IsNearest, Takes};
 
-    /// So many empty lists, each with room for so many jobs. Only this call takes memory.
+    /// Makes so many empty lists, each with room for so many jobs. Only this call takes memory.
     pub(crate) fn new(alloc: Global, count: usize, limit: usize) -> Result<HandedOff, NoMemory>
         ensures limit { IfOk result (λ h. h.limit ≡ limit) }
         ensures lists { IfOk result (λ h. length h.lists ≡ count) }
@@ -44,14 +44,14 @@ impl HandedOff {
         Ok(HandedOff { lists, limit })
     }
 
-    /// How many jobs each list may have.
+    /// Returns how many jobs each list may have.
     pub(crate) fn limit(&self) -> usize
         ensures { result ≡ self.now.limit }
     {
         self.limit
     }
 
-    /// Whether a list is there and empty.
+    /// Returns true if a list is there and empty.
     pub(crate) fn is_bare(&self, at: usize) -> bool
         ensures { IsTrue result → slice_get self.now.lists at ≡ Some [] }
     {

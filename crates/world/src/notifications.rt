@@ -1,4 +1,4 @@
-//! Which drivers are owed a notification.
+//! Tells which drivers are owed a notification.
 
 ghost use Rattle.std.specs.Prelude.{◌≡◌, ◌<◌, ◌≤◌, ◌^◌, length, replicate};
 ghost use Rattle.world.specs.Notifications.{binary, owed_of, notices_at, IsAsked};
@@ -10,7 +10,7 @@ use std::marker::Model;
 /// The most queues that a device has.
 const MOST_QUEUES: usize = 18;
 
-/// Which queues have more notices than when they were last asked.
+/// Returns which queues have more notices than when they were last asked, a bit each.
 fn owed_now(asked: &[u64], bays: &[Bay]) -> u32
     requires { length asked.now ≤ 18 }
     ensures owed { result ≡ binary (owed_of asked.now bays.now) }
@@ -26,7 +26,7 @@ fn owed_now(asked: &[u64], bays: &[Bay]) -> u32
     2 * owed_now(others, more) + owed as u32
 }
 
-/// How many notices a queue has.
+/// Returns how many notices a queue has.
 fn notices_of(bays: &[Bay], number: usize) -> u64
     requires { number < length bays.now }
     ensures { result ≡ notices_at bays.now number }
@@ -34,7 +34,7 @@ fn notices_of(bays: &[Bay], number: usize) -> u64
     bays[number].notices()
 }
 
-/// The queues were asked now.
+/// Notes that the queues were asked now.
 fn note(asked: &mut [u64], bays: &[Bay])
     requires { length bays.now ≤ length asked.old }
     ensures { IsAsked asked.old bays.now asked.new }

@@ -53,8 +53,8 @@ fn open_bays(
     Ok(bays)
 }
 
-/// A unit among those of an inventory, of which no step was taken. `NoMemory` where its blocks or its target's
-/// LUNs were refused memory.
+/// Makes a unit of an inventory, of which no step was taken. `NoMemory` where its blocks or its target's LUNs were
+/// refused memory.
 fn open_unit(alloc: Global, spec: &UnitSpec, inventory: &Inventory) -> Result<UnitState, NoMemory>
     ensures { IfOk result (λ unit. unit ≡ opening_unit inventory.now spec.now) }
 {
@@ -63,7 +63,7 @@ fn open_unit(alloc: Global, spec: &UnitSpec, inventory: &Inventory) -> Result<Un
     UnitState::new(alloc, spec, luns.as_slice(), false)
 }
 
-/// The units that are wanted, of which no step was taken.
+/// Makes the units that are wanted, of which no step was taken.
 fn open_units(
     alloc: Global,
     wanted: &[UnitSpec],
@@ -96,7 +96,7 @@ fn open_seats(alloc: Global, count: usize, limit: usize) -> Result<Vec<Seat>, No
     Ok(seats)
 }
 
-/// The parts of the device of a configuration that is valid.
+/// Makes the parts of the device of a configuration that is valid.
 pub(crate) fn open_device(alloc: Global, config: &Config) -> Result<Device, NoMemory>
     requires { is_config config.now ≡ true }
     ensures { IfOk result (λ d. IsOpening config.now d) }
@@ -142,7 +142,7 @@ pub(crate) fn open_device(alloc: Global, config: &Config) -> Result<Device, NoMe
     })
 }
 
-/// Whether there is a disk for each unit, of its capacity.
+/// Returns true if there is a disk for each unit, of its capacity.
 pub(crate) fn are_disks_for(wanted: &[UnitSpec], disks: &[PagedStore]) -> bool
     ensures yes { IsTrue result → AreDisksFor wanted.now disks.now }
     ensures no { IsFalse result → AreDisksFor wanted.now disks.now → ⊥ }
@@ -170,7 +170,7 @@ pub(crate) fn hand_in(units: &mut Vec<UnitState>, disks: &mut Vec<PagedStore>)
     }
 }
 
-/// The disks of units, as their histories left them, in an empty list that has room for them.
+/// Returns the disks of units, as their histories left them, in an empty list that has room for them.
 pub(crate) fn disks_of(units: Vec<UnitState>, empty: Vec<PagedStore>) -> Vec<PagedStore>
     requires empty { empty.items ≡ [] }
     requires room { length units.items ≤ vec_capacity empty }

@@ -4,7 +4,7 @@ use phases::Hand;
 use std::marker::Model;
 use unit_history::{Job, JobList};
 
-/// What a seat's hand says of its next step.
+/// The next step of a seat, by its hand.
 #[derive(Clone, Copy)]
 pub(crate) enum Stage {
     /// Nothing is in hand.
@@ -17,7 +17,7 @@ pub(crate) enum Stage {
     Answered,
 }
 
-/// What a worker, or the operator, has between two steps: its hand, and the jobs that it is to hand off.
+/// All that a worker, or the operator, has between two steps: its hand, and the jobs that it is to hand off.
 #[derive(Drop)]
 pub(crate) struct Seat {
     pub(crate) hand: Hand,
@@ -38,7 +38,7 @@ impl Seat {
     ghost use Rattle.device_model.specs.Parts as plain;
     ghost use Rattle.world.specs.Stages.{stage_of};
 
-    /// A seat with nothing in hand and an empty list.
+    /// Makes a seat with nothing in hand and an empty list.
     pub(crate) fn new(out: JobList) -> Seat
         requires { out.jobs ≡ [] }
         ensures { result ≡ record { hand = plain.Hand.Empty; jobs = []; limit = out.limit } }
@@ -49,7 +49,7 @@ impl Seat {
         }
     }
 
-    /// What its hand says of its next step.
+    /// Returns its next step, by its hand.
     pub(crate) fn stage(&self) -> Stage
         ensures { result ≡ stage_of self.now.hand }
     {
@@ -65,21 +65,21 @@ impl Seat {
         Stage::Taken
     }
 
-    /// Whether it has nothing in hand.
+    /// Returns true if it has nothing in hand.
     pub(crate) fn has_empty_hand(&self) -> bool
         ensures { IsTrue result ↔ (self.now.hand ≡ plain.Hand.Empty) }
     {
         self.hand.is_empty()
     }
 
-    /// Whether it has nothing in hand, and no job to hand off.
+    /// Returns true if it has nothing in hand, and no job to hand off.
     pub(crate) fn is_idle(&self) -> bool
         ensures { IsTrue result ↔ ((self.now.hand ≡ plain.Hand.Empty) × (self.now.jobs ≡ [])) }
     {
         self.hand.is_empty() && self.out.len() == 0
     }
 
-    /// The next job of the list; `None` where there is none.
+    /// Returns the next job of the list; `None` where there is none.
     pub(crate) fn next(&mut self) -> Option<Job>
         ensures first { result ≡ slice_get self.old.jobs 0 }
         ensures rest { self.new ≡ record self.old { jobs = drop 1 self.old.jobs } }
@@ -87,7 +87,7 @@ impl Seat {
         self.out.next()
     }
 
-    /// The seat has this job in hand, which is to be committed.
+    /// Puts this job into the hand, to be committed.
     #[inline(always)]
     pub(crate) fn hold(&mut self, job: Job)
         ensures { self.new ≡ record self.old { hand = plain.Hand.Taken job } }

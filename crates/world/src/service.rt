@@ -1,5 +1,5 @@
-//! The order in which a device serves what is there: the first event of it that applies, one after another. What a
-//! step can't have woken isn't looked at again.
+//! The order in which a device serves what is there: the first event of it that applies, one after another. It doesn't
+//! look again at what a step can't have woken.
 
 ghost use Rattle.std.specs.Prelude.{◌≡◌, ◌≤◌, ◌<◌, IsTrue, Some, true, slice_get, length};
 ghost use Rattle.device_model.specs.Order.{of_seat};
@@ -22,7 +22,7 @@ use block_store::NoMemory;
 use phases::{Slot, Taken, serve_request, take_request};
 use scsi_codec::{CONTROL_QUEUE, EVENT_QUEUE, FIRST_REQUEST_QUEUE};
 
-/// What a call of `World::serve` did.
+/// The outcome of a call of `World::serve`.
 #[derive(Clone, Copy)]
 pub struct Served {
     /// How many events changed something.
@@ -87,8 +87,8 @@ impl Device {
         self.take(number)
     }
 
-    /// The first event of the order that applies, from a place on; and from where on to look then. `None` where none
-    /// applies.
+    /// Takes the first event of the order that applies, from a place on. Returns from where on to look then; `None`
+    /// where none applies.
     #[inline(always)]
     pub(crate) fn turn(
         &mut self,

@@ -1,4 +1,4 @@
-//! What every device is that some trace reached.
+//! Shows what every device is that some trace reached.
 
 ghost use Rattle.world.specs.Sound.{AreSound};
 
@@ -7,7 +7,7 @@ use device_model::laws::{
     parts_stay, tasks_are_at_work, tickets_rise, what_stands_is_owned,
 };
 
-/// What each step rests on holds of every device that some trace reached.
+/// Shows that all that a step rests on holds of every device that some trace reached.
 pub(crate) fn all_are_sound()
     ensures { AreSound }
 {

@@ -17,7 +17,7 @@ use phases::{
 };
 use unit_history::ResizeFault;
 
-/// The seat that serves a request queue.
+/// Returns the seat that serves a request queue.
 pub(crate) fn owner(workers: u16, queue: u16) -> usize
     requires some { 1 ≤ workers }
     requires request { 2 ≤ queue }
@@ -30,14 +30,14 @@ pub(crate) fn owner(workers: u16, queue: u16) -> usize
 }
 
 impl Device {
-    /// The guest writes bytes at an address, where all of them lie in memory.
+    /// Writes the guest's bytes at an address, where all of them lie in memory.
     pub(crate) fn poke(&mut self, addr: u64, bytes: &[u8]) -> bool
         ensures { Turns self.old (AnEvent.Poke (record { addr = addr; bytes = bytes.now })) result self.new }
     {
         self.memory.write(addr, bytes).is_ok()
     }
 
-    /// Whether a queue has nothing to take, by which little more than its index is looked at.
+    /// Returns true if a queue has nothing to take, by which little more than its index is looked at.
     pub(crate) fn is_idle(&self, number: u16) -> bool
         requires sound { IsSound self.now }
         ensures { IsTrue result → Applies self.now (AnEvent.Fetch number) → ⊥ }
@@ -46,7 +46,7 @@ impl Device {
         at >= self.bays.len() || self.bays[at].queue.is_idle(&self.memory)
     }
 
-    /// A queue takes its next chain.
+    /// Has a queue take its next chain.
     pub(crate) fn fetch(&mut self, number: u16) -> Result<bool, NoMemory>
         requires sound { IsSound self.old }
         requires few { AreFew self.old }
@@ -105,7 +105,7 @@ impl Device {
         phase_fetch_event(&mut bay.queue, &bay.slot, &mut self.port, &mut self.memory)
     }
 
-    /// The request that arrived on a queue comes to its unit.
+    /// Brings the request that arrived on a queue to its unit.
     pub(crate) fn enter(&mut self, number: u16) -> bool
         requires sound { IsSound self.old }
         ensures { Turns self.old (AnEvent.Enter number) result self.new }
@@ -128,7 +128,7 @@ impl Device {
         )
     }
 
-    /// The chain that is ready on a queue is answered.
+    /// Answers the chain that is ready on a queue.
     pub(crate) fn direct(&mut self, number: u16) -> bool
         requires sound { IsSound self.old }
         ensures { Turns self.old (AnEvent.Direct number) result self.new }
@@ -141,7 +141,7 @@ impl Device {
         phase_direct(&mut bay.queue, &mut bay.slot, &mut self.memory).is_some()
     }
 
-    /// A seat hands its next job off, or keeps it where its list of the hand-off is full.
+    /// Has a seat hand its next job off, or keep it where its list of the hand-off is full.
     pub(crate) fn put(&mut self, number: u16) -> bool
         requires sound { IsSound self.old }
         ensures { Turns self.old (AnEvent.Put number) result self.new }
@@ -161,7 +161,7 @@ impl Device {
         true
     }
 
-    /// A worker takes a job from the nearest list of the hand-off that isn't empty.
+    /// Has a worker take a job from the nearest list of the hand-off that isn't empty.
     pub(crate) fn take(&mut self, number: u16) -> bool
         requires sound { IsSound self.old }
         ensures { Turns self.old (AnEvent.Take number) result self.new }
@@ -180,7 +180,7 @@ impl Device {
         true
     }
 
-    /// The job in a seat's hand is committed.
+    /// Commits the job in a seat's hand.
     pub(crate) fn commit(&mut self, number: u16) -> bool
         requires sound { IsSound self.old }
         ensures { Turns self.old (AnEvent.Commit number) result self.new }
@@ -198,7 +198,7 @@ impl Device {
         phase_commit(&mut self.units[place], &mut self.seats[at].hand)
     }
 
-    /// The job in a seat's hand is answered.
+    /// Answers the job in a seat's hand.
     pub(crate) fn answer(&mut self, number: u16) -> bool
         requires sound { IsSound self.old }
         ensures { Turns self.old (AnEvent.Answer number) result self.new }
@@ -221,7 +221,7 @@ impl Device {
         .is_some()
     }
 
-    /// The task in a seat's hand leaves.
+    /// Has the task in a seat's hand leave.
     pub(crate) fn leave(&mut self, number: u16) -> bool
         requires sound { IsSound self.old }
         ensures { Turns self.old (AnEvent.Leave number) result self.new }
@@ -240,7 +240,7 @@ impl Device {
         phase_leave(&mut self.units[place], &mut seat.hand, &mut seat.out)
     }
 
-    /// The open function marks its next unit, or looks at it.
+    /// Has the open function mark its next unit, or look at it.
     pub(crate) fn mark(&mut self) -> bool
         requires sound { IsSound self.old }
         ensures { Turns self.old AnEvent.Mark result self.new }
@@ -257,7 +257,7 @@ impl Device {
         phase_mark(&mut self.units[place], function, &mut self.seats[0].out)
     }
 
-    /// The open function sees that its first mark is clear.
+    /// Has the open function see that its first mark is clear.
     pub(crate) fn check(&mut self) -> bool
         requires sound { IsSound self.old }
         ensures { Turns self.old AnEvent.Check result self.new }
@@ -274,7 +274,7 @@ impl Device {
         phase_check(&self.units[mark.unit], function)
     }
 
-    /// The pages of the WRITE in a seat's hand are made, ahead of its commit. Nothing changes that anybody sees.
+    /// Makes the pages of the WRITE in a seat's hand, ahead of its commit. Nothing changes that anybody sees.
     pub(crate) fn prepare(&mut self, number: u16) -> bool
         ensures { Turns self.old (AnEvent.Prepare number) result self.new }
     {
@@ -295,7 +295,7 @@ impl Device {
         false
     }
 
-    /// The open function is answered.
+    /// Answers the open function.
     pub(crate) fn answer_tmf(&mut self) -> bool
         requires sound { IsSound self.old }
         ensures { Turns self.old AnEvent.AnswerTmf result self.new }
@@ -310,7 +310,7 @@ impl Device {
         )
     }
 
-    /// The operator resets a unit.
+    /// Resets a unit for the operator.
     pub(crate) fn hard(&mut self, place: u16) -> Result<bool, NoMemory>
         requires sound { IsSound self.old }
         requires few { AreFew self.old }
@@ -345,7 +345,7 @@ impl Device {
         }
     }
 
-    /// The oldest event that waits goes to the guest, or is missed.
+    /// Gives the oldest event that waits to the guest, or misses it.
     pub(crate) fn raise(&mut self) -> bool
         requires sound { IsSound self.old }
         requires few { AreFew self.old }

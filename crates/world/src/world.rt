@@ -22,7 +22,7 @@ use std::marker::Model;
 use unit_attention::Code;
 use unit_history::{Changes, UnitState};
 
-/// Whether a fault of the guest broke a queue.
+/// Returns true if a fault of the guest broke a queue.
 fn is_any_broken(bays: &[Bay]) -> bool
     ensures { result ≡ list_any (λ q. is_some q.ring.broken) bays.now }
 {
@@ -382,7 +382,7 @@ impl World {
         }
     }
 
-    /// The queues with their slots, of which there are few.
+    /// Returns the queues with their slots, of which there are few.
     pub(crate) fn bays(&self) -> &[Bay]
         ensures queues { result.now ≡ self.now.queues }
         ensures few { length result.now ≤ 18 }

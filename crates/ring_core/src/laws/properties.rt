@@ -1,4 +1,4 @@
-//! What a chain is, with no order of tests.
+//! Laws of what a chain is, with no order of tests.
 
 ghost use Rattle.std.specs.Prelude.{◌<◌, ◌≤◌, ℕ, List};
 ghost use Rattle.ring_core.specs.Split.{SplitChain};

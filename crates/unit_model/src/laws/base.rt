@@ -1,4 +1,4 @@
-//! What is kept of a history when a unit runs, and what is folded.
+//! Laws of what is kept of a history when a unit runs, and what is folded.
 
 ghost use Rattle.std.specs.Prelude.{ℕ, ◌≡◌, ◌≤◌, ◌+◌, ◌∷◌, ◌++◌, List, length, true};
 ghost use Rattle.unit_model.specs.Steps.{Step};

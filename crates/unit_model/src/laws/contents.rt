@@ -1,4 +1,4 @@
-//! What changes a unit's blocks, and what it has pending.
+//! Laws of what changes a unit's blocks, and its attentions.
 
 ghost use Rattle.std.specs.Prelude.{ℕ, ◌≡◌, ◌≢◌, ◌<◌, ◌≤◌, ◌∷◌, [], List, Some, true, false};
 ghost use Rattle.block_store.specs.Blocks.{zero_block};

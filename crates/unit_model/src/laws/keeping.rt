@@ -1,4 +1,4 @@
-//! What a task set keeps of its tasks after each step, told by what it kept before: it needs no history.
+//! Laws of what a task set keeps of its tasks after each step, told by what it kept before: it needs no history.
 
 ghost use Rattle.std.specs.Prelude.{ℕ, ◌≡◌, ◌∷◌, ◌++◌, List, [], length, map, Some};
 ghost use Rattle.std.specs.Option.{option_map};

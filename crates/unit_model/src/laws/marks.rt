@@ -1,4 +1,4 @@
-//! What marks say of tasks, and when a place is clear.
+//! Laws of marks: what they say of tasks, and when a place is clear.
 
 ghost use Rattle.std.specs.Prelude.{ℕ, ◌≡◌, ◌↔◌, ◌∷◌, ◌++◌, List, Some, None, true, false, not};
 ghost use Rattle.ring_core.specs.declared.log.Ticket.{Ticket};

@@ -1,4 +1,5 @@
-//! What a step hands out, by what a task set keeps of each task: those that waited before it and wait no more.
+//! Laws of the tasks that a step hands out, by what a task set keeps of each: those that waited before it and wait no
+//! more.
 
 ghost use Rattle.std.specs.Prelude.{◌≡◌, ◌&&◌, ◌∷◌, List, None, is_some, not, true};
 ghost use Rattle.std.specs.List.{AllByRecursion};
@@ -38,7 +39,7 @@ pub fn marks_hand_out_what_they_mark()
         (alive past) }
 {}
 
-/// What a step hands out was alive and parked before it.
+/// A task that a step hands out was alive and parked before it.
 pub fn what_is_handed_out_was_parked()
     ensures parked { (step : Step) (past : List Step) →
         AllByRecursion (λ e. is_parked past e ≡ true) (released step past) }

@@ -1,4 +1,4 @@
-//! Which tasks are alive, enabled and blocked.
+//! Laws of tasks: which are alive, enabled and blocked.
 
 ghost use Rattle.std.specs.Prelude.{◌≡◌, ◌<◌, ◌≤◌, ◌∷◌, ◌++◌, List, length, true, false, not};
 ghost use Rattle.std.specs.List.{list_any};
