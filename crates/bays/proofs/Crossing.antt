@@ -46,6 +46,7 @@ use Rattle.decisions.proofs.unit_request.UnitRequest.TheSendSync as request
 use Rattle.task_set.proofs.shared.SharedRequest.TheSendSync as shared
 use Rattle.unit_history.specs.contracts.unit.UnitState.{the_row as unit_row}
 use Rattle.unit_history.specs.contracts.unit.UnitState.TheInside as unit
+use Rattle.block_store.proofs.edges.Prepared.TheSendSync as pages
 use Rattle.block_store.proofs.paged.PagedStore.TheSendSync as store
 use Rattle.unit_history.proofs.changes.Changes.TheSendSync as changes
 use Rattle.block_commands.specs.contracts.facts.UnitFacts.{the_field as facts_field, the_type as facts_type}
@@ -139,7 +140,7 @@ lasts_sends = search (sendable, lasts_fields)
 
 unit_fields : IsSend unit.the_row
 unit_fields = declared_send unit.the_type
-    (search sendable, (as_row_send facts_field facts_sends, (search sendable, (attentions.the_send, (store.the_send, (search crosses depth 30, (search sendable, (set_sends, (steps_sends, (lasts_sends, (search crosses depth 30, (changes.the_send, tt))))))))))))
+    (search sendable, (as_row_send facts_field facts_sends, (search sendable, (attentions.the_send, (store.the_send, (search crosses depth 30, (search sendable, (set_sends, (steps_sends, (lasts_sends, (search crosses depth 30, (search (crosses, option.the_send, pages.the_send) depth 30, (changes.the_send, tt)))))))))))))
 
 pub unit_sends : IsSend unit_row
 unit_sends = search (sendable, unit_fields)

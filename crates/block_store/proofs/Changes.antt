@@ -5,11 +5,12 @@ use Rattle.std.proofs.lemmas.Bool.Decides.{leb_tells}
 use Rattle.std.proofs.lemmas.Option.{slice_get_past, slice_get-get_or}
 use Rattle.block_store.specs.Blocks.{Blocks, nth_block, zero_block, zeroed, is_within}
 use Rattle.block_store.specs.Pages.{covered, blocks_in, paged}
+use Rattle.block_store.specs.Whole.{length-nth_block}
 use Rattle.block_store.specs.Kept.{bytes_of, row_kept, row_blocks, is_made_in}
 use Rattle.block_store.specs.declared.page.Page.{Page}
 use Rattle.block_store.proofs.Within.{Standing, before, inside, behind, standing, is_within-before, is_within-inside, is_within-behind}
 use Rattle.block_store.proofs.CutSlots.{get-set-same, get-set-other}
-use Rattle.block_store.proofs.Paging.{paged-covered, blocks_in-covered, blocks_in-none, blocks_in-zeros, clear-unmade, unmade}
+use Rattle.block_store.proofs.Paging.{paged-covered, blocks_in-covered, blocks_in-whole, blocks_in-none, blocks_in-zeros, clear-unmade, unmade}
 
 -- a page of a row
 pub kept-at : (row : List Page) (page : ℕ) (old : Page) → page < length row → old ≡ get_or row page old → row_kept row page ≡ old.bytes.items
@@ -59,6 +60,18 @@ part-written row page from first count old new given in_page at_place fits there
     (kept-set row page new there) (kept-others row page new)
     (λ k below. blocks_in-covered old.bytes.items new.bytes.items (λ j. given (8 * page + j)) from count whole written k
     ∙ ap (λ l. covered (blocks_in l) (λ j. given (8 * page + j)) from count k) (sym (kept-at row page old there is)))
+
+-- a page that was made of all its bytes
+pub part-whole : (row : List Page) (page first : ℕ) (new : Page) (bytes : List ℕ) →
+    page ≡ first / 8 → first % 8 + 8 ≤ 8 → page < length row → new.bytes.items ≡ bytes → length bytes ≡ 4096 →
+    (b : ℕ) → row_blocks (set row page new) b ≡ covered (row_blocks row) (λ c. nth_block bytes (c - first)) first 8 b
+part-whole row page first new bytes in_page fits there is size =
+    part-changed (row_kept row) (row_kept (set row page new)) page 0 first 8 bytes (λ c. nth_block bytes (c - first)) in_page (omega arith) fits
+    (kept-set row page new there ∙ is) (kept-others row page new)
+    (λ k below.
+    let place : 8 * page + k - first ≡ k = omega arith in
+    let whole : length (nth_block bytes k) ≡ 512 = length-nth_block bytes k (omega arith) in
+    rw (is_within-inside 0 8 k (omega arith) below, place) (blocks_in-whole bytes k whole))
 
 -- a page that was cleared
 pub part-cleared : (row : List Page) (page from first count : ℕ) (old new : Page) →

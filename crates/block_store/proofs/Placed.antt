@@ -171,14 +171,6 @@ exchanged-further own given now others new start done some so_far left step p = 
         rw (is_within-behind (start + done) some p past, is_within-behind start (done + some) p (omega arith))
         (so_far p ∙ rw (is_within-behind start done p (omega arith)) refl)
 
--- a row whose blocks stay
-pub from-same : (start : ℕ) (row new : List Page) → ((k : ℕ) → row_blocks new k ≡ row_blocks row k) → (b : ℕ) → paged (kept_from start new) b ≡ paged (kept_from start row) b
-from-same start row new same b =
-    elim (leb_tells start (b / 8)) [
-      | inl reaches ↦ from-row start new b reaches.1 ∙ same (b - 8 * start) ∙ sym (from-row start row b reaches.1)
-      | inr low ↦ rw (below (b / 8) start low.1) refl
-    ]
-
 -- a row that has two pages
 pub from-ends : (start end last : ℕ) (head tail : List ℕ) (row : List Page) → last ≡ end - start → start ≤ end →
     ((p : ℕ) → row_kept row p ≡ (if p == 0 then head else if p == last then tail else [])) →

@@ -33,9 +33,10 @@ impl Edges {
     ghost use Rattle.block_store.specs.Blocks.{overwritten};
     ghost use Rattle.block_store.specs.Drafts.{edges_draft, prepared_draft};
 
-    /// Makes the new pages of the range, with these bytes, 512 for each block, over its blocks. Called with no lock
-    /// held, since it needs no store. `NoMemory` where memory was refused.
-    pub fn prepare(self, bytes: &[u8]) -> Result<Prepared, NoMemory>
+    /// Makes the new pages of the range, with these bytes, 512 for each block, over its blocks. A page that the range
+    /// covers whole takes the memory of a spare page, while there is one, and nothing of its blocks. Spare pages that are
+    /// left are freed. Called with no lock held, since it needs no store. `NoMemory` where memory was refused.
+    pub fn prepare(self, bytes: &[u8], spare: Option<Prepared>) -> Result<Prepared, NoMemory>
         requires { length bytes.now ≡ 512 * (edges_draft self).count }
         ensures first { IfOk result (λ prepared. (prepared_draft prepared).first ≡ (edges_draft self).first) }
         ensures count { IfOk result (λ prepared. (prepared_draft prepared).count ≡ (edges_draft self).count) }
@@ -52,8 +53,11 @@ impl Edges {
         let last = page_of(first + u64::from(count)) - page_of(first);
         let mut row = row::between(alloc, head, last as usize, tail)?;
         let from = place_of(first) as u64;
-        row::make_all(&mut row, alloc, from, count as usize)?;
-        row::put(&mut row, from, bytes);
+        let mut spare = match spare {
+            Some(Prepared { row, .. }) => row,
+            None => Vec::new(alloc),
+        };
+        row::set(&mut row, alloc, from, bytes, &mut spare)?;
         Ok(Prepared { first, count, row })
     }
 }

@@ -1,6 +1,6 @@
 //! A page of blocks.
 
-ghost use Rattle.std.specs.Prelude.{◌≡◌, ℕ, ◌+◌, ◌*◌, ◌%◌, ◌<◌, ◌≤◌, [], length, replicate, nat_lt, IfOk};
+ghost use Rattle.std.specs.Prelude.{◌≡◌, ℕ, ◌+◌, ◌*◌, ◌%◌, ◌<◌, ◌≤◌, [], length, replicate, nat_lt, IfOk, IfSome};
 ghost use Rattle.block_store.specs.Blocks.{block_count, nth_block, overwritten, filled, zeroed, run, zero_block};
 ghost use Rattle.block_store.specs.Pages.{blocks_in};
 
@@ -30,6 +30,18 @@ pub(crate) fn zeros(count: usize) -> &'static [u8]
     &ZEROS[..BLOCK_BYTES * count]
 }
 
+/// Takes the last page that keeps its bytes out of a list, and drops those behind it.
+fn take_made(pages: &mut Vec<Page>) -> Option<Page>
+    ensures { IfSome result (λ page. length page.bytes.items ≡ PAGE_BYTES) }
+{
+    while let Some(page) = pages.pop() {
+        if page.bytes.len() == PAGE_BYTES {
+            return Some(page);
+        }
+    }
+    None
+}
+
 impl Page {
     /// Makes a page that keeps no bytes.
     pub(crate) fn absent(alloc: Global) -> Page
@@ -54,6 +66,23 @@ impl Page {
     {
         let bytes = Vec::from_slice(alloc, &self.bytes)?;
         Ok(Page { bytes })
+    }
+
+    /// Makes a page of these bytes. Puts them over those of a spare page, if there is one.
+    pub(crate) fn of(alloc: Global, bytes: &[u8], spare: &mut Vec<Page>) -> Result<Page, NoMemory>
+        requires { length bytes.now ≡ PAGE_BYTES }
+        ensures { IfOk result (λ page. page.bytes.items ≡ bytes.now) }
+    {
+        match take_made(spare) {
+            Some(mut page) => {
+                page.bytes.copy_from_slice(bytes);
+                Ok(page)
+            }
+            None => {
+                let bytes = Vec::from_slice(alloc, bytes)?;
+                Ok(Page { bytes })
+            }
+        }
     }
 
     /// Returns true if the page keeps its bytes.

@@ -5,7 +5,7 @@ ghost use Rattle.block_store.specs.Blocks.{block_count, overwritten, filled, zer
 ghost use Rattle.block_store.specs.Kept.{row_kept, row_blocks, is_made_in};
 
 use crate::numbers::{PAGE_BLOCKS, in_page, page_of, place_of};
-use crate::page::{Page, zeros};
+use crate::page::{PAGE_BYTES, Page, zeros};
 use crate::{BLOCK_BYTES, NoMemory};
 use std::alloc::Global;
 use std::mem;
@@ -205,6 +205,55 @@ pub(crate) fn put(row: &mut Vec<Page>, first: u64, bytes: &[u8])
         );
         done += some;
     }
+}
+
+/// Puts the bytes over blocks of one page. If they cover the whole page, makes it of them, over a spare page where there
+/// is one. Else makes the page first, unless it keeps its bytes already.
+fn set_part(
+    row: &mut Vec<Page>,
+    alloc: Global,
+    first: u64,
+    bytes: &[u8],
+    spare: &mut Vec<Page>,
+) -> Result<(), NoMemory>
+    requires whole { length bytes.now % BLOCK_BYTES ≡ 0 }
+    requires range { first % 8 + block_count bytes.now ≤ 8 }
+    ensures { OnOk result ((b : ℕ) → row_blocks row.new.items b ≡ overwritten (row_blocks row.old.items) first bytes.now b) }
+{
+    if bytes.len() < PAGE_BYTES {
+        make(row, alloc, first)?;
+        put_part(row, first, bytes);
+        return Ok(());
+    }
+    let page = page_of(first) as usize;
+    reach(row, alloc, page + 1)?;
+    row[page] = Page::of(alloc, bytes, spare)?;
+    Ok(())
+}
+
+/// Puts the bytes over the blocks from `first` on, page by page. Makes pages that keep no bytes. Those that are covered
+/// whole take the bytes of spare pages, while there are some.
+pub(crate) fn set(
+    row: &mut Vec<Page>,
+    alloc: Global,
+    first: u64,
+    bytes: &[u8],
+    spare: &mut Vec<Page>,
+) -> Result<(), NoMemory>
+    requires range { first + block_count bytes.now < 2 ^ 64 }
+    requires whole { length bytes.now % BLOCK_BYTES ≡ 0 }
+    ensures { OnOk result ((b : ℕ) → row_blocks row.new.items b ≡ overwritten (row_blocks row.old.items) first bytes.now b) }
+{
+    let count = bytes.len() / BLOCK_BYTES;
+    let mut done = 0;
+    while done < count {
+        let at = first + done as u64;
+        let some = in_page(at, count - done);
+        let part = &bytes[BLOCK_BYTES * done..BLOCK_BYTES * (done + some)];
+        set_part(row, alloc, at, part, spare)?;
+        done += some;
+    }
+    Ok(())
 }
 
 /// Puts the bytes over the blocks from `first` on, if their pages keep their bytes. Returns true if they do.

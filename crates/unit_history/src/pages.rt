@@ -9,11 +9,12 @@ use block_store::{Edges, Prepared};
 use cdb::Command;
 use task_set::{SharedRequest, Task};
 
-/// A WRITE, shared with its task, with copies of the pages that its range covers in part. `UnitState::start_pages` gives
-/// it in a hold of the unit's lock; the pages are made after that.
+/// A WRITE, shared with its task, with copies of the pages that its range covers in part, and spare pages for the others.
+/// `UnitState::start_pages` gives it in a hold of the unit's lock; the pages are made after that.
 #[derive(Drop)]
 pub struct StartedWrite {
     edges: Edges,
+    spare: Option<Prepared>,
     request: SharedRequest,
     ghost own: { request.command ≡ Write (edges_draft edges).first (edges_draft edges).count },
 }
@@ -27,17 +28,26 @@ pub struct PreparedWrite {
 }
 
 impl StartedWrite {
-    /// Joins a WRITE and the edges of its range.
-    pub(crate) fn new(edges: Edges, request: SharedRequest) -> StartedWrite
+    /// Joins a WRITE, the edges of its range, and spare pages.
+    pub(crate) fn new(edges: Edges, spare: Option<Prepared>, request: SharedRequest) -> StartedWrite
         requires { request.command ≡ Write (edges_draft edges).first (edges_draft edges).count }
     {
-        StartedWrite { edges, request }
+        StartedWrite {
+            edges,
+            spare,
+            request,
+        }
     }
 
-    /// Makes the new pages. The thread that has the job calls it, with no lock held. `None` where memory was refused.
+    /// Makes the new pages, and frees the spare ones that it doesn't need. The thread that has the job calls it, with no
+    /// lock held. `None` where memory was refused.
     pub fn prepare(self) -> Option<PreparedWrite> {
-        let StartedWrite { edges, request } = self;
-        match edges.prepare(request.data()) {
+        let StartedWrite {
+            edges,
+            spare,
+            request,
+        } = self;
+        match edges.prepare(request.data(), spare) {
             Ok(pages) => Some(PreparedWrite { pages, request }),
             Err(_) => None,
         }

@@ -44,6 +44,9 @@ const MOST_BLOCKS: u64 = 1 << 40;
 /// The largest reply buffer kept from one command for the next, in bytes.
 const MOST_ROOM: usize = 4096;
 
+/// Of how many blocks pages are kept from one WRITE for the next, at most: 128 KiB.
+const MOST_SPARE_BLOCKS: u32 = 256;
+
 /// A logical unit: its history, which proofs alone see whole, and what follows from it.
 #[derive(Drop)]
 pub struct UnitState {
@@ -61,6 +64,9 @@ pub struct UnitState {
     pub(crate) last_tickets: LastTickets,
     // Room for the data of the next command that returns some.
     pub(crate) room: Vec<u8>,
+    // Pages that a commit left over, at most one list of them. The next WRITE that is prepared puts its data over their
+    // bytes, in place of memory of its own.
+    pub(crate) spare_pages: Option<Prepared>,
     // Which blocks may have changed since it was last asked.
     pub(crate) changes: Changes,
 }
@@ -122,6 +128,17 @@ fn forget_where_clear(log: &mut StepLog, tasks: &TaskSet)
                 log.forget(place);
             }
         }
+    }
+}
+
+/// Keeps pages that a commit left over for the next WRITE that is prepared, where none are kept and these aren't many.
+#[inline(always)]
+fn keep_pages(kept: &mut Option<Prepared>, left_over: &mut Option<Prepared>) {
+    let Some(pages) = left_over else {
+        return;
+    };
+    if kept.is_none() && pages.count() <= MOST_SPARE_BLOCKS {
+        *kept = left_over.take();
     }
 }
 
@@ -220,6 +237,7 @@ impl UnitState {
             log: StepLog::new(alloc, keeps_replies),
             last_tickets: LastTickets::new(alloc),
             room: Vec::new(alloc),
+            spare_pages: None,
             changes: Changes::since_place(0),
         })
     }
@@ -295,9 +313,10 @@ impl UnitState {
     }
 
     /// Copies what the pages of a job's WRITE need, in one hold of the unit's lock: the pages that its range covers in
-    /// part. The thread that has the job calls it before it commits that, makes the pages with no lock held, and gives
-    /// them to [`UnitState::commit_with`]. `None` where the job's task couldn't run now, its command isn't a WRITE of
-    /// blocks below the capacity, or memory was refused: then it is committed without pages.
+    /// part. Takes the unit's spare pages out for the others. The thread that has the job calls it before it commits
+    /// that, makes the pages with no lock held, and gives them to [`UnitState::commit_with`]. `None` where the job's task
+    /// couldn't run now, its command isn't a WRITE of blocks below the capacity, or memory was refused: then it is
+    /// committed without pages.
     pub fn start_pages(&mut self, job: &Job) -> Option<StartedWrite>
         ensures { self.new ≡ self.old }
     {
@@ -313,7 +332,7 @@ impl UnitState {
                     return None;
                 }
                 match self.store.edges(lba, u32::from(blocks)) {
-                    Ok(edges) => Some(StartedWrite::new(edges, request)),
+                    Ok(edges) => Some(StartedWrite::new(edges, self.spare_pages.take(), request)),
                     Err(NoMemory) => None,
                 }
             }
@@ -323,8 +342,9 @@ impl UnitState {
 
     /// Runs the command of a job's task as [`UnitState::commit`] does, with the pages of its WRITE, if they were made.
     /// They are put in place where they are of this very command and its data and nothing beside its range has changed
-    /// in them since; else the command writes its blocks as ever. The pages that aren't used any more come to stand in
-    /// `spare`, to be freed behind the hold of the unit's lock.
+    /// in them since; else the command writes its blocks as ever. The unit keeps the pages that aren't used any more for
+    /// the next WRITE that is prepared, where it has none and they aren't many. Else they come to stand in `spare`, to be
+    /// freed behind the hold of the unit's lock.
     pub fn commit_with(
         &mut self,
         job: &Job,
@@ -364,6 +384,7 @@ impl UnitState {
                     spare,
                     keeps,
                 );
+                keep_pages(&mut self.spare_pages, spare);
                 record_run(&mut self.log, &mut self.tasks, unit, ticket, performed)
             }
         }

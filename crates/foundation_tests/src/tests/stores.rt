@@ -1,7 +1,9 @@
 //! Stores of blocks.
 
+ghost use Rattle.std.specs.Prelude.{◌≡◌, ◌+◌, ◌*◌, ◌≤◌, length, IfSome};
+
 use super::none_is;
-use block_store::{BLOCK_BYTES, FlatStore, NoMemory, PagedStore, Store};
+use block_store::{BLOCK_BYTES, FlatStore, NoMemory, PagedStore, Prepared, Store};
 use std::alloc::Global;
 use std::test::Fail;
 
@@ -184,24 +186,79 @@ fn consist_of(
     Ok(true)
 }
 
-/// Prepares a write of block 1 of 16, installs it, and installs the pages that come back. Whether that block alone has
+/// Writes that are prepared for a store of 32 blocks of zeros: the first block, the bytes, and those of the spare pages.
+static PREPARED: [(u64, &[u8], &[u8]); 5] = [
+    (1, &[0xab; 512], &[]),
+    (4, &[0xab; 8192], &[]),
+    (4, &[0xab; 8192], &[0x5a; 12_288]),
+    (8, &[0xab; 8192], &[0x5a; 4096]),
+    (3, &[0xab; 512], &[0x5a; 4096]),
+];
+
+/// How many blocks bytes are, where a store has these from a block on.
+fn count_there(store: &PagedStore, first: u64, bytes: &[u8]) -> Option<u32>
+    ensures { IfSome result (λ count. (first + count ≤ ⟦<PagedStore as Store>⟧.size store.now) × (length bytes.now ≡ 512 * count)) }
+{
+    let capacity = store.capacity();
+    let count = bytes.len() / BLOCK_BYTES;
+    if bytes.len() % BLOCK_BYTES != 0 || first > capacity || count as u64 > capacity - first {
+        return None;
+    }
+    u32::try_from(count).ok()
+}
+
+/// Prepares the bytes over the first blocks of a store. `None` where it lacks these.
+fn prepare_first(store: &PagedStore, bytes: &[u8]) -> Result<Option<Prepared>, NoMemory> {
+    let Some(count) = count_there(store, 0, bytes) else {
+        return Ok(None);
+    };
+    let pages = store.edges(0, count)?.prepare(bytes, None)?;
+    Ok(Some(pages))
+}
+
+/// Whether the bytes of a store's blocks from `first` on are 0xab, each, and those of all others zeros.
+fn are_written(
+    alloc: Global,
+    store: &PagedStore,
+    first: u64,
+    count: u32,
+) -> Result<bool, NoMemory> {
+    let behind = first.saturating_add(u64::from(count));
+    let before = consist_of(alloc, store, 0, first.min(32) as u32, 0)?;
+    let written = consist_of(alloc, store, first, count, 0xab)?;
+    let after = consist_of(alloc, store, behind, 32 - behind.min(32) as u32, 0)?;
+    Ok(before && written && after)
+}
+
+/// Prepares a write over spare pages, installs it, and installs the pages that come back. Whether its blocks alone have
 /// its bytes in between, and all are zeros then.
-fn is_installed(alloc: Global) -> Result<bool, NoMemory> {
-    let mut store = PagedStore::new(alloc, 16);
-    let edges = store.edges(1, 1)?;
-    let prepared = edges.prepare(&[0xab; BLOCK_BYTES])?;
+fn is_installed(alloc: Global, first: u64, bytes: &[u8], spare: &[u8]) -> Result<bool, NoMemory> {
+    let mut store = PagedStore::new(alloc, 32);
+    let spare = prepare_first(&store, spare)?;
+    let Some(count) = count_there(&store, first, bytes) else {
+        return Ok(false);
+    };
+    let prepared = store.edges(first, count)?.prepare(bytes, spare)?;
     let (installed, back) = store.install(prepared)?;
-    let is_there = consist_of(alloc, &store, 0, 1, 0)?
-        && consist_of(alloc, &store, 1, 1, 0xab)?
-        && consist_of(alloc, &store, 2, 14, 0)?;
+    let is_there = are_written(alloc, &store, first, count)?;
     let (returned, _) = store.install(back)?;
-    Ok(installed && is_there && returned && consist_of(alloc, &store, 0, 16, 0)?)
+    Ok(installed && is_there && returned && consist_of(alloc, &store, 0, 32, 0)?)
+}
+
+/// The number of the first of these writes that isn't installed as it says, from 0.
+fn first_not_installed(alloc: Global) -> Result<Option<usize>, NoMemory> {
+    for number in 0..PREPARED.len() {
+        let (first, bytes, spare) = PREPARED[number];
+        if !is_installed(alloc, first, bytes, spare)? {
+            return Ok(Some(number));
+        }
+    }
+    Ok(None)
 }
 
 #[test]
-fn prepared_page(rt: HostRuntime) -> Result<(), Fail> {
-    let installed = is_installed(rt.alloc())?;
-    none_is(&rt, if installed { None } else { Some(0) });
+fn prepared_pages(rt: HostRuntime) -> Result<(), Fail> {
+    none_is(&rt, first_not_installed(rt.alloc())?);
     Ok(())
 }
 

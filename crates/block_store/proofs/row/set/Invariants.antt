@@ -1,0 +1,15 @@
+use Rattle.std.proofs.Common.{◌≡◌, ℕ, ◌-◌, ◌≤◌}
+use Rattle.block_store.specs.Blocks.{nth_block}
+use Rattle.block_store.specs.Pages.{covered}
+use Rattle.block_store.specs.Kept.{row_blocks}
+use Rattle.block_store.proofs.row.set.Given as goal
+
+-- the first blocks are written
+abbrev pub invariant-loop-done : goal.invariant-loop-done
+invariant-loop-done l = record {
+  within : l.done ≤ l.count;
+  blocks : (b : ℕ) → row_blocks l.row.items b ≡ covered (row_blocks l.fn.row.items) (λ c. nth_block l.bytes (c - l.first)) l.first l.done b;
+}
+
+abbrev pub decreases-loop-done : goal.decreases-loop-done
+decreases-loop-done l = l.count - l.done
