@@ -6,6 +6,8 @@ order of their lines.
 
 import re
 from dataclasses import dataclass
+from functools import lru_cache
+from itertools import islice
 
 from disk_model import BUS_RESET, NEXUS_LOSS, POWER_ON, Disk, Request, Wrong, busy, runs
 
@@ -38,8 +40,9 @@ def request_of(words, place):
     return Request(name, int(queue), unit, attribute, bytes_of(cdb).ljust(32, b"\0"), out, int(data.get("in", 0)), place)
 
 
+@lru_cache(maxsize=2)
 def requests_of(script):
-    """Returns the requests of a script by name, its deeds in order, and the name of each unit's identifier."""
+    """Returns the requests of a script by name, its deeds in order, and the name of each unit's identifier. Nobody changes them."""
     requests, deeds, identifiers, counts = {}, [], {}, {}
     for words in map(str.split, script.splitlines()):
         match words[:1]:
@@ -89,10 +92,38 @@ def step_of(deed, identifiers):
     if deed.kind in ABORTS:
         return "abort", None
     if deed.kind == "resize":
-        return ("resize", int(deed.number)) if 0 < int(deed.number) <= 2**40 else None
+        return "resize", int(deed.number)
     if deed.kind == "hard" or deed.kind in RESETS:
         return "reset", RESETS.get(deed.kind, POWER_ON)
     return None
+
+
+def steps_in_turn(script, unit, disks):
+    """Yields the steps of a unit, where each line of the script is settled before the next and memory is ample."""
+    _, deeds, identifiers = requests_of(script)
+    deeds = iter(deeds)
+    for words in map(str.split, script.splitlines()):
+        match words[:1]:
+            case ["send"] if words[3] == unit:
+                yield from (f"{kind} {words[1]}" for kind in ("enter", "commit", "leave"))
+            case ["tmf"] | ["hard"] | ["resize"]:
+                deed = next(deeds)
+                step = step_of(deed, identifiers)
+                if step and unit in met_by(deed, disks):
+                    yield step[0]
+
+
+def history_of(script, unit, disks, printed):
+    """Returns the steps of a unit by its printed history. Those that are folded aren't printed: they are taken to be those
+    of the script's lines in turn, and the answers show whether they were."""
+    steps = printed.split(", ") if printed else []
+    kind, _, count = steps[0].partition(" ") if steps else ("", "", "")
+    if kind != "base":
+        return steps
+    folded = list(islice(steps_in_turn(script, unit, disks), int(count)))
+    if len(folded) < int(count):
+        raise Wrong(f"{count} steps are folded where {len(folded)} were taken at most")
+    return folded + steps[1:]
 
 
 def responses(deed, disks):
@@ -121,7 +152,7 @@ def replayed(script, last, refused, visited):
         if history is None:
             raise Wrong(f"no history of {unit}")
         disk.plan, disk.refusals = plans[unit], refused
-        disk.replay(history.split(", ") if history else [], requests)
+        disk.replay(history_of(script, unit, disks, history), requests)
     return disks
 
 

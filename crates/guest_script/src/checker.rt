@@ -10,7 +10,6 @@ use script_lines::{Command, GuestLine, LineFault, PrintLine, ScriptFault, Stop, 
 use std::alloc::Global;
 use std::collections::BTreeSet;
 use std::io::Read;
-use unit_history::is_capacity;
 
 /// Says what is wrong with a script: its first fault, with the line and, where one is at fault, the word. The script is
 /// read whole, and no device stands beside it. So it isn't said where a queue is full, guest memory has no room, or
@@ -137,7 +136,7 @@ impl Checker {
             Command::Guest(GuestLine::TaskManagement(function)) => self.add(function.name),
             Command::Print(PrintLine::Show(name)) | Command::Wait(name) => self.find(name),
             Command::Resize(unit, blocks) => {
-                if let (Some(place), true) = (self.known.place(*unit), is_capacity(*blocks)) {
+                if let Some(place) = self.known.place(*unit) {
                     self.known.resize(place, *blocks);
                 }
                 Ok(())

@@ -229,8 +229,7 @@ impl<C: Ledger, D: Ledger> Service<C, D> {
         Ok(())
     }
 
-    /// Gives a unit so many blocks for the operator; where it isn't there, or no unit may have so many, nothing
-    /// happens.
+    /// Gives a unit so many blocks for the operator; where it isn't there nothing happens.
     fn resize<R: Wait>(&mut self, rt: &R, unit: Address, blocks: u64) -> Result<(), Stop> {
         if let Some(place) = self.known.place(unit) {
             match self.host.resize(rt, place, blocks) {

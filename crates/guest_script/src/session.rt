@@ -224,8 +224,7 @@ impl Session {
         Ok(())
     }
 
-    /// Gives a unit so many blocks for the operator; where it isn't there, or no unit may have so many, nothing
-    /// happens.
+    /// Gives a unit so many blocks for the operator; where it isn't there nothing happens.
     fn resize<W: Write>(&mut self, unit: Address, blocks: u64, out: &mut W) -> Result<(), Stop> {
         if let Some(place) = self.known.place(unit) {
             if self.machine.world.step(Event::Resize(place, blocks))? {

@@ -14,6 +14,11 @@ pub record IsNumber (bound : ℕ) (word : List ℕ) (number : ℕ) : Type 0 wher
   pub value : number ≡ digits_value 10 word
   pub below : number < bound
 
+-- how many blocks a unit may be given: 1 to 2^40
+pub record IsCapacity (word : List ℕ) (blocks : ℕ) : Type 0 where
+  pub number : IsNumber (2 ^ 40 + 1) word blocks
+  pub some : 1 ≤ blocks
+
 -- a unit, as two words name it
 pub record IsUnit (target lun : List ℕ) (unit : Address) : Type 0 where
   pub target_number : IsNumber 256 target unit.target

@@ -5,7 +5,7 @@ use crate::guest_line::GuestLine;
 use crate::header::{HeaderLine, only};
 use crate::print_line::PrintLine;
 use crate::step::Step;
-use crate::values::{name, number, unit_pair};
+use crate::values::{capacity, name, unit_pair};
 use scsi_codec::Address;
 use std::alloc::Global;
 
@@ -16,7 +16,7 @@ pub enum Command<'a> {
     Guest(GuestLine<'a>),
     /// The operator resets a unit. Whether it is there isn't known here.
     Hard(Address),
-    /// The operator gives a unit so many blocks. Whether it is there isn't known here.
+    /// The operator gives a unit so many blocks, 1 to 2^40 as a line is read. Whether it is there isn't known here.
     Resize(Address, u64),
     /// The device runs until nothing is left to do.
     Settle,
@@ -73,7 +73,7 @@ fn resize<'a>(values: &[&str]) -> Result<Command<'a>, LineFault> {
         return Err(LineFault::BadValue);
     };
     let unit = unit_pair(unit)?;
-    let blocks = number::<u64>(blocks)?;
+    let blocks = capacity(blocks)?;
     Ok(Command::Resize(unit, blocks))
 }
 

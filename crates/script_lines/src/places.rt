@@ -5,7 +5,7 @@ ghost use Rattle.std.specs.Prelude.{◌≤◌, length, IfOk, IfSome};
 use crate::fault::Stop;
 use crate::guest_line::{attribute, command_block};
 use crate::header::{Features, LARGEST_SIZE};
-use crate::values::{Bytes, LAST_LUN, name, number, unit_pair};
+use crate::values::{Bytes, LAST_LUN, capacity, name, number, unit_pair};
 use std::alloc::{AllocError, Global};
 
 /// The kinds of words that a place behind the first word of a line may take.
@@ -21,6 +21,8 @@ enum Place {
     Number64,
     /// How many descriptors a queue has.
     Size,
+    /// How many blocks a unit is given.
+    Capacity,
     /// A LUN.
     Lun,
     /// A unit as one word.
@@ -67,6 +69,7 @@ impl Place {
             Place::Number32 => number::<u32>(word).is_ok(),
             Place::Number64 => number::<u64>(word).is_ok(),
             Place::Size => is_at_most(word, LARGEST_SIZE),
+            Place::Capacity => capacity(word).is_ok(),
             Place::Lun => is_at_most(word, LAST_LUN),
             Place::Unit => unit_pair(word).is_ok(),
             Place::Name => name(word).is_ok(),
@@ -155,7 +158,8 @@ fn other_place(keyword: &str, index: usize) -> Place {
         ("hard" | "resize" | "history" | "blocks", 0) => Place::Unit,
         ("poke", 0) => Place::Number64,
         ("poke", 1) => Place::Bytes,
-        ("resize" | "blocks", 1) | ("blocks", 2) => Place::Number64,
+        ("resize", 1) => Place::Capacity,
+        ("blocks", 1 | 2) => Place::Number64,
         ("wait" | "show", 0) => Place::Name,
         ("order" | "notices" | "fetch" | "enter" | "direct", 0) => Place::Number16,
         ("put" | "take" | "prepare" | "commit" | "answer" | "leave", 0) => Place::Number16,

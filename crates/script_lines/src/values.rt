@@ -1,9 +1,9 @@
 //! The values in the places of a line: numbers, names, units and bytes.
 
-ghost use Rattle.std.specs.Prelude.{◌≡◌, ◌<◌, ◌*◌, ◌-◌, ◌^◌, ◌++◌, min, length, [], true, false, ◌⊎◌, Ok, Err, IsOk, OnErr, IfOk, OnOk, IfErr, ◌↔◌};
+ghost use Rattle.std.specs.Prelude.{ℕ, ◌≡◌, ◌<◌, ◌*◌, ◌-◌, ◌^◌, ◌++◌, min, length, [], true, false, ◌⊎◌, Ok, Err, IsOk, OnErr, IfOk, OnOk, IfErr, ◌↔◌};
 ghost use Rattle.std.specs.List.{repeat};
 ghost use Rattle.std.specs.Str.{all_ascii_digits};
-ghost use Rattle.script_lines.specs.Values.{IsName, IsUnit, IsUnitPair, length_of};
+ghost use Rattle.script_lines.specs.Values.{IsCapacity, IsName, IsUnit, IsUnitPair, length_of};
 
 use crate::fault::{LineFault, Stop};
 use hex::FromHexError;
@@ -14,6 +14,9 @@ use std::str::FromStr;
 
 /// The largest LUN of a unit.
 pub(crate) const LAST_LUN: u16 = 16383;
+
+/// The most blocks that a unit may be given.
+const MOST_BLOCKS: u64 = 1 << 40;
 
 /// The most letters and digits of a name.
 const LONGEST_NAME: usize = 16;
@@ -34,6 +37,19 @@ where
         Ok(number) => Ok(number),
         Err(_) => Err(LineFault::BadValue),
     }
+}
+
+/// Reads how many blocks a unit is given: 1 to 2^40.
+pub fn capacity(word: &str) -> Result<u64, LineFault>
+    ensures taken { IfOk result (λ blocks. IsCapacity word.now blocks) }
+    ensures refused { OnErr result ((blocks : ℕ) → ¬ IsCapacity word.now blocks) }
+    ensures fault { IfErr result (λ fault. fault ≡ LineFault.BadValue) }
+{
+    let blocks = number::<u64>(word)?;
+    if blocks == 0 || blocks > MOST_BLOCKS {
+        return Err(LineFault::BadValue);
+    }
+    Ok(blocks)
 }
 
 /// Reads a name: 1 to 16 letters or digits.
