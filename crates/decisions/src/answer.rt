@@ -3,7 +3,7 @@
 ghost use Rattle.std.specs.Prelude.{◌≡◌, ◌+◌, ◌≤◌, ◌^◌};
 ghost use Rattle.decisions.specs.Answers.{ok_bytes};
 
-use scsi_codec::{REQUEST_BYTES, RESPONSE_BYTES, Response, ResponseCode, write_response};
+use scsi_codec::{REQUEST_BYTES, RESPONSE_BYTES, Response, ResponseCode, put_response};
 use sense::Sense;
 
 /// How many bytes of a chain can be read, and how many written.
@@ -27,6 +27,25 @@ pub fn response_ok(
     requires room { RESPONSE_BYTES ≤ lengths.now.writable }
     ensures { result ≡ ok_bytes lengths.now status sense moved }
 {
+    let mut bytes = [0; RESPONSE_BYTES];
+    put_response_ok(&mut bytes, lengths, status, sense, moved);
+    bytes
+}
+
+/// Puts the bytes of response OK where they are to stand, as [`response_ok`] makes them: an array that is returned is
+/// copied.
+#[inline(always)]
+pub fn put_response_ok(
+    bytes: &mut [u8; RESPONSE_BYTES],
+    lengths: &ChainLengths,
+    status: u8,
+    sense: Option<Sense>,
+    moved: u32,
+)
+    requires sum { lengths.now.readable + lengths.now.writable ≤ 2 ^ 32 }
+    requires room { RESPONSE_BYTES ≤ lengths.now.writable }
+    ensures { bytes.new ≡ ok_bytes lengths.now status sense moved }
+{
     let out = lengths.readable.saturating_sub(REQUEST_BYTES as u64);
     let into = lengths.writable - RESPONSE_BYTES as u64;
     let residual = (out + into).saturating_sub(moved as u64);
@@ -34,10 +53,13 @@ pub fn response_ok(
         Some(sense) => Some(sense.to_fixed()),
         None => None,
     };
-    write_response(&Response {
-        code: ResponseCode::Ok,
-        status,
-        residual: residual as u32,
-        sense,
-    })
+    put_response(
+        bytes,
+        &Response {
+            code: ResponseCode::Ok,
+            status,
+            residual: residual as u32,
+            sense,
+        },
+    );
 }

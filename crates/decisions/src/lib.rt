@@ -9,7 +9,7 @@ mod direct;
 mod inventory;
 mod unit_request;
 
-pub use answer::{ChainLengths, response_ok};
+pub use answer::{ChainLengths, put_response_ok, response_ok};
 pub use attribute::TaskAttribute;
 pub use decision::{Decision, decide};
 pub use direct::{DirectAnswer, DirectBytes, MOST_DIRECT_BYTES, MOST_OTHER_BYTES};

@@ -5,7 +5,7 @@ ghost use Rattle.cdb.specs.Need.{need_of};
 ghost use Rattle.replies.specs.Data.{data_of};
 
 use crate::attribute::TaskAttribute;
-use cdb::{Command, need};
+use cdb::Command;
 use scsi_codec::REQUEST_BYTES;
 use std::marker::Model;
 use std::mem;
@@ -16,12 +16,12 @@ pub struct UnitRequest {
     id: u64,
     attribute: TaskAttribute,
     command: Command,
-    // The first bytes of the chain, where the command takes data: these stand from byte 51 on.
+    // Where the command takes data, the first bytes of the chain up to their end: they stand from byte 51 on.
     bytes: Vec<u8>,
 }
 
 impl Model for UnitRequest {
-    ghost use Rattle.std.specs.Prelude.{◌≡◌, ◌⊎◌, ◌+◌, ◌≤◌, drop, length};
+    ghost use Rattle.std.specs.Prelude.{◌≡◌, ◌⊎◌, ◌+◌, ◌<◌, drop, length};
     ghost use Rattle.cdb.specs.Need.{need_of};
     ghost use Rattle.replies.specs.Data.{data_of};
     ghost use Rattle.decisions.specs.UnitRequest.{PlainRequest};
@@ -35,13 +35,14 @@ impl Model for UnitRequest {
       data_out = data_of r.command (drop 51 r.bytes.items);
     } };
 
-    ghost invariant = { λ r.
-        ((need_of r.command).out ≡ 0) ⊎ (51 + (need_of r.command).out ≤ length r.bytes.items) };
+    ghost invariant = { λ r. (((need_of r.command).out ≡ 0) × (length r.bytes.items < 51))
+        ⊎ (51 + (need_of r.command).out ≡ length r.bytes.items) };
 }
 
 impl UnitRequest {
     /// Makes the decoded request in the first bytes of a chain, whose command takes so many bytes of data. It takes the
     /// bytes where these are some.
+    #[tactic(auto, using(crate::proofs::Data::data_in))]
     pub(crate) fn new(
         id: u64,
         attribute: TaskAttribute,
@@ -61,6 +62,7 @@ impl UnitRequest {
         let mut own = Vec::new(*bytes.allocator());
         if out > 0 {
             mem::swap(bytes, &mut own);
+            own.truncate(REQUEST_BYTES + out as usize);
         }
         UnitRequest {
             id,
@@ -96,11 +98,10 @@ impl UnitRequest {
         ensures data { result.now ≡ self.now.data_out }
         ensures len { length result.now ≡ (need_of self.now.command).out }
     {
-        let len = need(&self.command).out as usize;
-        if len == 0 {
+        if self.bytes.len() < REQUEST_BYTES {
             return &[];
         }
         let (_, data) = self.bytes.as_slice().split_at(REQUEST_BYTES);
-        &data[..len]
+        data
     }
 }

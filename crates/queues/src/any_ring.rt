@@ -48,6 +48,7 @@ impl Ring for AnyRing {
         }
     }
 
+    #[inline(always)]
     fn wants_notice(&self, memory: &GuestMem) -> bool {
         match self {
             AnyRing::Split(ring) => ring.wants_notice(memory),

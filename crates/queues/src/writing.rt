@@ -8,7 +8,7 @@ ghost use Rattle.replies.specs.PlainReply.{plain_of};
 ghost use Rattle.decisions.specs.Answers.{answer_of_reply};
 ghost use Rattle.queues.specs.FirstPart.{first_open};
 
-use decisions::{ChainLengths, DirectAnswer, response_ok};
+use decisions::{ChainLengths, DirectAnswer, put_response_ok};
 use guest_mem::GuestMem;
 use replies::Reply;
 use ring_core::{Chain, Part, scatter};
@@ -60,8 +60,8 @@ fn write_whole(
     ensures size { length memory.new ≡ length memory.old }
 {
     let _size = memory.size();
-    let _ = memory.write(part.addr, head.as_slice());
-    let _ = memory.write(part.addr + RESPONSE_BYTES as u64, payload);
+    memory.put(part.addr, head.as_slice());
+    memory.put(part.addr + RESPONSE_BYTES as u64, payload);
     (RESPONSE_BYTES + payload.len()) as u32
 }
 
@@ -107,6 +107,7 @@ fn write_response(
 
 /// Writes response OK with a reply (VIRTIO 1.2 §5.6.6.1) over the writable parts of a chain of these lengths, which
 /// have room for both. Returns how many bytes it wrote. Called before the chain is completed. It takes no memory.
+#[inline(always)]
 pub fn write_reply(
     memory: &mut GuestMem,
     chain: &Chain,
@@ -124,7 +125,8 @@ pub fn write_reply(
         ≡ all_written memory.old (scatter_writes chain.now.parts 0 (answer_of_reply lengths.now (plain_of reply.now))) }
     ensures size { length memory.new ≡ length memory.old }
 {
-    let head = response_ok(lengths, reply.status, reply.sense, reply.moved);
+    let mut head = [0; RESPONSE_BYTES];
+    put_response_ok(&mut head, lengths, reply.status, reply.sense, reply.moved);
     write_response(memory, chain, &head, reply.payload.as_slice())
 }
 

@@ -57,12 +57,22 @@ pub fn write_response(response: &Response) -> [u8; RESPONSE_BYTES]
     ensures { result ≡ response_bytes response.now }
 {
     let mut bytes = [0; RESPONSE_BYTES];
+    put_response(&mut bytes, response);
+    bytes
+}
+
+/// Puts the bytes of a response before its data in where they are to stand, as [`write_response`] makes them: an array
+/// that is returned is copied.
+#[inline(always)]
+pub fn put_response(bytes: &mut [u8; RESPONSE_BYTES], response: &Response)
+    ensures { bytes.new ≡ response_bytes response.now }
+{
+    *bytes = [0; RESPONSE_BYTES];
     LittleEndian::write_u32(&mut bytes[4..], response.residual);
     bytes[10] = response.status;
     bytes[11] = response.code as u8;
     if let Some(sense) = &response.sense {
-        LittleEndian::write_u32(&mut bytes, SENSE_BYTES as u32);
+        LittleEndian::write_u32(&mut bytes[0..], SENSE_BYTES as u32);
         bytes[12..12 + SENSE_BYTES].copy_from_slice(sense);
     }
-    bytes
 }

@@ -79,6 +79,7 @@ impl Arrival {
     }
 
     /// Returns the data that the command takes from the driver: exactly as many bytes as it needs.
+    #[inline(always)]
     pub fn data(&self) -> &[u8]
         ensures data { result.now ≡ self.now.entry.data_out }
         ensures len { length result.now ≡ (need_of self.now.entry.command).out }

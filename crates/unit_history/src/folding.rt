@@ -259,6 +259,9 @@ impl Folding {
     pub(crate) fn oldest_mark(&self) -> Option<u64>
         ensures { IfSome result (λ place. place < length self.now.kinds) }
     {
+        if self.marks.is_empty() {
+            return None;
+        }
         match self.marks.back() {
             Some(mark) if mark.place < self.len => Some(mark.place),
             Some(_) | None => None,

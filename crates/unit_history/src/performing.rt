@@ -13,7 +13,7 @@ ghost use Rattle.unit_history.specs.Kept.{kept_reply};
 ghost use Rattle.unit_history.specs.Performing.{Performs, told, taken, unkept};
 
 use crate::log::LONGEST_KEPT;
-use block_commands::{UnitFacts, exec_prepared, takes_attention};
+use block_commands::{UnitFacts, exec, exec_prepared, takes_attention};
 use block_store::{NoMemory, PagedStore, Prepared, Store};
 use cdb::Command;
 use replies::Reply;
@@ -56,7 +56,7 @@ fn tell_oldest(facts: &mut UnitFacts, attentions: &Attentions)
 fn clear_oldest(attentions: &mut Attentions, command: &Command)
     ensures { attentions.new ≡ taken command.now attentions.old }
 {
-    if takes_attention(command) {
+    if attentions.peek().is_some() && takes_attention(command) {
         let _ = attentions.take();
     }
 }
@@ -99,12 +99,39 @@ pub struct Performed {
     pub kept: Option<Reply>,
 }
 
-/// Runs a command, with exactly the data that it takes, on the blocks of its unit, with what is pending, and with the
-/// new pages of its write, if they were prepared; its reply is kept nowhere. The unit calls it, in the hold of its lock.
-/// The pages that aren't used any more come to stand in `spare`, so that they are freed behind that.
-/// `NoMemory` where memory was refused, with blocks and attentions as before.
+/// Runs a command, with exactly the data that it takes, on the blocks of its unit, with what is pending; its reply is
+/// kept nowhere. The unit calls it, in the hold of its lock. `NoMemory` where memory was refused, with blocks and
+/// attentions as before.
 #[inline(always)]
 pub fn run(
+    alloc: Global,
+    room: &mut Vec<u8>,
+    facts: &mut UnitFacts,
+    attentions: &mut Attentions,
+    store: &mut PagedStore,
+    command: &Command,
+    bytes: &[u8],
+) -> Result<Reply, NoMemory>
+    requires data { length bytes.now ≡ (need_of command.now).out }
+    ensures performed { Performs false (facts_of (told facts.old attentions.old) (⟦<PagedStore as Store>⟧.size store.old))
+        command.now bytes.now (unkept result)
+        (⟦<PagedStore as Store>⟧.block_at store.old) (⟦<PagedStore as Store>⟧.block_at store.new) attentions.old attentions.new }
+    ensures facts { facts.new ≡ told facts.old attentions.old }
+    ensures size { ⟦<PagedStore as Store>⟧.size store.new ≡ ⟦<PagedStore as Store>⟧.size store.old }
+    ensures fits { IfOk result (λ r. length r.payload.items ≤ (need_of command.now).into) }
+{
+    tell_oldest(facts, attentions);
+    let ran = exec(alloc, room, store, command, bytes, facts);
+    if ran.is_ok() {
+        clear_oldest(attentions, command);
+    }
+    ran
+}
+
+/// Runs a command as [`run`] does, with the new pages of its write, if they were prepared. The pages that aren't used
+/// any more come to stand in `spare`, so that they are freed behind the hold of its unit's lock.
+#[inline(always)]
+fn run_prepared(
     alloc: Global,
     room: &mut Vec<u8>,
     facts: &mut UnitFacts,
@@ -131,7 +158,7 @@ pub fn run(
     Ok(reply)
 }
 
-/// Runs a command as [`run`] does, and has its reply again, where replies are kept and it isn't too long; `None`
+/// Runs a command as [`run`] does, with the new pages of its write, and has its reply again, where replies are kept and it isn't too long; `None`
 /// where memory was refused, also to that, with blocks and attentions as before.
 #[inline(always)]
 pub fn perform(
@@ -156,7 +183,7 @@ pub fn perform(
     ensures fits { IfSome result (λ p. length p.reply.payload.items ≤ (need_of command.now).into) }
 {
     if !keeps_replies {
-        let reply = run(
+        let reply = run_prepared(
             alloc, room, facts, attentions, store, command, bytes, prepared, spare,
         )
         .ok()?;

@@ -80,8 +80,6 @@ impl UnitState {
             &mut self.store,
             &arrival.command(),
             arrival.data(),
-            None,
-            &mut None,
         );
         record_run(&mut self.log, ticket, &ran);
         let answered = answering.answer(arrival, &ran);

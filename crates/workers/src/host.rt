@@ -369,33 +369,35 @@ impl<G: Gate + Drop, C: Ledger, W: Ledger> Host<G, C, W> {
     }
 
     /// Resets the unit at an index of the configuration for the operator, and tells the guest (TRANSPORT_RESET). A unit
-    /// that isn't there changes nothing. `NoMemory` where a growth was refused: the unit wasn't reset then. It may
-    /// wait, and run commands.
+    /// that isn't there changes nothing. Wakes the workers that sleep. `NoMemory` where a growth was refused: the unit
+    /// wasn't reset then. It may wait, and run commands.
     pub fn operator<R: Wait>(&mut self, rt: &R, place: u16) -> Result<(), NoMemory>
         ensures same { self.new ≡ self.old }
         ensures reset { OnOk result (place < length self.old.units → WasReset) }
         ensures there { OnErr result (place < length self.old.units) }
     {
-        reset(
+        let done = reset(
             rt,
             &*self.shared,
             place as usize,
             &mut self.post,
             &mut self.waiting,
-        )
+        );
+        self.shared.bell.ring(rt);
+        done
     }
 
     /// Gives the unit at an index of the configuration another capacity for the operator, in blocks of 512 bytes, and
-    /// tells the guest (PARAM_CHANGE) where its driver agreed to `CHANGE`. A unit that isn't there changes nothing.
-    /// `BadCapacity` for 0 and for more than 2^40 blocks, `NoMemory` where a growth was refused: the unit wasn't
-    /// resized then. It may wait.
+    /// tells the guest (PARAM_CHANGE) where its driver agreed to `CHANGE`. A unit that isn't there changes nothing. Wakes
+    /// the workers that sleep. `BadCapacity` for 0 and for more than 2^40 blocks, `NoMemory` where a growth was refused:
+    /// the unit wasn't resized then. It may wait.
     pub fn resize<R: Wait>(&mut self, rt: &R, place: u16, blocks: u64) -> Result<(), ResizeFault>
         ensures same { self.new ≡ self.old }
         ensures resized { OnOk result (place < length self.old.units → WasResized blocks) }
         ensures cause { IfErr result (λ fault. ResizeRefused blocks fault) }
     {
         let told = self.told;
-        resize(
+        let done = resize(
             rt,
             &*self.shared,
             place as usize,
@@ -403,7 +405,9 @@ impl<G: Gate + Drop, C: Ledger, W: Ledger> Host<G, C, W> {
             told,
             &mut self.post,
             &mut self.waiting,
-        )
+        );
+        self.shared.bell.ring(rt);
+        done
     }
 
     /// Wakes the workers that sleep since they found nothing to do. The embedder calls it once chains are available

@@ -6,7 +6,7 @@ pub returns-clause-memory : goal.returns-clause-memory
 returns-clause-memory c =
     let m = c.args.memory.now in
     let parts = c.args.chain.now.parts in
-    let head = c.response_ok-head.result in
+    let head = c.put_response_ok.new.bytes in
     c.write_response.ensures.memory
     ∙ ap (λ (p : List ℕ). all_written m (scatter_writes parts 0 (head ++ p))) c.as_slice.ensures.value
-    ∙ ap (λ (h : List ℕ). all_written m (scatter_writes parts 0 (h ++ c.args.reply.now.payload.items))) c.response_ok-head.ensures
+    ∙ ap (λ (h : List ℕ). all_written m (scatter_writes parts 0 (h ++ c.args.reply.now.payload.items))) c.put_response_ok.ensures

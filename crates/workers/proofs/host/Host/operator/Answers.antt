@@ -10,4 +10,4 @@ returns-clause-reset g c =
     let view = ap (λ v. length v.units) c.self.view_is in
     let many : vec_len c.deref.result.now.units ≡ length c.args.self.now.units =
     omega (arith, shared, c.self.invariant.1, c.self.inside.specs.ok.0, view) in
-    subst (λ n. OnOk c.reset.result (c.args.place < n → WasReset)) many c.reset.ensures.reset
+    subst (λ n. OnOk c.reset-done.result (c.args.place < n → WasReset)) many c.reset-done.ensures.reset
