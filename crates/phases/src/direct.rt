@@ -77,11 +77,14 @@ pub fn phase_answer_tmf(
 {
     match function.take() {
         Some(open) => {
-            if !open.function().finished() {
+            if !open.function.finished() {
                 *function = Some(open);
                 return false;
             }
-            let (chain, finished) = open.into_parts();
+            let OpenFunction {
+                chain,
+                function: finished,
+            } = open;
             if !queue.may_complete(memory, &chain) {
                 return false;
             }

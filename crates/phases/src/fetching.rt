@@ -86,7 +86,10 @@ fn decided_control(
             ));
         }
         ControlDecision::Opens(begun) => {
-            *function = Some(OpenFunction::new(chain, begun));
+            *function = Some(OpenFunction {
+                chain,
+                function: begun,
+            });
         }
     }
 }

@@ -26,18 +26,18 @@ fn mark_tasks(unit: &mut UnitState, mark: MarkBy, out: &mut JobList) -> Result<P
 /// wait there and are marked are appended to the list. Where memory is refused the function fails, and leaves its other
 /// units. Returns true if something changed: not where no unit is left, or where the list has fewer than 64 free
 /// places.
-pub fn phase_mark(unit: &mut UnitState, function: &mut OpenFunction, out: &mut JobList) -> bool
-    ensures { Marks function.old unit.old out.old result unit.new function.new out.new }
+pub fn phase_mark(unit: &mut UnitState, open: &mut OpenFunction, out: &mut JobList) -> bool
+    ensures { Marks open.old unit.old out.old result unit.new open.new out.new }
 {
-    if !has_places(out) || function.function().next_unit().is_none() {
+    if !has_places(out) || open.function.next_unit().is_none() {
         return false;
     }
-    match function.function().kind() {
+    match open.function.kind() {
         Kind::Marking(mark) => match mark_tasks(unit, mark, out) {
-            Ok(place) => function.marked(place),
-            Err(NoMemory) => function.refused(),
+            Ok(place) => open.function.marked(place),
+            Err(NoMemory) => open.function.refused(),
         },
-        Kind::Querying(rule) => function.found(unit.is_alive(rule)),
+        Kind::Querying(rule) => open.function.found(unit.is_alive(rule)),
     }
     true
 }
@@ -45,16 +45,16 @@ pub fn phase_mark(unit: &mut UnitState, function: &mut OpenFunction, out: &mut J
 /// Checks whether the open function's first mark is clear, at that mark's unit, which the caller found by `waits_for`,
 /// and goes on to the next. Returns true if something changed: not where a unit is left to mark, no mark is waited for,
 /// or a task that the mark met has not left.
-pub fn phase_check(unit: &UnitState, function: &mut OpenFunction) -> bool
-    ensures { Checks function.old unit.now result function.new }
+pub fn phase_check(unit: &UnitState, open: &mut OpenFunction) -> bool
+    ensures { Checks open.old unit.now result open.new }
 {
-    if function.function().next_unit().is_some() {
+    if open.function.next_unit().is_some() {
         return false;
     }
-    match function.function().waits_for() {
+    match open.function.waits_for() {
         Some(mark) => {
             if unit.clear_of(mark.place) {
-                function.cleared();
+                open.function.cleared();
                 return true;
             }
             false

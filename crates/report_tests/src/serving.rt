@@ -169,11 +169,11 @@ fn mark_and_check<B: UnitBays + QueueBays>(
     mut function: OpenFunction,
     mut out: JobList,
 ) -> Option<OpenFunction> {
-    let place = function.function().next_unit()?;
+    let place = function.function.next_unit()?;
     if place >= bays.unit_count() || !mark_on(bays, place, &mut function, &mut out) {
         return None;
     }
-    let place = function.function().waits_for()?.unit;
+    let place = function.function.waits_for()?.unit;
     if place < bays.unit_count() && check_on(bays, place, &mut function) {
         return Some(function);
     }

@@ -33,7 +33,7 @@ fn go_on<R: Wait, G: Gate + Drop, C: Ledger, W: Ledger>(
     ensures seat { post.new.seat ≡ post.old.seat }
     ensures tally { Tallies post.new.lost post.new.part.share.amount post.new.kept post.new.hand }
 {
-    if let Some(at) = function.function().next_unit() {
+    if let Some(at) = function.function.next_unit() {
         if at < shared.units.len() {
             mark_on(
                 &mut shared.units(rt, &mut post.part),
@@ -44,7 +44,7 @@ fn go_on<R: Wait, G: Gate + Drop, C: Ledger, W: Ledger>(
         }
         return Some(Progress::Made);
     }
-    let waits = function.function().waits_for()?;
+    let waits = function.function.waits_for()?;
     if waits.unit >= shared.units.len() {
         return Some(Progress::Idle);
     }

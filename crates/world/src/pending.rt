@@ -43,10 +43,10 @@ impl Device {
         let Some(open) = &self.function else {
             return false;
         };
-        if open.function().next_unit().is_some() {
+        if open.function.next_unit().is_some() {
             return true;
         }
-        let Some(mark) = open.function().waits_for() else {
+        let Some(mark) = open.function.waits_for() else {
             return true;
         };
         if mark.unit >= self.units.len() {

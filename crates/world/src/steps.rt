@@ -245,16 +245,16 @@ impl Device {
         requires sound { IsSound self.old }
         ensures { Turns self.old AnEvent.Mark result self.new }
     {
-        let Some(function) = &mut self.function else {
+        let Some(open) = &mut self.function else {
             return false;
         };
-        let Some(place) = function.function().next_unit() else {
+        let Some(place) = open.function.next_unit() else {
             return false;
         };
         if place >= self.units.len() || self.seats.is_empty() {
             return false;
         }
-        phase_mark(&mut self.units[place], function, &mut self.seats[0].out)
+        phase_mark(&mut self.units[place], open, &mut self.seats[0].out)
     }
 
     /// Has the open function see that its first mark is clear.
@@ -262,16 +262,16 @@ impl Device {
         requires sound { IsSound self.old }
         ensures { Turns self.old AnEvent.Check result self.new }
     {
-        let Some(function) = &mut self.function else {
+        let Some(open) = &mut self.function else {
             return false;
         };
-        let Some(mark) = function.function().waits_for() else {
+        let Some(mark) = open.function.waits_for() else {
             return false;
         };
         if mark.unit >= self.units.len() {
             return false;
         }
-        phase_check(&self.units[mark.unit], function)
+        phase_check(&self.units[mark.unit], open)
     }
 
     /// Makes the pages of the WRITE in a seat's hand, ahead of its commit. Nothing changes that anybody sees.

@@ -1,4 +1,4 @@
-use Rattle.std.proofs.Common.{◌≡◌, List, ℕ, ap, ◌∙◌, inl, refl}
+use Rattle.std.proofs.Common.{◌≡◌, List, ℕ, ap, ◌∙◌, inl, inr, refl}
 use Rattle.device_model.specs.Parts.{Outcome, Slot}
 use Rattle.phases.specs.DirectChain.{PlainDirectChain}
 use Rattle.phases.proofs.fetching.decided_control.Goals as goal
@@ -13,3 +13,6 @@ returns-in-Direct c =
       refl,
       rw c.as_slice.ensures.value at c.in-Direct.ensures.decision,
     )
+
+pub returns : goal.returns
+returns c = inr (c.in-Opens.begun, refl, refl, rw c.as_slice.ensures.value at c.in-Opens.ensures.decision)

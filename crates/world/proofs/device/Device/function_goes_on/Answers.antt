@@ -1,7 +1,7 @@
 use Rattle.std.proofs.Common.{◌≡◌, ◌<◌, ◌≤◌, None, Some, sym, ap, ◌∙◌, length, arith}
 use Rattle.std.specs.Prelude.{slice_get}
 use Rattle.std.proofs.lemmas.Option.{slice_get_read}
-use Rattle.task_mgmt.specs.Functions.{PlainFunction}
+use Rattle.device_model.specs.World.{Opened}
 use Rattle.world.specs.contracts.device.Device.{the_view}
 use Rattle.world.proofs.Choosing.{option_none}
 use Rattle.world.proofs.Looks.{marks_some, responds, unit_absent, checks}
@@ -9,25 +9,25 @@ use Rattle.world.proofs.device.Device.function_goes_on.Goals as goal
 
 pub returns-then-is_some : goal.returns-then-is_some
 returns-then-is_some c =
-    let first = c.next_unit.ensures ∙ ap (λ (g : PlainFunction). slice_get g.left 0) c.function.ensures in
+    let first = c.next_unit.ensures ∙ ap (λ (o : Opened). slice_get o.function.left 0) c.open.view_is in
     rw (← c.self.view_is)
     (marks_some (the_view c.self.inside) c.in-Some.open c.next_unit.result c.in-Some.is first
     (sym c.is_some.ensures ∙ c.if-is_some.true))
 
 pub returns-in_default-waits_for : goal.returns-in_default-waits_for
 returns-in_default-waits_for c =
-    let first = c.next_unit.ensures ∙ ap (λ (g : PlainFunction). slice_get g.left 0) c.function.ensures in
+    let first = c.next_unit.ensures ∙ ap (λ (o : Opened). slice_get o.function.left 0) c.open.view_is in
     let left = sym first ∙ option_none c.next_unit.result (sym c.is_some.ensures ∙ c.if-is_some.false) in
-    let waits = sym (c.waits_for.ensures ∙ ap (λ (g : PlainFunction). slice_get g.waits 0) c.function-2.ensures)
+    let waits = sym (c.waits_for.ensures ∙ ap (λ (o : Opened). slice_get o.function.waits 0) c.open.view_is)
     ∙ c.in_default-waits_for.is in
     rw (← c.self.view_is) (responds (the_view c.self.inside) c.in-Some.open c.in-Some.is left waits)
 
 pub returns-then-mark-len : goal.returns-then-mark-len
 returns-then-mark-len c =
     let d = c.self.inside in
-    let first = c.next_unit.ensures ∙ ap (λ (g : PlainFunction). slice_get g.left 0) c.function.ensures in
+    let first = c.next_unit.ensures ∙ ap (λ (o : Opened). slice_get o.function.left 0) c.open.view_is in
     let left = sym first ∙ option_none c.next_unit.result (sym c.is_some.ensures ∙ c.if-is_some.false) in
-    let waits = sym (c.waits_for.ensures ∙ ap (λ (g : PlainFunction). slice_get g.waits 0) c.function-2.ensures)
+    let waits = sym (c.waits_for.ensures ∙ ap (λ (o : Opened). slice_get o.function.waits 0) c.open.view_is)
     ∙ c.in-Some-waits_for.is in
     let far : length d.units.items ≤ c.in-Some-waits_for.mark.unit =
     omega (arith, c.len.ensures, d.units.ok.0, c.if-mark-len.true) in
@@ -38,9 +38,9 @@ pub returns : goal.returns
 returns c =
     let d = c.self.inside in
     let mark = c.in-Some-waits_for.mark in
-    let first = c.next_unit.ensures ∙ ap (λ (g : PlainFunction). slice_get g.left 0) c.function.ensures in
+    let first = c.next_unit.ensures ∙ ap (λ (o : Opened). slice_get o.function.left 0) c.open.view_is in
     let left = sym first ∙ option_none c.next_unit.result (sym c.is_some.ensures ∙ c.if-is_some.false) in
-    let waits = sym (c.waits_for.ensures ∙ ap (λ (g : PlainFunction). slice_get g.waits 0) c.function-2.ensures)
+    let waits = sym (c.waits_for.ensures ∙ ap (λ (o : Opened). slice_get o.function.waits 0) c.open.view_is)
     ∙ c.in-Some-waits_for.is in
     let within : mark.unit < d.units.len = omega (arith, c.len.ensures, c.if-mark-len.false) in
     let at = slice_get_read d.units.items d.units.len mark.unit c.index.result.now d.units.ok.0 within c.index.ensures in

@@ -1,8 +1,7 @@
 use Rattle.std.proofs.Common.{◌≡◌, ◌<◌, ◌+◌, Some, refl, sym, ap, subst, ◌∙◌}
 use Rattle.std.specs.Prelude.{slice_get, length}
 use Rattle.std.proofs.lemmas.Option.{slice_get_read}
-use Rattle.task_mgmt.specs.Functions.{PlainFunction}
-use Rattle.device_model.specs.World.{PlainWorld}
+use Rattle.device_model.specs.World.{Opened, PlainWorld}
 use Rattle.device_model.specs.Events.{Event as PlainEvent}
 use Rattle.device_model.specs.Standing.{HaveRoom}
 use Rattle.world.specs.Kept.{KeptSeat}
@@ -15,7 +14,7 @@ use Rattle.world.proofs.device.Device.mark.Goals as goal
 pub invariant_of-self-2 : goal.invariant_of-self-2
 invariant_of-self-2 c =
     let d = c.self.inside in
-    let f = c.in-Some.function in
+    let f = c.in-Some.open in
     let s = seat.the_view c.behind-self.inside in
     let some : 0 < length d.seats.items =
     some_seat (seen.the_view d) d.seats.items refl
@@ -27,12 +26,12 @@ invariant_of-self-2 c =
     unit_kept d.memory d.bays.items d.units.items d.seats.items c.in-Some-next_unit.place c.phase_mark.new.unit 0 s
     (listing out s) c.self.invariant s_at
     (limit_stays f f.function.left c.index_mut.result.now (list_of s) c.phase_mark.result c.phase_mark.new.unit
-    c.phase_mark.new.function out c.phase_mark.ensures)
+    c.phase_mark.new.open out c.phase_mark.ensures)
 
 pub returns : goal.returns
 returns c =
     let d = c.self.inside in
-    let f = c.in-Some.function in
+    let f = c.in-Some.open in
     let s = seat.the_view c.behind-self.inside in
     let some : 0 < length d.seats.items =
     some_seat (seen.the_view d) d.seats.items refl
@@ -44,11 +43,11 @@ returns c =
     slice_get_read d.units.items c.len.result c.in-Some-next_unit.place c.index_mut.result.now
     (c.len.ensures ∙ d.units.ok.0) c.if-place-len.false c.index_mut.ensures.value in
     let first : slice_get f.function.left 0 ≡ Some c.in-Some-next_unit.place =
-    ap (λ (g : PlainFunction). slice_get g.left 0) (sym c.function.ensures) ∙ sym c.next_unit.ensures
+    ap (λ (o : Opened). slice_get o.function.left 0) (sym c.open.view_is) ∙ sym c.next_unit.ensures
     ∙ c.in-Some-next_unit.is in
     turns_seen _ _ PlainEvent.Mark c.phase_mark.result _ c.self.view_is
     (marks (seen.the_view d) d.seats.items refl
     (subst (λ (w : PlainWorld). HaveRoom w) (sym c.self.view_is) c.requires.sound.room)
     c.self.invariant.limits f c.in-Some.is c.in-Some-next_unit.place c.index_mut.result.now s u_at s_at
-    c.phase_mark.new.unit c.phase_mark.new.function c.phase_mark.new.out f.function.left refl first
+    c.phase_mark.new.unit c.phase_mark.new.open c.phase_mark.new.out f.function.left refl first
     c.phase_mark.result c.phase_mark.ensures)
