@@ -3,6 +3,7 @@ use Rattle.std.specs.Prelude.{ℕ, ◌≤◌, ◌+◌, ◌^◌, List, [], ⊤}
 use Rattle.cdb.specs.Need.{need_of}
 use Rattle.replies.specs.Absent.{absent_reply}
 use Rattle.replies.specs.PlainReply.{refusal}
+use Rattle.scsi_codec.specs.ControlQueue.{function_bytes, notification_bytes}
 use Rattle.decisions.specs.Answers.{failed, answer_of_reply, status_reply}
 use Rattle.decisions.specs.declared.answer.ChainLengths.{ChainLengths}
 use Rattle.decisions.specs.declared.direct.Told.{Told}
@@ -15,7 +16,8 @@ told_bytes n (told.Failed code) = failed code
 told_bytes n (told.Status status) = answer_of_reply n (status_reply status)
 told_bytes n (told.Refused sense) = answer_of_reply n (refusal sense)
 told_bytes n (told.Absent command) = answer_of_reply n (absent_reply command)
-told_bytes n (told.Other bytes) = bytes.items
+told_bytes n (told.Function response) = function_bytes response
+told_bytes n (told.Notification response) = notification_bytes 0 response
 
 -- a chain of these lengths has room for a response and so many bytes
 pub record HasRoomFor (n : ChainLengths) (bytes : ℕ) : Type 0 where
@@ -29,4 +31,5 @@ CanTell n (told.Failed code) = ⊤
 CanTell n (told.Status status) = HasRoomFor n 0
 CanTell n (told.Refused sense) = HasRoomFor n 0
 CanTell n (told.Absent command) = HasRoomFor n (need_of command).into
-CanTell n (told.Other bytes) = ⊤
+CanTell n (told.Function response) = ⊤
+CanTell n (told.Notification response) = ⊤

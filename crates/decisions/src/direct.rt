@@ -4,21 +4,22 @@ ghost use Rattle.std.specs.Prelude.{◌≡◌, ◌+◌, ◌≤◌, ◌^◌, ◌+
 ghost use Rattle.cdb.specs.Need.{need_of};
 ghost use Rattle.replies.specs.Absent.{absent_reply};
 ghost use Rattle.replies.specs.PlainReply.{refusal};
+ghost use Rattle.scsi_codec.specs.ControlQueue.{function_bytes, notification_bytes};
 ghost use Rattle.decisions.specs.Answers.{failed, answer_of_reply, status_reply};
 
 use crate::answer::{ChainLengths, response_ok};
 use arrayvec::ArrayVec;
 use cdb::Command;
 use replies::{ABSENT_BYTES, CHECK_CONDITION, exec_absent};
-use scsi_codec::{RESPONSE_BYTES, Response, ResponseCode, write_response};
+use scsi_codec::{
+    FunctionResponse, RESPONSE_BYTES, Response, ResponseCode, write_control, write_notification,
+    write_response,
+};
 use sense::Sense;
 use std::marker::Model;
 
 /// The most bytes of an answer that needs no unit: a response, and the standard data of INQUIRY.
 pub const MOST_DIRECT_BYTES: usize = RESPONSE_BYTES + ABSENT_BYTES;
-
-/// The most bytes of an answer of another table.
-pub const MOST_OTHER_BYTES: usize = 5;
 
 /// The bytes of an answer that needs no unit. They stand in place, so that making them takes no memory.
 pub type DirectBytes = ArrayVec<u8, MOST_DIRECT_BYTES>;
@@ -28,20 +29,22 @@ pub type DirectBytes = ArrayVec<u8, MOST_DIRECT_BYTES>;
 pub(crate) enum Told {
     /// No byte.
     Nothing,
-    /// Makes the bytes of a response other than OK.
+    /// A response other than OK.
     Failed(ResponseCode),
-    /// Makes the bytes of a status with no sense data.
+    /// A status with no sense data.
     Status(u8),
     /// CHECK CONDITION with sense data.
     Refused(Sense),
-    /// Makes what a LUN that its target lacks is answered.
+    /// The answer of a LUN that its target lacks.
     Absent(Command),
-    /// Bytes that another table gives.
-    Other(ArrayVec<u8, MOST_OTHER_BYTES>),
+    /// The response of a task management function.
+    Function(FunctionResponse),
+    /// The response to a notification, which reports no event.
+    Notification(ResponseCode),
 }
 
-/// An answer that needs no unit: its bytes are 0, or 108 and the data behind them, or those of another table. It is
-/// small, and its bytes are made where they are written, so that neither takes memory.
+/// An answer that needs no unit. It has no byte, or 108 and the data behind them, or the 1 or 5 of an answer on the
+/// control queue. It is small, and its bytes are made where they are written, so that neither takes memory.
 #[derive(Drop)]
 pub struct DirectAnswer {
     lengths: ChainLengths,
@@ -118,9 +121,23 @@ fn absent_bytes(lengths: &ChainLengths, command: &Command) -> DirectBytes
     with_data(&head, reply.payload.as_slice())
 }
 
-/// Returns a copy of these bytes.
-fn other_bytes(from: &[u8]) -> DirectBytes
-    requires { length from.now ≤ MOST_OTHER_BYTES }
+/// Makes the bytes of the response of a task management function.
+fn function_bytes(response: FunctionResponse) -> DirectBytes
+    ensures { result.items ≡ function_bytes response }
+{
+    control_bytes(&write_control(response))
+}
+
+/// Makes the bytes of the response to a notification, which reports no event.
+fn notification_bytes(response: ResponseCode) -> DirectBytes
+    ensures { result.items ≡ notification_bytes 0 response }
+{
+    control_bytes(&write_notification(0, response))
+}
+
+/// Returns a copy of the bytes of an answer on the control queue.
+fn control_bytes(from: &[u8]) -> DirectBytes
+    requires { length from.now ≤ 5 }
     ensures { result.items ≡ from.now }
 {
     let mut bytes = ArrayVec::new();
@@ -197,18 +214,25 @@ impl DirectAnswer {
         }
     }
 
-    /// Makes an answer of these bytes, which another table gives.
-    pub fn of_bytes(from: &[u8]) -> DirectAnswer
-        requires { length from.now ≤ MOST_OTHER_BYTES }
-        ensures { result ≡ from.now }
+    /// Makes the response of a task management function (VIRTIO 1.2 §5.6.6.2). Called where a function is refused, and
+    /// where one that is finished is answered.
+    pub fn of_function(response: FunctionResponse) -> DirectAnswer
+        ensures { result ≡ function_bytes response }
     {
-        let mut bytes = ArrayVec::new();
-        let Ok(()) = bytes.try_extend_from_slice(from) else {
-            unreachable!()
-        };
         DirectAnswer {
             lengths: NO_LENGTHS,
-            told: Told::Other(bytes),
+            told: Told::Function(response),
+        }
+    }
+
+    /// Makes the response to an asynchronous notification query or subscription (VIRTIO 1.2 §5.6.6.2), which reports no
+    /// event. Called where a chain of the control queue is decided on.
+    pub fn of_notification(response: ResponseCode) -> DirectAnswer
+        ensures { result ≡ notification_bytes 0 response }
+    {
+        DirectAnswer {
+            lengths: NO_LENGTHS,
+            told: Told::Notification(response),
         }
     }
 
@@ -222,7 +246,8 @@ impl DirectAnswer {
             Told::Status(status) => status_bytes(&self.lengths, *status),
             Told::Refused(sense) => refused_bytes(&self.lengths, *sense),
             Told::Absent(command) => absent_bytes(&self.lengths, command),
-            Told::Other(bytes) => other_bytes(bytes.as_slice()),
+            Told::Function(response) => function_bytes(*response),
+            Told::Notification(response) => notification_bytes(*response),
         }
     }
 }

@@ -17,7 +17,6 @@ use guest_mem::GuestMem;
 use queues::{Queue, write_direct};
 use ring_core::{Answered, Chain};
 use std::mem;
-use task_mgmt::ControlAnswer;
 use unit_history::Note;
 
 /// Answers a chain, and uses it.
@@ -88,9 +87,8 @@ pub fn phase_answer_tmf(
             if !queue.may_complete(memory, &chain) {
                 return false;
             }
-            let response = ControlAnswer::of_function(finished.answer());
-            let direct = DirectAnswer::of_bytes(response.as_slice());
-            let _answered = answer_chain(queue, memory, chain, &direct);
+            let response = DirectAnswer::of_function(finished.answer());
+            let _answered = answer_chain(queue, memory, chain, &response);
             true
         }
         None => false,

@@ -14,7 +14,7 @@ use crate::function::OpenFunction;
 use crate::slot::Slot;
 use crate::taking::{Taken, take_request};
 use block_store::NoMemory;
-use decisions::{ChainLengths, DirectAnswer, Inventory};
+use decisions::{ChainLengths, Inventory};
 use guest_mem::GuestMem;
 use queues::{Fetch, Queue};
 use ring_core::{Chain, Fetched};
@@ -80,10 +80,7 @@ fn decided_control(
     let Fetched { chain, bytes } = fetched;
     match decision_of_chain(inventory, &chain, bytes.as_slice()) {
         ControlDecision::Direct(answer) => {
-            *slot = Slot::Direct(DirectChain::decided(
-                chain,
-                DirectAnswer::of_bytes(answer.as_slice()),
-            ));
+            *slot = Slot::Direct(DirectChain::decided(chain, answer));
         }
         ControlDecision::Opens(begun) => {
             *function = Some(OpenFunction {

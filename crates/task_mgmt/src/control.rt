@@ -1,87 +1,18 @@
 //! Decides on a chain of the control queue.
 
-ghost use Rattle.std.specs.Prelude.{◌≡◌, ◌≤◌, [], length};
-ghost use Rattle.scsi_codec.specs.ControlQueue.{IsControl, function_bytes, notification_bytes};
+ghost use Rattle.std.specs.Prelude.{◌≡◌, length};
 ghost use Rattle.task_mgmt.specs.Control.{decided_of, decided_with_room, Decides, Suits};
 
 use crate::demand::{TaskManagement, begin};
 use crate::function::Function;
-use arrayvec::ArrayVec;
-use decisions::Inventory;
-use scsi_codec::{
-    Address, Control, FunctionResponse, ResponseCode, one_control, read_control, write_control,
-    write_notification,
-};
-use std::marker::Model;
-
-/// The most bytes of an answer on the control queue: those to a notification (VIRTIO 1.2 §5.6.6.2).
-pub const MOST_CONTROL_BYTES: usize = 5;
-
-/// An answer to a chain of the control queue: its bytes, 0, 1 or 5. They stand in place, so that neither
-/// deciding nor writing takes memory.
-#[derive(Drop)]
-pub struct ControlAnswer {
-    bytes: ArrayVec<u8, MOST_CONTROL_BYTES>,
-}
-
-impl Model for ControlAnswer {
-    ghost use Rattle.std.specs.Prelude.{List, ℕ};
-
-    ghost Value = { List ℕ };
-
-    ghost view = { λ a. a.bytes.items };
-}
-
-impl ControlAnswer {
-    /// Makes an answer of no byte: the chain is used with length 0.
-    pub(crate) fn nothing() -> ControlAnswer
-        ensures { result ≡ [] }
-    {
-        ControlAnswer {
-            bytes: ArrayVec::new(),
-        }
-    }
-
-    /// Makes the response of a function. Called where one that is finished is answered.
-    pub fn of_function(response: FunctionResponse) -> ControlAnswer
-        ensures { result ≡ function_bytes response }
-    {
-        ControlAnswer::copied(&write_control(response))
-    }
-
-    /// Returns the answer to a notification, which reports no event.
-    pub(crate) fn of_notification(response: ResponseCode) -> ControlAnswer
-        ensures { result ≡ notification_bytes 0 response }
-    {
-        ControlAnswer::copied(&write_notification(0, response))
-    }
-
-    /// Makes an answer of these bytes.
-    fn copied(from: &[u8]) -> ControlAnswer
-        requires { length from.now ≤ MOST_CONTROL_BYTES }
-        ensures { result ≡ from.now }
-    {
-        let mut bytes = ArrayVec::new();
-        let Ok(()) = bytes.try_extend_from_slice(from) else {
-            unreachable!()
-        };
-        ControlAnswer { bytes }
-    }
-
-    /// Returns its bytes.
-    pub fn as_slice(&self) -> &[u8]
-        ensures bytes { result.now ≡ self.now }
-        ensures few { length self.now ≤ MOST_CONTROL_BYTES }
-    {
-        self.bytes.as_slice()
-    }
-}
+use decisions::{DirectAnswer, Inventory};
+use scsi_codec::{Address, Control, FunctionResponse, ResponseCode, one_control, read_control};
 
 /// The decision on a chain of the control queue when it is fetched. It is never decided again.
 #[derive(Drop)]
 pub enum ControlDecision {
     /// It is answered so.
-    Direct(ControlAnswer),
+    Direct(DirectAnswer),
     /// This function has begun, and its response will be the answer.
     Opens(Function),
 }
@@ -104,16 +35,16 @@ fn decide_with_room(inventory: &Inventory, control: &Control) -> ControlDecision
             inventory,
         ) {
             Ok(function) => ControlDecision::Opens(function),
-            Err(response) => ControlDecision::Direct(ControlAnswer::of_function(response)),
+            Err(response) => ControlDecision::Direct(DirectAnswer::of_function(response)),
         },
         Control::AsynchronousNotification => {
-            ControlDecision::Direct(ControlAnswer::of_notification(ResponseCode::Ok))
+            ControlDecision::Direct(DirectAnswer::of_notification(ResponseCode::Ok))
         }
         Control::MalformedFunction => {
-            ControlDecision::Direct(ControlAnswer::of_function(FunctionResponse::Failure))
+            ControlDecision::Direct(DirectAnswer::of_function(FunctionResponse::Failure))
         }
         Control::MalformedNotification => {
-            ControlDecision::Direct(ControlAnswer::of_notification(ResponseCode::Failure))
+            ControlDecision::Direct(DirectAnswer::of_notification(ResponseCode::Failure))
         }
     }
 }
@@ -124,7 +55,7 @@ fn decide(inventory: &Inventory, control: &Control, writable: u64) -> ControlDec
     ensures suits { Suits (length inventory.now) writable result }
 {
     if writable < control.answer_len() as u64 {
-        return ControlDecision::Direct(ControlAnswer::nothing());
+        return ControlDecision::Direct(DirectAnswer::nothing());
     }
     decide_with_room(inventory, control)
 }

@@ -8,7 +8,7 @@ mod function;
 mod kind;
 mod laws;
 
-pub use control::{ControlAnswer, ControlDecision, MOST_CONTROL_BYTES, decide_control};
+pub use control::{ControlDecision, decide_control};
 pub use demand::{TaskManagement, begin};
 pub use function::{Function, Mark};
 pub use kind::{Kind, MarkBy};

@@ -1,15 +1,13 @@
-use Rattle.std.proofs.Common.{◌≡◌, List, ℕ, ap, ◌∙◌, inl, inr, refl}
-use Rattle.device_model.specs.Parts.{Outcome, Slot}
+use Rattle.std.proofs.Common.{◌≡◌, ap, inl, inr, refl}
+use Rattle.device_model.specs.Parts.{Slot}
 use Rattle.phases.specs.DirectChain.{PlainDirectChain}
 use Rattle.phases.proofs.fetching.decided_control.Goals as goal
 
 pub returns-in-Direct : goal.returns-in-Direct
 returns-in-Direct c =
-    let told : c.of_bytes.result ≡ c.in-Direct.answer = c.of_bytes.ensures ∙ c.as_slice-in-Direct.ensures.bytes in
     inl (
       c.in-Direct.answer,
-      ap (λ (r : PlainDirectChain). Slot.Direct r.chain r.outcome) c.decided.ensures
-          ∙ ap (λ (a : List ℕ). Slot.Direct c.args.fetched.chain (Outcome.Decided a)) told,
+      ap (λ (r : PlainDirectChain). Slot.Direct r.chain r.outcome) c.decided.ensures,
       refl,
       rw c.as_slice.ensures.value at c.in-Direct.ensures.decision,
     )
