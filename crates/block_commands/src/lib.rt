@@ -7,6 +7,7 @@ mod capacity;
 mod compare;
 mod data;
 mod execution;
+mod extents;
 mod facts;
 mod failure;
 mod inquiry;
@@ -18,5 +19,6 @@ mod unmap;
 
 pub use attention::takes_attention;
 pub use execution::exec;
+pub use extents::{Extent, UNMAP_HEADER_BYTES, extent_at, taken_descriptors};
 pub use facts::UnitFacts;
 pub use prepared::exec_prepared;

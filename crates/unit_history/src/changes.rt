@@ -1,24 +1,19 @@
 //! The blocks of a unit that may have changed.
 
-ghost use Rattle.std.specs.Prelude.{◌≡◌, ℕ, ◌+◌, ◌-◌, ◌*◌, ◌<◌, ◌≤◌, ◌^◌, Bool, false, [], length, drop, is_some, nat_le, ◌&&◌, ◌||◌};
+ghost use Rattle.std.specs.Prelude.{◌≡◌, ℕ, ◌+◌, ◌-◌, ◌*◌, ◌<◌, ◌≤◌, ◌^◌, Bool, false, [], length, is_some, nat_le, ◌&&◌, ◌||◌};
 ghost use Rattle.block_store.specs.Blocks.{is_within};
 ghost use Rattle.replies.specs.Effects.{given};
-ghost use Rattle.replies.specs.UnmapList.{descriptor, descriptors_in, descriptor_count, descriptors, is_named};
+ghost use Rattle.replies.specs.UnmapList.{descriptors_in, descriptors, is_named};
 ghost use Rattle.unit_history.specs.Changes.{is_in};
 ghost use Rattle.unit_history.specs.Noting.{Notes};
 
 use arrayvec::ArrayVec;
+use block_commands::{UNMAP_HEADER_BYTES, extent_at, taken_descriptors};
 use cdb::Command;
 use std::marker::Model;
 
 /// The most ranges that are kept apart.
 const MOST_RANGES: usize = 64;
-
-/// The bytes of an UNMAP's parameter list before its descriptors (SBC-3 §5.28.2).
-const HEADER_BYTES: usize = 8;
-
-/// The bytes of a descriptor.
-const DESCRIPTOR_BYTES: usize = 16;
 
 /// Blocks that follow one another.
 #[derive(Clone, Copy, Default)]
@@ -177,11 +172,11 @@ impl Changes {
     fn note_unmap(&mut self, list: &[u8], capacity: u64, place: u64)
         ensures { Notes (is_named (descriptors list.now)) capacity place self.old self.new }
     {
-        if list.len() < HEADER_BYTES {
+        if list.len() < UNMAP_HEADER_BYTES {
             return;
         }
         let count = taken_descriptors(list);
-        let (_, taken) = list.split_at(HEADER_BYTES);
+        let (_, taken) = list.split_at(UNMAP_HEADER_BYTES);
         if count > MOST_RANGES {
             self.note(0, capacity, capacity, place);
             return;
@@ -200,7 +195,7 @@ impl Changes {
     {
         for i in 0..count {
             let extent = extent_at(taken, i);
-            self.add_below(extent.first, extent.count, capacity);
+            self.add_below(extent.lba, u64::from(extent.count), capacity);
         }
     }
 
@@ -227,36 +222,5 @@ impl Changes {
             Command::Unmap { .. } => self.note_unmap(bytes, capacity, place),
             _ => {}
         }
-    }
-}
-
-/// Returns how many descriptors of an UNMAP's parameter list are taken: the whole ones in the length that the header
-/// gives, as far as the list has them.
-#[tactic(auto, unfolding(replies::specs::UnmapList::descriptor_count))]
-fn taken_descriptors(list: &[u8]) -> usize
-    requires { 8 ≤ length list.now }
-    ensures count { result ≡ descriptor_count list.now }
-    ensures fit { 8 + 16 * result ≤ length list.now }
-{
-    let mut given = [0; 2];
-    given.copy_from_slice(&list[2..4]);
-    let given = usize::from(u16::from_be_bytes(given));
-    given.min(list.len() - HEADER_BYTES) / DESCRIPTOR_BYTES
-}
-
-/// Returns the blocks of a descriptor.
-fn extent_at(taken: &[u8], i: usize) -> Range
-    requires { 16 * i + 16 ≤ length taken.now }
-    ensures first { result.first ≡ (descriptor (drop (16 * i) taken.now)).0 }
-    ensures count { result.count ≡ (descriptor (drop (16 * i) taken.now)).1 }
-{
-    let descriptor = &taken[DESCRIPTOR_BYTES * i..];
-    let mut first = [0; 8];
-    first.copy_from_slice(&descriptor[..8]);
-    let mut count = [0; 4];
-    count.copy_from_slice(&descriptor[8..12]);
-    Range {
-        first: u64::from_be_bytes(first),
-        count: u64::from(u32::from_be_bytes(count)),
     }
 }

@@ -11,15 +11,15 @@ returns-then-is_empty-clause-ok g c = λ b.
 
 pub returns-then-is_too_much-clause-answer : goal.returns-then-is_too_much-clause-answer
 returns-then-is_too_much-clause-answer g c =
-    unmap_answer-too_much (g.S.Store.size c.args.store.now) c.taken_descriptors-count.result c.args.list.now _ c.if-list-lt-HEADER_BYTES.false c.taken_descriptors-count.ensures.count
+    unmap_answer-too_much (g.S.Store.size c.args.store.now) c.taken_descriptors-count.result c.args.list.now _ c.if-list-lt-UNMAP_HEADER_BYTES.false c.taken_descriptors-count.ensures.count
     c.split_at.ensures.back (sym c.is_too_much.ensures ∙ c.if-is_too_much.true)
 
 pub returns-then-not-are_in_range-clause-answer : goal.returns-then-not-are_in_range-clause-answer
 returns-then-not-are_in_range-clause-answer g c =
-    unmap_answer-outside (g.S.Store.size c.args.store.now) c.taken_descriptors-count.result c.args.list.now _ c.if-list-lt-HEADER_BYTES.false c.taken_descriptors-count.ensures.count
+    unmap_answer-outside (g.S.Store.size c.args.store.now) c.taken_descriptors-count.result c.args.list.now _ c.if-list-lt-UNMAP_HEADER_BYTES.false c.taken_descriptors-count.ensures.count
     c.split_at.ensures.back (sym c.is_too_much.ensures ∙ c.if-is_too_much.false) (rw c.capacity.ensures at (sym c.are_in_range.ensures ∙ c.if-not-are_in_range.true))
 
 pub returns-clause-answer : goal.returns-clause-answer
 returns-clause-answer g c =
-    unmap_answer-done (g.S.Store.size c.args.store.now) c.taken_descriptors-count.result c.args.list.now _ c.if-list-lt-HEADER_BYTES.false c.taken_descriptors-count.ensures.count
+    unmap_answer-done (g.S.Store.size c.args.store.now) c.taken_descriptors-count.result c.args.list.now _ c.if-list-lt-UNMAP_HEADER_BYTES.false c.taken_descriptors-count.ensures.count
     c.split_at.ensures.back (sym c.is_too_much.ensures ∙ c.if-is_too_much.false) (rw c.capacity.ensures at (sym c.are_in_range.ensures ∙ c.if-not-are_in_range.false))

@@ -2,9 +2,9 @@ use Rattle.replies.specs.UnmapList.{descriptors, is_named}
 use Rattle.unit_history.proofs.Ranging.{notes_named, notes_unchanged, unnamed-short}
 use Rattle.unit_history.proofs.changes.Changes.note_unmap.Goals as goal
 
-pub returns-then-list-lt-HEADER_BYTES : goal.returns-then-list-lt-HEADER_BYTES
-returns-then-list-lt-HEADER_BYTES c =
-    notes_unchanged (is_named (descriptors c.args.list.now)) _ _ _ (λ b. unnamed-short c.args.list.now b c.if-list-lt-HEADER_BYTES.true)
+pub returns-then-list-lt-UNMAP_HEADER_BYTES : goal.returns-then-list-lt-UNMAP_HEADER_BYTES
+returns-then-list-lt-UNMAP_HEADER_BYTES c =
+    notes_unchanged (is_named (descriptors c.args.list.now)) _ _ _ (λ b. unnamed-short c.args.list.now b c.if-list-lt-UNMAP_HEADER_BYTES.true)
 
 pub returns : goal.returns
 returns c =
