@@ -5,6 +5,7 @@ mod answering;
 mod changes;
 mod commits;
 mod counted;
+mod execution;
 mod folding;
 mod kind;
 mod last_tickets;
@@ -20,6 +21,7 @@ mod runs;
 mod serving;
 mod turn;
 mod unit;
+mod views;
 
 pub use answering::Answering;
 pub use changes::{Changes, Range};

@@ -1,51 +1,34 @@
 //! A logical unit.
 
-ghost use Rattle.std.specs.Prelude.{◌≡◌, ◌+◌, ◌-◌, ◌<◌, ◌≤◌, ◌∷◌, ℕ, length, map, IfSome, OnOk, OnErr};
-ghost use Rattle.cdb.specs.Need.{need_of};
-ghost use Rattle.unit_history.specs.Endings.{FitsNeed};
-ghost use Rattle.unit_model.specs.Seen.{finished};
+ghost use Rattle.std.specs.Prelude.{◌≡◌, ◌+◌, ◌-◌, ◌≤◌, length, OnOk, OnErr};
 ghost use Rattle.unit_model.specs.Base.{most_before};
 ghost use Rattle.unit_model.specs.Contents.{is_capacity as may_have};
-ghost use Rattle.task_set.specs.Tasks.{moved, seen_of};
+ghost use Rattle.task_set.specs.Tasks.{seen_of};
 ghost use Rattle.unit_history.specs.Parts.{AreClear};
-ghost use Rattle.unit_history.specs.Performing.{IsKeptReply, step_for};
-ghost use Rattle.unit_history.specs.Outcomes.{outcome_for};
 
 use crate::changes::Changes;
-use crate::kind::StepKind;
 use crate::last_tickets::LastTickets;
 use crate::log::StepLog;
-use crate::outcomes::{Entered, Outcome, Receipt, ResizeFault, Unknown};
-use crate::pages::{PreparedWrite, StartedWrite, pages_for};
-use crate::performing::{Performed, attentions_at_start, perform};
-use crate::recorded::{RecordedEntry, RecordedReply, RecordedStep};
-use crate::turn::{Turn, is_ended, turn_of};
+use crate::outcomes::{Entered, ResizeFault, Unknown};
+use crate::performing::attentions_at_start;
+use crate::recorded::{RecordedEntry, RecordedStep};
+use crate::turn::is_ended;
 use block_commands::UnitFacts;
 use block_store::{NoMemory, PagedStore, Prepared, Store};
-use cdb::Command;
 use decisions::UnitSpec;
 use record::Record;
-use replies::Reply;
-use ring_core::{Answered, Ticket};
-use scsi_codec::Address;
+use ring_core::Answered;
 use std::alloc::{AllocError, Global};
 use std::marker::Model;
-use std::mem;
-use task_set::{Arrival, Full, Job, JobList, TaskSet};
+use task_set::{Arrival, Full, JobList, TaskSet};
 use unit_attention::{Attentions, Code};
-use unit_model::{Counts, Reason, Rule};
+use unit_model::{Reason, Rule};
 
 /// How many steps stand before a step of a unit's history.
 pub type Place = u64;
 
 /// The most blocks of a unit.
 const MOST_BLOCKS: u64 = 1 << 40;
-
-/// The largest reply buffer kept from one command for the next, in bytes.
-const MOST_ROOM: usize = 4096;
-
-/// Of how many blocks pages are kept from one WRITE for the next, at most: 128 KiB.
-const MOST_SPARE_BLOCKS: u32 = 256;
 
 /// A logical unit: its history, which proofs alone see whole, and what follows from it.
 #[derive(Drop)]
@@ -131,73 +114,14 @@ fn forget_where_clear(log: &mut StepLog, tasks: &TaskSet)
     }
 }
 
-/// Keeps pages that a commit left over for the next WRITE that is prepared, where none are kept and these aren't many.
-#[inline(always)]
-fn keep_pages(kept: &mut Option<Prepared>, left_over: &mut Option<Prepared>) {
-    let Some(pages) = left_over else {
-        return;
-    };
-    if kept.is_none() && pages.count() <= MOST_SPARE_BLOCKS {
-        *kept = left_over.take();
-    }
-}
-
-/// Records what became of a command that was to run.
-#[inline(always)]
-fn record_run(
-    log: &mut StepLog,
-    tasks: &mut TaskSet,
-    unit: Address,
-    ticket: Ticket,
-    performed: Option<Performed>,
-) -> Outcome
-    requires room { 0 < log.old.room }
-    requires kept { IsKeptReply log.old.keeps performed }
-    ensures outcome { result ≡ outcome_for unit (length log.old.steps) ticket performed }
-    ensures steps { log.new.steps ≡ step_for ticket performed ∷ log.old.steps }
-    ensures keeps { log.new.keeps ≡ log.old.keeps }
-    ensures room { log.old.room ≤ log.new.room + 1 }
-    ensures base { log.new.base ≡ log.old.base }
-    ensures forgotten { log.new.forgotten ≡ log.old.forgotten }
-    ensures tasks { tasks.new ≡ map (moved (finished ticket)) tasks.old }
-    ensures fits { (room : ℕ) → IfSome performed (λ p. length p.reply.payload.items ≤ room) → FitsNeed room result }
-{
-    let place = log.len();
-    tasks.finish(ticket);
-    match performed {
-        None => {
-            log.push(RecordedStep::Busy(ticket), None);
-            Outcome::Busy
-        }
-        Some(Performed { reply, kept }) => {
-            log.push(
-                RecordedStep::Commit(ticket, RecordedReply::of(&reply)),
-                kept,
-            );
-            Outcome::Reply(Receipt::new(unit, place, ticket, reply))
-        }
-    }
-}
-
 impl UnitState {
-    ghost use Rattle.std.specs.Prelude.{ℕ, ◌≡◌, ◌+◌, ◌*◌, ◌<◌, ◌≤◌, ◌⊎◌, ◌++◌, [], true, length, slice_get, IfOk, IfErr, OnOk, OnErr, IsTrue, ◌↔◌};
-    ghost use Rattle.std.specs.Option.{option_map};
-    ghost use Rattle.block_store.specs.Blocks.{run};
+    ghost use Rattle.std.specs.Prelude.{◌≡◌, ◌+◌, ◌≤◌, [], length, IfOk, IfErr, OnOk, OnErr};
     ghost use Rattle.unit_attention.specs.Code.{IsKnown};
     ghost use Rattle.unit_model.specs.Tasks.{task_of};
     ghost use Rattle.unit_model.specs.Steps.{Step, alive};
-    ghost use Rattle.unit_model.specs.Seen.{any_met};
-    ghost use Rattle.unit_model.specs.Clearing.{is_clear};
-    ghost use Rattle.unit_model.specs.Contents.{blocks_of, capacity_of, pending_of};
-    ghost use Rattle.unit_model.specs.Counts.{counts_of};
-    ghost use Rattle.unit_model.specs.Base.{base_of, kept_at};
-    ghost use Rattle.unit_model.specs.Receipts.{IsConfirmed, step_at};
-    ghost use Rattle.unit_history.specs.Kept.{kind_of};
-    ghost use Rattle.unit_history.specs.Runs.{committed_one};
     ghost use Rattle.unit_model.specs.Unit.{opening_unit, handing, Steps, IsUnit};
-    ghost use Rattle.unit_history.specs.Changes.{AreUnchanged};
     ghost use Rattle.unit_history.specs.Disks.{opening_over, IsDiskOf};
-    ghost use Rattle.unit_history.specs.Calls.{Enters, Commits, ResizeRefused, CannotLeave};
+    ghost use Rattle.unit_history.specs.Calls.{Enters, ResizeRefused, CannotLeave};
 
     /// Makes a unit as it is specified, with the LUNs of its target by rising number, of which no step was taken.
     /// Called once for each unit, where a device is opened; `keeps_replies` says whether the replies of its Commits are
@@ -301,115 +225,6 @@ impl UnitState {
         }
     }
 
-    /// Runs the command of a job's task whole, in one hold of the unit's lock. Tested first to last: `Unknown`; the
-    /// mark, which answers `Aborted`; `Busy`, where memory was refused to the command itself or, where replies are
-    /// kept, to the copy of its reply, which is made where its data are short enough to be kept.
-    #[inline(always)]
-    pub fn commit(&mut self, job: &Job) -> Outcome
-        ensures step { Commits self.old job.now result self.new }
-        ensures fits { FitsNeed (need_of job.now.entry.command).into result }
-    {
-        self.commit_with(job, None, &mut None)
-    }
-
-    /// Copies what the pages of a job's WRITE need, in one hold of the unit's lock: the pages that its range covers in
-    /// part. Takes the unit's spare pages out for the others. The thread that has the job calls it before it commits
-    /// that, makes the pages with no lock held, and gives them to [`UnitState::commit_with`]. `None` where the job's task
-    /// couldn't run now, its command isn't a WRITE of blocks below the capacity, or memory was refused: then it is
-    /// committed without pages.
-    pub fn start_pages(&mut self, job: &Job) -> Option<StartedWrite>
-        ensures { self.new ≡ self.old }
-    {
-        let ticket = job.ticket();
-        let Turn::Ready = turn_of(self.tasks.task(ticket)?, job) else {
-            return None;
-        };
-        let request = self.tasks.share(ticket, self.alloc)?;
-        match request.command() {
-            Command::Write { lba, blocks } => {
-                let capacity = self.store.capacity();
-                if lba > capacity || u64::from(blocks) > capacity - lba {
-                    return None;
-                }
-                match self.store.edges(lba, u32::from(blocks)) {
-                    Ok(edges) => Some(StartedWrite::new(edges, self.spare_pages.take(), request)),
-                    Err(NoMemory) => None,
-                }
-            }
-            _ => None,
-        }
-    }
-
-    /// Runs the command of a job's task as [`UnitState::commit`] does, with the pages of its WRITE, if they were made.
-    /// They are put in place where they are of this very command and its data and nothing beside its range has changed
-    /// in them since; else the command writes its blocks as ever. The unit keeps the pages that aren't used any more for
-    /// the next WRITE that is prepared, where it has none and they aren't many. Else they come to stand in `spare`, to be
-    /// freed behind the hold of the unit's lock.
-    pub fn commit_with(
-        &mut self,
-        job: &Job,
-        prepared: Option<PreparedWrite>,
-        spare: &mut Option<Prepared>,
-    ) -> Outcome
-        ensures step { Commits self.old job.now result self.new }
-        ensures fits { FitsNeed (need_of job.now.entry.command).into result }
-    {
-        let ticket = job.ticket();
-        let Some(task) = self.tasks.task(ticket) else {
-            return Outcome::Unknown;
-        };
-        match turn_of(task, job) {
-            Turn::Unknown => Outcome::Unknown,
-            Turn::Aborted(reason) => Outcome::Aborted(reason),
-            Turn::Ready => {
-                let unit = Address {
-                    target: self.facts.target,
-                    lun: self.facts.lun,
-                };
-                let command = task.command();
-                let bytes = task.data();
-                self.changes
-                    .note_command(&command, bytes, self.store.capacity(), self.log.len());
-                let pages = pages_for(prepared, task);
-                let keeps = self.log.keeps_replies();
-                let performed = perform(
-                    self.alloc,
-                    &mut self.room,
-                    &mut self.facts,
-                    &mut self.attentions,
-                    &mut self.store,
-                    &command,
-                    bytes,
-                    pages,
-                    spare,
-                    keeps,
-                );
-                keep_pages(&mut self.spare_pages, spare);
-                record_run(&mut self.log, &mut self.tasks, unit, ticket, performed)
-            }
-        }
-    }
-
-    /// Keeps the room of a reply's data for a later command of the unit, where it isn't much. A phase that has answered
-    /// by what came of a commit, and needs it no more, gives it back so.
-    pub fn keep_room(&mut self, outcome: Outcome)
-        ensures { self.new ≡ self.old }
-    {
-        self.keep_data(outcome.into_reply());
-    }
-
-    /// Keeps the room of a reply's data, where it isn't much.
-    #[inline(always)]
-    pub(crate) fn keep_data(&mut self, reply: Option<Reply>)
-        ensures { self.new ≡ self.old }
-    {
-        if let Some(Reply { payload, .. }) = reply {
-            if payload.capacity() > self.room.capacity() && payload.capacity() <= MOST_ROOM {
-                self.room = payload;
-            }
-        }
-    }
-
     /// Marks each task that the rule meets and that neither ran nor was answered BUSY, and hands out those of them
     /// that were parked, which then end as aborted. Answers the place of the Abort. The list has 64 places free, which
     /// the caller sees to. After `NoMemory` all is as before.
@@ -491,158 +306,6 @@ impl UnitState {
         }
         self.log.push(RecordedStep::Leave(ticket), None);
         self.tasks.leave(ticket, out);
-        Ok(())
-    }
-
-    /// Returns true if all tasks that were alive at the step of this place and met by it, done or not, have left. A
-    /// step that is no Abort and no Reset met none. It takes no memory.
-    pub fn clear_of(&self, place: Place) -> bool
-        ensures { result ≡ is_clear place self.now.steps }
-    {
-        match self.log.rule_at(place) {
-            Some(rule) => !self.tasks.is_met_before(place, rule),
-            None => true,
-        }
-    }
-
-    /// Returns true if the Commit of a receipt stands at its place in this unit's history, with its reply where both
-    /// have one: the receipt, and the unit where it still keeps it. It takes no memory. A unit that keeps no replies
-    /// knows no Commits of folded steps: there the place is asked for that isn't folded.
-    pub fn confirm(&self, receipt: &Receipt) -> bool
-        requires { (self.now.keeps_replies ≡ true) ⊎ (base_of self.now.steps ≤ receipt.now.place) }
-        ensures { IsTrue result ↔ IsConfirmed self.now.opening self.now.keeps_replies self.now.steps receipt.now }
-    {
-        let unit = receipt.unit();
-        unit.target == self.facts.target
-            && unit.lun == self.facts.lun
-            && self
-                .log
-                .has_commit(receipt.place(), receipt.ticket(), receipt.reply())
-    }
-
-    /// Returns the ticket of the Commit at a place; `None` where another step stands, or none yet. It takes no memory. A
-    /// unit that keeps no replies knows no Commits of folded steps: there the place is asked for that isn't folded.
-    pub fn commit_at(&self, place: Place) -> Option<Ticket>
-        requires { (self.now.keeps_replies ≡ true) ⊎ (base_of self.now.steps ≤ place) }
-        ensures { result ≡ committed_one (option_map kind_of (step_at place self.now.steps)) }
-    {
-        self.log.commit_at(place)
-    }
-
-    /// Returns true if a task that the rule meets is alive. It takes no memory.
-    pub fn is_alive(&self, rule: Rule) -> bool
-        ensures { result ≡ any_met rule (alive self.now.steps) }
-    {
-        self.tasks.is_met(rule)
-    }
-
-    /// Returns how many tasks are alive, at most 64.
-    pub fn alive_count(&self) -> usize
-        ensures { result ≡ length (alive self.now.steps) }
-    {
-        self.tasks.len()
-    }
-
-    /// Returns the ticket of a task that is alive, by its place in the order of entry; `None` where fewer are alive.
-    pub fn alive_ticket(&self, index: usize) -> Option<Ticket>
-        ensures { result ≡ option_map (λ e. e.ticket) (slice_get (alive self.now.steps) index) }
-    {
-        self.tasks.ticket_at(index)
-    }
-
-    /// Returns whether the unit keeps the replies of its Commits, and with them which folded steps are Commits.
-    pub fn keeps_replies(&self) -> bool
-        ensures { result ≡ self.now.keeps_replies }
-    {
-        self.log.keeps_replies()
-    }
-
-    /// Returns how many steps its history has.
-    pub fn steps(&self) -> u64
-        ensures { result ≡ length self.now.steps }
-    {
-        self.log.len()
-    }
-
-    /// Returns how much the unit did since it opened, by the steps of its history.
-    pub fn counts(&self) -> Counts
-        ensures { result ≡ counts_of self.now.steps }
-    {
-        self.log.counts()
-    }
-
-    /// Returns how many of them are folded: the oldest.
-    pub fn base(&self) -> u64
-        ensures { result ≡ base_of self.now.steps }
-    {
-        self.log.base()
-    }
-
-    /// Returns what the step at a place is; `None` where it is folded, or there is none yet.
-    pub fn step(&self, place: Place) -> Option<StepKind>
-        ensures { result ≡ option_map kind_of (kept_at place self.now.steps) }
-    {
-        self.log.kind_at(place)
-    }
-
-    /// Returns its target, 0 to 255.
-    pub fn target(&self) -> u8
-        ensures { result ≡ self.now.opening.target }
-    {
-        self.facts.target
-    }
-
-    /// Returns its LUN, 0 to 16,383.
-    pub fn lun(&self) -> u16
-        ensures { result ≡ self.now.opening.lun }
-    {
-        self.facts.lun
-    }
-
-    /// Returns how many blocks it opened with.
-    pub fn opening_blocks(&self) -> u64
-        ensures { result ≡ self.now.opening.blocks }
-    {
-        self.opening_blocks
-    }
-
-    /// Returns its capacity in blocks of 512 bytes.
-    pub fn capacity(&self) -> u64
-        ensures { result ≡ capacity_of self.now.opening self.now.steps }
-    {
-        self.store.capacity()
-    }
-
-    /// Returns the codes of the unit attention conditions that are pending, the oldest first (SAM-5 §5.14).
-    pub fn pending(&self) -> &[Code]
-        ensures { result.now ≡ pending_of self.now.opening self.now.steps }
-    {
-        self.attentions.as_slice()
-    }
-
-    /// Returns which blocks may have changed, and starts anew. A host calls it to write a disk through to its file, and
-    /// keeps the place of the history at the call, [`UnitState::steps`]. Where [`Changes::since`] of the next call is at
-    /// most that place, only the ranges of that call have to be written, and only below the capacity; else each block of
-    /// the disk. It takes no memory.
-    pub fn take_changes(&mut self) -> Changes
-        ensures unit { self.new ≡ self.old }
-        ensures past { result.since ≤ length self.old.steps }
-        ensures unchanged { AreUnchanged self.old result }
-    {
-        mem::replace(&mut self.changes, Changes::since_place(self.log.len()))
-    }
-
-    /// Appends the bytes of `count` blocks from `first` on, 512 of each, as its commands left them. All of them lie
-    /// below the capacity. `NoMemory`, with the list as it was, where that can't grow.
-    pub fn read_blocks(&self, first: u64, count: u32, into: &mut Vec<u8>) -> Result<(), NoMemory>
-        requires { first + count ≤ capacity_of self.now.opening self.now.steps }
-        ensures ok { OnOk result (into.new.items ≡ into.old.items ++ run (blocks_of self.now.opening self.now.steps) first count) }
-        ensures len { OnOk result (length into.new.items ≡ length into.old.items + 512 * count) }
-        ensures err { OnErr result (into.new.items ≡ into.old.items) }
-        ensures want { OnErr result (0 < count) }
-    {
-        into.reserve(512 * count as usize)?;
-        self.store.read_blocks(first, count, into);
         Ok(())
     }
 }

@@ -1,0 +1,190 @@
+//! How a unit runs the command of a task.
+
+ghost use Rattle.std.specs.Prelude.{◌≡◌, ◌+◌, ◌<◌, ◌≤◌, ◌∷◌, ℕ, length, map, IfSome};
+ghost use Rattle.cdb.specs.Need.{need_of};
+ghost use Rattle.unit_history.specs.Endings.{FitsNeed};
+ghost use Rattle.unit_model.specs.Seen.{finished};
+ghost use Rattle.task_set.specs.Tasks.{moved};
+ghost use Rattle.unit_history.specs.Performing.{IsKeptReply, step_for};
+ghost use Rattle.unit_history.specs.Outcomes.{outcome_for};
+
+use crate::log::StepLog;
+use crate::outcomes::{Outcome, Receipt};
+use crate::pages::{PreparedWrite, StartedWrite, pages_for};
+use crate::performing::{Performed, perform};
+use crate::recorded::{RecordedReply, RecordedStep};
+use crate::turn::{Turn, turn_of};
+use crate::unit::UnitState;
+use block_store::{NoMemory, Prepared, Store};
+use cdb::Command;
+use replies::Reply;
+use ring_core::Ticket;
+use scsi_codec::Address;
+use task_set::{Job, TaskSet};
+
+/// The largest reply buffer kept from one command for the next, in bytes.
+const MOST_ROOM: usize = 4096;
+
+/// The most blocks whose pages are kept from one WRITE for the next: 128 KiB.
+const MOST_SPARE_BLOCKS: u32 = 256;
+
+/// Keeps pages that a commit left over for the next WRITE that is prepared, where none are kept and these aren't many.
+#[inline(always)]
+fn keep_pages(kept: &mut Option<Prepared>, left_over: &mut Option<Prepared>) {
+    let Some(pages) = left_over else {
+        return;
+    };
+    if kept.is_none() && pages.count() <= MOST_SPARE_BLOCKS {
+        *kept = left_over.take();
+    }
+}
+
+/// Records what became of a command that was to run.
+#[inline(always)]
+fn record_run(
+    log: &mut StepLog,
+    tasks: &mut TaskSet,
+    unit: Address,
+    ticket: Ticket,
+    performed: Option<Performed>,
+) -> Outcome
+    requires room { 0 < log.old.room }
+    requires kept { IsKeptReply log.old.keeps performed }
+    ensures outcome { result ≡ outcome_for unit (length log.old.steps) ticket performed }
+    ensures steps { log.new.steps ≡ step_for ticket performed ∷ log.old.steps }
+    ensures keeps { log.new.keeps ≡ log.old.keeps }
+    ensures room { log.old.room ≤ log.new.room + 1 }
+    ensures base { log.new.base ≡ log.old.base }
+    ensures forgotten { log.new.forgotten ≡ log.old.forgotten }
+    ensures tasks { tasks.new ≡ map (moved (finished ticket)) tasks.old }
+    ensures fits { (room : ℕ) → IfSome performed (λ p. length p.reply.payload.items ≤ room) → FitsNeed room result }
+{
+    let place = log.len();
+    tasks.finish(ticket);
+    match performed {
+        None => {
+            log.push(RecordedStep::Busy(ticket), None);
+            Outcome::Busy
+        }
+        Some(Performed { reply, kept }) => {
+            log.push(
+                RecordedStep::Commit(ticket, RecordedReply::of(&reply)),
+                kept,
+            );
+            Outcome::Reply(Receipt::new(unit, place, ticket, reply))
+        }
+    }
+}
+
+impl UnitState {
+    ghost use Rattle.unit_history.specs.Calls.{Commits};
+
+    /// Runs the command of a job's task whole, in one hold of the unit's lock. Tested first to last: `Unknown`; the
+    /// mark, which answers `Aborted`; `Busy`, where memory was refused to the command itself or, where replies are
+    /// kept, to the copy of its reply, which is made where its data are short enough to be kept.
+    #[inline(always)]
+    pub fn commit(&mut self, job: &Job) -> Outcome
+        ensures step { Commits self.old job.now result self.new }
+        ensures fits { FitsNeed (need_of job.now.entry.command).into result }
+    {
+        self.commit_with(job, None, &mut None)
+    }
+
+    /// Copies what the pages of a job's WRITE need, in one hold of the unit's lock: the pages that its range covers in
+    /// part. Takes the unit's spare pages out for the others. The thread that has the job calls it before it commits
+    /// that, makes the pages with no lock held, and gives them to [`UnitState::commit_with`]. `None` where the job's task
+    /// couldn't run now, its command isn't a WRITE of blocks below the capacity, or memory was refused: then it is
+    /// committed without pages.
+    pub fn start_pages(&mut self, job: &Job) -> Option<StartedWrite>
+        ensures { self.new ≡ self.old }
+    {
+        let ticket = job.ticket();
+        let Turn::Ready = turn_of(self.tasks.task(ticket)?, job) else {
+            return None;
+        };
+        let request = self.tasks.share(ticket, self.alloc)?;
+        match request.command() {
+            Command::Write { lba, blocks } => {
+                let capacity = self.store.capacity();
+                if lba > capacity || u64::from(blocks) > capacity - lba {
+                    return None;
+                }
+                match self.store.edges(lba, u32::from(blocks)) {
+                    Ok(edges) => Some(StartedWrite::new(edges, self.spare_pages.take(), request)),
+                    Err(NoMemory) => None,
+                }
+            }
+            _ => None,
+        }
+    }
+
+    /// Runs the command of a job's task as [`UnitState::commit`] does, with the pages of its WRITE, if they were made.
+    /// They are put in place where they are of this very command and its data and nothing beside its range has changed
+    /// in them since; else the command writes its blocks as ever. The unit keeps the pages that aren't used any more for
+    /// the next WRITE that is prepared, where it has none and they aren't many. Else they come to stand in `spare`, to be
+    /// freed behind the hold of the unit's lock.
+    pub fn commit_with(
+        &mut self,
+        job: &Job,
+        prepared: Option<PreparedWrite>,
+        spare: &mut Option<Prepared>,
+    ) -> Outcome
+        ensures step { Commits self.old job.now result self.new }
+        ensures fits { FitsNeed (need_of job.now.entry.command).into result }
+    {
+        let ticket = job.ticket();
+        let Some(task) = self.tasks.task(ticket) else {
+            return Outcome::Unknown;
+        };
+        match turn_of(task, job) {
+            Turn::Unknown => Outcome::Unknown,
+            Turn::Aborted(reason) => Outcome::Aborted(reason),
+            Turn::Ready => {
+                let unit = Address {
+                    target: self.facts.target,
+                    lun: self.facts.lun,
+                };
+                let command = task.command();
+                let bytes = task.data();
+                self.changes
+                    .note_command(&command, bytes, self.store.capacity(), self.log.len());
+                let pages = pages_for(prepared, task);
+                let keeps = self.log.keeps_replies();
+                let performed = perform(
+                    self.alloc,
+                    &mut self.room,
+                    &mut self.facts,
+                    &mut self.attentions,
+                    &mut self.store,
+                    &command,
+                    bytes,
+                    pages,
+                    spare,
+                    keeps,
+                );
+                keep_pages(&mut self.spare_pages, spare);
+                record_run(&mut self.log, &mut self.tasks, unit, ticket, performed)
+            }
+        }
+    }
+
+    /// Keeps the room of a reply's data for a later command of the unit, where it isn't much. A phase that has answered
+    /// by what came of a commit, and needs it no more, gives it back so.
+    pub fn keep_room(&mut self, outcome: Outcome)
+        ensures { self.new ≡ self.old }
+    {
+        self.keep_data(outcome.into_reply());
+    }
+
+    /// Keeps the room of a reply's data, where it isn't much.
+    #[inline(always)]
+    pub(crate) fn keep_data(&mut self, reply: Option<Reply>)
+        ensures { self.new ≡ self.old }
+    {
+        if let Some(Reply { payload, .. }) = reply {
+            if payload.capacity() > self.room.capacity() && payload.capacity() <= MOST_ROOM {
+                self.room = payload;
+            }
+        }
+    }
+}
