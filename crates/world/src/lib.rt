@@ -12,6 +12,7 @@ mod seat;
 mod service;
 mod sound;
 mod steps;
+mod views;
 mod world;
 
 pub use config::{

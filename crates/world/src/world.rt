@@ -1,10 +1,8 @@
 //! The device.
 
-ghost use Rattle.std.specs.Prelude.{◌≡◌, ◌≤◌, [], length, IfOk, is_some};
+ghost use Rattle.std.specs.Prelude.{◌≡◌, ◌≤◌, [], length, IfOk};
 ghost use Rattle.std.specs.Vec.{vec_capacity};
-ghost use Rattle.std.specs.List.{list_any};
 
-use crate::bay::Bay;
 use crate::cursor::{Cursor, Progress};
 use crate::device::Device;
 use crate::opening::{are_disks_for, disks_of, open_device};
@@ -15,24 +13,13 @@ use config::{Config, StartFault};
 use device_model::Event;
 use device_model::laws::every_run_goes_on;
 use device_model::trace_laws::the_promise_is_kept;
-use guest_mem::GuestMem;
-use ring_core::{QueueLog, RingFault};
 use std::alloc::Global;
 use std::marker::Model;
-use unit_attention::Code;
-use unit_history::{Changes, UnitState};
-
-/// Returns true if a fault of the guest broke a queue.
-fn is_any_broken(bays: &[Bay]) -> bool
-    ensures { result ≡ list_any (λ q. is_some q.ring.broken) bays.now }
-{
-    bays.iter().any(|bay| bay.queue.is_broken())
-}
 
 /// The device: guest memory, its queues, its units and the seats that serve them, between two steps.
 #[derive(Drop)]
 pub struct World {
-    device: Device,
+    pub(crate) device: Device,
 }
 
 impl Model for World {
@@ -47,12 +34,9 @@ impl Model for World {
 }
 
 impl World {
-    ghost use Rattle.std.specs.Prelude.{◌+◌, ◌*◌, true, Ok, [], IfSome, slice_get, MatchResult};
-    ghost use Rattle.std.specs.Option.{option_copied, option_map};
-    ghost use Rattle.ring_core.specs.State.{IsLawful};
+    ghost use Rattle.std.specs.Prelude.{true, Ok, [], MatchResult};
     ghost use Rattle.device_model.specs.Events.{Event as AnEvent, plain_event};
     ghost use Rattle.device_model.specs.World as plain;
-    ghost use Rattle.unit_model.specs.Contents.{capacity_of, pending_of};
     ghost use Rattle.config.specs.Config.{is_config, StartRefusedAs};
     ghost use Rattle.world.specs.Opening.{IsOpening, IsOpeningOver, OpensFor, OpensAnew, OverRefusedAs, AreDisksFor, AreDisksOf};
     ghost use Rattle.world.specs.Sound.{AreFew, IsReached, IsSound};
@@ -63,7 +47,6 @@ impl World {
     ghost use Rattle.world.specs.Settling.{asks, ServesSomeOrWants, ServesOrWants};
     ghost use Rattle.world.specs.Promise.{StepsAsPromised, RunsAsPromised, ServesAsPromised, SettlesAsPromised};
     ghost use Rattle.world.specs.Cursors.{Denies, NoneBefore, TurnsNext};
-    ghost use Rattle.world.specs.Views.{unit_at, IsPlaceOf, fault_of, device_status, GivesBlocks, GivesChanges};
 
     /// Opens the device of a configuration, of which nothing has happened yet. The embedder calls it once for each
     /// device. `BadConfig` exactly where the configuration isn't valid; else `NoMemory` where a growth was refused. The
@@ -158,7 +141,7 @@ impl World {
     }
 
     /// Returns what each step rests on.
-    fn is_sound(&self)
+    pub(crate) fn is_sound(&self)
         ensures sound { IsSound self.now }
         ensures few { AreFew self.now }
     {
@@ -327,154 +310,5 @@ impl World {
         every_run_goes_on();
         the_promise_is_kept();
         self.device.poke(addr, bytes)
-    }
-
-    /// Returns guest memory.
-    pub fn memory(&self) -> &GuestMem
-        ensures { result.now ≡ self.now.memory }
-    {
-        &self.device.memory
-    }
-
-    /// Returns how many queues there are.
-    pub fn queues(&self) -> usize
-        ensures { result ≡ length self.now.queues }
-    {
-        self.device.bays.len()
-    }
-
-    /// Returns how many units there are.
-    pub fn units(&self) -> usize
-        ensures { result ≡ length self.now.units }
-    {
-        self.device.units.len()
-    }
-
-    /// Returns the log of a queue: which chains it accepted, and which were used. `None` where there is no such queue.
-    pub fn log(&self, number: u16) -> Option<&QueueLog>
-        ensures log { option_copied result ≡ option_map (λ q. q.ring.log) (slice_get self.now.queues number) }
-        ensures lawful { IfSome result (λ log. IsLawful number log.now) }
-    {
-        self.is_sound();
-        match self.device.bays.get(number as usize) {
-            Some(bay) => Some(bay.queue.log()),
-            None => None,
-        }
-    }
-
-    /// Returns how many notices a queue's driver wanted; `None` where there is no such queue.
-    pub fn notices(&self, number: u16) -> Option<u64>
-        ensures { result ≡ option_map (λ q. q.notices) (slice_get self.now.queues number) }
-    {
-        match self.device.bays.get(number as usize) {
-            Some(bay) => Some(bay.queue.notices()),
-            None => None,
-        }
-    }
-
-    /// Returns the fault of the guest that broke a queue; `None` where none did, or where there is no such queue.
-    pub fn broken(&self, number: u16) -> Option<RingFault>
-        ensures { result ≡ fault_of (slice_get self.now.queues number) }
-    {
-        match self.device.bays.get(number as usize) {
-            Some(bay) => bay.queue.fault(),
-            None => None,
-        }
-    }
-
-    /// Returns the queues with their slots, of which there are few.
-    pub(crate) fn bays(&self) -> &[Bay]
-        ensures queues { result.now ≡ self.now.queues }
-        ensures few { length result.now ≤ 18 }
-    {
-        self.is_sound();
-        self.device.bays.as_slice()
-    }
-
-    /// Returns the device's status: 64, DEVICE_NEEDS_RESET (VIRTIO 1.2, 2.1), where a queue is broken, else 0.
-    pub fn status(&self) -> u8
-        ensures { result ≡ device_status self.now }
-    {
-        if is_any_broken(self.device.bays.as_slice()) {
-            64
-        } else {
-            0
-        }
-    }
-
-    /// Returns the index in the inventory of the unit of an address, by which an event names it; `None` where there is
-    /// no such unit.
-    pub fn place(&self, target: u8, lun: u16) -> Option<u16>
-        ensures { IsPlaceOf self.now target lun result }
-    {
-        self.is_sound();
-        self.device.place(target, lun)
-    }
-
-    /// Returns the unit of an address; `None` where there is none.
-    pub fn unit(&self, target: u8, lun: u16) -> Option<&UnitState>
-        ensures { option_copied result ≡ unit_at self.now target lun }
-    {
-        self.device
-            .units
-            .iter()
-            .find(|unit| unit.target() == target && unit.lun() == lun)
-    }
-
-    /// Returns the capacity in blocks of the unit of an address; `None` where there is none.
-    pub fn capacity(&self, target: u8, lun: u16) -> Option<u64>
-        ensures { result ≡ option_map (λ u. capacity_of u.opening u.steps) (unit_at self.now target lun) }
-    {
-        match self.unit(target, lun) {
-            Some(unit) => Some(unit.capacity()),
-            None => None,
-        }
-    }
-
-    /// Returns the codes of the unit attention conditions that the unit of an address has pending, the oldest first
-    /// (SAM-5 §5.14); `None` where there is no such unit.
-    pub fn pending(&self, target: u8, lun: u16) -> Option<&[Code]>
-        ensures { option_copied result ≡ option_map (λ u. pending_of u.opening u.steps) (unit_at self.now target lun) }
-    {
-        match self.unit(target, lun) {
-            Some(unit) => Some(unit.pending()),
-            None => None,
-        }
-    }
-
-    /// Returns which blocks of the unit of an address may have changed, as [`UnitState::take_changes`] does, and starts
-    /// anew; `None` where there is no such unit. A host calls it to write a disk through to its file. It takes no memory.
-    pub fn take_changes(&mut self, target: u8, lun: u16) -> Option<Changes>
-        ensures same { self.new ≡ self.old }
-        ensures changes { GivesChanges (unit_at self.old target lun) result }
-    {
-        self.device.take_changes(target, lun)
-    }
-
-    /// Appends the bytes of `count` blocks of a unit from `first` on, 512 of each, as its commands left them. Returns
-    /// false, with the list as it was, where the unit is absent or a block lies at or above its capacity. `NoMemory`
-    /// where the list can't grow.
-    pub fn read_blocks(
-        &self,
-        target: u8,
-        lun: u16,
-        first: u64,
-        count: u32,
-        into: &mut Vec<u8>,
-    ) -> Result<bool, NoMemory>
-        ensures gives { GivesBlocks (unit_at self.now target lun) first count into.old.items result into.new.items }
-        ensures len { IfOk result (λ gave. gave ≡ true → length into.new.items ≡ length into.old.items + 512 * count) }
-    {
-        match self.unit(target, lun) {
-            Some(unit) => {
-                let capacity = unit.capacity();
-                if first > capacity || count as u64 > capacity - first {
-                    return Ok(false);
-                }
-                unit.read_blocks(first, count, into)?;
-                Ok(true)
-            }
-            None => Ok(false),
-        }
     }
 }
