@@ -2,6 +2,7 @@ mod attentions;
 mod commands;
 mod controls;
 mod memory;
+mod named_blocks;
 mod opcodes;
 mod records;
 mod requests;
