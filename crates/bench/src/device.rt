@@ -17,7 +17,7 @@ use std::thread::Threads;
 use workers::{Gate, Host, Point};
 use world::{Config, RING_PACKED, UnitSpec, VERSION_1, World};
 
-/// Where the areas of a request queue lie in what is its own.
+/// The addresses of the areas of a request queue in what is its own.
 pub(crate) const DRIVER: u64 = 0x4000;
 
 const DEVICE: u64 = 0x5000;
@@ -25,21 +25,21 @@ const DEVICE: u64 = 0x5000;
 /// The bytes that a request queue has for its areas.
 pub(crate) const QUEUE: u64 = 0x8000;
 
-/// Where the areas of the other two queues lie.
+/// The addresses of the areas of the other two queues.
 const OTHER_QUEUES: [u32; 2] = [0x1_0000, 0x1_1000];
 
 /// The number of the first unit's request queue.
 const FIRST_QUEUE: u16 = 2;
 
-/// How often a guest looks whether the workers have answered.
+/// The number of times that a guest looks whether the workers have answered.
 const LOOKS: u64 = 10_000_000_000;
 
-/// How long it rests between two looks, and after how many it lets other threads run.
+/// The length of its rest between two looks, and the number of looks after which it lets other threads run.
 const RESTS: u32 = 20;
 
 const YIELDS: u64 = 16;
 
-/// What serves a guest.
+/// A device that serves a guest.
 pub(crate) trait Device {
     /// Writes bytes as the guest.
     fn poke(&mut self, addr: u64, bytes: &[u8]);
@@ -58,7 +58,7 @@ pub(crate) struct Alone {
 }
 
 impl Alone {
-    /// The device of a configuration.
+    /// Makes the device of a configuration.
     pub(crate) fn new(alloc: Global, work: &Work) -> Result<Alone, Failure> {
         Ok(Alone {
             world: World::new(alloc, &config(alloc, work)?)?,
@@ -81,7 +81,8 @@ impl Device for Alone {
     }
 }
 
-/// How many requests of each unit were answered. Two workers count these, so they stand in cache lines of their own.
+/// The number of requests of each unit that were answered. Two workers count these, so they stand in cache lines of
+/// their own.
 #[derive(Drop)]
 pub(crate) struct Answered {
     first: CachePadded<AtomicU64>,
@@ -89,7 +90,7 @@ pub(crate) struct Answered {
 }
 
 impl Answered {
-    /// None yet.
+    /// Makes a count of none.
     pub(crate) fn new() -> Answered {
         Answered {
             first: CachePadded::new(AtomicU64::new(0)),
@@ -139,7 +140,7 @@ where
     C: Ledger + Send + Sync + 'static,
     D: Ledger + Send + Sync + 'static,
 {
-    /// A host of a configuration, with so many workers and these ledgers.
+    /// Makes a host of a configuration, with so many workers and these ledgers.
     pub(crate) fn new(
         rt: &'a R,
         alloc: Global,
@@ -198,7 +199,7 @@ impl<'a, R: Wait, C: Ledger, D: Ledger> Device for Hosted<'a, R, C, D> {
     }
 }
 
-/// Nothing answered yet, for several threads.
+/// Makes a count of none, for several threads.
 fn share(alloc: Global) -> Result<Arc<Answered>, Failure> {
     match Arc::new(alloc, Answered::new()) {
         Ok(answered) => Ok(answered),
@@ -206,7 +207,7 @@ fn share(alloc: Global) -> Result<Arc<Answered>, Failure> {
     }
 }
 
-/// A queue with so many descriptors, whose areas begin here.
+/// Returns the layout of a queue with so many descriptors, whose areas begin here.
 fn small_queue(at: u32) -> Layout {
     let desc = u64::from(at);
     Layout {
@@ -217,7 +218,7 @@ fn small_queue(at: u32) -> Layout {
     }
 }
 
-/// The queue of a unit's requests.
+/// Returns the layout of the queue of a unit's requests.
 fn request_queue(work: &Work, lun: u8) -> Layout {
     let desc = QUEUE * u64::from(lun);
     Layout {
@@ -228,7 +229,7 @@ fn request_queue(work: &Work, lun: u8) -> Layout {
     }
 }
 
-/// Two calm units, each with a request queue.
+/// Makes a configuration of two calm units, each with a request queue.
 fn config(alloc: Global, work: &Work) -> Result<Config, AllocError> {
     let mut queues = Vec::new(alloc);
     for at in OTHER_QUEUES {

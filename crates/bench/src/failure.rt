@@ -4,7 +4,7 @@ use block_store::NoMemory;
 use std::alloc::AllocError;
 use world::StartFault;
 
-/// Why the work wasn't done.
+/// The cause for which the work wasn't done.
 #[derive(Clone, Copy)]
 pub(crate) enum Failure {
     /// A request wasn't served, or its command didn't end with GOOD, or the host didn't add up.

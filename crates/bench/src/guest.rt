@@ -22,7 +22,7 @@ const AVAILABLE: u16 = 0x80;
 
 const USED: u16 = 0x8000;
 
-/// How many descriptors of a split queue there are for each chain.
+/// The number of descriptors of a split queue for each chain.
 const CHAIN: u16 = 4;
 
 /// The value of each byte of a response before it is answered, and, as GOOD has it, once it is (VIRTIO 1.2, 5.6.6.1).
@@ -30,11 +30,11 @@ const OPEN: u8 = 255;
 
 const WELL: u8 = 0;
 
-/// How often a guest looks for the answers of a set of which as many were given.
+/// The number of times that a guest looks for the answers of a set while no more are given.
 const LOOKS: u64 = 10_000_000_000;
 
-/// The bytes of a descriptor of either form: in a split one the last two numbers are flags and next, in a packed
-/// one id and flags.
+/// Returns the bytes of a descriptor of either form: in a split one the last two numbers are flags and next, in a
+/// packed one id and flags.
 fn descriptor(addr: u64, len: u32, pair: [u16; 2]) -> [u8; 16] {
     let [first, second] = pair;
     let mut bytes = [0; 16];
@@ -53,8 +53,8 @@ struct Part {
     flag: u16,
 }
 
-/// The part at a place of a request's chain: the request, the response, and the data, which stand before the response
-/// where the device reads them, and else behind it.
+/// Returns the part at a place of a request's chain: the request, the response, and the data, which stand before the
+/// response where the device reads them, and else behind it.
 fn part_at(work: &Work, lun: u8, number: u16, place: u16) -> Part {
     let data = data_at(work, lun, number);
     match (place, work.kind.data()) {
@@ -81,7 +81,7 @@ fn part_at(work: &Work, lun: u8, number: u16, place: u16) -> Part {
     }
 }
 
-/// The flags of the part at a place, but for those of a round.
+/// Returns the flags of the part at a place, but for those of a round.
 fn flags_at(work: &Work, part: Part, place: u16) -> u16 {
     if place.wrapping_add(1) < work.kind.parts() {
         part.flag | NEXT
@@ -90,7 +90,7 @@ fn flags_at(work: &Work, part: Part, place: u16) -> u16 {
     }
 }
 
-/// What a guest has to make the requests of a unit available again.
+/// A guest, with what it needs to make the requests of a unit available again.
 #[derive(Drop)]
 pub(crate) struct Guest {
     work: Work,
@@ -104,7 +104,7 @@ pub(crate) struct Guest {
     good: u64,
 }
 
-/// The descriptors of a set of a unit's requests on a packed queue.
+/// Returns the descriptors of a set of a unit's requests on a packed queue.
 fn packed_set(
     alloc: Global,
     work: &Work,
@@ -123,7 +123,7 @@ fn packed_set(
     Ok(slots)
 }
 
-/// Those of the sets of the first unit, then of the second's.
+/// Makes those of the sets of the first unit, then of the second's.
 fn packed(alloc: Global, work: &Work, wrap: u16) -> Result<[Vec<u8>; 4], AllocError> {
     Ok([
         packed_set(alloc, work, 0, 0, wrap)?,
@@ -133,7 +133,7 @@ fn packed(alloc: Global, work: &Work, wrap: u16) -> Result<[Vec<u8>; 4], AllocEr
     ])
 }
 
-/// The responses of a set before they are answered.
+/// Returns the responses of a set before they are answered.
 fn responses(alloc: Global, work: &Work) -> Result<Vec<u8>, AllocError> {
     let mut bytes = Vec::new(alloc);
     for _ in 0..work.of_set() {
@@ -142,7 +142,7 @@ fn responses(alloc: Global, work: &Work) -> Result<Vec<u8>, AllocError> {
     Ok(bytes)
 }
 
-/// Whether responses are all there and well: none where one isn't well.
+/// Returns true if responses are all there and well; `None` where one isn't well.
 fn are_well(found: &[u8]) -> Option<bool> {
     let mut are_there = true;
     for response in found.chunks(RESPONSE_BYTES as usize) {
@@ -188,7 +188,7 @@ fn put_all<D: Device>(device: &mut D, work: &Work) {
 }
 
 impl Guest {
-    /// A guest of a device, with all requests in its memory.
+    /// Makes a guest of a device, with all requests in its memory.
     pub(crate) fn new<D: Device>(
         alloc: Global,
         device: &mut D,

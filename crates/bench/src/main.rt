@@ -26,7 +26,7 @@ fn main(rt: HostRuntime) -> ExitCode {
     ExitCode::from(status(&rt))
 }
 
-/// The exit status.
+/// Returns the exit status.
 fn status<R: Env + Clock + Threads + Wait + Print + AllocGlobal + Copy + Send + 'static>(
     rt: &R,
 ) -> u8 {

@@ -5,10 +5,10 @@ ghost use Rattle.std.specs.Prelude.{◌<◌, ◌^◌};
 use crate::work::{Kind, RESPONSE_BYTES, Work};
 use ring_core::Form;
 
-/// Where the responses lie, one behind the other.
+/// The address of the responses, which lie one behind the other.
 const RESPONSES: u64 = 0x2_0000;
 
-/// Where the requests lie, each with its data in an area of its own.
+/// The address of the requests, each with its data in an area of its own.
 const AREAS: u64 = 0x3_0000;
 
 /// The bytes of an area, and where the data begin in it.
@@ -46,7 +46,7 @@ impl Kind {
         }
     }
 
-    /// How many descriptors its chain has.
+    /// Returns how many descriptors its chain has.
     pub(crate) fn parts(self) -> u16 {
         match self.data() {
             Data::Absent => 2,
@@ -56,12 +56,12 @@ impl Kind {
 }
 
 impl Work {
-    /// In how many sets its requests are made available again: two, where there are two.
+    /// Returns in how many sets its requests are made available again: two, where there are two.
     pub(crate) fn sets(&self) -> u16 {
         if self.depth > 1 { 2 } else { 1 }
     }
 
-    /// The requests of a set.
+    /// Returns the requests of a set.
     pub(crate) fn of_set(&self) -> u16 {
         if self.depth > 1 {
             self.depth / 2
@@ -70,12 +70,13 @@ impl Work {
         }
     }
 
-    /// The number of the first request of a set among those of a unit, and of the one behind its last.
+    /// Returns the number of the first request of a set among those of a unit, and of the one behind its last.
     pub(crate) fn first_of(&self, set: u16) -> u16 {
         self.of_set().wrapping_mul(set)
     }
 
-    /// How many descriptors a queue has: of a split one a power of two, and of a packed one as many as one round takes.
+    /// Returns how many descriptors a queue has: of a split one a power of two, and of a packed one as many as one
+    /// round takes.
     pub(crate) fn slots(&self) -> u16 {
         let of_each = match self.form {
             Form::Split => 4,
@@ -85,7 +86,7 @@ impl Work {
     }
 }
 
-/// Where the request lies that has this number among those of a unit.
+/// Returns where the request lies that has this number among those of a unit.
 pub(crate) fn request_at(work: &Work, lun: u8, number: u16) -> u64
     ensures { result < 2 ^ 42 }
 {
@@ -93,12 +94,12 @@ pub(crate) fn request_at(work: &Work, lun: u8, number: u16) -> u64
     AREAS + before * AREA
 }
 
-/// Where its data lie, or go.
+/// Returns where its data lie, or go.
 pub(crate) fn data_at(work: &Work, lun: u8, number: u16) -> u64 {
     request_at(work, lun, number) + DATA
 }
 
-/// Where its response goes: behind those before it.
+/// Returns where its response goes: behind those before it.
 pub(crate) fn response_at(work: &Work, lun: u8, number: u16) -> u64 {
     let before = u64::from(lun) * u64::from(work.depth) + u64::from(number);
     RESPONSES + before * u64::from(RESPONSE_BYTES)

@@ -22,7 +22,7 @@ const ROUNDS: u64 = 3;
 
 const WORKERS: [u16; 2] = [0, 2];
 
-/// The word that names a form.
+/// Returns the word that names a form.
 fn word_of(form: Form) -> &'static str {
     match form {
         Form::Split => "split",
@@ -30,7 +30,7 @@ fn word_of(form: Form) -> &'static str {
     }
 }
 
-/// What went wrong, as an exit status.
+/// Returns the exit status of what went wrong.
 fn status_of(failure: Failure) -> u8 {
     match failure {
         Failure::NotServed => 1,
@@ -38,14 +38,14 @@ fn status_of(failure: Failure) -> u8 {
     }
 }
 
-/// How many requests ended well, and how long all took, where there is a clock.
+/// The number of requests that ended well, and the time that all took, where there is a clock.
 #[derive(Drop)]
 struct Done {
     good: u64,
     took: Option<Duration>,
 }
 
-/// How long it is since a moment.
+/// Returns how long it is since a moment.
 fn elapsed<R: Clock>(rt: &R, start: Option<Instant>) -> Option<Duration> {
     start?.elapsed(rt).ok()
 }
@@ -71,7 +71,7 @@ fn serve_hosted<R: Clock + Threads + Wait + Copy + Send + 'static>(
     serve_hosted_with::<Brand, Brand, R>(rt, alloc, work, Blank::new(64), Blank::new(9))
 }
 
-/// The same, with these ledgers.
+/// Does the same with these ledgers.
 fn serve_hosted_with<C, D, R>(
     rt: &R,
     alloc: Global,

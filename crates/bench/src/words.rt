@@ -3,13 +3,13 @@
 use crate::work::{KINDS, Kind, Work};
 use ring_core::Form;
 
-/// How many requests may be made available at once.
+/// The numbers of requests that may be made available at once.
 const DEPTHS: [u16; 9] = [1, 2, 4, 8, 16, 32, 64, 128, 256];
 
 /// The most workers.
 const MOST_WORKERS: u16 = 8;
 
-/// What a word names as a kind of request.
+/// Returns the kind of request that a word names.
 fn kind_of(word: &str) -> Option<Kind> {
     for kind in KINDS {
         if kind.word() == word {
@@ -19,7 +19,7 @@ fn kind_of(word: &str) -> Option<Kind> {
     None
 }
 
-/// What a word names as a form of queue.
+/// Returns the form of queue that a word names.
 fn form_of(word: &str) -> Option<Form> {
     match word {
         "split" => Some(Form::Split),
@@ -28,7 +28,8 @@ fn form_of(word: &str) -> Option<Form> {
     }
 }
 
-/// The work that these words name: a kind, a form, a depth that is a power of two, rounds, and the number of workers.
+/// Returns the work that these words name: a kind, a form, a depth that is a power of two, rounds, and the number of
+/// workers.
 pub(crate) fn asked(words: &[String]) -> Option<Work> {
     let [kind, form, depth, rounds, workers] = words else {
         return None;

@@ -10,7 +10,7 @@ pub(crate) const RESPONSE_BYTES: u32 = 108;
 /// The blocks of 64 KiB.
 const LARGE: u16 = 128;
 
-/// What each request does.
+/// The act of each request.
 #[derive(Clone, Copy)]
 pub(crate) enum Kind {
     /// TEST UNIT READY.
@@ -35,7 +35,7 @@ pub(crate) const KINDS: [Kind; 5] = [
 ];
 
 impl Kind {
-    /// The word that names it.
+    /// Returns the word that names it.
     pub(crate) fn word(self) -> &'static str {
         match self {
             Kind::Ready => "tur",
@@ -46,7 +46,7 @@ impl Kind {
         }
     }
 
-    /// How many blocks one request covers at most.
+    /// Returns how many blocks one request covers at most.
     pub(crate) fn blocks(self) -> u16 {
         match self {
             Kind::Ready => 0,
@@ -56,17 +56,17 @@ impl Kind {
     }
 }
 
-/// What is to be done.
+/// The work that is to be done.
 #[derive(Clone, Copy)]
 pub(crate) struct Work {
-    /// What each request does.
+    /// The act of each request.
     pub(crate) kind: Kind,
     /// The form of the queues.
     pub(crate) form: Form,
-    /// How many requests are made available at once on a queue: a power of two, at most 256.
+    /// The number of requests that are made available at once on a queue: a power of two, at most 256.
     pub(crate) depth: u16,
-    /// How often.
+    /// The number of times that they are made available.
     pub(crate) rounds: u64,
-    /// How many workers serve, at most 8; with none of them the device of one thread does.
+    /// The number of workers that serve, at most 8. With none the device of one thread serves.
     pub(crate) workers: u16,
 }

@@ -23,7 +23,7 @@ fn play_all(rt: &impl Abort, alloc: Global, rows: &[Row]) -> Result<(), Fail> {
     Ok(())
 }
 
-/// Each value is called as its row says.
+/// Asserts that each value is called as its row says.
 pub(crate) fn are_called<D: Display>(
     rt: &impl Abort,
     alloc: Global,

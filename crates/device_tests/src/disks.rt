@@ -20,14 +20,14 @@ const WRITE: Sent = Sent {
 /// The unit with two blocks less.
 const SHORTER: UnitSpec = UnitSpec { blocks: 6, ..UNIT };
 
-/// How a disk fared that was handed from one device to the next.
+/// The fate of a disk that was handed from one device to the next.
 #[derive(Clone, Copy, PartialEq, Eq)]
 pub struct HandedOn {
-    /// How many disks the first device left, and how many blocks the first of them has.
+    /// The number of disks that the first device left, and of blocks of the first of them.
     pub left: (usize, Option<u64>),
-    /// Whether a device of another capacity refused the disks as bad, and how many it left then.
+    /// True if a device of another capacity refused the disks as bad, and the number of disks that it left then.
     pub refused: (bool, usize),
-    /// How many disks the second device left to its host once it was open.
+    /// The number of disks that the second device left to its host once it was open.
     pub taken: usize,
     /// The first byte of block 2 of the second device's unit.
     pub byte: Option<u8>,
@@ -46,8 +46,8 @@ fn close(world: World, alloc: Global) -> Result<Vec<PagedStore>, NoMemory> {
     }
 }
 
-/// The disks of a device of one unit of 8 blocks, over a disk of zeros, after a WRITE and a resize; `None` where it
-/// didn't open.
+/// Returns the disks of a device of one unit of 8 blocks, over a disk of zeros, after a WRITE and a resize; `None`
+/// where it didn't open.
 fn written(alloc: Global) -> Result<Option<Vec<PagedStore>>, NoMemory> {
     let mut disks = Vec::new(alloc);
     if disks.push(PagedStore::new(alloc, 8)).is_err() {
@@ -64,7 +64,7 @@ fn written(alloc: Global) -> Result<Option<Vec<PagedStore>>, NoMemory> {
     }
 }
 
-/// The first byte of block 2 of the unit 0:0.
+/// Returns the first byte of block 2 of the unit 0:0.
 fn byte_of(alloc: Global, world: &World) -> Result<Option<u8>, NoMemory> {
     let mut block = Vec::new(alloc);
     world.read_blocks(0, 0, 2, 1, &mut block)?;

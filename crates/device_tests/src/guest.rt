@@ -26,7 +26,7 @@ pub const ORDERED: Sent = Sent {
     ..READY
 };
 
-/// For an absent target.
+/// A request for an absent target.
 pub const ABSENT: Sent = Sent {
     bytes: &[1, 7, 0x40],
     ..READY
@@ -75,10 +75,10 @@ pub const BUFFER: Sent = Sent {
     writable: 16,
 };
 
-/// Where the first queue's buffers lie: each queue has 4,096 bytes there, each chain 1,024 of them.
+/// The address of the first queue's buffers: each queue has 4,096 bytes there, each chain 1,024 of them.
 const BUFFERS: u32 = 16384;
 
-/// How far behind what the device reads it writes.
+/// The distance from what the device reads to what it writes.
 const RESPONSE: u64 = 64;
 
 /// Descriptor flags (VIRTIO 1.2, 2.7.5).
@@ -86,12 +86,12 @@ const NEXT: u16 = 1;
 
 const WRITE: u16 = 2;
 
-/// The guest's write. It has no contract, so that what `poke` promises is read once.
+/// Writes as the guest does. It has no contract, so that what `poke` promises is read once.
 pub(crate) fn poke(world: &mut World, addr: u64, bytes: &[u8]) -> bool {
     world.poke(addr, bytes)
 }
 
-/// Whether memory has these bytes there.
+/// Returns true if memory has these bytes there.
 pub(crate) fn has(world: &World, addr: u64, bytes: &[u8]) -> bool {
     match world.memory().slice(addr, bytes.len()) {
         Ok(here) => here == bytes,
@@ -99,7 +99,7 @@ pub(crate) fn has(world: &World, addr: u64, bytes: &[u8]) -> bool {
     }
 }
 
-/// Where the bytes of a queue's chain lie.
+/// Returns where the bytes of a queue's chain lie.
 fn place_of(queue: u16, number: u8) -> u32 {
     BUFFERS + 4096 * u32::from(queue) + 1024 * u32::from(number)
 }
@@ -150,7 +150,7 @@ pub(crate) fn send(world: &mut World, number: u8, sent: Sent) -> bool {
         && poke(world, area + 1026, &(u16::from(number) + 1).to_le_bytes())
 }
 
-/// Whether the device's answer of a chain begins so.
+/// Returns true if the device's answer of a chain begins so.
 pub(crate) fn was_answered(world: &World, queue: u16, number: u8, bytes: &[u8]) -> bool {
     has(world, u64::from(place_of(queue, number)) + RESPONSE, bytes)
 }

@@ -23,7 +23,7 @@ pub enum Move {
     Raise,
 }
 
-/// The guest's write.
+/// Makes the event of the guest's write.
 fn poke(alloc: Global, addr: u64, bytes: &[u8]) -> Result<Event, NoMemory> {
     match Vec::from_slice(alloc, bytes) {
         Ok(bytes) => Ok(Event::Poke(addr, bytes)),
@@ -31,7 +31,7 @@ fn poke(alloc: Global, addr: u64, bytes: &[u8]) -> Result<Event, NoMemory> {
     }
 }
 
-/// The event that a move names.
+/// Returns the event that a move names.
 fn event(alloc: Global, named: Move) -> Result<Event, NoMemory> {
     Ok(match named {
         Move::Poke(addr, bytes) => return poke(alloc, addr, bytes),
@@ -51,7 +51,7 @@ fn event(alloc: Global, named: Move) -> Result<Event, NoMemory> {
     })
 }
 
-/// The events that moves name.
+/// Returns the events that moves name.
 fn events(alloc: Global, moves: &[Move]) -> Result<Vec<Event>, NoMemory> {
     let mut events = Vec::new(alloc);
     for named in moves {
@@ -63,29 +63,30 @@ fn events(alloc: Global, moves: &[Move]) -> Result<Vec<Event>, NoMemory> {
     Ok(events)
 }
 
-/// How many events change something, taken one after another. It has no contract, so that what `run` promises is read
-/// once.
+/// Takes events one after another, and returns how many change something. It has no contract, so that what `run`
+/// promises is read once.
 fn run_all(world: &mut World, events: &[Event]) -> Result<u64, NoMemory> {
     Ok(world.run(events)?)
 }
 
-/// How many moves change something, taken one after another.
+/// Takes moves one after another, and returns how many change something.
 pub(crate) fn run(alloc: Global, world: &mut World, moves: &[Move]) -> Result<u64, NoMemory> {
     let events = events(alloc, moves)?;
     run_all(world, events.as_slice())
 }
 
-/// Whether an event changes something. It has no contract, so that what `step` promises is read once.
+/// Takes an event, and returns true if it changes something. It has no contract, so that what `step` promises is read
+/// once.
 fn take(world: &mut World, event: Event) -> Result<bool, NoMemory> {
     Ok(world.step(event)?)
 }
 
-/// Whether a move changes something, taken as a step.
+/// Takes a move as a step, and returns true if it changes something.
 pub(crate) fn step(alloc: Global, world: &mut World, named: Move) -> Result<bool, NoMemory> {
     take(world, event(alloc, named)?)
 }
 
-/// The events of the device on a queue and a seat, and the operator's on the unit at a place.
+/// Returns the events of the device on a queue and a seat, and the operator's on the unit at a place.
 fn all_of(queue: u16, seat: u16, place: u16) -> [Move; 13] {
     [
         Move::Fetch(queue),
@@ -104,7 +105,7 @@ fn all_of(queue: u16, seat: u16, place: u16) -> [Move; 13] {
     ]
 }
 
-/// How many of these change something, each of which is taken as a step.
+/// Takes each of these as a step, and returns how many change something.
 pub(crate) fn step_all(
     alloc: Global,
     world: &mut World,

@@ -5,7 +5,7 @@ use ring_core::Layout;
 use std::alloc::Global;
 use world::{Config, StartFault, UnitSpec, VERSION_1, World};
 
-/// Where four queues lie, each in 4,096 bytes of its own.
+/// The addresses of four queues, each in 4,096 bytes of its own.
 static AREAS: [u64; 4] = [0, 4096, 8192, 12288];
 
 /// The numbers of a configuration.
@@ -44,7 +44,7 @@ fn layouts(alloc: Global, slots: u16) -> Result<Vec<Layout>, NoMemory> {
     Ok(queues)
 }
 
-/// The configuration of a device with four queues.
+/// Returns the configuration of a device with four queues.
 pub(crate) fn config_of(
     alloc: Global,
     numbers: Numbers,

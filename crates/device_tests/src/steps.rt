@@ -15,7 +15,7 @@ pub const UNIT: UnitSpec = UnitSpec {
     calm: true,
 };
 
-/// What the driver or the device does, and what comes of it.
+/// An act of the driver or of the device, and what comes of it.
 #[derive(Clone, Copy)]
 pub enum Step {
     /// The driver writes bytes at an address: whether they lie in memory.
@@ -24,10 +24,10 @@ pub enum Step {
     Send(u8, Sent),
     /// One event, and whether it changes something.
     Event(Move, bool),
-    /// Of these events, taken one after another, so many change something.
+    /// Takes these events one after another, of which so many change something.
     Run(&'static [Move], u64),
-    /// Of the device's events on this queue and this seat, and the operator's on the unit at this place, none changes
-    /// something.
+    /// Takes each of the device's events on this queue and this seat, and the operator's on the unit at this place.
+    /// None changes something.
     Idle(u16, u16, u16),
     /// The device settles in so many steps.
     Settle(u64),
@@ -35,17 +35,17 @@ pub enum Step {
     Serve(u32, u64, u64, bool),
     /// Guest memory has these bytes at an address.
     Has(u64, &'static [u8]),
-    /// What the device wrote for a queue's chain of a number begins so.
+    /// The first bytes that the device wrote for a queue's chain of a number.
     Answer(u16, u8, &'static [u8]),
     /// The history of the unit 0:0.
     History(&'static [StepKind]),
     /// The device's status.
     Status(u8),
-    /// How many notices a queue gave.
+    /// The number of notices that a queue gave.
     Notices(u16, u64),
-    /// Whether a target's LUN 0 has this block.
+    /// A block of a target's LUN 0, and whether it has it.
     Block(u8, u64, bool),
-    /// How many blocks a target's LUN 0 has.
+    /// The number of blocks of a target's LUN 0.
     Capacity(u8, Option<u64>),
     /// The place of the unit of a target and a LUN.
     Place(u8, u16, Option<u16>),
@@ -61,7 +61,7 @@ pub struct Row {
     pub steps: &'static [Step],
 }
 
-/// Whether the unit 0:0 has this history.
+/// Returns true if the unit 0:0 has this history.
 fn has_history(world: &World, steps: &[StepKind]) -> bool {
     let Some(unit) = world.unit(0, 0) else {
         return false;
@@ -74,13 +74,13 @@ fn has_history(world: &World, steps: &[StepKind]) -> bool {
     unit.steps() == steps.len() as u64
 }
 
-/// In how many steps the device settles. It has no contract, so that what `settle` promises is read once.
+/// Settles the device, and returns in how many steps. It has no contract, so that what `settle` promises is read once.
 pub(crate) fn settle(world: &mut World) -> Result<u64, NoMemory> {
     Ok(world.settle()?)
 }
 
-/// Whether the device serves some queues in so many steps, and says so whether more are left. It has no contract, so
-/// that what `serve` promises is read once.
+/// Returns true if the device serves some queues in so many steps, and says so whether more are left. It has no
+/// contract, so that what `serve` promises is read once.
 fn serves(
     world: &mut World,
     queues: u32,
@@ -92,13 +92,13 @@ fn serves(
     Ok(served.steps == steps && served.more == more)
 }
 
-/// Whether a target's LUN 0 has a block.
+/// Returns true if a target's LUN 0 has a block.
 fn has_block(alloc: Global, world: &World, target: u8, lba: u64) -> Result<bool, NoMemory> {
     let mut block = Vec::new(alloc);
     world.read_blocks(target, 0, lba, 1, &mut block)
 }
 
-/// Whether memory, a unit or a number is as a step says.
+/// Returns true if memory, a unit or a number is as a step says.
 fn shows(world: &World, step: Step) -> bool {
     match step {
         Step::Has(addr, bytes) => has(world, addr, bytes),
@@ -112,7 +112,7 @@ fn shows(world: &World, step: Step) -> bool {
     }
 }
 
-/// Whether a step goes as its row says.
+/// Returns true if a step goes as its row says.
 fn takes(alloc: Global, world: &mut World, named: Step) -> Result<bool, NoMemory> {
     match named {
         Step::Poke(addr, bytes, fits) => Ok(poke(world, addr, bytes) == fits),
@@ -127,7 +127,7 @@ fn takes(alloc: Global, world: &mut World, named: Step) -> Result<bool, NoMemory
     }
 }
 
-/// The number of the first step that doesn't go as it says, from 0.
+/// Returns the number of the first step that doesn't go as it says, from 0.
 fn first_wrong_step(
     alloc: Global,
     world: &mut World,

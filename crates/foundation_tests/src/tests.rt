@@ -15,11 +15,11 @@ use std::process::Abort;
 
 /// A row of a table: what is asked for, and what comes of it.
 trait Row {
-    /// Whether that comes of it.
+    /// Returns true if that comes of it.
     fn holds(&self) -> bool;
 }
 
-/// The number of the first row that doesn't hold, from 0.
+/// Returns the number of the first row that doesn't hold, from 0.
 fn first_wrong<R: Row>(rows: &[R]) -> Option<usize> {
     for number in 0..rows.len() {
         if !rows[number].holds() {
@@ -29,12 +29,12 @@ fn first_wrong<R: Row>(rows: &[R]) -> Option<usize> {
     None
 }
 
-/// None was wrong.
+/// Asserts that none was wrong.
 fn none_is(rt: &impl Abort, wrong: Option<usize>) {
     assert_eq!(rt; wrong, None);
 }
 
-/// All rows hold.
+/// Asserts that all rows hold.
 fn all_hold<R: Row>(rt: &impl Abort, rows: &[R]) {
     none_is(rt, first_wrong(rows));
 }

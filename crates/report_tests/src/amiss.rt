@@ -7,11 +7,10 @@ use report::{CloseFault, Report, examine};
 use std::alloc::Global;
 use unit_history::{Note, Receipt, ReceiptOrNote, UnitState};
 
-/// What is amiss in a report of a device whose queue 2 had a request that ran, and whose queue 3 had one that was
-/// refused.
+/// The fault of a report of a device whose queue 2 had a request that ran, and whose queue 3 had one that was refused.
 #[derive(Clone, Copy)]
 pub enum Amiss {
-    /// Nothing.
+    /// Nothing is amiss.
     Nothing,
     /// The receipt of the first is lost.
     ReceiptLost,
@@ -25,17 +24,17 @@ pub enum Amiss {
     NoteOfAnother,
     /// The note of the second is lost, and so is the receipt of the first.
     BothLost,
-    /// In place of the second unit stands one where the first ran, too.
+    /// A unit where the first ran, too, stands in place of the second.
     RunTwice,
     /// The second unit, of which nothing was asked, is gone.
     UnitGone,
-    /// In place of the second unit stands another.
+    /// Another unit stands in place of the second.
     OtherUnit(Other),
-    /// In place of the event queue stands a second control queue.
+    /// A second control queue stands in place of the event queue.
     OtherQueue,
 }
 
-/// What another unit in place of the second has.
+/// The difference of another unit in place of the second.
 #[derive(Clone, Copy)]
 pub enum Other {
     /// Another target.
@@ -56,7 +55,7 @@ struct Closed {
     notes: Vec<Note>,
 }
 
-/// The first request ran, and the second wasn't asked.
+/// Makes what a host keeps where the first request ran, and the second wasn't asked.
 fn with_first(alloc: Global) -> Option<Closed> {
     let mut parts = Parts::new(alloc)?;
     let ReceiptOrNote::Receipt(receipt) = parts.serve(alloc, &RUN)? else {
@@ -71,7 +70,7 @@ fn with_first(alloc: Global) -> Option<Closed> {
     })
 }
 
-/// Both were served.
+/// Makes what a host keeps where both were served.
 fn with_both(alloc: Global) -> Option<Closed> {
     let mut closed = with_first(alloc)?;
     let note = closed.parts.refuse(&REFUSED)?;
@@ -79,12 +78,12 @@ fn with_both(alloc: Global) -> Option<Closed> {
     Some(closed)
 }
 
-/// A note of the first chain of queue 2, as another device gave it.
+/// Makes a note of the first chain of queue 2, as another device gave it.
 fn another_note(alloc: Global) -> Option<Note> {
     Parts::new(alloc)?.refuse(&REFUSED_FIRST)
 }
 
-/// How the unit is wanted that stands in place of the second.
+/// Returns how the unit is wanted that stands in place of the second.
 fn spec_of(other: Other) -> UnitSpec {
     let second = UNITS[1];
     match other {
@@ -101,25 +100,25 @@ fn spec_of(other: Other) -> UnitSpec {
     }
 }
 
-/// The unit that stands in place of the second.
+/// Makes the unit that stands in place of the second.
 fn other_unit(alloc: Global, other: Other) -> Option<UnitState> {
     unit(alloc, &spec_of(other), !matches!(other, Other::Replies))
 }
 
-/// In place of the last unit stands this one.
+/// Puts this unit in place of the last one.
 fn put_last(units: &mut Vec<UnitState>, unit: UnitState) -> Option<()> {
     units.pop()?;
     units.push(unit).ok()
 }
 
-/// In place of the event queue stands a second control queue.
+/// Puts a second control queue in place of the event queue.
 fn put_queue(alloc: Global, parts: &mut Parts) -> Option<()> {
     let other = queue(alloc, 0, &parts.memory)?;
     *parts.queues.get_mut(1)? = other;
     Some(())
 }
 
-/// With what is amiss.
+/// Makes what a host keeps with what is amiss.
 fn closed_with(alloc: Global, amiss: Amiss) -> Option<Closed> {
     let mut closed = with_both(alloc)?;
     match amiss {
@@ -160,7 +159,7 @@ fn closed_with(alloc: Global, amiss: Amiss) -> Option<Closed> {
     Some(closed)
 }
 
-/// What is said of a report with this amiss; `None` where memory was refused.
+/// Returns what is said of a report with this amiss; `None` where memory was refused.
 pub fn fault_of(alloc: Global, amiss: Amiss) -> Option<Option<CloseFault>> {
     let closed = closed_with(alloc, amiss)?;
     let report = Report {

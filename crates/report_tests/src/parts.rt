@@ -13,7 +13,7 @@ const QUEUES: u16 = 4;
 /// The bytes of a page.
 const PAGE: u64 = 4096;
 
-/// Where a queue's request stands in its page, and where its response.
+/// The place of a queue's request in its page, and of its response.
 const REQUEST: u64 = 3072;
 
 const RESPONSE: u64 = 3584;
@@ -48,7 +48,7 @@ pub(crate) struct Parts {
     pub inventory: Inventory,
 }
 
-/// The inventory of the units.
+/// Makes the inventory of the units.
 fn inventory() -> Option<Inventory> {
     if UNITS.len() > MOST_UNITS || !are_rising(&UNITS) {
         return None;
@@ -56,12 +56,12 @@ fn inventory() -> Option<Inventory> {
     Some(Inventory::new(&UNITS))
 }
 
-/// A unit of the target, which keeps replies or doesn't; `None` where memory was refused.
+/// Makes a unit of the target, which keeps replies or doesn't; `None` where memory was refused.
 pub(crate) fn unit(alloc: Global, spec: &UnitSpec, keeps_replies: bool) -> Option<UnitState> {
     UnitState::new(alloc, spec, &[0, 1], keeps_replies).ok()
 }
 
-/// The units; `None` where memory was refused.
+/// Makes the units; `None` where memory was refused.
 fn units(alloc: Global) -> Option<Vec<UnitState>> {
     let mut units = Vec::new(alloc);
     for spec in &UNITS {
@@ -70,7 +70,7 @@ fn units(alloc: Global) -> Option<Vec<UnitState>> {
     Some(units)
 }
 
-/// The queue of a number, in its page.
+/// Makes the queue of a number, in its page.
 pub(crate) fn queue(alloc: Global, number: u16, memory: &GuestMem) -> Option<Queue> {
     let page = PAGE * u64::from(number);
     let layout = Layout {
@@ -85,7 +85,7 @@ pub(crate) fn queue(alloc: Global, number: u16, memory: &GuestMem) -> Option<Que
     Queue::new(alloc, Form::Split, number, layout, 0, memory).ok()
 }
 
-/// The queues; `None` where memory was refused.
+/// Makes the queues; `None` where memory was refused.
 fn queues(alloc: Global, memory: &GuestMem) -> Option<Vec<Queue>> {
     let mut queues = Vec::new(alloc);
     for number in 0..QUEUES {
@@ -114,7 +114,7 @@ pub(crate) fn put(memory: &mut GuestMem, number: u16, request: &[u8], room: u32)
     let _ = memory.write(page + 1026, &[1]);
 }
 
-/// How many chains of a queue were used, below 256.
+/// Returns how many chains of a queue were used, below 256.
 pub(crate) fn used(memory: &GuestMem, number: u16) -> Option<u8> {
     let mut bytes = [0];
     memory
@@ -124,7 +124,7 @@ pub(crate) fn used(memory: &GuestMem, number: u16) -> Option<u8> {
 }
 
 impl Parts {
-    /// A device of which nothing was asked; `None` where memory was refused.
+    /// Makes a device of which nothing was asked; `None` where memory was refused.
     pub(crate) fn new(alloc: Global) -> Option<Parts> {
         let memory = GuestMem::new(alloc, 4).ok()?;
         let queues = queues(alloc, &memory)?;

@@ -30,7 +30,7 @@ const EVENT: Ticket = Ticket {
     number: 0,
 };
 
-/// What is amiss, and what is said of it.
+/// The faults of reports, and what is said of each.
 static ROWS: [(Amiss, Option<CloseFault>); 14] = [
     (Amiss::Nothing, None),
     (Amiss::ReceiptLost, Some(CloseFault::Outstanding(FIRST))),
@@ -60,7 +60,7 @@ static ROWS: [(Amiss, Option<CloseFault>); 14] = [
     (Amiss::OtherQueue, Some(CloseFault::Outstanding(EVENT))),
 ];
 
-/// The number of the first row of which something else is said, from 0.
+/// Returns the number of the first row of which something else is said, from 0.
 fn first_wrong(alloc: Global) -> Option<usize> {
     for number in 0..ROWS.len() {
         let (amiss, fault) = ROWS[number];

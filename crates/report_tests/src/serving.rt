@@ -11,7 +11,7 @@ use phases::{Hand, OpenFunction, Slot};
 use std::alloc::Global;
 use unit_history::{Cause, Job, JobList, Note, ReceiptOrNote};
 
-/// What a guest asks for: TEST UNIT READY of a unit on a queue.
+/// A request of a guest: TEST UNIT READY of a unit on a queue.
 #[derive(Clone, Copy)]
 pub(crate) struct Asked {
     pub queue: u16,
@@ -42,7 +42,7 @@ pub(crate) const REFUSED_FIRST: Asked = Asked {
     ..REFUSED
 };
 
-/// The bytes that ask for it (VIRTIO 1.2 §5.6.6.1).
+/// Returns the bytes that ask for it (VIRTIO 1.2 §5.6.6.1).
 fn request(asked: &Asked) -> [u8; 51] {
     let mut bytes = [0; 51];
     bytes[0] = 1;
@@ -56,7 +56,7 @@ const RESET: [u8; 24] = [
     0, 0, 0, 0, 5, 0, 0, 0, 1, 0, 0, 0, 0, 0, 0, 0, 0, 0, 0, 0, 0, 0, 0, 0,
 ];
 
-/// The first chain of a request queue is taken.
+/// Takes the first chain of a request queue.
 fn fetch_at<B: UnitBays + QueueBays>(
     bays: &mut B,
     at: usize,
@@ -72,7 +72,7 @@ fn fetch_at<B: UnitBays + QueueBays>(
     }
 }
 
-/// The request that arrived enters.
+/// Has the request that arrived enter.
 fn enter<B: UnitBays + QueueBays>(
     bays: &mut B,
     mut slot: Slot,
@@ -88,7 +88,7 @@ fn enter<B: UnitBays + QueueBays>(
     None
 }
 
-/// A job is committed.
+/// Commits a job.
 fn commit<B: UnitBays + QueueBays>(bays: &mut B, job: Job) -> Option<Hand> {
     let mut hand = Hand::taken(job);
     let place = hand.committing_unit()?;
@@ -101,7 +101,7 @@ fn commit<B: UnitBays + QueueBays>(bays: &mut B, job: Job) -> Option<Hand> {
     None
 }
 
-/// The job in the hand is answered: what that leaves.
+/// Answers the job in the hand, and returns what that leaves.
 fn answer<B: UnitBays + QueueBays>(bays: &mut B, hand: &mut Hand) -> Option<ReceiptOrNote> {
     let at = usize::from(hand.answering_queue()?);
     if at >= bays.queue_count() {
@@ -110,7 +110,7 @@ fn answer<B: UnitBays + QueueBays>(bays: &mut B, hand: &mut Hand) -> Option<Rece
     answer_on(bays, at, hand)
 }
 
-/// Whether the task in the hand leaves.
+/// Has the task in the hand leave, and returns true if it does.
 fn leaves<B: UnitBays + QueueBays>(bays: &mut B, mut hand: Hand, mut out: JobList) -> Option<bool> {
     let place = hand.leaving_unit()?;
     if place >= bays.unit_count() {
@@ -120,7 +120,7 @@ fn leaves<B: UnitBays + QueueBays>(bays: &mut B, mut hand: Hand, mut out: JobLis
     Some(did && hand.is_empty())
 }
 
-/// The first chain of a request queue is served from its fetch to its leave: what it leaves.
+/// Serves the first chain of a request queue from its fetch to its leave, and returns what it leaves.
 fn serve_at<B: UnitBays + QueueBays>(
     alloc: Global,
     bays: &mut B,
@@ -137,7 +137,7 @@ fn serve_at<B: UnitBays + QueueBays>(
     None
 }
 
-/// The first chain of a request queue is answered directly: the note of it.
+/// Answers the first chain of a request queue directly, and returns the note of it.
 fn refuse_at<B: UnitBays + QueueBays>(
     bays: &mut B,
     at: usize,
@@ -151,7 +151,7 @@ fn refuse_at<B: UnitBays + QueueBays>(
     if slot.is_empty() { note } else { None }
 }
 
-/// The first chain of the control queue is taken, which opens a function.
+/// Takes the first chain of the control queue, which opens a function.
 fn open<B: UnitBays + QueueBays>(bays: &mut B, inventory: &Inventory) -> Option<OpenFunction> {
     if bays.queue_count() == 0 {
         return None;
@@ -163,7 +163,7 @@ fn open<B: UnitBays + QueueBays>(bays: &mut B, inventory: &Inventory) -> Option<
     }
 }
 
-/// The function marks its unit, and sees that it is clear.
+/// Has the function mark its unit, and see that it is clear.
 fn mark_and_check<B: UnitBays + QueueBays>(
     bays: &mut B,
     mut function: OpenFunction,
@@ -180,7 +180,7 @@ fn mark_and_check<B: UnitBays + QueueBays>(
     None
 }
 
-/// Whether a function on the control queue is served.
+/// Serves a function on the control queue, and returns true if it is answered.
 fn serves_function<B: UnitBays + QueueBays>(
     alloc: Global,
     bays: &mut B,
@@ -195,7 +195,7 @@ fn serves_function<B: UnitBays + QueueBays>(
     Some(answer_tmf_on(bays, 0, &mut function) && function.is_none())
 }
 
-/// Whether the operator resets the first unit, and the event goes to the one buffer of the event queue.
+/// Resets the first unit as the operator, and returns true if the event goes to the one buffer of the event queue.
 fn serves_event<B: UnitBays + QueueBays>(alloc: Global, bays: &mut B) -> Option<bool> {
     let (mut port, mut waiting) = (EventPort::new(alloc, 8).ok()?, WaitingEvents::new(alloc));
     let mut out = JobList::with_limit(alloc, 64).ok()?;
@@ -214,7 +214,7 @@ fn serves_event<B: UnitBays + QueueBays>(alloc: Global, bays: &mut B) -> Option<
 }
 
 impl Parts {
-    /// What one thread lends of it.
+    /// Returns what one thread lends of it.
     fn lend<'a>(&'a mut self) -> (Plain<'a>, &'a Inventory) {
         let bays = Plain {
             units: self.units.as_mut_slice(),
@@ -224,48 +224,48 @@ impl Parts {
         (bays, &self.inventory)
     }
 
-    /// The first chain of a request queue is made available and taken.
+    /// Makes the first chain of a request queue available, and takes it.
     pub(crate) fn fetch(&mut self, asked: &Asked) -> Option<Slot> {
         put(&mut self.memory, asked.queue, &request(asked), 108);
         let (mut bays, inventory) = self.lend();
         fetch_at(&mut bays, usize::from(asked.queue), inventory)
     }
 
-    /// A request is served from its fetch to its leave: what it leaves.
+    /// Serves a request from its fetch to its leave, and returns what it leaves.
     pub(crate) fn serve(&mut self, alloc: Global, asked: &Asked) -> Option<ReceiptOrNote> {
         put(&mut self.memory, asked.queue, &request(asked), 108);
         let (mut bays, inventory) = self.lend();
         serve_at(alloc, &mut bays, usize::from(asked.queue), inventory)
     }
 
-    /// A request that needs no unit is answered: the note of it.
+    /// Answers a request that needs no unit, and returns the note of it.
     pub(crate) fn refuse(&mut self, asked: &Asked) -> Option<Note> {
         put(&mut self.memory, asked.queue, &request(asked), 108);
         let (mut bays, inventory) = self.lend();
         refuse_at(&mut bays, usize::from(asked.queue), inventory)
     }
 
-    /// Whether a LOGICAL UNIT RESET is served.
+    /// Serves a LOGICAL UNIT RESET, and returns true if it is answered.
     fn reset(&mut self, alloc: Global) -> Option<bool> {
         put(&mut self.memory, 0, &RESET, 1);
         let (mut bays, inventory) = self.lend();
         serves_function(alloc, &mut bays, inventory)
     }
 
-    /// Whether the operator resets the first unit, and the guest is told so.
+    /// Resets the first unit as the operator, and returns true if the guest is told so.
     fn tell(&mut self, alloc: Global) -> Option<bool> {
         put(&mut self.memory, 1, &[0], 16);
         let (mut bays, _) = self.lend();
         serves_event(alloc, &mut bays)
     }
 
-    /// Whether a queue's chain was used, and no other of it.
+    /// Returns true if a queue's chain was used, and no other of it.
     fn has_used(&self, queue: u16) -> bool {
         used(&self.memory, queue) == Some(1)
     }
 }
 
-/// Whether a request of each kind is served, each once; `None` where memory was refused.
+/// Serves a request of each kind once, and returns true if each is answered; `None` where memory was refused.
 pub fn serves_plain(alloc: Global) -> Option<bool> {
     let mut parts = Parts::new(alloc)?;
     let ReceiptOrNote::Receipt(_) = parts.serve(alloc, &RUN)? else {
@@ -277,7 +277,7 @@ pub fn serves_plain(alloc: Global) -> Option<bool> {
     Some(has_run && was_reset && was_told)
 }
 
-/// How many chains were used once a request was refused.
+/// Refuses a request, and returns how many chains were used then.
 pub fn refuses_plain(alloc: Global) -> Option<u8> {
     let mut parts = Parts::new(alloc)?;
     if parts.refuse(&REFUSED_FIRST)?.cause() != Cause::Direct {

@@ -25,7 +25,7 @@ fn scatters_into(memory: &mut GuestMem, chain: &Chain, at: u32, bytes: &[u8]) ->
 }
 
 impl<R: Ring> Bench<R> {
-    /// A queue of which nothing was fetched, with a memory that it fits.
+    /// Makes a queue of which nothing was fetched, with a memory that it fits.
     pub fn of(alloc: Global, ring: R, memory: GuestMem) -> Bench<R> {
         Bench {
             ring,
@@ -45,7 +45,7 @@ impl<R: Ring> Bench<R> {
         None
     }
 
-    /// Whether a move goes as it says.
+    /// Returns true if a move goes as it says.
     fn makes(&mut self, part: Move) -> bool {
         match part {
             Move::Put(addr, bytes) => self.put(addr, bytes),
@@ -74,7 +74,7 @@ impl<R: Ring> Bench<R> {
         }
     }
 
-    /// Whether the bytes lie in memory, where they then stand.
+    /// Writes bytes, and returns true if they lie in memory.
     fn put(&mut self, addr: u64, bytes: &[u8]) -> bool {
         self.memory.write(addr, bytes).is_ok()
     }
@@ -128,7 +128,7 @@ impl<R: Ring> Bench<R> {
         true
     }
 
-    /// A fetch. A queue that doesn't fit finds nothing.
+    /// Fetches a chain. A queue that doesn't fit finds nothing.
     fn fetch(&mut self) -> Result<Option<Fetched>, RingFault> {
         if !self.ring.fits(&self.memory) {
             return Ok(None);
@@ -136,7 +136,7 @@ impl<R: Ring> Bench<R> {
         self.ring.fetch(&self.memory)
     }
 
-    /// Whether a fetch finds no chain.
+    /// Returns true if a fetch finds no chain.
     fn finds_nothing(&mut self) -> bool {
         match self.fetch() {
             Ok(None) => true,
@@ -144,7 +144,7 @@ impl<R: Ring> Bench<R> {
         }
     }
 
-    /// Whether a fetch answers the fault of this number.
+    /// Returns true if a fetch answers the fault of this number.
     fn faults(&mut self, number: u8) -> bool {
         match self.fetch() {
             Ok(_) => false,
@@ -152,7 +152,7 @@ impl<R: Ring> Bench<R> {
         }
     }
 
-    /// Whether a fetch finds a chain of this number, id and slots of queue 2.
+    /// Returns true if a fetch finds a chain of this number, id and slots of queue 2.
     fn finds(&mut self, number: u64, id: u16, slots: u16) -> bool {
         match self.fetch() {
             Ok(Some(Fetched { chain, bytes })) => {
@@ -165,7 +165,7 @@ impl<R: Ring> Bench<R> {
         }
     }
 
-    /// Whether the chain found last has so many parts and bytes.
+    /// Returns true if the chain found last has so many parts and bytes.
     fn holds(&self, parts: usize, readable: u64, writable: u64, read: usize) -> bool {
         match self.outstanding.last() {
             Some(chain) => {
@@ -198,7 +198,7 @@ impl<R: Ring> Bench<R> {
         (ticket.queue, ticket.number) == (2, number)
     }
 
-    /// Whether memory has these bytes there.
+    /// Returns true if memory has these bytes there.
     fn has(&self, addr: u64, bytes: &[u8]) -> bool {
         match self.memory.slice(addr, bytes.len()) {
             Ok(here) => here == bytes,
@@ -206,7 +206,7 @@ impl<R: Ring> Bench<R> {
         }
     }
 
-    /// Whether the driver's wish is this.
+    /// Returns true if the driver's wish is this.
     fn wants_notice(&self, wanted: bool) -> bool {
         self.ring.fits(&self.memory) && self.ring.wants_notice(&self.memory) == wanted
     }

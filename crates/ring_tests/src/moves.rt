@@ -17,7 +17,7 @@ pub const INDIRECT_DESC: u64 = 1 << 28;
 /// VIRTIO_F_EVENT_IDX (VIRTIO 1.2, 6).
 pub const EVENT_IDX: u64 = 1 << 29;
 
-/// What the driver does in memory or the device with the queue, and what comes of it.
+/// An act of the driver in memory or of the device with the queue, and what comes of it.
 #[derive(Clone, Copy)]
 pub enum Move {
     /// The driver writes bytes at an address.
@@ -51,27 +51,27 @@ pub enum Move {
     Read(&'static [u8]),
     /// Bytes are written into the chain found last, from this byte of its writable parts on.
     Scatter(u32, &'static [u8]),
-    /// Of the outstanding chains the one found last is completed with this length; its number.
+    /// Completes the outstanding chain found last with this length; its number.
     Complete(u32, u64),
     /// The log has so many used chains.
     Used(usize),
     /// Guest memory has these bytes at an address.
     Has(u64, &'static [u8]),
-    /// Whether the driver wants a notice.
+    /// True if the driver wants a notice.
     Notice(bool),
 }
 
 /// A queue in memory, what is done with it, and what that shows.
 #[derive(Clone, Copy)]
 pub struct Row {
-    /// What the row shows.
+    /// The text of what the row shows.
     pub shows: &'static str,
     /// The pages of guest memory.
     pub pages: u32,
-    /// Where the queue lies.
+    /// The place of the queue.
     pub layout: Layout,
     /// The features that were agreed.
     pub features: u64,
-    /// What is done.
+    /// The moves, one after the other.
     pub moves: &'static [Move],
 }

@@ -15,7 +15,7 @@ use std::test::Fail;
 
 /// A queue that tests make. That has no contract, so that what `new` promises is read once.
 trait Made: Ring + Drop {
-    /// A queue of this number and layout, for which these features were agreed.
+    /// Makes a queue of this number and layout, for which these features were agreed.
     fn made(
         alloc: Global,
         number: u16,
@@ -49,7 +49,7 @@ impl Made for PackedRing {
     }
 }
 
-/// A queue of this layout in fresh memory, for which these features were agreed.
+/// Makes a queue of this layout in fresh memory, for which these features were agreed.
 fn bench<R: Made>(
     alloc: Global,
     pages: u32,
@@ -64,13 +64,13 @@ fn bench<R: Made>(
     Ok(Bench::of(alloc, ring, memory))
 }
 
-/// The number of the first move of a row that doesn't go as it says, from 0.
+/// Returns the number of the first move of a row that doesn't go as it says, from 0.
 fn first_wrong<R: Made>(alloc: Global, row: &Row) -> Result<Option<usize>, Fail> {
     let mut bench = bench::<R>(alloc, row.pages, row.layout, row.features)?;
     Ok(bench.first_wrong(row.moves))
 }
 
-/// The number of the first row that doesn't go as it says, from 0.
+/// Returns the number of the first row that doesn't go as it says, from 0.
 fn first_wrong_row<R: Made>(alloc: Global, rows: &[Row]) -> Result<Option<usize>, Fail> {
     for number in 0..rows.len() {
         if first_wrong::<R>(alloc, &rows[number])?.is_some() {
@@ -80,7 +80,7 @@ fn first_wrong_row<R: Made>(alloc: Global, rows: &[Row]) -> Result<Option<usize>
     Ok(None)
 }
 
-/// None was wrong.
+/// Asserts that none was wrong.
 fn none_is(rt: &impl Abort, wrong: Option<usize>) {
     assert_eq!(rt; wrong, None);
 }

@@ -7,7 +7,7 @@ use unit_model::Rule;
 /// The queue that all chains come from.
 pub(crate) const QUEUE: u16 = 2;
 
-/// What stands before the number of a chain of the other queue, in the names of jobs.
+/// The number that is added to that of a chain of the other queue, in the names of jobs.
 pub const OTHER: u64 = 1000;
 
 /// The byte that is written into blocks.
@@ -50,7 +50,7 @@ pub const READ: Asked = Asked {
 pub struct Sent {
     /// The place of its unit on the bench.
     pub unit: usize,
-    /// Whether it goes into the other queue, whose tickets are those of the first.
+    /// True if it goes into the other queue, whose tickets are those of the first.
     pub to_other: bool,
     /// The driver's identifier.
     pub id: u64,
@@ -81,7 +81,7 @@ pub const HEAD: Sent = Sent {
     ..SIMPLE
 };
 
-/// What becomes of a request that came to its unit.
+/// The fate of a request that came to its unit.
 #[derive(Clone, Copy, PartialEq)]
 pub enum Comes {
     Run,
@@ -90,7 +90,7 @@ pub enum Comes {
     Stale,
 }
 
-/// What becomes of a job at its commit.
+/// The fate of a job at its commit.
 #[derive(Clone, Copy, PartialEq)]
 pub enum Ends {
     /// GOOD, with so many bytes of data.
@@ -100,7 +100,7 @@ pub enum Ends {
     Aborted,
     Reset,
     Unknown,
-    /// None of these.
+    /// Another end.
     Otherwise,
 }
 
@@ -128,33 +128,33 @@ pub enum Act {
     Aborts(u64),
     /// A reset with BUS DEVICE RESET FUNCTION OCCURRED: its place, and which jobs it hands out.
     Reset(Place, &'static [u64]),
-    /// Whether what was alive at a place and met there has left.
+    /// Says whether what was alive at a place and met there has left.
     ClearOf(Place, bool),
-    /// Whether a task that the rule meets is alive.
+    /// Says whether a task that the rule meets is alive.
     IsAlive(Rule, bool),
     /// The whole history of the first unit.
     History(&'static [Told]),
-    /// How many steps a unit's history has.
+    /// Says how many steps a unit's history has.
     Steps(usize, u64),
-    /// How many steps of the first unit are folded.
+    /// Says how many steps of the first unit are folded.
     Base(u64),
     /// All bytes of a block of the first unit.
     Block(u64, u8),
     /// All bytes of the data of a receipt.
     Data(usize, u8),
-    /// Whether a unit confirms a receipt; they are numbered from 0, by their commits.
+    /// Says whether a unit confirms a receipt; they are numbered from 0, by their commits.
     Confirms(usize, usize, bool),
     /// The reply of a receipt is taken.
     TakeReply(usize),
 }
 
-/// What is done on a bench of its own, and what that shows.
+/// The acts on a bench of its own, and what they show.
 pub struct Row {
-    /// What the row shows.
+    /// The text of what the row shows.
     pub shows: &'static str,
-    /// Whether the units keep replies.
+    /// True if the units keep replies.
     pub keeps_replies: bool,
-    /// What is done.
+    /// The acts, one after the other.
     pub acts: &'static [Act],
 }
 
@@ -166,7 +166,7 @@ pub enum Told {
     Left(u64),
 }
 
-/// The ticket of this number.
+/// Returns the ticket of this number.
 fn ticket(number: u64) -> Ticket {
     Ticket {
         queue: QUEUE,
@@ -175,7 +175,7 @@ fn ticket(number: u64) -> Ticket {
 }
 
 impl Told {
-    /// As a unit tells it.
+    /// Returns the kind that a unit tells.
     pub(crate) fn kind(&self) -> StepKind {
         match *self {
             Told::Entered(number) => StepKind::Enter(ticket(number)),

@@ -38,12 +38,12 @@ struct Bench {
     hand: Hand,
 }
 
-/// A unit of target 0. It has no contract, so that what `new` promises is read once.
+/// Makes a unit of target 0. It has no contract, so that what `new` promises is read once.
 fn new_unit(alloc: Global, spec: &UnitSpec, keeps_replies: bool) -> Result<UnitState, NoMemory> {
     Ok(UnitState::new(alloc, spec, &[0, 1], keeps_replies)?)
 }
 
-/// Whether one more unit of target 0 can be had.
+/// Adds one more unit of target 0, and returns true if it can be had.
 fn adds_unit(
     alloc: Global,
     units: &mut Vec<UnitState>,
@@ -56,7 +56,7 @@ fn adds_unit(
     }
 }
 
-/// The units; `None` where memory was refused.
+/// Makes the units; `None` where memory was refused.
 fn units_of(alloc: Global, keeps_replies: bool) -> Option<Vec<UnitState>> {
     let mut units = Vec::new(alloc);
     if adds_unit(alloc, &mut units, &CALM, keeps_replies)
@@ -95,7 +95,7 @@ impl Bench {
         None
     }
 
-    /// The number of an act that doesn't go as it says, unless memory was refused and the units serve on.
+    /// Returns the number of an act that doesn't go as it says, unless memory was refused and the units serve on.
     fn wrong_after(&mut self, goes: Result<bool, NoMemory>, number: usize) -> Option<usize> {
         if goes == Err(NoMemory) && self.serves_on() {
             None
@@ -104,7 +104,7 @@ impl Bench {
         }
     }
 
-    /// Whether an act goes as it says.
+    /// Returns true if an act goes as it says.
     fn makes(&mut self, act: Act) -> Result<bool, NoMemory> {
         match act {
             Act::Enter(name, sent, comes) => self.enters(&sent, name, comes),
@@ -123,7 +123,7 @@ impl Bench {
         }
     }
 
-    /// Whether an act goes as it says that asks and changes nothing.
+    /// Returns true if an act that asks, and changes nothing, goes as it says.
     fn shows(&self, act: Act) -> bool {
         match act {
             Act::Steps(unit, steps) => match self.units.get(unit) {
@@ -142,7 +142,7 @@ impl Bench {
         }
     }
 
-    /// Whether a block of the first unit has this byte everywhere.
+    /// Returns true if a block of the first unit has this byte everywhere.
     fn has_block(&self, number: u64, byte: u8) -> Result<bool, NoMemory> {
         match self.units.first() {
             Some(unit) => has_bytes(self.alloc, unit, number, byte),
@@ -150,7 +150,7 @@ impl Bench {
         }
     }
 
-    /// A request is fetched and enters: the name of its job, and what it becomes.
+    /// Has a request fetched and enter, and returns the name of its job, and what it becomes.
     fn enter(&mut self, sent: &Sent) -> Result<Option<(u64, Comes)>, NoMemory> {
         let Some(arrival) = self.ports.arrive(sent)? else {
             return Ok(None);
@@ -189,13 +189,13 @@ impl Bench {
         }
     }
 
-    /// Whether a request enters so, with a job of this name.
+    /// Returns true if a request enters so, with a job of this name.
     fn enters(&mut self, sent: &Sent, name: u64, comes: Comes) -> Result<bool, NoMemory> {
         let came = self.enter(sent)?;
         Ok(came == Some((name, comes)))
     }
 
-    /// So many requests enter and run, with jobs named from this number on.
+    /// Has so many requests enter and run, with jobs named from this number on.
     fn fill(&mut self, name: u64, count: u64) -> Result<bool, NoMemory> {
         for number in 0..count {
             let came = self.enter(&SIMPLE)?;
@@ -226,7 +226,7 @@ impl Bench {
         Ok(true)
     }
 
-    /// A job in hand is committed at a unit.
+    /// Commits a job in hand at a unit.
     fn commit(&mut self, unit: usize, name: u64) -> Result<Ends, NoMemory> {
         match self.units.get_mut(unit) {
             Some(unit) => self.hand.commit(unit, name),
@@ -234,13 +234,13 @@ impl Bench {
         }
     }
 
-    /// Whether a job in hand ends so at its commit.
+    /// Returns true if a job in hand ends so at its commit.
     fn commits(&mut self, unit: usize, name: u64, ends: Ends) -> Result<bool, NoMemory> {
         let found = self.commit(unit, name)?;
         Ok(found == ends)
     }
 
-    /// The chain of a job in hand is completed: whether its task leaves.
+    /// Completes the chain of a job in hand, and returns true if its task leaves.
     fn leave(&mut self, name: u64) -> Option<bool> {
         let job = self.hand.take(name)?;
         let unit = self.units.get_mut(job.unit())?;
@@ -248,12 +248,12 @@ impl Bench {
         self.hand.leave(unit, answered)
     }
 
-    /// Whether the task of a job leaves, or not, and these are handed out.
+    /// Returns true if the task of a job leaves, or not, and these are handed out.
     fn leaves(&mut self, name: u64, has_left: bool, names: &[u64]) -> bool {
         self.leave(name) == Some(has_left) && self.hand.gets(names)
     }
 
-    /// Whether an abort at the first unit takes this place, and these are handed out.
+    /// Returns true if an abort at the first unit takes this place, and these are handed out.
     fn aborts(&mut self, rule: Rule, place: Place, names: &[u64]) -> Result<bool, NoMemory> {
         match self.units.first_mut() {
             Some(unit) => {
@@ -264,7 +264,7 @@ impl Bench {
         }
     }
 
-    /// Whether so many aborts of all tasks of the first unit take the next places, and nothing is handed out.
+    /// Returns true if so many aborts of all tasks of the first unit take the next places, and nothing is handed out.
     fn aborts_all(&mut self, count: u64) -> Result<bool, NoMemory> {
         for _ in 0..count {
             let Some(unit) = self.units.first() else {
@@ -278,7 +278,7 @@ impl Bench {
         Ok(true)
     }
 
-    /// Whether a reset of the first unit takes this place, and these are handed out.
+    /// Returns true if a reset of the first unit takes this place, and these are handed out.
     fn resets(&mut self, place: Place, names: &[u64]) -> Result<bool, NoMemory> {
         match self.units.first_mut() {
             Some(unit) => {
@@ -289,7 +289,7 @@ impl Bench {
         }
     }
 
-    /// Whether the job that was had last is committed and its chain completed, and it or nothing leaves.
+    /// Returns true if the job that was had last is committed and its chain completed, and it or nothing leaves.
     fn ends_one(&mut self) -> bool {
         match self.hand.last() {
             Some((name, unit)) => {
@@ -301,7 +301,7 @@ impl Bench {
         }
     }
 
-    /// Whether all jobs end, in hand and handed out.
+    /// Returns true if all jobs end, in hand and handed out.
     fn ends_all(&mut self) -> bool {
         for _ in 0..MOST_JOBS {
             if self.hand.last().is_none() {
@@ -314,7 +314,7 @@ impl Bench {
         false
     }
 
-    /// Whether another task enters and runs. A ticket that the other queue's chains came up to is passed over.
+    /// Returns true if another task enters and runs. A ticket that the other queue's chains came up to is passed over.
     fn runs_another(&mut self) -> bool {
         match self.enter(&SIMPLE) {
             Ok(Some((_, Comes::Run))) => true,
@@ -326,7 +326,7 @@ impl Bench {
         }
     }
 
-    /// Whether, after memory was refused, all tasks end and leave, and another enters, runs and leaves.
+    /// Returns true if all tasks end and leave after memory was refused, and another enters, runs and leaves.
     fn serves_on(&mut self) -> bool {
         self.hand.take_all()
             && self.ends_all()
@@ -335,7 +335,7 @@ impl Bench {
             && self.is_idle()
     }
 
-    /// Whether no task of any unit is alive.
+    /// Returns true if no task of any unit is alive.
     fn is_idle(&self) -> bool {
         for unit in &self.units {
             if unit.is_alive(Rule::All) {
@@ -356,7 +356,7 @@ fn has_history(unit: &UnitState, steps: &[Told]) -> bool {
     unit.steps() == steps.len() as u64 && unit.step(steps.len() as u64).is_none()
 }
 
-/// Whether a unit shows what an act says.
+/// Returns true if a unit shows what an act says.
 fn is_so(unit: &UnitState, act: Act) -> bool {
     match act {
         Act::ClearOf(place, is_clear) => unit.clear_of(place) == is_clear,
@@ -367,7 +367,7 @@ fn is_so(unit: &UnitState, act: Act) -> bool {
     }
 }
 
-/// Whether a block of a unit has this byte everywhere.
+/// Returns true if a block of a unit has this byte everywhere.
 fn has_bytes(alloc: Global, unit: &UnitState, number: u64, byte: u8) -> Result<bool, NoMemory> {
     if number >= unit.capacity() {
         return Ok(false);

@@ -8,13 +8,13 @@ use unit_attention::Code;
 use unit_history::{Arrival, Entered, Job, JobList, Outcome, Place, Receipt, StepKind, UnitState};
 use unit_model::{Reason, Rule};
 
-/// Whether a history that had so many steps is longer by this one, or by none.
+/// Returns true if a history that had so many steps is longer by this one, or by none.
 fn is_told(unit: &UnitState, before: u64, step: Option<StepKind>) -> bool {
     let now = before.saturating_add(u64::from(step.is_some()));
     unit.steps() == now && unit.step(before) == step
 }
 
-/// What became of an arrival.
+/// The fate of an arrival.
 #[derive(Drop)]
 pub(crate) struct Came {
     /// `None` where memory was refused.
@@ -22,11 +22,11 @@ pub(crate) struct Came {
     /// Its job, where the caller got it.
     pub(crate) job: Option<Job>,
     step: Option<StepKind>,
-    /// Whether the history says the same.
+    /// True if the history says the same.
     pub(crate) is_told: bool,
 }
 
-/// The parts of an answer of enter.
+/// Returns the parts of an answer of `enter`.
 fn parts_of(entered: Entered, ticket: Ticket) -> Came {
     let (comes, job, step) = match entered {
         Entered::Run(job) => (Some(Comes::Run), Some(job), Some(StepKind::Enter(ticket))),
@@ -43,7 +43,7 @@ fn parts_of(entered: Entered, ticket: Ticket) -> Came {
     }
 }
 
-/// An arrival enters.
+/// Has an arrival enter.
 pub(crate) fn enter(unit: &mut UnitState, arrival: Arrival) -> Came {
     let ticket = arrival.ticket();
     let before = unit.steps();
@@ -52,7 +52,7 @@ pub(crate) fn enter(unit: &mut UnitState, arrival: Arrival) -> Came {
     came
 }
 
-/// What a reply says.
+/// Returns what a reply says.
 fn ends_of(reply: &Reply) -> Ends {
     match reply.sense {
         None => {
@@ -72,7 +72,7 @@ fn ends_of(reply: &Reply) -> Ends {
     }
 }
 
-/// What a receipt says.
+/// Returns what a receipt says.
 pub(crate) fn ends_of_receipt(receipt: &Receipt) -> Ends {
     match receipt.reply() {
         Some(reply) => ends_of(reply),
@@ -80,7 +80,7 @@ pub(crate) fn ends_of_receipt(receipt: &Receipt) -> Ends {
     }
 }
 
-/// Which step an outcome says.
+/// Returns which step an outcome says.
 fn step_of(outcome: &Outcome, ticket: Ticket) -> Option<StepKind> {
     match outcome {
         Outcome::Reply(_) => Some(StepKind::Commit(ticket)),
@@ -89,7 +89,7 @@ fn step_of(outcome: &Outcome, ticket: Ticket) -> Option<StepKind> {
     }
 }
 
-/// A job is committed. `None` where the history doesn't say the same.
+/// Commits a job. `None` where the history doesn't say the same.
 pub(crate) fn commit(unit: &mut UnitState, job: &Job) -> Option<Outcome> {
     let before = unit.steps();
     let outcome = unit.commit(job);
@@ -104,7 +104,7 @@ pub(crate) fn commit(unit: &mut UnitState, job: &Job) -> Option<Outcome> {
 /// The places of a list of jobs that these calls want free.
 const PLACES: usize = 64;
 
-/// Whether the task of a completed chain leaves. `None` where the history doesn't say the same.
+/// Has the task of a completed chain leave, and returns true if it does. `None` where the history doesn't say the same.
 pub(crate) fn leave(unit: &mut UnitState, answered: Answered, out: &mut JobList) -> Option<bool> {
     if out.limit().saturating_sub(out.len()) < PLACES {
         return None;
@@ -124,8 +124,8 @@ pub(crate) fn leave(unit: &mut UnitState, answered: Answered, out: &mut JobList)
     }
 }
 
-/// The place of a step, where it is the one before which so many stood and the history says the same; `NoMemory` where
-/// that was answered and the history is as it was.
+/// Returns the place of a step, where so many stood before it and the history says the same; `NoMemory` where that was
+/// answered and the history is as it was.
 fn place_told(
     unit: &UnitState,
     before: u64,
@@ -150,7 +150,7 @@ fn place_told(
     }
 }
 
-/// An abort.
+/// Aborts.
 pub(crate) fn abort(
     unit: &mut UnitState,
     rule: Rule,
@@ -164,7 +164,7 @@ pub(crate) fn abort(
     place_told(unit, before, answer, StepKind::Abort(rule))
 }
 
-/// A reset.
+/// Resets.
 pub(crate) fn reset(unit: &mut UnitState, out: &mut JobList) -> Result<Option<Place>, NoMemory> {
     if out.limit().saturating_sub(out.len()) < PLACES {
         return Ok(None);
@@ -174,7 +174,7 @@ pub(crate) fn reset(unit: &mut UnitState, out: &mut JobList) -> Result<Option<Pl
     place_told(unit, before, answer, StepKind::Reset)
 }
 
-/// How a job ends where it ends without a reply.
+/// Returns how a job ends where it ends without a reply.
 pub(crate) fn ends_without_reply(reason: Reason) -> Ends {
     match reason {
         Reason::Aborted => Ends::Aborted,

@@ -12,7 +12,7 @@ use unit_model::Rule;
 /// More jobs than a row has.
 pub(crate) const MOST_JOBS: usize = 256;
 
-/// The name of the job of this number.
+/// Returns the name of the job of this number.
 pub(crate) fn name_of(number: u64, is_other: bool) -> u64 {
     if is_other {
         number.saturating_add(OTHER)
@@ -21,7 +21,7 @@ pub(crate) fn name_of(number: u64, is_other: bool) -> u64 {
     }
 }
 
-/// The name of a job.
+/// Returns the name of a job.
 fn name_of_job(job: &Job) -> u64 {
     name_of(
         job.ticket().number,
@@ -29,12 +29,12 @@ fn name_of_job(job: &Job) -> u64 {
     )
 }
 
-/// Where the job of this name is.
+/// Returns where the job of this name is.
 fn place_of(jobs: &[Job], name: u64) -> Option<usize> {
     jobs.iter().position(|job| name_of_job(job) == name)
 }
 
-/// Whether jobs have these names.
+/// Returns true if jobs have these names.
 fn are_named(jobs: &[Job], names: &[u64]) -> bool {
     if jobs.len() != names.len() {
         return false;
@@ -56,7 +56,7 @@ pub(crate) struct Hand {
 }
 
 impl Hand {
-    /// Nothing, and room for more than a row has; `None` where memory was refused.
+    /// Makes a hand with nothing, and room for more than a row has; `None` where memory was refused.
     pub(crate) fn new(alloc: Global) -> Option<Hand> {
         let out = JobList::with_limit(alloc, MOST_JOBS).ok()?;
         let jobs = Vec::with_capacity(alloc, MOST_JOBS).ok()?;
@@ -86,7 +86,7 @@ impl Hand {
         }
     }
 
-    /// The name of the job that was had last, and its unit.
+    /// Returns the name of the job that was had last, and its unit.
     pub(crate) fn last(&self) -> Option<(u64, usize)> {
         let job = self.jobs.last()?;
         Some((name_of_job(job), job.unit()))
@@ -115,7 +115,7 @@ impl Hand {
         }
     }
 
-    /// A job is committed at a unit.
+    /// Commits a job at a unit.
     pub(crate) fn commit(&mut self, unit: &mut UnitState, name: u64) -> Result<Ends, NoMemory> {
         let Some(place) = place_of(self.jobs.as_slice(), name) else {
             return Ok(Ends::Otherwise);
@@ -129,7 +129,7 @@ impl Hand {
         }
     }
 
-    /// How a job ends. Its receipt is kept.
+    /// Returns how a job ends, and keeps its receipt.
     fn end(&mut self, outcome: Outcome) -> Result<Ends, NoMemory> {
         match outcome {
             Outcome::Reply(receipt) => {
@@ -146,12 +146,12 @@ impl Hand {
         }
     }
 
-    /// Whether the task of a completed chain leaves.
+    /// Has the task of a completed chain leave, and returns true if it does.
     pub(crate) fn leave(&mut self, unit: &mut UnitState, answered: Answered) -> Option<bool> {
         calls::leave(unit, answered, &mut self.out)
     }
 
-    /// An abort.
+    /// Aborts.
     pub(crate) fn abort(
         &mut self,
         unit: &mut UnitState,
@@ -160,12 +160,12 @@ impl Hand {
         calls::abort(unit, rule, &mut self.out)
     }
 
-    /// A reset.
+    /// Resets.
     pub(crate) fn reset(&mut self, unit: &mut UnitState) -> Result<Option<Place>, NoMemory> {
         calls::reset(unit, &mut self.out)
     }
 
-    /// Whether a receipt had a reply, which is taken.
+    /// Takes a receipt's reply, and returns true if it had one.
     pub(crate) fn take_reply(&mut self, number: usize) -> bool {
         match self.receipts.get_mut(number) {
             Some(receipt) => receipt.take_reply().is_some(),
@@ -186,7 +186,7 @@ impl Hand {
         None
     }
 
-    /// Whether the data of a receipt are 512 times this byte.
+    /// Returns true if the data of a receipt are 512 times this byte.
     pub(crate) fn has_data(&self, number: usize, byte: u8) -> bool {
         match self.receipts.get(number) {
             Some(receipt) => match receipt.reply() {

@@ -17,7 +17,7 @@ pub(crate) const PAGES: u32 = 8;
 
 const OTHER_PAGES: u32 = 9;
 
-/// Where the queue lies: 256 descriptors, of which each request takes two.
+/// The place of the queue: 256 descriptors, of which each request takes two.
 const PLACE: Layout = Layout {
     size: 256,
     desc: 0,
@@ -25,10 +25,10 @@ const PLACE: Layout = Layout {
     device: 8192,
 };
 
-/// Where each request stands while it is fetched, with its data behind it.
+/// The address of each request while it is fetched, with its data behind it.
 const REQUEST: u64 = 16384;
 
-/// Where each response would stand.
+/// The address of each response.
 const RESPONSE: u64 = 20480;
 
 /// VIRTQ_DESC_F_NEXT (VIRTIO 1.2, 2.7.5).
@@ -53,7 +53,7 @@ struct Port {
 }
 
 impl Port {
-    /// A queue of which nothing was fetched, in fresh memory of so many pages; `None` where memory was refused.
+    /// Makes a queue of which nothing was fetched, in fresh memory of so many pages; `None` where memory was refused.
     fn new(alloc: Global, pages: u32) -> Option<Port> {
         if pages > 65536 {
             return None;
@@ -64,7 +64,7 @@ impl Port {
         }
     }
 
-    /// A queue of which nothing was fetched.
+    /// Makes a queue of which nothing was fetched.
     fn of(alloc: Global, memory: GuestMem) -> Option<Port> {
         match SplitRing::new(alloc, QUEUE, PLACE, 0, &memory) {
             Ok(ring) => Some(Port { memory, ring }),
@@ -115,7 +115,7 @@ impl Port {
         self.write(4098, &count.wrapping_add(1).to_le_bytes());
     }
 
-    /// A fetch. A memory that doesn't fit is a fault.
+    /// Fetches a chain. A memory that doesn't fit is a fault.
     fn fetch(&mut self) -> Result<Option<Fetched>, RingFault> {
         if !self.ring.fits(&self.memory) {
             return Err(RingFault::BufferOutside);
@@ -123,7 +123,7 @@ impl Port {
         self.ring.fetch(&self.memory)
     }
 
-    /// A request is put into the queue and fetched.
+    /// Puts a request into the queue, and fetches it.
     fn send(&mut self, lun: u8, sent: &Sent) -> Result<Option<Fetched>, RingFault> {
         self.put(lun, sent);
         self.fetch()
@@ -138,7 +138,7 @@ impl Port {
     }
 }
 
-/// The inventory of units.
+/// Makes the inventory of units.
 fn inventory_of(units: &[UnitSpec]) -> Option<Inventory> {
     if units.len() > MOST_UNITS || !are_rising(units) {
         return None;
@@ -146,7 +146,7 @@ fn inventory_of(units: &[UnitSpec]) -> Option<Inventory> {
     Some(Inventory::new(units))
 }
 
-/// What is decided of a fetched request: its request for a unit of this LUN.
+/// Decides on a fetched request, and returns its request for a unit of this LUN.
 fn arrival_of(inventory: &Inventory, sent: &Sent, fetched: Fetched) -> Option<Arrival> {
     let Fetched { chain, mut bytes } = fetched;
     let lengths = ChainLengths {
@@ -190,7 +190,7 @@ impl Ports {
         })
     }
 
-    /// A request is put into its queue and fetched.
+    /// Puts a request into its queue, and fetches it.
     fn send(&mut self, sent: &Sent) -> Result<Option<Fetched>, RingFault> {
         let lun = (sent.unit % 2) as u8;
         if sent.to_other {
@@ -200,7 +200,7 @@ impl Ports {
         }
     }
 
-    /// A request is fetched. `NoMemory` where that was refused: the next request then stands in its place.
+    /// Fetches a request. `NoMemory` where that was refused: the next request then stands in its place.
     pub(crate) fn arrive(&mut self, sent: &Sent) -> Result<Option<Arrival>, NoMemory> {
         match self.send(sent) {
             Ok(Some(fetched)) => Ok(arrival_of(&self.inventory, sent, fetched)),
@@ -209,7 +209,8 @@ impl Ports {
         }
     }
 
-    /// The job of a TEST UNIT READY with this identifier, over the first queue; `None` where memory was refused.
+    /// Returns the job of a TEST UNIT READY with this identifier, over the first queue; `None` where memory was
+    /// refused.
     pub fn job(&mut self, id: u64) -> Option<Job> {
         let arrival = self.arrive(&Sent { id, ..SIMPLE }).ok()??;
         Some(arrival.into_job())
@@ -224,7 +225,7 @@ impl Ports {
         }
     }
 
-    /// Whether the chain of a job, if there is one, can be completed. Nothing leaves for it.
+    /// Returns true if the chain of a job, if there is one, can be completed. Nothing leaves for it.
     pub(crate) fn let_go(&mut self, job: Option<Job>) -> bool {
         match job {
             Some(job) => self.complete(job.into_chain()).is_some(),

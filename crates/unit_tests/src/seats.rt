@@ -9,7 +9,7 @@ use std::sync::Wait;
 use std::test::Fail;
 use unit_history::Job;
 
-/// The identifier of a job, where there is one.
+/// Returns the identifier of a job, where there is one.
 fn id_of(job: Option<Job>) -> Option<u64> {
     Some(job?.id())
 }
@@ -36,7 +36,7 @@ fn put_all<R: Wait>(
     None
 }
 
-/// What a queue of one job does with two: the one that comes back, the one that is taken then, and the next.
+/// Puts two jobs into a queue of one. Returns the one that comes back, the one that is taken then, and the next.
 fn overfill<R: Wait>(rt: &R, alloc: Global) -> Result<[Option<u64>; 3], Fail> {
     let (handoff, mut seats) = Handoff::new(alloc, 1, 1)?;
     let Some(mut ports) = Ports::new(alloc) else {
@@ -70,7 +70,7 @@ fn pass_on<R: Wait>(
     (first, id_of(handoff.take(rt, to)))
 }
 
-/// What two jobs are that one seat puts and another takes, once the seats are gathered.
+/// Puts two jobs by one seat, takes them by another, and returns them once the seats are gathered.
 fn hand_over<R: Wait>(rt: &R, alloc: Global) -> Result<(Option<u64>, Option<u64>), Fail> {
     let (handoff, mut seats) = Handoff::new(alloc, 2, 2)?;
     let Some(mut ports) = Ports::new(alloc) else {
@@ -86,7 +86,7 @@ fn hand_over<R: Wait>(rt: &R, alloc: Global) -> Result<(Option<u64>, Option<u64>
     Ok(taken)
 }
 
-/// Nine seats are gathered.
+/// Gathers nine seats.
 fn gather_nine(alloc: Global) -> Result<(), Fail> {
     let (handoff, seats) = Handoff::new(alloc, 4096, 9)?;
     handoff.gather(seats);
@@ -96,12 +96,12 @@ fn gather_nine(alloc: Global) -> Result<(), Fail> {
 /// Takes what may go to another thread.
 fn goes_to_a_thread<T: Send + 'static>(_value: &T) {}
 
-/// A seat may: so whoever makes them gives each thread its own.
+/// Takes a seat, which may go: so whoever makes seats gives each thread its own.
 fn may_go(seat: &Seat) {
     goes_to_a_thread(seat)
 }
 
-/// A seat goes to another thread.
+/// Sends a seat to another thread.
 fn let_go(alloc: Global) -> Result<(), Fail> {
     let (_handoff, mut seats) = Handoff::new(alloc, 1, 2)?;
     match seats.pop() {

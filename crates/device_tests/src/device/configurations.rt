@@ -27,7 +27,7 @@ const UNITS: &[UnitSpec] = &[
     },
 ];
 
-/// Of each row the numbers and the units are said where they aren't these.
+/// The row from which others are made: each says its numbers and units where they aren't these.
 const ROW: Row = Row {
     shows: "",
     numbers: NUMBERS,

@@ -3,7 +3,7 @@
 use super::none_is;
 use unit_attention::{Attentions, Code};
 
-/// What is done with what is pending, and what comes of it.
+/// An act on what is pending, and what comes of it.
 enum Act {
     /// An I_T nexus loss is raised.
     Loss,
@@ -13,7 +13,7 @@ enum Act {
     Capacity,
     /// A reset of the device is.
     BusReset,
-    /// Whether none is pending.
+    /// True if none is pending.
     IsEmpty(bool),
     /// The oldest, which stays.
     Peek(Option<Code>),
@@ -21,7 +21,7 @@ enum Act {
     Take(Option<Code>),
 }
 
-/// What is done with a new list, one after the other.
+/// The acts on a new list, one after the other.
 static ACTS: [Act; 17] = [
     Act::IsEmpty(true),
     Act::Peek(None),
@@ -74,7 +74,7 @@ fn does(pending: &mut Attentions, act: &Act) -> bool {
     true
 }
 
-/// The number of the first act that doesn't go as it should, from 0.
+/// Returns the number of the first act that doesn't go as it should, from 0.
 fn first_wrong() -> Option<usize> {
     let mut pending = Attentions::new();
     for number in 0..ACTS.len() {

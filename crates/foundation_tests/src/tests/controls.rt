@@ -81,7 +81,7 @@ static READ: [Reads; 12] = [
     Reads(b"\x02\0\0\0", Control::MalformedNotification, 5),
 ];
 
-/// What a function is answered with, and its byte.
+/// The answer to a function, and its byte.
 struct Answers(FunctionResponse, u8);
 
 impl Row for Answers {
@@ -99,7 +99,7 @@ static ANSWERED: [Answers; 6] = [
     Answers(FunctionResponse::IncorrectLun, 12),
 ];
 
-/// What a notification is answered with, and the last of the bytes.
+/// The answer to a notification, and the last of its bytes.
 struct Notifies(ResponseCode, u8);
 
 impl Row for Notifies {

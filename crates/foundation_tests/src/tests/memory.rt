@@ -5,7 +5,7 @@ use guest_mem::{GuestMem, MemFault};
 use std::alloc::Global;
 use std::test::Fail;
 
-/// What is done with a memory, and what comes of it.
+/// An act on a memory, and what comes of it.
 enum Act {
     /// A page from the first byte on is zeros.
     Zeros,
@@ -17,7 +17,7 @@ enum Act {
     Read(u64, Result<(), MemFault>, [u8; 3]),
 }
 
-/// What is done with 512 pages, one after the other. What lies behind the end is refused.
+/// The acts on 512 pages, one after the other. Those behind the end are refused.
 static ACTS: [Act; 8] = [
     Act::Size(2_097_152),
     Act::Write(2_097_150, &[1, 2], Ok(())),
@@ -45,7 +45,7 @@ fn does(memory: &mut GuestMem, act: &Act) -> bool {
     }
 }
 
-/// The number of the first act that doesn't go as it should in a new memory of so many pages, from 0.
+/// Returns the number of the first act that doesn't go as it should in a new memory of so many pages, from 0.
 fn first_wrong(alloc: Global, pages: u32, acts: &[Act]) -> Result<Option<usize>, MemFault> {
     if pages > 65536 {
         return Err(MemFault::NoMemory);

@@ -27,7 +27,7 @@ static PROFILE: [(u8, usize); 20] = [
     (0xaa, 11),
 ];
 
-/// The place of an opcode's control byte, where it is of the profile.
+/// Returns the place of an opcode's control byte, where it is of the profile.
 fn control_of(opcode: u8) -> Option<usize> {
     for (known, control) in &PROFILE {
         if *known == opcode {
@@ -37,7 +37,7 @@ fn control_of(opcode: u8) -> Option<usize> {
     None
 }
 
-/// Whether an opcode of the profile is known, and refused with NACA, and another is unknown.
+/// Returns true if an opcode of the profile is known, and refused with NACA, and another is unknown.
 fn is_known_as_it_should(opcode: u8) -> bool {
     let mut cdb = [0; CDB_BYTES];
     cdb[0] = opcode;
@@ -52,7 +52,7 @@ fn is_known_as_it_should(opcode: u8) -> bool {
     decode(&cdb) == Command::Bad { opcode }
 }
 
-/// The first opcode of which that isn't so.
+/// Returns the first opcode of which that isn't so.
 fn first_wrong() -> Option<usize> {
     for opcode in 0..=u8::MAX {
         if !is_known_as_it_should(opcode) {

@@ -15,7 +15,7 @@ const WRITE_REQUEST: [u8; 53] = [
     0, 0, 0, 0, 0, 0, 0, 0, 0, 0, 0, 0, 0, 0, 0, 0, 0, 0, 0, 0, 0, 0, 0xa5, 0x5a,
 ];
 
-/// What is read of it.
+/// The request that is read of it.
 const WRITE: Request = Request {
     address: Address { target: 1, lun: 2 },
     id: 0x0123_4567_89ab_cdef,

@@ -7,7 +7,7 @@ use block_store::{BLOCK_BYTES, FlatStore, NoMemory, PagedStore, Prepared, Store}
 use std::alloc::Global;
 use std::test::Fail;
 
-/// What is done with a store.
+/// An act on a store.
 #[derive(Clone, Copy)]
 enum Act {
     /// Bytes are written over blocks from a number on.
@@ -18,7 +18,7 @@ enum Act {
     Zero(u64, u32),
 }
 
-/// What is done with a store of five blocks of zeros, one after the other, and the byte of which each block then
+/// The acts on a store of five blocks of zeros, one after the other, each with the byte of which each block then
 /// consists.
 static ACTS: [(Act, [u8; 5]); 7] = [
     (Act::Zero(0, 0), [0, 0, 0, 0, 0]),
@@ -72,7 +72,7 @@ fn read<S: Store>(store: &S, first: u64, count: u32, into: &mut Vec<u8>) -> bool
     true
 }
 
-/// Whether bytes are five blocks, each of which consists of its byte.
+/// Returns true if bytes are five blocks, each of which consists of its byte.
 fn are_made_of(bytes: &[u8], each: [u8; 5]) -> bool {
     if bytes.len() != 5 * BLOCK_BYTES {
         return false;
@@ -86,7 +86,8 @@ fn are_made_of(bytes: &[u8], each: [u8; 5]) -> bool {
     true
 }
 
-/// Whether a store is five blocks, each of which consists of its byte. They are read in two parts, and an empty third.
+/// Returns true if a store is five blocks, each of which consists of its byte. They are read in two parts, and an empty
+/// third.
 fn is_made_of<S: Store>(alloc: Global, store: &S, each: [u8; 5]) -> Result<bool, NoMemory> {
     let Ok(mut bytes) = Vec::with_capacity(alloc, 5 * BLOCK_BYTES) else {
         return Err(NoMemory);
@@ -121,7 +122,7 @@ fn first_wrong<S: Store>(
     Ok(None)
 }
 
-/// Whether a store of so many blocks is refused.
+/// Returns true if a store of so many blocks is refused.
 fn is_refused(alloc: Global, blocks: u64) -> bool {
     match FlatStore::new(alloc, blocks) {
         Ok(_) => false,
@@ -129,10 +130,10 @@ fn is_refused(alloc: Global, blocks: u64) -> bool {
     }
 }
 
-/// How many blocks are too many.
+/// The numbers of blocks that are too many.
 static TOO_MANY: [u64; 4] = [u64::MAX, 1 << 55, (1 << 55) - 1, 1 << 54];
 
-/// The number of the first of these of which a store is had, from 0.
+/// Returns the number of the first of these of which a store is had, from 0.
 fn first_had(alloc: Global) -> Option<usize> {
     for number in 0..TOO_MANY.len() {
         if !is_refused(alloc, TOO_MANY[number]) {
@@ -161,7 +162,7 @@ fn paged_store(rt: HostRuntime) -> Result<(), Fail> {
     Ok(())
 }
 
-/// Whether so many blocks of a store consist of a byte, each.
+/// Returns true if so many blocks of a store consist of a byte, each.
 fn consist_of(
     alloc: Global,
     store: &PagedStore,
@@ -195,7 +196,7 @@ static PREPARED: [(u64, &[u8], &[u8]); 5] = [
     (3, &[0xab; 512], &[0x5a; 4096]),
 ];
 
-/// How many blocks bytes are, where a store has these from a block on.
+/// Returns how many blocks bytes are, where a store has these from a block on.
 fn count_there(store: &PagedStore, first: u64, bytes: &[u8]) -> Option<u32>
     ensures { IfSome result (λ count. (first + count ≤ ⟦<PagedStore as Store>⟧.size store.now) × (length bytes.now ≡ 512 * count)) }
 {
@@ -216,7 +217,7 @@ fn prepare_first(store: &PagedStore, bytes: &[u8]) -> Result<Option<Prepared>, N
     Ok(Some(pages))
 }
 
-/// Whether the bytes of a store's blocks from `first` on are 0xab, each, and those of all others zeros.
+/// Returns true if the bytes of a store's blocks from `first` on are 0xab, each, and those of all others zeros.
 fn are_written(
     alloc: Global,
     store: &PagedStore,
@@ -245,7 +246,7 @@ fn is_installed(alloc: Global, first: u64, bytes: &[u8], spare: &[u8]) -> Result
     Ok(installed && is_there && returned && consist_of(alloc, &store, 0, 32, 0)?)
 }
 
-/// The number of the first of these writes that isn't installed as it says, from 0.
+/// Returns the number of the first of these writes that isn't installed as it says, from 0.
 fn first_not_installed(alloc: Global) -> Result<Option<usize>, NoMemory> {
     for number in 0..PREPARED.len() {
         let (first, bytes, spare) = PREPARED[number];
@@ -286,7 +287,8 @@ fn fill_far(store: &mut PagedStore) -> Result<bool, NoMemory> {
     Ok(true)
 }
 
-/// The number of the first of these blocks that doesn't consist of its byte, or of zeros below `zeroed`, from 0.
+/// Returns the number of the first of these blocks that doesn't consist of its byte, or of zeros below `zeroed`, from
+/// 0.
 fn first_wrong_far(
     alloc: Global,
     store: &PagedStore,

@@ -8,7 +8,7 @@ use std::alloc::Global;
 use std::fmt::Display;
 use std::test::Fail;
 
-/// Whether a value is called so.
+/// Returns true if a value is called so.
 fn is_called<D: Display>(alloc: Global, value: &D, text: &str) -> Result<bool, Fail> {
     Ok(format!(in alloc; "{value}")?.as_str() == text)
 }
@@ -30,7 +30,7 @@ static MEM_FAULTS: [(MemFault, u8, &str); 2] = [
     (MemFault::NoMemory, 2, "no memory"),
 ];
 
-/// The first number of a refusal that is called otherwise, or has another number.
+/// Returns the first number of a refusal that is called otherwise, or has another number.
 fn first_wrong(alloc: Global) -> Result<Option<usize>, Fail> {
     if !is_called(alloc, &NoMemory, "no memory")? {
         return Ok(Some(0));

@@ -13,7 +13,7 @@ use std::test::Fail;
 /// is refused, if it is.
 type Placed = (u16, u64, u64, u64, Option<LayoutFault>);
 
-/// What is made of layouts of split queues.
+/// The layouts of split queues, and what is made of each.
 static SPLIT: [Placed; 12] = [
     (8, 16256, 16362, 8192, None),
     (0, 16256, 16362, 8192, Some(LayoutFault::BadSize)),
@@ -48,7 +48,7 @@ static PACKED: [Placed; 9] = [
     (7, 16272, 16380, 16384, Some(LayoutFault::Outside)),
 ];
 
-/// Why a layout is refused, if it is.
+/// Returns why a layout is refused, if it is.
 fn refusal<R: Made>(memory: &GuestMem, alloc: Global, placed: &Placed) -> Option<LayoutFault> {
     let (size, desc, driver, device, _) = *placed;
     let layout = Layout {
@@ -63,7 +63,7 @@ fn refusal<R: Made>(memory: &GuestMem, alloc: Global, placed: &Placed) -> Option
     }
 }
 
-/// The number of the first layout that isn't taken or refused as its row says, from 0.
+/// Returns the number of the first layout that isn't taken or refused as its row says, from 0.
 fn first_wrong<R: Made>(memory: &GuestMem, alloc: Global, rows: &[Placed]) -> Option<usize> {
     for number in 0..rows.len() {
         if refusal::<R>(memory, alloc, &rows[number]) != rows[number].4 {
@@ -81,7 +81,7 @@ fn layouts(rt: HostRuntime) -> Result<(), Fail> {
     Ok(())
 }
 
-/// Whether the queue that a chain is fetched from owns it, and another doesn't.
+/// Returns true if the queue that a chain is fetched from owns it, and another doesn't.
 fn is_owned_there<R: Made>(ring: &mut R, other: &R, memory: &GuestMem) -> bool {
     if !ring.fits(memory) {
         return false;
@@ -92,14 +92,14 @@ fn is_owned_there<R: Made>(ring: &mut R, other: &R, memory: &GuestMem) -> bool {
     }
 }
 
-/// Whether that is so of two queues in one memory.
+/// Returns true if that is so of two queues in one memory.
 fn own_apart<R: Made>(memory: &GuestMem, alloc: Global) -> Result<bool, LayoutFault> {
     let mut ring = R::made(alloc, 2, PLACE, 0, memory)?;
     let other = R::made(alloc, 3, PLACE, 0, memory)?;
     Ok(is_owned_there(&mut ring, &other, memory))
 }
 
-/// Whether a queue fits a memory that is larger than its own.
+/// Returns true if a queue fits a memory that is larger than its own.
 fn fits_larger<R: Made>(
     memory: &GuestMem,
     larger: &GuestMem,

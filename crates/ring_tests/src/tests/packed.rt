@@ -13,7 +13,7 @@ const AVAILABLE: u16 = 0x80;
 /// The same while its wrap counter is 0.
 const AVAILABLE_AT_0: u16 = 0x8000;
 
-/// Where a queue lies.
+/// The place of a queue.
 const PLACE: Layout = Layout {
     size: 7,
     desc: 0,

@@ -8,7 +8,7 @@ mod wrapping;
 
 use ring_core::Layout;
 
-/// Where a queue lies.
+/// The place of a queue.
 pub(super) const PLACE: Layout = Layout {
     size: 8,
     desc: 0,

@@ -31,7 +31,7 @@ static LAYOUT_FAULTS: [(LayoutFault, &str); 4] = [
     (LayoutFault::NoMemory, "no memory"),
 ];
 
-/// The number of the first value that isn't called as its row says, from 0.
+/// Returns the number of the first value that isn't called as its row says, from 0.
 fn first_wrong<D: Display>(alloc: Global, rows: &[(D, &str)]) -> Result<Option<usize>, Fail> {
     for number in 0..rows.len() {
         let (fault, text) = &rows[number];

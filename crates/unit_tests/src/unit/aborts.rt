@@ -21,7 +21,7 @@ const ABORTED: Sent = Sent {
     ..SIMPLE
 };
 
-/// What it may wait for.
+/// The request that it may wait for.
 const OLDER: Sent = Sent { id: 9, ..ORDERED };
 
 /// The attention of a reset: BUS DEVICE RESET FUNCTION OCCURRED.

@@ -12,14 +12,14 @@ const OTHER_A: u64 = OTHER;
 
 const OTHER_B: u64 = OTHER + 1;
 
-/// To unit 0:1, over the other queue.
+/// A request to unit 0:1, over the other queue.
 const TO_SECOND: Sent = Sent {
     unit: 1,
     to_other: true,
     ..SIMPLE
 };
 
-/// To the unit that has the address of the first, and POWER ON, RESET, OR BUS DEVICE RESET OCCURRED pending.
+/// A request to the unit that has the address of the first, and POWER ON, RESET, OR BUS DEVICE RESET OCCURRED pending.
 const TO_TWIN: Sent = Sent {
     unit: 2,
     ..TO_SECOND

@@ -9,7 +9,7 @@ use ring_core::{Layout, Ring};
 use std::alloc::Global;
 use std::test::Fail;
 
-/// The descriptor of four bytes that the driver writes once so many slots of seven were passed.
+/// Returns the descriptor of four bytes that the driver writes once so many slots of seven were passed.
 fn descriptor(passed: u16, id: u16, flags: u16) -> Move {
     let turn = if passed / 7 % 2 == 0 {
         AVAILABLE
@@ -19,8 +19,8 @@ fn descriptor(passed: u16, id: u16, flags: u16) -> Move {
     Move::Descriptor(passed % 7, 20000, 4, id, flags | turn)
 }
 
-/// Two chains of three slots, of which all but the last have another id, are made available, found
-/// and completed, the second one first.
+/// Returns the moves that make two chains of three slots available, find them and complete them, the second one first.
+/// All slots but the last have another id.
 fn serving_pair(pair: u8) -> [Move; 11] {
     let passed = 6 * u16::from(pair);
     let number = 2 * u64::from(pair);
@@ -39,7 +39,7 @@ fn serving_pair(pair: u8) -> [Move; 11] {
     ]
 }
 
-/// What stands in memory after the pair of a number.
+/// The bytes in memory after the pair of a number.
 #[derive(Clone, Copy)]
 struct Used {
     pair: u8,
@@ -78,7 +78,7 @@ static USED: [Used; 3] = [
     },
 ];
 
-/// Whether memory has what it should after a pair.
+/// Returns true if memory has what it should after a pair.
 fn has_used<R: Ring>(bench: &mut Bench<R>, pair: u8) -> bool {
     for used in &USED {
         if used.pair == pair && bench.first_wrong(used.moves).is_some() {
@@ -107,7 +107,7 @@ fn wraps_in_pairs(rt: HostRuntime) -> Result<(), Fail> {
     Ok(())
 }
 
-/// The slot behind a slot in a ring of so many, and the flags by which the driver makes it available.
+/// Returns the slot behind a slot in a ring of so many, and the flags by which the driver makes it available.
 fn next(slot: u16, turn: u16, size: u16) -> (u16, u16) {
     let slot = slot.wrapping_add(1);
     if slot < size {
@@ -117,7 +117,7 @@ fn next(slot: u16, turn: u16, size: u16) -> (u16, u16) {
     }
 }
 
-/// The chain of this number, which takes one slot, is made available and served.
+/// Returns the moves that make the chain of this number available, which takes one slot, and serve it.
 fn serving_one(number: u64, slot: u16, turn: u16) -> [Move; 4] {
     [
         Move::Descriptor(slot, 0, 0, 5, turn),

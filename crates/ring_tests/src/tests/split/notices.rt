@@ -7,7 +7,7 @@ use split_ring::SplitRing;
 use std::alloc::Global;
 use std::test::Fail;
 
-/// Where the driver of a queue of two descriptors names a used index.
+/// The address at which the driver of a queue of two descriptors names a used index.
 const USED_EVENT: u64 = 4104;
 
 /// Serves 65,536 chains, one after the other, whose driver wants no notice but of one completion. Returns the first

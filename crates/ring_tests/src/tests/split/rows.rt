@@ -12,7 +12,7 @@ const MANY: Layout = Layout {
     device: 1_114_112,
 };
 
-/// Of each row the memory's pages and the queue's place are said where they aren't these.
+/// The row from which others are made: each says the memory's pages and the queue's place where they aren't these.
 pub const ROW: Row = Row {
     shows: "",
     pages: 16,

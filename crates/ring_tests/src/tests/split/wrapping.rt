@@ -11,7 +11,7 @@ use std::test::Fail;
 /// A queue of two descriptors.
 pub(super) const TWO: Layout = Layout { size: 2, ..PLACE };
 
-/// The chain of this number, whose head is its slot, is made available and served.
+/// Returns the moves that make the chain of this number available, whose head is its slot, and serve it.
 pub(super) fn serving(number: u32) -> [Move; 5] {
     let seen = (number % 65536) as u16;
     let head = seen % 2;
@@ -24,8 +24,7 @@ pub(super) fn serving(number: u32) -> [Move; 5] {
     ]
 }
 
-/// What stands in memory then: the index is 1 again, and the last element is that of chain 65,536, in
-/// slot 0.
+/// The bytes in memory then: the index is 1 again, and the last element is that of chain 65,536, in slot 0.
 static USED: [Move; 1] = [Move::Has(
     8194,
     &[1, 0, 0, 0, 0, 0, 0, 0, 1, 0, 1, 0, 0, 0, 255, 255, 0, 0],
