@@ -230,8 +230,8 @@ impl Guest {
         }
     }
 
-    /// Waits until a set of a unit's requests is answered, and counts those that ended with GOOD. As many as were sent up
-    /// to it may have been answered before it is, where those of the other set came first.
+    /// Waits until a set of a unit's requests is answered, and counts those that ended with GOOD. As many as were sent
+    /// up to it may have been answered before it is, where those of the other set came first.
     fn take<D: Device>(
         &mut self,
         device: &mut D,

@@ -14,7 +14,7 @@ const DESCRIPTOR_BYTES: usize = 16;
 pub struct Extent {
     /// The first block.
     pub lba: u64,
-    /// How many blocks.
+    /// The number of blocks.
     pub count: u32,
 }
 

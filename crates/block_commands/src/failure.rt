@@ -7,7 +7,7 @@ use block_store::NoMemory;
 use sense::Sense;
 use std::alloc::AllocError;
 
-/// Why a command gives no data: it is refused, or memory is.
+/// The cause for which a command gives no data: it is refused, or memory is.
 #[derive(Clone, Copy)]
 pub(crate) enum Failure {
     /// The command is refused with this sense data.

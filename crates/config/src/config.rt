@@ -45,15 +45,15 @@ pub struct Config {
     /// The control queue, the event queue, and 1 to 16 request queues, each of 2 to 1,024
     /// descriptors.
     pub queues: Vec<Layout>,
-    /// How many workers serve the request queues, 1 to 8.
+    /// The number of workers that serve the request queues, 1 to 8.
     pub workers: u16,
-    /// How many jobs stand between workers at most, 1 to 4,096.
+    /// The most jobs that stand between workers, 1 to 4,096.
     pub handoff: u16,
     /// 1 to 64 units in rising order of target and LUN, each target with LUN 0.
     pub units: Vec<UnitSpec>,
 }
 
-/// Why a device doesn't start. `BadConfig` is tested first.
+/// The cause for which a device doesn't start. `BadConfig` is tested first.
 #[derive(Clone, Copy, Debug, PartialEq, Eq)]
 pub enum StartFault {
     /// The configuration lies outside the limits, or a ring refuses its layout.

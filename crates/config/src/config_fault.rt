@@ -17,7 +17,8 @@ pub const MOST_DESCRIPTORS: u16 = 1024;
 /// The most blocks of a unit, of 512 bytes each: a unit has at most 512 tebibytes.
 pub const MOST_BLOCKS: u64 = 1 << 40;
 
-/// Why the device doesn't take a configuration. A place counts from 0, and is the first one that the cause is true of.
+/// The cause for which the device doesn't take a configuration. A place counts from 0; it is the first that has this
+/// cause.
 #[derive(Clone, Copy, Debug, PartialEq, Eq)]
 pub enum ConfigFault {
     /// There are no pages, or more than 65,536.

@@ -6,7 +6,7 @@ ghost use Rattle.decisions.specs.Answers.{ok_bytes};
 use scsi_codec::{REQUEST_BYTES, RESPONSE_BYTES, Response, ResponseCode, put_response};
 use sense::Sense;
 
-/// How many bytes of a chain can be read, and how many written.
+/// The lengths of a chain: the bytes that can be read, and those that can be written.
 #[derive(Clone, Copy)]
 pub struct ChainLengths {
     /// All readable bytes.

@@ -6,11 +6,11 @@ ghost use Rattle.decisions.specs.Decision.{attribute_of};
 /// The task attributes that this device knows (SAM-5 §8.6): when a command may run beside others.
 #[derive(Clone, Copy, PartialEq, Eq)]
 pub enum TaskAttribute {
-    /// In any order with other SIMPLE tasks.
+    /// Runs in any order with other SIMPLE tasks.
     Simple = 0,
     /// After all older tasks and before all younger ones.
     Ordered = 1,
-    /// At once.
+    /// Runs at once.
     HeadOfQueue = 2,
 }
 

@@ -20,7 +20,7 @@ pub struct UnitSpec {
     pub lun: u16,
     /// Its capacity in blocks of 512 bytes, 1 to 2^40.
     pub blocks: u64,
-    /// Whether nothing is pending at the start; else POWER ON, RESET, OR BUS DEVICE RESET OCCURRED is.
+    /// True if nothing is pending at the start; else POWER ON, RESET, OR BUS DEVICE RESET OCCURRED is.
     pub calm: bool,
 }
 

@@ -76,8 +76,8 @@ pub fn memory_is_that_of_the_writes()
         w.memory ≡ memory_after old.memory trace }
 {}
 
-/// A transition finds what it asks of the unit that one lock lends, or of the queue that one lends with memory, and what it
-/// leaves there is a function of what it found there.
+/// A transition finds what it asks of the unit that one lock lends, or of the queue that one lends with memory, and
+/// what it leaves there is a function of what it found there.
 pub fn each_transition_does_its_part()
     ensures unit { (w : PlainWorld) (d : Transition) → Happens d w → Under (unit_of d) (λ i. (u : PlainUnit)
         × (slice_get w.units i ≡ Some u) × AsksUnit d u × (slice_get (after d w).units i ≡ Some (unit_after d u))) }
@@ -87,8 +87,8 @@ pub fn each_transition_does_its_part()
     ensures memory { (w : PlainWorld) (d : Transition) → (after d w).memory ≡ bytes_after d w.memory }
 {}
 
-/// Where a transition's seat, slot and function stand for it, and its part is done on what the locks lend, it happens: a
-/// thread that holds no more than one such lock at a time takes steps of the one device.
+/// Where a transition's seat, slot and function stand for it, and its part is done on what the locks lend, it happens:
+/// a thread that holds no more than one such lock at a time takes steps of the one device.
 pub fn parts_join()
     ensures { (w : PlainWorld) (d : Transition) → StandsFor d w → LendsUnit d w → LendsQueue d w → Happens d w }
 {}
@@ -121,12 +121,12 @@ pub fn jobs_are_kept()
         jobs_out p (after d w) + sum_by p (ends d) ≡ jobs_out p w + sum_by p (brings d) }
 {}
 
-/// Each chain that was accepted and isn't used stands in one place of the device: a queue's slot, a unit's parked
-/// jobs, a seat, the hand-off, the open function or the event buffers. Where p counts one ticket alone, `place` says
-/// that in how many places its chain stands, and how often it was used, is together how often it was accepted: at
-/// most once, so that the chain stands in one place until it is used, is used at most once, and stands nowhere from
-/// then on (`once`). Where p is 1 for each ticket, it counts the chains (`chains`). A transition adds the chains that it
-/// accepts, takes away those that it uses, and neither loses nor doubles another.
+/// Each chain that was accepted and isn't used stands in one place of the device: a queue's slot, a unit's parked jobs,
+/// a seat, the hand-off, the open function or the event buffers. Where p counts one ticket alone, `place` says that in
+/// how many places its chain stands, and how often it was used, is together how often it was accepted: at most once, so
+/// that the chain stands in one place until it is used, is used at most once, and stands nowhere from then on (`once`).
+/// Where p is 1 for each ticket, it counts the chains (`chains`). A transition adds the chains that it accepts, takes
+/// away those that it uses, and neither loses nor doubles another.
 pub fn each_chain_stands_in_one_place()
     ensures place { (p : Ticket → ℕ) (old : PlainWorld) (trace : List Occurrence) (w : PlainWorld) →
         Reached old trace w → accepted_worth p w ≡ standing p w + used_worth p w }
@@ -143,8 +143,9 @@ pub fn logs_are_numbered()
     ensures { (old : PlainWorld) (trace : List Occurrence) (w : PlainWorld) → Reached old trace w → AreNumbered w }
 {}
 
-/// The units, with their addresses, the queues, the seats and the lists of the hand-off, with their room, are in every world that is
-/// reached those that the device opened with, and memory is as long, where the writes of the trace lie in it.
+/// The units, with their addresses, the queues, the seats and the lists of the hand-off, with their room, are in every
+/// world that is reached those that the device opened with, and memory is as long, where the writes of the trace lie in
+/// it.
 pub fn parts_stay()
     ensures parts { (old : PlainWorld) (trace : List Occurrence) (w : PlainWorld) → Reached old trace w →
         KeepsParts old w }
@@ -197,8 +198,8 @@ pub fn functions_find_their_units()
         FunctionIsThere (length w.units) w.function }
 {}
 
-/// In every world that is reached a query that has looked at all its units checks the next one at once, whatever is alive
-/// there and whatever came to stand there since.
+/// In every world that is reached a query that has looked at all its units checks the next one at once, whatever is
+/// alive there and whatever came to stand there since.
 pub fn queries_are_checked_at_once()
     ensures { (old : PlainWorld) (trace : List Occurrence) (w : PlainWorld) → Reached old trace w → IsToCheck w →
         Applies w AnEvent.Check }

@@ -113,8 +113,8 @@ pub fn only_some_events_wake()
         (Applies w e → ⊥) → Wakes w d e }
 {}
 
-/// A worker that has one job and nothing in hand puts it into its own list, where that is empty, and takes that very job
-/// next, since its own list comes first; together the two steps leave what keeping the job in hand would.
+/// A worker that has one job and nothing in hand puts it into its own list, where that is empty, and takes that very
+/// job next, since its own list comes first; together the two steps leave what keeping the job in hand would.
 pub fn a_worker_takes_what_it_put()
     ensures puts { (w : PlainWorld) (k : ℕ) (x : PlainJob) → SeatIs w k Hand.Empty (x ∷ []) → OffIs w k [] →
         0 < w.limit → Happens (Transition.Put k x) w }

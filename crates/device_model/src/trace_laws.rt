@@ -18,8 +18,8 @@ use crate::laws::{
     memory_is_that_of_the_writes,
 };
 
-/// The history of each unit is lawful, has the steps that the transitions tell, in their order, and no others, and begins as
-/// the unit stood at the opening of the device; and a step is taken only on a unit that is there.
+/// The history of each unit is lawful, has the steps that the transitions tell, in their order, and no others, and
+/// begins as the unit stood at the opening of the device; and a step is taken only on a unit that is there.
 pub fn histories_are_told()
     ensures { (old : PlainWorld) (trace : List Occurrence) (w : PlainWorld) (r : Reached old trace w) →
         AreHistories old (transitions_of old trace w r.runs) w }

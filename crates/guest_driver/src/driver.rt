@@ -87,7 +87,7 @@ enum Open {
 /// The chain of a request or a function, as it was placed in memory.
 #[derive(Clone, Copy)]
 struct Placed {
-    /// Where its table lies, if it has one.
+    /// The place of its table, if it has one.
     table: Option<Table>,
     buffers: Buffers,
 }
@@ -118,9 +118,9 @@ pub struct Sent {
     pub asks: Asks,
     /// The queue that it went to.
     pub queue: u16,
-    /// Where its response lies.
+    /// The address of its response.
     pub response: u64,
-    /// How many bytes the device says that it wrote, once it was used.
+    /// The number of bytes that the device says it wrote, once the request was used.
     pub used: Option<u32>,
 }
 
@@ -136,7 +136,7 @@ pub struct Driver {
     open: Slab<Open>,
     /// The requests and functions that were sent, by name.
     sent: BTreeMap<String, Sent>,
-    /// Where the event buffers lie that were used, in order.
+    /// The addresses of the event buffers that were used, in order.
     events: Vec<u64>,
 }
 

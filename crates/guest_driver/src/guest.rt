@@ -11,12 +11,12 @@ use std::alloc::{AllocError, Global};
 /// The most bytes that are written at once, but for a longer item.
 const BLOCK_BYTES: usize = 4096;
 
-/// Where a buffer lies in guest memory.
+/// The place of a buffer in guest memory.
 #[derive(Clone, Copy)]
 pub struct Buffer {
     /// The address of its first byte.
     pub at: u64,
-    /// How many bytes it has.
+    /// Its length in bytes.
     pub len: u32,
 }
 

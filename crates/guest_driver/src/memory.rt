@@ -9,7 +9,7 @@ use guest_mem::{GuestMem, MemFault};
 /// The memory of a guest, as its driver writes and reads it: that of a device of one thread, or one that threads have
 /// behind a lock, of which less can be said.
 pub trait GuestMemory {
-    /// How many bytes it has.
+    /// Its size in bytes.
     ghost extent: { Self → ℕ };
 
     /// A read at an address may find these bytes.

@@ -46,7 +46,7 @@ struct Position {
 }
 
 impl Position {
-    /// Where a ring begins.
+    /// The beginning of a ring.
     const START: Position = Position {
         slot: 0,
         wrap: true,
@@ -94,13 +94,13 @@ pub struct PackedQueue {
     size: NonZeroU16,
     /// The ids of no open chain.
     free_ids: BTreeSet<u16>,
-    /// How many slots no open chain takes.
+    /// The number of slots that no open chain takes.
     free_slots: u16,
     /// The open chain of each id.
     open: Vec<Option<OpenChain>>,
-    /// Where the next chain goes.
+    /// The position of the next chain.
     next: Position,
-    /// Where the next used descriptor comes.
+    /// The position of the next used descriptor.
     seen: Position,
 }
 

@@ -62,7 +62,7 @@ pub enum Chain {
 /// The bytes of a descriptor.
 const DESCRIPTOR_BYTES: u64 = 16;
 
-/// Where a table of two descriptors lies in guest memory.
+/// The place of a table of two descriptors in guest memory.
 #[derive(Clone, Copy)]
 pub struct Table {
     at: u64,
@@ -104,11 +104,11 @@ impl Table {
 pub struct Used {
     /// The key under which it was made available.
     pub key: usize,
-    /// How many bytes the device says that it wrote.
+    /// The number of bytes that the device says it wrote.
     pub len: u32,
 }
 
-/// Where the next buffer goes. None is used again.
+/// The address of the next buffer. None is used again.
 #[derive(Clone, Copy)]
 pub struct Space {
     next: u64,
@@ -123,7 +123,7 @@ impl Model for Space {
 }
 
 impl Space {
-    /// Where the first buffer goes.
+    /// The address of the first buffer.
     pub const START: Space = Space { next: 1 << 20 };
 
     /// Places a buffer, each at a multiple of 16, in a memory of that size. `NoGuestMemory`, with

@@ -14,8 +14,8 @@ pub struct Taken {
 }
 
 /// A seat of one `Handoff`, for the one thread that puts and takes there by it. `Handoff::new` makes all of them, and
-/// `Handoff::gather` takes them back. It has a place at each queue of the hand-off, of which one is its own. Clauses see
-/// at which queues it is, its number, how many seats there are, and the jobs that it put and took, in order.
+/// `Handoff::gather` takes them back. It has a place at each queue of the hand-off, of which one is its own. Clauses
+/// see at which queues it is, its number, how many seats there are, and the jobs that it put and took, in order.
 #[derive(Drop)]
 pub struct Seat {
     pub(crate) places: Vec<Place>,

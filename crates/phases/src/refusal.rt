@@ -1,6 +1,6 @@
 //! How a unit refuses a request.
 
-/// How a unit refused a request that came to it.
+/// The refusal of a request that came to its unit.
 #[derive(Clone, Copy)]
 pub enum Refusal {
     /// 64 tasks were alive.

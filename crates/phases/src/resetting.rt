@@ -11,7 +11,7 @@ use scsi_codec::{Address, Event, TRANSPORT_RESET};
 use unit_attention::Code;
 use unit_history::{JobList, UnitState};
 
-/// How many LUNs an event may name.
+/// The number of LUNs that an event may name.
 pub(crate) const LUNS: u16 = 16384;
 
 /// Makes the event that tells of a unit's reset (VIRTIO 1.2 §5.6.6.3).

@@ -92,7 +92,7 @@ fn ring_of(
 /// The outcome of a fetch from a queue.
 #[derive(Drop)]
 pub enum Fetch {
-    /// Nothing to be done.
+    /// Nothing is to be done.
     Idle,
     /// A fault of the guest, which broke the queue now.
     Broke,

@@ -56,8 +56,8 @@ fn first_misplaced(queues: &[Queue]) -> Option<Ticket>
     None
 }
 
-/// Returns the ticket that is named where a report isn't of the host with these units: the first of all, where its units
-/// are others; else that of the first queue out of its place.
+/// Returns the ticket that is named where a report isn't of the host with these units: the first of all, where its
+/// units are others; else that of the first queue out of its place.
 pub(crate) fn first_foreign(
     specs: &[UnitSpec],
     units: &[UnitState],

@@ -4,8 +4,8 @@ use ring_core::Ticket;
 use std::error::Error;
 use std::fmt;
 
-/// Why a host that was closed gives no report. A receipt that isn't confirmed is named before a ticket that is
-/// outstanding, and each time the first, by queue and number.
+/// The cause for which a closed host gives no report. A receipt that isn't confirmed is named before a ticket that is
+/// outstanding. Of several the first is named, by queue and number.
 #[derive(Clone, Copy, Debug, PartialEq, Eq)]
 pub enum CloseFault {
     /// A growth was refused.

@@ -14,8 +14,8 @@ use unit_history::{BareReceipt, LONGEST_KEPT, Note, Receipt, ReceiptOrNote};
 const REPLIES_KEPT: usize = 4096;
 
 /// The receipts and notes of the requests that a seat answered, in order. Replies are kept of its latest
-/// [`REPLIES_KEPT`] receipts alone, and of these those alone with at most [`LONGEST_KEPT`] bytes of data: at most 16 MiB
-/// for each seat. Each other receipt takes 24 bytes.
+/// [`REPLIES_KEPT`] receipts alone, and of these those alone with at most [`LONGEST_KEPT`] bytes of data: at most 16
+/// MiB for each seat. Each other receipt takes 24 bytes.
 #[derive(Drop)]
 pub struct Kept {
     pub(crate) receipts: Vec<BareReceipt>,

@@ -54,8 +54,8 @@ pub(crate) fn read_notes(tables: &mut Tables, notes: &[Note]) -> Option<Ticket>
     first
 }
 
-/// Marks what the folded Commits of a unit tell, from the oldest on, where the unit knows them. It stands at an index among
-/// the units.
+/// Marks what the folded Commits of a unit tell, from the oldest on, where the unit knows them. It stands at an index
+/// among the units.
 fn read_folded(tables: &mut Tables, index: usize, unit: &UnitState)
     ensures { (t : ATicket) → tally_at tables.new.tables.items t
         ≡ option_map (read_folded t index unit.now) (tally_at tables.old.tables.items t) }

@@ -14,8 +14,7 @@ use std::marker::Model;
 pub struct Mark {
     /// The index of the unit in the inventory.
     pub unit: usize,
-    /// How many steps of the unit's history stand before the mark; 0 of a look, which stands there as no step and met
-    /// no task.
+    /// The number of steps of the unit's history before the mark. It is 0 for a look, which is no step and met no task.
     pub place: u64,
 }
 

@@ -15,7 +15,7 @@ pub enum MarkBy {
     Reset(Code),
 }
 
-/// What a function does on each of its units.
+/// The act of a function on each of its units.
 #[derive(Clone, Copy)]
 pub enum Kind {
     /// It marks the tasks that are alive, and waits until those that it meets have left.

@@ -20,8 +20,8 @@ use unit_model::{Reason, Rule};
 /// The most tasks of a logical unit that are alive at once.
 pub const MOST_TASKS: usize = 64;
 
-/// Why a task can't enter: 64 are alive. Its job, whose data were let go, is to be answered with TASK SET FULL
-/// (SAM-5 §5.3.1).
+/// The job of a task that can't enter, since 64 are alive. Its data were let go, and it is to be answered with TASK SET
+/// FULL (SAM-5 §5.3.1).
 #[derive(Drop)]
 pub struct Full(pub Job);
 

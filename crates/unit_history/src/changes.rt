@@ -20,7 +20,7 @@ const MOST_RANGES: usize = 64;
 pub struct Range {
     /// The first block.
     pub first: u64,
-    /// How many blocks.
+    /// The number of blocks.
     pub count: u64,
 }
 
@@ -80,9 +80,9 @@ impl Changes {
         }
     }
 
-    /// Returns the place of the unit's history from which on each block outside the ranges is unchanged. It is the place
-    /// of the last call of [`crate::UnitState::take_changes`], 0 where there was none, or a later one where there were
-    /// more than 64 ranges.
+    /// Returns the place of the unit's history from which on each block outside the ranges is unchanged. It is the
+    /// place of the last call of [`crate::UnitState::take_changes`], 0 where there was none, or a later one where there
+    /// were more than 64 ranges.
     pub fn since(&self) -> u64
         ensures { result ≡ self.now.since }
     {
@@ -98,8 +98,8 @@ impl Changes {
         self.ranges.as_slice()
     }
 
-    /// Makes place for so many ranges, at most 64. Where there is none, all that was noted before this place of the history
-    /// is forgotten.
+    /// Makes place for so many ranges, at most 64. Where there is none, all that was noted before this place of the
+    /// history is forgotten.
     fn make_place(&mut self, count: usize, place: u64)
         requires { count ≤ 64 }
         ensures notes { (capacity : ℕ) → Notes (λ b. false) capacity place self.old self.new }
@@ -166,8 +166,8 @@ impl Changes {
         self.note(old, new.saturating_sub(old), new, place);
     }
 
-    /// Notes the blocks below the capacity that the descriptors of an UNMAP's parameter list name, as changed by the step
-    /// of this place.
+    /// Notes the blocks below the capacity that the descriptors of an UNMAP's parameter list name, as changed by the
+    /// step of this place.
     #[inline(never)]
     fn note_unmap(&mut self, list: &[u8], capacity: u64, place: u64)
         ensures { Notes (is_named (descriptors list.now)) capacity place self.old self.new }
@@ -199,8 +199,8 @@ impl Changes {
         }
     }
 
-    /// Notes the blocks below the capacity that a command changes where it ends with GOOD, as changed by the step of this
-    /// place. The unit calls it before it runs the command with these data.
+    /// Notes the blocks below the capacity that a command changes where it ends with GOOD, as changed by the step of
+    /// this place. The unit calls it before it runs the command with these data.
     #[inline(always)]
     pub(crate) fn note_command(
         &mut self,

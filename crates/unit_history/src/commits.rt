@@ -8,7 +8,7 @@ use ring_core::Ticket;
 use std::alloc::{AllocError, Global};
 use std::marker::Model;
 
-/// By queue, the Commits of its requests, in runs.
+/// The Commits of each queue, in runs.
 #[derive(Drop)]
 pub(crate) struct Commits {
     alloc: Global,

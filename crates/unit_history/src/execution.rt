@@ -92,8 +92,8 @@ impl UnitState {
 
     /// Copies what the pages of a job's WRITE need, in one hold of the unit's lock: the pages that its range covers in
     /// part. Takes the unit's spare pages out for the others. The thread that has the job calls it before it commits
-    /// that, makes the pages with no lock held, and gives them to [`UnitState::commit_with`]. `None` where the job's task
-    /// couldn't run now, its command isn't a WRITE of blocks below the capacity, or memory was refused: then it is
+    /// that, makes the pages with no lock held, and gives them to [`UnitState::commit_with`]. `None` where the job's
+    /// task couldn't run now, its command isn't a WRITE of blocks below the capacity, or memory was refused: then it is
     /// committed without pages.
     pub fn start_pages(&mut self, job: &Job) -> Option<StartedWrite>
         ensures { self.new ≡ self.old }
@@ -120,9 +120,9 @@ impl UnitState {
 
     /// Runs the command of a job's task as [`UnitState::commit`] does, with the pages of its WRITE, if they were made.
     /// They are put in place where they are of this very command and its data and nothing beside its range has changed
-    /// in them since; else the command writes its blocks as ever. The unit keeps the pages that aren't used any more for
-    /// the next WRITE that is prepared, where it has none and they aren't many. Else they come to stand in `spare`, to be
-    /// freed behind the hold of the unit's lock.
+    /// in them since; else the command writes its blocks as ever. The unit keeps the pages that aren't used any more
+    /// for the next WRITE that is prepared, where it has none and they aren't many. Else they come to stand in `spare`,
+    /// to be freed behind the hold of the unit's lock.
     pub fn commit_with(
         &mut self,
         job: &Job,

@@ -7,7 +7,7 @@ use ring_core::Ticket;
 use std::alloc::{AllocError, Global};
 use std::marker::Model;
 
-/// By queue, the number of the last ticket that came, if one did.
+/// The number of the last ticket that came, by queue, if one did.
 #[derive(Drop)]
 pub struct LastTickets {
     numbers: Vec<Option<u64>>,
@@ -42,8 +42,8 @@ impl LastTickets {
         }
     }
 
-    /// Makes a place for a queue, which takes memory the first time that the queue, or a higher one, comes: `AllocError`
-    /// where that was refused. The unit calls it before a ticket of the queue comes.
+    /// Makes a place for a queue, which takes memory the first time that the queue, or a higher one, comes:
+    /// `AllocError` where that was refused. The unit calls it before a ticket of the queue comes.
     #[inline(always)]
     pub fn reserve(&mut self, queue: u16) -> Result<(), AllocError>
         ensures same { (q : ℕ) → floor_kept self.new q ≡ floor_kept self.old q }

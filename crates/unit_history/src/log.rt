@@ -24,22 +24,22 @@ use std::collections::VecDeque;
 use std::marker::Model;
 use unit_model::{Counts, Rule};
 
-/// Of how many of its latest steps a unit that keeps replies has them.
+/// The number of latest steps whose replies a unit keeps, where it keeps replies.
 pub const LATEST_KEPT: usize = 256;
 
-/// How many bytes of data a reply has at most that is kept.
+/// The most bytes of data of a reply that is kept.
 pub const LONGEST_KEPT: usize = 4096;
 
-/// How many steps are kept at most where one is added that brings more.
+/// The most steps that are kept before a step is added that brings more.
 const MOST_BEFORE: u64 = 4095;
 
-/// For how many steps room is made before one is taken that brings more: that one, and two for each of 64 tasks.
+/// The steps for which room is made before one is taken that brings more: that one, and two for each of 64 tasks.
 const STEPS_AHEAD: usize = 129;
 
-/// How many steps are folded at once at least, where some are to be.
+/// The fewest steps that are folded at once.
 const FOLDED_AHEAD: u64 = 64;
 
-/// How many steps a history has at most where one is taken that brings more.
+/// The most steps of a history before a step is taken that brings more.
 const MOST_STEPS: u64 = 0x8000_0000_0000_0000;
 
 /// The steps of a history, seen with the newest first. The steps themselves only proofs see; of each its kind
@@ -297,8 +297,8 @@ impl StepLog {
         self.folded.oldest_mark()
     }
 
-    /// Forgets of folded steps up to a place which tasks they met. The unit calls it for the oldest, once no task is alive
-    /// that entered before it.
+    /// Forgets of folded steps up to a place which tasks they met. The unit calls it for the oldest, once no task is
+    /// alive that entered before it.
     #[inline(always)]
     pub fn forget(&mut self, place: u64)
         requires { place < length self.old.steps }
@@ -308,8 +308,8 @@ impl StepLog {
         self.folded.forget(place);
     }
 
-    /// Folds the oldest steps, until at most 4,095 are kept, and makes room for those ahead: one, and two for each of 64
-    /// tasks that may be alive. The unit calls it before it takes a step that brings more. `AllocError`, with all as
+    /// Folds the oldest steps, until at most 4,095 are kept, and makes room for those ahead: one, and two for each of
+    /// 64 tasks that may be alive. The unit calls it before it takes a step that brings more. `AllocError`, with all as
     /// before, where memory was refused, or 2^63 steps stand.
     #[inline(always)]
     pub fn make_way(&mut self) -> Result<(), AllocError>

@@ -5,7 +5,7 @@ ghost use Rattle.std.specs.Prelude.{◌≡◌};
 use ring_core::Ticket;
 use std::marker::Model;
 
-/// Why a request was answered without a receipt.
+/// The cause for which a request was answered without a receipt.
 #[derive(Clone, Copy, Debug)]
 pub enum Cause {
     /// Its task was marked by an abort or a reset: nothing was done.

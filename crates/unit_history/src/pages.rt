@@ -9,8 +9,8 @@ use block_store::{Edges, Prepared};
 use cdb::Command;
 use task_set::{SharedRequest, Task};
 
-/// A WRITE, shared with its task, with copies of the pages that its range covers in part, and spare pages for the others.
-/// `UnitState::start_pages` gives it in a hold of the unit's lock; the pages are made after that.
+/// A WRITE, shared with its task, with copies of the pages that its range covers in part, and spare pages for the
+/// others. `UnitState::start_pages` gives it in a hold of the unit's lock; the pages are made after that.
 #[derive(Drop)]
 pub struct StartedWrite {
     edges: Edges,
@@ -39,8 +39,8 @@ impl StartedWrite {
         }
     }
 
-    /// Makes the new pages, and frees the spare ones that it doesn't need. The thread that has the job calls it, with no
-    /// lock held. `None` where memory was refused.
+    /// Makes the new pages, and frees the spare ones that it doesn't need. The thread that has the job calls it, with
+    /// no lock held. `None` where memory was refused.
     pub fn prepare(self) -> Option<PreparedWrite> {
         let StartedWrite {
             edges,

@@ -158,8 +158,9 @@ fn run_prepared(
     Ok(reply)
 }
 
-/// Runs a command as [`run`] does, with the new pages of its write, and has its reply again, where replies are kept and it isn't too long; `None`
-/// where memory was refused, also to that, with blocks and attentions as before.
+/// Runs a command as [`run`] does, with the new pages of its write. Copies the reply too, where replies are kept and it
+/// isn't too long. `None`, with blocks and attentions as before, where memory was refused to the command or to that
+/// copy.
 #[inline(always)]
 pub fn perform(
     alloc: Global,

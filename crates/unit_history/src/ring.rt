@@ -12,10 +12,10 @@ use record::Record;
 use std::alloc::{AllocError, Global};
 use std::marker::Model;
 
-/// How many kinds stand at most.
+/// The most kinds that stand.
 const MOST_KEPT: usize = 4224;
 
-/// For how many steps room is made at first, so that by doubling it comes to what is kept at most.
+/// The steps for which room is made at first. By doubling it comes to what is kept at most.
 const FIRST_ROOM: usize = 132;
 
 /// The kinds of steps, by place. The latest stand, each at the remainder of its place: one more goes where the oldest

@@ -24,7 +24,7 @@ use task_set::{Arrival, Full, JobList, TaskSet};
 use unit_attention::{Attentions, Code};
 use unit_model::{Reason, Rule};
 
-/// How many steps stand before a step of a unit's history.
+/// The place of a step in a unit's history: the number of steps before it.
 pub type Place = u64;
 
 /// The most blocks of a unit.
@@ -261,9 +261,10 @@ impl UnitState {
         Ok(place)
     }
 
-    /// Gives the unit another capacity, in blocks of 512 bytes, and raises CAPACITY DATA HAS CHANGED (SPC-4 §4.5.6). The
-    /// blocks above it are lost: where the unit grows again, they are zeros. Answers the place of the step. `BadCapacity`
-    /// for 0 and for more than 2^40 blocks, `NoMemory` where way for the step couldn't be made; after both all is as before.
+    /// Gives the unit another capacity, in blocks of 512 bytes, and raises CAPACITY DATA HAS CHANGED (SPC-4 §4.5.6).
+    /// The blocks above it are lost: where the unit grows again, they are zeros. Answers the place of the step.
+    /// `BadCapacity` for 0 and for more than 2^40 blocks, `NoMemory` where way for the step couldn't be made; after
+    /// both all is as before.
     pub fn resize(&mut self, blocks: u64) -> Result<Place, ResizeFault>
         ensures step { OnOk result (Steps self.old (Step.Resize blocks) self.new) }
         ensures place { IfOk result (λ place. place ≡ length self.old.steps) }

@@ -51,8 +51,8 @@ impl UnitState {
                 .has_commit(receipt.place(), receipt.ticket(), receipt.reply())
     }
 
-    /// Returns the ticket of the Commit at a place; `None` where another step stands, or none yet. It takes no memory. A
-    /// unit that keeps no replies knows no Commits of folded steps: there the place is asked for that isn't folded.
+    /// Returns the ticket of the Commit at a place; `None` where another step stands, or none yet. It takes no memory.
+    /// A unit that keeps no replies knows no Commits of folded steps: there the place is asked for that isn't folded.
     pub fn commit_at(&self, place: Place) -> Option<Ticket>
         requires { (self.now.keeps_replies ≡ true) ⊎ (base_of self.now.steps ≤ place) }
         ensures { result ≡ committed_one (option_map kind_of (step_at place self.now.steps)) }
@@ -152,9 +152,9 @@ impl UnitState {
     }
 
     /// Returns which blocks may have changed, and starts anew. A host calls it to write a disk through to its file, and
-    /// keeps the place of the history at the call, [`UnitState::steps`]. Where [`Changes::since`] of the next call is at
-    /// most that place, only the ranges of that call have to be written, and only below the capacity; else each block of
-    /// the disk. It takes no memory.
+    /// keeps the place of the history at the call, [`UnitState::steps`]. Where [`Changes::since`] of the next call is
+    /// at most that place, only the ranges of that call have to be written, and only below the capacity; else each
+    /// block of the disk. It takes no memory.
     pub fn take_changes(&mut self) -> Changes
         ensures unit { self.new ≡ self.old }
         ensures past { result.since ≤ length self.old.steps }

@@ -1,6 +1,6 @@
 //! How much a unit did.
 
-/// How much a unit did since it opened. A number that passes 2^64 - 1 begins again at 0.
+/// The counts of what a unit did since it opened. A number that passes 2^64 - 1 begins again at 0.
 #[derive(Clone, Copy, Debug, PartialEq, Eq)]
 pub struct Counts {
     /// The tasks that were answered and left, whatever became of them.

@@ -215,8 +215,8 @@ impl Bench {
         Ok(has_run && self.leaves(name, true, &[]))
     }
 
-    /// Serves so many requests, one after another, with jobs named from this number on. Returns whether each enters, runs
-    /// and leaves.
+    /// Serves so many requests, one after another, with jobs named from this number on. Returns whether each enters,
+    /// runs and leaves.
     fn serve(&mut self, name: u64, count: u64) -> Result<bool, NoMemory> {
         for number in 0..count {
             if !self.serves_one(name.saturating_add(number))? {

@@ -173,8 +173,8 @@ impl Hand {
         }
     }
 
-    /// Returns whether a unit confirms a receipt; `None` where it can't say: it keeps no replies, and the receipt's place
-    /// is folded.
+    /// Returns whether a unit confirms a receipt; `None` where it can't say: it keeps no replies, and the receipt's
+    /// place is folded.
     pub(crate) fn is_confirmed(&self, unit: &UnitState, number: usize) -> Option<bool> {
         let receipt = self.receipts.get(number)?;
         if unit.keeps_replies() {

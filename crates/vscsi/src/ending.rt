@@ -8,7 +8,7 @@ use script_lines::ScriptFault;
 use std::io;
 use std::process::ExitCode;
 
-/// Why the program ends.
+/// The end of the program.
 #[derive(Drop)]
 pub enum Ending {
     /// All was done.

@@ -8,24 +8,24 @@ use std::alloc::{AllocError, Global};
 /// The call that the words ask for.
 #[derive(Drop)]
 pub enum Asked<'a> {
-    /// To play a script.
+    /// Plays a script.
     Play(Play<'a>),
-    /// To say what is wrong with the script in a file, or on standard input where it is `-`.
+    /// Says what is wrong with the script in a file, or on standard input where the word is `-`.
     Check(&'a str),
-    /// To play such a script on a device that so many workers serve.
+    /// Plays such a script on a device that so many workers serve.
     Serve(&'a str, u16),
-    /// To end.
+    /// Ends the program.
     Other(Ending),
 }
 
-/// How a script is to be played.
+/// The options of playing a script.
 #[derive(Clone, Copy)]
 pub struct Play<'a> {
     /// Its file; `-` for standard input.
     pub file: &'a str,
-    /// How many steps the device may take in all; `None` for as many as it likes.
+    /// The most steps that the device may take in all; `None` for as many as it likes.
     pub steps: Option<u64>,
-    /// Whether a line is printed for each step of the device.
+    /// True if a line is printed for each step of the device.
     pub trace: bool,
 }
 

@@ -7,7 +7,7 @@ use crate::answer::Answer;
 use crate::served::Served;
 use unit_model::Counts;
 
-/// How much a unit did since its device was made: the header's `struct vscsi_counts`.
+/// The counts of what a unit did since its device was made: the header's `struct vscsi_counts`.
 #[repr(C)]
 #[derive(Clone, Copy)]
 pub struct UnitCounts {

@@ -8,8 +8,8 @@ pub struct BlockRange {
     pub count: u64,
 }
 
-/// A place of a unit's history, and what is told of the changes since the place that stood here: the number of ranges, and
-/// whether blocks outside them may have changed too.
+/// A place of a unit's history, and what is told of the changes since the place that stood here: the number of ranges,
+/// and whether blocks outside them may have changed too.
 #[repr(C)]
 #[derive(Clone, Copy)]
 pub struct Told {

@@ -11,10 +11,10 @@ use world::{Config, ConfigFault, Layout, LayoutFault};
 /// One thread serves, so there is one worker.
 const WORKERS: u16 = 1;
 
-/// How many jobs stand between a seat and the worker.
+/// The number of jobs that stand between a seat and the worker.
 const HANDOFF: u16 = 64;
 
-/// Where a queue lies: the header's `struct vscsi_queue`.
+/// The place of a queue: the header's `struct vscsi_queue`.
 #[repr(C)]
 #[derive(Clone, Copy)]
 pub struct WantedQueue {
@@ -63,7 +63,7 @@ impl WantedUnit {
     }
 }
 
-/// Why a configuration isn't taken: the header's `struct vscsi_fault`.
+/// The cause for which a configuration isn't taken: the header's `struct vscsi_fault`.
 #[repr(C)]
 #[derive(Clone, Copy)]
 pub struct Fault {

@@ -21,13 +21,13 @@ pub(crate) enum Cursor {
 /// The events that were served, and from where on to look then.
 #[derive(Clone, Copy)]
 pub(crate) struct Progress {
-    /// From where on to look.
+    /// The place from which on to look.
     pub(crate) next: Cursor,
-    /// How many events it was.
+    /// The number of events that were served.
     pub(crate) steps: u64,
 }
 
-/// How many events a request is that is served at once.
+/// The number of events of a request that is served at once.
 pub(crate) const AT_ONCE: u64 = 7;
 
 /// Returns the progress where one event was served.

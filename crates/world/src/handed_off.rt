@@ -5,7 +5,7 @@ use std::alloc::Global;
 use std::marker::Model;
 use unit_history::{Job, JobList};
 
-/// For each seat the jobs that it handed off and that none took yet, at most as many as a limit.
+/// The jobs that each seat handed off and that none took yet, at most as many as a limit.
 #[derive(Drop)]
 pub(crate) struct HandedOff {
     lists: Vec<JobList>,

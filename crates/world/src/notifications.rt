@@ -44,9 +44,8 @@ fn note(asked: &mut [u64], bays: &[Bay])
     }
 }
 
-/// How many notices each queue's driver had wanted when this was last asked. The embedder makes one beside its device,
-/// and asks it whenever drivers may be owed a notification: after each `settle`, also one that ended for want of
-/// memory, since what it answered before stands.
+/// The notices that each queue's driver had wanted when this was last asked. The embedder makes one beside its device.
+/// It asks it after each `settle`, also after one that ended for want of memory, since what was answered before stands.
 #[derive(Drop)]
 pub struct Notifications {
     asked: [u64; MOST_QUEUES],

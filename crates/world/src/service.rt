@@ -25,9 +25,9 @@ use scsi_codec::{CONTROL_QUEUE, EVENT_QUEUE, FIRST_REQUEST_QUEUE};
 /// The outcome of a call of `World::serve`.
 #[derive(Clone, Copy)]
 pub struct Served {
-    /// How many events changed something.
+    /// The number of events that changed something.
     pub steps: u64,
-    /// Whether another event would.
+    /// True if another event would change something.
     pub more: bool,
 }
 
@@ -243,8 +243,8 @@ impl Device {
         }
     }
 
-    /// Takes a queue's next chain, where the queue is asked and no event before it applies, and does at once what may be
-    /// done of it.
+    /// Takes a queue's next chain, where the queue is asked and no event before it applies, and does at once what may
+    /// be done of it.
     #[inline(always)]
     fn serve_queue(
         &mut self,

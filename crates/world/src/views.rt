@@ -139,7 +139,8 @@ impl World {
     }
 
     /// Returns which blocks of the unit of an address may have changed, as [`UnitState::take_changes`] does, and starts
-    /// anew; `None` where there is no such unit. A host calls it to write a disk through to its file. It takes no memory.
+    /// anew; `None` where there is no such unit. A host calls it to write a disk through to its file. It takes no
+    /// memory.
     pub fn take_changes(&mut self, target: u8, lun: u16) -> Option<Changes>
         ensures same { self.new ≡ self.old }
         ensures changes { GivesChanges (unit_at self.old target lun) result }

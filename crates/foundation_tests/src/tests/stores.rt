@@ -187,7 +187,8 @@ fn consist_of(
     Ok(true)
 }
 
-/// Writes that are prepared for a store of 32 blocks of zeros: the first block, the bytes, and those of the spare pages.
+/// Writes that are prepared for a store of 32 blocks of zeros: the first block, the bytes, and those of the spare
+/// pages.
 static PREPARED: [(u64, &[u8], &[u8]); 5] = [
     (1, &[0xab; 512], &[]),
     (4, &[0xab; 8192], &[]),
@@ -304,7 +305,8 @@ fn first_wrong_far(
     Ok(None)
 }
 
-/// Fills these blocks and zeroes the page of each, one after the other. The number of the first that is wrong meanwhile.
+/// Fills these blocks and zeroes the page of each, one after the other. The number of the first that is wrong
+/// meanwhile.
 fn first_lost(alloc: Global, store: &mut PagedStore) -> Result<Option<usize>, NoMemory> {
     if !fill_far(store)? {
         return Ok(Some(0));

@@ -9,8 +9,8 @@ use split_ring::SplitRing;
 use std::alloc::Global;
 use std::test::Fail;
 
-/// A layout in a memory of four pages, which ends at 16,384: size, descriptor area, driver area, device area, and why it
-/// is refused, if it is.
+/// A layout in a memory of four pages, which ends at 16,384: size, descriptor area, driver area, device area, and why
+/// it is refused, if it is.
 type Placed = (u16, u64, u64, u64, Option<LayoutFault>);
 
 /// The layouts of split queues, and what is made of each.
