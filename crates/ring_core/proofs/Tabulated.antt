@@ -1,11 +1,9 @@
 -- The list of a function's values at the numbers below a bound.
-use Rattle.std.proofs.Common.{◌≡◌, ◌≢◌, ℕ, zero, suc, ◌<◌, ◌≤◌, [], ◌∷◌, ◌++◌, length, get_or, set, replicate, false, Option, None, refl, sym, ap, ◌∙◌, arith, add-one, length-append, ◌⊎◌, inl, inr, nat_cmp}
+use Rattle.std.proofs.Common.{◌≡◌, ◌≢◌, ℕ, zero, suc, ◌<◌, ◌≤◌, [], ◌∷◌, ◌++◌, length, get_or, set, replicate, refl, sym, ap, ◌∙◌, arith, add-one, length-append, ◌⊎◌, inl, inr}
 use Rattle.std.proofs.Math.Seq.{get_or-append_seam}
 use Rattle.std.proofs.lemmas.Grind.{common_steps, replicate_next}
 use Rattle.std.proofs.lemmas.List.{ext_get_or, length-set, get_or-set_same, get_or-set_other, get_or_append_left}
-use Rattle.std.specs.BTreeMap.{BTreeMap, get, is_at, Updates, IsUnchanged, IsEmpty}
 use Rattle.ring_core.specs.Table.{tabulated}
-use Rattle.ring_core.specs.declared.outstanding.OutstandingChain.{OutstandingChain}
 
 less_or_same : (k n : ℕ) → k < suc n → (k < n) ⊎ (k ≡ n)
 less_or_same k n lt = grind arith
@@ -54,18 +52,3 @@ module _ {X : Type 0} (f g : ℕ → X) where
         | inl same ↦ ap g same ∙ here ∙ sym (ap (λ (j : ℕ). get_or (set (tabulated f n) k v) j v) same ∙ get_or-set_same (tabulated f n) k v v (omega (arith, length-tabulated f n, lt)))
         | inr other ↦ others i other ∙ sym (get_or-set_other (tabulated f n) k i v v other ∙ get_or-tabulated f n i v inside)
       ])
-
--- A map from numbers as such a list:
-module _ (m n : BTreeMap ℕ OutstandingChain) where
-  pub none_listed : IsEmpty m → (ids : ℕ) → tabulated (get nat_cmp m) ids ≡ replicate ids None
-  none_listed empty ids = tabulated-one (get nat_cmp m) None (λ k. rw empty refl) ids
-
-  pub unchanged_listed : IsUnchanged m n → (ids : ℕ) → tabulated (get nat_cmp n) ids ≡ tabulated (get nat_cmp m) ids
-  unchanged_listed same ids = tabulated-same (get nat_cmp m) (get nat_cmp n) (λ k. rw same refl) ids
-
-  pub update_listed : (k : ℕ) (w : Option OutstandingChain) → Updates nat_cmp m n k w → (ids : ℕ) → k < ids → tabulated (get nat_cmp n) ids ≡ set (tabulated (get nat_cmp m) ids) k w
-  update_listed k w updates ids lt =
-      tabulated-set (get nat_cmp m) (get nat_cmp n) k w updates.1 (λ q other. updates.2 q (apart q other)) ids lt
-    where
-      apart : (q : ℕ) → q ≢ k → is_at (nat_cmp k) q ≡ false
-      apart q other = grind (arith, common_steps)

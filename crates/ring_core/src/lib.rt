@@ -9,6 +9,7 @@
 mod answered;
 mod base;
 mod before;
+mod by_id;
 mod bytes;
 mod chain;
 mod descriptor;

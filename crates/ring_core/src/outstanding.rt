@@ -1,12 +1,10 @@
 //! The outstanding chain under each head or id, found by index or by key.
 
 ghost use Rattle.std.specs.Prelude.{◌≡◌, ◌<◌, ◌≤◌, ℕ, length, replicate, get_or, slice_set, None, Some, IfOk, OnOk, OnErr};
-ghost use Rattle.std.specs.Ordering.{nat_cmp};
-ghost use Rattle.std.specs.BTreeMap.{get};
-ghost use Rattle.ring_core.specs.Table.{tabulated, IsLeastBelow, lesser_of};
+ghost use Rattle.ring_core.specs.Table.{found_under, tabulated, IsLeastBelow, lesser_of};
 
+use crate::by_id::ChainsById;
 use std::alloc::{AllocError, Global};
-use std::collections::BTreeMap;
 use std::marker::Model;
 
 /// An outstanding chain, as its queue remembers it.
@@ -25,49 +23,38 @@ pub enum Entries {
     ByHead(Vec<Option<OutstandingChain>>),
     /// An entry for each outstanding chain: a packed queue's ids are any of 65,536, of which at
     /// most as many as its size are outstanding.
-    ById(BTreeMap<u16, OutstandingChain>),
+    ById(ChainsById),
 }
 
 /// Returns the chain under an id below a bound, if any.
-fn chain_at(
-    chains: &BTreeMap<u16, OutstandingChain>,
-    ids: usize,
-    id: u16,
-) -> Option<OutstandingChain>
-    ensures { result ≡ get_or (tabulated (get nat_cmp chains.now) ids) id None }
+#[inline(always)]
+fn chain_at(chains: &ChainsById, ids: usize, id: u16) -> Option<OutstandingChain>
+    ensures { result ≡ get_or (tabulated (found_under chains.now) ids) id None }
 {
     if (id as usize) < ids {
-        chains.get(&id).copied()
+        chains.get(id)
     } else {
         None
     }
 }
 
 /// Puts a chain under an id.
-#[inline(never)]
-fn put_chain(
-    chains: &mut BTreeMap<u16, OutstandingChain>,
-    id: u16,
-    chain: OutstandingChain,
-) -> Result<(), AllocError>
+#[inline(always)]
+fn put_chain(chains: &mut ChainsById, id: u16, chain: OutstandingChain) -> Result<(), AllocError>
     ensures ok { OnOk result ((ids : ℕ) → id < ids
-        → tabulated (get nat_cmp chains.new) ids ≡ slice_set (tabulated (get nat_cmp chains.old) ids) id (Some chain)) }
-    ensures err { OnErr result ((ids : ℕ)
-        → tabulated (get nat_cmp chains.new) ids ≡ tabulated (get nat_cmp chains.old) ids) }
+        → tabulated (found_under chains.new) ids ≡ slice_set (tabulated (found_under chains.old) ids) id (Some chain)) }
+    ensures err { OnErr result ((ids : ℕ) → tabulated (found_under chains.new) ids ≡ tabulated (found_under chains.old) ids) }
 {
-    match chains.insert(id, chain) {
-        Ok(_) => Ok(()),
-        Err(_) => Err(AllocError),
-    }
+    chains.put(id, chain)
 }
 
 /// Takes the chain from under an id.
-#[inline(never)]
-fn remove_chain(chains: &mut BTreeMap<u16, OutstandingChain>, id: u16)
+#[inline(always)]
+fn remove_chain(chains: &mut ChainsById, id: u16)
     ensures { (ids : ℕ) → id < ids
-        → tabulated (get nat_cmp chains.new) ids ≡ slice_set (tabulated (get nat_cmp chains.old) ids) id None }
+        → tabulated (found_under chains.new) ids ≡ slice_set (tabulated (found_under chains.old) ids) id None }
 {
-    let _ = chains.remove(&id);
+    chains.remove(id);
 }
 
 /// Returns the lesser of a number and that of a chain, where there are such.
@@ -93,9 +80,9 @@ fn least_by_head(places: &[Option<OutstandingChain>]) -> Option<u64>
 }
 
 /// Returns the least number of the chains under the ids below a bound.
-fn least_by_id(chains: &BTreeMap<u16, OutstandingChain>, ids: usize) -> Option<u64>
+fn least_by_id(chains: &ChainsById, ids: usize) -> Option<u64>
     requires { ids ≤ 65536 }
-    ensures { IsLeastBelow (tabulated (get nat_cmp chains.now) ids) ids result }
+    ensures { IsLeastBelow (tabulated (found_under chains.now) ids) ids result }
 {
     let mut least = None;
     for id in 0..ids {
@@ -144,7 +131,7 @@ impl OutstandingTable {
         ensures { result ≡ replicate ids None }
     {
         OutstandingTable {
-            entries: Entries::ById(BTreeMap::new(alloc)),
+            entries: Entries::ById(ChainsById::new(alloc)),
             ids,
         }
     }
