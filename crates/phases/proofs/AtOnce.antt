@@ -1,6 +1,9 @@
 -- What a request that is served at once is, by what the calls of its unit answer.
 use Rattle.std.proofs.Common.{◌≡◌, ℕ, Bool, true, List, [], refl, ap, sym, ◌∙◌, subst}
 use Rattle.ring_core.specs.declared.log.Ticket.{Ticket}
+use Rattle.ring_core.specs.State.{PlainChain}
+use Rattle.ring_core.specs.Writes.{all_written}
+use Rattle.ring_core.specs.Offer.{used_writes}
 use Rattle.unit_model.specs.Endings.{Ending}
 use Rattle.unit_model.specs.Steps.{Step}
 use Rattle.unit_model.specs.Released.{released}
@@ -12,11 +15,13 @@ use Rattle.unit_history.specs.Endings.{ending_of}
 use Rattle.unit_history.specs.declared.outcomes.Outcome as answers
 use Rattle.unit_history.specs.declared.outcomes.Entered.TheVariants as entered
 use Rattle.device_model.specs.Parts.{Outcome, Hand}
-use Rattle.queues.specs.Queue.{BareQueue}
+use Rattle.queues.specs.Queue.{BareQueue, completing}
 use Rattle.phases.specs.Units.{Commits, Leaves}
 use Rattle.phases.specs.Answering.{Answers}
+use Rattle.phases.specs.Outcomes.{WritesWhole}
 use Rattle.phases.specs.DoingUnit.{with_more}
 use Rattle.phases.specs.Serving.{ServesAtOnce}
+use Rattle.phases.proofs.Answered.{answered_so}
 use Rattle.phases.proofs.Commits.{committed}
 use Rattle.phases.proofs.Enters.{runs, with_none}
 
@@ -73,13 +78,13 @@ left_alone u u' place t out none step =
       with_none out ∙ ap (λ (jobs : List PlainJob). with_more (of_tasks (released (Step.Leave t) u.steps) jobs) out) (sym none),
     )
 
--- all of it in one call of the unit
-pub served_alone : (x : PlainJob) (u u' : PlainUnit) (q q' r : BareQueue) (m m' n : List ℕ) (out : Jobs) (A B C : Type 0)
-    → ServesAlone (λ e. A × B × C
-    × Answers (Hand.Done x (Outcome.Ended e)) q m true q' m' (Hand.Answered x.unit x.chain.ticket)) u x u'
-    → r ≡ q' → n ≡ m' → ServesAtOnce x u q m out true u' r n out
-served_alone x u u' q q' r m m' n out A B C s same same_bytes =
-    subst (λ (k : BareQueue). ServesAtOnce x u q m out true u' k n out) (sym same)
-    (subst (λ (k : List ℕ). ServesAtOnce x u q m out true u' q' k out) (sym same_bytes)
-    (all x u s.once_entered s.once_run u' q q' m m' out out true s.outcome s.enters s.commits s.answered.3
-    (left_alone s.once_run u' x.unit x.chain.ticket out s.alone s.leaves)))
+-- all of it in one call of the unit but for the use of the chain, which follows
+pub served_alone : (x : PlainJob) (u u' : PlainUnit) (q q' : BareQueue) (m n m' : List ℕ) (len : ℕ) (c : PlainChain) (out : Jobs)
+    → ServesAlone (λ e. WritesWhole x e m len n) u x u' → c ≡ x.chain
+    → m' ≡ all_written n (used_writes q.ring c.id len) → q' ≡ completing m' c q
+    → ServesAtOnce x u q m out true u' q' m' out
+served_alone x u u' q q' m n m' len c out s chain memory queue =
+    all x u s.once_entered s.once_run u' q q' m m' out out true s.outcome s.enters s.commits
+    (answered_so x (ending_of s.outcome) q q' m n m' len c x.unit x.chain.ticket s.answered refl chain
+    (ap (λ (d : PlainChain). d.ticket) (sym chain)) memory queue)
+    (left_alone s.once_run u' x.unit x.chain.ticket out s.alone s.leaves)

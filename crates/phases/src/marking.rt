@@ -26,18 +26,18 @@ fn mark_tasks(unit: &mut UnitState, mark: MarkBy, out: &mut JobList) -> Result<P
 /// wait there and are marked are appended to the list. Where memory is refused the function fails, and leaves its other
 /// units. Returns true if something changed: not where no unit is left, or where the list has fewer than 64 free
 /// places.
-pub fn phase_mark(unit: &mut UnitState, open: &mut OpenFunction, out: &mut JobList) -> bool
-    ensures { Marks open.old unit.old out.old result unit.new open.new out.new }
+pub fn phase_mark(unit: &mut UnitState, opened: &mut OpenFunction, out: &mut JobList) -> bool
+    ensures { Marks opened.old unit.old out.old result unit.new opened.new out.new }
 {
-    if !has_places(out) || open.function.next_unit().is_none() {
+    if !has_places(out) || opened.function.next_unit().is_none() {
         return false;
     }
-    match open.function.kind() {
+    match opened.function.kind() {
         Kind::Marking(mark) => match mark_tasks(unit, mark, out) {
-            Ok(place) => open.function.marked(place),
-            Err(NoMemory) => open.function.refused(),
+            Ok(place) => opened.function.marked(place),
+            Err(NoMemory) => opened.function.refused(),
         },
-        Kind::Querying(rule) => open.function.found(unit.is_alive(rule)),
+        Kind::Querying(rule) => opened.function.found(unit.is_alive(rule)),
     }
     true
 }
@@ -45,16 +45,16 @@ pub fn phase_mark(unit: &mut UnitState, open: &mut OpenFunction, out: &mut JobLi
 /// Checks whether the open function's first mark is clear, at that mark's unit, which the caller found by `waits_for`,
 /// and goes on to the next. Returns true if something changed: not where a unit is left to mark, no mark is waited for,
 /// or a task that the mark met has not left.
-pub fn phase_check(unit: &UnitState, open: &mut OpenFunction) -> bool
-    ensures { Checks open.old unit.now result open.new }
+pub fn phase_check(unit: &UnitState, opened: &mut OpenFunction) -> bool
+    ensures { Checks opened.old unit.now result opened.new }
 {
-    if open.function.next_unit().is_some() {
+    if opened.function.next_unit().is_some() {
         return false;
     }
-    match open.function.waits_for() {
+    match opened.function.waits_for() {
         Some(mark) => {
             if unit.clear_of(mark.place) {
-                open.function.cleared();
+                opened.function.cleared();
                 return true;
             }
             false

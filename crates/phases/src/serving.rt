@@ -1,6 +1,6 @@
 //! A request served at once: what the phases do of it one after another, with nothing put down between them.
 
-ghost use Rattle.std.specs.Prelude.{◌≡◌, ◌≤◌, length, true, IfOk, IfErr, OnOk, OnErr};
+ghost use Rattle.std.specs.Prelude.{◌≡◌, length, true, IfSome, IfNone};
 ghost use Rattle.ring_core.specs.State.{Owns};
 ghost use Rattle.device_model.specs.Parts as plain;
 ghost use Rattle.phases.specs.DoingUnit.{HasPlaces};
@@ -9,9 +9,9 @@ ghost use Rattle.phases.specs.Units.{Leaves};
 ghost use Rattle.phases.specs.Answering.{Answers};
 ghost use Rattle.phases.specs.Outcomes.{WritesWhole};
 ghost use Rattle.phases.specs.Serving.{Serves, ServesAtOnce};
-ghost use Rattle.unit_history.specs.Endings.{ending_of, ending_of_run, FitsNeed};
+ghost use Rattle.unit_history.specs.Endings.{ending_of, FitsNeed};
+ghost use Rattle.unit_history.specs.Serving.{ServesAlone};
 ghost use Rattle.cdb.specs.Need.{need_of};
-ghost use Rattle.unit_model.specs.Jobs.{Jobs};
 
 use crate::direct_chain::DirectChain;
 use crate::refusal::Refusal;
@@ -51,36 +51,23 @@ fn answer_job(queue: &mut Queue, memory: &mut GuestMem, job: Job, outcome: &Outc
     queue.complete(memory, job.into_chain(), len)
 }
 
-/// Writes what answers a request over the writable parts of its chain, by what came of its command.
-#[inline(always)]
-fn write_arrival(memory: &mut GuestMem, arrival: &Arrival, ran: &Result<Reply, NoMemory>) -> u32
-    requires fits { length memory.old ≡ arrival.now.chain.memory }
-    requires payload { IfOk ran.now (λ r. length r.payload.items ≤ (need_of arrival.now.entry.command).into) }
-    ensures written { WritesWhole arrival.now (ending_of_run ran.now) memory.old result memory.new }
-    ensures size { length memory.new ≡ length memory.old }
-{
-    write_run(memory, arrival.chain(), &arrival.lengths(), ran)
-}
-
-/// A queue with the memory, where requests of its chains are answered.
+/// Guest memory, where what answers a request is written, and how many bytes of it were.
 #[derive(Drop)]
 struct Answer<'a> {
-    queue: &'a mut Queue,
     memory: &'a mut GuestMem,
+    len: u32,
 }
 
 impl<'a> Answering for Answer<'a> {
-    ghost may_answer = { λ s x. (length s.memory.now ≡ s.queue.now.ring.memory) × Owns s.queue.now.ring x.chain };
+    ghost may_answer = { λ s x. length s.memory.now ≡ x.chain.memory };
 
-    // It has the same queue and memory afterwards.
-    ghost answers = { λ s x e t. (t.queue.ghost_name ≡ s.queue.ghost_name) × (t.memory.ghost_name ≡ s.memory.ghost_name)
-        × (length t.memory.now ≡ length s.memory.now) × Answers (plain.Hand.Done x (plain.Outcome.Ended e))
-        s.queue.now s.memory.now true t.queue.now t.memory.now (plain.Hand.Answered x.unit x.chain.ticket) };
+    // It has the same memory afterwards.
+    ghost answers = { λ s x e t. (t.memory.ghost_name ≡ s.memory.ghost_name)
+        × (length t.memory.now ≡ length s.memory.now) × WritesWhole x e s.memory.now t.len t.memory.now };
 
     #[inline(always)]
-    fn answer(&mut self, arrival: Arrival, ran: &Result<Reply, NoMemory>) -> Answered {
-        let len = write_arrival(self.memory, &arrival, ran);
-        self.queue.complete(self.memory, arrival.into_chain(), len)
+    fn answer(&mut self, arrival: &Arrival, ran: &Result<Reply, NoMemory>) {
+        self.len = write_run(self.memory, arrival.chain(), &arrival.lengths(), ran);
     }
 }
 
@@ -97,26 +84,21 @@ fn leave(unit: &mut UnitState, answered: Answered, out: &mut JobList) -> bool
     }
 }
 
-/// Serves a request in one call of its unit, where that may be; else it is given back, with nothing changed.
+/// Serves a request in one call of its unit, where that may be, but for the use of its chain. Returns how many bytes
+/// answer it; `None` where it may not be, with nothing changed.
 #[inline(always)]
-fn serve_alone(
-    unit: &mut UnitState,
-    queue: &mut Queue,
-    memory: &mut GuestMem,
-    arrival: Arrival,
-) -> Result<(), Arrival>
-    requires fits { length memory.old ≡ queue.old.ring.memory }
-    requires owned { Owns queue.old.ring arrival.chain }
-    ensures serves { OnOk result ((out : Jobs) → ServesAtOnce arrival unit.old queue.old memory.old out true
-        unit.new queue.new memory.new out) }
-    ensures size { OnOk result (length memory.new ≡ length memory.old) }
-    ensures same { OnErr result ((unit.new ≡ unit.old) × (queue.new ≡ queue.old) × (memory.new ≡ memory.old)) }
-    ensures back { IfErr result (λ back. back ≡ arrival) }
+fn serve_alone(unit: &mut UnitState, memory: &mut GuestMem, arrival: &Arrival) -> Option<u32>
+    requires fits { length memory.old ≡ arrival.now.chain.memory }
+    ensures serves { IfSome result (λ len.
+        ServesAlone (λ e. WritesWhole arrival.now e memory.old len memory.new) unit.old arrival.now unit.new) }
+    ensures size { length memory.new ≡ length memory.old }
+    ensures same { IfNone result ((unit.new ≡ unit.old) × (memory.new ≡ memory.old)) }
 {
-    let mut answer = Answer { queue, memory };
-    match unit.serve_alone(arrival, &mut answer) {
-        Ok(()) => Ok(()),
-        Err(arrival) => Err(arrival),
+    let mut answer = Answer { memory, len: 0 };
+    if unit.serve_alone(arrival, &mut answer) {
+        Some(answer.len)
+    } else {
+        None
     }
 }
 
@@ -184,8 +166,11 @@ pub fn serve_request(
         unit.new queue.new memory.new (slot_of slot.new) out.new }
     ensures size { length memory.new ≡ length memory.old }
 {
-    match serve_alone(unit, queue, memory, arrival) {
-        Ok(()) => Some(true),
-        Err(arrival) => serve_by_steps(unit, queue, memory, slot, arrival, out),
+    match serve_alone(unit, memory, &arrival) {
+        Some(len) => {
+            queue.complete(memory, arrival.into_chain(), len);
+            Some(true)
+        }
+        None => serve_by_steps(unit, queue, memory, slot, arrival, out),
     }
 }

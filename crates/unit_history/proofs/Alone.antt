@@ -1,5 +1,5 @@
 -- A request that is served where no task is alive: what its unit is then.
-use Rattle.std.proofs.Common.{◌≡◌, ℕ, ◌+◌, ◌≤◌, Bool, true, false, not, ◌||◌, cond, List, [], ◌∷◌, map, length, Option, Some, None, is_some, Result, Ok, Err, refl, sym, ◌∙◌, ap, subst, arith}
+use Rattle.std.proofs.Common.{◌≡◌, ℕ, ◌+◌, ◌-◌, ◌≤◌, Bool, true, false, not, ◌||◌, cond, List, [], ◌∷◌, map, length, Option, Some, None, is_some, Result, Ok, Err, refl, sym, ◌∙◌, ap, subst, arith}
 use Rattle.ring_core.specs.declared.log.Ticket.{Ticket}
 use Rattle.block_store.specs.Blocks.{Blocks}
 use Rattle.block_store.specs.declared.NoMemory.{NoMemory}
@@ -10,7 +10,8 @@ use Rattle.decisions.specs.declared.attribute.TaskAttribute.{TaskAttribute}
 use Rattle.decisions.specs.declared.attribute.TaskAttribute.TheVariants.{Simple, Ordered, HeadOfQueue}
 use Rattle.unit_model.specs.Tasks.{Entry, blocks, is_blocked}
 use Rattle.unit_model.specs.Steps.{Step, floor}
-use Rattle.unit_model.specs.Seen.{finished, freed}
+use Rattle.unit_model.specs.Seen.{Seen, finished, freed}
+use Rattle.unit_model.specs.Base.{most_before}
 use Rattle.replies.specs.Effects.{given}
 use Rattle.unit_model.specs.Contents.{Opening, capacity_of, facts_after}
 use Rattle.unit_model.specs.Lawful.{IsReady}
@@ -25,13 +26,14 @@ use Rattle.unit_history.specs.Calls.{Enters}
 use Rattle.unit_history.specs.Endings.{ending_of, ending_of_run}
 use Rattle.unit_history.specs.Changes.{PlainChanges}
 use Rattle.unit_history.specs.Noting.{Notes, AreRecorded}
-use Rattle.unit_history.specs.Parts.{AreKept}
+use Rattle.unit_history.specs.Parts.{AreKept, AreClear, AreBased}
 use Rattle.unit_history.specs.Performing.{Performs, step_for, unkept}
 use Rattle.unit_history.specs.Outcomes.{outcome_for}
 use Rattle.unit_history.specs.Serving.{ServesAlone}
 use Rattle.unit_model.specs.Unit.{Steps}
 use Rattle.unit_history.specs.declared.outcomes.Entered.TheVariants as entered
 use Rattle.unit_history.specs.declared.performing.Performed.{Performed}
+use Rattle.unit_history.proofs.Basing.{based_way, based_on, ran_folds}
 use Rattle.unit_history.proofs.Committing.{is_of, keep_run, commits_run}
 use Rattle.unit_history.proofs.Entering.{enters_task}
 use Rattle.unit_history.proofs.Keeping.{CameTo, is_ready, may_leave, keep_enter, keep_leave}
@@ -152,13 +154,24 @@ module _ (o : Opening) (past : List Step) (block_at : Blocks) (pending : List Co
         }
 
 -- the steps of all of it
-pub all_steps : (t t1 t2 : Ticket) (e e1 : Entry) (p : Option Performed) (s0 s1 s2 s3 s4 : List Step) → s1 ≡ s0
-    → s2 ≡ Step.Enter e1 ∷ s1 → e1 ≡ e → s3 ≡ step_for t1 p ∷ s2 → t1 ≡ t → s4 ≡ Step.Leave t2 ∷ s3 → t2 ≡ t
-    → s4 ≡ Step.Leave t ∷ step_for t p ∷ Step.Enter e ∷ s0
-all_steps t t1 t2 e e1 p s0 s1 s2 s3 s4 a b c d f g h =
-    g ∙ ap (λ n. Step.Leave n ∷ s3) h
-    ∙ ap (λ w. Step.Leave t ∷ w) (d ∙ ap (λ n. step_for n p ∷ s2) f)
-    ∙ ap (λ w. Step.Leave t ∷ step_for t p ∷ w) (b ∙ ap (λ n. Step.Enter n ∷ s1) c ∙ ap (λ w. Step.Enter e ∷ w) a)
+pub all_steps : (t t1 : Ticket) (e e1 : Entry) (p : Option Performed) (run : Step) (s0 s1 s2 : List Step) → s1 ≡ s0
+    → s2 ≡ Step.Leave t1 ∷ run ∷ Step.Enter e1 ∷ s1 → e1 ≡ e → run ≡ step_for t1 p → t1 ≡ t
+    → s2 ≡ Step.Leave t ∷ step_for t p ∷ Step.Enter e ∷ s0
+all_steps t t1 e e1 p run s0 s1 s2 a b c d f =
+    b ∙ ap (λ n. Step.Leave n ∷ run ∷ Step.Enter e1 ∷ s1) f
+    ∙ ap (λ w. Step.Leave t ∷ w ∷ Step.Enter e1 ∷ s1) (d ∙ ap (λ n. step_for n p) f)
+    ∙ ap (λ x. Step.Leave t ∷ step_for t p ∷ Step.Enter x ∷ s1) c
+    ∙ ap (λ w. Step.Leave t ∷ step_for t p ∷ Step.Enter e ∷ w) a
+
+-- and what is folded of them
+pub based_served : (base n n' : ℕ) (t : Ticket) (p : Option Performed) (e : Entry) (past steps' : List Step) (tasks : List Seen)
+    → base ≡ length past - most_before → n' ≡ n → steps' ≡ Step.Leave t ∷ step_for t p ∷ Step.Enter e ∷ past
+    → AreClear n past tasks → AreBased base n' steps' tasks
+based_served base n n' t p e past steps' tasks is same steps clear =
+    let entered = based_way base n n' (Step.Enter e) past (Step.Enter e ∷ past) tasks tasks refl is same refl (λ le b. b) clear in
+    let ran = based_on base base n' n' (step_for t p) (Step.Enter e ∷ past) (step_for t p ∷ Step.Enter e ∷ past) tasks tasks
+    entered (ran_folds t p) refl refl refl (λ b. b) in
+    based_on base base n' n' (Step.Leave t) (step_for t p ∷ Step.Enter e ∷ past) steps' tasks tasks ran refl refl refl steps (λ b. b)
 
 -- the same of a unit with its tasks, of which there are none
 module _ (o : Opening) (past : List Step) (block_at : Blocks) (pending : List Code) (tasks : List PlainTask)
@@ -179,14 +192,16 @@ module _ (o : Opening) (past : List Step) (block_at : Blocks) (pending : List Co
       (kept_left o past block_at pending last_tickets room kept_none j last_tickets' le came room1 reserve facts p block_at' pending' as_told ran
       room2 room3 less fewer))
 
-  pub recorded_served : (capacity : ℕ) (c c' : PlainChanges) → AreRecorded o past c
-      → Notes (λ b. is_some (given j.entry.command j.entry.data_out b)) capacity (length (Step.Enter j.entry ∷ past)) c c' → capacity ≡ capacity_of o past
+  pub recorded_served : (capacity place : ℕ) (c c' : PlainChanges) → AreRecorded o past c → place ≡ length past + 1
+      → Notes (λ b. is_some (given j.entry.command j.entry.data_out b)) capacity place c c' → capacity ≡ capacity_of o past
       → AreRecorded o steps' c'
-  recorded_served capacity c c' noted n size =
+  recorded_served capacity place c c' noted behind n size =
       let t = j.entry.ticket in
+      let is_place : place ≡ length (Step.Enter j.entry ∷ past) = omega (arith, behind) in
+      let notes = subst (λ k. Notes (λ b. is_some (given j.entry.command j.entry.data_out b)) capacity k c c') is_place n in
       let entered = recorded_on o (Step.Enter j.entry) past _ c noted (λ b below out. (below, refl)) refl in
       let there = (ready o past block_at pending last_tickets room kept_none j last_tickets' le came room1 reserve facts p block_at' pending' as_told ran).is_there in
-      let ran' = recorded_run o t j.entry p (Step.Enter j.entry ∷ past) _ capacity c c' entered there n size refl in
+      let ran' = recorded_run o t j.entry p (Step.Enter j.entry ∷ past) _ capacity c c' entered there notes size refl in
       recorded_on o (Step.Leave t) (step_for t p ∷ Step.Enter j.entry ∷ past) steps' c' ran' (λ b below out. (below, refl)) is
 
   pub serves_alone : (answers : Ending → Type 0) (keeps keeps' : Bool) → keeps ≡ false → keeps' ≡ false

@@ -1,6 +1,6 @@
 //! The steps of a history, of which the code keeps what it is asked.
 
-ghost use Rattle.std.specs.Prelude.{◌≡◌, ◌+◌, ◌-◌, ◌<◌, ◌≤◌, nat_lt, [], ◌∷◌, ◌++◌, length, drop, max, OnOk, OnErr, IfSome, Option, Some, None, slice_get, true, false, ◌⊎◌, IsTrue, ◌↔◌, if◌then◌else◌};
+ghost use Rattle.std.specs.Prelude.{◌≡◌, ◌+◌, ◌-◌, ◌<◌, ◌≤◌, ◌%◌, nat_lt, [], ◌∷◌, ◌++◌, length, drop, max, OnOk, OnErr, IfSome, Option, Some, None, slice_get, true, false, ◌⊎◌, IsTrue, ◌↔◌, if◌then◌else◌};
 ghost use Rattle.std.specs.Option.{option_map};
 ghost use Rattle.replies.specs.PlainReply.{PlainReply, plain_of};
 ghost use Rattle.unit_model.specs.Base.{most_before, most_kept};
@@ -335,11 +335,11 @@ impl StepLog {
         Ok(())
     }
 
-    /// Adds one more step, for which room was made, with its reply where that is kept: of a Commit, in a log that keeps
-    /// replies, and not longer than [`LONGEST_KEPT`]. The unit calls it as it takes the step. It takes no memory.
+    /// Adds one more step at the index of its place, as [`StepLog::push`] does.
     // Within its callers the data that proofs alone see are never built.
     #[inline(always)]
-    pub fn push(&mut self, step: RecordedStep, reply: Option<Reply>)
+    fn push_at(&mut self, index: usize, step: RecordedStep, reply: Option<Reply>)
+        requires index { index ≡ length self.old.steps % most_kept }
         requires room { 0 < self.old.room }
         requires reply { option_map plain_of reply ≡ reply_kept self.old.keeps (step_recorded step) }
         ensures steps { self.new.steps ≡ step_recorded step ∷ self.old.steps }
@@ -351,7 +351,43 @@ impl StepLog {
         let kind = step.kind();
         self.noted.push(&step);
         push_where(self.keeps_replies, &mut self.replies, reply);
-        self.kinds.push(kind);
+        self.kinds.push_at(index, kind);
+    }
+
+    /// Adds one more step, for which room was made, with its reply where that is kept: of a Commit, in a log that keeps
+    /// replies, and not longer than [`LONGEST_KEPT`]. The unit calls it as it takes the step. It takes no memory.
+    #[inline(always)]
+    pub fn push(&mut self, step: RecordedStep, reply: Option<Reply>)
+        requires room { 0 < self.old.room }
+        requires reply { option_map plain_of reply ≡ reply_kept self.old.keeps (step_recorded step) }
+        ensures steps { self.new.steps ≡ step_recorded step ∷ self.old.steps }
+        ensures keeps { self.new.keeps ≡ self.old.keeps }
+        ensures room { self.old.room ≤ self.new.room + 1 }
+        ensures base { self.new.base ≡ self.old.base }
+        ensures forgotten { self.new.forgotten ≡ self.old.forgotten }
+    {
+        let index = index_of(self.len());
+        self.push_at(index, step, reply);
+    }
+
+    /// Adds three steps, one after another, for which room was made, in a log that keeps no replies. The unit calls it
+    /// for a request that it served to its end. It takes no memory.
+    #[inline(always)]
+    pub fn push_three(&mut self, first: RecordedStep, second: RecordedStep, third: RecordedStep)
+        requires room { 3 ≤ self.old.room }
+        requires keeps { self.old.keeps ≡ false }
+        ensures steps { self.new.steps
+            ≡ step_recorded third ∷ step_recorded second ∷ step_recorded first ∷ self.old.steps }
+        ensures keeps { self.new.keeps ≡ self.old.keeps }
+        ensures room { self.old.room ≤ self.new.room + 3 }
+        ensures base { self.new.base ≡ self.old.base }
+        ensures forgotten { self.new.forgotten ≡ self.old.forgotten }
+    {
+        let index = index_of(self.len());
+        self.push_at(index, first, None);
+        let next = index_behind(index);
+        self.push_at(next, second, None);
+        self.push_at(index_behind(next), third, None);
     }
 
     /// Returns whose Commit the step at a place is, if it is one. A log that keeps no replies knows no Commits that are

@@ -169,16 +169,17 @@ impl KindRing {
         grow(&mut self.slots)
     }
 
-    /// Adds one more, for which there is room. It takes no memory.
+    /// Adds one more at its index, for which there is room. It takes no memory.
     #[inline(always)]
-    pub(crate) fn push(&mut self, kind: StepKind)
+    pub(crate) fn push_at(&mut self, index: usize, kind: StepKind)
+        requires index { index ≡ length self.old.kinds % most_kept }
         requires room { min (length self.old.kinds) 4223 < self.old.cap }
         requires few { length self.old.kinds + 1 < 2 ^ 64 }
         ensures kinds { self.new.kinds ≡ self.old.kinds ++ kind ∷ [] }
         ensures cap { self.new.cap ≡ self.old.cap }
     {
         self.calm = calm_with(self.calm, self.len, kind);
-        put(&mut self.slots, index_of(self.len), kind);
+        put(&mut self.slots, index, kind);
         self.all.push(&kind);
         self.len += 1;
     }

@@ -1,10 +1,11 @@
 //! A logical unit.
 
-ghost use Rattle.std.specs.Prelude.{◌≡◌, ◌+◌, ◌-◌, ◌≤◌, length, OnOk, OnErr};
+ghost use Rattle.std.specs.Prelude.{◌≡◌, ◌+◌, ◌-◌, ◌<◌, ◌≤◌, length, OnOk, OnErr};
 ghost use Rattle.unit_model.specs.Base.{most_before};
 ghost use Rattle.unit_model.specs.Contents.{is_capacity as may_have};
 ghost use Rattle.task_set.specs.Tasks.{seen_of};
 ghost use Rattle.unit_history.specs.Parts.{AreClear};
+ghost use Rattle.unit_history.specs.Recorded.{most_steps};
 
 use crate::changes::Changes;
 use crate::last_tickets::LastTickets;
@@ -89,6 +90,7 @@ pub(crate) fn make_way(log: &mut StepLog, tasks: &TaskSet) -> Result<(), AllocEr
     ensures keeps { log.new.keeps ≡ log.old.keeps }
     ensures base { OnOk result (log.new.base ≡ length log.old.steps - most_before) }
     ensures room { OnOk result (129 ≤ log.new.room) }
+    ensures limit { OnOk result (length log.old.steps < most_steps) }
     ensures kept { OnErr result ((log.new.base ≡ log.old.base) × (log.old.room ≤ log.new.room)) }
     ensures clear { AreClear log.old.forgotten log.old.steps (seen_of tasks.now) →
         AreClear log.new.forgotten log.old.steps (seen_of tasks.now) }

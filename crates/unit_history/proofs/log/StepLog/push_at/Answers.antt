@@ -3,7 +3,7 @@ use Rattle.unit_history.specs.Kept.{reply_kept}
 use Rattle.unit_history.specs.Recorded.{Logged, step_recorded}
 use Rattle.unit_history.proofs.Bounds.{room_within}
 use Rattle.unit_history.proofs.Latest.{recorded_more}
-use Rattle.unit_history.proofs.log.StepLog.push.Goals as goal
+use Rattle.unit_history.proofs.log.StepLog.push_at.Goals as goal
 
 pub invariant_of-self : goal.invariant_of-self
 invariant_of-self c =
@@ -12,4 +12,4 @@ invariant_of-self c =
     recorded_more u.keeps_replies u.folded.keeps u.base u.kinds.cap _ u.folded.kinds u.kinds.kinds _ u.replies.items _ u.noted.items _
     c.args.step c.kind-kind.result c.args.reply c.self.invariant (omega (arith, room)) c.kind-kind.ensures
     (c.requires.reply ∙ ap (λ (l : Logged). reply_kept l.keeps (step_recorded c.args.step)) (sym c.self.view_is))
-    c.push-2.ensures.cap c.push-2.ensures.kinds c.push_where.ensures.items c.push.ensures
+    c.push_at.ensures.cap c.push_at.ensures.kinds c.push_where.ensures.items c.push.ensures
