@@ -17,11 +17,27 @@ use std::sync::Wait;
 use std::sync::ledger::Ledger;
 use std::thread;
 
+/// The bytes of a request from which on another worker that waits for a job gets it: the length of a READ or a WRITE of
+/// 16 KiB, which takes longer than a job's way to another processor.
+const LONG: u64 = 16_384;
+
 /// Returns the ticket of a request that arrived; `None` where none did.
 fn arrived(slot: &Slot) -> Option<Ticket> {
     match slot {
         Slot::Arrived(arrival) => Some(arrival.ticket()),
         Slot::Empty | Slot::Direct(_) => None,
+    }
+}
+
+/// Returns true if a request arrived that has so much data that another worker may as well run it. A short one is run
+/// here sooner than another processor has its job.
+fn is_long_arrival(slot: &Slot) -> bool {
+    match slot {
+        Slot::Arrived(arrival) => {
+            let lengths = arrival.lengths();
+            lengths.readable >= LONG || lengths.writable >= LONG
+        }
+        Slot::Empty | Slot::Direct(_) => false,
     }
 }
 
@@ -36,8 +52,8 @@ fn has_job(hand: &Hand) -> bool
 }
 
 /// Has the task in the hand leave a unit and the request that arrived enter it, in one hold. Commits the only job that
-/// may run then in the same hold, where no gate watches and no other worker waits for a job. Where a job is in the hand
-/// the request enters alone.
+/// may run then in the same hold, where no gate watches, and the request is short or no other worker waits for a job.
+/// Where a job is in the hand the request enters alone.
 fn turn_at<R: Wait, G: Gate + Drop, C: Ledger, W: Ledger>(
     rt: &R,
     shared: &Shared<G, C, W>,
@@ -56,7 +72,7 @@ fn turn_at<R: Wait, G: Gate + Drop, C: Ledger, W: Ledger>(
         enter_on(&mut units, at, slot, &mut post.out);
         return NextJob::Listed;
     }
-    if shared.gate.watches() || shared.is_awaited(post.waits) {
+    if shared.gate.watches() || (is_long_arrival(slot) && shared.is_awaited(post.waits)) {
         leave_enter_on(&mut units, at, &mut post.hand, slot, &mut post.out);
         return NextJob::Listed;
     }
