@@ -9,6 +9,10 @@ ROOT = Path(__file__).resolve().parent.parent.parent
 FOLDER = ROOT / "out/c"
 
 
+# The header as it stands in the crate, for what needs no library.
+HEADER = ROOT / "crates/vscsi_c/include"
+
+
 def compiled(folder, name, *words):
     """A program, built anew."""
     program = folder / name
@@ -28,3 +32,11 @@ def floors(folder=FOLDER):
     """The same over the least that a device does, with one copy of the data, and with as many as the library makes."""
     floor = ROOT / "examples/c/floor.c"
     return compiled(folder, "floor", floor), compiled(folder, "floor_copies", "-DCOPIES", floor)
+
+
+def floor_of_threads(folder):
+    """The same guest, and the least that a device does, in one thread or in two: examples/c/floor_threads.c."""
+    program = Path(folder) / "floor_threads"
+    source = ROOT / "examples/c/floor_threads.c"
+    subprocess.run(["cc", "-std=c11", "-O2", "-DCOPIES", f"-I{HEADER}", source, "-o", program, "-lpthread"], check=True)
+    return program
