@@ -26,7 +26,7 @@ invariant_of-self-2 c =
     unit_kept d.memory d.bays.items d.units.items d.seats.items c.in-Some-next_unit.place c.phase_mark.new.unit 0 s
     (listing out s) c.self.invariant s_at
     (limit_stays f f.function.left c.index_mut.result.now (list_of s) c.phase_mark.result c.phase_mark.new.unit
-    c.phase_mark.new.open out c.phase_mark.ensures)
+    c.phase_mark.new.opened out c.phase_mark.ensures)
 
 pub returns : goal.returns
 returns c =
@@ -49,5 +49,5 @@ returns c =
     (marks (seen.the_view d) d.seats.items refl
     (subst (λ (w : PlainWorld). HaveRoom w) (sym c.self.view_is) c.requires.sound.room)
     c.self.invariant.limits f c.in-Some.is c.in-Some-next_unit.place c.index_mut.result.now s u_at s_at
-    c.phase_mark.new.unit c.phase_mark.new.open c.phase_mark.new.out f.function.left refl first
+    c.phase_mark.new.unit c.phase_mark.new.opened c.phase_mark.new.out f.function.left refl first
     c.phase_mark.result c.phase_mark.ensures)
