@@ -1,6 +1,6 @@
 //! Who serves: the device of one thread, or a host of several.
 
-ghost use Rattle.workers.specs.Tallying.{Opens};
+ghost use Rattle.workers.specs.Ledgers.{Opens};
 
 use crate::failure::Failure;
 use crate::places::request_at;

@@ -1,6 +1,6 @@
 //! What is printed.
 
-ghost use Rattle.workers.specs.Tallying.{Opens};
+ghost use Rattle.workers.specs.Ledgers.{Opens};
 
 use crate::device::{Alone, Hosted};
 use crate::failure::Failure;

@@ -1,7 +1,7 @@
 //! Plays a script on a device that threads serve.
 
 ghost use Rattle.std.specs.Prelude.{◌≡◌, Ok, Err};
-ghost use Rattle.workers.specs.Tallying.{Opens};
+ghost use Rattle.workers.specs.Ledgers.{Opens};
 
 use crate::guest::run_guest_line;
 use crate::header::{Wanted, stop_of};

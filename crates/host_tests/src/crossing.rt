@@ -1,6 +1,6 @@
 //! Two WRITEs into one page, whose pages are made at once.
 
-ghost use Rattle.workers.specs.Tallying.{Opens};
+ghost use Rattle.workers.specs.Ledgers.{Opens};
 
 use crate::guest::{Asked, are_answered, ask};
 use crate::meeting::LONG;

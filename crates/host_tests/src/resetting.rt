@@ -1,6 +1,6 @@
 //! A host whose operator resets a unit.
 
-ghost use Rattle.workers.specs.Tallying.{Opens};
+ghost use Rattle.workers.specs.Ledgers.{Opens};
 
 use crate::guest::{Asked, are_answered, ask, written};
 use crate::runs::{FIRST, Left, start, summed};

@@ -1,6 +1,6 @@
 //! Hosts from start to close.
 
-ghost use Rattle.workers.specs.Tallying.{Opens};
+ghost use Rattle.workers.specs.Ledgers.{Opens};
 ghost use Rattle.std.specs.Prelude.{◌≡◌};
 
 use crate::guest::{Asked, PAGES, are_answered, ask, layouts};

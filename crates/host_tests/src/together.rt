@@ -1,6 +1,6 @@
 //! Workers that serve at once.
 
-ghost use Rattle.workers.specs.Tallying.{Opens};
+ghost use Rattle.workers.specs.Ledgers.{Opens};
 
 use crate::guest::{Asked, are_answered, ask};
 use crate::meeting::{LONG, Meeting, SHORT, Seen};

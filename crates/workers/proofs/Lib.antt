@@ -3,4 +3,3 @@ pub mod CrewCrossing
 pub mod Crossing
 pub mod Resetting
 pub mod Resizing
-pub mod Tallying

@@ -1,5 +1,5 @@
 pub mod Crew
 pub mod Extent
+pub mod Ledgers
 pub mod Resetting
 pub mod Resizing
-pub mod Tallying

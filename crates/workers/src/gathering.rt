@@ -2,7 +2,7 @@
 
 ghost use Rattle.std.specs.Prelude.{◌≡◌, ◌+◌, ◌≤◌, vec_len, IfOk, OnOk};
 ghost use Rattle.report.specs.Keeping.{receipts_kept};
-ghost use Rattle.workers.specs.Tallying.{commits_in};
+ghost use Rattle.workers.specs.Ledgers.{commits_in};
 
 use crate::tallied::{BlankPart, Tallied};
 use bays::{CountedUnit, Part};

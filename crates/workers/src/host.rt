@@ -1,33 +1,28 @@
 //! The host: its threads, from start to close.
 
-ghost use Rattle.std.specs.Prelude.{◌≡◌, ◌<◌, ◌≤◌, true, length, vec_len, IfOk, IfErr, OnOk, OnErr};
+ghost use Rattle.std.specs.Prelude.{◌≡◌, ◌<◌, true, length, vec_len, IfOk, IfErr, OnOk, OnErr};
 ghost use Rattle.std.specs.Arc.{arc_value};
-ghost use Rattle.std.specs.Bool.{OnTrue};
-ghost use Rattle.handoff.specs.Seats.{IsSeatOf, IsSameSeat};
 ghost use Rattle.config.specs.Config.{is_config};
+ghost use Rattle.posts.specs.Tallying.{Tallies};
 ghost use Rattle.workers.specs.Extent.{Starts, extent_of};
-ghost use Rattle.workers.specs.Resetting.{WasReset};
-ghost use Rattle.workers.specs.Resizing.{WasResized};
-ghost use Rattle.workers.specs.Tallying.{Opens, Tallies};
-ghost use Rattle.unit_history.specs.Calls.{ResizeRefused};
+ghost use Rattle.workers.specs.Ledgers.{Opens};
 
 use crate::alone::unshared;
-use crate::control::raise;
 use crate::crew::{Crew, hire};
 use crate::gathering::{kept_of, split_off, units_of};
-use crate::hired::{Worked, Works};
-use crate::opening::Parts;
-use crate::post::{Post, drain, finish};
-use crate::shared::Shared;
+use crate::hired::{Begins, Worked, Works};
+use crate::opening::open_parts;
+use crate::operating::{reset, resize};
 use crate::tallied::{BlankPart, Tallied};
 use crate::worker::{Worker, ends, work};
-use bays::{Books, Gate, hard_on, hold, peek_on, poke_on, resize_on};
+use bays::{Books, Gate, hold, peek_on, poke_on};
 use block_store::NoMemory;
 use config::{Config, StartFault, tells_changes};
 use decisions::UnitSpec;
 use event_queue::WaitingEvents;
 use guest_mem::MemFault;
 use handoff::{Handoff, Seat};
+use posts::{Post, Shared, finish};
 use report::{CloseFault, Report, report_closed};
 use ring_core::RingFault;
 use std::alloc::{AllocError, Global};
@@ -36,7 +31,13 @@ use std::sync::ledger::{Blank, Ledger, Share};
 use std::sync::{Arc, Wait};
 use std::thread::Threads;
 use task_set::MOST_TASKS;
-use unit_history::{ResizeFault, is_capacity};
+use unit_history::ResizeFault;
+
+impl<W: Ledger> Begins for Post<W> {
+    ghost seat = { λ p. p.seat };
+
+    ghost is_even = { λ p. Tallies p.lost p.part.share.amount p.kept p.hand };
+}
 
 impl<G: Gate + Drop, C: Ledger, W: Ledger> Works<Post<W>, Tallied<W>, BlankPart<W>>
     for Shared<G, C, W> {
@@ -112,7 +113,7 @@ where
     let seat_parts = split_off(alloc, &mut receipts, seats)?;
     let (handoff, seats) = Handoff::new(alloc, config.handoff as usize, seats)?;
     let limit = MOST_TASKS * config.units.len() + MOST_TASKS;
-    let parts = Parts::open(alloc, &config, &mut commits)?;
+    let parts = open_parts(alloc, &config, &mut commits)?;
     let books = Books::new(made, given);
     let shared = share(alloc, Shared::new(parts, books, handoff, gate))?;
     let (crew, post) = hire(rt, alloc, &shared, seats, seat_parts, limit)?;
@@ -127,124 +128,6 @@ where
         told: tells_changes(config.features),
         specs: config.units,
     })
-}
-
-/// Resets a unit, in one hold of its lock. Returns true if it did: not where memory was refused, or where the list has
-/// no room for the jobs that this releases.
-fn reset_one<R: Wait, G: Gate + Drop, C: Ledger, W: Ledger>(
-    rt: &R,
-    shared: &Shared<G, C, W>,
-    at: usize,
-    post: &mut Post<W>,
-    waiting: &mut WaitingEvents,
-) -> bool
-    requires at { at < vec_len shared.now.units }
-    requires tally { Tallies post.old.lost post.old.part.share.amount post.old.kept post.old.hand }
-    ensures reset { OnTrue result WasReset }
-    ensures seat { post.new.seat ≡ post.old.seat }
-    ensures tally { Tallies post.new.lost post.new.part.share.amount post.new.kept post.new.hand }
-{
-    match hard_on(
-        &mut shared.units(rt, &mut post.part),
-        at,
-        &mut post.out,
-        waiting,
-    ) {
-        Ok(was_reset) => was_reset,
-        Err(NoMemory) => false,
-    }
-}
-
-/// Resets a unit for the operator, and tells the guest. Serves first what the operator's seat had. A unit that isn't
-/// there changes nothing. `NoMemory` where a growth was refused: the unit wasn't reset then. It may wait, and run
-/// commands.
-fn reset<R: Wait, G: Gate + Drop, C: Ledger, W: Ledger>(
-    rt: &R,
-    shared: &Shared<G, C, W>,
-    at: usize,
-    post: &mut Post<W>,
-    waiting: &mut WaitingEvents,
-) -> Result<(), NoMemory>
-    requires seat { IsSeatOf shared.now.handoff post.old.seat }
-    requires tally { Tallies post.old.lost post.old.part.share.amount post.old.kept post.old.hand }
-    ensures seat { IsSameSeat post.old.seat post.new.seat }
-    ensures tally { Tallies post.new.lost post.new.part.share.amount post.new.kept post.new.hand }
-    ensures reset { OnOk result (at < vec_len shared.now.units → WasReset) }
-    ensures there { OnErr result (at < vec_len shared.now.units) }
-{
-    drain(rt, shared, post);
-    if at >= shared.units.len() {
-        return Ok(());
-    }
-    if !post.is_idle() {
-        return Err(NoMemory);
-    }
-    if !reset_one(rt, shared, at, post, waiting) {
-        return Err(NoMemory);
-    }
-    raise(rt, shared, waiting);
-    drain(rt, shared, post);
-    Ok(())
-}
-
-/// Gives a unit so many blocks, in one hold of its lock. Answers as the phase does.
-fn resize_one<R: Wait, G: Gate + Drop, C: Ledger, W: Ledger>(
-    rt: &R,
-    shared: &Shared<G, C, W>,
-    at: usize,
-    blocks: u64,
-    told: bool,
-    post: &mut Post<W>,
-    waiting: &mut WaitingEvents,
-) -> Result<bool, ResizeFault>
-    requires at { at < vec_len shared.now.units }
-    requires tally { Tallies post.old.lost post.old.part.share.amount post.old.kept post.old.hand }
-    ensures seat { post.new.seat ≡ post.old.seat }
-    ensures tally { Tallies post.new.lost post.new.part.share.amount post.new.kept post.new.hand }
-    ensures resized { IfOk result (λ was. OnTrue was (WasResized blocks)) }
-    ensures cause { IfErr result (λ fault. ResizeRefused blocks fault) }
-{
-    match resize_on(
-        &mut shared.units(rt, &mut post.part),
-        at,
-        blocks,
-        told,
-        waiting,
-    ) {
-        Ok(was_resized) => Ok(was_resized),
-        Err(fault) => Err(fault),
-    }
-}
-
-/// Gives a unit so many blocks for the operator, and tells the guest where it asked for that. A unit that isn't there
-/// changes nothing. `BadCapacity` where no unit may have so many blocks, `NoMemory` where a growth was refused: the
-/// unit wasn't resized then.
-fn resize<R: Wait, G: Gate + Drop, C: Ledger, W: Ledger>(
-    rt: &R,
-    shared: &Shared<G, C, W>,
-    at: usize,
-    blocks: u64,
-    told: bool,
-    post: &mut Post<W>,
-    waiting: &mut WaitingEvents,
-) -> Result<(), ResizeFault>
-    requires tally { Tallies post.old.lost post.old.part.share.amount post.old.kept post.old.hand }
-    ensures seat { post.new.seat ≡ post.old.seat }
-    ensures tally { Tallies post.new.lost post.new.part.share.amount post.new.kept post.new.hand }
-    ensures resized { OnOk result (at < vec_len shared.now.units → WasResized blocks) }
-    ensures cause { IfErr result (λ fault. ResizeRefused blocks fault) }
-{
-    if !is_capacity(blocks) {
-        return Err(ResizeFault::BadCapacity);
-    }
-    if shared.units.len() <= at {
-        return Ok(());
-    }
-    if !resize_one(rt, shared, at, blocks, told, post, waiting)? {
-        return Err(ResizeFault::NoMemory);
-    }
-    raise(rt, shared, waiting);
-    Ok(())
 }
 
 /// A look at a queue: how many chains it accepted and used, how many notices its driver wanted, and which fault of the
@@ -285,7 +168,7 @@ impl<G: Gate + Drop, C: Ledger, W: Ledger> Model for Host<G, C, W> {
     ghost use Rattle.std.specs.Arc.{arc_value};
     ghost use Rattle.workers.specs.Crew.{IsLastSeat};
     ghost use Rattle.workers.specs.Extent.{Extent};
-    ghost use Rattle.workers.specs.Tallying.{Tallies};
+    ghost use Rattle.posts.specs.Tallying.{Tallies};
 
     ghost Value = { Extent };
 
@@ -311,7 +194,7 @@ impl<G: Gate + Drop, C: Ledger, W: Ledger> Host<G, C, W> {
     ghost use Rattle.report.specs.Closed.{IsReport};
     ghost use Rattle.workers.specs.Resetting.{WasReset};
     ghost use Rattle.workers.specs.Resizing.{WasResized};
-    ghost use Rattle.workers.specs.Tallying.{Opens, commits_in};
+    ghost use Rattle.workers.specs.Ledgers.{Opens, commits_in};
     ghost use Rattle.unit_history.specs.Calls.{ResizeRefused};
 
     /// Starts `n` workers, 1 to 8, in place of the number that the configuration has. The embedder calls it once for

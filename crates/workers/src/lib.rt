@@ -1,20 +1,14 @@
 //! The device served by threads: the same phases as of one thread, each on what one lock lends, and a hand-off of jobs
-//! between the threads.
+//! between the threads. What a thread does with its post and its queues is crate `posts`.
 #![tactic(auto)]
 
 mod alone;
-mod bell;
-mod control;
 mod crew;
 mod gathering;
 mod hired;
 mod host;
-mod in_a_row;
 mod opening;
-mod post;
-mod progress;
-mod requests;
-mod shared;
+mod operating;
 mod tallied;
 mod worker;
 

@@ -11,23 +11,13 @@ use config::{Config, MOST_DESCRIPTORS, form};
 use decisions::{Inventory, UnitSpec};
 use event_queue::EventPort;
 use guest_mem::GuestMem;
+use posts::Parts;
 use queues::Queue;
 use ring_core::{Form, Layout};
 use std::alloc::Global;
 use std::sync::Mutex;
 use std::sync::ledger::{Ledger, Share};
 use unit_history::UnitState;
-
-/// The parts of a device that threads share: its units, its queues and the memory, each under a lock, and the event port
-/// under one that is taken round that of the event queue. The inventory never changes.
-#[derive(Drop)]
-pub struct Parts<C: Ledger> {
-    pub units: Vec<Mutex<CountedUnit<C>>>,
-    pub queues: Vec<Mutex<Queue>>,
-    pub memory: Mutex<GuestMem>,
-    pub port: Mutex<EventPort>,
-    pub inventory: Inventory,
-}
 
 /// Makes a unit of an inventory, whose Commits are counted in this part. It keeps the replies of its Commits, for
 /// receipts to be compared with.
@@ -92,48 +82,46 @@ fn open_queues(
     Ok(queues)
 }
 
-impl<C: Ledger> Parts<C> {
-    /// Opens the parts of the device of a valid configuration, with a part of a ledger for each unit. Called once,
-    /// where a host is started. `NoMemory` where a growth was refused.
-    pub fn open(
-        alloc: Global,
-        config: &Config,
-        commits: &mut Share<C>,
-    ) -> Result<Parts<C>, NoMemory>
-        requires valid { is_config config.now ≡ true }
-        requires parts { length config.now.units.items ≤ commits.old.parts }
-        requires new { commits.old.amount ≡ 0 }
-        ensures left { IfOk result (λ p. commits.new.parts + vec_len p.units ≡ commits.old.parts) }
-        ensures new { commits.new.amount ≡ 0 }
-        ensures units { IfOk result (λ p. vec_len p.units ≡ length config.now.units.items) }
-        ensures queues { IfOk result (λ p. vec_len p.queues ≡ length config.now.queues.items) }
-        ensures few { IfOk result (λ p. vec_len p.queues ≤ 18) }
-    {
-        let Some(form) = form(config.features) else {
-            unreachable!()
-        };
-        let Ok(memory) = GuestMem::new(alloc, config.pages) else {
-            return Err(NoMemory);
-        };
-        let queues = open_queues(
-            alloc,
-            form,
-            config.features,
-            config.queues.as_slice(),
-            &memory,
-        )?;
-        let inventory = Inventory::new(config.units.as_slice());
-        let units = open_units(alloc, config.units.as_slice(), &inventory, commits)?;
-        // One place more than a queue may have chains outstanding, so that a full port keeps no fault from being found.
-        let Ok(port) = EventPort::new(alloc, MOST_DESCRIPTORS as usize + 1) else {
-            return Err(NoMemory);
-        };
-        Ok(Parts {
-            units,
-            queues,
-            memory: Mutex::new(memory),
-            port: Mutex::new(port),
-            inventory,
-        })
-    }
+/// Opens the parts of the device of a valid configuration, with a part of a ledger for each unit. Called once, where a
+/// host is started. `NoMemory` where a growth was refused.
+pub(crate) fn open_parts<C: Ledger>(
+    alloc: Global,
+    config: &Config,
+    commits: &mut Share<C>,
+) -> Result<Parts<C>, NoMemory>
+    requires valid { is_config config.now ≡ true }
+    requires parts { length config.now.units.items ≤ commits.old.parts }
+    requires new { commits.old.amount ≡ 0 }
+    ensures left { IfOk result (λ p. commits.new.parts + vec_len p.units ≡ commits.old.parts) }
+    ensures new { commits.new.amount ≡ 0 }
+    ensures units { IfOk result (λ p. vec_len p.units ≡ length config.now.units.items) }
+    ensures queues { IfOk result (λ p. vec_len p.queues ≡ length config.now.queues.items) }
+    ensures few { IfOk result (λ p. vec_len p.queues ≤ 18) }
+{
+    let Some(form) = form(config.features) else {
+        unreachable!()
+    };
+    let Ok(memory) = GuestMem::new(alloc, config.pages) else {
+        return Err(NoMemory);
+    };
+    let queues = open_queues(
+        alloc,
+        form,
+        config.features,
+        config.queues.as_slice(),
+        &memory,
+    )?;
+    let inventory = Inventory::new(config.units.as_slice());
+    let units = open_units(alloc, config.units.as_slice(), &inventory, commits)?;
+    // One place more than a queue may have chains outstanding, so that a full port keeps no fault from being found.
+    let Ok(port) = EventPort::new(alloc, MOST_DESCRIPTORS as usize + 1) else {
+        return Err(NoMemory);
+    };
+    Ok(Parts {
+        units,
+        queues,
+        memory: Mutex::new(memory),
+        port: Mutex::new(port),
+        inventory,
+    })
 }

@@ -1,7 +1,7 @@
 //! The end of a seat, with what was counted for it.
 
 ghost use Rattle.std.specs.Prelude.{◌≡◌};
-ghost use Rattle.workers.specs.Tallying.{kept_by, unless_lost};
+ghost use Rattle.posts.specs.Tallying.{kept_by, unless_lost};
 
 use bays::Part;
 use report::Kept;

@@ -3,17 +3,13 @@
 ghost use Rattle.std.specs.Prelude.{◌≡◌, ◌<◌};
 ghost use Rattle.handoff.specs.Seats.{IsSeatOf, IsSameSeat};
 ghost use Rattle.bays.specs.Ledgers.{receipts_due};
-ghost use Rattle.workers.specs.Tallying.{Tallies};
+ghost use Rattle.posts.specs.Tallying.{Tallies};
 
-use crate::control::{fetch_event, manage};
 use crate::hired::Worked;
-use crate::post::{Post, drain, serve_handed_off};
-use crate::progress::Progress;
-use crate::requests::serve_queue;
-use crate::shared::Shared;
 use crate::tallied::Tallied;
 use bays::Gate;
 use phases::OpenFunction;
+use posts::{Post, Progress, Shared, drain, fetch_event, manage, serve_handed_off, serve_queue};
 use scsi_codec::FIRST_REQUEST_QUEUE;
 use std::hint::spin_loop;
 use std::sync::Wait;

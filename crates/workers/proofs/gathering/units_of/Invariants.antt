@@ -1,6 +1,6 @@
 use Rattle.std.specs.Prelude.{◌≡◌, ◌+◌, ◌≤◌, vec_len}
 use Rattle.std.specs.Vec.{vec_capacity}
-use Rattle.workers.specs.Tallying.{commits_in}
+use Rattle.workers.specs.Ledgers.{commits_in}
 use Rattle.workers.proofs.gathering.units_of.Given as goal
 
 abbrev pub invariant-loop-lock : goal.invariant-loop-lock

@@ -1,0 +1,14 @@
+-- How many Commits the units of a host have, and which blanks open its ledgers.
+use Rattle.std.specs.Prelude.{ℕ, ◌≡◌, ◌≤◌, List}
+use Rattle.std.specs.List.{sum_by}
+use Rattle.unit_model.specs.Unit.{PlainUnit}
+use Rattle.bays.specs.Ledgers.{commits_of}
+
+-- own: how many Commits units have
+abbrev pub commits_in : List PlainUnit → ℕ
+commits_in units = sum_by (λ (u : PlainUnit). commits_of u.steps) units
+
+-- own: a blank of this name and so many parts opens a ledger of that name and so many, which are as many as are needed, or
+-- more
+abbrev pub Opens : ℕ → ℕ → ℕ → ℕ → ℕ → Type 0
+Opens name parts ledger_name ledger_parts needed = (name ≡ ledger_name) × (parts ≡ ledger_parts) × (needed ≤ parts)
