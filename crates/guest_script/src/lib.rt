@@ -3,25 +3,14 @@
 #![tactic(auto)]
 
 mod allowance;
-mod checker;
-mod device;
-mod guest;
-mod header;
 mod host_memory;
-mod kind;
-mod known;
 mod machine;
-mod printing;
-mod runs;
-mod script;
 mod service;
 mod session;
-mod show;
 mod steps;
 mod trace;
-mod wrong;
 
-pub use checker::check;
 pub use script_lines::{LineFault, ScriptFault};
+pub use script_text::check;
 pub use service::serve;
 pub use session::{Options, play};

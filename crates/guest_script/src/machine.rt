@@ -3,9 +3,9 @@
 ghost use Rattle.std.specs.Prelude.{◌≡◌, length};
 ghost use Rattle.guest_mem.specs.Memory.{bytes_at, with_bytes, LiesIn};
 
-use crate::device::Device;
 use guest_driver::GuestMemory;
 use guest_mem::{GuestMem, MemFault};
+use script_text::Device;
 use scsi_codec::Address;
 use unit_history::UnitState;
 use world::World;

@@ -3,14 +3,12 @@
 ghost use Rattle.std.specs.Prelude.{◌≡◌, Ok, Err};
 ghost use Rattle.workers.specs.Ledgers.{Opens};
 
-use crate::guest::run_guest_line;
-use crate::header::{Wanted, stop_of};
 use crate::host_memory::HostMemory;
-use crate::known::Known;
-use crate::printing::print;
-use crate::script::{Script, command_of, line_number, read_whole};
 use guest_driver::Driver;
 use script_lines::{Command, LineFault, ScriptFault, Stop};
+use script_text::{
+    Known, Script, Wanted, command_of, line_number, print, read_whole, run_guest_line, stop_of,
+};
 use scsi_codec::Address;
 use std::alloc::Global;
 use std::io::{Read, Write};

@@ -1,16 +1,14 @@
 //! Plays a script on a device of one thread.
 
 use crate::allowance::Allowance;
-use crate::guest::run_guest_line;
-use crate::header::{Wanted, stop_of};
-use crate::known::Known;
 use crate::machine::Machine;
-use crate::printing::print;
-use crate::script::{Script, command_of, line_number, read_whole};
 use crate::steps::{event_of, order};
 use crate::trace::Trace;
 use guest_driver::Driver;
 use script_lines::{Command, LineFault, ScriptFault, Step, Stop};
+use script_text::{
+    Known, Script, Wanted, command_of, line_number, print, read_whole, run_guest_line, stop_of,
+};
 use scsi_codec::Address;
 use std::alloc::{AllocError, Global};
 use std::io::{Read, Write};

@@ -1,10 +1,9 @@
 //! Prints what each step of the device did, as a line.
 
-use crate::known::Known;
-use crate::runs::written;
 use guest_driver::Driver;
 use ring_core::Ticket;
 use script_lines::Stop;
+use script_text::{Known, written};
 use scsi_codec::{Address, CONTROL_QUEUE, EVENT_QUEUE};
 use std::alloc::{AllocError, Global};
 use std::io::Write;

@@ -5,7 +5,7 @@ use script_lines::{Bytes, GuestLine, Stop};
 use std::alloc::Global;
 
 /// Runs a line of the guest. A fault where the driver has no room for it; a poke that doesn't fit into memory does
-/// nothing.
+/// nothing. `play` and `serve` call it for each such line.
 pub fn run_guest_line<M: GuestMemory>(
     alloc: Global,
     driver: &mut Driver,

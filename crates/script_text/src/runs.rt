@@ -7,7 +7,8 @@ use script_lines::Stop;
 use std::io;
 use std::io::Write;
 
-/// Returns what the writer said, as the script takes it: `CannotWrite` exactly where it refused.
+/// Returns what the writer said, as the script takes it: `CannotWrite` exactly where it refused. Called
+/// with the outcome of each write.
 pub fn written(outcome: io::Result<()>) -> Result<(), Stop>
     ensures ok { IsOk result ↔ IsOk outcome }
     ensures stop { IfErr result (λ stop. stop ≡ Stop.CannotWrite) }

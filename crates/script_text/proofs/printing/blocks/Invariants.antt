@@ -1,5 +1,5 @@
 use Rattle.std.proofs.Common.{◌+◌, ◌≤◌}
-use Rattle.guest_script.proofs.printing.blocks.Given as goal
+use Rattle.script_text.proofs.printing.blocks.Given as goal
 
 abbrev pub invariant-loop-left : goal.invariant-loop-left
 invariant-loop-left g l = l.at + l.left ≤ l.capacity

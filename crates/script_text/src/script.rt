@@ -5,7 +5,8 @@ use script_lines::{Command, LineFault, LineText, ScriptFault, Stop, lines_of, te
 use std::alloc::Global;
 use std::io::{ErrorKind, Read};
 
-/// Reads the bytes of a script. A reader that fails is a fault of line 0.
+/// Reads the bytes of a script. A reader that fails is a fault of line 0. Whatever plays or checks a script calls it
+/// first.
 pub fn read_whole<S: Read>(alloc: Global, script: &mut S) -> Result<Vec<u8>, ScriptFault> {
     let mut bytes = Vec::new(alloc);
     match script.read_to_end(&mut bytes) {
@@ -27,13 +28,14 @@ pub struct Script<'a> {
     pub header: usize,
 }
 
-/// Returns the number of the line with that index, from 1 on.
+/// Returns the number of the line with that index, from 1 on. Called for a line at fault.
 pub fn line_number(index: usize) -> u64 {
     (index as u64).saturating_add(1)
 }
 
 impl<'a> Script<'a> {
-    /// Reads a script, and what its header asks for.
+    /// Reads a script, and what its header asks for. Called once, with the script's bytes. A line of the header at fault
+    /// ends it, and `NoMemory` where a growth was refused.
     pub fn read(alloc: Global, bytes: &'a [u8]) -> Result<(Script<'a>, Wanted), ScriptFault> {
         let Ok(lines) = lines_of(alloc, bytes) else {
             return Err(ScriptFault::NoMemory);
@@ -61,13 +63,13 @@ impl<'a> Script<'a> {
     }
 
     /// Makes the fault of a script whose device isn't had: that of the first line behind the header, or of the last
-    /// line where none follows.
+    /// line where none follows. Called where the device refuses what the header asks for.
     pub fn refused(&self, stop: Stop) -> ScriptFault {
         stop.at(line_number(self.header).min(self.lines.len() as u64))
     }
 }
 
-/// Returns what a line behind the header says; `None` where it does nothing.
+/// Returns what a line behind the header says; `None` where it does nothing. Called for each line, as its turn comes.
 pub fn command_of(alloc: Global, line: &[u8]) -> Result<Option<Command<'_>>, Stop> {
     match text_of(alloc, line)? {
         LineText::Blank => Ok(None),

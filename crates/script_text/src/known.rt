@@ -16,6 +16,7 @@ pub struct Known {
 impl Known {
     /// Refuses a line by `BadValue` where it sends to what is no queue of requests, or prints of a queue, a unit or
     /// blocks that aren't there. This is looked at before the line's place.
+    /// Called for each line behind the header.
     pub fn check(&self, command: &Command<'_>) -> Result<(), LineFault> {
         let is_known = match command {
             Command::Guest(GuestLine::Send(send)) => {
@@ -51,14 +52,15 @@ impl Known {
         false
     }
 
-    /// Takes down that the unit at a place has so many blocks from now on.
+    /// Takes down that the unit at a place has so many blocks from now on. Called once the unit was resized.
     pub fn resize(&mut self, place: u16, blocks: u64) {
         if let Some(known) = self.units.get_mut(place as usize) {
             known.blocks = blocks;
         }
     }
 
-    /// Returns the place of a unit, by which the operator names it; `None` where it isn't there.
+    /// Returns the place of a unit, by which the operator names it; `None` where it isn't there. Asked for a line that
+    /// names a unit.
     pub fn place(&self, unit: Address) -> Option<u16> {
         let place = self.units.iter().position(|known| known.target == unit.target
             && known.lun == unit.lun)?;

@@ -128,7 +128,7 @@ pub struct Wanted {
     pub features: Features,
 }
 
-/// Returns why a script ends whose device wasn't had.
+/// Returns why a script ends whose device wasn't had. Called with what the device said as it was opened.
 pub fn stop_of(fault: StartFault) -> Stop {
     match fault {
         StartFault::BadConfig => Stop::Fault(LineFault::BadConfig),

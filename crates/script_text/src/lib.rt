@@ -1,0 +1,24 @@
+//! Reads scripts, and prints what their lines ask for, whatever serves their device: what a header asks for, what the
+//! lines behind it may name and what is wrong with them, the guest's own lines, and the lines that print.
+#![tactic(auto)]
+
+mod checker;
+mod device;
+mod guest;
+mod header;
+mod kind;
+mod known;
+mod printing;
+mod runs;
+mod script;
+mod show;
+mod wrong;
+
+pub use checker::check;
+pub use device::Device;
+pub use guest::run_guest_line;
+pub use header::{Wanted, stop_of};
+pub use known::Known;
+pub use printing::print;
+pub use runs::written;
+pub use script::{Script, command_of, line_number, read_whole};
