@@ -1,9 +1,8 @@
 //! Reports with something amiss, and what is said of them.
 
-use crate::parts::{Parts, UNITS, queue, unit};
-use crate::serving::{REFUSED, REFUSED_FIRST, RUN, RUN_ELSEWHERE};
 use decisions::UnitSpec;
 use report::{CloseFault, Report, examine};
+use small_device::{Parts, REFUSED, REFUSED_FIRST, RUN, RUN_ELSEWHERE, UNITS, queue, unit};
 use std::alloc::Global;
 use unit_history::{Note, Receipt, ReceiptOrNote, UnitState};
 
@@ -118,44 +117,71 @@ fn put_queue(alloc: Global, parts: &mut Parts) -> Option<()> {
     Some(())
 }
 
-/// Makes what a host keeps with what is amiss.
-fn closed_with(alloc: Global, amiss: Amiss) -> Option<Closed> {
-    let mut closed = with_both(alloc)?;
+/// There is another receipt of the same commit.
+fn put_receipt_again(alloc: Global, closed: &mut Closed) -> Option<()> {
+    let again = with_first(alloc)?.receipts.pop()?;
+    closed.receipts.push(again).ok()
+}
+
+/// The second was fetched alone.
+fn leave_second(alloc: Global, closed: &mut Closed) -> Option<()> {
+    *closed = with_first(alloc)?;
+    closed.parts.fetch(&REFUSED)?;
+    Some(())
+}
+
+/// The first has a note in place of its receipt.
+fn put_another_note(alloc: Global, closed: &mut Closed) -> Option<()> {
+    closed.receipts.clear();
+    closed.notes.push(another_note(alloc)?).ok()
+}
+
+/// In place of the second unit stands one where the first ran, too.
+fn run_elsewhere(alloc: Global, closed: &mut Closed) -> Option<()> {
+    let mut other = Parts::new(alloc)?;
+    other.serve(alloc, &RUN_ELSEWHERE)?;
+    put_last(&mut closed.parts.units, other.units.pop()?)
+}
+
+/// Changes what is amiss in a unit or a queue; nothing where that is a receipt, a note or a chain.
+fn change_parts(alloc: Global, closed: &mut Closed, amiss: Amiss) -> Option<()> {
+    let parts = &mut closed.parts;
     match amiss {
-        Amiss::Nothing => {}
-        Amiss::ReceiptLost => closed.receipts.clear(),
-        Amiss::ReceiptTwice => {
-            closed
-                .receipts
-                .push(with_first(alloc)?.receipts.pop()?)
-                .ok()?;
-        }
-        Amiss::HistoryLost => closed.parts.units = Parts::new(alloc)?.units,
-        Amiss::ChainUnused => {
-            closed = with_first(alloc)?;
-            closed.parts.fetch(&REFUSED)?;
-        }
-        Amiss::NoteOfAnother => {
-            closed.receipts.clear();
-            closed.notes.push(another_note(alloc)?).ok()?;
-        }
-        Amiss::RunTwice => {
-            let mut other = Parts::new(alloc)?;
-            other.serve(alloc, &RUN_ELSEWHERE)?;
-            put_last(&mut closed.parts.units, other.units.pop()?)?;
-        }
+        Amiss::HistoryLost => parts.units = Parts::new(alloc)?.units,
         Amiss::UnitGone => {
-            closed.parts.units.pop()?;
+            parts.units.pop()?;
         }
-        Amiss::OtherUnit(other) => {
-            put_last(&mut closed.parts.units, other_unit(alloc, other)?)?;
+        Amiss::OtherUnit(other) => put_last(&mut parts.units, other_unit(alloc, other)?)?,
+        Amiss::OtherQueue => put_queue(alloc, parts)?,
+        _ => {}
+    }
+    Some(())
+}
+
+/// Changes what is amiss.
+fn change(alloc: Global, closed: &mut Closed, amiss: Amiss) -> Option<()> {
+    match amiss {
+        Amiss::ReceiptLost => {
+            closed.receipts.clear();
+            Some(())
         }
-        Amiss::OtherQueue => put_queue(alloc, &mut closed.parts)?,
         Amiss::BothLost => {
             closed.receipts.clear();
             closed.notes.clear();
+            Some(())
         }
+        Amiss::ReceiptTwice => put_receipt_again(alloc, closed),
+        Amiss::ChainUnused => leave_second(alloc, closed),
+        Amiss::NoteOfAnother => put_another_note(alloc, closed),
+        Amiss::RunTwice => run_elsewhere(alloc, closed),
+        _ => change_parts(alloc, closed, amiss),
     }
+}
+
+/// With what is amiss.
+fn closed_with(alloc: Global, amiss: Amiss) -> Option<Closed> {
+    let mut closed = with_both(alloc)?;
+    change(alloc, &mut closed, amiss)?;
     Some(closed)
 }
 

@@ -1,9 +1,9 @@
 //! A small device that one thread serves, and what is said of reports of it with something amiss.
 
 use crate::amiss::{Amiss, Other, fault_of};
-use crate::serving::{refuses_plain, serves_plain};
 use report::CloseFault;
 use ring_core::Ticket;
+use small_device::{refuses_plain, serves_plain};
 use std::alloc::Global;
 use std::test::Fail;
 

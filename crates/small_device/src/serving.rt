@@ -11,33 +11,33 @@ use phases::{Hand, OpenFunction, Slot};
 use std::alloc::Global;
 use unit_history::{Cause, Job, JobList, Note, ReceiptOrNote};
 
-/// A request of a guest: TEST UNIT READY of a unit on a queue.
+/// What a guest asks for: TEST UNIT READY of a unit, by target and LUN, on a queue.
 #[derive(Clone, Copy)]
-pub(crate) struct Asked {
+pub struct Asked {
     pub queue: u16,
     pub target: u8,
     pub lun: u8,
 }
 
 /// One that is run.
-pub(crate) const RUN: Asked = Asked {
+pub const RUN: Asked = Asked {
     queue: 2,
     target: 0,
     lun: 0,
 };
 
 /// The same of the other unit.
-pub(crate) const RUN_ELSEWHERE: Asked = Asked { lun: 1, ..RUN };
+pub const RUN_ELSEWHERE: Asked = Asked { lun: 1, ..RUN };
 
 /// One of a target that isn't there.
-pub(crate) const REFUSED: Asked = Asked {
+pub const REFUSED: Asked = Asked {
     queue: 3,
     target: 7,
     lun: 0,
 };
 
 /// The same on the queue of the first.
-pub(crate) const REFUSED_FIRST: Asked = Asked {
+pub const REFUSED_FIRST: Asked = Asked {
     queue: 2,
     ..REFUSED
 };
@@ -224,22 +224,25 @@ impl Parts {
         (bays, &self.inventory)
     }
 
-    /// Makes the first chain of a request queue available, and takes it.
-    pub(crate) fn fetch(&mut self, asked: &Asked) -> Option<Slot> {
+    /// Makes the first chain of a request queue available and takes it: what that gives, or `None` where it gives nothing.
+    /// Tests call it for a chain that stays unused.
+    pub fn fetch(&mut self, asked: &Asked) -> Option<Slot> {
         put(&mut self.memory, asked.queue, &request(asked), 108);
         let (mut bays, inventory) = self.lend();
         fetch_at(&mut bays, usize::from(asked.queue), inventory)
     }
 
-    /// Serves a request from its fetch to its leave, and returns what it leaves.
-    pub(crate) fn serve(&mut self, alloc: Global, asked: &Asked) -> Option<ReceiptOrNote> {
+    /// Serves a request from its fetch to its leave: what it leaves, or `None` where it didn't come so far. Tests call it
+    /// once for a queue.
+    pub fn serve(&mut self, alloc: Global, asked: &Asked) -> Option<ReceiptOrNote> {
         put(&mut self.memory, asked.queue, &request(asked), 108);
         let (mut bays, inventory) = self.lend();
         serve_at(alloc, &mut bays, usize::from(asked.queue), inventory)
     }
 
-    /// Answers a request that needs no unit, and returns the note of it.
-    pub(crate) fn refuse(&mut self, asked: &Asked) -> Option<Note> {
+    /// Answers a request that needs no unit: the note of it, or `None` where there is none. Tests call it once for a
+    /// queue.
+    pub fn refuse(&mut self, asked: &Asked) -> Option<Note> {
         put(&mut self.memory, asked.queue, &request(asked), 108);
         let (mut bays, inventory) = self.lend();
         refuse_at(&mut bays, usize::from(asked.queue), inventory)
@@ -265,7 +268,7 @@ impl Parts {
     }
 }
 
-/// Serves a request of each kind once, and returns true if each is answered; `None` where memory was refused.
+/// Returns true if a request of each kind is served, each once; `None` where memory was refused. A test calls it.
 pub fn serves_plain(alloc: Global) -> Option<bool> {
     let mut parts = Parts::new(alloc)?;
     let ReceiptOrNote::Receipt(_) = parts.serve(alloc, &RUN)? else {
@@ -277,7 +280,7 @@ pub fn serves_plain(alloc: Global) -> Option<bool> {
     Some(has_run && was_reset && was_told)
 }
 
-/// Refuses a request, and returns how many chains were used then.
+/// Returns how many chains were used once a request was refused; `None` where memory was. A test calls it.
 pub fn refuses_plain(alloc: Global) -> Option<u8> {
     let mut parts = Parts::new(alloc)?;
     if parts.refuse(&REFUSED_FIRST)?.cause() != Cause::Direct {

@@ -24,7 +24,7 @@ const NEXT: u16 = 1;
 const WRITE: u16 = 2;
 
 /// The units, of which LUN 1 is the second.
-pub(crate) const UNITS: [UnitSpec; 2] = [
+pub const UNITS: [UnitSpec; 2] = [
     UnitSpec {
         target: 0,
         lun: 0,
@@ -39,9 +39,9 @@ pub(crate) const UNITS: [UnitSpec; 2] = [
     },
 ];
 
-/// The parts of a device.
+/// The parts of a small device: its units, queues, memory and inventory. Tests take it apart.
 #[derive(Drop)]
-pub(crate) struct Parts {
+pub struct Parts {
     pub units: Vec<UnitState>,
     pub queues: Vec<Queue>,
     pub memory: GuestMem,
@@ -56,8 +56,9 @@ fn inventory() -> Option<Inventory> {
     Some(Inventory::new(&UNITS))
 }
 
-/// Makes a unit of the target, which keeps replies or doesn't; `None` where memory was refused.
-pub(crate) fn unit(alloc: Global, spec: &UnitSpec, keeps_replies: bool) -> Option<UnitState> {
+/// Opens a unit of the target, which keeps replies or doesn't; `None` where memory was refused. Called for the device, and by
+/// tests that put another unit in its place.
+pub fn unit(alloc: Global, spec: &UnitSpec, keeps_replies: bool) -> Option<UnitState> {
     UnitState::new(alloc, spec, &[0, 1], keeps_replies).ok()
 }
 
@@ -70,8 +71,9 @@ fn units(alloc: Global) -> Option<Vec<UnitState>> {
     Some(units)
 }
 
-/// Makes the queue of a number, in its page.
-pub(crate) fn queue(alloc: Global, number: u16, memory: &GuestMem) -> Option<Queue> {
+/// Opens the queue of a number, in its page; `None` where it isn't there, or memory was refused. Called for the device,
+/// and by tests that put another queue in its place.
+pub fn queue(alloc: Global, number: u16, memory: &GuestMem) -> Option<Queue> {
     let page = PAGE * u64::from(number);
     let layout = Layout {
         size: 8,
@@ -124,8 +126,8 @@ pub(crate) fn used(memory: &GuestMem, number: u16) -> Option<u8> {
 }
 
 impl Parts {
-    /// Makes a device of which nothing was asked; `None` where memory was refused.
-    pub(crate) fn new(alloc: Global) -> Option<Parts> {
+    /// Opens a device of which nothing was asked; `None` where memory was refused. A test calls it first.
+    pub fn new(alloc: Global) -> Option<Parts> {
         let memory = GuestMem::new(alloc, 4).ok()?;
         let queues = queues(alloc, &memory)?;
         Some(Parts {
