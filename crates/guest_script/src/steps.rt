@@ -47,10 +47,14 @@ pub(crate) fn order(alloc: Global, queues: u16, seats: u16) -> Result<Vec<Step>,
 
 /// Adds the steps of a seat, what is nearest to its end first.
 fn push_seat(steps: &mut Vec<Step>, seat: u16) -> Result<(), AllocError> {
-    steps.push(Step::Leave(seat))?;
-    steps.push(Step::Answer(seat))?;
-    steps.push(Step::Commit(seat))?;
-    steps.push(Step::Put(seat))?;
-    steps.push(Step::Take(seat))?;
+    for step in [
+        Step::Leave(seat),
+        Step::Answer(seat),
+        Step::Commit(seat),
+        Step::Put(seat),
+        Step::Take(seat),
+    ] {
+        steps.push(step)?;
+    }
     Ok(())
 }
