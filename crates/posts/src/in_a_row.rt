@@ -19,7 +19,7 @@ use std::thread;
 
 /// The bytes of a request from which on another worker that waits for a job gets it: the length of a READ or a WRITE of
 /// 16 KiB, which takes longer than a job's way to another processor.
-const LONG: u64 = 16_384;
+const LONG_REQUEST: u64 = 16_384;
 
 /// Returns the ticket of a request that arrived; `None` where none did.
 fn arrived(slot: &Slot) -> Option<Ticket> {
@@ -35,7 +35,7 @@ fn is_long_arrival(slot: &Slot) -> bool {
     match slot {
         Slot::Arrived(arrival) => {
             let lengths = arrival.lengths();
-            lengths.readable >= LONG || lengths.writable >= LONG
+            lengths.readable >= LONG_REQUEST || lengths.writable >= LONG_REQUEST
         }
         Slot::Empty | Slot::Direct(_) => false,
     }
