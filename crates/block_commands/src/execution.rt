@@ -29,13 +29,12 @@ use std::alloc::Global;
 
 /// Runs one command on the blocks of a unit, whole.
 ///
-/// `out` is what the driver sent: at least the bytes that the command needs, of which only those are
-/// used. Where an attention is pending, a command that meets it is answered with it and isn't run;
-/// the caller takes it from its list where `takes_attention` says so, of REQUEST SENSE too, which
-/// returns it as data.
+/// `out` is what the driver sent. It has at least the bytes that the command needs, and only those are used. Where an
+/// attention is pending, a command that meets it is answered with it and isn't run. The caller takes the attention from
+/// its list where `takes_attention` says so. REQUEST SENSE takes it too, and returns it as data.
 ///
-/// Refuses only where memory can't be had, of the data to the driver or of the store; the blocks are
-/// then as before. The data of a READ take the room that is given, whatever stands there, in place of memory.
+/// Refuses only where memory for the data to the driver or for the store can't be had; the blocks are then as before.
+/// The data of a READ take the room that is given, whatever stands there, in place of memory.
 #[inline(always)]
 pub fn exec<S: Store>(
     alloc: Global,

@@ -24,10 +24,10 @@ use cdb::{Command, need};
 use replies::Reply;
 use std::alloc::Global;
 
-/// Runs one command on the blocks of a unit, whole, as [`exec`] does, where `prepared` has the new pages of its write,
-/// if any: they are installed where nothing beside the range has changed in them since, and written as ever elsewhere.
-/// Gives pages back beside the reply: those that it replaced, or those of `prepared` where it didn't install them. So a
-/// caller that holds a lock frees them after it.
+/// Runs one command on the blocks of a unit, whole, as [`exec`] does. `prepared` has the new pages of its write, if
+/// any. They are installed where nothing beside the range has changed in them since; else the blocks are written as
+/// ever. Gives pages back beside the reply: those that it replaced, or those of `prepared` where it didn't install
+/// them. So a caller that holds a lock frees them after it.
 #[inline(always)]
 pub fn exec_prepared(
     alloc: Global,

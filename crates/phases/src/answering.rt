@@ -63,8 +63,8 @@ fn given(ticket: Ticket, outcome: Outcome) -> ReceiptOrNote
 }
 
 /// Answers the job in the hand whose commit is over by what came of it, and uses its chain; its task is then to leave.
-/// Returns its receipt, or a note of why it got none; `None` where no such job is in the hand, or where the memory
-/// isn't the queue's, or the queue doesn't own the chain, which never happens in one device: the job is let go then.
+/// Returns its receipt, or a note of why it got none. `None` where no such job is in the hand. `None`, with the job let
+/// go, where the memory isn't the queue's, or the queue doesn't own the chain, which never happens in one device.
 pub fn phase_answer(
     queue: &mut Queue,
     memory: &mut GuestMem,

@@ -38,9 +38,9 @@ fn answer_chain(
     queue.complete(memory, chain, len)
 }
 
-/// Answers and uses the chain that is ready in the slot. Returns a note of why it got no receipt; `None` where none is
-/// ready, or where the memory isn't the queue's, or the queue doesn't own the chain, which never happens in one device:
-/// the chain is let go then.
+/// Answers and uses the chain that is ready in the slot. Returns a note of why it got no receipt. `None` where no chain
+/// is ready. `None`, with the chain let go, where the memory isn't the queue's, or the queue doesn't own the chain,
+/// which never happens in one device.
 pub fn phase_direct(queue: &mut Queue, slot: &mut Slot, memory: &mut GuestMem) -> Option<Note>
     ensures directs { Directs (slot_of slot.old) queue.old memory.old (is_some result) queue.new memory.new
         (slot_of slot.new) }

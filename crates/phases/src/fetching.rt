@@ -34,7 +34,7 @@ pub(crate) fn lengths_of_chain(chain: &Chain) -> ChainLengths
     }
 }
 
-/// Takes the next chain of a request queue, where its slot is empty and the memory is the queue's, and decides of it: a
+/// Takes the next chain of a request queue, where its slot is empty and the memory is the queue's, and decides of it. A
 /// request that arrived, or a chain that is answered directly, then stands in the slot. A fault of the guest breaks the
 /// queue. Returns true if something changed. `NoMemory`, with nothing changed, where the fetch was refused memory or
 /// the queue has accepted 2^64 - 1 chains.

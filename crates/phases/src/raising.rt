@@ -51,9 +51,9 @@ fn take_buffer(queue: &mut Queue, memory: &mut GuestMem, port: &mut EventPort, c
 }
 
 /// Takes the next chain of the event queue, where its slot is empty, the memory is the queue's and the port may hold
-/// one more: the port holds it, or it is used at once, with no byte where it is shorter than an event, and else, where
-/// an event was missed, with what tells so. A fault of the guest breaks the queue. Returns true if something changed.
-/// `NoMemory` as of a request queue.
+/// one more. A chain that is shorter than an event is used at once, with no byte. Where an event was missed, the chain
+/// is used at once, with what tells so. Else the port holds it. A fault of the guest breaks the queue. Returns true if
+/// something changed. `NoMemory` as of a request queue.
 pub fn phase_fetch_event(
     queue: &mut Queue,
     slot: &Slot,

@@ -143,12 +143,12 @@ fn serve_by_steps(
     }
 }
 
-/// Brings a request to its unit. Where nothing blocks its task its command runs whole, it is answered by what came of
-/// that, its chain is used, and the task leaves: as by [`phase_enter`](crate::phase_enter),
+/// Brings a request to its unit. Where nothing blocks its task, its command runs whole, it is answered by what came of
+/// that, its chain is used, and the task leaves. This is what [`phase_enter`](crate::phase_enter),
 /// [`phase_commit`](crate::phase_commit), [`phase_answer`](crate::phase_answer) and [`phase_leave`](crate::phase_leave)
-/// one after another, with its job in no list and no hand between them. Then it returns true if the unit knew the task
-/// when it left. Else `None`: the task waits at its unit, or what refuses the request stands in the slot. The queue
-/// owns the chain, and the list has 64 places free, which the caller sees to.
+/// do one after another, with its job in no list and no hand between them. Then it returns true if the unit knew the
+/// task when it left. Else `None`: the task waits at its unit, or what refuses the request stands in the slot. The
+/// queue owns the chain, and the list has 64 places free, which the caller sees to.
 #[inline(always)]
 pub fn serve_request(
     unit: &mut UnitState,

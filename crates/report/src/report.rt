@@ -25,9 +25,8 @@ pub struct Report {
     /// The memory of its guest.
     pub memory: GuestMem,
     /// The receipts of the requests whose commands ran. Replies may have been let go. A unit compares none but those of
-    /// its latest [`unit_history::LATEST_KEPT`] steps that have at most [`unit_history::LONGEST_KEPT`] bytes of data;
-    /// of a host of threads those receipts have a reply that are among the latest 4,096 of their seat, where its data
-    /// aren't longer.
+    /// its latest [`unit_history::LATEST_KEPT`] steps that have at most [`unit_history::LONGEST_KEPT`] bytes of data.
+    /// Where a host has threads, the latest 4,096 receipts of each seat have a reply, unless its data are longer.
     pub receipts: Vec<Receipt>,
     /// The notes of all other requests.
     pub notes: Vec<Note>,

@@ -80,8 +80,8 @@ impl UnitState {
     ghost use Rattle.unit_history.specs.Calls.{Commits};
 
     /// Runs the command of a job's task whole, in one hold of the unit's lock. Tested first to last: `Unknown`; the
-    /// mark, which answers `Aborted`; `Busy`, where memory was refused to the command itself or, where replies are
-    /// kept, to the copy of its reply, which is made where its data are short enough to be kept.
+    /// mark, which answers `Aborted`; `Busy`, where memory was refused to the command itself, or to the copy of its
+    /// reply. The copy is made where replies are kept and its data are short enough.
     #[inline(always)]
     pub fn commit(&mut self, job: &Job) -> Outcome
         ensures step { Commits self.old job.now result self.new }

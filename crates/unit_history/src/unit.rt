@@ -126,9 +126,9 @@ impl UnitState {
     ghost use Rattle.unit_history.specs.Calls.{Enters, ResizeRefused, CannotLeave};
 
     /// Makes a unit as it is specified, with the LUNs of its target by rising number, of which no step was taken.
-    /// Called once for each unit, where a device is opened; `keeps_replies` says whether the replies of its Commits are
-    /// kept, for receipts to be compared with: those of its latest [`LATEST_KEPT`] steps that have at most
-    /// [`LONGEST_KEPT`] bytes of data. `NoMemory` where its blocks or the LUNs were refused memory.
+    /// Called once for each unit, where a device is opened. `keeps_replies` says whether the replies of its Commits are
+    /// kept, for receipts to be compared with. Kept are the replies of its latest [`LATEST_KEPT`] steps that have at
+    /// most [`LONGEST_KEPT`] bytes of data. `NoMemory` where its blocks or the LUNs were refused memory.
     pub fn new(
         alloc: Global,
         spec: &UnitSpec,
