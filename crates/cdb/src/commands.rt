@@ -28,14 +28,14 @@ pub enum Command {
     Read {
         /// The first block.
         lba: u64,
-        /// How many blocks, 0 to `MOST_TRANSFER_BLOCKS`.
+        /// The number of blocks, 0 to `MOST_TRANSFER_BLOCKS`.
         blocks: u16,
     },
     /// WRITE (10), (12) or (16) (SBC-3 §5.33 to §5.35), or WRITE (6) (SBC-2 §5.24).
     Write {
         /// The first block.
         lba: u64,
-        /// How many blocks, 0 to `MOST_TRANSFER_BLOCKS`.
+        /// The number of blocks, 0 to `MOST_TRANSFER_BLOCKS`.
         blocks: u16,
     },
     /// INQUIRY (SPC-4 §6.6).
@@ -56,14 +56,14 @@ pub enum Command {
     SynchronizeCache {
         /// The first block.
         lba: u64,
-        /// How many blocks; 0 means all from `lba` on.
+        /// The number of blocks; 0 means all from `lba` on.
         blocks: u32,
     },
     /// WRITE SAME (10) or (16) (SBC-3 §5.43, §5.44).
     WriteSame {
         /// The first block.
         lba: u64,
-        /// How many blocks, 1 to `MOST_WRITE_SAME_BLOCKS`.
+        /// The number of blocks, 1 to `MOST_WRITE_SAME_BLOCKS`.
         blocks: u32,
     },
     /// UNMAP (SBC-3 §5.28).
@@ -75,7 +75,7 @@ pub enum Command {
     CompareAndWrite {
         /// The first block.
         lba: u64,
-        /// How many blocks, 0 to `MOST_COMPARE_BLOCKS`.
+        /// The number of blocks, 0 to `MOST_COMPARE_BLOCKS`.
         blocks: u8,
     },
     /// REPORT LUNS (SPC-4 §6.33).

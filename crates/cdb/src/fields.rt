@@ -12,7 +12,7 @@ use byteorder::{BigEndian, ByteOrder};
 pub struct Blocks {
     /// The first block.
     pub lba: u64,
-    /// How many.
+    /// The number of blocks.
     pub count: u32,
 }
 

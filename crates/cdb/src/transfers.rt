@@ -8,10 +8,10 @@ use crate::Command;
 /// The bytes of a logical block.
 const BLOCK_BYTES: u32 = 512;
 
-/// How many bytes READ CAPACITY (10) returns (SBC-3 §5.15).
+/// The bytes that READ CAPACITY (10) returns (SBC-3 §5.15).
 const CAPACITY_10_BYTES: u32 = 8;
 
-/// How many bytes of data a command moves at most, each way.
+/// The most bytes of data that a command moves, each way.
 #[derive(Clone, Copy, PartialEq, Eq)]
 pub struct Transfer {
     /// Bytes from the driver to the device.

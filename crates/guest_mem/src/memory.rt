@@ -11,7 +11,7 @@ use std::marker::Model;
 /// The bytes of a page.
 pub const PAGE_BYTES: usize = 4096;
 
-/// Why a call on the memory was refused.
+/// The cause for which a call on the memory was refused.
 #[derive(Clone, Copy, Debug, PartialEq, Eq)]
 pub enum MemFault {
     /// Some byte would lie outside the memory.

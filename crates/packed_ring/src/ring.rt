@@ -20,7 +20,7 @@ const DISABLE: u16 = 1;
 /// RING_EVENT_FLAGS_DESC: it asks for one of a certain slot, where event indices were agreed.
 const DESC: u16 = 2;
 
-/// How many ids a chain may have: any of two bytes.
+/// The number of ids that a chain may have: any of two bytes.
 const ALL_IDS: usize = 65536;
 
 /// A packed virtqueue, seen as its plain value. It takes its memory from the allocator that it

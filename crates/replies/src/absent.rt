@@ -16,7 +16,7 @@ use sense::Sense;
 /// The most data that a LUN which a target lacks returns: the standard data of INQUIRY.
 pub const ABSENT_BYTES: usize = 36;
 
-/// What a LUN that a target lacks is answered. Its data stand in place, so it takes no memory.
+/// The answer of a LUN that its target lacks. Its data stand in place, so it takes no memory.
 #[derive(Drop)]
 pub struct AbsentReply {
     /// The status code: GOOD or CHECK CONDITION.
@@ -25,7 +25,7 @@ pub struct AbsentReply {
     pub sense: Option<Sense>,
     /// The data to the driver: as many bytes as the command needs room for, or fewer.
     pub payload: ArrayVec<u8, ABSENT_BYTES>,
-    /// How many bytes were moved to the driver: those of the payload.
+    /// The number of bytes that were moved to the driver: those of the payload.
     pub moved: u32,
 }
 

@@ -30,8 +30,8 @@ pub struct Reply {
     pub sense: Option<Sense>,
     /// The data to the driver: as many bytes as the command needs room for, or fewer.
     pub payload: Vec<u8>,
-    /// How many bytes were moved from and to the driver: of GOOD all that the command needs from
-    /// the driver and the payload, else none.
+    /// The number of bytes that were moved from and to the driver. For GOOD these are all that the command needs from
+    /// the driver, and the payload; else none.
     pub moved: u32,
 }
 

@@ -10,11 +10,11 @@ use crate::fault::RingFault;
 /// For rings.
 #[derive(Clone, Copy)]
 pub struct Before {
-    /// How many of them its run has.
+    /// The number of them that its run has.
     pub count: u64,
     /// The bytes of their buffers.
     pub total: u64,
-    /// Whether one of them is writable.
+    /// True if one of them is writable.
     pub writable: bool,
 }
 

@@ -10,8 +10,8 @@ use crate::descriptor::Part;
 use guest_mem::GuestMem;
 use std::alloc::AllocError;
 
-/// How many of a chain's readable bytes are read when it is fetched: a request's 51 bytes and
-/// the 2,048 blocks of 512 bytes that a command writes at most.
+/// The most of a chain's readable bytes that are read when it is fetched: a request's 51 bytes, and the 2,048 blocks of
+/// 512 bytes that a command writes at most.
 pub const FIRST_BYTES: usize = 1_048_627;
 
 /// Appends the readable bytes of a part, as far as there is room below `most`.

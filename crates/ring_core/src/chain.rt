@@ -7,7 +7,7 @@ use std::alloc::{AllocError, Global};
 use std::marker::Model;
 use std::mem;
 
-/// How many parts a chain has room for without a further allocation.
+/// The parts that a chain has room for without a further allocation.
 const FEW_PARTS: usize = 8;
 
 /// The largest room kept from one chain for the next, in bytes.

@@ -44,24 +44,24 @@ impl Flags for DescriptorFlags {
 /// One buffer of a chain.
 #[derive(Clone, Copy, Debug, Default)]
 pub struct Part {
-    /// Where it begins in guest memory.
+    /// The address in guest memory at which it begins.
     pub addr: u64,
     /// Its bytes.
     pub len: u32,
-    /// Whether the device writes it; else it reads it.
+    /// True if the device writes it; else it reads it.
     pub writable: bool,
 }
 
 /// A descriptor as it stands in memory.
 #[derive(Clone, Copy)]
 pub struct Descriptor {
-    /// Where its buffer begins.
+    /// The address at which its buffer begins.
     pub addr: u64,
     /// The bytes of its buffer.
     pub len: u32,
     /// Its flags, all sixteen bits.
     pub flags: u16,
-    /// In a split queue the number of the next descriptor, in a packed one the buffer's id.
+    /// The number of the next descriptor in a split queue, the buffer's id in a packed one.
     pub next_or_id: u16,
 }
 

@@ -3,8 +3,8 @@
 use std::error::Error;
 use std::fmt;
 
-/// Why a queue gives no chain. `IndexJump` to `RingOverrun` are the guest's faults: they break
-/// the queue for good, and later fetches answer the same. `NoMemory` changes nothing.
+/// The cause for which a queue gives no chain. `IndexJump` to `RingOverrun` are the guest's faults: they break the
+/// queue for good, and later fetches answer the same. `NoMemory` changes nothing.
 #[derive(Clone, Copy, Debug, PartialEq, Eq)]
 pub enum RingFault {
     /// The available index ran ahead of the accepted chains by more than the queue's size.

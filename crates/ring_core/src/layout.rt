@@ -6,7 +6,7 @@ ghost use Rattle.ring_core.specs.State.{features_of, no_features};
 use std::error::Error;
 use std::fmt;
 
-/// In which form a queue lies in memory.
+/// The form in which a queue lies in memory.
 #[derive(Clone, Copy, Debug, PartialEq, Eq)]
 pub enum Form {
     /// A descriptor table, an available ring and a used ring (VIRTIO 1.2, 2.7).
@@ -15,10 +15,10 @@ pub enum Form {
     Packed,
 }
 
-/// Where a queue lies: its size in descriptors, and the addresses of its three areas.
+/// The layout of a queue: its size in descriptors, and the addresses of its three areas.
 #[derive(Clone, Copy, Debug, PartialEq, Eq)]
 pub struct Layout {
-    /// How many descriptors it has, at most 32,768; in a split queue a power of two.
+    /// The number of its descriptors, at most 32,768; in a split queue a power of two.
     pub size: u16,
     /// The descriptor table or ring, 16 bytes a descriptor, aligned to 16.
     pub desc: u64,
@@ -66,7 +66,7 @@ impl Features {
     }
 }
 
-/// Why a layout is refused. They are tested in this order.
+/// The cause for which a layout is refused. They are tested in this order.
 #[derive(Clone, Copy, Debug, PartialEq, Eq)]
 pub enum LayoutFault {
     /// The size is 0, above 32,768, or in a split queue no power of two.

@@ -11,7 +11,7 @@ use std::marker::Model;
 pub struct Ticket {
     /// The queue that accepted it.
     pub queue: u16,
-    /// How many chains that queue had accepted before it.
+    /// The number of chains that the queue had accepted before it.
     pub number: u64,
 }
 

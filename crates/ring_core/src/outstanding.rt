@@ -12,11 +12,11 @@ use std::marker::Model;
 pub struct OutstandingChain {
     /// The number of its ticket.
     pub number: u64,
-    /// How many slots of the ring it takes.
+    /// The number of slots of the ring that it takes.
     pub slots: u16,
 }
 
-/// How the chains are kept.
+/// The ways in which the chains are kept.
 #[derive(Drop)]
 pub enum Entries {
     /// A place for each head, made once: a split queue's heads are below its size.

@@ -45,7 +45,7 @@ pub enum LineFault {
     CannotRead,
 }
 
-/// Why a script came to no good end.
+/// The cause for which a script came to no good end.
 #[derive(Clone, Copy, Debug, PartialEq, Eq, Error)]
 pub enum ScriptFault {
     /// A line is at fault. Lines count from 1; the line is 0 where the script can't be read, or is
@@ -54,7 +54,7 @@ pub enum ScriptFault {
     Line {
         /// The line's number.
         line: u64,
-        /// What is wrong with it.
+        /// The fault of that line.
         fault: LineFault,
     },
     /// A word of a line is at fault. Lines and words count from 1; a word that lacks counts as the one behind the last.
@@ -64,7 +64,7 @@ pub enum ScriptFault {
         line: u64,
         /// The word's number in its line.
         word: u64,
-        /// What is wrong with it.
+        /// The fault of that line.
         fault: LineFault,
     },
     /// Memory ran out.
@@ -78,7 +78,7 @@ pub enum ScriptFault {
     Unconfirmed {
         /// The queue of its request.
         queue: u16,
-        /// How many chains that queue had accepted before it.
+        /// The number of chains that the queue had accepted before it.
         number: u64,
     },
     /// The device was closed, and a chain is outstanding, or a request isn't settled: the first ticket of one.
@@ -86,12 +86,12 @@ pub enum ScriptFault {
     Outstanding {
         /// The queue of the chain.
         queue: u16,
-        /// How many chains that queue had accepted before it.
+        /// The number of chains that the queue had accepted before it.
         number: u64,
     },
 }
 
-/// Why a line ends the script, before it is known which line it is.
+/// The cause for which a line ends the script, before it is known which line it is.
 #[derive(Clone, Copy)]
 pub enum Stop {
     /// The line is at fault.

@@ -13,20 +13,20 @@ pub(crate) const LARGEST_SIZE: u16 = 256;
 /// The queues that a header asks for.
 #[derive(Clone, Copy)]
 pub struct Queues {
-    /// How many there are.
+    /// The number of queues.
     pub count: u16,
-    /// How many descriptors each has, at most 256 as a line is read.
+    /// The number of descriptors of each, at most 256 as a line is read.
     pub size: u16,
 }
 
 /// A disk that a header asks for.
 #[derive(Clone, Copy)]
 pub struct Disk {
-    /// Where it is found.
+    /// Its address.
     pub unit: Address,
     /// Its capacity in blocks of 512 bytes.
     pub blocks: u64,
-    /// Whether nothing is pending at the start; else POWER ON, RESET, OR BUS DEVICE RESET OCCURRED is.
+    /// True if nothing is pending at the start; else POWER ON, RESET, OR BUS DEVICE RESET OCCURRED is.
     pub calm: bool,
 }
 
@@ -85,9 +85,9 @@ pub enum HeaderLine {
     Ring(Form),
     /// Their number and size.
     Queues(Queues),
-    /// How many workers there are.
+    /// The number of workers.
     Workers(u16),
-    /// How many jobs the hand-off holds.
+    /// The number of jobs that the hand-off holds.
     Handoff(u16),
     /// Features beside those that each device of its form has.
     Features(Features),

@@ -17,7 +17,7 @@ pub fn lines_of(alloc: Global, script: &[u8]) -> Result<Vec<&[u8]>, AllocError> 
 
 /// A line, before its words are looked at.
 pub enum LineText<'a> {
-    /// Nothing to do: an empty line, spaces alone, or a comment.
+    /// An empty line, spaces alone, or a comment: nothing is to be done.
     Blank,
     /// Its words, of which there is one at least.
     Words(Vec<&'a str>),

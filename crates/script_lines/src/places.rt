@@ -19,9 +19,9 @@ enum Place {
     Number32,
     /// A number below 2^64.
     Number64,
-    /// How many descriptors a queue has.
+    /// The number of descriptors of a queue.
     Size,
-    /// How many blocks a unit is given.
+    /// The number of blocks that a unit is given.
     Capacity,
     /// A LUN.
     Lun,
@@ -167,7 +167,7 @@ fn other_place(keyword: &str, index: usize) -> Place {
     }
 }
 
-/// How many words stand behind the first of a request, before its data.
+/// The number of words behind the first of a request, before its data.
 const REQUEST_WORDS: usize = 6;
 
 /// Returns what a place behind the first word of a line takes, from 0 on.

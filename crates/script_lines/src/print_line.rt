@@ -20,7 +20,7 @@ pub enum PrintLine<'a> {
     Events,
     /// The status of the device.
     Status,
-    /// How many notices a queue gave.
+    /// The number of notices that a queue gave.
     Notices(u16),
 }
 

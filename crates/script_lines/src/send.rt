@@ -20,7 +20,7 @@ pub struct Send<'a> {
     pub cdb: [u8; CDB_BYTES],
     /// Its data out.
     pub out: Bytes,
-    /// How many bytes of data in it has room for.
+    /// The bytes of data in that it has room for.
     pub room: u32,
 }
 

@@ -97,7 +97,7 @@ pub fn unit_pair(word: &str) -> Result<Address, LineFault>
 pub struct Item {
     /// The bytes, one at least.
     pub bytes: Vec<u8>,
-    /// How often they stand, once at least.
+    /// The number of times that they stand, at least one.
     pub repeat: u32,
 }
 

@@ -28,7 +28,7 @@ pub struct Request {
     pub cdb: [u8; CDB_BYTES],
 }
 
-/// Why a chain of a request queue holds no request.
+/// The cause for which a chain of a request queue holds no request.
 #[derive(Clone, Copy, Debug, PartialEq, Eq)]
 pub enum CodecFault {
     /// There are fewer than 51 readable bytes.

@@ -46,7 +46,7 @@ pub struct Response {
     pub code: ResponseCode,
     /// The status of the command (SAM-5 §5.3), where the code is `Ok`.
     pub status: u8,
-    /// How many bytes of the data buffers were not moved.
+    /// The number of bytes of the data buffers that were not moved.
     pub residual: u32,
     /// The sense in fixed format, if there is any.
     pub sense: Option<[u8; SENSE_BYTES]>,

@@ -27,7 +27,7 @@ const CURRENT_FIXED: u8 = 0x70;
 /// The same with VALID, which says that the information field holds a value.
 const CURRENT_FIXED_VALID: u8 = 0xf0;
 
-/// How many bytes follow byte 7.
+/// The number of bytes that follow byte 7.
 const ADDITIONAL_SENSE_LENGTH: u8 = 0x0a;
 
 /// Sense data, by its meaning (SPC-4 §4.5). Whoever answers a command with CHECK CONDITION, or

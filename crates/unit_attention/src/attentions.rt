@@ -8,7 +8,7 @@ use crate::Code;
 use arrayvec::ArrayVec;
 use std::marker::Model;
 
-/// How many codes there are: each stands in the list at most once.
+/// The number of codes: each stands in the list at most once.
 const CODES: usize = 4;
 
 /// The codes of the unit attention conditions that a unit has pending, oldest first (SAM-5 §5.14).
