@@ -1,4 +1,4 @@
-//! Why a command gives no data.
+//! The reasons for which a command gives no data.
 
 ghost use Rattle.std.specs.Prelude.{◌≡◌};
 ghost use Rattle.block_commands.specs.declared.failure.Failure.TheVariants.{Refused, WantOfMemory};

@@ -22,7 +22,7 @@ pub fn others_stay()
         filled blocks first count bytes b ≡ blocks b }
 {}
 
-/// Where two writes meet, the later wins.
+/// The later of two writes wins in the blocks that both cover.
 pub fn later_write_wins()
     ensures { (blocks : Blocks) (first' first : ℕ) (earlier later : List ℕ) (b : ℕ) →
         IsTrue (is_within first (block_count later) b) →

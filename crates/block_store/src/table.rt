@@ -19,16 +19,16 @@ const SLOTS: u64 = 64;
 
 /// Keeps rows of pages, by number.
 pub(crate) trait Table: Drop {
-    // How many rows a slot has for a table of this type.
+    // The rows that a slot has for a table of this type.
     ghost rows: { ℕ };
 
-    // Whether it may have row n.
+    // True if the table may have row n.
     ghost fits: { ℕ → Bool };
 
     // The pages of row n.
     ghost row_at: { Self → ℕ → List Page };
 
-    // Whether row n has a place.
+    // True if row n has a place.
     ghost has_row: { Self → ℕ → Bool };
 
     /// Returns how many rows a slot has for it.

@@ -25,7 +25,7 @@ pub const EVENT_IDX: u64 = 1 << 29;
 /// VIRTIO_SCSI_F_CHANGE: the driver is told of capacities that change (VIRTIO 1.2, 5.6.3).
 pub const CHANGE: u64 = 1 << 2;
 
-/// Names the features that any host may offer. Of these a driver has to agree to `VERSION_1` (VIRTIO 1.2, 6.1).
+/// Names the features that any host may offer. A driver has to agree to `VERSION_1` (VIRTIO 1.2, 6.1).
 pub const FEATURES: u64 = VERSION_1 + RING_PACKED + INDIRECT_DESC + CHANGE;
 
 /// Names all features that the device takes: `FEATURES` and `EVENT_IDX`.

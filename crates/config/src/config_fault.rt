@@ -1,4 +1,4 @@
-//! Why a device isn't taken.
+//! The reasons for which a device isn't taken.
 
 ghost use Rattle.std.specs.Prelude.{◌≡◌, not, is_none, false, IfSome, map, position};
 ghost use Rattle.decisions.specs.Inventory.{address_of, stands_before, is_rising};

@@ -16,7 +16,8 @@ pub struct UnitRequest {
     id: u64,
     attribute: TaskAttribute,
     command: Command,
-    // Where the command takes data, the first bytes of the chain up to their end: they stand from byte 51 on.
+    // The first bytes of the chain, up to the end of the command's data, which begin at byte 51. A command without data
+    // keeps none of them.
     bytes: Vec<u8>,
 }
 

@@ -1,4 +1,4 @@
-//! Where a packed queue may lie.
+//! The places where a packed queue may lie.
 
 ghost use Rattle.std.specs.Prelude.{◌≡◌, ◌+◌, MatchResult, nat_le, None, Some};
 ghost use Rattle.packed_ring.specs.Placement.{placement_fault};

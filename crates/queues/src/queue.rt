@@ -133,8 +133,8 @@ impl Queue {
     ghost use Rattle.ring_core.specs.Offer.{used_writes};
     ghost use Rattle.queues.specs.Looking.{IsIdle, Looks};
 
-    /// Opens a queue with this number at a place that its ring takes, for a driver that agreed to these features. Of
-    /// the features it looks only at those that concern rings. `NoMemory` where its ring was refused memory.
+    /// Opens a queue with this number at a place that its ring takes, for a driver that agreed to these features. It
+    /// looks only at those that concern rings. `NoMemory` where its ring was refused memory.
     pub fn new(
         alloc: Global,
         form: Form,

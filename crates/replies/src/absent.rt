@@ -1,4 +1,4 @@
-//! What a LUN that a target lacks is answered.
+//! The answer of a LUN that a target lacks.
 
 ghost use Rattle.std.specs.Prelude.{◌≡◌, ◌≤◌, length, take};
 ghost use Rattle.arrayvec.specs.ArrayVec.{array_vec_len};

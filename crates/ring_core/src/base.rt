@@ -28,7 +28,7 @@ pub struct RingBase {
     used_slots: u128,
     latest_slots: u16,
     broken: Option<RingFault>,
-    // What the chain that was used last leaves to the next.
+    // The room that the chain used last leaves to the next.
     spare: Option<Spare>,
 }
 

@@ -1,4 +1,4 @@
-//! Why a queue gives no chain.
+//! The reasons for which a queue gives no chain.
 
 use std::error::Error;
 use std::fmt;

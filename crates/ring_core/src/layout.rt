@@ -1,4 +1,4 @@
-//! Where a queue lies, and in which form.
+//! The place of a queue in memory, and its form.
 
 ghost use Rattle.std.specs.Prelude.{◌≡◌};
 ghost use Rattle.ring_core.specs.State.{features_of, no_features};

@@ -30,8 +30,7 @@ const CURRENT_FIXED_VALID: u8 = 0xf0;
 /// The number of bytes that follow byte 7.
 const ADDITIONAL_SENSE_LENGTH: u8 = 0x0a;
 
-/// Sense data, by its meaning (SPC-4 §4.5). Whoever answers a command with CHECK CONDITION, or
-/// answers REQUEST SENSE, makes one.
+/// Sense data, by its meaning (SPC-4 §4.5). CHECK CONDITION and REQUEST SENSE carry it.
 #[derive(Clone, Copy, Debug, PartialEq, Eq)]
 pub struct Sense {
     /// The sense key, 0 to 15: what kind of condition it is.

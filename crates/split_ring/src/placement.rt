@@ -1,4 +1,4 @@
-//! Where a split queue may lie.
+//! The places where a split queue may lie.
 
 ghost use Rattle.std.specs.Prelude.{◌≡◌, ◌+◌, MatchResult, nat_le, None, Some};
 ghost use Rattle.split_ring.specs.Placement.{placement_fault};

@@ -1,4 +1,4 @@
-//! How a function begins, or why it is refused.
+//! The beginning of a function, or the reason for which it is refused.
 
 ghost use Rattle.std.specs.Prelude.{◌≡◌, ◌≤◌, length};
 ghost use Rattle.task_mgmt.specs.Demands.{places_of, demanded, begun};

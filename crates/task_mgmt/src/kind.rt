@@ -1,4 +1,4 @@
-//! What a function does on each of its units.
+//! The acts of a function on each of its units.
 
 ghost use Rattle.std.specs.Prelude.{◌≡◌, IfSome};
 ghost use Rattle.task_mgmt.specs.Functions.{kind_of, IsKnownKind};

@@ -23,7 +23,7 @@ ghost use Rattle.task_mgmt.specs.Visits.{all_marked, all_asked, all_checked, Are
 
 use unit_attention::Code;
 
-/// What each subtype does (VIRTIO 1.2 §5.6.6.2, SAM-5 §7.2 to §7.10).
+/// Each subtype has its kind (VIRTIO 1.2 §5.6.6.2, SAM-5 §7.2 to §7.10).
 pub fn kinds_by_subtype()
     ensures abort_task { (id : ℕ) → kind_of 0 id ≡ Some (Marking (Abort (Id id))) }
     ensures abort_task_set { (id : ℕ) → kind_of 1 id ≡ Some (Marking (Abort All)) }

@@ -108,7 +108,7 @@ impl Arrival {
         }
     }
 
-    /// Returns its chain, to be completed. What it asked for is let go.
+    /// Returns its chain, to be completed. Its request is let go.
     #[inline(always)]
     pub fn into_chain(self) -> Chain
         ensures { result ≡ self.chain }

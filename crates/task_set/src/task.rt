@@ -51,7 +51,7 @@ impl Model for Task {
 }
 
 impl Default for Task {
-    // What stands in the free places of a task set.
+    // Fills the free places of a task set.
     fn default() -> Task {
         Task {
             ticket: Ticket {

@@ -15,7 +15,7 @@ pub trait Answering {
     /// The request may be answered.
     ghost may_answer: { Self → PlainJob → Type 0 };
 
-    /// What answers a request that ended so was written.
+    /// The answer of a request that ended so was written.
     ghost answers: { Self → PlainJob → Ending → Self → Type 0 };
 
     /// Writes what answers a request: its command ran and has a reply, or was refused memory. Its unit calls it once.

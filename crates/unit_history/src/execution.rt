@@ -1,4 +1,4 @@
-//! How a unit runs the command of a task.
+//! The run of a task's command on its unit.
 
 ghost use Rattle.std.specs.Prelude.{◌≡◌, ◌+◌, ◌<◌, ◌≤◌, ◌∷◌, ℕ, length, map, IfSome};
 ghost use Rattle.cdb.specs.Need.{need_of};

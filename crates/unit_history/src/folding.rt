@@ -29,7 +29,7 @@ pub(crate) struct Folding {
     forgotten: u64,
     // The newest first.
     marks: VecDeque<FoldedMark>,
-    // Where receipts are confirmed by the unit.
+    // Kept where the unit confirms receipts.
     commits: Commits,
     gone: Record<StepKind>,
 }

@@ -47,7 +47,7 @@ const MOST_STEPS: u64 = 0x8000_0000_0000_0000;
 #[derive(Drop)]
 pub struct StepLog {
     keeps_replies: bool,
-    // How many are folded.
+    // The number of steps that are folded.
     base: u64,
     // These, and maybe some of those that are kept.
     folded: Folding,
@@ -79,8 +79,8 @@ impl Model for StepLog {
         l.replies.items l.noted.items };
 }
 
-/// Folds the steps up to a place. What is folded already stays so. `AllocError` where memory was refused; then maybe
-/// fewer are folded.
+/// Folds the steps up to a place. Folded steps stay so. `AllocError` where memory was refused; then maybe fewer are
+/// folded.
 #[inline(never)]
 fn cover(folded: &mut Folding, kinds: &KindRing, to: u64) -> Result<(), AllocError>
     requires covers { AreFirst folded.old.kinds kinds.now.kinds }

@@ -64,7 +64,7 @@ pub struct RecordedReply {
     sense: Option<Sense>,
     payload: Record<u8>,
     moved: u32,
-    // How many bytes the data are.
+    // The number of bytes of the data.
     data_bytes: u64,
 }
 

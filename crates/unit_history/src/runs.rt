@@ -8,12 +8,12 @@ use std::alloc::AllocError;
 /// Commits of one queue whose places rise by one stride, and the numbers of whose tickets do by another.
 #[derive(Clone, Copy)]
 pub struct Run {
-    // Of the first.
+    // The place and the number of the first.
     place: u64,
     number: u64,
     by_place: u32,
     by_number: u32,
-    // How many there are behind the first.
+    // The number of Commits behind the first.
     more: u32,
 }
 

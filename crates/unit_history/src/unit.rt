@@ -35,7 +35,7 @@ const MOST_BLOCKS: u64 = 1 << 40;
 #[derive(Drop)]
 pub struct UnitState {
     pub(crate) alloc: Global,
-    // What is pending is set before each command.
+    // The pending attention in them is set before each command.
     pub(crate) facts: UnitFacts,
     pub(crate) calm: bool,
     pub(crate) attentions: Attentions,
@@ -51,7 +51,7 @@ pub struct UnitState {
     // Pages that a commit left over, at most one list of them. The next WRITE that is prepared puts its data over their
     // bytes, in place of memory of its own.
     pub(crate) spare_pages: Option<Prepared>,
-    // Which blocks may have changed since it was last asked.
+    // The blocks that may have changed since somebody last asked.
     pub(crate) changes: Changes,
 }
 
@@ -176,7 +176,7 @@ impl UnitState {
     {
         self.opened = Record::new().and(&store);
         let blocks = store.capacity();
-        // What the store has behind its end is no block of the disk.
+        // The store's bytes behind its end are no block of the disk.
         store.resize(blocks);
         self.opening_blocks = blocks;
         self.store = store;

@@ -1,4 +1,4 @@
-//! What a unit tells of itself.
+//! The views that a unit gives of itself.
 
 use crate::changes::Changes;
 use crate::kind::StepKind;

@@ -1,4 +1,4 @@
-//! How much a unit did.
+//! The counts of what a unit did.
 
 /// The counts of what a unit did since it opened. A number that passes 2^64 - 1 begins again at 0.
 #[derive(Clone, Copy, Debug, PartialEq, Eq)]

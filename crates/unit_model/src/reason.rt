@@ -1,4 +1,4 @@
-//! Why a command ends without having run.
+//! The reasons for which a command ends without having run.
 
 /// The reason for which a task was marked. It ends without having run.
 #[derive(Clone, Copy, PartialEq, Eq)]

@@ -55,8 +55,8 @@ pub fn as_many_as_the_size_are_no_jump()
     ensures one_more { (s : RingState) (m : List ℕ) → ahead s m ≡ s.layout.size + 1 → entry_wrong s m ≡ Some IndexJump }
 {}
 
-/// Where event indices were agreed, a notice is wanted of that one alone of a split queue's first
-/// 65,536 completions whose number, from 0, is used_event.
+/// One alone of a split queue's first 65,536 completions wants a notice, if event indices were agreed: that whose
+/// number, from 0, is used_event.
 pub fn one_notice_of_a_split_queue()
     ensures { (s : RingState) (m : List ℕ) → s.features.event_index ≡ true → length s.log.used ≤ 65536
         → used_event s m < 65536 → split_wants_notice s m ≡ (length s.log.used == used_event s m + 1) }

@@ -5,7 +5,7 @@ ghost use Rattle.ring_core.specs.Parts.{PartsFit};
 ghost use Rattle.ring_core.specs.Writes.{Write, all_written, scatter_writes};
 ghost use Rattle.ring_core.specs.declared.descriptor.Part.{Part};
 
-/// Of two lists of writes one behind the other, the second is made where the first left memory.
+/// The second of two lists of writes, one behind the other, is made where the first left memory.
 pub fn writes_in_order()
     ensures { (m : List ℕ) (first then : List Write)
         → all_written m (first ++ then) ≡ all_written (all_written m first) then }

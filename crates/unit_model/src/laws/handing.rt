@@ -13,7 +13,7 @@ ghost use Rattle.unit_model.specs.Contents.{Opening};
 ghost use Rattle.unit_model.specs.Lawful.{IsLawful};
 ghost use Rattle.unit_model.specs.Worths.{worth, alive_worth, parked_worth, each_one};
 
-/// Where a task is alive, fewer are parked than alive: one of them was handed out.
+/// Fewer tasks are parked than alive, if any is alive: one of them was handed out.
 pub fn fewer_are_parked_than_alive()
     ensures { (h : List Step) → any_task (alive h) ≡ true → parked_worth each_one h < alive_worth each_one h }
 {}

@@ -37,8 +37,8 @@ pub fn places_are_clear_when_all_have_left()
     ensures { (o : Opening) (place : ℕ) (h : List Step) → IsLawful o h → (is_clear place h ≡ true) ↔ AreGone place h }
 {}
 
-/// By what a task set keeps: the place of an Abort or a Reset is clear exactly where its rule meets none of the tasks
-/// alive that entered before it (SAM-5 §7.2, §7.3, §7.5 to §7.7), and any other place is clear.
+/// The place of an Abort or a Reset is clear exactly where its rule meets none of the tasks alive that entered before
+/// it (SAM-5 §7.2, §7.3, §7.5 to §7.7). Any other place is clear. So a task set alone tells which places are clear.
 pub fn places_are_clear_where_no_earlier_task_is_met()
     ensures met { (o : Opening) (place : ℕ) (rule : ARule) (h : List Step) →
         IsLawful o h → rule_at place h ≡ Some rule →

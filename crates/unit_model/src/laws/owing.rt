@@ -1,5 +1,5 @@
-//! How many steps the tasks alive may still take. A log with room for these never lacks it when one of them runs,
-//! is answered BUSY or leaves.
+//! The steps that the tasks alive may still take. A log with room for these never lacks it when one of them runs, is
+//! answered BUSY or leaves.
 
 ghost use Rattle.std.specs.Prelude.{ℕ, ◌≡◌, ◌<◌, ◌≤◌, ◌+◌, ◌∷◌, List, true};
 ghost use Rattle.ring_core.specs.declared.log.Ticket.{Ticket};

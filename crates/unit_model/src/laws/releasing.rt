@@ -16,8 +16,7 @@ ghost use Rattle.unit_model.specs.Seen.{seen, waits, with_mark, freed};
 ghost use Rattle.unit_model.specs.Contents.{Opening};
 ghost use Rattle.unit_model.specs.Lawful.{IsLawful};
 
-/// Of the tasks that stay, a Leave hands out those that waited and that it frees (SAM-5 §8.6), and not the one
-/// that leaves.
+/// A Leave hands out the tasks that stay, that waited and that it frees (SAM-5 §8.6), and not the one that leaves.
 pub fn a_leave_hands_out_what_it_frees()
     ensures staying { (o : Opening) (t : Ticket) (past : List Step) → IsLawful o (Step.Leave t ∷ past) →
         AllByRecursion (λ e. is_some (task_of e.ticket (released (Step.Leave t) past))

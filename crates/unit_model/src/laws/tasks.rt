@@ -27,7 +27,7 @@ pub fn each_happens_once()
         is_alive t h ≡ false }
 {}
 
-/// Where 64 tasks are alive none enters, and where fewer are none is refused with TASK SET FULL.
+/// A task never enters where 64 are alive, and is never refused with TASK SET FULL where fewer are.
 pub fn full_alone_where_64_are_alive()
     ensures full { (o : Opening) (e : Entry) (past : List Step) → length (alive past) ≡ 64 →
         May o (Step.Enter e) past → ⊥ }
@@ -48,7 +48,7 @@ pub fn unblocked_is_enabled_at_once()
         enabled e (Step.Enter e ∷ past) ≡ not (is_blocked e (alive (Step.Enter e ∷ past))) }
 {}
 
-/// Where a task is alive, one that is alive isn't blocked.
+/// At least one of the tasks alive isn't blocked, if any is alive.
 pub fn some_task_is_free()
     ensures { (h : List Step) → any_task (alive h) ≡ true →
         list_any (λ e. not (is_blocked e (alive h))) (alive h) ≡ true }
