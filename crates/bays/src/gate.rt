@@ -2,7 +2,7 @@
 
 use ring_core::Ticket;
 
-/// Where a request passes the gate.
+/// The point of a request's life at which it passes the gate.
 #[derive(Clone, Copy, Debug, PartialEq, Eq)]
 pub enum Point {
     /// It entered its unit. No lock is held.

@@ -22,7 +22,7 @@ pub trait UnitBays {
     /// So many Commits were counted for whoever had the unit lent.
     ghost counts: { Self → ℕ → Self → Type 0 };
 
-    /// How many units there are.
+    /// The number of units.
     ghost units: { Self → ℕ };
 
     /// Returns how many units there are. Asked for a place that a request names, before that unit is lent.
@@ -63,7 +63,7 @@ pub trait QueueBays {
     /// The memory came back as these bytes, and nothing else changed.
     ghost keeps_memory: { Self → List ℕ → Self → Type 0 };
 
-    /// How many queues there are.
+    /// The number of queues.
     ghost queues: { Self → ℕ };
 
     /// Returns how many queues there are.

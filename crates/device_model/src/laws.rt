@@ -87,8 +87,8 @@ pub fn each_transition_does_its_part()
     ensures memory { (w : PlainWorld) (d : Transition) → (after d w).memory ≡ bytes_after d w.memory }
 {}
 
-/// Where a transition's seat, slot and function stand for it, and its part is done on what the locks lend, it happens:
-/// a thread that holds no more than one such lock at a time takes steps of the one device.
+/// A transition happens if its seat, slot and function stand for it, and its part is done on what the locks lend.
+/// So a thread that holds at most one such lock at a time takes steps of the one device.
 pub fn parts_join()
     ensures { (w : PlainWorld) (d : Transition) → StandsFor d w → LendsUnit d w → LendsQueue d w → Happens d w }
 {}
@@ -205,7 +205,7 @@ pub fn queries_are_checked_at_once()
         Applies w AnEvent.Check }
 {}
 
-/// Where a transition happens, its event applies; so an event that doesn't apply may do nothing.
+/// A transition that happens has an event that applies; an event that doesn't apply may do nothing.
 pub fn what_happens_applies()
     ensures applies { (w : PlainWorld) (d : Transition) → Happens d w → Applies w (event_of d) }
     ensures idle { (w : PlainWorld) (e : AnEvent) → (Applies w e → ⊥) → May (Transition.Idle e) w }

@@ -20,13 +20,13 @@ ghost use Rattle.device_model.specs.Measure.{measure, pays};
 ghost use Rattle.device_model.specs.Settling.{Settles, SettlesOf, IsShort};
 ghost use Rattle.device_model.specs.Waking.{IsOwn, IsFetch, Wakes};
 
-/// Where no step of the device itself is left to take, nothing is left to answer: each chain that was accepted was
-/// used, but for the event buffers that are held; no function is open, no event waits, and no queue has a chain, unless
-/// a fault broke it.
+/// A device that has no step of its own left to take has nothing left to answer. Each accepted chain was used, but for
+/// the event buffers that are held. No function is open, no event waits, and no queue has a chain, unless a fault broke
+/// it.
 ///
-/// Nothing is stuck since of the tasks that are alive in a unit one may always run: a HEAD OF QUEUE task, or else the
-/// oldest. A task that may run isn't parked, so it stands in a seat's list, in the hand-off or in a hand, where a step
-/// takes it on. Where all of those are empty no task is alive, so that each mark of a function is clear.
+/// Nothing is stuck, since one of the tasks alive in a unit may always run: a HEAD OF QUEUE task, or else the oldest.
+/// A task that may run isn't parked, so it stands in a seat's list, in the hand-off or in a hand, where a step takes it
+/// on. If all of those are empty no task is alive, so each mark of a function is clear.
 pub fn a_quiet_device_is_at_rest()
     ensures { (old : PlainWorld) (trace : List Occurrence) (w : PlainWorld) → Reached old trace w → IsQuiet w →
         IsAtRest w }
@@ -65,10 +65,11 @@ pub fn a_portion_is_a_short_run()
         IsAtRestOf asked (world_of w more) }
 {}
 
-/// In every world that is reached, an event of the device itself that applies can be done: the unit of a job is there
-/// and knows its task, a list or the slot has room, and each chain that is answered is outstanding in its queue. Of a
-/// Fetch this isn't said: it also asks that memory is one of bytes, and that the queue's table has a place for the
-/// chain.
+/// An event of the device itself that applies can be done, in every world that is reached. The unit of a job is there
+/// and knows its task. A list or the slot has room. Each chain that is answered is outstanding in its queue.
+///
+/// The law leaves out a Fetch, which also asks that memory is one of bytes, and that the queue's table has a place for
+/// the chain.
 pub fn what_applies_happens()
     ensures { (old : PlainWorld) (trace : List Occurrence) (w : PlainWorld) (e : Event) → Reached old trace w →
         IsOwn e → (IsFetch e → ⊥) → Applies w e → (d : Transition) × (event_of d ≡ e) × Happens d w }

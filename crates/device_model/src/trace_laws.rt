@@ -49,8 +49,8 @@ pub fn answers_are_true()
         AreAnswered old (transitions_of old trace w r.runs) w }
 {}
 
-/// Of two commands that one unit ran, where the second was fetched after the first was answered, the first ran first:
-/// who waits for an answer before the next request finds the order kept, whatever ran in between.
+/// Two commands that one unit ran, the second fetched after the first was answered, ran in that order. So a guest that
+/// waits for an answer before its next request finds the order kept, whatever ran in between.
 pub fn commands_keep_their_order()
     ensures { (old : PlainWorld) (trace : List Occurrence) (w : PlainWorld) (r : Reached old trace w) →
         AreInOrder (transitions_of old trace w r.runs) }

@@ -1,4 +1,4 @@
-//! How a unit refuses a request.
+//! The reasons for which a unit refuses a request.
 
 /// The refusal of a request that came to its unit.
 #[derive(Clone, Copy)]

@@ -10,7 +10,7 @@ use std::sync::{Condvar, Mutex, Wait};
 pub struct Bell {
     rings: Mutex<u64>,
     rung: Condvar,
-    // How many workers announced that they are to sleep.
+    // The number of workers that announced that they are to sleep.
     sleepers: AtomicU64,
 }
 

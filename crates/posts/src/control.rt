@@ -1,4 +1,4 @@
-//! How the first worker serves the control queue and the event queue.
+//! The control queue and the event queue, which the first worker serves.
 
 ghost use Rattle.std.specs.Prelude.{◌≡◌};
 ghost use Rattle.posts.specs.Tallying.{Tallies};
@@ -16,10 +16,10 @@ use scsi_codec::{CONTROL_QUEUE, EVENT_QUEUE};
 use std::sync::Wait;
 use std::sync::ledger::Ledger;
 
-/// Where the control queue stands among the queues.
+/// The place of the control queue among the queues.
 const CONTROL: usize = CONTROL_QUEUE as usize;
 
-/// Where the event queue stands among the queues.
+/// The place of the event queue among the queues.
 const EVENTS: usize = EVENT_QUEUE as usize;
 
 /// Takes the next step of the open function; `None` where nothing is left for it to do but to be answered.

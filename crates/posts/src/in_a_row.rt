@@ -1,4 +1,4 @@
-//! How a worker goes from one request of a queue to the next, in as few holds as may be.
+//! The way of a worker from one request of a queue to the next, in as few holds as may be.
 
 ghost use Rattle.std.specs.Prelude.{◌≡◌, ◌<◌, vec_len};
 ghost use Rattle.std.specs.Bool.{OnFalse};
@@ -139,7 +139,7 @@ fn answer_and_fetch<R: Wait, G: Gate + Drop, C: Ledger, W: Ledger>(
     let Some(ticket) = ticket_in(&post.hand) else {
         return;
     };
-    // Where the fetch was refused memory, the next round fetches again.
+    // The next round fetches again where this fetch was refused memory.
     let (given, _fetched) = answer_fetch_on(
         &mut shared.queues(rt),
         at,

@@ -35,7 +35,7 @@ pub struct Post<W: Ledger> {
     pub hand: Hand,
     pub kept: Kept,
     pub part: Part<W>,
-    // Whether its worker is counted among those that wait for a job.
+    // True if its worker is counted among those that wait for a job.
     pub waits: bool,
     // The first request whose chain its queue didn't know when it was to be answered, which never happens: no receipt is
     // given then.

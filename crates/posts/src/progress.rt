@@ -1,4 +1,4 @@
-//! Whether a worker got on.
+//! The progress of a worker.
 
 /// The outcome of a step, or of a round of them. The calls that serve a seat or its queues answer it.
 #[derive(Clone, Copy, PartialEq, Eq)]

@@ -1,4 +1,4 @@
-//! How a worker serves the request queues that it owns.
+//! The request queues that a worker owns, and how it serves them.
 
 ghost use Rattle.std.specs.Prelude.{◌≡◌, ◌<◌, vec_len};
 ghost use Rattle.handoff.specs.Seats.{IsSeatOf, IsSameSeat};

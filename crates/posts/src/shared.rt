@@ -1,4 +1,4 @@
-//! What the threads of a host share.
+//! The state that the threads of a host share.
 
 ghost use Rattle.std.specs.Prelude.{◌≡◌, length, vec_len};
 
@@ -25,13 +25,17 @@ pub struct Parts<C: Ledger> {
     pub inventory: Inventory,
 }
 
-/// All that the threads of a host share: the parts of their device, and what wakes and ends them. Locks: each unit's, with that of the books inside it at a
-/// commit; each queue's with the memory's inside it; the memory's alone; and the event port's, round that of the event
-/// queue, which nobody takes without it.
+/// All that the threads of a host share: the parts of their device, and what wakes and ends them. A thread takes these
+/// locks:
+///
+/// - a unit's, with that of the books inside it at a commit;
+/// - a queue's, with the memory's inside it;
+/// - the memory's alone;
+/// - the event port's, round that of the event queue, which nobody takes without it.
 #[derive(Drop)]
 pub struct Shared<G: Gate + Drop, C: Ledger, W: Ledger> {
     pub units: Vec<Mutex<CountedUnit<C>>>,
-    // How many Commits were counted, and how many receipts.
+    // The counts of Commits and of receipts.
     pub books: Mutex<Books<C, W>>,
     pub queues: Vec<Mutex<Queue>>,
     pub(crate) port: Mutex<EventPort>,
@@ -39,12 +43,13 @@ pub struct Shared<G: Gate + Drop, C: Ledger, W: Ledger> {
     pub handoff: Handoff,
     pub(crate) gate: G,
     pub(crate) closing: AtomicBool,
-    // Whether no chain is taken any more.
+    // True once no more chains are taken.
     pub(crate) abandoned: AtomicBool,
     pub bell: Bell,
-    // How many workers found nothing to do in their latest round.
+    // The number of workers that found nothing to do in their latest round.
     pub(crate) waiting: AtomicU64,
-    // What all threads try for stands in cache lines of its own, so that what stands beside it stays with whoever reads it.
+    // The lock that all threads try for. It has cache lines of its own, so that its neighbours stay in the caches of
+    // their readers.
     pub memory: CachePadded<Mutex<GuestMem>>,
 }
 

@@ -1,4 +1,4 @@
-//! Whether a report is of the host that was opened.
+//! Tells whether a report is of the host that was opened.
 
 ghost use Rattle.std.specs.Prelude.{◌≡◌, ◌≤◌, ◌↔◌, IsTrue, length};
 ghost use Rattle.report.specs.Opened.{IsOpenedAs, AreOpenedAs};

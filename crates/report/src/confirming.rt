@@ -1,4 +1,4 @@
-//! Whether receipts are confirmed by their units.
+//! Tells whether receipts are confirmed by their units.
 
 ghost use Rattle.std.specs.Prelude.{◌≡◌, ◌↔◌, IsTrue, Some, slice_get};
 ghost use Rattle.unit_model.specs.Unit.{IsUnit};

@@ -1,4 +1,4 @@
-//! Whether a report adds up.
+//! Tells whether a report adds up.
 
 ghost use Rattle.std.specs.Prelude.{◌≡◌, ◌≤◌, ◌||◌, IfOk, length, vec_len, Option};
 ghost use Rattle.ring_core.specs.declared.log.Ticket.{Ticket as ATicket};

@@ -1,11 +1,11 @@
-//! Why no report is given.
+//! The reasons for which no report is given.
 
 use ring_core::Ticket;
 use std::error::Error;
 use std::fmt;
 
 /// The cause for which a closed host gives no report. A receipt that isn't confirmed is named before a ticket that is
-/// outstanding. Of several the first is named, by queue and number.
+/// outstanding. The first of several is named, by queue and number.
 #[derive(Clone, Copy, Debug, PartialEq, Eq)]
 pub enum CloseFault {
     /// A growth was refused.

@@ -1,4 +1,4 @@
-//! What serves a small device, through what one thread lends of it.
+//! A server of a small device, through what one thread lends of it.
 
 use crate::parts::{Parts, put, used};
 use bays::{
@@ -11,7 +11,7 @@ use phases::{Hand, OpenFunction, Slot};
 use std::alloc::Global;
 use unit_history::{Cause, Job, JobList, Note, ReceiptOrNote};
 
-/// What a guest asks for: TEST UNIT READY of a unit, by target and LUN, on a queue.
+/// A guest's request: TEST UNIT READY of a unit, by target and LUN, on a queue.
 #[derive(Clone, Copy)]
 pub struct Asked {
     pub queue: u16,

@@ -134,32 +134,32 @@ where
 /// guest broke it.
 #[derive(Clone, Copy, Debug, PartialEq, Eq)]
 pub struct Seen {
-    /// How many chains it accepted.
+    /// The number of chains that it accepted.
     pub accepted: u64,
-    /// How many of these were used.
+    /// The number of these that were used.
     pub used: u64,
-    /// How many notices its driver wanted.
+    /// The number of notices that its driver wanted.
     pub notices: u64,
     /// The fault of the guest that broke it, if any.
     pub broken: Option<RingFault>,
 }
 
-/// A device that threads serve. Clauses see how many workers and queues it has, and the units that it was opened with. Of
-/// its two ledgers, `C` counts the Commits of its units, and `W` the receipts of its workers and of the operator. It
-/// isn't `Drop`: who starts one closes it, which ends its threads.
+/// A device that threads serve. Clauses see how many workers and queues it has, and the units that it was opened with. Its
+/// ledger `C` counts the Commits of its units, and `W` the receipts of its workers and of the operator. A host isn't
+/// `Drop`: its starter closes it, which ends its threads.
 pub struct Host<G: Gate + Drop, C: Ledger, W: Ledger> {
     alloc: Global,
     shared: Arc<Shared<G, C, W>>,
     crew: Crew<Tallied<W>>,
-    // What the operator's seat has, and the events that wait.
+    // The operator's seat, and the events that wait.
     post: Post<W>,
     waiting: WaitingEvents,
-    // What no unit has of the first ledger, and no seat of the second.
+    // The parts of the first ledger that no unit has, and of the second that no seat has.
     commits: Share<C>,
     receipts: Share<W>,
-    // Whether the guest is told of capacities that change.
+    // True if the guest is told of capacities that change.
     told: bool,
-    // What its report is held against.
+    // The units with which its report is compared.
     specs: Vec<UnitSpec>,
 }
 

@@ -1,5 +1,5 @@
 //! The device served by threads: the same phases as of one thread, each on what one lock lends, and a hand-off of jobs
-//! between the threads. What a thread does with its post and its queues is crate `posts`.
+//! between the threads. Crate `posts` has what a thread does with its post and its queues.
 #![tactic(auto)]
 
 mod alone;

@@ -1,4 +1,4 @@
-//! What the operator of a host does to its units.
+//! The operator's acts on the units of a host.
 
 ghost use Rattle.std.specs.Prelude.{◌≡◌, ◌<◌, vec_len, IfOk, IfErr, OnOk, OnErr};
 ghost use Rattle.std.specs.Bool.{OnTrue};

@@ -15,7 +15,7 @@ use std::hint::spin_loop;
 use std::sync::Wait;
 use std::sync::ledger::Ledger;
 
-/// Where the request queues begin among the queues.
+/// The place of the first request queue among the queues.
 const FIRST_REQUEST: usize = FIRST_REQUEST_QUEUE as usize;
 
 /// A worker sleeps after this many rounds in a row that found nothing.
@@ -51,7 +51,7 @@ pub(crate) fn ends<W: Ledger>(post: Post<W>) -> Worked<Tallied<W>>
     }
 }
 
-/// Takes a step of the open function or the control queue, and one of the event queue. Of an abandoned host it takes
+/// Takes a step of the open function or the control queue, and one of the event queue. An abandoned host gets
 /// one of the open function alone.
 fn serve_others<R: Wait, G: Gate + Drop, C: Ledger, W: Ledger>(
     rt: &R,

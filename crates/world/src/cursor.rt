@@ -1,4 +1,4 @@
-//! Where in the order of service to look next.
+//! The place in the order of service from which to look next.
 
 ghost use Rattle.std.specs.Prelude.{◌≡◌, ◌↔◌, IsTrue};
 ghost use Rattle.world.specs.Cursors.{served_of, direct_from, seat_from, enter_from};

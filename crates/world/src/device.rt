@@ -24,7 +24,7 @@ pub(crate) struct Device {
     pub(crate) function: Option<OpenFunction>,
     pub(crate) port: EventPort,
     pub(crate) waiting: WaitingEvents,
-    // Whether the driver is told of capacities that change.
+    // True if the driver is told of capacities that change.
     pub(crate) tells_changes: bool,
 }
 

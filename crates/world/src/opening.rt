@@ -1,4 +1,4 @@
-//! How the device opens.
+//! The opening of the device.
 
 ghost use Rattle.std.specs.Prelude.{◌≡◌, ◌≤◌, [], length, map, IfOk, IsFalse, IsTrue, true};
 ghost use Rattle.decisions.specs.Inventory.{address_of};

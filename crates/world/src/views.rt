@@ -1,4 +1,4 @@
-//! What a device tells of itself.
+//! The views that a device gives of itself.
 
 ghost use Rattle.std.specs.Prelude.{◌≡◌, ◌≤◌, length, IfOk, is_some};
 ghost use Rattle.std.specs.List.{list_any};
