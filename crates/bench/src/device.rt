@@ -47,7 +47,7 @@ pub(crate) trait Device {
     /// Reads bytes as the guest.
     fn peek(&mut self, addr: u64, out: &mut [u8]);
 
-    /// Waits until so many requests of a unit are answered. Whether they are.
+    /// Waits until so many requests of a unit are answered. Returns true if they are.
     fn serves(&mut self, lun: u8, count: u64) -> Result<bool, Failure>;
 }
 

@@ -1,4 +1,4 @@
-//! Why the work wasn't done.
+//! The reasons for which the work wasn't done.
 
 use block_store::NoMemory;
 use std::alloc::AllocError;

@@ -258,7 +258,8 @@ impl Guest {
         Err(Failure::NotServed)
     }
 
-    /// Has all rounds served, and makes each set available again once it is answered. How many ended with GOOD.
+    /// Has all rounds served, and makes each set available again once it is answered. Returns how many requests ended
+    /// with GOOD.
     pub(crate) fn serve<D: Device>(mut self, device: &mut D) -> Result<u64, Failure> {
         let rounds = self.work.rounds;
         for round in 0..rounds {

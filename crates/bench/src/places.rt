@@ -1,4 +1,4 @@
-//! What the guest asks for, and where it lies.
+//! The guest's requests, and their places in memory.
 
 ghost use Rattle.std.specs.Prelude.{◌<◌, ◌^◌};
 

@@ -1,4 +1,4 @@
-//! What is printed.
+//! The output of the program.
 
 ghost use Rattle.workers.specs.Ledgers.{Opens};
 

@@ -1,4 +1,4 @@
-//! What the words of the command line name.
+//! The work that the words of the command line name.
 
 use crate::work::{KINDS, Kind, Work};
 use ring_core::Form;

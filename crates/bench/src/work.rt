@@ -1,4 +1,4 @@
-//! What is to be done: kinds of requests, and how often.
+//! The work: kinds of requests, and how often each is asked.
 
 use ring_core::Form;
 

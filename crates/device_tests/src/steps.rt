@@ -1,4 +1,4 @@
-//! What is done with a device, a step at a time, and whether that comes of it which should.
+//! Steps of a driver and its device, one at a time, each with what must come of it.
 
 use crate::guest::{Sent, has, poke, send, was_answered};
 use crate::moves::{Move, run, step, step_all};

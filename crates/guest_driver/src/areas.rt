@@ -1,4 +1,4 @@
-//! Where a guest of a script puts its queues.
+//! The areas where a script's guest puts its queues.
 
 ghost use Rattle.std.specs.Prelude.{◌≡◌, ◌+◌, ◌*◌};
 

@@ -1,11 +1,11 @@
-//! How many steps the device may still take.
+//! The steps that the device may still take.
 
 ghost use Rattle.std.specs.Prelude.{ℕ, ◌≡◌, ◌≤◌, ◌<◌, ◌-◌, None, Some, Err, IsOk, OnErr};
 ghost use Rattle.script_lines.specs.declared.fault.LineFault.{LineFault};
 
 use script_lines::LineFault;
 
-/// How many steps the device may still take; `None` for as many as it likes.
+/// The number of steps that the device may still take; `None` for any number.
 #[derive(Clone, Copy)]
 pub(crate) struct Allowance {
     pub(crate) left: Option<u64>,

@@ -19,7 +19,7 @@ use std::thread;
 use std::thread::Threads;
 use workers::{CloseFault, Host, Open, Report, ResizeFault};
 
-/// How often the guest looks for an answer that a line waits for.
+/// The number of looks that the guest takes for an answer that a line waits for.
 const LOOKS: u32 = 1_000_000;
 
 /// Plays a script on a device that so many workers serve, 1 to 8, in place of the number in its header: reads it
@@ -121,7 +121,7 @@ struct Service<C: Ledger, D: Ledger> {
     pages: u32,
     driver: Driver,
     known: Known,
-    // Whether the device is to take no chain any more.
+    // True once the device takes no more chains.
     is_abandoned: bool,
 }
 

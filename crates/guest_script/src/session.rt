@@ -17,12 +17,12 @@ use world::{Event, World};
 /// Each queue's bit, as `World::serve` takes them.
 const EACH_QUEUE: u32 = u32::MAX;
 
-/// How a script is played.
+/// The options with which a script is played.
 #[derive(Clone, Copy)]
 pub struct Options {
-    /// How many steps the device may take in all; `None` for as many as it likes.
+    /// The most steps that the device may take in all; `None` for any number.
     pub steps: Option<u64>,
-    /// Whether a line is printed for each step of the device.
+    /// True if a line is printed for each step of the device.
     pub trace: bool,
 }
 

@@ -13,11 +13,11 @@ use world::{Event, World};
 /// A device as it was seen last, so that the next step is known by what it changed.
 #[derive(Drop)]
 pub(crate) struct Trace {
-    /// How many steps each unit took.
+    /// The number of steps that each unit took.
     steps: Vec<u64>,
     /// The chain of the request that each seat ran last, and that didn't leave.
     hands: Vec<Option<Ticket>>,
-    /// How many event buffers were used.
+    /// The number of event buffers that were used.
     buffers: u64,
 }
 

@@ -47,7 +47,7 @@ const LATE_WRITE: Asked = Asked {
     ..EARLY_WRITE
 };
 
-/// How far the two have come.
+/// The points that the two WRITEs have reached.
 #[derive(Drop)]
 struct Seen {
     entered: AtomicU64,
@@ -120,14 +120,14 @@ impl Gate for Crossing {
     }
 }
 
-/// How two WRITEs into one page went.
+/// The outcome of two WRITEs into one page.
 #[derive(Clone, Copy, PartialEq, Eq)]
 pub struct Crossed {
-    /// How often one went on without what it waited for.
+    /// The times that one went on without what it waited for.
     pub missed: u64,
-    /// How often the pages of the early one, and of the late one, were made.
+    /// The times that the pages of the early one, and of the late one, were made.
     pub prepared: (u64, u64),
-    /// Whether the guest saw that both were answered.
+    /// True if the guest saw that both were answered.
     pub answered: bool,
     /// The byte of which each of the first three blocks is; `None` where its bytes differ.
     pub blocks: [Option<u8>; 3],

@@ -18,10 +18,10 @@ pub(crate) const PAGES: u32 = 16;
 /// The bytes of a page.
 const PAGE: u64 = 4096;
 
-/// Where the buffers of the first queue lie: each queue has 8,192 bytes there, each chain 2,048 of them.
+/// The address of the buffers of the first queue. Each queue has 8,192 bytes there, each chain 2,048 of them.
 const BUFFERS: u64 = 20480;
 
-/// How far behind what the device reads of a chain it writes.
+/// The bytes from the start of a chain's readable part to its writable part.
 const RESPONSE: u64 = 1024;
 
 /// The bytes of a request before its data (VIRTIO 1.2 §5.6.6.1).
@@ -32,7 +32,7 @@ const NEXT: u16 = 1;
 
 const WRITE: u16 = 2;
 
-/// How often the guest looks for an answer.
+/// The number of looks that the guest takes for an answer.
 const LOOKS: u32 = 100_000_000;
 
 /// A chain: its queue, which of that queue's chains it is, from 0 to 3, what the device reads of it, with a block of
@@ -73,7 +73,7 @@ fn poke<R: Wait, G: Gate + Drop, C: Ledger, D: Ledger>(
     let _ = host.poke(rt, addr, bytes);
 }
 
-/// Where the bytes of a queue's chain lie.
+/// Returns the address of the bytes of a queue's chain.
 fn place_of(queue: u16, number: u8) -> u64
     ensures { result < 2 ^ 32 }
 {
@@ -123,7 +123,7 @@ fn bytes<R: Wait, G: Gate + Drop, C: Ledger, D: Ledger, const N: usize>(
     Some(bytes)
 }
 
-/// Whether so many chains of a queue are answered, once the guest looked often enough.
+/// Returns true once so many chains of a queue are answered; false where the guest looked often enough and they aren't.
 pub(crate) fn are_answered<R: Wait, G: Gate + Drop, C: Ledger, D: Ledger>(
     rt: &R,
     host: &Host<G, C, D>,
@@ -139,7 +139,7 @@ pub(crate) fn are_answered<R: Wait, G: Gate + Drop, C: Ledger, D: Ledger>(
     false
 }
 
-/// What a device wrote first into a chain.
+/// Returns the first bytes that the device wrote into a chain.
 pub(crate) fn written<R: Wait, G: Gate + Drop, C: Ledger, D: Ledger, const N: usize>(
     rt: &R,
     host: &Host<G, C, D>,

@@ -5,7 +5,7 @@ use crate::resetting::{Told, reset};
 use crate::runs::{Left, is_refused, serve, serve_nothing};
 use crate::together::{Together, contend, meet, serve_together};
 
-/// What is left of two requests that ran, and of one that needed no unit.
+/// The receipts and notes of two requests that ran, and of one that needed no unit.
 const ALL: Left = Left {
     receipts: 2,
     notes: 1,

@@ -12,7 +12,7 @@ pub(crate) const LONG: u32 = 10_000_000;
 /// For how many it waits for one that can't come.
 pub(crate) const SHORT: u32 = 100_000;
 
-/// How many threads came to each point of a gate, and how often one went on without the other.
+/// The number of threads that came to each point of a gate, and the times that one went on without the other.
 #[derive(Drop)]
 pub(crate) struct Seen {
     entered: AtomicU64,
@@ -38,7 +38,7 @@ impl Seen {
         }
     }
 
-    /// How many came to a point.
+    /// Returns the number of threads that came to a point.
     fn came(&self, point: Point) -> &AtomicU64 {
         match point {
             Point::Entered => &self.entered,
@@ -50,7 +50,7 @@ impl Seen {
         }
     }
 
-    /// How often one went on without the other; `None` where two didn't come to each of these points.
+    /// Returns how often one went on without the other; `None` where two didn't come to each of these points.
     pub(crate) fn missed(&self, points: &[Point]) -> Option<u64> {
         for point in points {
             if self.came(*point).load(Ordering::SeqCst) != 2 {

@@ -20,16 +20,17 @@ const BUFFER: Asked = Asked {
     ..FIRST
 };
 
-/// What a guest was told of a reset.
+/// The news of a reset that a guest gets.
 #[derive(Clone, Copy, PartialEq, Eq)]
 pub struct Told {
     /// The event that its buffer got.
     pub event: [u8; 16],
-    /// What the answer to a request for the unit begins with: as far as the additional sense code qualifier.
+    /// The first bytes of the answer to a request for the unit, as far as the additional sense code qualifier.
     pub answer: [u8; 26],
 }
 
-/// What a guest is told of which the operator resets a unit before it gave an event buffer, and what the host left.
+/// Has the operator reset a unit before the guest gives an event buffer. Returns what the guest is told, and what the
+/// host left.
 pub fn reset<R: Threads + Wait + Copy + Send + 'static>(
     rt: R,
     alloc: Global,

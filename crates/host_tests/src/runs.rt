@@ -12,7 +12,7 @@ use std::sync::ledger::{Blank, Ledger};
 use std::thread::Threads;
 use workers::{CloseFault, Config, Gate, Host, Open, Report, StartFault};
 
-/// How many receipts and notes a closed host left.
+/// The numbers of receipts and notes that a closed host left.
 #[derive(Clone, Copy, PartialEq, Eq)]
 pub struct Left {
     /// The receipts.
@@ -68,7 +68,7 @@ fn config(alloc: Global, handoff: u16) -> Option<Config> {
     })
 }
 
-/// What a closed host left, where it adds up.
+/// Returns what a closed host left, where it adds up.
 pub(crate) fn summed(closed: Result<Report, CloseFault>) -> Option<Left> {
     match closed {
         Ok(report) => Some(Left {
@@ -79,7 +79,7 @@ pub(crate) fn summed(closed: Result<Report, CloseFault>) -> Option<Left> {
     }
 }
 
-/// Whether a host of so many workers is refused as a bad configuration; `None` where memory was refused.
+/// Returns true if a host of so many workers is refused as a bad configuration; `None` where memory was refused.
 pub fn is_refused<R: Threads + Wait + Copy + Send + 'static>(
     rt: R,
     alloc: Global,
@@ -139,7 +139,7 @@ where
     Host::start(rt, alloc, config, gate, workers, commits, receipts).ok()
 }
 
-/// What a host of so many workers leaves of which nothing was asked.
+/// Returns what a host of so many workers leaves when nothing was asked of it.
 pub fn serve_nothing<R: Threads + Wait + Copy + Send + 'static>(
     rt: R,
     alloc: Global,
@@ -167,7 +167,7 @@ where
     summed(host.close(&rt))
 }
 
-/// Whether the guest saw an answer to each request, and what a host of so many workers left.
+/// Returns true if the guest saw an answer to each request, and what a host of so many workers left.
 pub fn serve<R: Threads + Wait + Copy + Send + 'static>(
     rt: R,
     alloc: Global,

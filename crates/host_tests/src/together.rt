@@ -74,23 +74,23 @@ const TWO: [Asked; 2] = [
 /// Two requests for one unit, each on a queue of its own.
 const ONE: [Asked; 2] = [READ, Asked { queue: 3, ..READ }];
 
-/// How two workers served.
+/// The outcome of two workers that served at once.
 #[derive(Clone, Copy, PartialEq, Eq)]
 pub struct Together {
-    /// How often the first request of a queue went on from a point where that of the other hadn't come; `None` where
-    /// not both came to each point.
+    /// The times that the first request of a queue went on from a point to which that of the other hadn't come. `None`
+    /// where not both came to each point.
     pub missed: Option<u64>,
-    /// Whether the guest saw that all were answered.
+    /// True if the guest saw that all were answered.
     pub answered: bool,
-    /// What the closed host left.
+    /// The receipts and notes that the closed host left.
     pub left: Left,
-    /// How many commands ran on each unit, by their histories.
+    /// The number of commands that ran on each unit, by their histories.
     pub commits: (u64, u64),
-    /// Whether the block that was to be written on the first unit has the WRITE's bytes.
+    /// True if the block that was to be written on the first unit has the WRITE's bytes.
     pub written: bool,
 }
 
-/// How many commands ran on a unit, by its history.
+/// Returns how many commands ran on a unit, by its history.
 fn commits(unit: &UnitState) -> u64 {
     let mut count: u64 = 0;
     for place in 0..unit.steps() {
@@ -101,7 +101,7 @@ fn commits(unit: &UnitState) -> u64 {
     count
 }
 
-/// Whether the block of a unit that was to be written has the WRITE's bytes; `None` where memory was refused.
+/// Returns true if the block that was to be written has the WRITE's bytes; `None` where memory was refused.
 fn is_written(alloc: Global, unit: &UnitState) -> Option<bool> {
     if unit.capacity() <= BLOCK {
         return None;
@@ -111,7 +111,7 @@ fn is_written(alloc: Global, unit: &UnitState) -> Option<bool> {
     Some(bytes.as_slice() == [WRITTEN; 512].as_slice())
 }
 
-/// How a closed host served.
+/// Returns how a closed host served.
 fn told(alloc: Global, report: &Report, missed: Option<u64>, answered: bool) -> Option<Together> {
     let (Some(first), Some(second)) = (report.units.get(0), report.units.get(1)) else {
         return None;

@@ -1,4 +1,4 @@
-//! What makes moves, through the trait of all queues alone.
+//! A bench that makes moves, through the trait of all queues alone.
 
 use crate::moves::Move;
 use guest_mem::GuestMem;
@@ -14,7 +14,7 @@ pub struct Bench<R: Ring> {
     read: Vec<u8>,
 }
 
-/// Writes bytes into a chain. Whether all are written.
+/// Writes bytes into a chain. Returns true if all are written.
 fn scatters_into(memory: &mut GuestMem, chain: &Chain, at: u32, bytes: &[u8]) -> bool {
     let room = chain.writable_len();
     let len = bytes.len() as u64;
@@ -186,7 +186,7 @@ impl<R: Ring> Bench<R> {
         }
     }
 
-    /// Completes the outstanding chain that was found last. Whether it is owned and has this number.
+    /// Completes the outstanding chain that was found last. Returns true if it is owned and has this number.
     fn completes(&mut self, len: u32, number: u64) -> bool {
         let Some(chain) = self.outstanding.pop() else {
             return false;

@@ -1,4 +1,4 @@
-//! What the rows of a test consist of.
+//! The rows of a test, and the moves that they consist of.
 
 use ring_core::Layout;
 

@@ -13,7 +13,7 @@ use std::alloc::Global;
 use std::process::Abort;
 use std::test::Fail;
 
-/// A queue that tests make. That has no contract, so that what `new` promises is read once.
+/// A queue that tests make. Its `made` has no contract, so that what `new` promises is read once.
 trait Made: Ring + Drop {
     /// Makes a queue of this number and layout, for which these features were agreed.
     fn made(

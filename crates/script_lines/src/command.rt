@@ -14,9 +14,9 @@ use std::alloc::Global;
 pub enum Command<'a> {
     /// The guest writes into its memory.
     Guest(GuestLine<'a>),
-    /// The operator resets a unit. Whether it is there isn't known here.
+    /// The operator resets a unit, which may be absent.
     Hard(Address),
-    /// The operator gives a unit so many blocks, 1 to 2^40 as a line is read. Whether it is there isn't known here.
+    /// The operator gives a unit, which may be absent, so many blocks, 1 to 2^40 as a line is read.
     Resize(Address, u64),
     /// The device runs until nothing is left to do.
     Settle,

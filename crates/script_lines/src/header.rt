@@ -146,8 +146,7 @@ pub fn only<'a>(values: &[&'a str]) -> Result<&'a str, LineFault>
 
 impl HeaderLine {
     /// Reads a line by its first word and the others; `None` where the first is no word of a header.
-    /// `BadValue` where the others aren't what it takes. Whether the line stands in its place isn't
-    /// known here.
+    /// `BadValue` where the others aren't what it takes. It doesn't look at the line's place.
     pub fn read(keyword: &str, values: &[&str]) -> Result<Option<HeaderLine>, LineFault> {
         let line = match keyword {
             "memory" => HeaderLine::Memory(number::<u32>(only(values)?)?),

@@ -102,7 +102,7 @@ fn played(alloc: Global, reads: u64, writes: u64) -> (Vec<u8>, u64, u64, Result<
     (got, reader.calls, calls, end)
 }
 
-/// Whether these bytes begin what the script prints, and aren't all of it.
+/// Returns true if these bytes begin what the script prints, and aren't all of it.
 fn is_begun(printed: &[u8]) -> bool {
     printed.len() < PRINTS.len() && PRINTS.as_bytes().starts_with(printed)
 }

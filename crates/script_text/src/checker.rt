@@ -70,7 +70,7 @@ struct Checker {
     known: Known,
     /// The names of what was sent.
     names: BTreeSet<String>,
-    /// Whether the device was closed.
+    /// True once the device was closed.
     is_closed: bool,
 }
 

@@ -116,13 +116,13 @@ impl Header {
 /// The device that a header asks for, of which no line lacks.
 #[derive(Drop)]
 pub struct Wanted {
-    /// The device. Whether it takes this isn't known here.
+    /// The device's configuration, which the device may still refuse.
     pub config: Config,
     /// The names that lines may use.
     pub known: Known,
     /// The form of the queues.
     pub form: Form,
-    /// How many descriptors each queue has.
+    /// The number of descriptors of each queue.
     pub size: NonZeroU16,
     /// The features that the driver agrees to, beside those that each driver of the form does.
     pub features: Features,

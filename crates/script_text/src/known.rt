@@ -7,7 +7,7 @@ use scsi_codec::{Address, FIRST_REQUEST_QUEUE};
 /// The names that lines may use: so many queues, and the units of the header.
 #[derive(Drop)]
 pub struct Known {
-    /// How many queues there are, the control and the event queue among them.
+    /// The number of queues, the control and the event queue among them.
     pub queues: u16,
     /// The units, in the order of the header.
     pub units: Vec<UnitSpec>,

@@ -13,7 +13,7 @@ use std::alloc::Global;
 use std::io::Write;
 use unit_history::{StepKind, UnitState};
 
-/// How many blocks are read at once.
+/// The number of blocks that are read at once.
 const BLOCKS_AT_ONCE: u64 = 64;
 
 /// The bytes of as many blocks.

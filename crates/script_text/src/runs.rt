@@ -31,12 +31,12 @@ struct Run {
 pub(crate) struct Runs {
     /// The run that the next byte may belong to.
     last: Option<Run>,
-    /// Whether a run was printed.
+    /// True once a run was printed.
     printed: bool,
 }
 
 impl Runs {
-    /// Of no byte.
+    /// The runs of no bytes.
     pub(crate) const NONE: Runs = Runs {
         last: None,
         printed: false,

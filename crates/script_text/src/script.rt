@@ -24,7 +24,7 @@ pub fn read_whole<S: Read>(alloc: Global, script: &mut S) -> Result<Vec<u8>, Scr
 pub struct Script<'a> {
     /// Its lines, without their ends.
     pub lines: Vec<&'a [u8]>,
-    /// How many of them, from the first on, belong to its header.
+    /// The number of lines, from the first on, that belong to its header.
     pub header: usize,
 }
 

@@ -9,7 +9,7 @@ ghost use Rattle.script_lines.specs.declared.fault.ScriptFault.{ScriptFault};
 use script_lines::{LineFault, LineText, ScriptFault, Stop, first_wrong, text_of};
 use std::alloc::{AllocError, Global};
 
-/// Why a line ends a check.
+/// The reason for which a line ends a check.
 #[derive(Clone, Copy)]
 pub(crate) struct Wrong {
     /// The word at fault, from 0 on, where it is one.

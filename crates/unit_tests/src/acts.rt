@@ -1,4 +1,4 @@
-//! What the rows of a test consist of.
+//! The rows of a test, and the acts that they consist of.
 
 use ring_core::Ticket;
 use unit_history::{Place, StepKind};

@@ -1,4 +1,4 @@
-//! What makes the acts of a row.
+//! A bench that makes the acts of a row.
 
 use crate::acts::{Act, Comes, Ends, Row, SIMPLE, Sent, Told};
 use crate::calls;

@@ -1,4 +1,4 @@
-//! What the calls of units gave.
+//! The results of calls of units.
 
 use crate::acts::{Ends, OTHER};
 use crate::calls;
@@ -68,7 +68,7 @@ impl Hand {
         })
     }
 
-    /// Puts a job with the others, if there is one. Whether there was room.
+    /// Puts a job with the others, if there is one. Returns true if there was room.
     pub(crate) fn put(&mut self, job: Option<Job>) -> bool {
         match job {
             Some(job) => self.jobs.push(job).is_ok(),
@@ -92,7 +92,7 @@ impl Hand {
         Some((name_of_job(job), job.unit()))
     }
 
-    /// Takes what was handed out into hand. Whether there was room.
+    /// Takes what was handed out into hand. Returns true if there was room.
     pub(crate) fn take_all(&mut self) -> bool {
         for _ in 0..self.out.len() {
             let job = self.out.next();
@@ -103,7 +103,7 @@ impl Hand {
         true
     }
 
-    /// Takes what was handed out into hand. Whether these are its names.
+    /// Takes what was handed out into hand. Returns true if these are its names.
     pub(crate) fn gets(&mut self, names: &[u64]) -> bool {
         let before = self.jobs.len();
         if !self.take_all() {

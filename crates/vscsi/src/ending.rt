@@ -1,4 +1,4 @@
-//! How the program ends.
+//! The end of the program.
 
 ghost use Rattle.std.specs.Prelude.{◌≡◌};
 ghost use Rattle.std.specs.Process.{exit_status};
@@ -30,7 +30,7 @@ impl Ending {
     pub fn report<R: Eprint>(self, rt: &R) -> ExitCode
         ensures { exit_status result ≡ status_of self }
     {
-        // Where standard error fails too, the status says what there is to say.
+        // The status alone says what there is to say where standard error fails too.
         let _ = self.say(rt);
         ExitCode::from(self.status())
     }

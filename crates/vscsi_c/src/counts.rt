@@ -1,4 +1,4 @@
-//! How much a unit did, for C.
+//! The counts of what a unit did, for C.
 
 ghost use Rattle.std.specs.Prelude.{◌≡◌};
 ghost use Rattle.vscsi_c.specs.Counts.{TellsCounts, counts_in};

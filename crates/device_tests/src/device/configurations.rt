@@ -1,4 +1,4 @@
-//! Which configurations are refused.
+//! Configurations that are refused.
 
 use super::are_called;
 use crate::opening::{NUMBERS, Numbers};

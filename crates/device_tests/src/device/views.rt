@@ -1,4 +1,4 @@
-//! What a device tells of its units.
+//! The views that a device gives of its units.
 
 use crate::opening::NUMBERS;
 use crate::steps::{Row, Step, UNIT};

@@ -60,7 +60,7 @@ static ACTS: [Act; 17] = [
     Act::Take(None),
 ];
 
-/// Does an act. Whether that comes of it which should.
+/// Does an act. Returns true if its outcome is the expected one.
 fn does(pending: &mut Attentions, act: &Act) -> bool {
     match act {
         Act::Loss => pending.raise(Code::I_T_NEXUS_LOSS),

@@ -29,7 +29,7 @@ static ACTS: [Act; 8] = [
     Act::Write(u64::MAX, &[0, 0], Err(MemFault::Outside)),
 ];
 
-/// Does an act. Whether that comes of it which should.
+/// Does an act. Returns true if its outcome is the expected one.
 fn does(memory: &mut GuestMem, act: &Act) -> bool {
     match act {
         Act::Zeros => {

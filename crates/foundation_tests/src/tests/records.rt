@@ -1,4 +1,4 @@
-//! That a record takes no memory, and that its calls return.
+//! Records, which take no memory, and whose calls return.
 
 use record::Record;
 use std::mem::size_of;

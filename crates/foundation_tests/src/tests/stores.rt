@@ -30,7 +30,7 @@ static ACTS: [(Act, [u8; 5]); 7] = [
     (Act::Zero(5, 0), [0, 7, 9, 0, 9]),
 ];
 
-/// Writes bytes over blocks. Whether these are there.
+/// Writes bytes over blocks. Returns true if the blocks are there.
 fn write<S: Store>(store: &mut S, first: u64, bytes: &[u8]) -> Result<bool, NoMemory> {
     let capacity = store.capacity();
     let count = (bytes.len() / BLOCK_BYTES) as u64;
@@ -41,7 +41,7 @@ fn write<S: Store>(store: &mut S, first: u64, bytes: &[u8]) -> Result<bool, NoMe
     Ok(true)
 }
 
-/// Puts a byte into blocks everywhere. Whether these are there.
+/// Puts a byte into blocks everywhere. Returns true if the blocks are there.
 fn fill<S: Store>(store: &mut S, first: u64, count: u32, byte: u8) -> Result<bool, NoMemory> {
     let capacity = store.capacity();
     if first > capacity || u64::from(count) > capacity - first {
@@ -51,7 +51,7 @@ fn fill<S: Store>(store: &mut S, first: u64, count: u32, byte: u8) -> Result<boo
     Ok(true)
 }
 
-/// Puts zeros into blocks. Whether these are there.
+/// Puts zeros into blocks. Returns true if the blocks are there.
 fn zero<S: Store>(store: &mut S, first: u64, count: u32) -> bool {
     let capacity = store.capacity();
     if first > capacity || u64::from(count) > capacity - first {
@@ -61,7 +61,7 @@ fn zero<S: Store>(store: &mut S, first: u64, count: u32) -> bool {
     true
 }
 
-/// Appends the bytes of blocks. Whether these, and room for their bytes, are there.
+/// Appends the bytes of blocks. Returns true if the blocks, and room for their bytes, are there.
 fn read<S: Store>(store: &S, first: u64, count: u32, into: &mut Vec<u8>) -> bool {
     let capacity = store.capacity();
     let room = into.capacity().saturating_sub(into.len()) / BLOCK_BYTES;
@@ -98,7 +98,7 @@ fn is_made_of<S: Store>(alloc: Global, store: &S, each: [u8; 5]) -> Result<bool,
     Ok(is_read && store.capacity() == 5 && are_made_of(bytes.as_slice(), each))
 }
 
-/// Does an act. Whether its blocks are there.
+/// Does an act. Returns true if its blocks are there.
 fn does<S: Store>(store: &mut S, act: Act) -> Result<bool, NoMemory> {
     match act {
         Act::Write(first, bytes) => write(store, first, bytes),
@@ -232,8 +232,8 @@ fn are_written(
     Ok(before && written && after)
 }
 
-/// Prepares a write over spare pages, installs it, and installs the pages that come back. Whether its blocks alone have
-/// its bytes in between, and all are zeros then.
+/// Prepares a write over spare pages, installs it, and installs the pages that come back. Returns true if its blocks
+/// alone have its bytes in between, and all are zeros then.
 fn is_installed(alloc: Global, first: u64, bytes: &[u8], spare: &[u8]) -> Result<bool, NoMemory> {
     let mut store = PagedStore::new(alloc, 32);
     let spare = prepare_first(&store, spare)?;
@@ -277,7 +277,7 @@ static FAR: [(u64, u8); 9] = [
     ((1 << 40) - 1, 9),
 ];
 
-/// Fills each of these blocks with its byte. Whether they are there.
+/// Fills each of these blocks with its byte. Returns true if they are there.
 fn fill_far(store: &mut PagedStore) -> Result<bool, NoMemory> {
     for number in 0..FAR.len() {
         let (block, byte) = FAR[number];

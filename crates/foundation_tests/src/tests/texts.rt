@@ -1,4 +1,4 @@
-//! What refusals are called, and their numbers.
+//! The names of refusals, and their numbers.
 
 use super::none_is;
 use block_store::NoMemory;

@@ -1,4 +1,4 @@
-//! Which layouts are taken and which are refused, and whose chains a queue owns.
+//! Layouts that are taken and those that are refused, and the queue that owns a chain.
 
 use super::split::PLACE;
 use super::{Made, none_is};

@@ -1,4 +1,4 @@
-//! What is done with a packed queue.
+//! Tests of a packed queue.
 
 pub(super) mod notices;
 pub(super) mod rows;

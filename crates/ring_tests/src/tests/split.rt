@@ -1,4 +1,4 @@
-//! What is done with a split queue.
+//! Tests of a split queue.
 
 pub(super) mod faults;
 mod notices;

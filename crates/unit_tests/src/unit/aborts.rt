@@ -1,4 +1,4 @@
-//! What aborts and resets meet, and what becomes of that.
+//! Tasks that aborts and resets meet, and what becomes of them.
 
 use crate::acts::{Act, Comes, DATA, Ends, ORDERED, Row, SIMPLE, Sent, WRITE};
 use unit_model::Rule;

@@ -1,4 +1,4 @@
-//! Which receipts a unit confirms.
+//! Receipts that a unit confirms, and those that it doesn't.
 
 use crate::acts::{Act, Asked, Comes, DATA, Ends, OTHER, READ, Row, SIMPLE, Sent, WRITE};
 

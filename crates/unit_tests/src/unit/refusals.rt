@@ -1,4 +1,4 @@
-//! What is refused, and changes nothing.
+//! Calls that are refused, and change nothing.
 
 use crate::acts::{Act, Comes, Ends, HEAD, OTHER, READ, Row, SIMPLE, Sent};
 use unit_model::Rule;

@@ -1,4 +1,4 @@
-//! Which completions a driver of a packed queue wants to be told of. Each of four chains takes three of seven slots.
+//! Completions that a driver of a packed queue wants to be told of. Each of four chains takes three of seven slots.
 
 use super::rows::ROW;
 use super::{AVAILABLE, AVAILABLE_AT_0};

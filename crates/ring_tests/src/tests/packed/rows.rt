@@ -1,4 +1,4 @@
-//! What is done with a packed queue.
+//! Chains of a packed queue, fetched and used.
 
 use super::{AVAILABLE, AVAILABLE_AT_0, PLACE};
 use crate::moves::{INDIRECT, Move, NEXT, Row, WRITE};

@@ -1,4 +1,4 @@
-//! What is done with a packed queue whose chains may end in a table of descriptors.
+//! Packed queues whose chains may end in a table of descriptors.
 
 use super::AVAILABLE;
 use super::rows::ROW;

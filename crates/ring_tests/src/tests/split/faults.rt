@@ -1,4 +1,4 @@
-//! What breaks a split queue, and what comes first of two faults.
+//! Faults that break a split queue, and the one of two that comes first.
 
 use super::rows::ROW;
 use crate::moves::{INDIRECT, Move, NEXT, Row, WRITE};

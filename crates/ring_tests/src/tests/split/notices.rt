@@ -1,4 +1,4 @@
-//! Which completions a driver of a split queue wants to be told of.
+//! Completions that a driver of a split queue wants to be told of.
 
 use super::super::{Made, bench, none_is};
 use super::wrapping::{TWO, serving};

@@ -1,4 +1,4 @@
-//! What is done with a split queue.
+//! Chains of a split queue, fetched and used.
 
 use super::PLACE;
 use crate::moves::{Move, NEXT, Row, WRITE};

@@ -1,4 +1,4 @@
-//! What is done with a split queue whose chains may end in a table of descriptors.
+//! Split queues whose chains may end in a table of descriptors.
 
 use super::rows::ROW;
 use crate::moves::{EVENT_IDX, INDIRECT, INDIRECT_DESC, Move, NEXT, Row, WRITE};
