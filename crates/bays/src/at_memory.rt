@@ -8,8 +8,8 @@ ghost use Rattle.guest_mem.specs.declared.memory.MemFault.TheVariants as MemFaul
 use crate::lend::QueueBays;
 use guest_mem::MemFault;
 
-/// Writes the guest's bytes, in one hold of the memory. `Outside`, with nothing changed, exactly where one of them would
-/// lie behind the end.
+/// Writes the guest's bytes, in one hold of the memory. `Outside`, with nothing changed, exactly where one of them
+/// would lie behind the end.
 pub fn poke_on<B: QueueBays>(bays: &mut B, addr: u64, bytes: &[u8]) -> Result<(), MemFault>
     ensures did { (m : List ℕ) × (n : List ℕ) × B.lends_memory bays.old m × Writes m addr bytes.now result n
         × B.keeps_memory bays.old n bays.new }
@@ -25,8 +25,8 @@ pub fn poke_on<B: QueueBays>(bays: &mut B, addr: u64, bytes: &[u8]) -> Result<()
     )
 }
 
-/// Reads as many bytes as the guest has room for, in one hold of the memory. `Outside`, with the room as it was, exactly
-/// where one of them lies behind the end.
+/// Reads as many bytes as the guest has room for, in one hold of the memory. `Outside`, with the room as it was,
+/// exactly where one of them lies behind the end.
 pub fn peek_on<B: QueueBays>(bays: &mut B, addr: u64, out: &mut [u8]) -> Result<(), MemFault>
     ensures did { (m : List ℕ) × B.lends_memory bays.old m × Reads m addr out.old result out.new
         × B.keeps_memory bays.old m bays.new }

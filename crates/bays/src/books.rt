@@ -24,7 +24,8 @@ impl<L: Ledger> Part<L> {
     }
 }
 
-/// The books of both ledgers, which stand under one lock: whenever that is free, as many receipts were counted as Commits.
+/// The books of both ledgers, which stand under one lock: whenever that is free, as many receipts were counted as
+/// Commits.
 #[derive(Drop)]
 pub struct Books<C: Ledger, W: Ledger> {
     commits: Book<C>,

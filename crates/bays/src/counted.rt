@@ -9,8 +9,8 @@ use std::sync::ledger::Ledger;
 use std::sync::{Mutex, Wait};
 use unit_history::UnitState;
 
-/// A unit, with the part of the ledger that counts its Commits. It stands under the unit's lock: so whenever that is free,
-/// no Commit that was counted is missing from the history.
+/// A unit, with the part of the ledger that counts its Commits. It stands under the unit's lock: so whenever that is
+/// free, no Commit that was counted is missing from the history.
 #[derive(Drop)]
 pub struct CountedUnit<C: Ledger> {
     pub unit: UnitState,

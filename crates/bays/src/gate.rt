@@ -26,8 +26,9 @@ pub trait Gate {
     /// this returns.
     fn pass(&self, point: Point, ticket: Ticket);
 
-    /// Returns true if a request is to be held up at each point until `pass` returns. Where it returns false, a worker may
-    /// run the Enter and the Commit of a request in one hold of the unit, and passes `Entered` and `Taken` behind that.
+    /// Returns true if a request is to be held up at each point until `pass` returns. Where it returns false, a worker
+    /// may run the Enter and the Commit of a request in one hold of the unit, and passes `Entered` and `Taken` behind
+    /// that.
     fn watches(&self) -> bool {
         true
     }

@@ -13,8 +13,8 @@ use crate::lend::UnitBays;
 use phases::{Hand, Slot, phase_commit, phase_enter, phase_leave};
 use unit_history::{JobList, UnitState};
 
-/// The bytes of a chain that the device reads from which on a job isn't committed in the hold of its Enter: so much data
-/// is put in place faster with pages that are made before the hold.
+/// The readable bytes of a chain from which on a job isn't committed in the hold of its Enter. So much data is put in
+/// place faster with pages that are made before the hold.
 const LONG: u64 = 8_192;
 
 /// The outcome of the jobs that may run, behind an Enter. `leave_enter_commit_on` answers it.
@@ -53,8 +53,8 @@ fn is_long(hand: &Hand) -> bool {
     }
 }
 
-/// Takes the only job that may run into the hand, where that is free, and runs `phase_commit` where the job is one of this
-/// unit and not long.
+/// Takes the only job that may run into the hand, where that is free, and runs `phase_commit` where the job is one of
+/// this unit and not long.
 fn run_next<G: Gate>(
     unit: &mut UnitState,
     gate: &G,

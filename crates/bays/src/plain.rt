@@ -7,8 +7,8 @@ use guest_mem::GuestMem;
 use queues::Queue;
 use unit_history::UnitState;
 
-/// The parts of a device that one thread has: what is lent is what stands there, and what comes back stands there then. It
-/// counts no Commits.
+/// The parts of a device that one thread has: what is lent is what stands there, and what comes back stands there then.
+/// It counts no Commits.
 #[derive(Drop)]
 pub struct Plain<'a> {
     /// The units by their indices in the inventory.

@@ -1,7 +1,10 @@
-//! `bench KIND RING DEPTH ROUNDS WORKERS` has a guest make DEPTH requests available at once on each of two queues, those of
-//! each for a unit of its own, ROUNDS times, and a host of so many workers serve them; with 0 of them the device of one
-//! thread. It prints how many requests ended well, and how many nanoseconds all took. Without words it serves a few rounds
-//! of each kind on each ring, by one thread and by two workers, and prints how many requests ended well.
+//! `bench KIND RING DEPTH ROUNDS WORKERS` measures what requests cost. A guest has two queues, each for a unit of its
+//! own. It makes DEPTH requests available at once on each of them, ROUNDS times. A host of WORKERS workers serves them,
+//! or the device of one thread where WORKERS is 0. The program prints how many requests ended well, and how many
+//! nanoseconds all took.
+//!
+//! Without words it serves a few rounds of each kind on each ring, by one thread and by two workers. It then prints how
+//! many requests ended well.
 #![tactic(auto)]
 
 mod device;

@@ -34,8 +34,8 @@ impl Edges {
     ghost use Rattle.block_store.specs.Drafts.{edges_draft, prepared_draft};
 
     /// Makes the new pages of the range, with these bytes, 512 for each block, over its blocks. A page that the range
-    /// covers whole takes the memory of a spare page, while there is one, and nothing of its blocks. Spare pages that are
-    /// left are freed. Called with no lock held, since it needs no store. `NoMemory` where memory was refused.
+    /// covers whole takes the memory of a spare page, while there is one, and nothing of its blocks. Spare pages that
+    /// are left are freed. Called with no lock held, since it needs no store. `NoMemory` where memory was refused.
     pub fn prepare(self, bytes: &[u8], spare: Option<Prepared>) -> Result<Prepared, NoMemory>
         requires { length bytes.now ≡ 512 * (edges_draft self).count }
         ensures first { IfOk result (λ prepared. (prepared_draft prepared).first ≡ (edges_draft self).first) }

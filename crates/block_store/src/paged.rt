@@ -11,9 +11,9 @@ use crate::pages::Pages;
 use crate::{BLOCK_BYTES, NoMemory, Store, row};
 use std::alloc::Global;
 
-/// Keeps blocks in pages of 8, by number. A page that was never written, or was zeroed whole, isn't there,
-/// and reads as zeros: a store costs nothing until it is written. A page that is far from all others costs its 4 KiB and
-/// at most 11 KiB of tables on the way to it.
+/// Keeps blocks in pages of 8, by number. A page that was never written, or was zeroed whole, isn't there, and reads as
+/// zeros: a store costs nothing until it is written. A page that is far from all others costs its 4 KiB and at most 11
+/// KiB of tables on the way to it.
 ///
 /// Writing and filling may want memory, zeroing takes none.
 #[derive(Drop)]

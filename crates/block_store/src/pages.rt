@@ -185,8 +185,8 @@ impl Pages {
         }
     }
 
-    /// Puts zeros into each of `count` places of one row. Frees the pages that are zeroed whole, and the tables that have
-    /// none left.
+    /// Puts zeros into each of `count` places of one row. Frees the pages that are zeroed whole, and the tables that
+    /// have none left.
     pub(crate) fn clear_part(&mut self, alloc: Global, first: u64, count: usize)
         requires { first % 512 + count ≤ 512 }
         ensures { (b : ℕ) → blocks_of self.new b ≡ zeroed (blocks_of self.old) first count b }

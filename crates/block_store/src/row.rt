@@ -207,8 +207,8 @@ pub(crate) fn put(row: &mut Vec<Page>, first: u64, bytes: &[u8])
     }
 }
 
-/// Puts the bytes over blocks of one page. If they cover the whole page, makes it of them, over a spare page where there
-/// is one. Else makes the page first, unless it keeps its bytes already.
+/// Puts the bytes over blocks of one page. If they cover the whole page, makes it of them, over a spare page where
+/// there is one. Else makes the page first, unless it keeps its bytes already.
 fn set_part(
     row: &mut Vec<Page>,
     alloc: Global,

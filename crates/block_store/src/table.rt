@@ -1,7 +1,8 @@
 //! Tables on the way to rows of pages.
 //!
-//! A tree of a fixed depth: a part of a row's number picks the slot of each table. A table has as many slots as its last
-//! one in use needs. `give_back` drops the slots at its end that have no rows, and frees a table that has no slots left.
+//! A tree of a fixed depth: a part of a row's number picks the slot of each table. A table has as many slots as its
+//! last one in use needs. `give_back` drops the slots at its end that have no rows, and frees a table that has no slots
+//! left.
 
 ghost use Rattle.std.specs.Prelude.{◌≡◌, ◌≢◌, ℕ, ◌+◌, ◌-◌, ◌%◌, ◌^◌, ◌<◌, take, List, [], Bool, true, false, length, nat_lt, OnOk, IsTrue, IsFalse, if◌then◌else◌};
 ghost use Rattle.block_store.specs.Blocks.{block_count, overwritten};

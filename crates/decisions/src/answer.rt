@@ -15,8 +15,8 @@ pub struct ChainLengths {
     pub writable: u64,
 }
 
-/// Returns the bytes of response OK to a request in a chain of these lengths (VIRTIO 1.2 §5.6.6.1): the status of its
-/// command, its sense if there is any, and as residual the data bytes that weren't moved.
+/// Returns the bytes of response OK to a request in a chain of these lengths (VIRTIO 1.2 §5.6.6.1). They hold the
+/// status of its command, its sense if there is any, and as residual the data bytes that weren't moved.
 pub fn response_ok(
     lengths: &ChainLengths,
     status: u8,

@@ -56,7 +56,7 @@ impl Model for Inventory {
 }
 
 impl Inventory {
-    /// Makes the addresses of these units. Called once, where a device is opened. An error where memory was refused.
+    /// Makes the addresses of these units. Called once, where a device is opened. It takes no memory.
     pub fn new(units: &[UnitSpec]) -> Inventory
         requires few { length units.now ≤ MOST_UNITS }
         requires rising { is_rising (map address_of units.now) ≡ true }

@@ -1,7 +1,7 @@
 //! The events of a device: what may happen next.
 
-/// One atomic step of the device, or of its guest or its operator: one hold of a unit's lock, of a queue's with the
-/// memory's inside it, or of the memory's alone, or one put or take of the hand-off.
+/// One atomic step of the device, or of its guest or its operator. It is one hold of a unit's lock, of a queue's with
+/// the memory's inside it, or of the memory's alone, or one put or take of the hand-off.
 #[derive(Drop)]
 pub enum Event {
     /// The guest writes bytes at an address.

@@ -114,19 +114,22 @@ pub fn an_answer_uses_its_chain()
         NoneIsUsed w (after d w) }
 {}
 
-/// No job is lost or made between a unit and its answer: a seat's list, its hand and the hand-off have those that
-/// they had, with those that the transition brought from a unit, and without the one that it answered.
+/// No job is lost or made between a unit and its answer. A seat's list, its hand and the hand-off keep the jobs that
+/// they had. A transition adds those that it brings from a unit, and takes away the one that it answers.
 pub fn jobs_are_kept()
     ensures { (p : PlainJob → ℕ) (w : PlainWorld) (d : Transition) → Happens d w →
         jobs_out p (after d w) + sum_by p (ends d) ≡ jobs_out p w + sum_by p (brings d) }
 {}
 
 /// Each chain that was accepted and isn't used stands in one place of the device: a queue's slot, a unit's parked jobs,
-/// a seat, the hand-off, the open function or the event buffers. Where p counts one ticket alone, `place` says that in
-/// how many places its chain stands, and how often it was used, is together how often it was accepted: at most once, so
-/// that the chain stands in one place until it is used, is used at most once, and stands nowhere from then on (`once`).
-/// Where p is 1 for each ticket, it counts the chains (`chains`). A transition adds the chains that it accepts, takes
+/// a seat, the hand-off, the open function or the event buffers. A transition adds the chains that it accepts, takes
 /// away those that it uses, and neither loses nor doubles another.
+///
+/// - `place`, for a `p` that counts one ticket alone: the places where its chain stands, and the times that it was
+///   used, are together the times that it was accepted.
+/// - `once`: that is at most once. So the chain stands in one place until it is used, is used at most once, and stands
+///   nowhere from then on.
+/// - `chains`, for a `p` that is 1 for each ticket: it counts the chains.
 pub fn each_chain_stands_in_one_place()
     ensures place { (p : Ticket → ℕ) (old : PlainWorld) (trace : List Occurrence) (w : PlainWorld) →
         Reached old trace w → accepted_worth p w ≡ standing p w + used_worth p w }
@@ -143,9 +146,9 @@ pub fn logs_are_numbered()
     ensures { (old : PlainWorld) (trace : List Occurrence) (w : PlainWorld) → Reached old trace w → AreNumbered w }
 {}
 
-/// The units, with their addresses, the queues, the seats and the lists of the hand-off, with their room, are in every
-/// world that is reached those that the device opened with, and memory is as long, where the writes of the trace lie in
-/// it.
+/// The parts that the device opened with are there in every world that is reached: the units, with their addresses, the
+/// queues, the seats, and the lists of the hand-off, with their room. Memory is as long, where the writes of the trace
+/// lie in it.
 pub fn parts_stay()
     ensures parts { (old : PlainWorld) (trace : List Occurrence) (w : PlainWorld) → Reached old trace w →
         KeepsParts old w }
@@ -165,22 +168,22 @@ pub fn what_stands_is_owned()
     ensures { (old : PlainWorld) (trace : List Occurrence) (w : PlainWorld) → Reached old trace w → AreOwned w }
 {}
 
-/// In every world that is reached the event buffers that are held are no more than the chains that the event queue has
-/// outstanding: with the chains that it used, they are at most those that it accepted.
+/// The event buffers that are held are no more than the chains that the event queue has outstanding, in every world
+/// that is reached. With the chains that it used, they are at most those that it accepted.
 pub fn held_buffers_are_outstanding()
     ensures { (old : PlainWorld) (trace : List Occurrence) (w : PlainWorld) → Reached old trace w →
         BuffersAreOutstanding w }
 {}
 
-/// In every world that is reached each job that was handed out is that of a task that is alive in its unit: one that is
-/// to be committed may run or was marked, and isn't done; one that is to be answered or to leave is done or was marked.
-/// So a unit knows the task of each commit and of each leave.
+/// Each job that was handed out is that of a task that is alive in its unit, in every world that is reached. A task
+/// that is to be committed may run or was marked, and isn't done. One that is to be answered or to leave is done or was
+/// marked. So a unit knows the task of each commit and of each leave.
 pub fn tasks_are_at_work()
     ensures { (old : PlainWorld) (trace : List Occurrence) (w : PlainWorld) → Reached old trace w → AreAtWork w }
 {}
 
-/// In every world that is reached a request that arrived is the latest of its queue, its unit is there, and no history
-/// has its ticket or a later one of its queue: no unit finds it stale.
+/// A request that arrived is the latest of its queue, in every world that is reached. Its unit is there, and no history
+/// has its ticket or a later one of its queue. So no unit finds it stale.
 pub fn tickets_rise()
     ensures { (old : PlainWorld) (trace : List Occurrence) (w : PlainWorld) → Reached old trace w → AreBehind w }
 {}

@@ -51,8 +51,8 @@ pub fn one_event_is_next_of_some()
         Reached old trace w → IsQuietOf asked w → IsAtRestOf asked w }
 {}
 
-/// A device that is served so runs, each of its steps changes something, and there are no more of them than what there
-/// is to do pays for, whether it went on to the end or was left before.
+/// A device that is served so runs, and each of its steps changes something. The steps are no more than what there is
+/// to do pays for, whether it went on to the end or was left before.
 pub fn a_portion_is_a_short_run()
     ensures runs { (asked : ℕ → Bool) (w : PlainWorld) (more : List Transition) → SettlesOf asked w more →
         Runs w (map occurrence_of more) (world_of w more) }
@@ -83,14 +83,17 @@ pub fn nothing_is_stuck()
         (e : Event) × IsNext w e }
 {}
 
-/// Each step lowers what is still owed, but for what it brings: a chain brings its price as it is fetched, a function
+/// Each step lowers what is still owed, but for what it brings. A chain brings its price as it is fetched, a function
 /// that visits a unit 2, a hard reset 2, and a write of the guest 1.
 pub fn each_transition_is_paid_for()
     ensures { (w : PlainWorld) (d : Transition) → Happens d w → measure (after d w) + 1 ≤ measure w + pays d }
 {}
 
-/// A device that is left alone takes no more steps than what there is to do pays for: at most 7 for each chain, 1 for
-/// each mark, waiting event, queue and answered task that it starts with, and 2 for each unit that a function visits.
+/// A device that is left alone takes no more steps than what there is to do pays for:
+///
+/// - at most 7 for each chain;
+/// - 1 for each mark, waiting event, queue and answered task that it starts with;
+/// - 2 for each unit that a function visits.
 pub fn a_settling_is_short()
     ensures { (old : PlainWorld) (trace : List Occurrence) (w : PlainWorld) (more : List Transition) → Reached old trace w →
         Settles w more → IsShort w more }
@@ -114,8 +117,8 @@ pub fn only_some_events_wake()
         (Applies w e → ⊥) → Wakes w d e }
 {}
 
-/// A worker that has one job and nothing in hand puts it into its own list, where that is empty, and takes that very
-/// job next, since its own list comes first; together the two steps leave what keeping the job in hand would.
+/// A worker that has one job and nothing in hand puts it into its own list, where that is empty. It takes that very job
+/// next, since its own list comes first. Together the two steps leave what keeping the job in hand would.
 pub fn a_worker_takes_what_it_put()
     ensures puts { (w : PlainWorld) (k : ℕ) (x : PlainJob) → SeatIs w k Hand.Empty (x ∷ []) → OffIs w k [] →
         0 < w.limit → Happens (Transition.Put k x) w }

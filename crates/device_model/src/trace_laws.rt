@@ -18,8 +18,8 @@ use crate::laws::{
     memory_is_that_of_the_writes,
 };
 
-/// The history of each unit is lawful, has the steps that the transitions tell, in their order, and no others, and
-/// begins as the unit stood at the opening of the device; and a step is taken only on a unit that is there.
+/// The history of each unit is lawful. It has the steps that the transitions tell, in their order, and no others. It
+/// begins as the unit stood at the opening of the device. A step is taken only on a unit that is there.
 pub fn histories_are_told()
     ensures { (old : PlainWorld) (trace : List Occurrence) (w : PlainWorld) (r : Reached old trace w) →
         AreHistories old (transitions_of old trace w r.runs) w }
@@ -32,18 +32,21 @@ pub fn none_is_lost()
 {}
 
 /// Each accepted chain was fetched once, as its queue offered it, with the bytes that stood in memory then. Its task
-/// enters at most once, in one unit, and its unit, identifier, attribute, command and data are what was decided of
-/// these bytes: so only where they had no direct answer, and whatever the guest wrote later.
+/// enters at most once, in one unit, and only where these bytes had no direct answer. Its unit, identifier, attribute,
+/// command and data are what was decided of these bytes, whatever the guest wrote later.
 pub fn tasks_enter_once()
     ensures { (old : PlainWorld) (trace : List Occurrence) (w : PlainWorld) (r : Reached old trace w) →
         AreEntered old (transitions_of old trace w r.runs) w }
 {}
 
-/// Each used ticket of a request queue has one answer. Its chain is that of a Fetch; its bytes are those of its
-/// outcome, written over the chain's parts in the queue as it stands then; and its outcome is true: it tells the direct
-/// answer to the bytes of the Fetch, or the reply of the task's Commit, which is the reply to the history before it, or
-/// the reason of the task's first mark, and then the task has no Commit, ever, or that its unit was full, or that its
-/// unit was refused memory. No other outcome is told.
+/// Each used ticket of a request queue has one answer. Its chain is that of a Fetch. Its bytes are those of its
+/// outcome, written over the chain's parts in the queue as it stands then. Its outcome is true, and one of these:
+///
+/// - the direct answer to the bytes of the Fetch;
+/// - the reply of the task's Commit, which is the reply to the history before it;
+/// - the reason of the task's first mark, and then the task never has a Commit;
+/// - a full unit;
+/// - a unit that was refused memory.
 pub fn answers_are_true()
     ensures { (old : PlainWorld) (trace : List Occurrence) (w : PlainWorld) (r : Reached old trace w) →
         AreAnswered old (transitions_of old trace w r.runs) w }
@@ -56,10 +59,12 @@ pub fn commands_keep_their_order()
         AreInOrder (transitions_of old trace w r.runs) }
 {}
 
-/// A task management function is answered once all units were visited that were decided of its Fetch, unless memory was
-/// refused, and all tasks that were alive at its marks and met by its rule, done or not, were answered and have left.
-/// It says that it succeeded exactly where a look of it found a task, that it failed exactly where a mark of it was
-/// refused memory, and else that it is complete.
+/// A task management function is answered once two things hold. All units that its Fetch decided were visited, unless
+/// memory was refused. All tasks that were alive at its marks and met by its rule, done or not, were answered and have
+/// left.
+///
+/// It says that it succeeded exactly where a look of it found a task. It says that it failed exactly where a mark of it
+/// was refused memory, and else that it is complete.
 pub fn functions_end_after_their_tasks()
     ensures { (old : PlainWorld) (trace : List Occurrence) (w : PlainWorld) (r : Reached old trace w) →
         AreOver old (transitions_of old trace w r.runs) }

@@ -4,9 +4,10 @@ ghost use Rattle.std.specs.Prelude.{ℕ, ◌≡◌, List};
 ghost use Rattle.event_queue.specs.Port.{Happening};
 ghost use Rattle.event_queue.specs.Reported.{given_of, held_of, missed_of, port_since, gifts_since};
 
-/// A port that took these calls one after another, newest first, has given the buffers in the order in which they came,
-/// each with the next event that the driver was to be told: one that was raised while a buffer was left, or that events
-/// were missed, once for all that were since a buffer last came. It holds the buffers that got nothing yet.
+/// A port that took these calls one after another, newest first, has given the buffers in the order in which they came.
+/// Each has the next event that the driver was to be told: one raised while a buffer was left, or the news that
+/// events were missed, once for all that were since a buffer last came. The port holds the buffers that got nothing
+/// yet.
 pub fn buffers_get_what_is_told()
     ensures given { (limit : ℕ) (past : List Happening) → gifts_since limit past ≡ given_of past }
     ensures held { (limit : ℕ) (past : List Happening) → (port_since limit past).buffers ≡ held_of past }

@@ -233,10 +233,14 @@ impl Driver {
         Ok(())
     }
 
-    /// Sends a request: places its buffers, writes it, and makes its chain available. `BadValue` where
-    /// there is no such queue, `NameTaken` where anything of that name was sent, `QueueFull` where the
-    /// queue has no room for a chain, `NoGuestMemory` where a buffer doesn't fit; of several the first
-    /// in this order. `NoMemory` where memory runs out.
+    /// Sends a request: places its buffers, writes it, and makes its chain available. It is refused, in this order:
+    ///
+    /// - `BadValue` where there is no such queue;
+    /// - `NameTaken` where anything of that name was sent;
+    /// - `QueueFull` where the queue has no room for a chain;
+    /// - `NoGuestMemory` where a buffer doesn't fit.
+    ///
+    /// `NoMemory` where memory runs out.
     pub fn send<M: GuestMemory>(&mut self, memory: &mut M, send: &Send<'_>) -> Result<(), Stop> {
         let readable = send.out.length().saturating_add(REQUEST_BYTES as u64);
         let writable = u64::from(send.room) + RESPONSE_BYTES as u64;

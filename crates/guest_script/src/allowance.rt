@@ -12,8 +12,8 @@ pub(crate) struct Allowance {
 }
 
 impl Allowance {
-    /// Takes off steps that were taken. `TooManySteps` exactly where they are more than those that are left; then nothing
-    /// changes.
+    /// Takes off steps that were taken. `TooManySteps` exactly where they are more than those that are left; then
+    /// nothing changes.
     pub(crate) fn spend(&mut self, steps: u64) -> Result<(), LineFault>
         ensures free { self.old.left ≡ None → IsOk result × (self.new ≡ self.old) }
         ensures spends { (left : ℕ) → self.old.left ≡ Some left → steps ≤ left →

@@ -22,10 +22,10 @@ use workers::{CloseFault, Host, Open, Report, ResizeFault};
 /// The number of looks that the guest takes for an answer that a line waits for.
 const LOOKS: u32 = 1_000_000;
 
-/// Plays a script on a device that so many workers serve, 1 to 8, in place of the number in its header: reads it
-/// whole, then runs its lines one after the other while the workers run beside them, closes the device at `close` or `abandon`, or
-/// at the end where that is absent, and writes what the printing lines behind it ask for. A program calls it once for
-/// a script, and flushes the writer afterwards. It may wait for the workers.
+/// Plays a script on a device that so many workers serve, 1 to 8, in place of the number in its header. It reads the
+/// script whole, then runs its lines one after the other while the workers run beside them. It closes the device at
+/// `close` or `abandon`, or at the end where that is absent, and writes what the printing lines behind it ask for. A
+/// program calls it once for a script, and flushes the writer afterwards. It may wait for the workers.
 ///
 /// A line at fault ends the script; what was printed before it stands, and the device is closed. A reader that fails
 /// is a fault of line 0, with nothing printed. A writer that fails ends the script at once, and isn't called again.
@@ -57,8 +57,8 @@ where
     closed.run(&script, rest, out)
 }
 
-/// Runs a script's lines on the device that its header asks for, and closes that, with these ledgers. Gives how many lines
-/// were run, and what the closed device left.
+/// Runs a script's lines on the device that its header asks for, and closes that, with these ledgers. Gives how many
+/// lines were run, and what the closed device left.
 fn run_lines<C, D, R>(
     rt: R,
     alloc: Global,

@@ -165,9 +165,9 @@ impl Handoff {
         None
     }
 
-    /// Takes the job that has stood longest in the first queue that isn't empty, by a seat of this hand-off: its own
-    /// comes first, then those of the next seats by rising number, and so round to the beginning. The thread that has
-    /// the seat calls it, as a worker whose hand is free. It may wait for other threads that are in the middle of a
+    /// Takes the job that has stood longest in the first queue that isn't empty, by a seat of this hand-off. The seat's
+    /// own queue comes first, then those of the next seats by rising number, round to the beginning. The thread that
+    /// has the seat calls it, as a worker whose hand is free. It may wait for other threads that are in the middle of a
     /// call, and takes no memory. `None` is answered only where each queue was empty at a moment of the call, not all
     /// at one.
     pub fn take<R: Wait>(&self, rt: &R, seat: &mut Seat) -> Option<Job>

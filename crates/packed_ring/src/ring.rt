@@ -46,11 +46,14 @@ impl PackedRing {
     ghost use Rattle.packed_ring.specs.Placement.{OpensPacked, IsMisplaced};
 
     /// Makes a queue with this number at this place, of which nothing was fetched yet. Called once for each queue,
-    /// where a device is opened, with the memory that all later calls get. It looks at two of the features that were agreed,
-    /// VIRTIO_F_INDIRECT_DESC and VIRTIO_F_EVENT_IDX (bits 28 and 29). Refused are, in this order, a size that is
-    /// 0 or above 32,768 (`BadSize`), a descriptor ring not aligned to 16 or an event suppression area not to 4
-    /// (`BadAlignment`), and one of them that doesn't lie in memory (`Outside`). It takes no memory, so it is never
-    /// `NoMemory`.
+    /// where a device is opened, with the memory that all later calls get. It looks at two of the features that were
+    /// agreed, VIRTIO_F_INDIRECT_DESC and VIRTIO_F_EVENT_IDX (bits 28 and 29). It refuses a place, in this order:
+    ///
+    /// - `BadSize`: a size of 0 or above 32,768;
+    /// - `BadAlignment`: a descriptor ring not aligned to 16, or an event suppression area not to 4;
+    /// - `Outside`: one of them that doesn't lie in memory.
+    ///
+    /// It takes no memory, so it is never `NoMemory`.
     pub fn new(
         alloc: Global,
         queue: u16,

@@ -66,8 +66,9 @@ pub(crate) fn fault_without_room(
     }
 }
 
-/// Puts the buffers of the table that a descriptor names behind those in the draft, or returns the first thing wrong with
-/// one of them, behind what stands before the table. It stands apart, so that a chain without a table doesn't pay for it.
+/// Puts the buffers of the table that a descriptor names behind those in the draft, or returns the first thing wrong
+/// with one of them, behind what stands before the table. It stands apart, so that a chain without a table doesn't pay
+/// for it.
 #[inline(never)]
 fn walk_table(
     mut draft: Draft,

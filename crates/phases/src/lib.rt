@@ -1,5 +1,5 @@
-//! The atomic steps of the device, each on what one lock lends, a queue with the memory or a unit, on what stands in the
-//! queue's slot, and on what the one who takes the step has in hand. None waits, and none knows a device.
+//! The atomic steps of the device. Each works on what one lock lends, a queue with the memory or a unit, on the queue's
+//! slot, and on the hand of the seat that takes the step. None waits, and none knows a device.
 #![tactic(auto)]
 
 mod answering;

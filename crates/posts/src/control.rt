@@ -104,8 +104,8 @@ pub fn manage<R: Wait, G: Gate + Drop, C: Ledger, W: Ledger>(
     }
 }
 
-/// Takes the event queue's next chain into the port. The first worker calls, behind `manage`. A refused growth counts as
-/// made.
+/// Takes the event queue's next chain into the port. The first worker calls, behind `manage`. A refused growth counts
+/// as made.
 pub fn fetch_event<R: Wait, G: Gate + Drop, C: Ledger, W: Ledger>(
     rt: &R,
     shared: &Shared<G, C, W>,

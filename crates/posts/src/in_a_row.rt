@@ -17,8 +17,8 @@ use std::sync::Wait;
 use std::sync::ledger::Ledger;
 use std::thread;
 
-/// The bytes of a request from which on another worker that waits for a job gets it: the length of a READ or a WRITE of
-/// 16 KiB, which takes longer than a job's way to another processor.
+/// The bytes of a request from which on another worker that waits for a job gets it. A READ or a WRITE of 16 KiB takes
+/// longer than a job's way to another processor.
 const LONG_REQUEST: u64 = 16_384;
 
 /// Returns the ticket of a request that arrived; `None` where none did.
@@ -86,8 +86,8 @@ fn turn_at<R: Wait, G: Gate + Drop, C: Ledger, W: Ledger>(
     )
 }
 
-/// Has the task in the hand leave, where one is, and the request that arrived enter its unit, where one did: in one hold
-/// where both are of one unit.
+/// Has the task in the hand leave, where one is, and the request that arrived enter its unit, where one did: in one
+/// hold where both are of one unit.
 pub(crate) fn turn<R: Wait, G: Gate + Drop, C: Ledger, W: Ledger>(
     rt: &R,
     shared: &Shared<G, C, W>,

@@ -37,8 +37,8 @@ pub struct Post<W: Ledger> {
     pub part: Part<W>,
     // True if its worker is counted among those that wait for a job.
     pub waits: bool,
-    // The first request whose chain its queue didn't know when it was to be answered, which never happens: no receipt is
-    // given then.
+    // The first request whose chain its queue didn't know when it was to be answered, which never happens: no receipt
+    // is given then.
     pub lost: Option<Ticket>,
 }
 

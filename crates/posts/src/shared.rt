@@ -14,8 +14,8 @@ use std::sync::atomic::{AtomicBool, AtomicU64, Ordering};
 use std::sync::ledger::Ledger;
 use std::sync::{Mutex, Wait};
 
-/// The parts of a device that threads share: its units, its queues and the memory, each under a lock, and the event port
-/// under one that is taken round that of the event queue. The inventory never changes.
+/// The parts of a device that threads share: its units, its queues and the memory, each under a lock, and the event
+/// port under one that is taken round that of the event queue. The inventory never changes.
 #[derive(Drop)]
 pub struct Parts<C: Ledger> {
     pub units: Vec<Mutex<CountedUnit<C>>>,
@@ -118,8 +118,8 @@ impl<G: Gate + Drop, C: Ledger, W: Ledger> Shared<G, C, W> {
         self.waiting.load(Ordering::SeqCst) > u64::from(waits)
     }
 
-    /// Counts a worker among those that wait for a job, or no longer. A worker calls as a round finds something where the
-    /// one before didn't, or nothing where that did.
+    /// Counts a worker among those that wait for a job, or no longer. A worker calls as a round finds something where
+    /// the one before didn't, or nothing where that did.
     pub fn wait_for_job(&self, waits: bool) {
         if waits {
             self.waiting.fetch_add(1, Ordering::SeqCst);

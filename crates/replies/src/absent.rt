@@ -29,10 +29,12 @@ pub struct AbsentReply {
     pub moved: u32,
 }
 
-/// Answers a command for a LUN that a target lacks (SPC-4 §6.6.1, SAM-5 §5.11): INQUIRY with its
-/// standard data, whose first byte says that there is no device, REQUEST SENSE with LOGICAL UNIT NOT
-/// SUPPORTED as its data; a page of vital product data and a refused CDB of either command are
-/// INVALID FIELD IN CDB, and every other command is LOGICAL UNIT NOT SUPPORTED.
+/// Answers a command for a LUN that a target lacks (SPC-4 §6.6.1, SAM-5 §5.11):
+///
+/// - INQUIRY with its standard data, whose first byte says that there is no device;
+/// - REQUEST SENSE with LOGICAL UNIT NOT SUPPORTED as its data;
+/// - a page of vital product data, and a refused CDB of either command, with INVALID FIELD IN CDB;
+/// - every other command with LOGICAL UNIT NOT SUPPORTED.
 pub fn exec_absent(command: &Command) -> AbsentReply
     ensures reply { plain_of_absent result ≡ absent_reply command.now }
     ensures room { array_vec_len result.payload ≤ (need_of command.now).into }

@@ -78,10 +78,14 @@ fn together(alloc: Global, kept: Vec<Kept>) -> Result<(Vec<Receipt>, Vec<Note>),
 
 /// Returns the report of a host that was opened with these specifications: of its units, of its queues, at most 65,536,
 /// and of its memory, which stood under locks, and of what each seat kept. Called where a host is closed, once no
-/// thread shares the locks. `Unconfirmed`: the least ticket of a receipt whose Commit doesn't stand in its unit's
-/// history. `Outstanding`: the least ticket of a chain of the control queue or of a request that wasn't answered, once
-/// and as its unit's history says; or, where there is none, a ticket as [`examine`] names it of what stood under a lock
-/// and isn't the host's. `NoMemory` where a growth was refused.
+/// thread shares the locks. It fails, in this order, with
+///
+/// - `Unconfirmed`: the least ticket of a receipt whose Commit doesn't stand in its unit's history;
+/// - `Outstanding`: the least ticket of a chain of the control queue, or of a request, that wasn't answered once and as
+///   its unit's history says. If there is none: a ticket of what stood under a lock and isn't the host's, as
+///   [`examine`] names it.
+///
+/// `NoMemory` where a growth was refused.
 pub fn report_closed(
     alloc: Global,
     specs: &[UnitSpec],

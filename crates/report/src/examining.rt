@@ -35,13 +35,18 @@ fn first_outstanding(alloc: Global, report: &Report) -> Result<Option<Ticket>, N
 }
 
 /// Looks whether a report of a host with these units adds up, and gives it back as it was where it does. Called where a
-/// host is closed, with at most 65,536 queues. Refused are, in this order, a receipt that its unit doesn't confirm
-/// (`Unconfirmed`), and a chain of a request queue or of the control queue that isn't used, a request that isn't
-/// settled, or a receipt or note of what is no accepted request (`Outstanding`); each names the first such ticket by
-/// queue and number. Where none is outstanding, `Outstanding` names ticket 0/0 of other units than those of the host:
-/// another number of them, or one that opened with another address or capacity, or keeps no replies; and, where the
-/// units are those, the first ticket of the first place at which a queue of another number stands. `NoMemory` where the
-/// tallies were refused memory. It takes time for each receipt, note, step and accepted chain, folded steps too.
+/// host is closed, with at most 65,536 queues. It refuses a report, in this order, and names the first such ticket by
+/// queue and number:
+///
+/// - `Unconfirmed`: a receipt that its unit doesn't confirm;
+/// - `Outstanding`: a chain of a request queue or of the control queue that isn't used, a request that isn't settled,
+///   or a receipt or note of what is no accepted request;
+/// - `Outstanding` of ticket 0/0: other units than those of the host. Their number is another, or one opened with
+///   another address or capacity, or keeps no replies;
+/// - `Outstanding` of the first ticket of a place: the first at which a queue of another number stands.
+///
+/// `NoMemory` where the tallies were refused memory. It takes time for each receipt, note, step and accepted chain,
+/// folded steps too.
 pub fn examine(alloc: Global, specs: &[UnitSpec], report: Report) -> Result<Report, CloseFault>
     requires { vec_len report.queues ≤ 65536 }
     ensures { Examines specs.now report result }

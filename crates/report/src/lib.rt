@@ -1,5 +1,5 @@
-//! Keeps what the seats of a host answered, and tells whether what a closed host says adds up: each
-//! chain used, each request answered once, and each answer of what became of its command in a unit's history.
+//! Keeps what the seats of a host answered, and tells whether the report of a closed host adds up. Then each chain is
+//! used, each request is answered once, and each answer is that of its command in a unit's history.
 #![tactic(auto)]
 
 mod belonging;

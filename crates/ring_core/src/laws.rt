@@ -50,8 +50,8 @@ pub fn chains_are_right()
         → id < s.layout.size }
 {}
 
-/// A queue is sound when it is made, and whatever it does keeps it so: accepting a chain under a
-/// head or id that is free, using a chain that it owns, and breaking for a fault of the guest.
+/// A queue is sound when it is made, and each of its acts keeps it so. It accepts a chain under a head or id that is
+/// free, uses a chain that it owns, and breaks for a fault of the guest.
 pub fn queues_stay_sound()
     ensures opening { OpensSound }
     ensures accepting { AcceptsSound }

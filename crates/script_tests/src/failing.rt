@@ -123,8 +123,8 @@ fn first_wrong_read(alloc: Global) -> Option<u64> {
     None
 }
 
-/// The first call of the writer of which it isn't so that the play ends there, with what it printed standing, if it
-/// fails; 0 where there aren't more than ten, or the play goes wrong where none fails.
+/// Returns the first call of the writer whose failure doesn't end the play there, with what it printed standing.
+/// Returns 0 where there are ten calls or fewer, or where the play goes wrong though none fails.
 fn first_wrong_write(alloc: Global) -> Option<u64> {
     let (got, _, writes, end) = played(alloc, 0, 0);
     if got.as_slice() != PRINTS.as_bytes() || end != Err(NO_SUCH_NAME) || writes <= 10 {

@@ -1,5 +1,5 @@
-//! Reads scripts, and prints what their lines ask for, whatever serves their device: what a header asks for, what the
-//! lines behind it may name and what is wrong with them, the guest's own lines, and the lines that print.
+//! Reads scripts, and prints what their lines ask for, whatever serves their device. It has the device that a header
+//! asks for, the names that lines may use, their faults, the guest's own lines, and the lines that print.
 #![tactic(auto)]
 
 mod checker;

@@ -20,8 +20,8 @@ const BLOCKS_AT_ONCE: u64 = 64;
 const BYTES_AT_ONCE: usize = 64 * BLOCK_BYTES;
 
 /// Prints what a line asks for, of a device that stands still. `BadValue` where what it prints of isn't there,
-/// `NoSuchName` where nothing of that name was sent, `CannotWrite` where the writer refused. `play` calls it between two
-/// steps of its device, `serve` once that is closed.
+/// `NoSuchName` where nothing of that name was sent, `CannotWrite` where the writer refused. `play` calls it between
+/// two steps of its device, `serve` once that is closed.
 pub fn print<D: Device, W: Write>(
     alloc: Global,
     out: &mut W,

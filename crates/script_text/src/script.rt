@@ -34,8 +34,8 @@ pub fn line_number(index: usize) -> u64 {
 }
 
 impl<'a> Script<'a> {
-    /// Reads a script, and what its header asks for. Called once, with the script's bytes. A line of the header at fault
-    /// ends it, and `NoMemory` where a growth was refused.
+    /// Reads a script, and what its header asks for. Called once, with the script's bytes. A line of the header at
+    /// fault ends it, and `NoMemory` where a growth was refused.
     pub fn read(alloc: Global, bytes: &'a [u8]) -> Result<(Script<'a>, Wanted), ScriptFault> {
         let Ok(lines) = lines_of(alloc, bytes) else {
             return Err(ScriptFault::NoMemory);

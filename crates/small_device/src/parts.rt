@@ -56,8 +56,8 @@ fn inventory() -> Option<Inventory> {
     Some(Inventory::new(&UNITS))
 }
 
-/// Opens a unit of the target, which keeps replies or doesn't; `None` where memory was refused. Called for the device, and by
-/// tests that put another unit in its place.
+/// Opens a unit of the target, which keeps replies or doesn't; `None` where memory was refused. Called for the device,
+/// and by tests that put another unit in its place.
 pub fn unit(alloc: Global, spec: &UnitSpec, keeps_replies: bool) -> Option<UnitState> {
     UnitState::new(alloc, spec, &[0, 1], keeps_replies).ok()
 }

@@ -224,16 +224,16 @@ impl Parts {
         (bays, &self.inventory)
     }
 
-    /// Makes the first chain of a request queue available and takes it: what that gives, or `None` where it gives nothing.
-    /// Tests call it for a chain that stays unused.
+    /// Makes the first chain of a request queue available and takes it: what that gives, or `None` where it gives
+    /// nothing. Tests call it for a chain that stays unused.
     pub fn fetch(&mut self, asked: &Asked) -> Option<Slot> {
         put(&mut self.memory, asked.queue, &request(asked), 108);
         let (mut bays, inventory) = self.lend();
         fetch_at(&mut bays, usize::from(asked.queue), inventory)
     }
 
-    /// Serves a request from its fetch to its leave: what it leaves, or `None` where it didn't come so far. Tests call it
-    /// once for a queue.
+    /// Serves a request from its fetch to its leave: what it leaves, or `None` where it didn't come so far. Tests call
+    /// it once for a queue.
     pub fn serve(&mut self, alloc: Global, asked: &Asked) -> Option<ReceiptOrNote> {
         put(&mut self.memory, asked.queue, &request(asked), 108);
         let (mut bays, inventory) = self.lend();

@@ -44,11 +44,13 @@ impl SplitRing {
     ghost use Rattle.split_ring.specs.Placement.{OpensSplit, LayoutRefusedAs};
 
     /// Makes a queue with this number at this place, of which nothing was fetched yet. Called once for each queue,
-    /// where a device is opened, with the memory that all later calls get. It looks at two of the features that were agreed,
-    /// VIRTIO_F_INDIRECT_DESC and VIRTIO_F_EVENT_IDX (bits 28 and 29). Refused are, in this order, a size that is
-    /// 0, above 32,768 or no power of two (`BadSize`), a descriptor table not aligned to 16, an available ring not to 2
-    /// or a used ring not to 4 (`BadAlignment`), one of them that doesn't lie in memory (`Outside`), and want of memory
-    /// (`NoMemory`).
+    /// where a device is opened, with the memory that all later calls get. It looks at two of the features that were
+    /// agreed, VIRTIO_F_INDIRECT_DESC and VIRTIO_F_EVENT_IDX (bits 28 and 29). It refuses a place, in this order:
+    ///
+    /// - `BadSize`: a size of 0, above 32,768 or no power of two;
+    /// - `BadAlignment`: a descriptor table not aligned to 16, an available ring not to 2, or a used ring not to 4;
+    /// - `Outside`: one of them that doesn't lie in memory;
+    /// - `NoMemory`: want of memory.
     #[tactic(auto, unfolding(ring_core::specs::State::opening))]
     pub fn new(
         alloc: Global,

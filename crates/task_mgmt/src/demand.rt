@@ -40,9 +40,11 @@ fn places_of(units: &[Address], target: u8) -> ArrayVec<usize, MOST_UNITS>
 /// Begins a function on units of the inventory. Called by [`decide_control`](crate::decide_control) for a request that
 /// was fetched, while no other function is open.
 ///
-/// The first that holds is the refusal: [`FunctionResponse::Rejected`] for a subtype that isn't offered,
-/// [`FunctionResponse::BadTarget`] where the bytes name no unit or the target isn't there, and
-/// [`FunctionResponse::IncorrectLun`] where the target lacks the LUN, but for I_T NEXUS RESET.
+/// The first of these that holds is the refusal:
+///
+/// - [`FunctionResponse::Rejected`] for a subtype that isn't offered;
+/// - [`FunctionResponse::BadTarget`] where the bytes name no unit, or the target isn't there;
+/// - [`FunctionResponse::IncorrectLun`] where the target lacks the LUN, but for I_T NEXUS RESET.
 pub fn begin(tmf: &TaskManagement, inventory: &Inventory) -> Result<Function, FunctionResponse>
     ensures { result ≡ begun (demanded inventory.now tmf.now.subtype tmf.now.address tmf.now.id) }
 {

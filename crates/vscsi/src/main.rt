@@ -16,8 +16,8 @@ use std::sync::Wait;
 use std::thread::Threads;
 use std::{env, fs, io};
 
-/// Asks what the words ask for, does it, and ends with a status: 0 done, 1 a fault of the script or
-/// of standard output, 2 words that are refused or ask for help, 3 no memory.
+/// Does what the words ask for, and ends with a status: 0 done, 1 a fault of the script or of standard output, 2 words
+/// that are refused or ask for help, 3 no memory.
 fn main(rt: HostRuntime) -> ExitCode {
     let ending = run(&rt);
     ending.report(&rt)

@@ -53,8 +53,8 @@ pub(crate) fn units_of<C: Ledger>(
     Ok(units)
 }
 
-/// Takes what seats kept, and merges the parts of the ledger that count their receipts into a share. `Outstanding` where
-/// one lost a receipt, which never happens; `NoMemory` where a growth was refused.
+/// Takes what seats kept, and merges the parts of the ledger that count their receipts into a share. `Outstanding`
+/// where one lost a receipt, which never happens; `NoMemory` where a growth was refused.
 pub(crate) fn kept_of<W: Ledger>(
     alloc: Global,
     seats: Vec<Tallied<W>>,

@@ -144,9 +144,9 @@ pub struct Seen {
     pub broken: Option<RingFault>,
 }
 
-/// A device that threads serve. Clauses see how many workers and queues it has, and the units that it was opened with. Its
-/// ledger `C` counts the Commits of its units, and `W` the receipts of its workers and of the operator. A host isn't
-/// `Drop`: its starter closes it, which ends its threads.
+/// A device that threads serve. Clauses see how many workers and queues it has, and the units that it was opened with.
+/// Its ledger `C` counts the Commits of its units, and `W` the receipts of its workers and of the operator. A host
+/// isn't `Drop`: its starter closes it, which ends its threads.
 pub struct Host<G: Gate + Drop, C: Ledger, W: Ledger> {
     alloc: Global,
     shared: Arc<Shared<G, C, W>>,
@@ -198,10 +198,11 @@ impl<G: Gate + Drop, C: Ledger, W: Ledger> Host<G, C, W> {
     ghost use Rattle.unit_history.specs.Calls.{ResizeRefused};
 
     /// Starts `n` workers, 1 to 8, in place of the number that the configuration has. The embedder calls it once for
-    /// each host. `BadConfig` exactly where the device doesn't take such a configuration; else `NoMemory` where a
-    /// growth was refused, or a thread couldn't be made: those that were made are ended. It may wait for these. The
-    /// blanks are those of its two ledgers, with a part for each of at most 64 units, and for each of at most 9 seats:
-    /// they take no bytes, and the caller makes them by `Blank::new(64)` and `Blank::new(9)`.
+    /// each host. `BadConfig` exactly where the device doesn't take such a configuration. Else `NoMemory` where a
+    /// growth was refused, or a thread couldn't be made: those that were made are ended. It may wait for these.
+    ///
+    /// The blanks are those of its two ledgers, with a part for each of at most 64 units, and for each of at most 9
+    /// seats. They take no bytes. The caller makes them by `Blank::new(64)` and `Blank::new(9)`.
     pub fn start<R: Threads + Wait + Copy + Send + 'static>(
         rt: R,
         alloc: Global,
@@ -271,9 +272,9 @@ impl<G: Gate + Drop, C: Ledger, W: Ledger> Host<G, C, W> {
     }
 
     /// Gives the unit at an index of the configuration another capacity for the operator, in blocks of 512 bytes, and
-    /// tells the guest (PARAM_CHANGE) where its driver agreed to `CHANGE`. A unit that isn't there changes nothing. Wakes
-    /// the workers that sleep. `BadCapacity` for 0 and for more than 2^40 blocks, `NoMemory` where a growth was refused:
-    /// the unit wasn't resized then. It may wait.
+    /// tells the guest (PARAM_CHANGE) where its driver agreed to `CHANGE`. A unit that isn't there changes nothing.
+    /// Wakes the workers that sleep. `BadCapacity` for 0 and for more than 2^40 blocks, `NoMemory` where a growth was
+    /// refused: the unit wasn't resized then. It may wait.
     pub fn resize<R: Wait>(&mut self, rt: &R, place: u16, blocks: u64) -> Result<(), ResizeFault>
         ensures same { self.new ≡ self.old }
         ensures resized { OnOk result (place < length self.old.units → WasResized blocks) }
@@ -328,12 +329,17 @@ impl<G: Gate + Drop, C: Ledger, W: Ledger> Host<G, C, W> {
     }
 
     /// Ends the workers once nothing is left to them, waits for that, and says what became of every chain that was
-    /// accepted. `Unconfirmed`: the least ticket of a receipt whose Commit doesn't stand in its unit's history.
-    /// `Outstanding`: the least ticket of a chain of the control queue or of a request that wasn't answered, once and
-    /// as its unit's history says; or, where there is none, a ticket that tells of a unit that isn't as it was opened
-    /// (0/0), or of a queue in another's place (the first of that place). `NoMemory` where a growth was refused. The host
-    /// is gone afterwards, also at an `Err`. The Commits of all units are as many as the receipts: no look tells that, but
-    /// the two ledgers, so no unit's lock was given a history with fewer Commits than it had lent.
+    /// accepted. The host is gone afterwards, also at an `Err`. It fails, in this order, with
+    ///
+    /// - `Unconfirmed`: the least ticket of a receipt whose Commit doesn't stand in its unit's history;
+    /// - `Outstanding`: the least ticket of a chain of the control queue, or of a request, that wasn't answered once
+    ///   and as its unit's history says. If there is none: 0/0 for a unit that isn't as it was opened, or the first
+    ///   ticket of a place where another queue stands.
+    ///
+    /// `NoMemory` where a growth was refused.
+    ///
+    /// The Commits of all units are as many as the receipts. The two ledgers prove that, where no look at the report
+    /// could tell. So no unit's lock was given a history with fewer Commits than it had lent.
     pub fn close<R: Threads + Wait>(self, rt: &R) -> Result<Report, CloseFault>
         ensures report { IfOk result (λ r. IsReport self.units r.units.items r.queues.items r.receipts.items r.notes.items) }
         ensures units { IfOk result (λ r. vec_len r.units ≡ length self.units) }

@@ -97,8 +97,8 @@ impl World {
 
     /// Gives each unit its disk, in the order of the configuration, in place of zeros. Called once, with disks of its
     /// units' capacities, on a device that [`World::new`] opened and to which nothing has happened yet.
-    /// [`World::new_with`] does both; a caller that must keep the disks until nothing can be refused any more takes
-    /// these two calls. The device takes the disks, and no memory.
+    /// [`World::new_with`] does both. A caller that must keep the disks until nothing can be refused takes these two
+    /// calls. The device takes the disks, and no memory.
     pub fn hand_in(&mut self, disks: &mut Vec<PagedStore>)
         requires opening { OpensFor self.old disks.old.items }
         ensures over { OpensAnew self.old disks.old.items self.new }
@@ -209,22 +209,26 @@ impl World {
         Ok(count)
     }
 
-    /// Serves what the guest made available on some queues: takes the first event that applies, in the order of
+    /// Serves what the guest made available on some queues. Takes the first event that applies, in the order of
     /// `order_by` in `device_model/specs/Order.antt`, one after another, until none does or `most` steps were taken. It
     /// takes new chains of those queues alone whose bit is set in `queues`, that of queue 0 the lowest. It goes on with
     /// whatever was begun before, of each queue.
     ///
-    /// `more` is true exactly where an event is left that would change something: then it took `most` steps. Where it
-    /// is false, every chain that was accepted was used, but for event buffers that are held, nothing waits, and none
+    /// `more` is true exactly where an event is left that would change something: then it took `most` steps. If it is
+    /// false, every chain that was accepted was used, but for event buffers that are held. Nothing waits then, and none
     /// of those queues has a chain, unless a fault broke it. Chains of the other queues are left as they are.
     ///
-    /// It takes at most 7 steps for each request chain, 2 for each control chain, 1 for each event buffer, 1 for each
-    /// event that waits, for each queue and for each task that was answered before, and 2 for each unit that a function
-    /// visits. A guest whose requests make further chains available has each of these counted too, so that only `most`
-    /// bounds a call: a host that goes round its queues with a bound starves none.
+    /// It takes at most
     ///
-    /// `NoMemory` where what was first was refused memory, or is a chain of a queue that has accepted 2^64 - 1: what
-    /// was served before stands, and nothing else changed. The promise is kept as by `run`.
+    /// - 7 steps for each request chain, 2 for each control chain, and 1 for each event buffer;
+    /// - 1 for each event that waits, for each queue, and for each task that was answered before;
+    /// - 2 for each unit that a function visits.
+    ///
+    /// A guest whose requests make further chains available has each of these counted too. So only `most` bounds a
+    /// call, and a host that goes round its queues with a bound starves none.
+    ///
+    /// `NoMemory` where the first event that applies was refused memory, or is a chain of a queue that has accepted
+    /// 2^64 - 1. Everything served before stands, and nothing else changed. The promise is kept as by `run`.
     #[inline(always)]
     pub fn serve(&mut self, queues: u32, most: u64) -> Result<Served, NoMemory>
         ensures serves { ServesSomeOrWants (asks queues) most self.old result self.new }
@@ -255,14 +259,15 @@ impl World {
 
     /// Serves what the guest made available, on each queue and until nothing is left: `serve` with all queues and no
     /// bound. Answers how many steps it took. Then every chain that was accepted was used, but for event buffers that
-    /// are held, nothing is left that waits, and no queue has a chain, unless a fault broke it.
+    /// are held. Nothing is left that waits, and no queue has a chain, unless a fault broke it.
     ///
     /// A guest whose own requests make chains available, as a READ that writes descriptors into a ring, keeps it busy
     /// for as long as it likes. A host that must have its thread back calls `serve` with a bound.
     ///
-    /// `NoMemory` where what was first was refused memory, or is a chain of a queue that has accepted 2^64 - 1, or
-    /// where 2^64 - 1 events were counted: what was served before stands, and nothing else changed. The bound on its
-    /// steps holds there too (`IsShort` in `device_model/specs/Settling.antt`). The promise is kept as by `run`.
+    /// `NoMemory` where the first event that applies was refused memory, or is a chain of a queue that has accepted
+    /// 2^64 - 1, or where 2^64 - 1 events were counted. Everything served before stands, and nothing else changed. The
+    /// bound on its steps holds there too (`IsShort` in `device_model/specs/Settling.antt`). The promise is kept as by
+    /// `run`.
     pub fn settle(&mut self) -> Result<u64, NoMemory>
         ensures serves { ServesOrWants self.old result self.new }
         ensures promise { SettlesAsPromised self.old result self.new }

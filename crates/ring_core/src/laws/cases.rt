@@ -9,8 +9,8 @@ ghost use Rattle.ring_core.specs.Packed.{packed_descriptor, names_one};
 ghost use Rattle.ring_core.specs.Cases.{OneAlone, ThreeLinked, NamesItself};
 ghost use Rattle.ring_core.specs.declared.fault.RingFault.TheVariants.{IndexJump};
 
-/// A descriptor is what a driver writes: le64 addr, le32 len, le16 flags and le16 next in a split
-/// queue (VIRTIO 1.2, 2.7.5), le64 addr, le32 len, le16 id and le16 flags in a packed one (2.8.13).
+/// A descriptor is what a driver writes. In a split queue that is le64 addr, le32 len, le16 flags and le16 next (VIRTIO
+/// 1.2, 2.7.5). In a packed one it is le64 addr, le32 len, le16 id and le16 flags (2.8.13).
 pub fn descriptors_are_read_as_written()
     ensures split { (addr len flags next : ℕ) → addr < 2 ^ 64 → len < 2 ^ 32 → flags < 2 ^ 16 → next < 2 ^ 16
         → split_descriptor (little_bytes 8 addr ++ little_bytes 4 len ++ little_bytes 2 flags ++ little_bytes 2 next)
