@@ -43,8 +43,8 @@ pub fn enter_on<B: UnitBays>(bays: &mut B, at: usize, slot: &mut Slot, out: &mut
     .0
 }
 
-/// Makes the pages of the WRITE in the hand ahead of its commit: what they need is copied in one hold of its unit
-/// (`phase_start_pages`), and they are made after it, with no lock held (`phase_prepare`). The seat that has the hand
+/// Makes the pages of the WRITE in the hand ahead of its commit. Copies the blocks that they need in one hold of its
+/// unit (`phase_start_pages`), and makes them after it, with no lock held (`phase_prepare`). The seat that has the hand
 /// calls, with its place from `Hand::committing_unit`. Returns true if something was copied.
 pub fn prepare_on<B: UnitBays>(bays: &mut B, at: usize, hand: &mut Hand) -> bool
     requires there { at < B.units bays.old }

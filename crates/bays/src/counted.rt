@@ -31,8 +31,8 @@ impl<C: Ledger> CountedUnit<C> {
         CountedUnit { unit, part }
     }
 
-    /// Runs a phase on the unit, and counts the Commits that it answers: for the unit and for the seat that calls, in
-    /// both books, whose lock is taken inside the unit's. Called in a hold of the unit's lock.
+    /// Runs a phase on the unit, and counts the Commits that it answers, for the unit and for the seat that calls.
+    /// Takes the lock of the books inside the unit's. Called in a hold of the unit's lock.
     pub(crate) fn run<
         R: Wait,
         W: Ledger,

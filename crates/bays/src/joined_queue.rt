@@ -33,9 +33,9 @@ fn answer_fetch(
     (given, fetched)
 }
 
-/// Answers the job in the hand whose commit is over (`phase_answer`), and then takes the next chain of the same request
-/// queue (`phase_fetch`), in one hold of it and of the memory. The queue's owner calls, which has the hand. Returns
-/// what `answer_on` and then `fetch_on` would return.
+/// Answers the job in the hand whose commit is over (`phase_answer`), in one hold of its queue and of the memory. Then
+/// takes the next chain of the same queue in that hold (`phase_fetch`). The queue's owner calls, which has the hand.
+/// Returns what `answer_on` and then `fetch_on` would return.
 pub fn answer_fetch_on<B: QueueBays>(
     bays: &mut B,
     at: usize,

@@ -138,10 +138,10 @@ pub fn leave_enter_on<B: UnitBays>(
 }
 
 /// Has the task in the hand leave and brings the request that arrived to its unit, as [`leave_enter_on`] does. Then, in
-/// the same hold, takes the job that may run into the hand, where that is free and the job is the only one, and commits
-/// it (`phase_commit`), unless its chain is long. Passes the gate at its point Locked inside the hold, before the
-/// commit. Frees the pages that the commit left over behind the hold. The caller is that of [`leave_enter_on`], where
-/// no gate watches and no other worker waits for a job. Returns what came of the jobs that may run.
+/// the same hold, takes the only job that may run into the hand, if that is free. Commits the job (`phase_commit`),
+/// unless its chain is long. Passes the gate at its point Locked inside the hold, before the commit. Frees the pages
+/// that the commit left over behind the hold. The caller is that of [`leave_enter_on`], where no gate watches and no
+/// other worker waits for a job. Returns what came of the jobs that may run.
 pub fn leave_enter_commit_on<B: UnitBays, G: Gate>(
     bays: &mut B,
     gate: &G,

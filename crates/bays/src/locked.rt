@@ -14,8 +14,8 @@ use std::sync::ledger::Ledger;
 use std::sync::{Mutex, Wait};
 use unit_history::UnitState;
 
-/// The units that threads share, each under a lock of its own, which is held while one phase runs, or several that
-/// follow one another, with that of the books inside it where one commits. So no thread waits for a lock that waits for
+/// The units that threads share, each under a lock of its own. A thread holds it while one phase runs, or several that
+/// follow one another, and takes that of the books inside it at a commit. So no thread waits for a lock that waits for
 /// one of its own. No clause says what a lock held at a moment. But whenever it is free, a unit's history is lawful,
 /// its blocks and what it has pending are those of that history, and it has all Commits that were counted for it.
 #[derive(Drop)]

@@ -1,6 +1,6 @@
 //! A guest that keeps so many requests available on each of two queues, over and over, from the same places in its
-//! memory, each queue's for a unit of its own. Those of a queue are two sets, of which it looks at one and makes it
-//! available again while the device has the other, so that a queue doesn't stand empty meanwhile.
+//! memory. Each queue's requests are for a unit of its own, and come in two sets. The guest looks at one set and makes
+//! it available again while the device has the other. So a queue doesn't stand empty meanwhile.
 
 use crate::device::{DRIVER, Device, QUEUE};
 use crate::failure::Failure;

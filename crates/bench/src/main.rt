@@ -23,8 +23,8 @@ use std::thread::Threads;
 use telling::{tell, tell_all};
 use words::asked;
 
-/// Does what the words name. Ends with status 0, or 1 where a request wasn't answered well, 2 where the words name
-/// no work, 3 for want of memory, 4 where there is no clock or standard output fails.
+/// Does what the words name, and ends with a status: 0 done, 1 a request that wasn't answered well, 2 words that name
+/// no work, 3 want of memory, 4 no clock or standard output that fails.
 fn main(rt: HostRuntime) -> ExitCode {
     ExitCode::from(status(&rt))
 }

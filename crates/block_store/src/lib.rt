@@ -1,5 +1,5 @@
-//! The blocks of a disk: a map from a logical block address to 512 bytes, as a trait with laws, and
-//! two stores: one keeps them in one run of bytes, the other in pages.
+//! The blocks of a disk: a map from a logical block address to 512 bytes, as a trait with laws. Two stores have it: one
+//! keeps the blocks in one run of bytes, the other in pages.
 #![tactic(auto)]
 
 mod bytes;

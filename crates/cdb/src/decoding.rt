@@ -26,9 +26,9 @@ const NO_PAGE: u8 = 0x00;
 /// The bit NACA of the control byte (SAM-5 §5.2).
 const NACA: u8 = 2;
 
-/// Returns the command that a CDB asks for, with its fields read and held against the device's limits. Whatever stands
-/// in the CDB there is one: a command of the profile whose fields are refused, or that asks for NACA, is `Bad`, and an
-/// opcode that the profile lacks is `Unknown`. None needs more than 1,048,576 bytes from the driver.
+/// Returns the command that a CDB asks for, with its fields read and held against the device's limits. Every CDB has
+/// one. A command of the profile whose fields are refused, or that asks for NACA, is `Bad`. An opcode that the profile
+/// lacks is `Unknown`. None needs more than 1,048,576 bytes from the driver.
 #[tactic(auto, using(crate::proofs::Rows::by_none))]
 #[inline(never)]
 pub fn decode(cdb: &[u8; CDB_BYTES]) -> Command

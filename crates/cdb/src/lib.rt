@@ -1,5 +1,5 @@
-//! The commands of the device's SCSI profile: what the bytes of a CDB ask for (SPC-4, SBC-3), and
-//! how many bytes of data the command needs from the driver and for it.
+//! The commands of the device's SCSI profile (SPC-4, SBC-3). Decodes the bytes of a CDB, and tells how many bytes of
+//! data the command needs from the driver and for it.
 #![tactic(auto)]
 
 mod commands;

@@ -50,8 +50,8 @@ ghost use Rattle.device_model.specs.Applies.{Applies};
 ghost use Rattle.device_model.specs.Turns.{Turns, IsStep};
 ghost use Rattle.device_model.specs.Laws.{AreApart, IsUsedBy, NoneIsUsed, memory_after, jobs_out, brings, ends};
 
-/// A device that was just opened is reached by the empty trace, and what runs behind a reached trace is reached by
-/// both: a law over all reached traces speaks of every moment of every run.
+/// A device that was just opened is reached by the empty trace. A run behind a reached trace is reached by both. So a
+/// law over all reached traces speaks of every moment of every run.
 pub fn every_run_goes_on()
     ensures opening { (w : PlainWorld) → Opens w → Reached w [] w }
     ensures run { (old : PlainWorld) (past more : List Occurrence) (w after : PlainWorld) → Reached old past w →
@@ -76,8 +76,8 @@ pub fn memory_is_that_of_the_writes()
         w.memory ≡ memory_after old.memory trace }
 {}
 
-/// A transition finds what it asks of the unit that one lock lends, or of the queue that one lends with memory, and
-/// what it leaves there is a function of what it found there.
+/// A transition finds what it asks of the unit that one lock lends, or of the queue that one lends with memory. It
+/// leaves there a function of what it found there.
 pub fn each_transition_does_its_part()
     ensures unit { (w : PlainWorld) (d : Transition) → Happens d w → Under (unit_of d) (λ i. (u : PlainUnit)
         × (slice_get w.units i ≡ Some u) × AsksUnit d u × (slice_get (after d w).units i ≡ Some (unit_after d u))) }
@@ -105,8 +105,8 @@ pub fn a_transition_counts()
     ensures idle { (w : PlainWorld) (e : AnEvent) → after (Transition.Idle e) w ≡ w }
 {}
 
-/// The ticket that an action answers is the next that its queue has used, and an action that answers none uses none:
-/// the answers of a trace are what its queues have used.
+/// The ticket that an action answers is the next that its queue has used. An action that answers none uses none. So the
+/// answers of a trace are what its queues have used.
 pub fn an_answer_uses_its_chain()
     ensures answered { (w : PlainWorld) (d : Transition) (t : Ticket) → Happens d w → (action_of d).answered ≡ Some t →
         IsUsedBy t w (after d w) }
@@ -140,8 +140,8 @@ pub fn each_chain_stands_in_one_place()
     ensures transition { (p : Ticket → ℕ) (w : PlainWorld) (d : Transition) → May d w → Moves p d w (after d w) }
 {}
 
-/// In every world that is reached each queue stands at its own number, and the chains that it accepted are numbered
-/// 0, 1, 2 and so on: a ticket names one chain of one queue.
+/// Each queue stands at its own number, in every world that is reached. The chains that it accepted are numbered 0, 1,
+/// 2 and so on. So a ticket names one chain of one queue.
 pub fn logs_are_numbered()
     ensures { (old : PlainWorld) (trace : List Occurrence) (w : PlainWorld) → Reached old trace w → AreNumbered w }
 {}
@@ -188,8 +188,8 @@ pub fn tickets_rise()
     ensures { (old : PlainWorld) (trace : List Occurrence) (w : PlainWorld) → Reached old trace w → AreBehind w }
 {}
 
-/// In every world that is reached no seat has more jobs than the units' task sets have places, and of the jobs that a
-/// seat handed off no more wait than there is room for.
+/// No seat has more jobs than the units' task sets have places, in every world that is reached. The jobs that a seat
+/// handed off, and that still wait, are no more than there is room for.
 pub fn lists_have_room()
     ensures { (old : PlainWorld) (trace : List Occurrence) (w : PlainWorld) → Reached old trace w → HaveRoom w }
 {}

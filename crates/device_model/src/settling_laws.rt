@@ -1,6 +1,6 @@
-//! A device that serves what is there, one atomic step at a time: where it has nothing left to do, how many steps that
-//! takes, and what each step lets go on. The laws say nothing of code: they hold of every program whose calls are
-//! transitions.
+//! A device that serves what is there, one atomic step at a time. The laws say when it has nothing left to do, how many
+//! steps that takes, and what each step lets go on. They say nothing of code: they hold of every program whose calls
+//! are transitions.
 
 ghost use Rattle.std.specs.Prelude.{ℕ, Bool, ◌≡◌, ◌⊎◌, ◌<◌, ◌≤◌, ◌+◌, List, [], ◌∷◌, length, map};
 ghost use Rattle.std.specs.List.{sum_by};

@@ -71,8 +71,8 @@ pub fn functions_end_after_their_tasks()
 {}
 
 /// Each event that a reset of the operator raises is given or missed, in the order in which they are raised. Buffers
-/// are given in the order in which they came; an event is missed only where none is held, and then the next buffer that
-/// is long enough tells so at once.
+/// are given in the order in which they came. An event is missed only where none is held. The next buffer that is long
+/// enough then tells so at once.
 pub fn events_are_given_in_order()
     ensures { (old : PlainWorld) (trace : List Occurrence) (w : PlainWorld) (r : Reached old trace w) →
         AreEvents old (transitions_of old trace w r.runs) w }

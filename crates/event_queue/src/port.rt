@@ -105,8 +105,8 @@ impl EventPort {
         }
     }
 
-    /// Takes a buffer, into which an event fits: it goes back at once and tells that events were missed, where one was
-    /// missed since a buffer last came, and else is held. There is room for it, which the caller sees to.
+    /// Takes a buffer, into which an event fits. If an event was missed since a buffer last came, the buffer goes back
+    /// at once and tells so. Else it is held. The caller sees to it that there is room.
     pub fn buffer(&mut self, chain: Chain) -> Option<(Chain, [u8; EVENT_BYTES])>
         requires room { length self.old.buffers < self.old.limit }
         requires fits { HoldsEvent chain }

@@ -171,8 +171,8 @@ impl Driver {
         })
     }
 
-    /// Places a chain that goes to a queue under a name, in a memory of that size: so many bytes to read, and so many
-    /// to write; where indirect descriptors were agreed, a table before them. The faults are those of `send`.
+    /// Places a chain that goes to a queue under a name, in a memory of that size, with so many bytes to read, and so
+    /// many to write. A table lies before them if indirect descriptors were agreed. The faults are those of `send`.
     fn place(
         &mut self,
         memory: u64,

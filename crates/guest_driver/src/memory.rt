@@ -6,8 +6,8 @@ ghost use Rattle.guest_mem.specs.declared.memory.MemFault.TheVariants as MemFaul
 
 use guest_mem::{GuestMem, MemFault};
 
-/// The memory of a guest, as its driver writes and reads it: that of a device of one thread, or one that threads have
-/// behind a lock, of which less can be said.
+/// The memory of a guest, as its driver writes and reads it. It is that of a device of one thread, or one that threads
+/// have behind a lock. Clauses say less of the latter.
 pub trait GuestMemory {
     /// Its size in bytes.
     ghost extent: { Self → ℕ };

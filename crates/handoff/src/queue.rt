@@ -10,9 +10,9 @@ use std::snapshot::Snapshot;
 use std::sync::Wait;
 use unit_history::Job;
 
-/// Bounded queues of jobs, each first in, first out, one for each seat, which several threads share: each has a `Seat`,
-/// by which it puts into its own queue and takes from all. No other call reaches the queues. Clauses see which queues
-/// these are, the capacity of each, and how many seats there are.
+/// Bounded queues of jobs, each first in, first out, one for each seat. Several threads share them. Each thread has a
+/// `Seat`, by which it puts into its own queue and takes from all. No other call reaches the queues. Clauses see which
+/// queues these are, the capacity of each, and how many seats there are.
 #[derive(Drop)]
 pub struct Handoff {
     lanes: Vec<Lane>,
@@ -79,8 +79,8 @@ impl Handoff {
     ghost use Rattle.handoff.specs.Lanes.{AreAt, AreChiefs, KnowAll, TakesBetween};
     ghost use Rattle.handoff.specs.Seats.{IsSeatOf, IsSameSeat, AreAllSeats, AreNew, putting, taking, BalancesAt, WasEmpty, TakesNearest, AreGathered};
 
-    /// Makes an empty hand-off with a queue for each seat, each of which holds at most `capacity` jobs, 1 to 4,096, and
-    /// all its seats, 2 to 9, in order: seat 0 stands first. Called once, where a device is opened. Only this call
+    /// Makes an empty hand-off and all its seats, 2 to 9, in order: seat 0 stands first. Each seat has a queue, which
+    /// holds at most `capacity` jobs, 1 to 4,096. Called once, where a device is opened. Only this call
     /// takes memory, and `NoMemory` says that some was refused.
     pub fn new(
         alloc: Global,
@@ -213,8 +213,8 @@ impl Handoff {
         }
     }
 
-    /// Takes back all seats of this hand-off, in order, and answers nothing: what they put and took is known then, and
-    /// that the queue of each still holds the rest of what it put.
+    /// Takes back all seats of this hand-off, in order, and answers nothing. Clauses then know what the seats put and
+    /// took, and that the queue of each still holds the rest of what it put.
     pub fn gather(&self, seats: Vec<Seat>)
         requires { AreAllSeats self.now seats.items }
         ensures { (left : ℕ → List PlainJob) × AreGathered seats.items left }

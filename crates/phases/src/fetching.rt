@@ -92,7 +92,7 @@ fn decided_control(
 }
 
 /// Takes the next chain of the control queue, where no function is open, its slot is empty and the memory is the
-/// queue's, and decides of it: a function opens, or the chain is answered directly. A fault of the guest breaks the
+/// queue's. Decides of it: a function opens, or the chain is answered directly. A fault of the guest breaks the
 /// queue. Returns true if something changed. `NoMemory` as of a request queue.
 pub fn phase_fetch_control(
     queue: &mut Queue,

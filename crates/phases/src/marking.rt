@@ -22,8 +22,8 @@ fn mark_tasks(unit: &mut UnitState, mark: MarkBy, out: &mut JobList) -> Result<P
     }
 }
 
-/// Marks the next unit of the open function, which the caller found by `next_unit`, or looks at it; jobs of tasks that
-/// wait there and are marked are appended to the list. Where memory is refused the function fails, and leaves its other
+/// Marks the next unit of the open function, which the caller found by `next_unit`, or looks at it. Appends the jobs of
+/// tasks that wait there and are marked to the list. If memory is refused, the function fails and leaves its other
 /// units. Returns true if something changed: not where no unit is left, or where the list has fewer than 64 free
 /// places.
 pub fn phase_mark(unit: &mut UnitState, opened: &mut OpenFunction, out: &mut JobList) -> bool

@@ -51,8 +51,8 @@ fn decided(inventory: &Inventory, fetched: Fetched, slot: &mut Slot) -> Taken
     }
 }
 
-/// Takes the next chain of a request queue as [`phase_fetch`](crate::phase_fetch) does, but for a request that arrives:
-/// that one is given to the caller, who puts it into the slot or serves it. Its chain is outstanding at the queue.
+/// Takes the next chain of a request queue as [`phase_fetch`](crate::phase_fetch) does, but gives a request that
+/// arrives to the caller, who puts it into the slot or serves it. Its chain is outstanding at the queue.
 #[inline(always)]
 pub fn take_request(
     queue: &mut Queue,

@@ -195,9 +195,9 @@ pub(crate) fn has_one_job<G: Gate + Drop, C: Ledger, W: Ledger>(
     post.out.len() == 0
 }
 
-/// Serves the job in the hand, and takes the next chain of the queue, which comes to its unit or is answered. Before a
-/// long answer, for which the memory is held, the next chain is taken, so that there is work while others hold it; else
-/// it is taken in the hold of the answer. Nothing is done where memory was refused.
+/// Serves the job in the hand, and takes the next chain of the queue, which comes to its unit or is answered. A long
+/// answer holds the memory, so the next chain is taken before it, as work for a time when others hold the memory. Else
+/// it is taken in the hold of the answer. Does nothing where memory was refused.
 pub(crate) fn serve_and_fetch<R: Wait, G: Gate + Drop, C: Ledger, W: Ledger>(
     rt: &R,
     shared: &Shared<G, C, W>,

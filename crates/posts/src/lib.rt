@@ -1,6 +1,6 @@
-//! Serves the device as one seat of a host: the job in its hand, the jobs that may run, the hand-off, the request
-//! queues that it owns, and the control queue and the event queue. Each phase runs in a hold of the lock of what it
-//! works on.
+//! Serves the device as one seat of a host: the job in its hand, the jobs that may run, and those of the hand-off. A
+//! worker's seat also serves the request queues that it owns, and the first worker's the control queue and the event
+//! queue. Each phase runs in a hold of the lock of what it works on.
 #![tactic(auto)]
 
 mod bell;

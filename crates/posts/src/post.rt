@@ -26,8 +26,8 @@ use unit_history::{Job, JobList};
 /// chain.
 const LONG: u64 = 16_384;
 
-/// All that a seat has: its place at the hand-off, the jobs that may run, the job in its hand, what it kept of those
-/// that it answered, and the part of the ledger that counts its receipts.
+/// All that a seat has: its place at the hand-off, the jobs that may run, and the job in its hand. It also has what it
+/// kept of those that it answered, and the part of the ledger that counts its receipts.
 #[derive(Drop)]
 pub struct Post<W: Ledger> {
     pub seat: Seat,

@@ -14,8 +14,8 @@ use std::sync::atomic::{AtomicBool, AtomicU64, Ordering};
 use std::sync::ledger::Ledger;
 use std::sync::{Mutex, Wait};
 
-/// The parts of a device that threads share: its units, its queues and the memory, each under a lock, and the event
-/// port under one that is taken round that of the event queue. The inventory never changes.
+/// The parts of a device that threads share: its units, its queues and the memory, each under a lock. The event port
+/// has one that is taken round that of the event queue. The inventory never changes.
 #[derive(Drop)]
 pub struct Parts<C: Ledger> {
     pub units: Vec<Mutex<CountedUnit<C>>>,

@@ -76,8 +76,8 @@ fn together(alloc: Global, kept: Vec<Kept>) -> Result<(Vec<Receipt>, Vec<Note>),
     Ok((receipts, notes))
 }
 
-/// Returns the report of a host that was opened with these specifications: of its units, of its queues, at most 65,536,
-/// and of its memory, which stood under locks, and of what each seat kept. Called where a host is closed, once no
+/// Returns the report of a host that was opened with these specifications. It is of its units, its queues, at most
+/// 65,536, and its memory, which stood under locks, and of what each seat kept. Called where a host is closed, once no
 /// thread shares the locks. It fails, in this order, with
 ///
 /// - `Unconfirmed`: the least ticket of a receipt whose Commit doesn't stand in its unit's history;

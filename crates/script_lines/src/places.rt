@@ -188,9 +188,9 @@ fn place_of(keyword: &str, values: &[&str], index: usize) -> Place {
     }
 }
 
-/// Returns which word behind the first of a line is the first that its place doesn't take, from 0 on; their number
-/// where the next one lacks, and `None` where each fits. It fails where memory runs out. A line whose first word is
-/// none of the language has no places.
+/// Returns the first word behind the first of a line that its place doesn't take, from 0 on. Returns their number if
+/// the next one lacks, and `None` if each fits. It fails where memory runs out. A line whose first word is none of the
+/// language has no places.
 pub fn first_wrong(
     alloc: Global,
     keyword: &str,

@@ -6,8 +6,8 @@ ghost use Rattle.unit_model.specs.Base.{base_of, kept_steps, folded_steps, folds
 ghost use Rattle.unit_model.specs.Contents.{Opening};
 ghost use Rattle.unit_model.specs.Lawful.{IsLawful};
 
-/// The folded steps followed by the kept ones are the history; the folded ones are a lawful history, so that its
-/// blocks, what it has pending and its tasks are those of the base.
+/// The folded steps followed by the kept ones are the history. The folded ones are a lawful history. So its blocks, its
+/// pending attentions and its tasks are those of the base.
 pub fn folded_and_kept_are_the_history()
     ensures whole { (h : List Step) → kept_steps h ++ folded_steps h ≡ h }
     ensures count { (h : List Step) → length (folded_steps h) ≡ base_of h }

@@ -37,8 +37,8 @@ pub fn either_may_be_first()
     ensures younger_goes_on { enabled (test_unit_ready 2 Simple) (leaves 1 ∷ leaves 0 ∷ simple_first) ≡ true }
 {}
 
-/// An abort of a task that is parked marks it, and hands it out; a task with another identifier isn't met, and the
-/// block that it would have written is zeros (SAM-5 §7.2).
+/// An abort of a task that is parked marks it, and hands it out. It doesn't meet a task with another identifier. The
+/// block that the aborted task would have written is zeros (SAM-5 §7.2).
 pub fn abort_of_a_parked_task()
     ensures marked { (bytes : List ℕ) → mark_of (nth 1) (Step.Abort (Id 7) ∷ parked_write bytes) ≡ Some Aborted }
     ensures handed_out { (bytes : List ℕ) →
