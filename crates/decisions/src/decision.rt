@@ -75,8 +75,8 @@ fn decide_by_command(
     }
 }
 
-/// Returns what is decided of a request, by the first bytes of its chain, 1,048,627 at most. That is the first cause
-/// that holds of those that answer it directly. If none holds, the request goes to its unit. A worker calls it once a
+/// Returns what is decided of a request, by the first bytes of its chain, 1,048,627 at most. The first cause that holds
+/// of those that answer it directly decides. If none holds, the request goes to its unit. A worker calls it once a
 /// chain, in the hold of the queue in which it was fetched. It takes no memory. It moves the bytes into the request if
 /// they hold data that the command takes, and else leaves them to the caller.
 pub fn decide(inventory: &Inventory, bytes: &mut Vec<u8>, lengths: &ChainLengths) -> Decision

@@ -56,7 +56,7 @@ fn first_misplaced(queues: &[Queue]) -> Option<Ticket>
     None
 }
 
-/// Returns the ticket that is named where a report isn't of the host with these units. That is the first of all, if its
+/// Returns the ticket that is named where a report isn't of the host with these units. It is the first of all, if its
 /// units are others; else that of the first queue out of its place.
 pub(crate) fn first_foreign(
     specs: &[UnitSpec],
