@@ -36,7 +36,7 @@ impl Kind {
         }
     }
 
-    /// Its data.
+    /// Returns its data.
     pub(crate) fn data(self) -> Data {
         let bytes = 512 * u32::from(self.blocks());
         match self {
@@ -105,7 +105,7 @@ pub(crate) fn response_at(work: &Work, lun: u8, number: u16) -> u64 {
     RESPONSES + before * u64::from(RESPONSE_BYTES)
 }
 
-/// Its bytes, before its data: SIMPLE, and on blocks of its own.
+/// Returns the bytes of a request before its data: SIMPLE, and on blocks of its own.
 pub(crate) fn request_of(kind: Kind, lun: u8, number: u16) -> [u8; 51] {
     let mut bytes = [0; 51];
     bytes[0] = 1;

@@ -107,8 +107,8 @@ fn is_begun(printed: &[u8]) -> bool {
     printed.len() < PRINTS.len() && PRINTS.as_bytes().starts_with(printed)
 }
 
-/// The first call of the reader of which it isn't so that the play ends there, and prints nothing, if it fails; 0 where
-/// there aren't more than ten.
+/// Returns the first call of the reader whose failure doesn't end the play there, with nothing printed. Returns 0 where
+/// there are ten calls or fewer.
 fn first_wrong_read(alloc: Global) -> Option<u64> {
     let (_, reads, _, _) = played(alloc, 0, 0);
     if reads <= 10 {

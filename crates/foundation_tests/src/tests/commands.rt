@@ -13,7 +13,7 @@ pub(super) struct Asks(
 );
 
 impl Row for Asks {
-    /// Bytes that mean nothing stand behind the command block.
+    /// Returns true if the command is as expected, with bytes that mean nothing behind the command block.
     fn holds(&self) -> bool {
         let Asks(bytes, command, out, into) = *self;
         let mut cdb = [0xff; CDB_BYTES];
