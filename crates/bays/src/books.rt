@@ -4,7 +4,7 @@ ghost use Rattle.std.specs.Prelude.{◌≡◌, ◌+◌};
 
 use std::sync::ledger::{Book, Ledger, Share};
 
-/// One part of a ledger, with the amount that was counted for whoever has it. It takes no bytes.
+/// One part of a ledger, with the amount that was counted for its owner. It takes no bytes.
 #[derive(Drop)]
 pub struct Part<L: Ledger> {
     pub share: Share<L>,

@@ -19,7 +19,7 @@ pub trait UnitBays {
     /// The unit at this place came back as this, and nothing else changed but what counts Commits.
     ghost keeps_unit: { Self → ℕ → PlainUnit → Self → Type 0 };
 
-    /// So many Commits were counted for whoever had the unit lent.
+    /// So many Commits were counted for the caller that had the unit lent.
     ghost counts: { Self → ℕ → Self → Type 0 };
 
     /// The number of units.

@@ -20,8 +20,9 @@ pub struct Transfer {
     pub into: u32,
 }
 
-/// Returns the data that a command needs room for: what it takes from the driver, and what it returns at most. A length
-/// that the CDB gives counts whole, so whoever has a request's buffers compares them with this before the command runs.
+/// Returns the bytes that a command needs room for: those that it takes from the driver, and the most that it returns.
+/// A length that the CDB gives counts whole. The decision on a request compares its buffers with this before the
+/// command runs.
 pub fn need(command: &Command) -> Transfer
     ensures { result ≡ need_of command.now }
 {

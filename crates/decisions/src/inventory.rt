@@ -36,8 +36,8 @@ impl UnitSpec {
     }
 }
 
-/// The addresses of a device's logical units, in rising order of target and LUN. It never changes, so
-/// whoever holds a queue alone may ask it which units there are.
+/// The addresses of a device's logical units, in rising order of target and LUN. It never changes, so a worker that
+/// holds one queue alone may ask it which units there are.
 #[derive(Drop)]
 pub struct Inventory {
     addresses: ArrayVec<Address, MOST_UNITS>,

@@ -69,8 +69,8 @@ pub fn a_trace_is_that_of_its_transitions()
         Leads old (transitions_of old trace w r.runs) }
 {}
 
-/// Memory is what it was at the opening, with the writes of the trace in their order: whoever knows the trace knows
-/// each byte, and nothing else writes.
+/// Memory is the opening memory with the writes of the trace in their order. So the trace tells each byte, and nothing
+/// else writes.
 pub fn memory_is_that_of_the_writes()
     ensures { (old : PlainWorld) (trace : List Occurrence) (w : PlainWorld) → Reached old trace w →
         w.memory ≡ memory_after old.memory trace }

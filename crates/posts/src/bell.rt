@@ -24,8 +24,8 @@ impl Bell {
         }
     }
 
-    /// Wakes all workers that sleep or are about to. Where none is, it costs one load. Called by whoever made something
-    /// to do.
+    /// Wakes all workers that sleep or are about to. It costs one load if none is. A thread that made something to do
+    /// calls.
     pub fn ring<R: Wait>(&self, rt: &R) {
         if self.sleepers.load(Ordering::SeqCst) == 0 {
             return;

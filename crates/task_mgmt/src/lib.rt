@@ -1,5 +1,6 @@
 //! Task management functions (SAM-5 §7): what a chain of the control queue demands, and one function from its
-//! beginning to its response. It holds no unit: whoever does marks and asks them, and says what came of it.
+//! beginning to its response. It holds no unit. Its caller marks and asks the units, and tells it
+//! what came of that.
 #![tactic(auto)]
 
 mod control;

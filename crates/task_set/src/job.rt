@@ -36,8 +36,8 @@ impl Model for Arrival {
 }
 
 impl Arrival {
-    /// Makes the request of a chain, for the unit at this index of the inventory. The chain has room for its answer,
-    /// which whoever decided that it goes to a unit has seen.
+    /// Makes the request of a chain, for the unit at this index of the inventory. The chain has room for its answer:
+    /// the decision that the request goes to a unit tested that.
     pub fn new(unit: usize, chain: Chain, request: UnitRequest) -> Arrival
         requires { HasRoom chain request.command }
         ensures { result ≡ record { unit = unit; chain = chain; entry = entry_of chain.ticket request } }
@@ -147,8 +147,8 @@ impl Arrival {
     }
 }
 
-/// A request for a unit with its chain, which whoever has the job will answer. The data that the command
-/// takes are the task's: a job only knows, in proofs, what they were.
+/// A request for a unit with its chain, which the owner of the job will answer. The task has the data that the command
+/// takes. A job only knows, in proofs, what they were.
 #[derive(Drop)]
 pub struct Job {
     unit: usize,

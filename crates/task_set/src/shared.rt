@@ -9,8 +9,8 @@ use std::alloc::Global;
 use std::marker::Model;
 use std::sync::Arc;
 
-/// A request that its task shares with whoever prepares the pages of its write. Nobody can change it. Clauses see the
-/// request.
+/// A request that its task shares with the worker that prepares the pages of its write. Nobody can change it. Clauses
+/// see the request.
 #[derive(Drop)]
 pub struct SharedRequest {
     request: Arc<UnitRequest>,

@@ -91,7 +91,7 @@ impl Task {
         }
     }
 
-    /// Shares its request with whoever prepares the pages of its write; `None` where memory was refused.
+    /// Shares its request with the worker that prepares the pages of its write; `None` where memory was refused.
     pub(crate) fn share(&mut self, alloc: Global) -> Option<SharedRequest>
         ensures same { self.new ≡ self.old }
         ensures shared { IfSome result (λ r. self.old.seen.entry ≡ entry_of self.old.seen.entry.ticket r) }
