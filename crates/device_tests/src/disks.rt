@@ -76,7 +76,7 @@ fn byte_of(alloc: Global, world: &World) -> Result<Option<u8>, NoMemory> {
 
 /// Hands a disk from a device, which wrote it and whose operator made it shorter, to one that has its old capacity, and
 /// then to one that has its new. `None` where a device didn't open that should; `NoMemory` where memory was refused.
-pub fn hand_on(alloc: Global) -> Result<Option<HandedOn>, NoMemory> {
+pub(crate) fn hand_on(alloc: Global) -> Result<Option<HandedOn>, NoMemory> {
     let Some(mut disks) = written(alloc)? else {
         return Ok(None);
     };

@@ -143,7 +143,7 @@ fn first_wrong_step(
 
 /// Plays a row on a device of its own. The number of its first step that doesn't go as it says, from 0, which is also
 /// where its configuration is refused, or taken, and should not be. `NoMemory` where memory is refused on the way.
-pub fn first_wrong(alloc: Global, row: &Row) -> Result<Option<usize>, NoMemory> {
+pub(crate) fn first_wrong(alloc: Global, row: &Row) -> Result<Option<usize>, NoMemory> {
     match start(alloc, row.numbers, row.units) {
         Ok(mut world) => {
             if row.is_refused {

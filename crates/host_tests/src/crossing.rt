@@ -58,7 +58,7 @@ struct Seen {
 }
 
 impl Seen {
-    /// Neither has come anywhere.
+    /// Makes the points of two that have come nowhere.
     fn new() -> Seen {
         Seen {
             entered: AtomicU64::new(0),
@@ -81,8 +81,8 @@ impl Seen {
     }
 }
 
-/// A gate that holds each WRITE up once it entered, until the other has; the late one before its pages are made, until
-/// those of the early one are; and the early one then, until the late one is answered.
+/// A gate that holds each WRITE up once it entered, until the other has. It holds the late one before its pages are
+/// made, until those of the early one are. It then holds the early one until the late one is answered.
 #[derive(Drop)]
 struct Crossing {
     seen: Arc<Seen>,
@@ -133,7 +133,7 @@ pub struct Crossed {
     pub blocks: [Option<u8>; 3],
 }
 
-/// The byte of which a block is.
+/// Returns the byte of which a block is; `None` where its bytes differ.
 fn byte_of(alloc: Global, unit: &UnitState, block: u64) -> Option<u8> {
     if unit.capacity() <= block {
         return None;
@@ -147,10 +147,10 @@ fn byte_of(alloc: Global, unit: &UnitState, block: u64) -> Option<u8> {
     None
 }
 
-/// Serves two WRITEs of one block each, both into the first page of a disk, by so many workers, 2 to 8. The pages of the
-/// second are made and put in place while those of the first wait. `None` where memory was refused, or the closed
+/// Serves two WRITEs of one block each, both into the first page of a disk, by so many workers, 2 to 8. The pages of
+/// the second are made and put in place while those of the first wait. `None` where memory was refused, or the closed
 /// host doesn't add up.
-pub fn cross<R: Threads + Wait + Copy + Send + 'static>(
+pub(crate) fn cross<R: Threads + Wait + Copy + Send + 'static>(
     rt: R,
     alloc: Global,
     workers: u16,
@@ -158,7 +158,7 @@ pub fn cross<R: Threads + Wait + Copy + Send + 'static>(
     cross_with::<Brand, Brand, R>(rt, alloc, workers, Blank::new(64), Blank::new(9))
 }
 
-/// The same, with these ledgers.
+/// Does what [`cross`] does, with these ledgers.
 fn cross_with<C, D, R>(
     rt: R,
     alloc: Global,

@@ -35,8 +35,8 @@ const WRITE: u16 = 2;
 /// The number of looks that the guest takes for an answer.
 const LOOKS: u32 = 100_000_000;
 
-/// A chain: its queue, which of that queue's chains it is, from 0 to 3, what the device reads of it, with a block of
-/// equal bytes behind the 51 of a request, how many bytes it reads, and how many it may write.
+/// A chain: its queue, its number among that queue's chains, from 0 to 3, and the bytes that the device reads of it,
+/// with a block of equal bytes behind the 51 of a request. It has so many readable bytes, and so many writable ones.
 #[derive(Clone, Copy)]
 pub(crate) struct Asked {
     pub(crate) queue: u16,
@@ -47,7 +47,7 @@ pub(crate) struct Asked {
     pub(crate) writable: u32,
 }
 
-/// The layouts of the queues.
+/// Returns the layouts of the queues.
 pub(crate) fn layouts(alloc: Global) -> Option<Vec<Layout>> {
     let mut layouts = Vec::new(alloc);
     for number in 0..QUEUES {
@@ -63,7 +63,7 @@ pub(crate) fn layouts(alloc: Global) -> Option<Vec<Layout>> {
     Some(layouts)
 }
 
-/// The guest's write. It has no contract, so that what `poke` promises is read once.
+/// Writes as the guest. It has no contract, so that what `poke` promises is read once.
 fn poke<R: Wait, G: Gate + Drop, C: Ledger, D: Ledger>(
     rt: &R,
     host: &Host<G, C, D>,
@@ -80,7 +80,7 @@ fn place_of(queue: u16, number: u8) -> u64
     BUFFERS + 8192 * u64::from(queue) + 2048 * u64::from(number)
 }
 
-/// A descriptor whose chain goes on, where it does, with the odd one of its pair.
+/// Returns the bytes of a descriptor. Its chain goes on, where it does, with the odd one of its pair.
 fn descriptor(addr: u64, len: u32, flags: u16, slot: u8) -> [u8; 16] {
     let mut bytes = [0; 16];
     bytes[..8].copy_from_slice(&addr.to_le_bytes());
@@ -90,8 +90,8 @@ fn descriptor(addr: u64, len: u32, flags: u16, slot: u8) -> [u8; 16] {
     bytes
 }
 
-/// The guest makes a chain available. It takes the pair of descriptors of its number, and of these the second alone
-/// where the device reads nothing of it.
+/// Makes a chain available, as the guest. The chain takes the pair of descriptors of its number, or the second alone if
+/// the device reads nothing of it.
 pub(crate) fn ask<R: Wait, G: Gate + Drop, C: Ledger, D: Ledger>(
     rt: &R,
     host: &Host<G, C, D>,
@@ -112,7 +112,7 @@ pub(crate) fn ask<R: Wait, G: Gate + Drop, C: Ledger, D: Ledger>(
     host.kick(rt);
 }
 
-/// So many bytes from an address on; `None` where they aren't all there.
+/// Returns so many bytes from an address on; `None` where they aren't all there.
 fn bytes<R: Wait, G: Gate + Drop, C: Ledger, D: Ledger, const N: usize>(
     rt: &R,
     host: &Host<G, C, D>,

@@ -25,7 +25,7 @@ pub(crate) struct Seen {
 }
 
 impl Seen {
-    /// None yet.
+    /// Makes the counts of a gate to which none came yet.
     pub(crate) fn new() -> Seen {
         Seen {
             entered: AtomicU64::new(0),
@@ -61,8 +61,8 @@ impl Seen {
     }
 }
 
-/// A gate that holds the first request of each queue up at these points, until that of another queue came there too, or,
-/// where its unit's lock is held, for so many turns.
+/// A gate that holds the first request of each queue up at these points, until that of another queue came there too. It
+/// waits for so many turns at most where its unit's lock is held.
 #[derive(Drop)]
 pub(crate) struct Meeting {
     pub(crate) seen: Arc<Seen>,

@@ -31,7 +31,7 @@ pub struct Told {
 
 /// Has the operator reset a unit before the guest gives an event buffer. Returns what the guest is told, and what the
 /// host left.
-pub fn reset<R: Threads + Wait + Copy + Send + 'static>(
+pub(crate) fn reset<R: Threads + Wait + Copy + Send + 'static>(
     rt: R,
     alloc: Global,
     workers: u16,
@@ -39,7 +39,7 @@ pub fn reset<R: Threads + Wait + Copy + Send + 'static>(
     reset_with::<Brand, Brand, R>(rt, alloc, workers, Blank::new(64), Blank::new(9))
 }
 
-/// The same, with these ledgers.
+/// Does what [`reset`] does, with these ledgers.
 fn reset_with<C, D, R>(
     rt: R,
     alloc: Global,

@@ -43,7 +43,7 @@ const ABSENT: Asked = Asked {
     ..FIRST
 };
 
-/// The unit of a LUN.
+/// Returns the unit of a LUN.
 fn unit(lun: u16) -> UnitSpec {
     UnitSpec {
         target: 0,
@@ -53,7 +53,7 @@ fn unit(lun: u16) -> UnitSpec {
     }
 }
 
-/// A small device, whose hand-off takes so many jobs; `None` where memory was refused.
+/// Returns the configuration of a small device, whose hand-off takes so many jobs; `None` where memory was refused.
 fn config(alloc: Global, handoff: u16) -> Option<Config> {
     let mut units = Vec::new(alloc);
     units.push(unit(0)).ok()?;
@@ -80,7 +80,7 @@ pub(crate) fn summed(closed: Result<Report, CloseFault>) -> Option<Left> {
 }
 
 /// Returns true if a host of so many workers is refused as a bad configuration; `None` where memory was refused.
-pub fn is_refused<R: Threads + Wait + Copy + Send + 'static>(
+pub(crate) fn is_refused<R: Threads + Wait + Copy + Send + 'static>(
     rt: R,
     alloc: Global,
     workers: u16,
@@ -88,7 +88,7 @@ pub fn is_refused<R: Threads + Wait + Copy + Send + 'static>(
     is_refused_with::<Brand, Brand, R>(rt, alloc, workers, Blank::new(64), Blank::new(9))
 }
 
-/// The same, with these ledgers.
+/// Does what [`is_refused`] does, with these ledgers.
 fn is_refused_with<C, D, R>(
     rt: R,
     alloc: Global,
@@ -117,7 +117,7 @@ where
     }
 }
 
-/// A host of so many workers, with a hand-off of so many jobs, a gate and ledgers.
+/// Starts a host of so many workers, with a hand-off of so many jobs, a gate and ledgers.
 pub(crate) fn start<R, G, C, D>(
     rt: R,
     alloc: Global,
@@ -140,7 +140,7 @@ where
 }
 
 /// Returns what a host of so many workers leaves when nothing was asked of it.
-pub fn serve_nothing<R: Threads + Wait + Copy + Send + 'static>(
+pub(crate) fn serve_nothing<R: Threads + Wait + Copy + Send + 'static>(
     rt: R,
     alloc: Global,
     workers: u16,
@@ -148,7 +148,7 @@ pub fn serve_nothing<R: Threads + Wait + Copy + Send + 'static>(
     serve_nothing_with::<Brand, Brand, R>(rt, alloc, workers, Blank::new(64), Blank::new(9))
 }
 
-/// The same, with these ledgers.
+/// Does what [`serve_nothing`] does, with these ledgers.
 fn serve_nothing_with<C, D, R>(
     rt: R,
     alloc: Global,
@@ -168,7 +168,7 @@ where
 }
 
 /// Returns true if the guest saw an answer to each request, and what a host of so many workers left.
-pub fn serve<R: Threads + Wait + Copy + Send + 'static>(
+pub(crate) fn serve<R: Threads + Wait + Copy + Send + 'static>(
     rt: R,
     alloc: Global,
     workers: u16,
@@ -176,7 +176,7 @@ pub fn serve<R: Threads + Wait + Copy + Send + 'static>(
     serve_with::<Brand, Brand, R>(rt, alloc, workers, Blank::new(64), Blank::new(9))
 }
 
-/// The same, with these ledgers.
+/// Does what [`serve`] does, with these ledgers.
 fn serve_with<C, D, R>(
     rt: R,
     alloc: Global,

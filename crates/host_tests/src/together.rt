@@ -128,7 +128,7 @@ fn told(alloc: Global, report: &Report, missed: Option<u64>, answered: bool) -> 
     })
 }
 
-/// The guest asks for all, and looks whether so many of two queues are answered.
+/// Asks for all, as the guest, and returns true if so many of two queues are answered.
 fn ask_all<R: Wait, C: Ledger, D: Ledger>(
     rt: &R,
     host: &Host<Meeting, C, D>,
@@ -166,7 +166,7 @@ fn serve_all<R: Threads + Wait + Copy + Send + 'static>(
     )
 }
 
-/// The same, with these ledgers.
+/// Does what [`serve_all`] does, with these ledgers.
 fn serve_all_with<C, D, R>(
     rt: R,
     alloc: Global,
@@ -199,9 +199,9 @@ where
     }
 }
 
-/// Serves five requests for two units by so many workers, 2 to 8. Each of the first two is held up once it entered, once
-/// it was taken, and once it ran, until the other has come there.
-pub fn serve_together<R: Threads + Wait + Copy + Send + 'static>(
+/// Serves five requests for two units by so many workers, 2 to 8. Each of the first two is held up once it entered,
+/// once it was taken, and once it ran, until the other has come there.
+pub(crate) fn serve_together<R: Threads + Wait + Copy + Send + 'static>(
     rt: R,
     alloc: Global,
     workers: u16,
@@ -212,7 +212,7 @@ pub fn serve_together<R: Threads + Wait + Copy + Send + 'static>(
 
 /// Serves a request for each of two units by so many workers, 2 to 8. Each is held up once it entered, and with its
 /// unit's lock held, until the other has come there.
-pub fn meet<R: Threads + Wait + Copy + Send + 'static>(
+pub(crate) fn meet<R: Threads + Wait + Copy + Send + 'static>(
     rt: R,
     alloc: Global,
     workers: u16,
@@ -223,7 +223,7 @@ pub fn meet<R: Threads + Wait + Copy + Send + 'static>(
 
 /// Serves two requests for one unit by so many workers, 2 to 8. Where one has the unit's lock the other can't come, so
 /// that it goes on alone.
-pub fn contend<R: Threads + Wait + Copy + Send + 'static>(
+pub(crate) fn contend<R: Threads + Wait + Copy + Send + 'static>(
     rt: R,
     alloc: Global,
     workers: u16,

@@ -117,26 +117,26 @@ fn put_queue(alloc: Global, parts: &mut Parts) -> Option<()> {
     Some(())
 }
 
-/// There is another receipt of the same commit.
+/// Puts another receipt of the same commit beside it.
 fn put_receipt_again(alloc: Global, closed: &mut Closed) -> Option<()> {
     let again = with_first(alloc)?.receipts.pop()?;
     closed.receipts.push(again).ok()
 }
 
-/// The second was fetched alone.
+/// Leaves the second request fetched and no more.
 fn leave_second(alloc: Global, closed: &mut Closed) -> Option<()> {
     *closed = with_first(alloc)?;
     closed.parts.fetch(&REFUSED)?;
     Some(())
 }
 
-/// The first has a note in place of its receipt.
+/// Puts a note in place of the first one's receipt.
 fn put_another_note(alloc: Global, closed: &mut Closed) -> Option<()> {
     closed.receipts.clear();
     closed.notes.push(another_note(alloc)?).ok()
 }
 
-/// In place of the second unit stands one where the first ran, too.
+/// Puts a unit where the first ran, too, in place of the second.
 fn run_elsewhere(alloc: Global, closed: &mut Closed) -> Option<()> {
     let mut other = Parts::new(alloc)?;
     other.serve(alloc, &RUN_ELSEWHERE)?;
@@ -178,7 +178,7 @@ fn change(alloc: Global, closed: &mut Closed, amiss: Amiss) -> Option<()> {
     }
 }
 
-/// With what is amiss.
+/// Closes a device that served both, with what is amiss.
 fn closed_with(alloc: Global, amiss: Amiss) -> Option<Closed> {
     let mut closed = with_both(alloc)?;
     change(alloc, &mut closed, amiss)?;
@@ -186,7 +186,7 @@ fn closed_with(alloc: Global, amiss: Amiss) -> Option<Closed> {
 }
 
 /// Returns what is said of a report with this amiss; `None` where memory was refused.
-pub fn fault_of(alloc: Global, amiss: Amiss) -> Option<Option<CloseFault>> {
+pub(crate) fn fault_of(alloc: Global, amiss: Amiss) -> Option<Option<CloseFault>> {
     let closed = closed_with(alloc, amiss)?;
     let report = Report {
         units: closed.parts.units,

@@ -26,7 +26,7 @@ fn scatters_into(memory: &mut GuestMem, chain: &Chain, at: u32, bytes: &[u8]) ->
 
 impl<R: Ring> Bench<R> {
     /// Makes a queue of which nothing was fetched, with a memory that it fits.
-    pub fn of(alloc: Global, ring: R, memory: GuestMem) -> Bench<R> {
+    pub(crate) fn of(alloc: Global, ring: R, memory: GuestMem) -> Bench<R> {
         Bench {
             ring,
             memory,
@@ -36,7 +36,7 @@ impl<R: Ring> Bench<R> {
     }
 
     /// Makes moves. The number of the first that doesn't go as it says, from 0.
-    pub fn first_wrong(&mut self, moves: &[Move]) -> Option<usize> {
+    pub(crate) fn first_wrong(&mut self, moves: &[Move]) -> Option<usize> {
         for number in 0..moves.len() {
             if !self.makes(moves[number]) {
                 return Some(number);

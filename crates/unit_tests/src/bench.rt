@@ -380,7 +380,7 @@ fn has_bytes(alloc: Global, unit: &UnitState, number: u64, byte: u8) -> Result<b
 /// Plays a row on units and queues of its own. The number of its first act that doesn't go as it says, from 0. Where
 /// memory is refused on the way, its acts end there: what was refused changed no more than it may, and the units serve
 /// on. `NoMemory` where the units can't be had.
-pub fn first_wrong(alloc: Global, row: &Row) -> Result<Option<usize>, NoMemory> {
+pub(crate) fn first_wrong(alloc: Global, row: &Row) -> Result<Option<usize>, NoMemory> {
     match Bench::new(alloc, row.keeps_replies) {
         Some(mut bench) => Ok(bench.first_wrong(row.acts)),
         None => Err(NoMemory),

@@ -150,7 +150,7 @@ fn place_told(
     }
 }
 
-/// Aborts.
+/// Aborts tasks of a unit; `None` where the list has too few places.
 pub(crate) fn abort(
     unit: &mut UnitState,
     rule: Rule,
@@ -164,7 +164,7 @@ pub(crate) fn abort(
     place_told(unit, before, answer, StepKind::Abort(rule))
 }
 
-/// Resets.
+/// Resets a unit; `None` where the list has too few places.
 pub(crate) fn reset(unit: &mut UnitState, out: &mut JobList) -> Result<Option<Place>, NoMemory> {
     if out.limit().saturating_sub(out.len()) < PLACES {
         return Ok(None);

@@ -151,7 +151,7 @@ impl Hand {
         calls::leave(unit, answered, &mut self.out)
     }
 
-    /// Aborts.
+    /// Aborts tasks of a unit, as `calls::abort` does.
     pub(crate) fn abort(
         &mut self,
         unit: &mut UnitState,
@@ -160,7 +160,7 @@ impl Hand {
         calls::abort(unit, rule, &mut self.out)
     }
 
-    /// Resets.
+    /// Resets a unit, as `calls::reset` does.
     pub(crate) fn reset(&mut self, unit: &mut UnitState) -> Result<Option<Place>, NoMemory> {
         calls::reset(unit, &mut self.out)
     }

@@ -179,7 +179,7 @@ pub struct Ports {
 
 impl Ports {
     /// Queues of which nothing was fetched; `None` where memory was refused.
-    pub fn new(alloc: Global) -> Option<Ports> {
+    pub(crate) fn new(alloc: Global) -> Option<Ports> {
         let port = Port::new(alloc, PAGES)?;
         let other = Port::new(alloc, OTHER_PAGES)?;
         let inventory = inventory_of(&[CALM, SECOND])?;
@@ -211,7 +211,7 @@ impl Ports {
 
     /// Returns the job of a TEST UNIT READY with this identifier, over the first queue; `None` where memory was
     /// refused.
-    pub fn job(&mut self, id: u64) -> Option<Job> {
+    pub(crate) fn job(&mut self, id: u64) -> Option<Job> {
         let arrival = self.arrive(&Sent { id, ..SIMPLE }).ok()??;
         Some(arrival.into_job())
     }

@@ -96,7 +96,7 @@ fn gather_nine(alloc: Global) -> Result<(), Fail> {
 /// Takes what may go to another thread.
 fn goes_to_a_thread<T: Send + 'static>(_value: &T) {}
 
-/// Takes a seat, which may go: so whoever makes seats gives each thread its own.
+/// Takes a seat, which may go to a thread. So each thread can have its own.
 fn may_go(seat: &Seat) {
     goes_to_a_thread(seat)
 }
