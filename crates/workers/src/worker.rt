@@ -148,6 +148,15 @@ fn nap<R: Wait, G: Gate + Drop, C: Ledger, W: Ledger>(
     }
 }
 
+/// Returns how many rounds under load a worker has gone since it last looked at all queues, one more among them. An
+/// idle round begins them anew.
+fn rounds_behind(rounds: u8, is_idle: bool) -> u8 {
+    if is_idle {
+        return 0;
+    }
+    rounds.wrapping_add(1) % LOOKS_EVERY
+}
+
 /// Works until the host closes, and a round then looked at all queues, found nothing to do and left the worker nothing.
 pub(crate) fn work<R: Wait, G: Gate + Drop, C: Ledger, W: Ledger>(
     rt: &R,
@@ -180,11 +189,7 @@ pub(crate) fn work<R: Wait, G: Gate + Drop, C: Ledger, W: Ledger>(
             shared.wait_for_job(is_idle);
             post.waits = is_idle;
         }
-        rounds = if is_idle {
-            0
-        } else {
-            rounds.wrapping_add(1) % LOOKS_EVERY
-        };
+        rounds = rounds_behind(rounds, is_idle);
         if is_idle && others.is_idle() && looks {
             if is_closing && function.is_none() && post.is_idle() {
                 if announced.is_some() {
