@@ -7,6 +7,7 @@ mod commits;
 mod counted;
 mod execution;
 mod folding;
+mod kept_replies;
 mod kind;
 mod last_tickets;
 mod log;

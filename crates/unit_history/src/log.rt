@@ -14,6 +14,7 @@ ghost use Rattle.unit_history.specs.Recorded.{step_recorded, spare_of_deque, kep
 
 use crate::counted::CountedSteps;
 use crate::folding::{Folding, committed_of_one, rule_of_one};
+use crate::kept_replies::{agrees_there, push_where, reserve_where};
 use crate::kind::StepKind;
 use crate::recorded::RecordedStep;
 use crate::ring::{KindRing, index_behind, index_of};
@@ -42,8 +43,8 @@ const FOLDED_AHEAD: u64 = 64;
 /// The most steps of a history before a step is taken that brings more.
 const MOST_STEPS: u64 = 0x8000_0000_0000_0000;
 
-/// The steps of a history, seen with the newest first. The steps themselves only proofs see; of each its kind
-/// is kept, and of a Commit its reply, where replies are kept and it isn't long, as long as it is among the latest.
+/// The steps of a history, seen with the newest first. Only proofs see the steps themselves. The code keeps the kind of
+/// each. It keeps the reply of a Commit among the latest, where replies are kept and it isn't long.
 #[derive(Drop)]
 pub struct StepLog {
     keeps_replies: bool,
@@ -141,83 +142,11 @@ fn advance(folded: &mut Folding, kinds: &KindRing, to: u64) -> Result<(), AllocE
     cover(folded, kinds, to)
 }
 
-/// Returns true if replies are one.
-fn is_same(kept: &Reply, given: &Reply) -> bool
-    ensures { IsTrue result ↔ (plain_of given.now ≡ plain_of kept.now) }
-{
-    kept == given
-}
-
-/// Returns true if replies agree: where both are there they are one.
-fn are_alike(kept: &Option<Reply>, given: &Option<Reply>) -> bool
-    ensures { IsTrue result ↔ AreAlike (option_map plain_of kept.now) (option_map plain_of given.now) }
-{
-    match kept {
-        None => true,
-        Some(kept) => match given {
-            None => true,
-            Some(given) => is_same(kept, given),
-        },
-    }
-}
-
 /// Returns true if the step is the Commit of a ticket.
 fn is_commit_of(kind: StepKind, ticket: Ticket) -> bool
     ensures { IsTrue result ↔ (kind ≡ commit_kind ticket) }
 {
     kind == StepKind::Commit(ticket)
-}
-
-/// Returns true if the reply that is kept of the step at a place, if one is, agrees, where so many steps came.
-fn agrees_there(
-    replies: &VecDeque<Option<Reply>>,
-    steps: u64,
-    place: u64,
-    given: &Option<Reply>,
-) -> bool
-    requires { length replies.now.items ≤ steps }
-    ensures { IsTrue result
-        ↔ AreAlike (reply_of_place (kept_there steps place replies.now.items)) (option_map plain_of given.now) }
-{
-    let first = steps - replies.len() as u64;
-    if place < first {
-        return true;
-    }
-    match replies.get((place - first) as usize) {
-        None => true,
-        Some(kept) => are_alike(kept, given),
-    }
-}
-
-/// Makes room for more replies, where they are kept.
-#[inline(always)]
-fn reserve_where(
-    keeps: bool,
-    replies: &mut VecDeque<Option<Reply>>,
-    room: usize,
-) -> Result<(), AllocError>
-    ensures items { replies.new.items ≡ replies.old.items }
-    ensures kept { spare_of_deque replies.old ≤ spare_of_deque replies.new }
-    ensures room { OnOk result (IsTrue keeps → room ≤ spare_of_deque replies.new) }
-{
-    if keeps { replies.reserve(room) } else { Ok(()) }
-}
-
-/// Adds a reply, where replies are kept. The oldest goes where they are as many as are kept.
-#[inline(always)]
-fn push_where(keeps: bool, replies: &mut VecDeque<Option<Reply>>, reply: Option<Reply>)
-    requires room { IsTrue keeps → 0 < spare_of_deque replies.old }
-    requires few { length replies.old.items ≤ latest_kept }
-    ensures items { replies.new.items
-        ≡ (if keeps then latest (replies.old.items ++ reply ∷ []) else replies.old.items) }
-    ensures room { spare_of_deque replies.old ≤ spare_of_deque replies.new + 1 }
-{
-    if keeps {
-        if replies.len() == LATEST_KEPT {
-            let _ = replies.pop_front();
-        }
-        replies.push_back_reserved(reply);
-    }
 }
 
 impl StepLog {

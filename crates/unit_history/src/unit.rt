@@ -291,7 +291,7 @@ impl UnitState {
     /// Has the task of a completed chain leave, and hands out what it alone blocked. It takes no memory. The list has
     /// 64 places free, which the caller sees to. `Unknown`, with nothing changed, where no task of the ticket is alive,
     /// or it neither ran, nor was answered BUSY, nor was marked.
-    // Apart, so that the registers of whoever serves the request aren't spilled for it.
+    // Apart, so that the registers of its caller aren't spilled for it.
     #[inline(never)]
     pub fn leave(&mut self, answered: Answered, out: &mut JobList) -> Result<(), Unknown>
         requires { length out.old.jobs + 64 ≤ out.old.limit }

@@ -152,9 +152,9 @@ impl UnitState {
     }
 
     /// Returns which blocks may have changed, and starts anew. A host calls it to write a disk through to its file, and
-    /// keeps the place of the history at the call, [`UnitState::steps`]. Where [`Changes::since`] of the next call is
-    /// at most that place, only the ranges of that call have to be written, and only below the capacity; else each
-    /// block of the disk. It takes no memory.
+    /// keeps the place of the history at the call, [`UnitState::steps`]. If [`Changes::since`] of the next call is at
+    /// most that place, only the ranges of that call have to be written, and only below the capacity. Else each block
+    /// of the disk has to be. It takes no memory.
     pub fn take_changes(&mut self) -> Changes
         ensures unit { self.new ≡ self.old }
         ensures past { result.since ≤ length self.old.steps }
