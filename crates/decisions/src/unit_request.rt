@@ -105,4 +105,14 @@ impl UnitRequest {
         let (_, data) = self.bytes.as_slice().split_at(REQUEST_BYTES);
         data
     }
+
+    /// Returns the room in which its data stand, for another request; `None` where its command takes no data.
+    #[inline(always)]
+    pub fn into_room(self) -> Option<Vec<u8>> {
+        let UnitRequest { bytes, .. } = self;
+        if bytes.is_empty() {
+            return None;
+        }
+        Some(bytes)
+    }
 }

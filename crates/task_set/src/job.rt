@@ -108,12 +108,19 @@ impl Arrival {
         }
     }
 
-    /// Returns its chain, to be completed. Its request is let go.
+    /// Returns its chain, to be completed. The room of its data stays with the chain, for a later one of its queue.
     #[inline(always)]
     pub fn into_chain(self) -> Chain
         ensures { result ≡ self.chain }
     {
-        let Arrival { chain, .. } = self;
+        let Arrival {
+            mut chain,
+            request,
+            ..
+        } = self;
+        if let Some(room) = request.into_room() {
+            chain.keep_room(room);
+        }
         chain
     }
 
