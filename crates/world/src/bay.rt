@@ -47,6 +47,7 @@ impl Bay {
     }
 
     /// Returns true if a chain is ready to be answered.
+    #[inline(always)]
     pub(crate) fn is_direct(&self) -> bool
         ensures { result ≡ is_direct self.now.slot }
     {

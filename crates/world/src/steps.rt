@@ -106,6 +106,8 @@ impl Device {
     }
 
     /// Brings the request that arrived on a queue to its unit.
+    // As `direct`.
+    #[inline(always)]
     pub(crate) fn enter(&mut self, number: u16) -> bool
         requires sound { IsSound self.old }
         ensures { Turns self.old (AnEvent.Enter number) result self.new }
@@ -129,12 +131,14 @@ impl Device {
     }
 
     /// Answers the chain that is ready on a queue.
+    // Within the loop over all queues the test of the slot costs no call.
+    #[inline(always)]
     pub(crate) fn direct(&mut self, number: u16) -> bool
         requires sound { IsSound self.old }
         ensures { Turns self.old (AnEvent.Direct number) result self.new }
     {
         let at = number as usize;
-        if at >= self.bays.len() {
+        if at >= self.bays.len() || !self.bays[at].is_direct() {
             return false;
         }
         let bay = &mut self.bays[at];
