@@ -132,6 +132,7 @@ fn without_data(alloc: Global, ended: Result<(), Failure>) -> Result<Vec<u8>, Fa
 }
 
 /// Returns the reply to a command that gave this data, or was refused.
+#[inline(always)]
 fn replied(
     alloc: Global,
     command: &Command,

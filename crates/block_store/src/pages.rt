@@ -29,6 +29,7 @@ impl Pages {
     }
 
     /// Returns the bytes of `count` blocks of one page.
+    #[inline(always)]
     pub(crate) fn part(&self, first: u64, count: usize) -> &[u8]
         requires { first % 8 + count ≤ 8 }
         ensures { result.now ≡ run (blocks_of self.now) first count }

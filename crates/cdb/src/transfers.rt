@@ -23,6 +23,7 @@ pub struct Transfer {
 /// Returns the bytes that a command needs room for: those that it takes from the driver, and the most that it returns.
 /// A length that the CDB gives counts whole. The decision on a request compares its buffers with this before the
 /// command runs.
+#[inline(always)]
 pub fn need(command: &Command) -> Transfer
     ensures { result ≡ need_of command.now }
 {

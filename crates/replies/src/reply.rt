@@ -51,6 +51,7 @@ impl Reply {
     }
 
     /// Makes GOOD with this data to the driver.
+    #[inline(always)]
     pub fn success(command: &Command, payload: Vec<u8>) -> Reply
         requires { (need_of command.now).out + vec_len payload < 2 ^ 32 }
         ensures { plain_of result ≡ success command.now payload.items }

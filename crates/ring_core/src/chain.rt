@@ -187,6 +187,7 @@ impl Chain {
 
     /// Keeps these bytes' room for a later chain of its queue, where it isn't much. A phase that has read a chain's
     /// first bytes, and needs them no more, gives them back so.
+    #[inline(always)]
     pub fn keep_room(&mut self, bytes: Vec<u8>)
         ensures { self.new ≡ self.old }
     {
