@@ -4,7 +4,7 @@ ghost use Rattle.std.specs.Prelude.{◌≡◌, ◌+◌, ◌≤◌, ◌<◌, ◌-
 ghost use Rattle.ring_core.specs.Parts.{writable_total};
 ghost use Rattle.ring_core.specs.Writes.{all_written, scatter_writes};
 ghost use Rattle.unit_model.specs.Endings.{answer_of, code_of};
-ghost use Rattle.unit_history.specs.Endings.{ending_of, ending_of_reply, ending_of_run, FitsNeed};
+ghost use Rattle.unit_history.specs.Endings.{ending_of, ending_of_reply, ending_of_run, plain_run, FitsNeed};
 
 use block_store::NoMemory;
 use decisions::{ChainLengths, DirectAnswer};
@@ -30,9 +30,9 @@ pub(crate) fn write_run(
     requires room { RESPONSE_BYTES ≤ lengths.now.writable }
     requires less { lengths.now.writable < 2 ^ 32 }
     requires payload { IfOk ran.now (λ r. length r.payload.items ≤ lengths.now.writable - RESPONSE_BYTES) }
-    ensures written { result ≡ length (answer_of lengths.now (ending_of_run ran.now)) }
+    ensures written { result ≡ length (answer_of lengths.now (ending_of_run (plain_run ran.now))) }
     ensures memory { memory.new ≡ all_written memory.old
-        (scatter_writes chain.now.parts 0 (answer_of lengths.now (ending_of_run ran.now))) }
+        (scatter_writes chain.now.parts 0 (answer_of lengths.now (ending_of_run (plain_run ran.now)))) }
     ensures size { length memory.new ≡ length memory.old }
 {
     match ran {

@@ -19,7 +19,7 @@ use crate::response::{write_outcome, write_run};
 use crate::slot::Slot;
 use block_store::NoMemory;
 use guest_mem::GuestMem;
-use queues::Queue;
+use queues::{Queue, write_read};
 use replies::Reply;
 use ring_core::Answered;
 use unit_history::{Answering, Arrival, Entered, Job, JobList, Outcome, UnitState, Unknown};
@@ -68,6 +68,11 @@ impl<'a> Answering for Answer<'a> {
     #[inline(always)]
     fn answer(&mut self, arrival: &Arrival, ran: &Result<Reply, NoMemory>) {
         self.len = write_run(self.memory, arrival.chain(), &arrival.lengths(), ran);
+    }
+
+    #[inline(always)]
+    fn answer_read(&mut self, arrival: &Arrival, data: &[u8]) {
+        self.len = write_read(self.memory, arrival.chain(), &arrival.lengths(), data);
     }
 }
 

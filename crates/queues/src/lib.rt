@@ -7,4 +7,4 @@ mod writing;
 
 pub use any_ring::AnyRing;
 pub use queue::{Fetch, Queue, is_placed, placement};
-pub use writing::{write_direct, write_reply};
+pub use writing::{write_direct, write_read, write_reply};

@@ -4,13 +4,13 @@ ghost use Rattle.std.specs.Prelude.{◌≡◌, ◌+◌, ◌≤◌, ◌<◌, ◌-
 ghost use Rattle.guest_mem.specs.Memory.{with_bytes};
 ghost use Rattle.ring_core.specs.Parts.{writable_total};
 ghost use Rattle.ring_core.specs.Writes.{all_written, scatter_writes};
-ghost use Rattle.replies.specs.PlainReply.{plain_of};
+ghost use Rattle.replies.specs.PlainReply.{good_data, plain_of};
 ghost use Rattle.decisions.specs.Answers.{answer_of_reply};
 ghost use Rattle.queues.specs.FirstPart.{first_open};
 
 use decisions::{ChainLengths, DirectAnswer, put_response_ok};
 use guest_mem::GuestMem;
-use replies::Reply;
+use replies::{GOOD, Reply};
 use ring_core::{Chain, Part, scatter};
 use scsi_codec::RESPONSE_BYTES;
 
@@ -61,7 +61,10 @@ fn write_whole(
 {
     let _size = memory.size();
     memory.put(part.addr, head.as_slice());
-    memory.put(part.addr + RESPONSE_BYTES as u64, payload);
+    // Most commands return no data.
+    if !payload.is_empty() {
+        memory.put(part.addr + RESPONSE_BYTES as u64, payload);
+    }
     (RESPONSE_BYTES + payload.len()) as u32
 }
 
@@ -128,6 +131,26 @@ pub fn write_reply(
     let mut head = [0; RESPONSE_BYTES];
     put_response_ok(&mut head, lengths, reply.status, reply.sense, reply.moved);
     write_response(memory, chain, &head, reply.payload.as_slice())
+}
+
+/// Writes response OK of a READ that is GOOD, with these data, as [`write_reply`] does of such a reply: so data are
+/// written from where they stand, with no reply made of them.
+#[inline(always)]
+pub fn write_read(memory: &mut GuestMem, chain: &Chain, lengths: &ChainLengths, data: &[u8]) -> u32
+    requires fits { length memory.old ≡ chain.now.memory }
+    requires sum { lengths.now.readable + lengths.now.writable ≤ 2 ^ 32 }
+    requires whole { lengths.now.writable ≡ writable_total chain.now.parts }
+    requires room { RESPONSE_BYTES ≤ lengths.now.writable }
+    requires less { lengths.now.writable < 2 ^ 32 }
+    requires data { length data.now ≤ lengths.now.writable - RESPONSE_BYTES }
+    ensures written { result ≡ length (answer_of_reply lengths.now (good_data data.now)) }
+    ensures memory { memory.new
+        ≡ all_written memory.old (scatter_writes chain.now.parts 0 (answer_of_reply lengths.now (good_data data.now))) }
+    ensures size { length memory.new ≡ length memory.old }
+{
+    let mut head = [0; RESPONSE_BYTES];
+    put_response_ok(&mut head, lengths, GOOD, None, data.len() as u32);
+    write_response(memory, chain, &head, data)
 }
 
 /// Writes an answer that needs no unit over the writable parts of a chain, which have room for it. Returns how many

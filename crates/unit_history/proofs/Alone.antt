@@ -4,7 +4,14 @@ use Rattle.ring_core.specs.declared.log.Ticket.{Ticket}
 use Rattle.block_store.specs.Blocks.{Blocks}
 use Rattle.block_store.specs.declared.NoMemory.{NoMemory}
 use Rattle.unit_attention.specs.declared.code.Code.{Code}
-use Rattle.replies.specs.declared.reply.Reply.{Reply}
+use Rattle.block_commands.specs.declared.facts.UnitFacts.{UnitFacts}
+use Rattle.block_commands.specs.Told.{facts_of}
+use Rattle.cdb.specs.declared.commands.Command.{Command}
+use Rattle.cdb.specs.Need.{need_of}
+use Rattle.replies.specs.Attention.{takes}
+use Rattle.replies.specs.PlainReply.{PlainReply, good_data, success}
+use Rattle.replies.specs.Replies.{reply_of}
+use Rattle.replies.specs.Statuses.{good}
 use Rattle.replies.specs.Facts.{Facts}
 use Rattle.decisions.specs.declared.attribute.TaskAttribute.{TaskAttribute}
 use Rattle.decisions.specs.declared.attribute.TaskAttribute.TheVariants.{Simple, Ordered, HeadOfQueue}
@@ -12,8 +19,8 @@ use Rattle.unit_model.specs.Tasks.{Entry, blocks, is_blocked}
 use Rattle.unit_model.specs.Steps.{Step, floor}
 use Rattle.unit_model.specs.Seen.{Seen, finished, freed}
 use Rattle.unit_model.specs.Base.{most_before}
-use Rattle.replies.specs.Effects.{given}
-use Rattle.unit_model.specs.Contents.{Opening, capacity_of, facts_after}
+use Rattle.replies.specs.Effects.{block_after, given}
+use Rattle.unit_model.specs.Contents.{Opening, capacity_of, facts_after, oldest}
 use Rattle.unit_model.specs.Lawful.{IsReady}
 use Rattle.unit_model.specs.Endings.{Ending}
 use Rattle.unit_model.specs.Receipts.{unit_address}
@@ -27,12 +34,11 @@ use Rattle.unit_history.specs.Endings.{ending_of, ending_of_run}
 use Rattle.unit_history.specs.Changes.{PlainChanges}
 use Rattle.unit_history.specs.Noting.{Notes, AreRecorded}
 use Rattle.unit_history.specs.Parts.{AreKept, AreClear, AreBased}
-use Rattle.unit_history.specs.Performing.{Performs, step_for, unkept}
+use Rattle.unit_history.specs.Performing.{PlainPerformed, Performs, Ran, step_for, taken, told, unkept}
 use Rattle.unit_history.specs.Outcomes.{outcome_for}
 use Rattle.unit_history.specs.Serving.{ServesAlone}
 use Rattle.unit_model.specs.Unit.{Steps}
 use Rattle.unit_history.specs.declared.outcomes.Entered.TheVariants as entered
-use Rattle.unit_history.specs.declared.performing.Performed.{Performed}
 use Rattle.unit_history.proofs.Basing.{based_way, based_on, ran_folds}
 use Rattle.unit_history.proofs.Committing.{is_of, keep_run, commits_run}
 use Rattle.unit_history.proofs.Entering.{enters_task}
@@ -46,10 +52,38 @@ no_tasks [] none = refl
 no_tasks (x ∷ tasks) none = absurd (let k = none in omega (arith, k))
 
 -- how a request ended, by its outcome
-pub ends_as : (unit : Address) (place : ℕ) (t : Ticket) (ran : Result Reply NoMemory)
+pub ends_as : (unit : Address) (place : ℕ) (t : Ticket) (ran : Result PlainReply NoMemory)
     → ending_of_run ran ≡ ending_of (outcome_for unit place t (unkept ran))
 ends_as unit place t (Ok r) = refl
 ends_as unit place t (Err e) = refl
+
+-- nothing is taken where nothing is pending
+none_taken : (command : Command) (pending : List Code) → oldest pending ≡ None → pending ≡ taken command pending
+none_taken command [] none = elim (takes command) as (λ x. ◌≡◌ {A = List Code} [] (cond x [] [])) [
+  | true ↦ refl
+  | false ↦ refl
+]
+none_taken command (c ∷ later) none = absurd (cc)
+
+abbrev with_moved : ℕ → List ℕ → PlainReply
+with_moved moved bytes = record { status = good; sense = None; payload = bytes; moved = moved }
+
+-- a READ whose data are taken from where they stand
+pub ran_in_place : (facts facts' : UnitFacts) (capacity : ℕ) (command : Command) (out bytes : List ℕ) (r : PlainReply) (blocks : Blocks)
+    (pending : List Code) → facts' ≡ told facts pending
+    → reply_of (facts_of facts' capacity) command out blocks ≡ success command bytes
+    → ((b : ℕ) → block_after command out good blocks b ≡ blocks b) → (need_of command).out ≡ 0 → facts'.pending ≡ None
+    → r ≡ good_data bytes
+    → Ran false (facts_of (told facts pending) capacity) command out (record { reply = r; kept = None }) blocks blocks pending pending
+ran_in_place facts facts' capacity command out bytes r blocks pending is reply same sends calm noted =
+    let moved : length bytes ≡ (need_of command).out + length bytes = omega (arith, sends) in
+    let replied = subst (λ (f : UnitFacts). reply_of (facts_of f capacity) command out blocks ≡ success command bytes) is reply in
+    record {
+      reply = noted ∙ ap (λ n. with_moved n bytes) moved ∙ sym replied;
+      kept = refl;
+      stored = λ b. sym (ap (λ (w : PlainReply). block_after command out w.status blocks b) replied ∙ same b);
+      pends = none_taken command pending (ap (λ (f : UnitFacts). f.pending) (sym is) ∙ calm);
+    }
 
 by_none : (a : TaskAttribute) → blocks a [] [] ≡ false
 by_none Simple = refl
@@ -92,7 +126,7 @@ module _ (o : Opening) (past : List Step) (block_at : Blocks) (pending : List Co
       subst (λ x. AreKept o (Step.Enter j.entry ∷ past) block_at pending (x ∷ []) last_tickets' room') (enters_so (length past) j)
       (keep_enter k j last_tickets' room' (omega arith) le came reserve)
 
-  module _ (room1 : ℕ) (reserve : 128 ≤ room1) (facts : Facts) (p : Option Performed) (block_at' : Blocks) (pending' : List Code)
+  module _ (room1 : ℕ) (reserve : 128 ≤ room1) (facts : Facts) (p : Option PlainPerformed) (block_at' : Blocks) (pending' : List Code)
       (as_told : facts ≡ facts_after o (Step.Enter j.entry ∷ past))
       (ran : Performs false facts j.entry.command j.entry.data_out p block_at block_at' pending pending') where
     ready : IsReady j.entry.ticket j.entry (Step.Enter j.entry ∷ past)
@@ -154,7 +188,7 @@ module _ (o : Opening) (past : List Step) (block_at : Blocks) (pending : List Co
         }
 
 -- the steps of all of it
-pub all_steps : (t t1 : Ticket) (e e1 : Entry) (p : Option Performed) (run : Step) (s0 s1 s2 : List Step) → s1 ≡ s0
+pub all_steps : (t t1 : Ticket) (e e1 : Entry) (p : Option PlainPerformed) (run : Step) (s0 s1 s2 : List Step) → s1 ≡ s0
     → s2 ≡ Step.Leave t1 ∷ run ∷ Step.Enter e1 ∷ s1 → e1 ≡ e → run ≡ step_for t1 p → t1 ≡ t
     → s2 ≡ Step.Leave t ∷ step_for t p ∷ Step.Enter e ∷ s0
 all_steps t t1 e e1 p run s0 s1 s2 a b c d f =
@@ -164,7 +198,7 @@ all_steps t t1 e e1 p run s0 s1 s2 a b c d f =
     ∙ ap (λ w. Step.Leave t ∷ step_for t p ∷ Step.Enter e ∷ w) a
 
 -- and what is folded of them
-pub based_served : (base n n' : ℕ) (t : Ticket) (p : Option Performed) (e : Entry) (past steps' : List Step) (tasks : List Seen)
+pub based_served : (base n n' : ℕ) (t : Ticket) (p : Option PlainPerformed) (e : Entry) (past steps' : List Step) (tasks : List Seen)
     → base ≡ length past - most_before → n' ≡ n → steps' ≡ Step.Leave t ∷ step_for t p ∷ Step.Enter e ∷ past
     → AreClear n past tasks → AreBased base n' steps' tasks
 based_served base n n' t p e past steps' tasks is same steps clear =
@@ -177,7 +211,7 @@ based_served base n n' t p e past steps' tasks is same steps clear =
 module _ (o : Opening) (past : List Step) (block_at : Blocks) (pending : List Code) (tasks : List PlainTask)
     (last_tickets : List (Option ℕ)) (room : ℕ) (k : AreKept o past block_at pending tasks last_tickets room) (none : tasks ≡ [])
     (j : PlainJob) (last_tickets' : List (Option ℕ)) (le : floor j.entry.ticket.queue past ≤ j.entry.ticket.number)
-    (came : CameTo j.entry.ticket last_tickets last_tickets') (room1 : ℕ) (reserve : 128 ≤ room1) (facts : Facts) (p : Option Performed)
+    (came : CameTo j.entry.ticket last_tickets last_tickets') (room1 : ℕ) (reserve : 128 ≤ room1) (facts : Facts) (p : Option PlainPerformed)
     (block_at' : Blocks) (pending' : List Code) (as_told : facts ≡ facts_after o (Step.Enter j.entry ∷ past))
     (ran : Performs false facts j.entry.command j.entry.data_out p block_at block_at' pending pending') (steps' : List Step)
     (is : steps' ≡ Step.Leave j.entry.ticket ∷ step_for j.entry.ticket p ∷ Step.Enter j.entry ∷ past) where

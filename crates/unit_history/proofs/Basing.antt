@@ -14,8 +14,7 @@ use Rattle.unit_model.proofs.Waiting.{clear_is, clear_none}
 use Rattle.unit_model.specs.Seen.{Seen, any_before, tasks_of, others}
 use Rattle.unit_model.specs.Jobs.{PlainJob}
 use Rattle.task_set.specs.Tasks.{PlainTask, seen_of, moved, without, entering}
-use Rattle.unit_history.specs.Performing.{step_for}
-use Rattle.unit_history.specs.declared.performing.Performed.{Performed}
+use Rattle.unit_history.specs.Performing.{PlainPerformed, step_for}
 use Rattle.unit_history.specs.Parts.{AreBehind, AreClear, AreBased}
 use Rattle.unit_history.proofs.KeepingSet.{seen_moved, seen_without, seen_push}
 
@@ -98,12 +97,12 @@ based_on base base' n n' s past steps' tasks tasks' k brings is same steps on =
       clear = (let le = k.clear.0 in omega (arith, le), on k.clear.1);
     }))
 
-pub ran_folds : (t : Ticket) (p : Option Performed) → folds (step_for t p) ≡ false
+pub ran_folds : (t : Ticket) (p : Option PlainPerformed) → folds (step_for t p) ≡ false
 ran_folds t None = refl
 ran_folds t (Some p) = refl
 
 -- a command leaves the capacity
-pub ran_sized : (o : Opening) (t : Ticket) (p : Option Performed) (past steps : List Step) → steps ≡ step_for t p ∷ past → capacity_of o steps ≡ capacity_of o past
+pub ran_sized : (o : Opening) (t : Ticket) (p : Option PlainPerformed) (past steps : List Step) → steps ≡ step_for t p ∷ past → capacity_of o steps ≡ capacity_of o past
 ran_sized o t None past steps is = ap (λ w. capacity_of o w) is
 ran_sized o t (Some p) past steps is = ap (λ w. capacity_of o w) is
 

@@ -3,7 +3,7 @@ use Rattle.std.proofs.Common.{◌≡◌, ℕ, ◌+◌, ◌≤◌, Bool, inl, inr
 use Rattle.ring_core.specs.declared.log.Ticket.{Ticket}
 use Rattle.block_store.specs.Blocks.{Blocks}
 use Rattle.unit_attention.specs.declared.code.Code.{Code}
-use Rattle.replies.specs.PlainReply.{PlainReply, plain_of}
+use Rattle.replies.specs.PlainReply.{PlainReply}
 use Rattle.replies.specs.Effects.{block_after}
 use Rattle.replies.specs.Facts.{Facts}
 use Rattle.replies.specs.Replies.{reply_of}
@@ -21,10 +21,9 @@ use Rattle.unit_model.specs.Asking.{IsOf, asked_of, CannotCommit}
 use Rattle.unit_history.specs.Calls.{Commits}
 use Rattle.unit_history.specs.Parts.{AreKept}
 use Rattle.replies.specs.Memory.{may_run_short}
-use Rattle.unit_history.specs.Performing.{Performs, step_for}
+use Rattle.unit_history.specs.Performing.{PlainPerformed, Performs, step_for}
 use Rattle.unit_history.specs.Outcomes.{outcome_for}
 use Rattle.unit_history.specs.Turns.{Turns}
-use Rattle.unit_history.specs.declared.performing.Performed.{Performed}
 use Rattle.unit_history.specs.declared.turn.Turn.TheVariants as turn
 use Rattle.unit_history.proofs.Entering.{same_unit}
 use Rattle.unit_history.proofs.Keeping.{task_at_alive, task_at_none, ticket_at, replies_after, may_commit, may_busy, keep_commit, keep_busy}
@@ -57,17 +56,17 @@ module _ {o : Opening} {past : List Step} {block_at : Blocks} {pending : List Co
   ran_reply e facts as_told = ap (λ f. reply_of f e.command e.data_out block_at) as_told ∙ replies_after k e
 
   -- the parts once a command ran, or was refused memory
-  pub keep_run : (t : Ticket) (e : Entry) (keeps : Bool) (facts : Facts) (p : Option Performed) (block_at' : Blocks) (pending' : List Code) (room' : ℕ)
+  pub keep_run : (t : Ticket) (e : Entry) (keeps : Bool) (facts : Facts) (p : Option PlainPerformed) (block_at' : Blocks) (pending' : List Code) (room' : ℕ)
       → IsReady t e past → facts ≡ facts_after o past → Performs keeps facts e.command e.data_out p block_at block_at' pending pending' → room ≤ room' + 1
       → AreKept o (step_for t p ∷ past) block_at' pending' (map (moved (finished t)) tasks) last_tickets room'
   keep_run t e keeps facts None block_at' pending' room' ready as_told short reserve = keep_busy k t e block_at' pending' room' ready short.stored short.pends reserve
   keep_run t e keeps facts (Some p) block_at' pending' room' ready as_told ran reserve =
-      keep_commit k t e (plain_of p.reply) block_at' pending' room' ready (ran.reply ∙ ran_reply e facts as_told)
+      keep_commit k t e p.reply block_at' pending' room' ready (ran.reply ∙ ran_reply e facts as_told)
       (λ b. ran.stored b ∙ ap (λ (r : PlainReply). block_after e.command e.data_out r.status block_at b) (sym ran.reply))
       ran.pends reserve
 
   -- and what is answered
-  pub commits_run : (j : PlainJob) (e : Entry) (keeps : Bool) (facts : Facts) (p : Option Performed) (block_at' : Blocks) (pending' : List Code)
+  pub commits_run : (j : PlainJob) (e : Entry) (keeps : Bool) (facts : Facts) (p : Option PlainPerformed) (block_at' : Blocks) (pending' : List Code)
       → IsOf j e past → IsReady j.entry.ticket e past → facts ≡ facts_after o past → Performs keeps facts e.command e.data_out p block_at block_at' pending pending'
       → Commits (record { opening = o; steps = past; parked = parked_of tasks; keeps_replies = keeps }) j
       (outcome_for (unit_address o) (length past) j.entry.ticket p)
@@ -82,7 +81,7 @@ module _ {o : Opening} {past : List Step} {block_at : Blocks} {pending : List Co
     },
   )
   commits_run j e keeps facts (Some p) block_at' pending' of ready as_told ran =
-      let r : plain_of p.reply ≡ reply_after o e past = ran.reply ∙ ran_reply e facts as_told in (
+      let r : p.reply ≡ reply_after o e past = ran.reply ∙ ran_reply e facts as_told in (
         e,
         of,
         ready,

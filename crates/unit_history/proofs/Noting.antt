@@ -5,12 +5,10 @@ use Rattle.std.specs.Prelude.{unwrap_or}
 use Rattle.ring_core.specs.declared.log.Ticket.{Ticket}
 use Rattle.block_store.specs.Blocks.{is_within, zero_block}
 use Rattle.replies.specs.Effects.{given}
-use Rattle.replies.specs.PlainReply.{plain_of}
 use Rattle.unit_model.specs.Tasks.{Entry, task_of}
 use Rattle.unit_model.specs.Steps.{Step, alive}
 use Rattle.unit_model.specs.Contents.{Opening, blocks_of, block_with, capacity_of}
-use Rattle.unit_history.specs.Performing.{step_for}
-use Rattle.unit_history.specs.declared.performing.Performed.{Performed}
+use Rattle.unit_history.specs.Performing.{PlainPerformed, step_for}
 use Rattle.unit_history.specs.Changes.{PlainChanges, is_in, as_of}
 use Rattle.unit_history.specs.Noting.{Notes, AreRecorded}
 
@@ -90,20 +88,20 @@ given_none None false old none = refl
 given_none (Some bytes) ends old some = absurd (cc)
 
 -- a command leaves the blocks that it gives nothing
-leaves_run : (o : Opening) (t : Ticket) (e : Entry) (p : Option Performed) (past : List Step) → task_of t (alive past) ≡ Some e
+leaves_run : (o : Opening) (t : Ticket) (e : Entry) (p : Option PlainPerformed) (past : List Step) → task_of t (alive past) ≡ Some e
     → Leaves o (step_for t p) past (λ b. is_some (given e.command e.data_out b))
 leaves_run o t e None past there b below none = (below, refl)
 leaves_run o t e (Some p) past there b below none = (
   below,
-  ap (λ x. block_with x (plain_of p.reply).status (blocks_of o past) b) there ∙ given_none (given e.command e.data_out b) _ (blocks_of o past b) none,
+  ap (λ x. block_with x p.reply.status (blocks_of o past) b) there ∙ given_none (given e.command e.data_out b) _ (blocks_of o past b) none,
 )
 
-capacity_ran : (o : Opening) (t : Ticket) (p : Option Performed) (past : List Step) → capacity_of o (step_for t p ∷ past) ≡ capacity_of o past
+capacity_ran : (o : Opening) (t : Ticket) (p : Option PlainPerformed) (past : List Step) → capacity_of o (step_for t p ∷ past) ≡ capacity_of o past
 capacity_ran o t None past = refl
 capacity_ran o t (Some p) past = refl
 
 -- after a command ran
-pub recorded_run : (o : Opening) (t : Ticket) (e : Entry) (p : Option Performed) (past steps' : List Step) (capacity : ℕ) (c c' : PlainChanges) → AreRecorded o past c
+pub recorded_run : (o : Opening) (t : Ticket) (e : Entry) (p : Option PlainPerformed) (past steps' : List Step) (capacity : ℕ) (c c' : PlainChanges) → AreRecorded o past c
     → task_of t (alive past) ≡ Some e → Notes (λ b. is_some (given e.command e.data_out b)) capacity (length past) c c' → capacity ≡ capacity_of o past
     → steps' ≡ step_for t p ∷ past → AreRecorded o steps' c'
 recorded_run o t e p past steps' capacity c c' k there n size is =

@@ -19,9 +19,14 @@ ending_of outcome.Busy = Ending.Busy
 ending_of outcome.Unknown = Ending.Lost
 
 -- own: by what came of its command, which ran or was refused memory
-abbrev pub ending_of_run : Result Reply NoMemory → Ending
-ending_of_run (Ok r) = Ending.Replied (plain_of r)
+abbrev pub ending_of_run : Result PlainReply NoMemory → Ending
+ending_of_run (Ok r) = Ending.Replied r
 ending_of_run (Err e) = Ending.Busy
+
+-- what came of a command, as a plain value
+abbrev pub plain_run : Result Reply NoMemory → Result PlainReply NoMemory
+plain_run (Ok r) = Ok (plain_of r)
+plain_run (Err e) = Err e
 
 -- own: the data of a reply are as many bytes as the command needs room for, or fewer
 abbrev pub FitsNeed : ℕ → Outcome → Type 0

@@ -1,14 +1,13 @@
 -- What is answered for a command that was performed. Only private functions cite it: no promise stands on it.
 use Rattle.std.specs.Prelude.{ℕ, Option, Some, None}
-use Rattle.replies.specs.PlainReply.{plain_of}
 use Rattle.ring_core.specs.declared.log.Ticket.{Ticket}
 use Rattle.scsi_codec.specs.declared.lun.Address.{Address}
-use Rattle.unit_history.specs.declared.performing.Performed.{Performed}
+use Rattle.unit_history.specs.Performing.{PlainPerformed}
 use Rattle.unit_history.specs.declared.outcomes.Outcome.{Outcome}
 use Rattle.unit_history.specs.declared.outcomes.Outcome.TheVariants as outcome
 
 -- under the ticket and at the place of its step
-abbrev pub outcome_for : Address → ℕ → Ticket → Option Performed → Outcome
+abbrev pub outcome_for : Address → ℕ → Ticket → Option PlainPerformed → Outcome
 outcome_for unit place t None = outcome.Busy
 outcome_for unit place t (Some p) =
-    outcome.Reply (record { unit = unit; place = place; ticket = t; reply = Some (plain_of p.reply) })
+    outcome.Reply (record { unit = unit; place = place; ticket = t; reply = Some p.reply })

@@ -1,10 +1,11 @@
 //! The trait by which a request is answered that its unit serves to its end.
 
-ghost use Rattle.std.specs.Prelude.{◌≤◌, length, IfOk};
+ghost use Rattle.std.specs.Prelude.{◌≡◌, ◌≤◌, length, IfOk};
 ghost use Rattle.cdb.specs.Need.{need_of};
 ghost use Rattle.unit_model.specs.Endings.{Ending};
 ghost use Rattle.unit_model.specs.Jobs.{PlainJob};
-ghost use Rattle.unit_history.specs.Endings.{ending_of_run};
+ghost use Rattle.replies.specs.PlainReply.{success};
+ghost use Rattle.unit_history.specs.Endings.{ending_of_run, plain_run};
 
 use block_store::NoMemory;
 use replies::Reply;
@@ -18,9 +19,17 @@ pub trait Answering {
     /// The answer of a request that ended so was written.
     ghost answers: { Self → PlainJob → Ending → Self → Type 0 };
 
-    /// Writes what answers a request: its command ran and has a reply, or was refused memory. Its unit calls it once.
+    /// Writes what answers a request: its command ran and has a reply, or was refused memory. Its unit calls this or
+    /// `answer_read`, once.
     fn answer(&mut self, arrival: &Arrival, ran: &Result<Reply, NoMemory>)
         requires may { may_answer self.old arrival.now }
         requires fits { IfOk ran.now (λ r. length r.payload.items ≤ (need_of arrival.now.entry.command).into) }
-        ensures { answers self.old arrival.now (ending_of_run ran.now) self.new };
+        ensures { answers self.old arrival.now (ending_of_run (plain_run ran.now)) self.new };
+
+    /// Writes what answers a READ that is GOOD, with these data.
+    fn answer_read(&mut self, arrival: &Arrival, data: &[u8])
+        requires may { may_answer self.old arrival.now }
+        requires sends { (need_of arrival.now.entry.command).out ≡ 0 }
+        requires fits { length data.now ≤ (need_of arrival.now.entry.command).into }
+        ensures { answers self.old arrival.now (Ending.Replied (success arrival.now.entry.command data.now)) self.new };
 }

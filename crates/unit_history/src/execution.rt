@@ -1,11 +1,12 @@
 //! The run of a task's command on its unit.
 
 ghost use Rattle.std.specs.Prelude.{◌≡◌, ◌+◌, ◌<◌, ◌≤◌, ◌∷◌, ℕ, length, map, IfSome};
+ghost use Rattle.std.specs.Option.{option_map};
 ghost use Rattle.cdb.specs.Need.{need_of};
 ghost use Rattle.unit_history.specs.Endings.{FitsNeed};
 ghost use Rattle.unit_model.specs.Seen.{finished};
 ghost use Rattle.task_set.specs.Tasks.{moved};
-ghost use Rattle.unit_history.specs.Performing.{IsKeptReply, step_for};
+ghost use Rattle.unit_history.specs.Performing.{IsKeptReply, performed_of, step_for};
 ghost use Rattle.unit_history.specs.Outcomes.{outcome_for};
 
 use crate::log::StepLog;
@@ -28,6 +29,15 @@ const MOST_ROOM: usize = 4096;
 /// The most blocks whose pages are kept from one WRITE for the next: 128 KiB.
 const MOST_SPARE_BLOCKS: u32 = 256;
 
+/// Keeps the room of a reply's data in place of what is kept, where it is more and isn't much.
+#[inline(always)]
+pub(crate) fn keep_larger(room: &mut Vec<u8>, reply: Reply) {
+    let Reply { payload, .. } = reply;
+    if payload.capacity() > room.capacity() && payload.capacity() <= MOST_ROOM {
+        *room = payload;
+    }
+}
+
 /// Keeps pages that a commit left over for the next WRITE that is prepared, where none are kept and these aren't many.
 #[inline(always)]
 fn keep_pages(kept: &mut Option<Prepared>, left_over: &mut Option<Prepared>) {
@@ -49,9 +59,9 @@ fn record_run(
     performed: Option<Performed>,
 ) -> Outcome
     requires room { 0 < log.old.room }
-    requires kept { IsKeptReply log.old.keeps performed }
-    ensures outcome { result ≡ outcome_for unit (length log.old.steps) ticket performed }
-    ensures steps { log.new.steps ≡ step_for ticket performed ∷ log.old.steps }
+    requires kept { IsKeptReply log.old.keeps (option_map performed_of performed) }
+    ensures outcome { result ≡ outcome_for unit (length log.old.steps) ticket (option_map performed_of performed) }
+    ensures steps { log.new.steps ≡ step_for ticket (option_map performed_of performed) ∷ log.old.steps }
     ensures keeps { log.new.keeps ≡ log.old.keeps }
     ensures room { log.old.room ≤ log.new.room + 1 }
     ensures base { log.new.base ≡ log.old.base }
@@ -173,18 +183,8 @@ impl UnitState {
     pub fn keep_room(&mut self, outcome: Outcome)
         ensures { self.new ≡ self.old }
     {
-        self.keep_data(outcome.into_reply());
-    }
-
-    /// Keeps the room of a reply's data, where it isn't much.
-    #[inline(always)]
-    pub(crate) fn keep_data(&mut self, reply: Option<Reply>)
-        ensures { self.new ≡ self.old }
-    {
-        if let Some(Reply { payload, .. }) = reply {
-            if payload.capacity() > self.room.capacity() && payload.capacity() <= MOST_ROOM {
-                self.room = payload;
-            }
+        if let Some(reply) = outcome.into_reply() {
+            keep_larger(&mut self.room, reply);
         }
     }
 }

@@ -10,7 +10,9 @@ ghost use Rattle.block_commands.specs.Told.{facts_of};
 ghost use Rattle.sense.specs.Conditions.{unit_attention};
 ghost use Rattle.unit_model.specs.Contents.{pending_at_start};
 ghost use Rattle.unit_history.specs.Kept.{kept_reply};
-ghost use Rattle.unit_history.specs.Performing.{Performs, told, taken, unkept};
+ghost use Rattle.unit_history.specs.Endings.{plain_run};
+ghost use Rattle.unit_history.specs.Performing.{Performs, performed_of, told, taken, unkept};
+ghost use Rattle.unit_model.specs.Contents.{oldest};
 
 use crate::log::LONGEST_KEPT;
 use block_commands::{UnitFacts, exec, exec_prepared, takes_attention};
@@ -42,7 +44,7 @@ fn sense_of(code: Code) -> Sense
 
 /// Puts what is pending first among the facts.
 #[inline(always)]
-fn tell_oldest(facts: &mut UnitFacts, attentions: &Attentions)
+pub fn tell_oldest(facts: &mut UnitFacts, attentions: &Attentions)
     ensures { facts.new ≡ told facts.old attentions.now }
 {
     facts.pending = match attentions.peek() {
@@ -99,28 +101,26 @@ pub struct Performed {
     pub kept: Option<Reply>,
 }
 
-/// Runs a command, with exactly the data that it takes, on the blocks of its unit, with what is pending; its reply is
-/// kept nowhere. The unit calls it, in the hold of its lock. `NoMemory` where memory was refused, with blocks and
-/// attentions as before.
+/// Runs a command, with exactly the data that it takes, on the blocks of its unit, whose facts have what is pending; its
+/// reply is kept nowhere. The unit calls it, in the hold of its lock. `NoMemory` where memory was refused, with blocks
+/// and attentions as before.
 #[inline(always)]
 pub fn run(
     alloc: Global,
     room: &mut Vec<u8>,
-    facts: &mut UnitFacts,
+    facts: &UnitFacts,
     attentions: &mut Attentions,
     store: &mut PagedStore,
     command: &Command,
     bytes: &[u8],
 ) -> Result<Reply, NoMemory>
     requires data { length bytes.now ≡ (need_of command.now).out }
-    ensures performed { Performs false (facts_of (told facts.old attentions.old) (⟦<PagedStore as Store>⟧.size store.old))
-        command.now bytes.now (unkept result)
+    ensures performed { Performs false (facts_of facts.now (⟦<PagedStore as Store>⟧.size store.old))
+        command.now bytes.now (unkept (plain_run result))
         (⟦<PagedStore as Store>⟧.block_at store.old) (⟦<PagedStore as Store>⟧.block_at store.new) attentions.old attentions.new }
-    ensures facts { facts.new ≡ told facts.old attentions.old }
     ensures size { ⟦<PagedStore as Store>⟧.size store.new ≡ ⟦<PagedStore as Store>⟧.size store.old }
     ensures fits { IfOk result (λ r. length r.payload.items ≤ (need_of command.now).into) }
 {
-    tell_oldest(facts, attentions);
     let ran = exec(alloc, room, store, command, bytes, facts);
     if ran.is_ok() {
         clear_oldest(attentions, command);
@@ -145,7 +145,7 @@ fn run_prepared(
     requires data { length bytes.now ≡ (need_of command.now).out }
     requires own { IfSome prepared (λ pages. IsOf command.now bytes.now (prepared_draft pages)) }
     ensures performed { Performs false (facts_of (told facts.old attentions.old) (⟦<PagedStore as Store>⟧.size store.old))
-        command.now bytes.now (unkept result)
+        command.now bytes.now (unkept (plain_run result))
         (⟦<PagedStore as Store>⟧.block_at store.old) (⟦<PagedStore as Store>⟧.block_at store.new) attentions.old attentions.new }
     ensures facts { facts.new ≡ told facts.old attentions.old }
     ensures size { ⟦<PagedStore as Store>⟧.size store.new ≡ ⟦<PagedStore as Store>⟧.size store.old }
@@ -177,7 +177,7 @@ pub fn perform(
     requires data { length bytes.now ≡ (need_of command.now).out }
     requires own { IfSome prepared (λ pages. IsOf command.now bytes.now (prepared_draft pages)) }
     ensures performed { Performs keeps_replies (facts_of (told facts.old attentions.old) (⟦<PagedStore as Store>⟧.size store.old))
-        command.now bytes.now result
+        command.now bytes.now (option_map performed_of result)
         (⟦<PagedStore as Store>⟧.block_at store.old) (⟦<PagedStore as Store>⟧.block_at store.new) attentions.old attentions.new }
     ensures facts { facts.new ≡ told facts.old attentions.old }
     ensures size { ⟦<PagedStore as Store>⟧.size store.new ≡ ⟦<PagedStore as Store>⟧.size store.old }

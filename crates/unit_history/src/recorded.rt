@@ -1,7 +1,7 @@
 //! Steps as proofs see them: with the data of their commands and replies, which no bytes keep.
 
-ghost use Rattle.std.specs.Prelude.{◌≡◌, ◌-◌, length};
-ghost use Rattle.replies.specs.PlainReply.{plain_of};
+ghost use Rattle.std.specs.Prelude.{◌≡◌, ◌-◌, ◌^◌, ◌<◌, length};
+ghost use Rattle.replies.specs.PlainReply.{good_data, plain_of};
 ghost use Rattle.unit_model.specs.Tasks.{entry_of};
 ghost use Rattle.unit_history.specs.Kept.{kind_of};
 ghost use Rattle.unit_history.specs.Recorded.{step_recorded};
@@ -10,7 +10,7 @@ use crate::kind::StepKind;
 use cdb::Command;
 use decisions::{TaskAttribute, UnitRequest};
 use record::Record;
-use replies::Reply;
+use replies::{GOOD, Reply};
 use ring_core::Ticket;
 use sense::Sense;
 use std::marker::Model;
@@ -94,6 +94,21 @@ impl RecordedReply {
         }
     }
 
+    /// Returns what is replied to a READ that ended with these data.
+    #[inline(always)]
+    pub(crate) fn of_read(data: &[u8]) -> RecordedReply
+        requires { length data.now < 2 ^ 32 }
+        ensures { result ≡ good_data data.now }
+    {
+        RecordedReply {
+            status: GOOD,
+            sense: None,
+            payload: Record::new().and_all(data),
+            moved: data.len() as u32,
+            data_bytes: data.len() as u64,
+        }
+    }
+
     /// Returns its status.
     #[inline(always)]
     pub(crate) fn status(&self) -> u8
@@ -119,8 +134,8 @@ impl RecordedReply {
     }
 }
 
-/// A step, by what it is and of which chain, as [`StepKind`] tells it; with the task that entered, the reply of the
-/// command that ran, the code that a reset raised, and the capacity that a resize gave.
+/// A step with its kind and its chain, as [`StepKind`] tells them. It has the task that entered, the reply of the
+/// command that ran, the code that a reset raised, or the capacity that a resize gave.
 #[derive(Drop)]
 pub enum RecordedStep {
     /// A task entered the task set.

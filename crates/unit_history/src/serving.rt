@@ -1,36 +1,95 @@
 //! A request that is served to its end in one call, where no other task is alive.
 
-ghost use Rattle.std.specs.Prelude.{◌≡◌, IsTrue};
+ghost use Rattle.std.specs.Prelude.{◌≡◌, IsTrue, false};
 ghost use Rattle.std.specs.Bool.{OnFalse};
-ghost use Rattle.unit_history.specs.Performing.{step_for, unkept};
+ghost use Rattle.block_commands.specs.Told.{facts_of};
+ghost use Rattle.unit_history.specs.Endings.{ending_of_run, plain_run};
+ghost use Rattle.unit_history.specs.Performing.{Performs, step_for, told, unkept};
 ghost use Rattle.unit_history.specs.Recorded.{step_recorded};
 ghost use Rattle.unit_history.specs.Serving.{ServesAlone};
 
 use crate::answering::Answering;
-use crate::performing::run;
+use crate::execution::keep_larger;
+use crate::performing::{run, tell_oldest};
 use crate::recorded::{RecordedReply, RecordedStep};
 use crate::unit::{UnitState, make_way, recorded_entry};
-use block_store::{NoMemory, Store};
+use block_commands::{UnitFacts, read_in_place};
+use block_store::{NoMemory, PagedStore, Store};
 use replies::Reply;
 use ring_core::Ticket;
+use std::alloc::Global;
 use task_set::Arrival;
+use unit_attention::Attentions;
+
+/// Returns what the log has of a command that ran, and keeps the room of its data for a later one.
+#[inline(always)]
+fn recorded_run(room: &mut Vec<u8>, ran: Result<Reply, NoMemory>) -> Result<RecordedReply, NoMemory>
+    ensures { result ≡ plain_run ran }
+{
+    match ran {
+        Ok(reply) => {
+            let recorded = RecordedReply::of(&reply);
+            keep_larger(room, reply);
+            Ok(recorded)
+        }
+        Err(NoMemory) => Err(NoMemory),
+    }
+}
+
+/// Runs the command of a request, and has what answers it written: the data of a READ from where they stand, if its
+/// blocks lie in one page. Returns what the log has of that; `NoMemory` where memory was refused.
+#[inline(always)]
+fn run_and_answer<A: Answering>(
+    alloc: Global,
+    room: &mut Vec<u8>,
+    facts: &mut UnitFacts,
+    attentions: &mut Attentions,
+    store: &mut PagedStore,
+    arrival: &Arrival,
+    answering: &mut A,
+) -> Result<RecordedReply, NoMemory>
+    requires may { A.may_answer answering.old arrival.now }
+    ensures performed { Performs false (facts_of (told facts.old attentions.old) (⟦<PagedStore as Store>⟧.size store.old))
+        arrival.now.entry.command arrival.now.entry.data_out (unkept result)
+        (⟦<PagedStore as Store>⟧.block_at store.old) (⟦<PagedStore as Store>⟧.block_at store.new) attentions.old attentions.new }
+    ensures answered { A.answers answering.old arrival.now (ending_of_run result) answering.new }
+    ensures facts { facts.new ≡ told facts.old attentions.old }
+    ensures size { ⟦<PagedStore as Store>⟧.size store.new ≡ ⟦<PagedStore as Store>⟧.size store.old }
+{
+    let command = arrival.command();
+    tell_oldest(facts, attentions);
+    if let Some(data) = read_in_place(store, &command, facts) {
+        answering.answer_read(arrival, data);
+        return Ok(RecordedReply::of_read(data));
+    }
+    let ran = run(
+        alloc,
+        room,
+        facts,
+        attentions,
+        store,
+        &command,
+        arrival.data(),
+    );
+    answering.answer(arrival, &ran);
+    recorded_run(room, ran)
+}
 
 /// Returns the step that stands for what came of a command.
 #[inline(always)]
-fn step_of_run(ticket: Ticket, ran: &Result<Reply, NoMemory>) -> RecordedStep
-    ensures { step_recorded result ≡ step_for ticket (unkept ran.now) }
+fn step_of_run(ticket: Ticket, ran: Result<RecordedReply, NoMemory>) -> RecordedStep
+    ensures { step_recorded result ≡ step_for ticket (unkept ran) }
 {
     match ran {
-        Ok(reply) => RecordedStep::Commit(ticket, RecordedReply::of(reply)),
+        Ok(reply) => RecordedStep::Commit(ticket, reply),
         Err(NoMemory) => RecordedStep::Busy(ticket),
     }
 }
 
 impl UnitState {
-    /// Serves a request to its end: its task enters, its command runs, what answers it is written by what came of that,
-    /// and its task leaves. Returns true then: the caller uses the chain. So it may be where no task is alive, no
-    /// replies are kept, its ticket is above the last of its queue, and room for its steps was made; else nothing is
-    /// changed.
+    /// Serves a request to its end: its task enters, its command runs, its answer is written, and its task leaves.
+    /// Returns true then, and the caller uses the chain. It does so only where no task is alive, no replies are kept,
+    /// the ticket is above the last of its queue, and room for its steps was made. Else nothing is changed.
     #[inline(always)]
     pub fn serve_alone<A: Answering>(&mut self, arrival: &Arrival, answering: &mut A) -> bool
         requires may { A.may_answer answering.old arrival.now }
@@ -61,22 +120,20 @@ impl UnitState {
             self.store.capacity(),
             self.log.len() + 1,
         );
-        let ran = run(
+        let ran = run_and_answer(
             self.alloc,
             &mut self.room,
             &mut self.facts,
             &mut self.attentions,
             &mut self.store,
-            &arrival.command(),
-            arrival.data(),
+            arrival,
+            answering,
         );
-        answering.answer(arrival, &ran);
         self.log.push_three(
             RecordedStep::Enter(recorded_entry(arrival)),
-            step_of_run(ticket, &ran),
+            step_of_run(ticket, ran),
             RecordedStep::Leave(ticket),
         );
-        self.keep_data(ran.ok());
         true
     }
 }

@@ -2,11 +2,11 @@ use Rattle.std.proofs.Common.{◌≡◌, ap, sym, subst, ◌∙◌, refl}
 use Rattle.unit_model.specs.Seen.{finished}
 use Rattle.unit_history.specs.Parts.{AreBehind}
 use Rattle.unit_history.proofs.Basing.{based_on, behind_moved, ran_folds, ran_sized}
-use Rattle.std.specs.Option.{option_copied}
+use Rattle.std.specs.Option.{option_copied, option_map}
 use Rattle.block_store.specs.Kept as pages
 use Rattle.block_commands.specs.Told.{facts_of}
 use Rattle.unit_history.specs.Fields.{opening_of}
-use Rattle.unit_history.specs.Performing.{told, step_for}
+use Rattle.unit_history.specs.Performing.{performed_of, told, step_for}
 use Rattle.task_set.specs.Tasks.{task_at, seen_of}
 use Rattle.unit_history.proofs.Keeping.{has_room, is_ready, told_is, task_at_alive}
 use Rattle.unit_history.proofs.Committing.{cannot_none, cannot_turn, is_of, is_aborted, keep_run, commits_run}
@@ -31,7 +31,7 @@ invariant_of-self c =
       kept =
           rw (c.record_run.ensures.tasks, c.record_run.ensures.steps, c.perform-performed.ensures.facts)
           (keep_run c.self.invariant.kept c.ticket-ticket.result c.in-Some.task.now.seen.entry c.keeps_replies-keeps.result
-          (facts_of (told c.self.inside.facts c.self.inside.attentions) (c.self.inside.store.capacity)) c.perform-performed.result _ _ _
+          (facts_of (told c.self.inside.facts c.self.inside.attentions) (c.self.inside.store.capacity)) (option_map performed_of c.perform-performed.result) _ _ _
           (is_ready c.self.invariant.kept c.ticket-ticket.result c.in-Some.task.now at turns.1 turns.2 turns.3)
           (told_is c.self.invariant.kept c.self.inside.facts (c.self.inside.store.capacity) refl refl refl c.self.invariant.sized)
           (rw (c.command-command.ensures, c.data-bytes.ensures.data) at c.perform-performed.ensures.performed) c.record_run.ensures.room);
@@ -79,7 +79,7 @@ returns-in-Ready-clause-step c =
       c.ticket-ticket.ensures.entry,
     )
     (commits_run c.self.invariant.kept c.args.job.now c.in-Some.task.now.seen.entry c.self.inside.log.keeps
-    (facts_of (told c.self.inside.facts c.self.inside.attentions) (c.self.inside.store.capacity)) c.perform-performed.result
+    (facts_of (told c.self.inside.facts c.self.inside.attentions) (c.self.inside.store.capacity)) (option_map performed_of c.perform-performed.result)
     (pages.blocks_of c.perform-performed.new.store.pages) c.perform-performed.new.attentions
     (is_of c.self.invariant.kept c.args.job.now c.in-Some.task.now at turns.0)
     (is_ready c.self.invariant.kept c.args.job.now.entry.ticket c.in-Some.task.now at turns.1 turns.2 turns.3)

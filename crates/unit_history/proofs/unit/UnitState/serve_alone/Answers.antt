@@ -25,34 +25,34 @@ invariant_of-self-2 g c =
     let room : 129 ≤ c.make_way.new.log.room = c.in-Ok-make_way.ensures.room in
     let less = c.push_three.ensures.room in
     let left = c.push_three.new.self.room in
-    let steps = all_steps c.args.arrival.now.entry.ticket t c.args.arrival.now.entry _ (unkept c.run-ran.result) _ _ _ _
+    let steps = all_steps c.args.arrival.now.entry.ticket t c.args.arrival.now.entry _ (unkept c.run_and_answer-ran.result) _ _ _ _
     c.in-Ok-make_way.ensures.steps c.push_three.ensures.steps c.recorded_entry.ensures c.step_of_run.ensures own in
     record {
       kept =
-          rw (c.run-ran.ensures.facts)
+          rw (c.run_and_answer-ran.ensures.facts)
           (kept_served (opening_of u) u.log.steps (pages.blocks_of u.store.pages) u.attentions u.tasks u.last_tickets u.log.room
           c.self.invariant.kept (no_tasks u.tasks (omega (arith, c.len.ensures.value, c.if-len-gt0.false))) c.args.arrival.now
           c.came.new.self le came (left + 2) (omega (arith, room, less))
-          (facts_of (told u.facts u.attentions) (u.store.capacity)) (unkept c.run-ran.result) (pages.blocks_of c.run-ran.new.store.pages)
-          c.run-ran.new.attentions (told_is c.self.invariant.kept u.facts (u.store.capacity) refl refl refl c.self.invariant.sized)
-          (rw (c.command-2.ensures, c.data-2.ensures.data) at c.run-ran.ensures.performed) c.push_three.new.self.steps steps
+          (facts_of (told u.facts u.attentions) (u.store.capacity)) (unkept c.run_and_answer-ran.result) (pages.blocks_of c.run_and_answer-ran.new.store.pages)
+          c.run_and_answer-ran.new.attentions (told_is c.self.invariant.kept u.facts (u.store.capacity) refl refl refl c.self.invariant.sized)
+          c.run_and_answer-ran.ensures.performed c.push_three.new.self.steps steps
           (left + 1) left (omega (arith)) (omega (arith)));
       based =
           based_served c.push_three.new.self.base c.make_way.new.log.forgotten c.push_three.new.self.forgotten
-          c.args.arrival.now.entry.ticket (unkept c.run-ran.result) c.args.arrival.now.entry u.log.steps c.push_three.new.self.steps
+          c.args.arrival.now.entry.ticket (unkept c.run_and_answer-ran.result) c.args.arrival.now.entry u.log.steps c.push_three.new.self.steps
           (seen_of u.tasks) (c.push_three.ensures.base ∙ c.in-Ok-make_way.ensures.base) c.push_three.ensures.forgotten steps
           (c.make_way.ensures.clear c.self.invariant.based.clear);
       sized =
-          c.run-ran.ensures.size ∙ c.self.invariant.sized
-          ∙ sym (rw steps (ran_sized (opening_of u) c.args.arrival.now.entry.ticket (unkept c.run-ran.result) (Step.Enter c.args.arrival.now.entry ∷ u.log.steps) _ refl));
+          c.run_and_answer-ran.ensures.size ∙ c.self.invariant.sized
+          ∙ sym (rw steps (ran_sized (opening_of u) c.args.arrival.now.entry.ticket (unkept c.run_and_answer-ran.result) (Step.Enter c.args.arrival.now.entry ∷ u.log.steps) _ refl));
       noted =
-          rw (c.run-ran.ensures.facts)
+          rw (c.run_and_answer-ran.ensures.facts)
           (recorded_served (opening_of u) u.log.steps (pages.blocks_of u.store.pages) u.attentions u.tasks u.last_tickets u.log.room
           c.self.invariant.kept (no_tasks u.tasks (omega (arith, c.len.ensures.value, c.if-len-gt0.false))) c.args.arrival.now
           c.came.new.self le came (left + 2) (omega (arith, room, less))
-          (facts_of (told u.facts u.attentions) (u.store.capacity)) (unkept c.run-ran.result) (pages.blocks_of c.run-ran.new.store.pages)
-          c.run-ran.new.attentions (told_is c.self.invariant.kept u.facts (u.store.capacity) refl refl refl c.self.invariant.sized)
-          (rw (c.command-2.ensures, c.data-2.ensures.data) at c.run-ran.ensures.performed) c.push_three.new.self.steps steps
+          (facts_of (told u.facts u.attentions) (u.store.capacity)) (unkept c.run_and_answer-ran.result) (pages.blocks_of c.run_and_answer-ran.new.store.pages)
+          c.run_and_answer-ran.new.attentions (told_is c.self.invariant.kept u.facts (u.store.capacity) refl refl refl c.self.invariant.sized)
+          c.run_and_answer-ran.ensures.performed c.push_three.new.self.steps steps
           _ _ _ _ c.self.invariant.noted refl
           (rw (c.command.ensures, c.data.ensures.data, c.len-2.ensures, c.in-Ok-make_way.ensures.steps) at c.note_command.ensures)
           (c.capacity.ensures ∙ c.self.invariant.sized));
@@ -70,19 +70,19 @@ returns-clause-serves g c =
     let room : 129 ≤ c.make_way.new.log.room = c.in-Ok-make_way.ensures.room in
     let less = c.push_three.ensures.room in
     let left = c.push_three.new.self.room in
-    let steps = all_steps c.args.arrival.now.entry.ticket t c.args.arrival.now.entry _ (unkept c.run-ran.result) _ _ _ _
+    let steps = all_steps c.args.arrival.now.entry.ticket t c.args.arrival.now.entry _ (unkept c.run_and_answer-ran.result) _ _ _ _
     c.in-Ok-make_way.ensures.steps c.push_three.ensures.steps c.recorded_entry.ensures c.step_of_run.ensures own in
     let keeps : c.self.inside.log.keeps ≡ false = sym c.keeps_replies.ensures ∙ c.if-keeps_replies.false in
-    let answers = (λ (e : Ending). g.A.Answering.answers c.args.answering.now c.args.arrival.now e c.answer.new.self) in
+    let answers = (λ (e : Ending). g.A.Answering.answers c.args.answering.now c.args.arrival.now e c.run_and_answer-ran.new.answering) in
     λ yes.
-    rw (c.keep_data.ensures, ← c.self.view_is, c.run-ran.ensures.facts)
+    rw (← c.self.view_is, c.run_and_answer-ran.ensures.facts)
     (serves_alone (opening_of u) u.log.steps (pages.blocks_of u.store.pages) u.attentions u.tasks u.last_tickets u.log.room
     c.self.invariant.kept (no_tasks u.tasks (omega (arith, c.len.ensures.value, c.if-len-gt0.false))) c.args.arrival.now
     c.came.new.self le came (left + 2) (omega (arith, room, less))
-    (facts_of (told u.facts u.attentions) (u.store.capacity)) (unkept c.run-ran.result) (pages.blocks_of c.run-ran.new.store.pages)
-    c.run-ran.new.attentions (told_is c.self.invariant.kept u.facts (u.store.capacity) refl refl refl c.self.invariant.sized)
-    (rw (c.command-2.ensures, c.data-2.ensures.data) at c.run-ran.ensures.performed) c.push_three.new.self.steps steps
+    (facts_of (told u.facts u.attentions) (u.store.capacity)) (unkept c.run_and_answer-ran.result) (pages.blocks_of c.run_and_answer-ran.new.store.pages)
+    c.run_and_answer-ran.new.attentions (told_is c.self.invariant.kept u.facts (u.store.capacity) refl refl refl c.self.invariant.sized)
+    c.run_and_answer-ran.ensures.performed c.push_three.new.self.steps steps
     answers c.self.inside.log.keeps c.push_three.new.self.keeps keeps
     (c.push_three.ensures.keeps ∙ c.in-Ok-make_way.ensures.keeps ∙ keeps)
-    (subst answers (ends_as _ _ _ c.run-ran.result) c.answer.ensures)
+    (subst answers (ends_as _ _ _ c.run_and_answer-ran.result) c.run_and_answer-ran.ensures.answered)
     (sym c.ticket-ticket.ensures.chain ∙ own))

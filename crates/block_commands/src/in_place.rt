@@ -1,0 +1,46 @@
+//! A READ whose data are taken from where they stand.
+
+ghost use Rattle.std.specs.Prelude.{◌≡◌, ℕ, List, length, None, IfSome};
+ghost use Rattle.cdb.specs.Need.{need_of};
+ghost use Rattle.replies.specs.Effects.{block_after};
+ghost use Rattle.replies.specs.PlainReply.{success};
+ghost use Rattle.replies.specs.Replies.{reply_of};
+ghost use Rattle.replies.specs.Statuses.{good};
+ghost use Rattle.block_commands.specs.Told.{facts_of};
+
+use crate::capacity::is_in_range;
+use crate::facts::UnitFacts;
+use block_store::{PagedStore, Store};
+use cdb::Command;
+
+/// Returns the data of a READ where they stand in the store (SBC-3 §5.11), so that nothing is copied for its reply: that
+/// is GOOD with these data. Its blocks lie in one page, below the capacity, and no attention is pending. `None` for
+/// every other command, which [`exec`](crate::exec) runs. Takes no memory.
+#[inline(always)]
+pub fn read_in_place<'a>(
+    store: &'a PagedStore,
+    command: &Command,
+    facts: &UnitFacts,
+) -> Option<&'a [u8]>
+    ensures reply { IfSome result (λ found. (out : List ℕ) →
+        reply_of (facts_of facts.now (⟦<PagedStore as Store>⟧.size store.now)) command.now out (⟦<PagedStore as Store>⟧.block_at store.now)
+        ≡ success command.now found.now) }
+    ensures blocks { IfSome result (λ found. (out : List ℕ) (b : ℕ) →
+        block_after command.now out good (⟦<PagedStore as Store>⟧.block_at store.now) b ≡ ⟦<PagedStore as Store>⟧.block_at store.now b) }
+    ensures sends { IfSome result (λ found. (need_of command.now).out ≡ 0) }
+    ensures calm { IfSome result (λ found. facts.now.pending ≡ None) }
+    ensures len { IfSome result (λ found. length found.now ≡ (need_of command.now).into) }
+{
+    if facts.pending.is_some() {
+        return None;
+    }
+    match *command {
+        Command::Read { lba, blocks } => {
+            if !is_in_range(store.capacity(), lba, u32::from(blocks)) {
+                return None;
+            }
+            store.blocks_in_place(lba, u32::from(blocks))
+        }
+        _ => None,
+    }
+}

@@ -1,0 +1,18 @@
+use Rattle.std.proofs.Common.{◌≡◌, false, None, subst}
+use Rattle.block_commands.specs.Told.{facts_of}
+use Rattle.block_store.specs.Kept as pages
+use Rattle.cdb.specs.declared.commands.Command.{Command}
+use Rattle.unit_history.specs.Performing.{Ran, told}
+use Rattle.unit_history.proofs.Alone.{ran_in_place}
+use Rattle.unit_history.proofs.serving.run_and_answer.Goals as goal
+
+pub returns-in-Some-clause-performed : goal.returns-in-Some-clause-performed
+returns-in-Some-clause-performed g c =
+    let blocks = pages.blocks_of c.args.store.now.pages in
+    let out = c.args.arrival.now.entry.data_out in
+    subst (λ (command : Command). Ran false (facts_of (told c.args.facts.now c.args.attentions.now) c.args.store.now.capacity) command out
+    (record { reply = c.of_read.result; kept = None }) blocks blocks c.args.attentions.now c.args.attentions.now)
+    c.command-command.ensures
+    (ran_in_place c.args.facts.now c.tell_oldest.new.facts c.args.store.now.capacity c.command-command.result out c.in-Some.data.now
+    c.of_read.result blocks c.args.attentions.now c.tell_oldest.ensures (c.in-Some.ensures.reply out) (c.in-Some.ensures.blocks out)
+    c.in-Some.ensures.sends c.in-Some.ensures.calm c.of_read.ensures)
