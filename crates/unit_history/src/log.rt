@@ -1,16 +1,16 @@
 //! The steps of a history, of which the code keeps what it is asked.
 
-ghost use Rattle.std.specs.Prelude.{◌≡◌, ◌+◌, ◌-◌, ◌<◌, ◌≤◌, ◌%◌, nat_lt, [], ◌∷◌, ◌++◌, length, drop, max, OnOk, OnErr, IfSome, Option, Some, None, slice_get, true, false, ◌⊎◌, IsTrue, ◌↔◌, if◌then◌else◌};
+ghost use Rattle.std.specs.Prelude.{◌≡◌, ◌+◌, ◌-◌, ◌<◌, ◌≤◌, ◌%◌, nat_lt, [], ◌∷◌, length, max, OnOk, OnErr, IfSome, Option, Some, None, true, false, ◌⊎◌, IsTrue, ◌↔◌, if◌then◌else◌};
 ghost use Rattle.std.specs.Option.{option_map};
 ghost use Rattle.replies.specs.PlainReply.{PlainReply, plain_of};
 ghost use Rattle.unit_model.specs.Base.{most_before, most_kept};
 ghost use Rattle.unit_model.specs.Counts.{counts_of};
-ghost use Rattle.unit_model.specs.Receipts.{step_at, latest_kept, is_kept, Agrees};
+ghost use Rattle.unit_model.specs.Receipts.{step_at, is_kept, Agrees};
 ghost use Rattle.unit_model.specs.Steps.{Step};
-ghost use Rattle.unit_history.specs.Kept.{kind_of, latest, reply_kept, commit_kind};
+ghost use Rattle.unit_history.specs.Kept.{kind_of, reply_kept, commit_kind};
 ghost use Rattle.unit_history.specs.Runs.{committed_one};
 ghost use Rattle.unit_history.specs.Slots.{IsCalm};
-ghost use Rattle.unit_history.specs.Recorded.{step_recorded, spare_of_deque, kept_there, reply_of_place, AreAlike, AreFirst, Tells, most_steps};
+ghost use Rattle.unit_history.specs.Recorded.{step_recorded, spare_of_deque, AreFirst, Tells, most_steps};
 
 use crate::counted::CountedSteps;
 use crate::folding::{Folding, committed_of_one, rule_of_one};

@@ -12,7 +12,6 @@ ghost use Rattle.unit_model.specs.Contents.{pending_at_start};
 ghost use Rattle.unit_history.specs.Kept.{kept_reply};
 ghost use Rattle.unit_history.specs.Endings.{plain_run};
 ghost use Rattle.unit_history.specs.Performing.{Performs, performed_of, told, taken, unkept};
-ghost use Rattle.unit_model.specs.Contents.{oldest};
 
 use crate::log::LONGEST_KEPT;
 use block_commands::{UnitFacts, exec, exec_prepared, takes_attention};
