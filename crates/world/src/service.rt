@@ -267,6 +267,28 @@ impl Device {
         if self.is_idle(number) {
             return Ok(None);
         }
+        self.serve_next(number, queues, most)
+    }
+
+    /// Takes the next chain of a queue that is asked, and does at once what may be done of it.
+    // Apart, so that a look at a silent queue costs no call.
+    #[inline(never)]
+    fn serve_next(
+        &mut self,
+        number: u16,
+        queues: u32,
+        most: u64,
+    ) -> Result<Option<Progress>, NoMemory>
+        requires most { 1 ≤ most }
+        requires whole { IsWhole self.old }
+        requires sound { IsSound self.old }
+        requires few { AreFew self.old }
+        requires before { NoneBeforeFetch self.old }
+        requires below { NoFetchBelow (asks queues) number self.old }
+        requires there { number < length self.old.queues }
+        requires asked { asks queues number ≡ true }
+        ensures { FetchesOn (asks queues) most number self.old result self.new }
+    {
         if most >= AT_ONCE && self.serves_at_once(number) {
             return self.serve(number, queues, most);
         }
