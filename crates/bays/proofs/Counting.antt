@@ -98,17 +98,17 @@ commits_count (hand.Answered place t) u v h' k c keeps = absurd c
 commits_count (hand.Job held) u v h' k c (o, did, is) =
     subst (λ z. commits_of v.steps ≡ commits_of u.steps + receipts_due z) (sym is) (answers_count u held.job o v did)
 
-runs_count : (next : NextJob) (h : declared.Hand) (u : PlainUnit) (out : Jobs) (v : PlainUnit) (h' : declared.Hand) (out' : Jobs)
-    → RunsNext h u out next v h' out' → commits_of v.steps ≡ commits_of u.steps + receipts_run next h'
-runs_count Listed h u out v h' out' e = omega (arith, counted u v e.1)
-runs_count Taken h u out v h' out' e = omega (arith, counted u v e.0)
-runs_count Committed h u out v h' out' e = commits_count e.between u v h' (hand_of h') e.commits e.keeps
+runs_count : (at : ℕ) (next : NextJob) (h : declared.Hand) (u : PlainUnit) (out : Jobs) (v : PlainUnit) (h' : declared.Hand) (out' : Jobs)
+    → RunsNext at h u out next v h' out' → commits_of v.steps ≡ commits_of u.steps + receipts_run next h'
+runs_count at Listed h u out v h' out' e = omega (arith, counted u v e.1)
+runs_count at Taken h u out v h' out' e = omega (arith, counted u v e.0)
+runs_count at Committed h u out v h' out' e = commits_count e.between u v h' (hand_of h') e.commits e.keeps
 
-pub turns_count : (h : declared.Hand) (s : Slot) (u : PlainUnit) (out : Jobs) (next : NextJob) (v : PlainUnit) (h' : declared.Hand)
-    (s' : Slot) (out' : Jobs) → LeavesEntersRuns h s u out next v h' s' out'
+pub turns_count : (at : ℕ) (h : declared.Hand) (s : Slot) (u : PlainUnit) (out : Jobs) (next : NextJob) (v : PlainUnit) (h' : declared.Hand)
+    (s' : Slot) (out' : Jobs) → LeavesEntersRuns at h s u out next v h' s' out'
     → commits_of v.steps ≡ commits_of u.steps + receipts_run next h'
-turns_count h s u out next v h' s' out' e =
-    omega (arith, runs_count next e.hand e.between e.listed v h' out' e.runs, turns_none (hand_of h) s u out e.between (hand_of e.hand) s' e.listed e.turns)
+turns_count at h s u out next v h' s' out' e =
+    omega (arith, runs_count at next e.hand e.between e.listed v h' out' e.runs, turns_none (hand_of h) s u out e.between (hand_of e.hand) s' e.listed e.turns)
 
 -- and the same of what a closure was lent
 pub some_made : (u v a b : PlainUnit) (n m : ℕ) → a ≡ u → b ≡ v → commits_of b.steps ≡ commits_of a.steps + m → n ≡ m

@@ -1,5 +1,5 @@
 -- What two or three phases do that share one hold: each of them its own part, with nothing between.
-use Rattle.std.specs.Prelude.{ℕ, ◌≡◌, Bool, true, List, [], ◌∷◌, length, Result}
+use Rattle.std.specs.Prelude.{ℕ, ◌≡◌, Bool, true, List, [], ◌∷◌, length, Option, Some, Result}
 use Rattle.block_store.specs.declared.NoMemory.{NoMemory}
 use Rattle.scsi_codec.specs.declared.lun.Address.{Address}
 use Rattle.unit_model.specs.Jobs.{PlainJob, Jobs}
@@ -8,7 +8,7 @@ use Rattle.queues.specs.Queue.{BareQueue}
 use Rattle.device_model.specs.Parts.{Slot, Hand}
 use Rattle.phases.specs.declared.hand.Hand as declared_hand
 use Rattle.phases.specs.Queue.{with_slot}
-use Rattle.phases.specs.Parts.{hand_of}
+use Rattle.phases.specs.Parts.{hand_of, committing_unit}
 use Rattle.phases.specs.Fetching.{FetchesRequest}
 use Rattle.phases.specs.Answering.{Answers}
 use Rattle.phases.specs.Units.{Enters, Commits, Leaves}
@@ -41,26 +41,29 @@ pub record TakesOnly (h : declared_hand.Hand) (out : Jobs) (h' : declared_hand.H
   pub takes : hand_of h' ≡ Hand.Taken job
   pub rest : out' ≡ record out { jobs = [] }
 
--- own: so it is taken, and then committed
-pub record TakesCommits (h : declared_hand.Hand) (u : PlainUnit) (out : Jobs)
+-- own: so it is taken, and then committed at its own unit, which stands at this place
+pub record TakesCommits (at : ℕ) (h : declared_hand.Hand) (u : PlainUnit) (out : Jobs)
     (u' : PlainUnit) (h' : declared_hand.Hand) (out' : Jobs) : Type 0 where
   pub between : declared_hand.Hand
   pub takes : TakesOnly h out between out'
+  pub own_unit : committing_unit (hand_of between) ≡ Some at
   pub commits : Commits (hand_of between) u true u' (hand_of h')
   pub keeps : KeepsOutcome between u u' h'
 
--- own: what becomes of the jobs that may run: they stay in the list, unless there is one alone and the hand is free
-abbrev pub RunsNext : declared_hand.Hand → PlainUnit → Jobs → NextJob → PlainUnit → declared_hand.Hand → Jobs → Type 0
-RunsNext h u out Listed u' h' out' =
+-- own: what becomes of the jobs that may run, behind an Enter at the unit of this place: they stay in the list, unless
+-- there is one alone and the hand is free
+abbrev pub RunsNext : ℕ → declared_hand.Hand → PlainUnit → Jobs → NextJob → PlainUnit → declared_hand.Hand → Jobs → Type 0
+RunsNext at h u out Listed u' h' out' =
     (hand_of h ≡ Hand.Empty → length out.jobs ≡ 1 → ⊥) × (u' ≡ u) × (h' ≡ h) × (out' ≡ out)
-RunsNext h u out Taken u' h' out' = (u' ≡ u) × TakesOnly h out h' out'
-RunsNext h u out Committed u' h' out' = TakesCommits h u out u' h' out'
+RunsNext at h u out Taken u' h' out' = (u' ≡ u) × TakesOnly h out h' out'
+RunsNext at h u out Committed u' h' out' = TakesCommits at h u out u' h' out'
 
--- own: the task in the hand leaves, the request that arrived enters, and then the only job that may run is run
-pub record LeavesEntersRuns (h : declared_hand.Hand) (s : Slot) (u : PlainUnit) (out : Jobs) (next : NextJob)
+-- own: at the unit of a place the task in the hand leaves, the request that arrived enters, and then the only job that
+-- may run is run
+pub record LeavesEntersRuns (at : ℕ) (h : declared_hand.Hand) (s : Slot) (u : PlainUnit) (out : Jobs) (next : NextJob)
     (u' : PlainUnit) (h' : declared_hand.Hand) (s' : Slot) (out' : Jobs) : Type 0 where
   pub between : PlainUnit
   pub hand : declared_hand.Hand
   pub listed : Jobs
   pub turns : LeavesEnters (hand_of h) s u out between (hand_of hand) s' listed
-  pub runs : RunsNext hand between listed next u' h' out'
+  pub runs : RunsNext at hand between listed next u' h' out'

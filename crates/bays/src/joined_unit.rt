@@ -62,7 +62,7 @@ fn run_next<G: Gate>(
     hand: &mut Hand,
     out: &mut JobList,
 ) -> NextJob
-    ensures { RunsNext hand.old unit.old out.old result unit.new hand.new out.new }
+    ensures { RunsNext at hand.old unit.old out.old result unit.new hand.new out.new }
 {
     if !hand.is_empty() || out.len() != 1 {
         return NextJob::Listed;
@@ -88,7 +88,7 @@ fn leave_enter_run<G: Gate>(
     slot: &mut Slot,
     out: &mut JobList,
 ) -> NextJob
-    ensures { LeavesEntersRuns hand.old (slot_of slot.old) unit.old out.old result
+    ensures { LeavesEntersRuns at hand.old (slot_of slot.old) unit.old out.old result
         unit.new hand.new (slot_of slot.new) out.new }
 {
     leave_enter(unit, hand, slot, out);
@@ -152,7 +152,7 @@ pub fn leave_enter_commit_on<B: UnitBays, G: Gate>(
 ) -> NextJob
     requires there { at < B.units bays.old }
     ensures did { (u : PlainUnit) × (v : PlainUnit) × B.lends_unit bays.old at u
-        × LeavesEntersRuns hand.old (slot_of slot.old) u out.old result v hand.new (slot_of slot.new) out.new
+        × LeavesEntersRuns at hand.old (slot_of slot.old) u out.old result v hand.new (slot_of slot.new) out.new
         × B.keeps_unit bays.old at v bays.new }
     ensures counted { B.counts bays.old (receipts_run result hand.new) bays.new }
     ensures units { B.units bays.new ≡ B.units bays.old }
@@ -163,7 +163,7 @@ pub fn leave_enter_commit_on<B: UnitBays, G: Gate>(
         &mut turn,
         out,
         move |unit, turn, out| -> (NextJob, u64)
-            ensures { LeavesEntersRuns turn.old.hand.now (slot_of turn.old.slot.now) unit.old out.old result.0
+            ensures { LeavesEntersRuns at turn.old.hand.now (slot_of turn.old.slot.now) unit.old out.old result.0
                 unit.new turn.new.hand.now (slot_of turn.new.slot.now) out.new
                 × (turn.new.hand.ghost_name ≡ turn.old.hand.ghost_name)
                 × (turn.new.slot.ghost_name ≡ turn.old.slot.ghost_name)

@@ -168,18 +168,18 @@ turn_tallies None n n' kept h s u out v h' s' out' none e counted even =
     omega (arith, even, counted, no_job_due h none, left_without h u out e.left e.between h' e.listed none e.leaves)
 turn_tallies (Some t) n n' kept h s u out v h' s' out' none e counted even = refl
 
-run_due : (next : NextJob) (h : declared.Hand) (u : PlainUnit) (out : Jobs) (v : PlainUnit) (h' : declared.Hand) (out' : Jobs)
-    → receipts_due h ≡ 0 → RunsNext h u out next v h' out' → receipts_due h' ≡ receipts_run next h'
-run_due Listed h u out v h' out' none e = ap receipts_due e.2 ∙ none
-run_due Taken h u out v h' out' none e = taken_due h' e.1.job e.1.takes
-run_due Committed h u out v h' out' none e = refl
+run_due : (at : ℕ) (next : NextJob) (h : declared.Hand) (u : PlainUnit) (out : Jobs) (v : PlainUnit) (h' : declared.Hand) (out' : Jobs)
+    → receipts_due h ≡ 0 → RunsNext at h u out next v h' out' → receipts_due h' ≡ receipts_run next h'
+run_due at Listed h u out v h' out' none e = ap receipts_due e.2 ∙ none
+run_due at Taken h u out v h' out' none e = taken_due h' e.1.job e.1.takes
+run_due at Committed h u out v h' out' none e = refl
 
 -- nor where a job was run behind that, but for the receipt that its Commit left
-pub run_tallies : (lost : Option Ticket) (n n' : ℕ) (kept : Kept) (h : declared.Hand) (s : Slot) (u : PlainUnit) (out : Jobs)
+pub run_tallies : (at : ℕ) (lost : Option Ticket) (n n' : ℕ) (kept : Kept) (h : declared.Hand) (s : Slot) (u : PlainUnit) (out : Jobs)
     (next : NextJob) (v : PlainUnit) (h' : declared.Hand) (s' : Slot) (out' : Jobs) → HasNoJob h
-    → LeavesEntersRuns h s u out next v h' s' out' → n' ≡ n + receipts_run next h' → Tallies lost n kept h → Tallies lost n' kept h'
-run_tallies None n n' kept h s u out next v h' s' out' none e counted even =
+    → LeavesEntersRuns at h s u out next v h' s' out' → n' ≡ n + receipts_run next h' → Tallies lost n kept h → Tallies lost n' kept h'
+run_tallies at None n n' kept h s u out next v h' s' out' none e counted even =
     let t = e.turns in
     let left = left_without h u out t.left t.between e.hand t.listed none t.leaves in
-    omega (arith, even, counted, no_job_due h none, run_due next e.hand e.between e.listed v h' out' left e.runs)
-run_tallies (Some t) n n' kept h s u out next v h' s' out' none e counted even = refl
+    omega (arith, even, counted, no_job_due h none, run_due at next e.hand e.between e.listed v h' out' left e.runs)
+run_tallies at (Some t) n n' kept h s u out next v h' s' out' none e counted even = refl

@@ -1,5 +1,5 @@
 -- What a seat keeps of its receipts, by place.
-use Rattle.std.proofs.Common.{◌≡◌, ℕ, zero, suc, ◌+◌, ◌-◌, ◌%◌, ◌<◌, ◌≤◌, Bool, true, false, cond, leb, List, [], ◌∷◌, ◌++◌, length, set, slice_get, Option, Some, None, refl, sym, ◌∙◌, ap, arith, ◌⊎◌, inl, inr, length-append, add-zero}
+use Rattle.std.proofs.Common.{◌≡◌, ℕ, zero, suc, ◌+◌, ◌-◌, ◌%◌, ◌<◌, ◌≤◌, Bool, true, false, cond, leb, List, [], ◌∷◌, ◌++◌, length, set, slice_get, Option, Some, None, refl, sym, ◌∙◌, ap, arith, ◌⊎◌, inl, inr, length-append, add-zero, append_assoc}
 use Rattle.std.proofs.lemmas.Bool.Decides.{nat_tests}
 use Rattle.std.specs.Option.{option_map}
 use Rattle.replies.specs.PlainReply.{PlainReply, plain_of}
@@ -144,6 +144,25 @@ module _ (cs : List Receipt) (rs : List (Option Reply)) (c d b : Receipt) (r : O
             ∙ ap (λ x. option_map (λ (z : Receipt). record z { reply = x }) (slice_get cs k)) (same_reply k (omega (arith, less, before)) (λ e. apart (e ∙ sym before)))
             ∙ sym (found_before k);
       }
+
+-- receipts from a place on, with two lists of slots that have the same replies for these places
+pub same_later : (n i : ℕ) (cs : List Receipt) (rs rs' : List (Option Reply)) → i + length cs ≤ n
+    → ((k : ℕ) → i ≤ k → k < n → reply_of n k rs' ≡ reply_of n k rs) → with_replies n i cs rs' ≡ with_replies n i cs rs
+same_later n i [] rs rs' fits same = refl
+same_later n i (c ∷ cs) rs rs' fits same =
+    ap (λ (x : Option PlainReply). record c { reply = x } ∷ with_replies n (i + 1) cs rs') (same i (omega arith) (omega (arith, fits)))
+    ∙ ap (λ (l : List Receipt). record c { reply = reply_of n i rs } ∷ l)
+    (same_later n (i + 1) cs rs rs' (omega (arith, fits)) (λ k le less. same k (omega (arith, le)) less))
+
+-- one receipt more is joined with its reply, and the later ones still find theirs
+pub joined_one : (done : List Receipt) (n i : ℕ) (c : Receipt) (cs : List Receipt) (rs rs' : List (Option Reply)) (x : Option PlainReply)
+    → i + length (c ∷ cs) ≤ n → x ≡ reply_of n i rs → ((k : ℕ) → i < k → k < n → reply_of n k rs' ≡ reply_of n k rs)
+    → (done ++ record c { reply = x } ∷ []) ++ with_replies n (i + 1) cs rs' ≡ done ++ with_replies n i (c ∷ cs) rs
+joined_one done n i c cs rs rs' x fits its same =
+    append_assoc done (record c { reply = x } ∷ []) (with_replies n (i + 1) cs rs')
+    ∙ ap (λ (z : Option PlainReply). done ++ record c { reply = z } ∷ with_replies n (i + 1) cs rs') its
+    ∙ ap (λ (l : List Receipt). done ++ record c { reply = reply_of n i rs } ∷ l)
+    (same_later n (i + 1) cs rs rs' (omega (arith, fits)) (λ k le less. same k (omega (arith, le)) less))
 
 -- an empty slot more
 pub none_more : (rs : List (Option Reply)) (i : ℕ) → reply_in (slice_get (rs ++ None ∷ []) i) ≡ reply_in (slice_get rs i)

@@ -1,10 +1,11 @@
 -- What a seat keeps of the requests that it answered.
 use Rattle.std.specs.Prelude.{ℕ, ◌≡◌, ◌≢◌, ◌+◌, ◌%◌, ◌<◌, nat_lt, nat_le, Bool, false, List, [], ◌∷◌, ◌++◌, length, slice_get, Option, Some, None, if◌then◌else◌}
-use Rattle.std.specs.List.{sum_by}
+use Rattle.std.specs.List.{sum_by, flat_map}
 use Rattle.std.specs.Option.{option_map}
 use Rattle.replies.specs.PlainReply.{PlainReply, plain_of}
 use Rattle.replies.specs.declared.reply.Reply.{Reply}
 use Rattle.unit_model.specs.Receipts.{Receipt, longest_kept}
+use Rattle.unit_history.specs.Notes.{PlainNote}
 use Rattle.unit_history.specs.declared.receipt_or_note.ReceiptOrNote.{ReceiptOrNote}
 use Rattle.unit_history.specs.declared.receipt_or_note.ReceiptOrNote.TheVariants as given
 use Rattle.report.specs.Rooms.{replies_kept}
@@ -32,6 +33,14 @@ receipts_of bare replies = with_replies (length bare) 0 bare replies
 
 abbrev pub receipts_in : Kept → List Receipt
 receipts_in k = receipts_of k.receipts.items k.replies.items
+
+-- own: all that seats kept, seat by seat, and of each seat in its order: the receipts, with the replies that are kept,
+-- and the notes
+abbrev pub receipts_of_all : List Kept → List Receipt
+receipts_of_all all = flat_map receipts_in all
+
+abbrev pub notes_of_all : List Kept → List PlainNote
+notes_of_all all = flat_map (λ (k : Kept). k.notes.items) all
 
 -- own: how many receipts seats kept
 abbrev pub receipts_kept : List Kept → ℕ

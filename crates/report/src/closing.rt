@@ -1,8 +1,8 @@
 //! Makes a report of what stood under locks, and of what the seats kept.
 
-ghost use Rattle.std.specs.Prelude.{◌≡◌, ◌+◌, ◌≤◌, vec_len, length, IfOk, OnOk};
+ghost use Rattle.std.specs.Prelude.{◌≡◌, ◌++◌, ◌≤◌, vec_len, IfOk, OnOk};
 ghost use Rattle.report.specs.Closed.{IsReport};
-ghost use Rattle.report.specs.Keeping.{receipts_in, receipts_kept};
+ghost use Rattle.report.specs.Keeping.{receipts_of, receipts_in, receipts_of_all, notes_of_all, receipts_kept};
 
 use crate::examining::examine;
 use crate::fault::CloseFault;
@@ -33,7 +33,7 @@ fn append_receipts(
     mut replies: Vec<Option<Reply>>,
     receipts: &mut Vec<Receipt>,
 ) -> Result<(), AllocError>
-    ensures { OnOk result (vec_len receipts.new ≡ vec_len receipts.old + vec_len bare) }
+    ensures { OnOk result (receipts.new.items ≡ receipts.old.items ++ receipts_of bare.items replies.items) }
 {
     let count = bare.len();
     receipts.reserve(count)?;
@@ -48,7 +48,8 @@ fn append_receipts(
 
 /// Appends what one seat kept.
 fn append(kept: Kept, receipts: &mut Vec<Receipt>, notes: &mut Vec<Note>) -> Result<(), AllocError>
-    ensures { OnOk result (vec_len receipts.new ≡ vec_len receipts.old + length (receipts_in kept)) }
+    ensures receipts { OnOk result (receipts.new.items ≡ receipts.old.items ++ receipts_in kept) }
+    ensures notes { OnOk result (notes.new.items ≡ notes.old.items ++ kept.notes.items) }
 {
     let Kept {
         receipts: bare,
@@ -66,7 +67,9 @@ fn append(kept: Kept, receipts: &mut Vec<Receipt>, notes: &mut Vec<Note>) -> Res
 
 /// Returns all receipts, and all notes.
 fn together(alloc: Global, kept: Vec<Kept>) -> Result<(Vec<Receipt>, Vec<Note>), AllocError>
-    ensures { IfOk result (λ r. vec_len r.0 ≡ receipts_kept kept.items) }
+    ensures receipts { IfOk result (λ r. r.0.items ≡ receipts_of_all kept.items) }
+    ensures notes { IfOk result (λ r. r.1.items ≡ notes_of_all kept.items) }
+    ensures counted { IfOk result (λ r. vec_len r.0 ≡ receipts_kept kept.items) }
 {
     let mut receipts = Vec::new(alloc);
     let mut notes = Vec::new(alloc);
@@ -97,7 +100,9 @@ pub fn report_closed(
     requires few { vec_len queues ≤ 65536 }
     ensures report { IfOk result (λ r. IsReport specs.now r.units.items r.queues.items r.receipts.items r.notes.items) }
     ensures units { IfOk result (λ r. r.units.items ≡ units.items) }
-    ensures receipts { IfOk result (λ r. vec_len r.receipts ≡ receipts_kept kept.items) }
+    ensures receipts { IfOk result (λ r. r.receipts.items ≡ receipts_of_all kept.items) }
+    ensures notes { IfOk result (λ r. r.notes.items ≡ notes_of_all kept.items) }
+    ensures counted { IfOk result (λ r. vec_len r.receipts ≡ receipts_kept kept.items) }
     ensures queues { IfOk result (λ r. vec_len r.queues ≡ vec_len queues) }
 {
     let Ok(queues) = out_of_locks(alloc, queues) else {

@@ -3,7 +3,9 @@
 ghost use Rattle.std.specs.Prelude.{ℕ, ◌≡◌, ◌<◌, ◌≤◌, ◌%◌, [], ◌∷◌, ◌++◌, length, slice_get, slice_set, vec_len, None, OnOk};
 ghost use Rattle.std.specs.Bool.{OnTrue};
 ghost use Rattle.std.specs.Vec.{vec_capacity};
-ghost use Rattle.report.specs.Keeping.{has_long, shortened, without_reply, reply_in, receipts_of, receipts_in, KeepsReceipt, KeepsGiven};
+ghost use Rattle.std.specs.Option.{option_map};
+ghost use Rattle.replies.specs.PlainReply.{plain_of};
+ghost use Rattle.report.specs.Keeping.{has_long, shortened, without_reply, reply_in, reply_of, receipts_of, receipts_in, KeepsReceipt, KeepsGiven};
 ghost use Rattle.report.specs.Rooms.{HasRoomForOne, replies_kept};
 
 use replies::Reply;
@@ -79,7 +81,12 @@ pub(crate) fn reply_out(
     replies: &mut Vec<Option<Reply>>,
     count: usize,
     place: usize,
-) -> Option<Reply> {
+) -> Option<Reply>
+    requires { place < count }
+    ensures reply { option_map plain_of result ≡ reply_of count place replies.old.items }
+    ensures later { (k : ℕ) → place < k → k < count
+        → reply_of count k replies.new.items ≡ reply_of count k replies.old.items }
+{
     if count.saturating_sub(place) > REPLIES_KEPT {
         return None;
     }

@@ -16,4 +16,4 @@ returns-clause-tally g c =
     let post = c.args.post.now in
     let none = subst (λ b. OnFalse b (HasNoJob post.hand)) c.if-has_job.false c.has_job.ensures in
     let call = c.leave_enter_commit_on.ensures in
-    run_tallies post.lost _ _ post.kept post.hand _ _ _ _ _ c.leave_enter_commit_on.new.hand _ _ none call.did.3 (omega (arith, call.counted.1, ap (λ z. z.now.share.amount) c.units-units.ensures.seat)) c.requires.tally
+    run_tallies _ post.lost _ _ post.kept post.hand _ _ _ _ _ c.leave_enter_commit_on.new.hand _ _ none call.did.3 (omega (arith, call.counted.1, ap (λ z. z.now.share.amount) c.units-units.ensures.seat)) c.requires.tally

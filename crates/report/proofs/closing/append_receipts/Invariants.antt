@@ -1,5 +1,6 @@
-use Rattle.std.specs.Prelude.{◌≡◌, ◌+◌, ◌≤◌, vec_len}
+use Rattle.std.specs.Prelude.{◌≡◌, ◌+◌, ◌++◌, ◌≤◌, vec_len, length}
 use Rattle.std.specs.Vec.{vec_capacity}
+use Rattle.report.specs.Keeping.{receipts_of, with_replies}
 use Rattle.report.proofs.closing.append_receipts.Given as goal
 
 abbrev pub invariant-loop-receipt : goal.invariant-loop-receipt
@@ -7,4 +8,6 @@ invariant-loop-receipt l = record {
   len : vec_len l.receipts ≡ vec_len l.fn.receipts + l.place;
   count : l.place + l.receipt-iterator.rest.len ≡ vec_len l.fn.bare;
   room : vec_len l.fn.receipts + vec_len l.fn.bare ≤ vec_capacity l.receipts;
+  joined : l.receipts.items ++ with_replies (length l.fn.bare.items) l.place l.receipt-iterator.rest.items l.replies.items
+      ≡ l.fn.receipts.items ++ receipts_of l.fn.bare.items l.fn.replies.items;
 }
