@@ -20,21 +20,34 @@ bool source_descriptor(const struct source *source, uint64_t addr, struct descri
 }
 
 enum fetched chain_add(struct chain *chain, uint64_t addr, uint32_t length, bool writable) {
-  if (chain->count == MOST_SEGMENTS || (!writable && chain->out) || addr > UINT64_MAX - length) return BROKEN;
-  if (chain->count % 16 == 0) {
-    struct segment *more = realloc(chain->segments, (chain->count + 16) * sizeof *more);
+  // Readable parts come first (VIRTIO 1.2, 2.7.4.2), also where a writable one has no bytes.
+  bool is_late = !writable && chain->count && chain->segments[chain->count - 1].writable;
+  if (is_late || addr > UINT64_MAX - length) return BROKEN;
+  if (chain->count == chain->room) {
+    size_t room = chain->room ? 2 * chain->room : 16;
+    struct segment *more = realloc(chain->segments, room * sizeof *more);
     if (!more) return NO_ROOM;
     chain->segments = more;
+    chain->room = room;
   }
   chain->segments[chain->count++] = (struct segment){addr, length, writable};
   if (writable) chain->out += length;
   else chain->in += length;
-  return chain->in + chain->out > UINT32_MAX ? BROKEN : FETCHED;
+  // A chain may have 2^32 bytes, and no more (VIRTIO 1.2, 2.7.4).
+  return chain->in + chain->out > UINT64_C(1) << 32 ? BROKEN : FETCHED;
+}
+
+// Returns whether a table may be walked. In direct mode it lies in the device's memory, as the device demands, and that bounds it.
+// In shadow mode the guest's memory may be far larger.
+static bool is_bounded(const struct source *source, uint64_t addr, uint32_t length) {
+  struct descriptor last;
+  return source->device ? source_descriptor(source, addr + length - DESCRIPTOR, &last) : length / DESCRIPTOR <= MOST_ENTRIES;
 }
 
 enum fetched chain_add_table(struct chain *chain, const struct source *source, uint64_t addr, uint32_t length, bool packed) {
   uint32_t entries = length / DESCRIPTOR;
-  if (length == 0 || length % DESCRIPTOR || entries > MOST_SEGMENTS || addr > UINT64_MAX - length) return BROKEN;
+  if (length == 0 || length % DESCRIPTOR || addr > UINT64_MAX - length || !is_bounded(source, addr, length)) return BROKEN;
+  chain->table = length;
   // The device's copy has a table only once it is brought there.
   if (source->device && !move_in(source->memory, addr, source->device, addr, length)) return BROKEN;
   for (uint32_t at = 0, seen = 0; seen < entries; seen++) {

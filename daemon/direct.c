@@ -51,10 +51,20 @@ static bool bring(struct backend *backend, const struct chain *chain) {
 static bool is_in_zeros(const struct backend *backend, const struct chain *chain) {
   uint64_t from = zeros_at(backend), end = from + DEVICE_PAGE;
   for (size_t i = 0; i < chain->count; i++) {
-    uint64_t behind = chain->segments[i].addr + chain->segments[i].length;
-    if (behind > from && behind <= end) return true;
+    const struct segment *it = &chain->segments[i];
+    uint64_t behind = it->addr + it->length;
+    // A buffer of no bytes lies nowhere, whatever its address.
+    if (it->length && behind > from && behind <= end) return true;
   }
   return false;
+}
+
+// Returns whether the tables of all outstanding chains are longer together than the device's memory. Tables that don't overlap
+// never are. The bound keeps a guest from having the daemon take far more memory than the guest's own.
+static bool has_long_tables(const struct backend *backend) {
+  uint64_t bytes = 0;
+  for (unsigned q = 0; q < backend->count; q++) bytes += backend->queues[q].ring.tables;
+  return bytes > zeros_at(backend) + DEVICE_PAGE;
 }
 
 static bool fetch(struct backend *backend, unsigned q, char *why, size_t room) {
@@ -67,6 +77,7 @@ static bool fetch(struct backend *backend, unsigned q, char *why, size_t room) {
     enum fetched fetched = ring_fetch(&queue->ring, &source, &chain);
     if (fetched != FETCHED) return fetched != NO_ROOM;
     queue->taken++;
+    if (has_long_tables(backend)) return snprintf(why, room, "queue %u: tables that are longer together than the guest's memory", q), false;
     if (is_in_zeros(backend, chain)) return snprintf(why, room, "queue %u: a buffer behind the guest's memory", q), false;
     if (!bring(backend, chain)) {
       // A part that isn't in the device's memory: there the device breaks the queue.

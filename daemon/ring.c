@@ -36,6 +36,7 @@ enum fetched ring_fetch(struct ring *ring, const struct source *source, struct c
     *ring->last = its;
     ring->last = &its->next;
     ring->outstanding++;
+    ring->tables += its->table;
     *chain = its;
     return FETCHED;
   }
@@ -53,6 +54,7 @@ struct chain *ring_take(struct ring *ring, uint16_t id) {
     *at = chain->next;
     if (!chain->next) ring->last = at;
     ring->outstanding--;
+    ring->tables -= chain->table;
     return chain;
   }
   return NULL;
@@ -66,6 +68,7 @@ void ring_unfetch(struct ring *ring, struct chain *chain) {
     *at = NULL;
     ring->last = at;
     ring->outstanding--;
+    ring->tables -= chain->table;
     break;
   }
   chain_free(chain);

@@ -8,8 +8,8 @@
 #include "library.h"
 #include "memory.h"
 
-// The descriptors that a chain may have here: those of a ring and those of a table.
-enum { MOST_SEGMENTS = 8192, DESCRIPTOR = 16 };
+// The entries that a table may have in shadow mode, and the bytes of a descriptor.
+enum { MOST_ENTRIES = 8192, DESCRIPTOR = 16 };
 
 // The bytes of a request's head and of its response, and how many bytes of data a command moves at the most.
 enum { HEAD = 51, RESPONSE = 108, MOST_DATA = 1 << 20 };
@@ -30,7 +30,8 @@ struct chain {
   unsigned place;          // of shadow mode: which slot it has
   uint64_t in_at, out_at;  // of shadow mode: where its bytes lie in the device's memory
   uint64_t in, out;        // its readable and its writable bytes
-  size_t count;
+  uint64_t table;          // the bytes of its table
+  size_t count, room;      // of segments: those that it has, and those that there is room for
   struct segment *segments;
 };
 
@@ -47,7 +48,8 @@ struct ring {
   uint16_t held_at;
   bool broken;
   struct chain *first, **last;                 // the chains that aren't given back, the oldest first
-  size_t outstanding;
+  size_t outstanding;                          // how many these are
+  uint64_t tables;                             // and the bytes of their tables
 };
 
 // Where chains are fetched from: the device's copy where there is a device, else the guest's memory.

@@ -63,11 +63,12 @@ static bool offer(struct backend *backend, unsigned q, const struct chain *chain
   return device_poke(&backend->device, area(q) + DRIVER_AT + 2, bytes, 2);
 }
 
+// Copies a chain's readable bytes in, as many as its room has. An event's `in` is cut to its slot.
 static bool bring(struct backend *backend, const struct chain *chain) {
-  uint64_t done = 0;
-  for (size_t i = 0; i < chain->count && done < MOST_READ && !chain->segments[i].writable; i++) {
+  uint64_t most = chain->in < MOST_READ ? chain->in : MOST_READ, done = 0;
+  for (size_t i = 0; i < chain->count && done < most && !chain->segments[i].writable; i++) {
     const struct segment *it = &chain->segments[i];
-    uint64_t here = it->length < MOST_READ - done ? it->length : MOST_READ - done;
+    uint64_t here = it->length < most - done ? it->length : most - done;
     if (!move_in(&backend->memory, it->addr, &backend->device, chain->in_at + done, here)) return false;
     done += here;
   }

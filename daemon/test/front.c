@@ -19,6 +19,10 @@ void fail(const char *file, int line, const char *what) {
   abort();
 }
 
+struct way way_of(unsigned number) {
+  return (struct way){.packed = number & 1, .event_index = number & 2, .indirect = number & 4, .shadow = number & 8, .far = number & 16};
+}
+
 uint64_t place_of(unsigned q, unsigned part) { return (uint64_t)AREA * (q + 1) + (uint64_t)0x4000 * part; }
 
 uint64_t guest_of(const struct front *front, uint64_t place) { return front->way.far && place >= HALF ? place - HALF + (UINT64_C(1) << 32) : place; }
@@ -231,6 +235,13 @@ static void put_split(struct front *front, unsigned q, const struct part *parts,
   __atomic_store_n((uint16_t *)(void *)(ring + 2), queue->next, __ATOMIC_RELEASE);
 }
 
+static void put(struct front *front, unsigned q, const struct part *parts, unsigned count, bool table) {
+  if (front->way.packed) put_packed(front, q, parts, count, table);
+  else put_split(front, q, parts, count, table);
+}
+
+void driver_put_table(struct front *front, unsigned q, struct part table) { put(front, q, &table, 1, true); }
+
 void driver_put(struct front *front, unsigned q, const struct part *parts, unsigned count) {
   struct part whole = {.place = TABLES + 0x10000 * (uint64_t)q + 0x100 * (uint64_t)(front->queues[q].free % 16), .length = 16 * count};
   for (unsigned i = 0; front->way.indirect && i < count; i++) {
@@ -239,10 +250,8 @@ void driver_put(struct front *front, unsigned q, const struct part *parts, unsig
     if (front->way.packed) descriptor(at, guest_of(front, parts[i].place), parts[i].length, 0, flags);
     else descriptor(at, guest_of(front, parts[i].place), parts[i].length, flags, (uint16_t)(i + 1));
   }
-  if (front->way.indirect) parts = &whole;
-  if (front->way.indirect) count = 1;
-  if (front->way.packed) put_packed(front, q, parts, count, front->way.indirect);
-  else put_split(front, q, parts, count, front->way.indirect);
+  if (front->way.indirect) driver_put_table(front, q, whole);
+  else put(front, q, parts, count, false);
 }
 
 void driver_kick(struct front *front, unsigned q) {
@@ -273,33 +282,42 @@ bool driver_take(struct front *front, unsigned q, uint32_t *length) {
   return true;
 }
 
-int command(struct front *front, unsigned q, const uint8_t *block, size_t length, const void *out, uint32_t out_length, void *in, uint32_t in_length) {
+bool driver_run(struct front *front, unsigned q, const struct part *parts, unsigned count, uint32_t *length) {
   struct driver_queue *queue = &front->queues[q];
+  unsigned slots = front->way.indirect ? 1 : count;
+  driver_put(front, q, parts, count);
+  driver_kick(front, q);
+  pump(front);
+  if (!driver_take(front, q, length)) return false;
+  for (unsigned i = 0; front->way.packed && i < slots; i++) {
+    if (++queue->seen < SIZE) continue;
+    queue->seen = 0;
+    queue->seen_wrap = !queue->seen_wrap;
+  }
+  return true;
+}
+
+void put_request(struct front *front, uint64_t place, const uint8_t *block, size_t length) {
+  uint8_t head[HEAD] = {1, 0, 0x40, 0};
+  memcpy(head + 19, block, length);
+  memcpy(front->memory + place, head, HEAD);
+}
+
+int command(struct front *front, unsigned q, const uint8_t *block, size_t length, const void *out, uint32_t out_length, void *in, uint32_t in_length) {
   // Data reach over the border of the two halves where these touch.
   uint64_t request = DATA + 0x1000 * (uint64_t)q, response = request + 0x400, data = front->way.far ? HALF + 0x1400 : HALF - 0x1400;
   struct part parts[4];
   unsigned count = 0;
   uint32_t used;
   uint64_t told;
-  uint8_t head[HEAD] = {1, 0, 0x40, 0};
-  memcpy(head + 19, block, length);
-  memcpy(front->memory + request, head, HEAD);
+  put_request(front, request, block, length);
   memset(front->memory + response, 0xee, RESPONSE);
   parts[count++] = (struct part){request, HEAD, false};
   if (out_length) parts[count++] = (struct part){data, out_length, false};
   parts[count++] = (struct part){response, RESPONSE, true};
   if (in_length) parts[count++] = (struct part){data, in_length, true};
   if (out_length) memcpy(front->memory + data, out, out_length);
-  uint16_t slots = front->way.indirect ? 1 : (uint16_t)count;
-  driver_put(front, q, parts, count);
-  driver_kick(front, q);
-  pump(front);
-  if (!driver_take(front, q, &used)) return -1;
-  for (uint16_t i = 0; front->way.packed && i < slots; i++) {
-    if (++queue->seen < SIZE) continue;
-    queue->seen = 0;
-    queue->seen_wrap = !queue->seen_wrap;
-  }
+  if (!driver_run(front, q, parts, count, &used)) return -1;
   MUST(read(front->call[q], &told, sizeof told) == sizeof told);
   if (in_length) memcpy(in, front->memory + data, in_length);
   MUST(used >= RESPONSE && used <= RESPONSE + in_length && front->memory[response + 11] == 0);

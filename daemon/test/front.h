@@ -11,6 +11,9 @@ struct way {
   bool packed, event_index, indirect, shadow, far;
 };
 
+// Returns the way with this number, 0 to 31.
+struct way way_of(unsigned number);
+
 struct driver_queue {
   uint16_t next, seen, free;  // of a split ring counts; of a packed one places
   bool next_wrap, seen_wrap;
@@ -72,8 +75,17 @@ struct part {
 void driver_put(struct front *front, unsigned q, const struct part *parts, unsigned count);
 void driver_kick(struct front *front, unsigned q);
 
+// Makes a chain available whose one descriptor names the table in this part.
+void driver_put_table(struct front *front, unsigned q, struct part table);
+
 // Takes the next used element, if there is one.
 bool driver_take(struct front *front, unsigned q, uint32_t *length);
+
+// Makes a chain available, kicks, lets the daemon serve, and takes the used element. Returns false where there was none.
+bool driver_run(struct front *front, unsigned q, const struct part *parts, unsigned count, uint32_t *length);
+
+// Writes the head of a request to disk 0:0.
+void put_request(struct front *front, uint64_t place, const uint8_t *block, size_t length);
 
 // Runs a command of disk 0:0, and returns its status, or -1 where there was no answer.
 int command(struct front *front, unsigned q, const uint8_t *block, size_t length, const void *out, uint32_t out_length, void *in, uint32_t in_length);

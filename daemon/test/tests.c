@@ -8,6 +8,7 @@
 
 #include "../bytes.h"
 #include "../chain.h"
+#include "chains.h"
 #include "front.h"
 
 static const uint8_t write_10[] = {0x2a, 0, 0, 0, 0, 3, 0, 0, 16, 0}, read_10[] = {0x28, 0, 0, 0, 0, 3, 0, 0, 16, 0};
@@ -16,10 +17,6 @@ static const uint8_t compare_16[16] = {0x89, 0, 0, 0, 0, 0, 0, 0, 0, 41, 0, 0, 0
 static const uint8_t unmap_10[] = {0x42, 0, 0, 0, 0, 0, 0, 0, 24, 0};
 
 enum { BYTES = 16 * 512, MOST_MESSAGES = 64, CHANGES = 700 };
-
-static struct way way_of(unsigned number) {
-  return (struct way){.packed = number & 1, .event_index = number & 2, .indirect = number & 4, .shadow = number & 8, .far = number & 16};
-}
 
 static unsigned open_files(void) {
   unsigned count = 0;
@@ -285,8 +282,10 @@ int main(void) {
   static const struct {
     const char *name;
     void (*run)(void);
-  } tests[] = {{"words", test_words}, {"ways", test_ways},     {"bases", test_bases}, {"files", test_files},
-               {"cuts", test_cuts},   {"fields", test_fields}, {"rings", test_rings}};
+  } tests[] = {{"words", test_words},   {"ways", test_ways},     {"bases", test_bases},   {"files", test_files},
+               {"events", test_events}, {"totals", test_totals}, {"empty", test_empty},   {"order", test_order},
+               {"tables", test_tables}, {"shared", test_shared}, {"cuts", test_cuts},     {"fields", test_fields},
+               {"rings", test_rings}};
   unsigned files = open_files();
   for (size_t i = 0; i < sizeof tests / sizeof *tests; i++) {
     tests[i].run();
