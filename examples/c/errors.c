@@ -380,6 +380,10 @@ static void disks_refused(struct vscsi_disk *disks) {
   begin(), IS(vscsi_create_with(&device, &config, disks, &fault), VSCSI_BAD_CONFIG);
   IS(fault.cause, VSCSI_CAUSE_UNIT_DISK);
   IS(fault.place, 0);
+  // where both units lack theirs the first one is named
+  fault.place = 77;
+  begin(), units[1].blocks = 2, IS(vscsi_create_with(&device, &config, disks, &fault), VSCSI_BAD_CONFIG);
+  IS(fault.place, 0);
   disks[0] = hidden;
   IS(vscsi_disk_blocks(&disks[0], &blocks), VSCSI_DONE);
   IS(vscsi_disk_blocks(&disks[1], &blocks), VSCSI_DONE);

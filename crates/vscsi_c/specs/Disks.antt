@@ -97,10 +97,12 @@ abbrev pub Fit : List UnitSpec → List (Option PagedStore) → Type 0
 Fit units disks = (k : ℕ) (u : UnitSpec) (disk : Option PagedStore) → slice_get units k ≡ Some u → slice_get disks k ≡ Some disk
     → Fits u disk
 
--- the unit at a place has no disk, or one of another capacity
+-- the first unit that has no disk, or one of another capacity, stands at a place
 abbrev pub Lacks : List UnitSpec → List (Option PagedStore) → ℕ → Type 0
 Lacks units disks place = (u : UnitSpec) × (disk : Option PagedStore) × (slice_get units place ≡ Some u)
     × (slice_get disks place ≡ Some disk) × (Fits u disk → ⊥)
+    × ((k : ℕ) (v : UnitSpec) (other : Option PagedStore) → k < place → slice_get units k ≡ Some v
+    → slice_get disks k ≡ Some other → Fits v other)
 
 -- and that is told by the cause of number 13 and the unit's place
 pub record LacksDisk (c : Config) (disks : List (Option PagedStore)) (told : Fault) : Type 0 where
