@@ -7,11 +7,10 @@ use Rattle.phases.specs.Resizing.{ResizesUnit}
 use Rattle.workers.specs.Resizing.{WasResized}
 
 pub was_resized : (blocks : ℕ) (told b : Bool) (u v : PlainUnit) (w w' : List Report) → IsUnit u
-    → ResizesUnit u blocks told w (Ok b) v w' → IsUnit v → OnTrue b (WasResized blocks)
+    → ResizesUnit u blocks told w (Ok b) v w' → IsUnit v → OnTrue b (WasResized blocks told)
 was_resized blocks told true u v w w' before did behind =
     record {
       unit = u;
-      told = told;
       waiting = w;
       unit_after = v;
       waiting_after = w';

@@ -6,9 +6,8 @@ use Rattle.phases.specs.Resizing.{ResizesUnit}
 
 -- own: some unit has so many blocks, and the event that tells the guest, where it is told, stands behind those that were
 -- there
-pub record WasResized (blocks : ℕ) : Type 0 where
+pub record WasResized (blocks : ℕ) (told : Bool) : Type 0 where
   pub unit : PlainUnit
-  pub told : Bool
   pub waiting : List Report
   pub unit_after : PlainUnit
   pub waiting_after : List Report

@@ -144,7 +144,8 @@ pub struct Seen {
     pub broken: Option<RingFault>,
 }
 
-/// A device that threads serve. Clauses see how many workers and queues it has, and the units that it was opened with.
+/// A device that threads serve. Clauses see how many workers and queues it has, the units that it was opened with, and
+/// whether its driver is told of capacities that change.
 /// Its ledger `C` counts the Commits of its units, and `W` the receipts of its workers and of the operator. A host
 /// isn't `Drop`: its starter closes it, which ends its threads.
 pub struct Host<G: Gate + Drop, C: Ledger, W: Ledger> {
@@ -176,6 +177,7 @@ impl<G: Gate + Drop, C: Ledger, W: Ledger> Model for Host<G, C, W> {
       workers = h.crew.threads;
       units = h.specs.items;
       queues = vec_len (arc_value h.shared).queues;
+      told = h.told;
     } };
 
     ghost invariant = { λ h. (vec_len (arc_value h.shared).queues ≤ 18)
@@ -187,7 +189,7 @@ impl<G: Gate + Drop, C: Ledger, W: Ledger> Model for Host<G, C, W> {
 }
 
 impl<G: Gate + Drop, C: Ledger, W: Ledger> Host<G, C, W> {
-    ghost use Rattle.std.specs.Prelude.{◌≡◌, ◌<◌, List, ℕ, length, IfOk, IfErr, OnOk, OnErr, vec_len, is_some, nat_lt};
+    ghost use Rattle.std.specs.Prelude.{◌≡◌, ◌<◌, ◌≤◌, true, List, ℕ, length, IfOk, IfErr, IfSome, OnOk, OnErr, vec_len, is_some, nat_lt};
     ghost use Rattle.guest_mem.specs.declared.memory.MemFault.TheVariants as MemFault;
     ghost use Rattle.bays.specs.Lending.{IsMemory};
     ghost use Rattle.bays.specs.Memory.{Writes, Reads};
@@ -195,6 +197,7 @@ impl<G: Gate + Drop, C: Ledger, W: Ledger> Host<G, C, W> {
     ghost use Rattle.workers.specs.Resetting.{WasReset};
     ghost use Rattle.workers.specs.Resizing.{WasResized};
     ghost use Rattle.workers.specs.Ledgers.{Opens, commits_in};
+    ghost use Rattle.unit_model.specs.Contents.{is_capacity};
     ghost use Rattle.unit_history.specs.Calls.{ResizeRefused};
 
     /// Starts `n` workers, 1 to 8, in place of the number that the configuration has. The embedder calls it once for
@@ -277,7 +280,8 @@ impl<G: Gate + Drop, C: Ledger, W: Ledger> Host<G, C, W> {
     /// refused: the unit wasn't resized then. It may wait.
     pub fn resize<R: Wait>(&mut self, rt: &R, place: u16, blocks: u64) -> Result<(), ResizeFault>
         ensures same { self.new ≡ self.old }
-        ensures resized { OnOk result (place < length self.old.units → WasResized blocks) }
+        ensures good { OnOk result (is_capacity blocks ≡ true) }
+        ensures resized { OnOk result (place < length self.old.units → WasResized blocks self.old.told) }
         ensures cause { IfErr result (λ fault. ResizeRefused blocks fault) }
     {
         let told = self.told;
@@ -303,7 +307,8 @@ impl<G: Gate + Drop, C: Ledger, W: Ledger> Host<G, C, W> {
 
     /// Returns what a queue came to so far, in one hold of it; `None` where there is no such queue. It may wait.
     pub fn look<R: Wait>(&self, rt: &R, queue: u16) -> Option<Seen>
-        ensures { is_some result ≡ nat_lt queue self.now.queues }
+        ensures there { is_some result ≡ nat_lt queue self.now.queues }
+        ensures counts { IfSome result (λ s. s.used ≤ s.accepted) }
     {
         let queue = self.shared.queues.get(queue as usize)?;
         let held = hold(rt, queue);

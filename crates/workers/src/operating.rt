@@ -1,8 +1,9 @@
 //! The operator's acts on the units of a host.
 
-ghost use Rattle.std.specs.Prelude.{◌≡◌, ◌<◌, vec_len, IfOk, IfErr, OnOk, OnErr};
+ghost use Rattle.std.specs.Prelude.{◌≡◌, ◌<◌, true, vec_len, IfOk, IfErr, OnOk, OnErr};
 ghost use Rattle.std.specs.Bool.{OnTrue};
 ghost use Rattle.handoff.specs.Seats.{IsSeatOf, IsSameSeat};
+ghost use Rattle.unit_model.specs.Contents.{is_capacity};
 ghost use Rattle.unit_history.specs.Calls.{ResizeRefused};
 ghost use Rattle.posts.specs.Tallying.{Tallies};
 ghost use Rattle.workers.specs.Resetting.{WasReset};
@@ -88,7 +89,7 @@ fn resize_one<R: Wait, G: Gate + Drop, C: Ledger, W: Ledger>(
     requires tally { Tallies post.old.lost post.old.part.share.amount post.old.kept post.old.hand }
     ensures seat { post.new.seat ≡ post.old.seat }
     ensures tally { Tallies post.new.lost post.new.part.share.amount post.new.kept post.new.hand }
-    ensures resized { IfOk result (λ was. OnTrue was (WasResized blocks)) }
+    ensures resized { IfOk result (λ was. OnTrue was (WasResized blocks told)) }
     ensures cause { IfErr result (λ fault. ResizeRefused blocks fault) }
 {
     match resize_on(
@@ -118,7 +119,8 @@ pub(crate) fn resize<R: Wait, G: Gate + Drop, C: Ledger, W: Ledger>(
     requires tally { Tallies post.old.lost post.old.part.share.amount post.old.kept post.old.hand }
     ensures seat { post.new.seat ≡ post.old.seat }
     ensures tally { Tallies post.new.lost post.new.part.share.amount post.new.kept post.new.hand }
-    ensures resized { OnOk result (at < vec_len shared.now.units → WasResized blocks) }
+    ensures good { OnOk result (is_capacity blocks ≡ true) }
+    ensures resized { OnOk result (at < vec_len shared.now.units → WasResized blocks told) }
     ensures cause { IfErr result (λ fault. ResizeRefused blocks fault) }
 {
     if !is_capacity(blocks) {

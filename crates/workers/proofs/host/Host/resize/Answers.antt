@@ -10,4 +10,6 @@ returns-clause-resized g c =
     let view = ap (λ v. length v.units) c.self.view_is in
     let many : vec_len c.deref.result.now.units ≡ length c.args.self.now.units =
     omega (arith, shared, c.self.invariant.1, c.self.inside.specs.ok.0, view) in
-    subst (λ n. OnOk c.resize-done.result (c.args.place < n → WasResized c.args.blocks)) many c.resize-done.ensures.resized
+    let told = ap (λ v. v.told) c.self.view_is in
+    subst (λ b. OnOk c.resize-done.result (c.args.place < length c.args.self.now.units → WasResized c.args.blocks b)) told
+    (subst (λ n. OnOk c.resize-done.result (c.args.place < n → WasResized c.args.blocks c.self.inside.told)) many c.resize-done.ensures.resized)
