@@ -40,6 +40,10 @@ pub record AreFew (w : PlainWorld) : Type 0 where
   pub sizes : Everywhere (λ i (n : ℕ). n ≤ 1024) (map size_of w.queues)
   pub luns : Everywhere (λ k (n : ℕ). n ≤ 16383) (map lun_of w.units)
 
+-- each ring was made for a memory of this size, so that no phase finds one that doesn't fit
+abbrev pub AreFitting : PlainWorld → Type 0
+AreFitting w = Everywhere (λ i (q : PlainQueue). q.ring.memory ≡ length w.memory) w.queues
+
 -- what holds between two calls
 pub record IsWhole (w : PlainWorld) : Type 0 where
   pub reached : IsReached w

@@ -65,8 +65,15 @@ fn has_address(unit: &UnitState, target: u8, lun: u16) -> bool
 }
 
 impl Device {
-    ghost use Rattle.world.specs.Sound.{AreFew};
+    ghost use Rattle.world.specs.Sound.{AreFew, AreFitting};
     ghost use Rattle.world.specs.Views.{IsPlaceOf, FindsUnit, unit_at, GivesChanges};
+
+    /// Shows that the ring of each queue was made for a memory of this size.
+    pub(crate) fn fits(&self)
+        ensures { AreFitting self.now }
+    {
+        let _ = &self.memory;
+    }
 
     /// Returns the place of the unit of an address.
     pub(crate) fn place(&self, target: u8, lun: u16) -> Option<u16>

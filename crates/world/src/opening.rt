@@ -53,7 +53,7 @@ fn open_bays(
     Ok(bays)
 }
 
-/// Makes a unit of an inventory, of which no step was taken. `NoMemory` where its blocks or its target's LUNs were
+/// Makes a unit of an inventory, of which no step was taken. `NoMemory` where the list of its target's LUNs was
 /// refused memory.
 fn open_unit(alloc: Global, spec: &UnitSpec, inventory: &Inventory) -> Result<UnitState, NoMemory>
     ensures { IfOk result (λ unit. unit ≡ opening_unit inventory.now spec.now) }

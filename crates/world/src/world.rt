@@ -39,7 +39,7 @@ impl World {
     ghost use Rattle.device_model.specs.World as plain;
     ghost use Rattle.config.specs.Config.{is_config, StartRefusedAs};
     ghost use Rattle.world.specs.Opening.{IsOpening, IsOpeningOver, OpensFor, OpensAnew, OverRefusedAs, AreDisksFor, AreDisksOf};
-    ghost use Rattle.world.specs.Sound.{AreFew, IsReached, IsSound};
+    ghost use Rattle.world.specs.Sound.{AreFew, AreFitting, IsReached, IsSound};
     ghost use Rattle.device_model.specs.Happens.{Reached};
     ghost use Rattle.device_model.specs.Turns.{Turns};
     ghost use Rattle.world.specs.Steps.{Steps, RunsAll};
@@ -138,6 +138,14 @@ impl World {
         ensures { IsReached self.now }
     {
         let _ = &self.device.memory;
+    }
+
+    /// Shows that the ring of each queue was made for a memory of this size. Each chain that stands somewhere is its
+    /// queue's own besides, as the promise says, so no test of a phase fails.
+    pub fn fits(&self)
+        ensures { AreFitting self.now }
+    {
+        self.device.fits();
     }
 
     /// Returns what each step rests on.
