@@ -47,7 +47,7 @@ pub struct Config {
     pub queues: Vec<Layout>,
     /// The number of workers that serve the request queues, 1 to 8.
     pub workers: u16,
-    /// The most jobs that stand between workers, 1 to 4,096.
+    /// The most jobs that each seat may have handed off and that none took yet, 1 to 4,096.
     pub handoff: u16,
     /// 1 to 64 units in rising order of target and LUN, each target with LUN 0.
     pub units: Vec<UnitSpec>,

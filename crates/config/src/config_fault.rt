@@ -33,7 +33,7 @@ pub enum ConfigFault {
     QueueLayout(usize, LayoutFault),
     /// There are no workers, or more than 8.
     Workers,
-    /// There is no room for a job between workers, or for more than 4,096.
+    /// A seat may hand off no job, or more than 4,096.
     Handoff,
     /// There are no units, or more than 64.
     UnitCount,

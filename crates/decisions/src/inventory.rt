@@ -98,7 +98,7 @@ impl Inventory {
             .position(|it| it.target == address.target && it.lun == address.lun)
     }
 
-    /// Returns the LUNs of a target, rising.
+    /// Returns the LUNs of a target, rising, for a unit that opens. `AllocError` where their list was refused memory.
     pub fn luns_of(&self, alloc: Global, target: u8) -> Result<Vec<u16>, AllocError>
         ensures luns { IfOk result (λ luns. luns.items ≡ luns_of self.now target) }
         ensures few { IfOk result (λ luns. length luns.items ≤ MOST_UNITS) }

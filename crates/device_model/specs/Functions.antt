@@ -46,7 +46,7 @@ pub record IsFor (inventory : List Address) (ds : List Transition) (t : Ticket) 
   pub among : Among place begun.function.left
 
 -- the mark of a function stands at its place, of one of its units, and whichever transitions come, the step there met the
--- tasks that were alive then and that its how meets
+-- tasks that were alive then and that the mark meets
 pub record IsMarkedSo (old : PlainWorld) (ds past : List Transition) (t : Ticket) (p : Place) (m : MarkBy) : Type 0 where
   pub before : p.place ≡ length (history_of p.unit past)
   pub meets : met_at p.place (history_of p.unit ds) ≡ met_by (step_by m) (history_of p.unit past)

@@ -84,7 +84,7 @@ pub fn nothing_is_stuck()
 {}
 
 /// Each step lowers what is still owed, but for what it brings. A chain brings its price as it is fetched, a function
-/// that visits a unit 2, a hard reset 2, and a write of the guest 1.
+/// that visits a unit 2, a hard reset or a resize 2, and a write of the guest 1.
 pub fn each_transition_is_paid_for()
     ensures { (w : PlainWorld) (d : Transition) → Happens d w → measure (after d w) + 1 ≤ measure w + pays d }
 {}

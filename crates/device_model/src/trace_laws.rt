@@ -70,7 +70,7 @@ pub fn functions_end_after_their_tasks()
         AreOver old (transitions_of old trace w r.runs) }
 {}
 
-/// Each event that a reset of the operator raises is given or missed, in the order in which they are raised. Buffers
+/// Each event that a reset or a resize of the operator raises is given or missed, in the order in which they are raised. Buffers
 /// are given in the order in which they came. An event is missed only where none is held. The next buffer that is long
 /// enough then tells so at once.
 pub fn events_are_given_in_order()

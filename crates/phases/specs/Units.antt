@@ -102,7 +102,7 @@ pub record StaysMark (u u' : PlainUnit) (f f' : Opened) (out out' : Jobs) : Type
   pub function : f' ≡ f
   pub jobs : out' ≡ out
 
--- the tasks of a unit are with_mark, or memory was refused
+-- the tasks of a unit are marked, or memory was refused
 abbrev pub MarksBy : MarkBy → PlainUnit → Jobs → Result ℕ NoMemory → PlainUnit → Jobs → Type 0
 MarksBy m u out (Ok place) u' out' =
     (place ≡ length u.steps) × (u' ≡ stepped (step_by m) u) × (out' ≡ with_more (handed_out u (step_by m)) out)

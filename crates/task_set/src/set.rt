@@ -92,8 +92,8 @@ impl TaskSet {
         tasks[place].share(alloc)
     }
 
-    /// Returns true if the task of a ticket may run (SAM-5 §8.6); `false` where it isn't alive. A worker asks it before
-    /// it runs the command of a job.
+    /// Returns true if the task of a ticket may run (SAM-5 §8.6); `false` where it isn't alive. For callers
+    /// that hold a task set alone: a unit asks the task itself.
     pub fn is_enabled(&self, ticket: Ticket) -> bool
         ensures { result ≡ may_run (task_at ticket self.now) }
     {

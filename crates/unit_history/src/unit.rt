@@ -128,7 +128,7 @@ impl UnitState {
     /// Makes a unit as it is specified, with the LUNs of its target by rising number, of which no step was taken.
     /// Called once for each unit, where a device is opened. `keeps_replies` says whether the replies of its Commits are
     /// kept, for receipts to be compared with. Kept are the replies of its latest [`LATEST_KEPT`] steps that have at
-    /// most [`LONGEST_KEPT`] bytes of data. `NoMemory` where its blocks or the LUNs were refused memory.
+    /// most [`LONGEST_KEPT`] bytes of data. `NoMemory` where the list of the LUNs was refused memory.
     pub fn new(
         alloc: Global,
         spec: &UnitSpec,
@@ -229,7 +229,7 @@ impl UnitState {
 
     /// Marks each task that the rule meets and that neither ran nor was answered BUSY, and hands out those of them
     /// that were parked, which then end as aborted. Answers the place of the Abort. The list has 64 places free, which
-    /// the caller sees to. After `NoMemory` all is as before.
+    /// the caller sees to. `NoMemory` where room for the step was refused, or 2^63 steps stand: all is as before then.
     pub fn abort(&mut self, rule: Rule, out: &mut JobList) -> Result<Place, NoMemory>
         requires { length out.old.jobs + 64 ≤ out.old.limit }
         ensures step { OnOk result (Steps self.old (Step.Abort rule) self.new) }
@@ -246,7 +246,7 @@ impl UnitState {
 
     /// Resets the unit: marks all tasks as `abort` does, with the reason of a reset, and raises the code, which is one
     /// of the constants of [`Code`]. Answers the place of the Reset. The list has 64 places free, which the caller sees
-    /// to. After `NoMemory` all is as before.
+    /// to. `NoMemory` as of `abort`.
     pub fn reset(&mut self, code: Code, out: &mut JobList) -> Result<Place, NoMemory>
         requires known { IsKnown code }
         requires room { length out.old.jobs + 64 ≤ out.old.limit }
