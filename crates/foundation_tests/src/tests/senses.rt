@@ -39,6 +39,12 @@ fn fixed_format(rt: HostRuntime) {
             ],
         ),
         Fixed(
+            Sense::miscompare(700),
+            [
+                0xf0, 0, 0x0e, 0, 0, 2, 0xbc, 0x0a, 0, 0, 0, 0, 0x1d, 0, 0, 0, 0, 0,
+            ],
+        ),
+        Fixed(
             Sense::miscompare(0),
             [
                 0xf0, 0, 0x0e, 0, 0, 0, 0, 0x0a, 0, 0, 0, 0, 0x1d, 0, 0, 0, 0, 0,

@@ -8,8 +8,8 @@ use ring_core::Layout;
 const MANY: Layout = Layout {
     size: 8192,
     desc: 0,
-    driver: 1_048_576,
-    device: 1_114_112,
+    driver: 131_072,
+    device: 147_464,
 };
 
 /// The row from which others are made: each says the memory's pages and the queue's place where they aren't these.
@@ -80,23 +80,23 @@ pub static ROWS: [Row; 14] = [
     },
     Row {
         shows: "over 2^32 bytes",
-        pages: 305,
+        pages: 256,
         layout: MANY,
         features: 0,
         moves: &[
             Move::Linked(4097, 1_048_576),
-            Move::Number(1_048_578, 1),
+            Move::Number(131_074, 1),
             Move::Fault(4),
         ],
     },
     Row {
         shows: "2^32 bytes, of which the first are read",
-        pages: 305,
+        pages: 256,
         layout: MANY,
         features: 0,
         moves: &[
             Move::Linked(4097, 1_048_576),
-            Move::Number(1_048_578, 1),
+            Move::Number(131_074, 1),
             Move::Descriptor(4095, 0, 1_048_576, 0, 0),
             Move::Found(0, 0, 1),
             Move::Holds(4096, 4_294_967_296, 0, 1_048_627),
