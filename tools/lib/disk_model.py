@@ -16,6 +16,7 @@ TASKS = 64
 # Sense: key, additional sense code and qualifier.
 POWER_ON, BUS_RESET, NEXUS_LOSS, RESIZED = "06/29/00", "06/29/03", "06/29/07", "06/2a/09"
 OUT_OF_RANGE, MISCOMPARE, UNKNOWN, BAD_FIELD = "05/21/00", "0e/1d/00", "05/20/00", "05/24/00"
+BAD_LENGTH, BAD_LIST = "05/1a/00", "05/26/00"
 
 INQUIRY_DATA = bytes.fromhex("000006021f000002") + b"VSCSI   TASK SET DISK   0001"
 
@@ -25,6 +26,17 @@ INQUIRY, REPORT_LUNS, REQUEST_SENSE = 0x12, 0xa0, 0x03
 # Commands that name a range of blocks, by what they do with it (SBC-3 §5).
 READ, WRITE, SYNCHRONIZE, WRITE_SAME, COMPARE = (0x08, 0x28, 0xa8, 0x88), (0x0a, 0x2a, 0xaa, 0x8a), (0x35, 0x91), (0x41, 0x93), (0x89,)
 RANGED = (*READ, *WRITE, *SYNCHRONIZE, *WRITE_SAME, *COMPARE)
+TEST_UNIT_READY, UNMAP, CAPACITY_10, CAPACITY_16 = 0x00, 0x42, 0x25, 0x9e
+KNOWN = (*RANGED, INQUIRY, REPORT_LUNS, REQUEST_SENSE, TEST_UNIT_READY, UNMAP, CAPACITY_10, CAPACITY_16)
+
+# Where the control byte stands, by an opcode's group; its bit 2 is NACA (SAM-5 §5.2).
+CONTROL, NACA = {0: 5, 1: 9, 2: 9, 4: 15, 5: 11}, 4
+
+# The pages of INQUIRY that are there.
+PAGES = (0x00, 0x80, 0x83, 0xb0, 0xb2)
+
+# The most blocks of a READ or a WRITE, of a COMPARE AND WRITE, of a WRITE SAME and of an UNMAP; the most ranges of an UNMAP.
+MOST, MOST_COMPARED, MOST_SAME, MOST_RANGES = 2048, 64, 65536, 16
 
 
 def number(field):
@@ -44,6 +56,39 @@ def range_of(cdb):
     return number(cdb[2:6]), number(cdb[6:10] if group == 5 else cdb[7:9])
 
 
+def is_bad(cdb):
+    """Returns true if the fields of a known command block are refused."""
+    code = cdb[0]
+    if cdb[CONTROL[code >> 5]] & NACA:
+        return True
+    if code == INQUIRY:
+        return cdb[2] not in (PAGES if cdb[1] & 1 else (0,))
+    if code == REPORT_LUNS:
+        return cdb[2] > 2
+    if code == CAPACITY_16:
+        return cdb[1] & 0x1f != 0x10
+    if code in (REQUEST_SENSE, UNMAP):
+        return bool(cdb[1] & 1)
+    if code in WRITE_SAME:
+        return bool(cdb[1] & (0xf7 if code == 0x93 else 0xf6)) or not 0 < range_of(cdb)[1] <= MOST_SAME
+    if code in (0x08, 0x0a) or code not in (*READ, *WRITE, *COMPARE):
+        return False
+    return bool(cdb[1] >> 5) or range_of(cdb)[1] > (MOST_COMPARED if code in COMPARE else MOST)
+
+
+def need(cdb):
+    """Returns how many bytes a command needs that go out, and that come in. One that is unknown or refused needs none."""
+    code = cdb[0]
+    if code not in KNOWN or is_bad(cdb):
+        return 0, 0
+    if code in (*READ, *WRITE, *COMPARE):
+        size = BLOCK * range_of(cdb)[1]
+        return (0, size) if code in READ else (size, 0) if code in WRITE else (2 * size, 0)
+    out = BLOCK if code in WRITE_SAME else number(cdb[7:9]) if code == UNMAP else 0
+    allocations = {INQUIRY: cdb[3:5], REQUEST_SENSE: cdb[4:5], REPORT_LUNS: cdb[6:10], CAPACITY_16: cdb[10:14], CAPACITY_10: b"\x08"}
+    return out, number(allocations.get(code, b""))
+
+
 def fixed(sense):
     """Returns the 18 bytes of fixed-format sense (SPC-4 §4.5.3)."""
     key, code, qualifier = bytes.fromhex(sense.replace("/", ""))
@@ -52,6 +97,10 @@ def fixed(sense):
 
 class Wrong(Exception):
     """What was printed can't be."""
+
+
+class NotModelled(Wrong):
+    """What was printed can't be judged: this model doesn't have it."""
 
 
 @dataclass
@@ -115,8 +164,8 @@ class Disk:
     ran: dict = field(default_factory=dict)
     left: dict = field(default_factory=dict)
     functions: list = field(default_factory=list)
-    # The steps of functions and of the operator that have to come, in order, if they are known: an `abort` with the task that
-    # it is for, `None` where it is for all; a `reset` with its attention; a `resize` with its blocks.
+    # The steps of functions and of the operator that have to come, in order, if they are known: an `abort` with the requests
+    # that it is for, `None` where it is for all; a `reset` with its attention; a `resize` with its blocks.
     plan: list = None
     # How many times it may still be refused memory.
     refusals: int = 0
@@ -212,7 +261,7 @@ class Disk:
         self.functions.append((at, kind, list(self.tasks)))
         what = BUS_RESET if self.plan is None and kind == "reset" else None if self.plan is None else self.planned(kind)
         for name, task in self.tasks.items():
-            is_met = kind == "reset" or what in (None, name)
+            is_met = kind == "reset" or what is None or name in what
             task.mark = task.mark or (kind if is_met and not task.is_done else "")
         if kind == "reset":
             self.raised(what)
@@ -236,33 +285,32 @@ class Disk:
     def execute(self, cdb, out):
         """What a command does to the blocks: its sense if any, its data, and how many bytes it took (SBC-3 §5)."""
         code = cdb[0]
+        if code not in KNOWN or is_bad(cdb):
+            return BAD_FIELD if code in KNOWN else UNKNOWN, b"", 0
         if code in RANGED:
             return self.execute_range(cdb, out)
-        if code == 0x00:
+        if code == TEST_UNIT_READY:
             return "", b"", 0
-        if code == 0x42:
+        if code == UNMAP:
             return self.unmap(cdb, out)
         if code == INQUIRY:
+            if cdb[1] & 1:
+                raise NotModelled("a page of INQUIRY")
             return "", INQUIRY_DATA[:number(cdb[3:5])], 0
         if code == REQUEST_SENSE:
             return "", fixed(self.pending.pop(0) if self.pending else "00/00/00")[:cdb[4]], 0
         if code == REPORT_LUNS:
             luns = b"" if cdb[2] == 1 else b"".join(bytes((0x40 + (lun >> 8) if lun > 255 else 0, lun & 255)).ljust(8, b"\0") for lun in self.luns)
             return "", (len(luns).to_bytes(4, "big") + bytes(4) + luns)[:number(cdb[6:10])], 0
-        if code == 0x25:
+        if code == CAPACITY_10:
             return "", min(self.capacity - 1, 2**32 - 1).to_bytes(4, "big") + BLOCK.to_bytes(4, "big"), 0
-        if code == 0x9e:
-            whole = (self.capacity - 1).to_bytes(8, "big") + BLOCK.to_bytes(4, "big") + bytes((0, 0, 0xc0)) + bytes(17)
-            return "", whole[:number(cdb[10:14])], 0
-        return UNKNOWN, b"", 0
+        whole = (self.capacity - 1).to_bytes(8, "big") + BLOCK.to_bytes(4, "big") + bytes((0, 0, 0xc0)) + bytes(17)
+        return "", whole[:number(cdb[10:14])], 0
 
     def execute_range(self, cdb, out):
         """What a command does that names a range of blocks."""
         code = cdb[0]
         lba, count = range_of(cdb)
-        # Protection information isn't offered.
-        if code not in (0x08, 0x0a, *SYNCHRONIZE) and cdb[1] >> 5:
-            return BAD_FIELD, b"", 0
         if lba + count > self.capacity:
             return OUT_OF_RANGE, b"", 0
         if code in READ:
@@ -286,7 +334,12 @@ class Disk:
     def unmap(self, cdb, out):
         """UNMAP: all ranges are looked at before any is zeroed."""
         size = number(cdb[7:9])
-        ranges = [(number(out[at:at + 8]), number(out[at + 8:at + 12])) for at in range(8, size - 15, 16)]
+        if size < 8:
+            return BAD_LENGTH if size else "", b"", 0
+        listed = min(number(out[2:4]), size - 8) // 16
+        ranges = [(number(out[at:at + 8]), number(out[at + 8:at + 12])) for at in range(8, 8 + 16 * listed, 16)]
+        if listed > MOST_RANGES or sum(count for _, count in ranges) > MOST_SAME:
+            return BAD_LIST, b"", 0
         if any(lba + count > self.capacity for lba, count in ranges):
             return OUT_OF_RANGE, b"", 0
         for lba, count in ranges:

@@ -9,11 +9,23 @@ from dataclasses import dataclass
 from functools import lru_cache
 from itertools import islice
 
-from disk_model import BUS_RESET, NEXUS_LOSS, POWER_ON, Disk, Request, Wrong, busy, runs
+from disk_model import (
+    BAD_FIELD, BUS_RESET, INQUIRY, INQUIRY_DATA, NEXUS_LOSS, POWER_ON, REQUEST_SENSE, Disk, Request, Wrong, busy, fixed, is_bad, need, number, runs,
+    shown,
+)
 
 # Task management functions: those that abort, those that reset, and those that look.
 ABORTS, RESETS, QUERIES = (0, 1, 3), {4: NEXUS_LOSS, 5: BUS_RESET}, (6, 7)
 FAILED = 9
+
+# Task attributes by number. Any other number is refused.
+ATTRIBUTES = ("simple", "ordered", "head")
+
+# Sense of requests that come to no unit: a task attribute that isn't known, and a unit that is absent.
+BAD_ATTRIBUTE, NO_UNIT = "05/49/00", "05/25/00"
+
+# Responses of requests that come to no unit.
+OVERRUN, BAD_TARGET = 1, 3
 
 
 @dataclass
@@ -23,7 +35,7 @@ class Deed:
     name: str
     kind: object
     unit: str
-    number: str = ""
+    number: int = 0
 
 
 def bytes_of(text):
@@ -32,36 +44,48 @@ def bytes_of(text):
     return b"".join(bytes.fromhex(item) * int(count or 1) for item, _, count in items)
 
 
+def attribute_of(word):
+    """Returns the task attribute that a word of a script says: a number stands for its word, where it has one."""
+    return ATTRIBUTES[int(word)] if word.isdigit() and int(word) < len(ATTRIBUTES) else word
+
+
+def unit_of(word):
+    """Returns a unit as the program prints it, without leading zeros."""
+    return ":".join(str(int(part)) for part in word.split(":"))
+
+
 def request_of(words, place):
     """Returns the request of a `send` line, the one of its queue with this number."""
     name, queue, unit, _, attribute, cdb, *rest = words[1:]
     data = dict(zip(rest[::2], rest[1::2]))
     out = bytes_of(data["out"]) if "out" in data else b""
-    return Request(name, int(queue), unit, attribute, bytes_of(cdb).ljust(32, b"\0"), out, int(data.get("in", 0)), place)
+    return Request(name, int(queue), unit_of(unit), attribute_of(attribute), bytes_of(cdb).ljust(32, b"\0"), out, int(data.get("in", 0)), place)
 
 
 @lru_cache(maxsize=2)
 def requests_of(script):
-    """Returns the requests of a script by name, its deeds in order, and the name of each unit's identifier. Nobody changes them."""
+    """Returns the requests of a script by name, its deeds in order, and the names of each unit's identifier. Nobody changes them."""
     requests, deeds, identifiers, counts = {}, [], {}, {}
     for words in map(str.split, script.splitlines()):
         match words[:1]:
             case ["send"]:
-                place = counts[words[2]] = counts.get(words[2], -1) + 1
-                requests[words[1]] = request_of(words, place)
-                identifiers[words[3], words[4]] = words[1]
+                place = counts[int(words[2])] = counts.get(int(words[2]), -1) + 1
+                request = requests[words[1]] = request_of(words, place)
+                identifier = request.unit, int(words[4])
+                identifiers[identifier] = (*identifiers.get(identifier, ()), request.name)
             case ["tmf"]:
-                deeds.append(Deed(words[1], int(words[2]), words[3], words[4]))
+                deeds.append(Deed(words[1], int(words[2]), unit_of(words[3]), int(words[4])))
             case ["hard"]:
-                deeds.append(Deed("", "hard", words[1]))
+                deeds.append(Deed("", "hard", unit_of(words[1])))
             case ["resize"]:
-                deeds.append(Deed("", "resize", words[1], words[2]))
+                deeds.append(Deed("", "resize", unit_of(words[1]), int(words[2])))
     return requests, deeds, identifiers
 
 
 def disks_of(script):
     """Returns the units of a script's header, as they open."""
-    units = re.findall(r"^unit (\d+) (\d+) (\d+)( calm)?$", script, re.M)
+    found = re.findall(r"^ *unit +(\d+) +(\d+) +(\d+)( +calm)? *$", script, re.M)
+    units = [(str(int(target)), str(int(lun)), blocks, calm) for target, lun, blocks, calm in found]
     luns = {target: tuple(int(lun) for its, lun, *_ in units if its == target) for target, *_ in units}
     return {f"{target}:{lun}": Disk(int(blocks), [] if calm else [POWER_ON], luns=luns[target]) for target, lun, blocks, calm in units}
 
@@ -88,11 +112,11 @@ def step_of(deed, identifiers):
     """Returns the step that a function or the operator leaves in a history, or nothing."""
     if deed.kind == 0:
         # An identifier that no request has meets none.
-        return "abort", identifiers.get((deed.unit, deed.number), "")
+        return "abort", identifiers.get((deed.unit, deed.number), ())
     if deed.kind in ABORTS:
         return "abort", None
     if deed.kind == "resize":
-        return "resize", int(deed.number)
+        return "resize", deed.number
     if deed.kind == "hard" or deed.kind in RESETS:
         return "reset", RESETS.get(deed.kind, POWER_ON)
     return None
@@ -100,11 +124,11 @@ def step_of(deed, identifiers):
 
 def steps_in_turn(script, unit, disks):
     """Yields the steps of a unit, where each line of the script is settled before the next and memory is ample."""
-    _, deeds, identifiers = requests_of(script)
+    requests, deeds, identifiers = requests_of(script)
     deeds = iter(deeds)
     for words in map(str.split, script.splitlines()):
         match words[:1]:
-            case ["send"] if words[3] == unit:
+            case ["send"] if requests[words[1]].unit == unit and direct(requests[words[1]], disks) is None:
                 yield from (f"{kind} {words[1]}" for kind in ("enter", "commit", "leave"))
             case ["tmf"] | ["hard"] | ["resize"]:
                 deed = next(deeds)
@@ -126,6 +150,32 @@ def history_of(script, unit, disks, printed):
     return folded + steps[1:]
 
 
+def absent(request):
+    """Returns the line of a request for a unit that is absent, at a target that is there."""
+    code, total = request.cdb[0], len(request.out) + request.room
+    if code not in (INQUIRY, REQUEST_SENSE):
+        return shown(request.name, total, status=2, sense=NO_UNIT)
+    if is_bad(request.cdb) or code == INQUIRY and request.cdb[1] & 1:
+        return shown(request.name, total, status=2, sense=BAD_FIELD)
+    data = (b"\x7f" + INQUIRY_DATA[1:])[:number(request.cdb[3:5])] if code == INQUIRY else fixed(NO_UNIT)[:request.cdb[4]]
+    return shown(request.name, total - len(data), data=data)
+
+
+def direct(request, disks):
+    """Returns the line of a request that is answered before it comes to a unit; `None` where it comes to one. The first
+    reason stands."""
+    if request.out and request.room:
+        return shown(request.name, response=FAILED)
+    if not any(unit.startswith(request.unit.split(":")[0] + ":") for unit in disks):
+        return shown(request.name, response=BAD_TARGET)
+    out, into = need(request.cdb)
+    if out > len(request.out) or into > request.room:
+        return shown(request.name, response=OVERRUN)
+    if request.attribute not in ATTRIBUTES:
+        return shown(request.name, len(request.out) + request.room, status=2, sense=BAD_ATTRIBUTE)
+    return None if request.unit in disks else absent(request)
+
+
 def responses(deed, disks):
     """Returns what a function may be answered where memory is ample."""
     if deed.kind not in (*ABORTS, *RESETS, *QUERIES):
@@ -141,6 +191,7 @@ def replayed(script, last, refused, visited):
     """Returns the disks that the printed histories make, where a failed function came to this many of its units."""
     requests, deeds, identifiers = requests_of(script)
     disks = disks_of(script)
+    requests = {name: request for name, request in requests.items() if direct(request, disks) is None}
     plans = {unit: [] for unit in disks}
     for deed in deeds:
         has_failed = deed.name and last.get(deed.name) == f"{deed.name} used=1 response={FAILED}"
@@ -175,7 +226,7 @@ def judge(script, printed, refused=0):
                 raise
     spent = len(failed) + sum(refused - disk.refusals for disk in disks.values())
     for name, request in requests.items():
-        wanted = disks[request.unit].lines.get(name)
+        wanted = direct(request, disks) or disks[request.unit].lines.get(name)
         spent += wanted is None
         wanted = wanted or busy(request)
         if name in last and last[name] != wanted:
