@@ -8,9 +8,13 @@
  * this library looks at its fields. What the device needs is taken from malloc by vscsi_create, and goes back by
  * vscsi_destroy, once, or never. Whatever else is passed to a call is looked at during that call alone.
  *
- * Which calls may run side by side. On one device none, not even those that only look (`const struct vscsi *`): the
- * caller orders them, and hands a device to another thread as it would hand over any memory. Devices have nothing in
- * common. No call is made from a signal handler, or by the child of a fork of a process with threads.
+ * `struct vscsi_disk` is the caller's, too. It may be moved by assignment: of its copies one alone is used from then on, and
+ * the others are let go unread. A disk that is destroyed, or that a device has, is none.
+ *
+ * Which calls may run side by side. On one device, and on one disk, none, not even those that only look
+ * (`const struct vscsi_disk *`): the caller orders them, and hands a device or a disk to another thread as it would hand over
+ * any memory. Devices and disks have nothing in common. No call is made from a signal handler, or by the child of a fork of a
+ * process with threads.
  *
  * What a call answers. One of `enum vscsi_answer`. Each call says below what else but VSCSI_DONE it may answer; then it
  * changed nothing, the room that it would write included, but for what is said of vscsi_settle, vscsi_serve and of the
@@ -18,9 +22,9 @@
  * run of no bytes, queues or units may be, and what is called optional below), and VSCSI_BAD_LENGTH where a length is
  * more than memory can have.
  *
- * What can't be checked, and is the caller's: a `struct vscsi` that isn't zeros and that no call left; a pointer to room
- * that is shorter than was said, or that another argument points into; two calls on one device at a time. Then anything
- * may happen.
+ * What can't be checked, and is the caller's: a `struct vscsi` or `struct vscsi_disk` that isn't zeros and that no call left;
+ * a copy of a disk that is used beside another; a pointer to room that is shorter than was said, or that another argument
+ * points into; two calls on one device or one disk at a time. Then anything may happen.
  *
  * Guest memory is one run of bytes that begins at guest address 0. The device has its own: what a guest wrote is copied
  * in by vscsi_poke, what the device wrote is copied out by vscsi_peek. docs/EMBEDDING.md says which bytes, and when.
@@ -164,13 +168,14 @@ struct vscsi_fault {
   uint32_t detail;
 };
 
-/* How much a unit did since its device was made. A number that passes 2^64 - 1 begins again at 0. Since 1.3. */
+/* How much a unit did since its device was made. A number that passes 2^64 - 1 begins again at 0. A command counts when it
+ * ran, and between two portions of vscsi_serve its answer may still be to come. Since 1.3. */
 struct vscsi_counts {
   uint64_t left;             /* requests that came to the unit, were answered and left it, whatever became of them */
   uint64_t full;             /* requests that were refused with TASK SET FULL (SAM-5, 5.3.1) */
-  uint64_t good;             /* commands that ran and were answered GOOD */
-  uint64_t check_conditions; /* commands that ran and were answered CHECK CONDITION */
-  uint64_t busy;             /* commands that were refused memory and answered BUSY */
+  uint64_t good;             /* commands that ran with status GOOD */
+  uint64_t check_conditions; /* commands that ran with status CHECK CONDITION */
+  uint64_t busy;             /* commands that were refused memory, with status BUSY */
   uint64_t data_out;         /* bytes that commands took from the driver */
   uint64_t data_in;          /* bytes that commands gave to the driver */
 };
@@ -249,20 +254,21 @@ enum vscsi_answer vscsi_settle(struct vscsi *device, uint64_t *steps);
 enum vscsi_answer vscsi_serve(struct vscsi *device, uint32_t queues, uint64_t most, uint64_t *steps, bool *more);
 
 /* Copies bytes into guest memory at an address.
- * VSCSI_NO_DEVICE; VSCSI_OUTSIDE where one would lie outside. */
+ * VSCSI_NO_DEVICE; VSCSI_OUTSIDE where one would lie outside, and of 0 bytes where the address lies behind the end. */
 enum vscsi_answer vscsi_poke(struct vscsi *device, uint64_t addr, const void *bytes, size_t count);
 
 /* Copies bytes of guest memory out.
- * VSCSI_NO_DEVICE; VSCSI_OUTSIDE where one lies outside. */
+ * VSCSI_NO_DEVICE; VSCSI_OUTSIDE where one lies outside, and of 0 bytes where the address lies behind the end. */
 enum vscsi_answer vscsi_peek(const struct vscsi *device, uint64_t addr, void *into, size_t count);
 
 /* Whose drivers are owed a notification since this was last asked: bit 0 is queue 0. Asked after each vscsi_settle and
  * vscsi_serve, also after one that answered VSCSI_NO_MEMORY; the host then notifies the driver of each of these queues
  * (VIRTIO 1.2, 2.3).
  *
- * The device decides by the driver's flag as its own copy has it. A host that copies memory therefore looks at the flag
- * in the guest's memory once more, after it copied the used ring out there, and notifies where the driver has asked in
- * the meantime; or it notifies of every queue whose count of used chains rose (vscsi_progress), which is always right.
+ * The device decides by the driver's flag as its own copy has it, and with VSCSI_F_EVENT_IDX by `used_event` (a packed
+ * queue's event area) in its place. A host that copies memory therefore looks at that once more in the guest's memory, after
+ * it copied the used ring out there, and notifies where the driver has asked in the meantime (VIRTIO 1.2, 2.7.7.2, 2.8.10);
+ * or it notifies of every queue whose count of used chains rose (vscsi_progress), which is always right.
  * VSCSI_NO_DEVICE. */
 enum vscsi_answer vscsi_owed(struct vscsi *device, uint32_t *queues);
 
