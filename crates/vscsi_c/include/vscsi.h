@@ -12,7 +12,7 @@
  * the others are let go unread. A disk that is destroyed, or that a device has, is none.
  *
  * Which calls may run side by side. On one device, and on one disk, none, not even those that only look
- * (`const struct vscsi_disk *`): the caller orders them, and hands a device or a disk to another thread as it would hand over
+ * (vscsi_peek, vscsi_disk_save): the caller orders them, and hands a device or a disk to another thread as it would hand over
  * any memory. Devices and disks have nothing in common. No call is made from a signal handler, or by the child of a fork of a
  * process with threads.
  *
@@ -259,7 +259,7 @@ enum vscsi_answer vscsi_poke(struct vscsi *device, uint64_t addr, const void *by
 
 /* Copies bytes of guest memory out.
  * VSCSI_NO_DEVICE; VSCSI_OUTSIDE where one lies outside, and of 0 bytes where the address lies behind the end. */
-enum vscsi_answer vscsi_peek(const struct vscsi *device, uint64_t addr, void *into, size_t count);
+enum vscsi_answer vscsi_peek(struct vscsi *device, uint64_t addr, void *into, size_t count);
 
 /* Whose drivers are owed a notification since this was last asked: bit 0 is queue 0. Asked after each vscsi_settle and
  * vscsi_serve, also after one that answered VSCSI_NO_MEMORY; the host then notifies the driver of each of these queues
@@ -275,17 +275,17 @@ enum vscsi_answer vscsi_owed(struct vscsi *device, uint32_t *queues);
 /* The device's status: 64, DEVICE_NEEDS_RESET (VIRTIO 1.2, 2.1), where a guest broke a queue, else 0. The host sets that
  * bit in the status that the driver sees, and tells it by a configuration change notification.
  * VSCSI_NO_DEVICE. */
-enum vscsi_answer vscsi_status(const struct vscsi *device, uint8_t *status);
+enum vscsi_answer vscsi_status(struct vscsi *device, uint8_t *status);
 
 /* What broke a queue: an `enum vscsi_broken`. A broken queue takes no more chains; other queues go on. Nothing mends it
  * but a reset by the driver, for which the host destroys the device and makes another.
  * VSCSI_NO_DEVICE; VSCSI_NO_QUEUE. */
-enum vscsi_answer vscsi_broken(const struct vscsi *device, uint16_t queue, uint32_t *fault);
+enum vscsi_answer vscsi_broken(struct vscsi *device, uint16_t queue, uint32_t *fault);
 
 /* How many chains a queue took, and how many of them it gave back; both are optional. Modulo 2^16 these are a split queue's
  * position in the available ring and its used index.
  * VSCSI_NO_DEVICE; VSCSI_NO_QUEUE. */
-enum vscsi_answer vscsi_progress(const struct vscsi *device, uint16_t queue, uint64_t *accepted, uint64_t *used);
+enum vscsi_answer vscsi_progress(struct vscsi *device, uint16_t queue, uint64_t *accepted, uint64_t *used);
 
 /* The operator's hard reset of a unit: its tasks that haven't run end with response RESET, its next command is told
  * (29/00), and an event goes to the event queue. vscsi_settle or vscsi_serve does what follows.
@@ -302,16 +302,16 @@ enum vscsi_answer vscsi_resize(struct vscsi *device, uint8_t target, uint16_t lu
  * of the unit is counted nowhere: requests whose unit isn't there or that were malformed, and those that were answered BUSY since
  * memory was refused as they came to the unit. `size` is that of the structure. Takes no memory. Since 1.3.
  * The first of these, in this order, that is so: VSCSI_BAD_LENGTH where the size is another; VSCSI_NO_DEVICE; VSCSI_NO_UNIT. */
-enum vscsi_answer vscsi_counts(const struct vscsi *device, uint8_t target, uint16_t lun, struct vscsi_counts *counts, size_t size);
+enum vscsi_answer vscsi_counts(struct vscsi *device, uint8_t target, uint16_t lun, struct vscsi_counts *counts, size_t size);
 
 /* How many blocks a unit has.
  * VSCSI_NO_DEVICE; VSCSI_NO_UNIT. */
-enum vscsi_answer vscsi_capacity(const struct vscsi *device, uint8_t target, uint16_t lun, uint64_t *blocks);
+enum vscsi_answer vscsi_capacity(struct vscsi *device, uint8_t target, uint16_t lun, uint64_t *blocks);
 
 /* Copies blocks of a unit out, as its commands left them; `length` is `count` times 512.
  * The first of these, in this order, that is so: VSCSI_NO_DEVICE; VSCSI_BAD_LENGTH; VSCSI_NO_UNIT; VSCSI_OUTSIDE;
  * VSCSI_NO_MEMORY, never where `count` is 0. */
-enum vscsi_answer vscsi_blocks(const struct vscsi *device, uint8_t target, uint16_t lun, uint64_t first, uint32_t count, void *into,
+enum vscsi_answer vscsi_blocks(struct vscsi *device, uint8_t target, uint16_t lun, uint64_t first, uint32_t count, void *into,
                                size_t length);
 
 /* Tells which blocks of a unit may have changed, for a host that writes a disk through to a file: vscsi_serve, then this, then
@@ -351,7 +351,7 @@ enum vscsi_answer vscsi_disk_load(struct vscsi_disk *disk, uint64_t first, uint3
 /* Copies blocks of a disk out; `length` is `count` times 512. Since 1.2.
  * The first of these, in this order, that is so: VSCSI_NO_DISK; VSCSI_BAD_LENGTH; VSCSI_OUTSIDE; VSCSI_NO_MEMORY, never where
  * `count` is 0. */
-enum vscsi_answer vscsi_disk_save(const struct vscsi_disk *disk, uint64_t first, uint32_t count, void *into, size_t length);
+enum vscsi_answer vscsi_disk_save(struct vscsi_disk *disk, uint64_t first, uint32_t count, void *into, size_t length);
 
 /* The version of the library, as VSCSI_VERSION tells that of the header. */
 uint32_t vscsi_version(void);
