@@ -4,7 +4,6 @@ import gzip
 import hashlib
 import io
 import shutil
-import sys
 import tarfile
 from importlib.machinery import SourceFileLoader
 from pathlib import Path
@@ -97,5 +96,3 @@ def pack(folder, when, into):
         packed.write(raw.getvalue())
     return into
 
-
-sys.dont_write_bytecode = True

@@ -89,7 +89,8 @@ def run_all(packages):
     if installed():
         trial.fail(f"installed already: {', '.join(installed())}")
     judged(packages)
-    files = {line.split(None, 5)[5] for it in packages for line in done("dpkg-deb", "-c", it).splitlines() if not line.startswith(("d", "l"))}
+    lines = [line for it in packages for line in done("dpkg-deb", "-c", it).splitlines()]
+    files = {line.split(None, 5)[5] for line in lines if line.startswith("-")}
     try:
         done("dpkg", "--install", *packages)
         if installed() != sorted(NAMES):

@@ -26,6 +26,7 @@ REVISION = 1
 
 
 def version():
+    """Returns the version of the packages."""
     return f"{versions.version()}-{REVISION}"
 
 
@@ -165,12 +166,15 @@ def needed(root):
 
 def put_control(root, fields):
     """Writes the control file of a package, and the sums of its files."""
-    files = [it for it in sorted(root.rglob("*")) if it.is_file() and not it.is_symlink() and "DEBIAN" not in it.relative_to(root).parts]
-    size = sum(-(-it.stat().st_size // 1024) for it in files) + sum(1 for it in root.rglob("*") if it.is_dir())
+    places = [it for it in sorted(root.rglob("*")) if it.relative_to(root).parts[0] != "DEBIAN"]
+    files = [it for it in places if it.is_file() and not it.is_symlink()]
+    # In KiB, and one for each other thing, as Debian counts.
+    size = sum(-(-it.stat().st_size // 1024) for it in files) + len(places) - len(files)
     head, rest = fields.split("\n", 1)
     rest = rest.replace("${shlibs}", needed(root)).replace("${version}", version())
-    common = f"Source: vscsi\nVersion: {version()}\nArchitecture: amd64\nMaintainer: {maintainer()}\nInstalled-Size: {size}\nPriority: optional"
-    (root / "DEBIAN/control").write_text(f"{head}\n{common}\n{rest}\n")
+    common = [f"Version: {version()}", f"Maintainer: {maintainer()}", f"Installed-Size: {size}"]
+    lines = [head, "Source: vscsi", "Architecture: amd64", "Priority: optional", *common, rest, ""]
+    (root / "DEBIAN/control").write_text("\n".join(lines))
     lines = [f"{hashlib.md5(it.read_bytes()).hexdigest()}  {it.relative_to(root)}\n" for it in files]
     (root / "DEBIAN/md5sums").write_text("".join(lines))
 
@@ -195,5 +199,6 @@ def build(facts, into):
             put_control(root, fields)
             set_modes(root)
             env = {**os.environ, "SOURCE_DATE_EPOCH": str(facts["when"])}
-            subprocess.run(["dpkg-deb", "--root-owner-group", "-Zxz", "--build", root, into], check=True, env=env, stdout=subprocess.DEVNULL)
+            words = ["dpkg-deb", "--root-owner-group", "-Zxz", "--build", root, into]
+            subprocess.run(words, check=True, env=env, stdout=subprocess.DEVNULL)
     return sorted(into.glob("*.deb"))

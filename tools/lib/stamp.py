@@ -72,8 +72,9 @@ def refusal(root=ROOT, now=None):
         return "the sources aren't those of a commit: commit them, and let ./check pass"
     if passed["tree"] != now["tree"]:
         return f"./check passed the sources of {passed['commit']}, and these are others: let it pass"
+    found = sums(root)
     for name in built():
-        if sums(root).get(name) != passed["sums"].get(name) or name not in passed["sums"]:
+        if name not in found or found[name] != passed["sums"].get(name):
             return f"{name} isn't the file that ./check passed: let it pass once more"
     return None
 

@@ -23,6 +23,7 @@ BARE = {"PATH": "/usr/bin:/bin"}
 
 
 def fail(text):
+    """Ends the trial."""
     raise SystemExit(f"release: {text}")
 
 
@@ -170,8 +171,11 @@ def run_all(make):
         for folder in (room, bare):
             folder.mkdir()
         made = make(first)
-        os.umask(0o077)
-        if make(second).read_bytes() != made.read_bytes():
+        # Under another mask the files have other modes, and the archive hasn't.
+        before = os.umask(0o077)
+        again = make(second)
+        os.umask(before)
+        if again.read_bytes() != made.read_bytes():
             fail("two archives of the same files differ")
         folder = unpacked(made, bare)
         plays(folder)
