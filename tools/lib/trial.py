@@ -84,7 +84,14 @@ def links(folder, room):
 
 
 def answers(folder, room):
-    """Starts the daemon, asks for its features, and ends it."""
+    """Asks the daemon for its version, starts it, asks for its features, and ends it."""
+    printed, said, status = run(folder / "bin/vscsi-vhost-user", "--version")
+    if status or said or printed.split("\n")[0] != f"vscsi-vhost-user {versions.version()}":
+        fail(f"bin/vscsi-vhost-user --version: status {status}, {printed}{said}")
+    known, page = run(folder / "bin/vscsi-vhost-user", "--help")[0], (folder / "share/man/man1/vscsi-vhost-user.1").read_text()
+    lacking = set(re.findall(r"--[a-z-]+", known)) - set(re.findall(r"--[a-z-]+", page.replace("\\-", "-")))
+    if "--disk" not in known or lacking:
+        fail(f"vscsi-vhost-user.1 lacks {sorted(lacking)}")
     path = room / "socket"
     daemon = subprocess.Popen([folder / "bin/vscsi-vhost-user", "--socket", path, "--disk", "0:0=1M"], env=BARE, stderr=subprocess.PIPE)
     deadline = time.monotonic() + 20
