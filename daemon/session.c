@@ -6,6 +6,7 @@
 #include <unistd.h>
 
 #include "bytes.h"
+#include "log.h"
 #include "space.h"
 
 #define OFFERED ((VSCSI_ACCEPTED_FEATURES & ~VSCSI_F_CHANGE) | F_PROTOCOL_FEATURES)
@@ -17,7 +18,7 @@
 enum { MOST_ROUNDS = 64, WHY = 200, REGION_BYTES = 32, SPACE_HEAD = 12, MOST_SPACE = 256 };
 
 static void say(const struct session *session, const char *what, const char *why) {
-  if (!session->quiet) fprintf(stderr, "vscsi-vhost-user: %s: %s\n", what, why);
+  if (!session->quiet) log_say(LOG_NOTE, NULL, "%s: %s", what, why);
 }
 
 bool session_begin(struct session *session, int socket, int epoll, struct disks *disks, unsigned request_queues, bool only_shadow, bool quiet) {
@@ -141,12 +142,15 @@ static bool take(struct session *session, struct message *message) {
   }
 }
 
+bool session_is_owed(const struct session *session) { return !session->messages || session->reader.have; }
+
 bool session_read(struct session *session) {
   // A front end that sends on and on has its rings served in between.
   for (unsigned i = 0; i < MOST_ROUNDS; i++) {
     struct message message = {0};
     enum read_answer answer = reader_next(&session->reader, session->socket, &message);
     if (answer != READ_MESSAGE) return answer == READ_WAITS;
+    session->messages++;
     bool taken = take(session, &message), stands = taken;
     message_close(&message);
     if (session->protocol & P_REPLY_ACK && message.flags & NEEDS_REPLY && !is_answered(message.request)) stands = reply_number(session, &message, !taken);
@@ -197,7 +201,7 @@ bool session_serve(struct session *session) {
   if (!backend->device.live) {
     if (!backend_has(backend, queues)) return true;
     if (!backend_begin(backend, why, sizeof why)) {
-      say(session, "no device", why);
+      log_say(LOG_ERROR, NULL, "no device: %s", why);
       return false;
     }
     say(session, "a device", backend->shadow ? "shadow mode" : "direct mode");
@@ -209,6 +213,6 @@ bool session_serve(struct session *session) {
     notify(session, owed);
   }
   session->more = served == MORE;
-  if (served == FAILED) say(session, "the session ends", why);
+  if (served == FAILED) log_say(LOG_ERROR, NULL, "the session ends: %s", why);
   return served != FAILED;
 }

@@ -21,6 +21,7 @@ struct session {
   struct backend backend;
   struct session_queue queues[MOST_QUEUES];
   uint64_t features, protocol;
+  uint64_t messages;  // that came
   bool more, quiet;
 };
 
@@ -35,6 +36,9 @@ void session_end(struct session *session);
 
 // Reads and does what messages there are. Returns false where the connection is over.
 bool session_read(struct session *session);
+
+// Returns whether the front end owes a message: it has sent none yet, or a part of one.
+bool session_is_owed(const struct session *session);
 
 // Takes a queue's kick.
 void session_kicked(struct session *session, unsigned q);
