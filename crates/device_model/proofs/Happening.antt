@@ -29,7 +29,7 @@ use Rattle.device_model.specs.Transitions.{Transition, event_of}
 use Rattle.device_model.specs.Happens.{Happens, Occurrence, Reached, SeatIs, Comes, MayStep, Holds, handed_out}
 use Rattle.device_model.specs.Applies.{Applies, MayPut, MayCheck, MayRespond, MayTake}
 use Rattle.device_model.specs.Lawful.{AreUnits}
-use Rattle.device_model.specs.Standing.{IsOwned, SlotOwns, AreOwned, SlotIsLatest, front_of, AreBehind, FunctionOwns, IsToCommit, IsToLeave, AreAtWork, FunctionIsThere}
+use Rattle.device_model.specs.Standing.{IsOwned, SlotOwns, AreOwned, SlotIsLatest, front_of, AreBehind, AreNamedThere, FunctionOwns, IsToCommit, IsToLeave, AreAtWork, FunctionIsThere}
 use Rattle.device_model.proofs.Owning.{owned}
 use Rattle.device_model.proofs.Staying.{run_stays, run_keeps, units_listed}
 use Rattle.device_model.proofs.Floors.{AreOrdered, new_ordered, transition_orders, all_behind}
@@ -38,6 +38,8 @@ use Rattle.device_model.proofs.Functions.{FindsUnits, new_finds, transition_find
 use Rattle.device_model.specs.Waking.{IsOwn, IsFetch}
 use Rattle.device_model.proofs.Rooms.{run_lists}
 use Rattle.device_model.proofs.Off.{first_off}
+use Rattle.device_model.proofs.Knowing.{named_there}
+use Rattle.unit_model.specs.Asking.{IsNamed}
 
 -- what is known of a world that is reached
 record IsFit (w : PlainWorld) : Type 0 where
@@ -45,6 +47,7 @@ record IsFit (w : PlainWorld) : Type 0 where
   pub behind : AreBehind w
   pub at_work : AreAtWork w
   pub units : AreUnits w
+  pub named : AreNamedThere w
   pub finds : FunctionIsThere (length w.units) w.function
   pub working : 1 ≤ w.workers
   pub seated : length w.seats ≡ w.workers + 1
@@ -66,6 +69,7 @@ fit old trace w r =
       behind = all_behind w listed ordered;
       at_work = all_work w works.3;
       units = works.0;
+      named = named_there old trace w r;
       finds = subst (λ n. FunctionIsThere n w.function) (sym listed) finds;
       working = omega (arith, a, c);
       seated = omega (arith, b, c, d);
@@ -88,7 +92,7 @@ there xs k lt =
 abbrev CanEnter : PlainWorld → ℕ → PlainJob → Type 0
 CanEnter w i x =
     (c : Comes w x) × (floor x.entry.ticket.queue c.unit.steps ≤ x.entry.ticket.number)
-    × (length (alive c.unit.steps) ≤ 64) × (x.chain.ticket.queue ≡ i)
+    × (length (alive c.unit.steps) ≤ 64) × (x.chain.ticket.queue ≡ i) × IsNamed x c.unit
 
 can_enter : (w : PlainWorld) (i : ℕ) (q : PlainQueue) (x : PlainJob) → IsFit w → slice_get w.queues i ≡ Some q
     → q.slot ≡ Slot.Arrived x → CanEnter w i x
@@ -117,25 +121,26 @@ can_enter w i q x f at e =
       subst (λ j. floor j last.unit.steps ≤ x.entry.ticket.number) (sym named) below,
       alive_few last.unit.opening last.unit.steps (f.units x.unit last.unit last.there).lawful,
       own.0,
+      f.named x i q last.unit at e last.there,
     )
 
 few_or_full : (n : ℕ) → n ≤ 64 → (n < 64) ⊎ (n ≡ 64)
 few_or_full n le = grind arith
 
-run_or_park : (w : PlainWorld) (i : ℕ) (x : PlainJob) (c : Comes w x) → MayStep c.unit (Step.Enter x.entry)
-    → x.chain.ticket.queue ≡ i → Does w (Event.Enter i)
-run_or_park w i x c may e =
+run_or_park : (w : PlainWorld) (i : ℕ) (x : PlainJob) (c : Comes w x) → IsNamed x c.unit
+    → MayStep c.unit (Step.Enter x.entry) → x.chain.ticket.queue ≡ i → Does w (Event.Enter i)
+run_or_park w i x c named may e =
     (elim (is_blocked x.entry (alive (Step.Enter x.entry ∷ c.unit.steps))) as (λ b.
     is_blocked x.entry (alive (Step.Enter x.entry ∷ c.unit.steps)) ≡ b → Does w (Event.Enter i)) [
-      | true ↦ λ k. (Transition.Park x, ap Event.Enter e, record { comes = c; may = may; blocked = k })
-      | false ↦ λ k. (Transition.Run x, ap Event.Enter e, record { comes = c; may = may; blocked = k })
+      | true ↦ λ k. (Transition.Park x, ap Event.Enter e, record { comes = c; named = named; may = may; blocked = k })
+      | false ↦ λ k. (Transition.Run x, ap Event.Enter e, record { comes = c; named = named; may = may; blocked = k })
     ]) refl
 
 enters : (w : PlainWorld) (i : ℕ) (x : PlainJob) → CanEnter w i x → Does w (Event.Enter i)
-enters w i x (c, floor, few, e) =
+enters w i x (c, floor, few, e, named) =
     elim (few_or_full (length (alive c.unit.steps)) few) [
-      | inl lt ↦ run_or_park w i x c (lt, floor) e
-      | inr full ↦ (Transition.EnterFull x, ap Event.Enter e, record { comes = c; may = (full, floor) })
+      | inl lt ↦ run_or_park w i x c named (lt, floor) e
+      | inr full ↦ (Transition.EnterFull x, ap Event.Enter e, record { comes = c; named = named; may = (full, floor) })
     ]
 
 -- Direct

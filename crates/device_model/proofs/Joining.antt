@@ -62,6 +62,7 @@ joins (Transition.Arrive f x) w s u q =
       chain = q.2.1;
       ticket = q.2.2;
       decided = q.2.3;
+      addressed = q.2.4;
     }
 joins (Transition.Refuse f a) w s u q =
     record { finds = finds w f q.0 s.0 q.1 q.2.0; opened = s.1; kind = s.2; decided = q.2.1 }
@@ -79,10 +80,12 @@ joins (Transition.Break i n) w s u q =
       opened = s.1;
       offered = q.2.1;
     }
-joins (Transition.Run x) w s u q = record { comes = comes w x u.0 s.0 s.1 u.1; may = u.2.0; blocked = u.2.1 }
-joins (Transition.Park x) w s u q = record { comes = comes w x u.0 s.0 s.1 u.1; may = u.2.0; blocked = u.2.1 }
-joins (Transition.EnterFull x) w s u q = record { comes = comes w x u.0 s.0 s.1 u.1; may = u.2 }
-joins (Transition.EnterBusy x) w s u q = record { comes = comes w x u.0 s.0 s.1 u.1; fresh = u.2 }
+joins (Transition.Run x) w s u q = record { comes = comes w x u.0 s.0 s.1 u.1; named = u.2.0; may = u.2.1; blocked = u.2.2 }
+joins (Transition.Park x) w s u q = record { comes = comes w x u.0 s.0 s.1 u.1; named = u.2.0; may = u.2.1; blocked = u.2.2 }
+joins (Transition.EnterFull x) w s u q =
+    record { comes = comes w x u.0 s.0 s.1 u.1; named = u.2.0; may = u.2.1 }
+joins (Transition.EnterBusy x) w s u q =
+    record { comes = comes w x u.0 s.0 s.1 u.1; named = u.2.0; fresh = u.2.1 }
 joins (Transition.Direct c o xs) w s u q =
     record { queue = q.0; there = q.1; ready = slot_is w c.ticket.queue (Slot.Direct c o) q.0 s q.1; writes = q.2 }
 joins (Transition.Put k x) w s u q = s

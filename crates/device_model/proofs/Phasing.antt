@@ -22,14 +22,14 @@ UnitPart d w i =
 pub unit_part : (d : Transition) (w : PlainWorld) → Happens d w → Under (unit_of d) (UnitPart d w)
 unit_part (Transition.Run x) w h =
     let u = h.comes.unit in let at = h.comes.unit_there in
-    (u, at, (h.may, h.blocked), get_change (stepped (Step.Enter x.entry)) x.unit w.units u at)
+    (u, at, (h.named, h.may, h.blocked), get_change (stepped (Step.Enter x.entry)) x.unit w.units u at)
 unit_part (Transition.Park x) w h =
     let u = h.comes.unit in let at = h.comes.unit_there in
-    (u, at, (h.may, h.blocked), get_change (parking x) x.unit w.units u at)
+    (u, at, (h.named, h.may, h.blocked), get_change (parking x) x.unit w.units u at)
 unit_part (Transition.EnterFull x) w h =
     let u = h.comes.unit in let at = h.comes.unit_there in
-    (u, at, h.may, get_change (stepped (Step.Full x.entry.ticket)) x.unit w.units u at)
-unit_part (Transition.EnterBusy x) w h = (h.comes.unit, h.comes.unit_there, h.fresh, h.comes.unit_there)
+    (u, at, (h.named, h.may), get_change (stepped (Step.Full x.entry.ticket)) x.unit w.units u at)
+unit_part (Transition.EnterBusy x) w h = (h.comes.unit, h.comes.unit_there, (h.named, h.fresh), h.comes.unit_there)
 unit_part (Transition.Commit k x r) w h =
     let u = h.holds.unit in let at = h.holds.there in
     (u, at, h.may, get_change (stepped (Step.Commit x.entry.ticket r)) x.unit w.units u at)
@@ -74,7 +74,7 @@ queue_part (Transition.Arrive f x) w h =
     let q = h.finds.queue in let at = h.finds.there in (
       q,
       at,
-      (h.finds.taken, h.chain, h.ticket, h.decided),
+      (h.finds.taken, h.chain, h.ticket, h.decided, h.addressed),
       at_queue (arriving f.chain (Slot.Arrived x)) f.chain.ticket.queue w q at,
     )
 queue_part (Transition.Refuse f a) w h =

@@ -266,7 +266,9 @@ says_transition old (Transition.Arrive f x) ds w e n m h =
     let d = Transition.Arrive f x in
     let i = old.inventory in
     let decided = subst (λ z. DecidesRequest z f (decision.Enter x.unit (request_of x.entry))) e m.decided in
-    let job : IsJobOf i f x = record { chain = sym m.chain; ticket = m.ticket; decided = decided } in
+    let addressed = subst (λ z. slice_get z x.unit ≡ Some x.address) e m.addressed in
+    let job : IsJobOf i f x =
+    record { chain = sym m.chain; ticket = m.ticket; decided = decided; addressed = addressed } in
     let sent : IsSent i (d ∷ ds) x = record { fetch = f; fetched = inl refl; job = job } in
     let q = f.chain.ticket.queue in
     queues_alone old d ds w (after d w) refl refl refl (λ k. refl)

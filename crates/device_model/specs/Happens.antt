@@ -30,7 +30,7 @@ use Rattle.unit_model.specs.Released.{released}
 use Rattle.replies.specs.Memory.{may_run_short}
 use Rattle.unit_model.specs.Jobs.{PlainJob, of_tasks}
 use Rattle.unit_model.specs.Unit.{PlainUnit}
-use Rattle.unit_model.specs.Asking.{IsOf}
+use Rattle.unit_model.specs.Asking.{IsOf, IsNamed, IsMisdelivered}
 use Rattle.task_mgmt.specs.Functions.{PlainFunction, step_by, response_of}
 use Rattle.task_mgmt.specs.Control.{decided_of}
 use Rattle.task_mgmt.specs.declared.control.ControlDecision.{ControlDecision}
@@ -101,6 +101,7 @@ pub record Arrives (w : PlainWorld) (f : PlainFetch) (x : PlainJob) : Type 0 whe
   pub chain : x.chain ≡ f.chain
   pub ticket : x.entry.ticket ≡ f.chain.ticket
   pub decided : DecidesRequest w.inventory f (decision.Enter x.unit (request_of x.entry))
+  pub addressed : slice_get w.inventory x.unit ≡ Some x.address
 
 pub record Refuses (w : PlainWorld) (f : PlainFetch) (a : List ℕ) : Type 0 where
   pub finds : Finds w f
@@ -151,21 +152,24 @@ pub record Comes (w : PlainWorld) (x : PlainJob) : Type 0 where
 
 pub record Enters (w : PlainWorld) (x : PlainJob) (parks : Bool) : Type 0 where
   pub comes : Comes w x
+  pub named : IsNamed x comes.unit
   pub may : MayStep comes.unit (Step.Enter x.entry)
   pub blocked : is_blocked x.entry (alive (Step.Enter x.entry ∷ comes.unit.steps)) ≡ parks
 
 pub record Overflows (w : PlainWorld) (x : PlainJob) : Type 0 where
   pub comes : Comes w x
+  pub named : IsNamed x comes.unit
   pub may : MayStep comes.unit (Step.Full x.entry.ticket)
 
 -- memory was refused, which only a ticket that isn't stale asks for
 pub record EntersBusy (w : PlainWorld) (x : PlainJob) : Type 0 where
   pub comes : Comes w x
+  pub named : IsNamed x comes.unit
   pub fresh : floor x.entry.ticket.queue comes.unit.steps ≤ x.entry.ticket.number
 
 pub record EntersStale (w : PlainWorld) (x : PlainJob) : Type 0 where
   pub comes : Comes w x
-  pub stale : x.entry.ticket.number < floor x.entry.ticket.queue comes.unit.steps
+  pub stale : IsMisdelivered x comes.unit
 
 pub record Directs (w : PlainWorld) (c : PlainChain) (o : Outcome) (xs : List Write) : Type 0 where
   pub queue : PlainQueue

@@ -18,7 +18,7 @@ use Rattle.unit_model.specs.Clearing.{is_clear}
 use Rattle.unit_model.specs.Seen.{any_met}
 use Rattle.unit_model.specs.Jobs.{PlainJob}
 use Rattle.unit_model.specs.Unit.{PlainUnit, after as stepped, parking}
-use Rattle.unit_model.specs.Asking.{CannotCommit}
+use Rattle.unit_model.specs.Asking.{IsNamed, IsMisdelivered, CannotCommit}
 use Rattle.task_mgmt.specs.Functions.{step_by, response_of}
 use Rattle.task_mgmt.specs.declared.control.ControlDecision.TheVariants as managed
 use Rattle.task_mgmt.specs.declared.kind.Kind.{Kind}
@@ -55,12 +55,14 @@ unit_of d = None
 -- what it asks of the unit
 abbrev pub AsksUnit : Transition → PlainUnit → Type 0
 AsksUnit (Transition.Run x) u =
-    MayStep u (Step.Enter x.entry) × (is_blocked x.entry (alive (Step.Enter x.entry ∷ u.steps)) ≡ false)
+    IsNamed x u × MayStep u (Step.Enter x.entry)
+    × (is_blocked x.entry (alive (Step.Enter x.entry ∷ u.steps)) ≡ false)
 AsksUnit (Transition.Park x) u =
-    MayStep u (Step.Enter x.entry) × (is_blocked x.entry (alive (Step.Enter x.entry ∷ u.steps)) ≡ true)
-AsksUnit (Transition.EnterFull x) u = MayStep u (Step.Full x.entry.ticket)
-AsksUnit (Transition.EnterBusy x) u = floor x.entry.ticket.queue u.steps ≤ x.entry.ticket.number
-AsksUnit (Transition.EnterStale x) u = x.entry.ticket.number < floor x.entry.ticket.queue u.steps
+    IsNamed x u × MayStep u (Step.Enter x.entry)
+    × (is_blocked x.entry (alive (Step.Enter x.entry ∷ u.steps)) ≡ true)
+AsksUnit (Transition.EnterFull x) u = IsNamed x u × MayStep u (Step.Full x.entry.ticket)
+AsksUnit (Transition.EnterBusy x) u = IsNamed x u × (floor x.entry.ticket.queue u.steps ≤ x.entry.ticket.number)
+AsksUnit (Transition.EnterStale x) u = IsMisdelivered x u
 AsksUnit (Transition.Commit k x r) u = MayStep u (Step.Commit x.entry.ticket r)
 AsksUnit (Transition.CommitBusy k x) u = MayStep u (Step.Busy x.entry.ticket) × MayYield u x.entry.command
 AsksUnit (Transition.CommitAborted k x why) u =
@@ -110,6 +112,7 @@ abbrev pub AsksQueue : List Address → Bool → Transition → PlainQueue → L
 AsksQueue inventory missed (Transition.Arrive f x) q m =
     GivesChain q m f × (x.chain ≡ f.chain) × (x.entry.ticket ≡ f.chain.ticket)
     × DecidesRequest inventory f (decision.Enter x.unit (request_of x.entry))
+    × (slice_get inventory x.unit ≡ Some x.address)
 AsksQueue inventory missed (Transition.Refuse f a) q m = GivesChain q m f × IsDirect inventory f.chain.ticket.queue f a
 AsksQueue inventory missed (Transition.Open f g) q m = GivesChain q m f × DecidesControl inventory f (managed.Opens g)
 AsksQueue inventory missed (Transition.Hold f) q m = GivesChain q m f × ((is_short f.chain || missed) ≡ false)

@@ -5,6 +5,7 @@ use Rattle.scsi_codec.specs.declared.event_queue.Event.{Event as Report}
 use Rattle.ring_core.specs.State.{RingState, PlainChain}
 use Rattle.unit_model.specs.Jobs.{PlainJob}
 use Rattle.unit_model.specs.Unit.{PlainUnit}
+use Rattle.unit_model.specs.Receipts.{unit_address}
 use Rattle.task_mgmt.specs.Functions.{PlainFunction}
 use Rattle.device_model.specs.Parts.{Slot, Hand}
 
@@ -94,6 +95,7 @@ pub record Opens (w : PlainWorld) : Type 0 where
   pub queues : Everywhere (λ i q. IsNewQueue i q) w.queues
   pub units : Everywhere (λ i u. IsNewUnit u) w.units
   pub there : length w.units ≡ length w.inventory
+  pub addressed : Everywhere (λ i u. slice_get w.inventory i ≡ Some (unit_address u.opening)) w.units
   pub seats : Everywhere (λ i s. IsNewSeat s) w.seats
   pub working : 1 ≤ w.workers
   pub seated : length w.seats ≡ w.workers + 1

@@ -42,6 +42,7 @@ ghost use Rattle.device_model.specs.Standing.{
   BuffersAreOutstanding,
   AreAtWork,
   AreBehind,
+  AreNamedThere,
   HaveRoom,
   FunctionIsThere,
   IsToCheck,
@@ -186,6 +187,12 @@ pub fn tasks_are_at_work()
 /// has its ticket or a later one of its queue. So no unit finds it stale.
 pub fn tickets_rise()
     ensures { (old : PlainWorld) (trace : List Occurrence) (w : PlainWorld) → Reached old trace w → AreBehind w }
+{}
+
+/// A request that arrived names the unit that it is for, in every world that is reached. So no unit finds that it names
+/// another.
+pub fn requests_come_to_their_units()
+    ensures { (old : PlainWorld) (trace : List Occurrence) (w : PlainWorld) → Reached old trace w → AreNamedThere w }
 {}
 
 /// No seat has more jobs than the units' task sets have places, in every world that is reached. The jobs that a seat

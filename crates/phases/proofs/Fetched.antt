@@ -60,7 +60,7 @@ module _ (inventory : List Address) (old new : BareQueue) (m : List ℕ) (c : Pl
     Transition.Arrive fetch x,
     of_queue,
     record {
-      asks = λ missed. (gives, arrives.0, arrives.1, arrives.2);
+      asks = λ missed. (gives, arrives.0, arrives.1, arrives.2, arrives.3);
       queue = left (Slot.Arrived x);
       memory = refl;
     },
