@@ -22,7 +22,7 @@ use Rattle.task_mgmt.specs.Functions.{step_by, response_of}
 use Rattle.task_mgmt.specs.declared.kind.Kind.{Kind}
 use Rattle.task_mgmt.specs.declared.kind.Kind.TheVariants.{Marking, Querying}
 use Rattle.task_mgmt.specs.declared.function.Mark.{Mark as Place}
-use Rattle.device_model.specs.Parts.{Outcome, Slot, Hand, bytes_of, lengths_of, answer_writes}
+use Rattle.device_model.specs.Parts.{Outcome, as_left, Slot, Hand, bytes_of, lengths_of, answer_writes}
 use Rattle.device_model.specs.World.{PlainQueue, Opened, PlainWorld, owner}
 use Rattle.device_model.specs.Events.{Event}
 use Rattle.device_model.specs.Transitions.{Transition, event_of}
@@ -30,6 +30,8 @@ use Rattle.device_model.specs.Happens.{Happens, Occurrence, Reached, SeatIs, Com
 use Rattle.device_model.specs.Applies.{Applies, MayPut, MayCheck, MayRespond, MayTake}
 use Rattle.device_model.specs.Lawful.{AreUnits}
 use Rattle.device_model.specs.Standing.{IsOwned, SlotOwns, AreOwned, SlotIsLatest, front_of, AreBehind, AreNamedThere, FunctionOwns, IsToCommit, IsToLeave, AreAtWork, FunctionIsThere}
+use Rattle.ring_core.specs.Writes.{all_written}
+use Rattle.device_model.proofs.Seeing.{seen_as_left}
 use Rattle.device_model.proofs.Owning.{owned}
 use Rattle.device_model.proofs.Staying.{run_stays, run_keeps, units_listed}
 use Rattle.device_model.proofs.Floors.{AreOrdered, new_ordered, transition_orders, all_behind}
@@ -149,10 +151,16 @@ directs : (w : PlainWorld) (i : ℕ) (c : PlainChain) (o : Outcome) (q : PlainQu
     → slice_get w.queues i ≡ Some q → q.slot ≡ Slot.Direct c o → Does w (Event.Direct i)
 directs w i c o q f at e =
     let own : SlotOwns w i (Slot.Direct c o) = subst (SlotOwns w i) e (f.owned.slots i q at) in
-    let xs = answer_writes q.ring c (bytes_of (lengths_of c) o) in (
+    let xs = as_left w.memory (answer_writes q.ring c (bytes_of (lengths_of c) o)) in (
       Transition.Direct c o xs,
       ap Event.Direct own.0,
-      record { queue = q; there = ap (λ j. slice_get w.queues j) own.0 ∙ at; ready = e; writes = refl },
+      record {
+        queue = q;
+        there = ap (λ j. slice_get w.queues j) own.0 ∙ at;
+        ready = e;
+        writes = refl;
+        seen = seen_as_left w.shared (all_written w.memory xs.writes);
+      },
     )
 
 -- Put
@@ -221,11 +229,19 @@ commits w k x out c at =
 
 answers : (w : PlainWorld) (k : ℕ) (x : PlainJob) (o : Outcome) (out : List PlainJob) → IsOwned w x.chain
     → SeatIs w k (Hand.Done x o) out → Does w (Event.Answer k)
-answers w k x o out own at = (
-  Transition.Answer k x o (answer_writes own.queue.ring x.chain (bytes_of (lengths_of x.chain) o)),
-  refl,
-  record { out = out; seat = at; queue = own.queue; there = own.there; writes = refl },
-)
+answers w k x o out own at =
+    let xs = as_left w.memory (answer_writes own.queue.ring x.chain (bytes_of (lengths_of x.chain) o)) in (
+      Transition.Answer k x o xs,
+      refl,
+      record {
+        out = out;
+        seat = at;
+        queue = own.queue;
+        there = own.there;
+        writes = refl;
+        seen = seen_as_left w.shared (all_written w.memory xs.writes);
+      },
+    )
 
 leaves : (w : PlainWorld) (k place : ℕ) (t : Ticket) (out : List PlainJob) → IsToLeave w place t
     → SeatIs w k (Hand.Answered place t) out → Does w (Event.Leave k)
@@ -309,8 +325,9 @@ responds : (w : PlainWorld) → IsFit w → MayRespond w → Does w Event.Answer
 responds w f h =
     let c = h.opened.chain in
     let own : FunctionOwns w (Some h.opened) = subst (FunctionOwns w) h.there f.owned.function in
-    let r = response_of h.opened.function in (
-      Transition.Respond c r (answer_writes own.1.queue.ring c (function_bytes r)),
+    let r = response_of h.opened.function in
+    let xs = as_left w.memory (answer_writes own.1.queue.ring c (function_bytes r)) in (
+      Transition.Respond c r xs,
       refl,
       record {
         waiting = record { opened = h.opened; there = h.there; of = refl; left = h.left; still = h.still };
@@ -319,6 +336,7 @@ responds w f h =
         queue = own.1.queue;
         there = own.1.there;
         writes = refl;
+        seen = seen_as_left w.shared (all_written w.memory xs.writes);
       },
     )
 
@@ -329,8 +347,9 @@ raises : (w : PlainWorld) (e : Report) (later : List Report) (buffers : List Pla
 raises w e later [] f waits held = (Transition.Miss e, refl, record { later = later; waits = waits; none = held })
 raises w e later (c ∷ more) f waits held =
     let P : List PlainChain → Type 0 = λ l. AllByRecursion (λ (z : PlainChain). (z.ticket.queue ≡ 1) × IsOwned w z) l in
-    let own : IsOwned w c = (subst P held f.owned.buffers).0.1 in (
-      Transition.Give e c (answer_writes own.queue.ring c (event_bytes e)),
+    let own : IsOwned w c = (subst P held f.owned.buffers).0.1 in
+    let xs = as_left w.memory (answer_writes own.queue.ring c (event_bytes e)) in (
+      Transition.Give e c xs,
       refl,
       record {
         later = later;
@@ -340,6 +359,7 @@ raises w e later (c ∷ more) f waits held =
         queue = own.queue;
         there = own.there;
         writes = refl;
+        seen = seen_as_left w.shared (all_written w.memory xs.writes);
       },
     )
 

@@ -29,6 +29,9 @@ pub record Opened : Type 0 where
 -- operator's
 pub record PlainWorld : Type 0 where
   pub memory : List ℕ
+  -- the guest may write into memory at any time, also between an answer and the look whether a notice of it is wanted;
+  -- else it does so between two steps alone
+  pub shared : Bool
   -- the addresses of the units, in their order
   pub inventory : List Address
   pub queues : List PlainQueue
