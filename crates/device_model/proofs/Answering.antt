@@ -15,7 +15,7 @@ use Rattle.unit_model.specs.Endings.{Ending}
 use Rattle.unit_model.proofs.Marking.{mark_on}
 use Rattle.unit_model.specs.Jobs.{PlainJob}
 use Rattle.unit_model.specs.Unit.{PlainUnit}
-use Rattle.device_model.specs.Parts.{PlainFetch, Outcome, Hand}
+use Rattle.device_model.specs.Parts.{PlainFetch, Completion, Outcome, Hand}
 use Rattle.device_model.specs.World.{PlainWorld, Opens}
 use Rattle.device_model.specs.Transitions.{Transition}
 use Rattle.device_model.specs.Happens.{world_of, Leads}
@@ -154,7 +154,7 @@ slot_true old c (Outcome.Ended (Ending.Replied r)) ds h = absurd h
 slot_true old c (Outcome.Ended (Ending.Aborted why)) ds h = absurd h
 slot_true old c (Outcome.Ended Ending.Lost) ds h = absurd h
 
-directs_so : (old : PlainWorld) (c : PlainChain) (out : Outcome) (xs : List Write) (ds : List Transition) → Opens old
+directs_so : (old : PlainWorld) (c : PlainChain) (out : Outcome) (xs : Completion) (ds : List Transition) → Opens old
     → Leads old (Transition.Direct c out xs ∷ ds) → IsAnsweredSo old ds c out xs
 directs_so old c out xs ds o l =
     let m = l.1 in
@@ -170,7 +170,7 @@ directs_so old c out xs ds o l =
       truth = is.3;
     }
 
-answers_so : (old : PlainWorld) (k : ℕ) (x : PlainJob) (out : Outcome) (xs : List Write) (ds : List Transition) → Opens old
+answers_so : (old : PlainWorld) (k : ℕ) (x : PlainJob) (out : Outcome) (xs : Completion) (ds : List Transition) → Opens old
     → Leads old (Transition.Answer k x out xs ∷ ds) → IsAnsweredSo old ds x.chain out xs
 answers_so old k x out xs ds o l =
     let m = l.1 in
@@ -242,7 +242,7 @@ never_ran old x why ds o l a place r h =
     let c = n.fetched in
     omega (arith, two, a, b, c)
 
-aborted_never : (old : PlainWorld) (k : ℕ) (x : PlainJob) (why : Reason) (xs : List Write) (past ds : List Transition)
+aborted_never : (old : PlainWorld) (k : ℕ) (x : PlainJob) (why : Reason) (xs : Completion) (past ds : List Transition)
     → Opens old → Leads old ds → IsBeginning (Transition.Answer k x (Outcome.Ended (Ending.Aborted why)) xs ∷ past) ds
     → NeverRan x.chain.ticket ds
 aborted_never old k x why xs past ds o l b =

@@ -69,7 +69,7 @@ apart (Transition.Open f g) w h =
     at_one (taking f.chain) f.chain.ticket.queue (Transition.Open f g) w refl (λ q. refl) (λ i z. z)
 apart (Transition.Hold f) w h = at_one (taking f.chain) f.chain.ticket.queue (Transition.Hold f) w refl (λ q. refl) (λ i z. z)
 apart (Transition.UseBuffer f xs) w h =
-    let g = spending (all_written w.memory xs) f.chain in
+    let g = spending xs.seen f.chain in
     at_one g f.chain.ticket.queue (Transition.UseBuffer f xs) w refl (λ q. refl) (λ i z. z)
 apart (Transition.Break k m) w h =
     record {
@@ -87,16 +87,16 @@ apart (Transition.EnterBusy x) w h =
     let g = slotted (Slot.Direct x.chain (Outcome.Ended Ending.Busy)) in
     at_one g x.chain.ticket.queue (Transition.EnterBusy x) w refl (λ q. refl) (λ i z. z)
 apart (Transition.Direct c o xs) w h =
-    let g = directing (all_written w.memory xs) c in
+    let g = directing xs.seen c in
     at_one g c.ticket.queue (Transition.Direct c o xs) w refl (λ q. refl) (λ i z. z)
 apart (Transition.Answer k x o xs) w h =
-    let g = completing (all_written w.memory xs) x.chain in
+    let g = completing xs.seen x.chain in
     at_one g x.chain.ticket.queue (Transition.Answer k x o xs) w refl (λ q. refl) (λ i z. z)
 apart (Transition.Respond c r xs) w h =
-    let g = completing (all_written w.memory xs) c in
+    let g = completing xs.seen c in
     at_one g c.ticket.queue (Transition.Respond c r xs) w refl (λ q. refl) (λ i z. z)
 apart (Transition.Give e c xs) w h =
-    let g = completing (all_written w.memory xs) c in
+    let g = completing xs.seen c in
     at_one g c.ticket.queue (Transition.Give e c xs) w refl (λ q. refl) (λ i z. z)
 apart (Transition.EnterStale x) w h = absurd h
 apart (Transition.CommitUnknown k x) w h = absurd h

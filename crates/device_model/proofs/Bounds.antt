@@ -120,7 +120,7 @@ whole_few (q ∷ qs) =
     few (Some f) = omega (arith)
 
 -- at the start
-owed_at_start : (old : PlainWorld) (trace : List Occurrence) (w : PlainWorld) → Reached old trace w
+pub owed_at_start : (old : PlainWorld) (trace : List Occurrence) (w : PlainWorld) → Reached old trace w
     → measure w + used_worth price w
     ≤ accepted_worth price w + sum_by answered_hand w.seats + visits w.function + length w.waiting + length w.queues
 owed_at_start old trace w r =
@@ -131,7 +131,7 @@ owed_at_start old trace w r =
 
 -- The order has no event of the guest or of the operator
 
-own_pays : (d : Transition) (w : PlainWorld) → Happens d w → IsOwn (event_of d) → pays d ≡ fetches price d + 2 * visited d
+pub own_pays : (d : Transition) (w : PlainWorld) → Happens d w → IsOwn (event_of d) → pays d ≡ fetches price d + 2 * visited d
 own_pays (Transition.Poke x) w h o = absurd o
 own_pays (Transition.Hard p jobs) w h o = absurd o
 own_pays (Transition.Resize place blocks) w h o = absurd o

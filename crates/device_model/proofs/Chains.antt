@@ -208,7 +208,7 @@ places v (Transition.Hold f) w m b h = (
   all_append (BufferOwns v) w.buffers (f.chain ∷ []) h.5 ((m.event, b), tt),
 )
 places v (Transition.UseBuffer f xs) w m b h =
-    let g = spending (all_written w.memory xs) f.chain in
+    let g = spending xs.seen f.chain in
     (slots v g f.chain.ticket.queue w.queues (λ q old. old) h.0, h.1, h.2, h.3, h.4, h.5)
 places v (Transition.Break k n) w m b h =
     (slots v (broken_by n) k w.queues (λ q old. old) h.0, h.1, h.2, h.3, h.4, h.5)
@@ -249,7 +249,7 @@ places v (Transition.EnterStale x) w m b h =
     let g = slotted (Slot.Direct x.chain (Outcome.Ended Ending.Lost)) in
     (slots v g x.chain.ticket.queue w.queues (λ q old. (refl, j.chain)) h.0, h.1, h.2, h.3, h.4, h.5)
 places v (Transition.Direct c o xs) w m b h =
-    let g = directing (all_written w.memory xs) c in
+    let g = directing xs.seen c in
     (slots v g c.ticket.queue w.queues (λ q old. tt) h.0, h.1, h.2, h.3, h.4, h.5)
 places v (Transition.Put k x) w m b h =
     let j = (h.2 k (record { hand = Hand.Empty; out = x ∷ m.rest }) m.seat).1.0 in (
@@ -295,7 +295,7 @@ places v (Transition.CommitUnknown k x) w m b h =
     let new = Hand.Done x (Outcome.Ended Ending.Lost) in
     (h.0, h.1, turns v new k w.seats j h.2, h.3, h.4, h.5)
 places v (Transition.Answer k x o xs) w m b h =
-    let g = completing (all_written w.memory xs) x.chain in (
+    let g = completing xs.seen x.chain in (
       slots v g x.chain.ticket.queue w.queues (λ q old. old) h.0,
       h.1,
       turns v (Hand.Answered x.unit x.chain.ticket) k w.seats tt h.2,
@@ -320,7 +320,7 @@ places v (Transition.Ask t place rule found) w m b h =
 places v (Transition.MarkRefused t) w m b h = (h.0, h.1, h.2, h.3, functions v failing w.function h.4, h.5)
 places v (Transition.Check t p) w m b h = (h.0, h.1, h.2, h.3, functions v checking w.function h.4, h.5)
 places v (Transition.Respond c r xs) w m b h =
-    let g = completing (all_written w.memory xs) c in
+    let g = completing xs.seen c in
     (slots v g c.ticket.queue w.queues (λ q old. old) h.0, h.1, h.2, h.3, tt, h.5)
 places v (Transition.Hard p jobs) w m b h =
     let j = hands v jobs (Step.Reset hard_code) p.unit w.units m.unit m.there m.releases h.1 in (
@@ -334,7 +334,7 @@ places v (Transition.Hard p jobs) w m b h =
 places v (Transition.Resize place blocks) w m b h =
     (h.0, steps v (Step.Resize blocks) place w.units h.1, h.2, h.3, h.4, h.5)
 places v (Transition.Give e c xs) w m b h =
-    let g = completing (all_written w.memory xs) c in (
+    let g = completing xs.seen c in (
       slots v g c.ticket.queue w.queues (λ q old. old) h.0,
       h.1,
       h.2,

@@ -4,7 +4,6 @@ use Rattle.std.specs.Prelude.{◌↔◌, ◌<◌, Bool, true, false}
 use Rattle.scsi_codec.specs.declared.control_queue.FunctionResponse.{FunctionResponse}
 use Rattle.scsi_codec.specs.declared.control_queue.FunctionResponse.TheVariants.{Complete, Failure, Succeeded}
 use Rattle.ring_core.specs.State.{PlainChain}
-use Rattle.ring_core.specs.Writes.{Write}
 use Rattle.ring_core.specs.declared.log.Ticket.{Ticket}
 use Rattle.unit_model.specs.declared.rule.Rule.{Rule}
 use Rattle.unit_model.specs.Steps.{Step, alive, has_left}
@@ -18,6 +17,7 @@ use Rattle.task_mgmt.specs.declared.kind.Kind.{Kind}
 use Rattle.task_mgmt.specs.declared.kind.Kind.TheVariants.{Marking, Querying}
 use Rattle.task_mgmt.specs.declared.kind.MarkBy.{MarkBy}
 use Rattle.task_mgmt.specs.declared.function.Mark.{Mark as Place}
+use Rattle.device_model.specs.Parts.{Completion}
 use Rattle.device_model.specs.World.{PlainWorld, Opens}
 use Rattle.device_model.specs.Transitions.{Transition}
 use Rattle.device_model.specs.Happens.{IsMarking as IsMarkingNow, Leads, world_of}
@@ -160,7 +160,7 @@ none_left place left e h = subst (Among place) e h
 none_waits : (p : Place) (waits : List Place) → waits ≡ [] → Listed p waits → ⊥
 none_waits p waits e h = subst (Listed p) e h
 
-responds_so : (old : PlainWorld) (c : PlainChain) (r : FunctionResponse) (xs : List Write) (ds : List Transition) → Opens old
+responds_so : (old : PlainWorld) (c : PlainChain) (r : FunctionResponse) (xs : Completion) (ds : List Transition) → Opens old
     → Leads old (Transition.Respond c r xs ∷ ds) → IsOver old ds c r xs
 responds_so old c r xs ds o l =
     let m = l.1 in

@@ -284,7 +284,7 @@ transition_orders (Transition.Open f k) w m h =
 transition_orders (Transition.Hold f) w m h =
     opens (taking f.chain) f w m.finds (λ q. refl) (λ q. one_more q.ring.log.accepted (next_ticket q.ring)) h
 transition_orders (Transition.UseBuffer f xs) w m h =
-    opens (spending (all_written w.memory xs) f.chain) f w m.finds (λ q. refl)
+    opens (spending xs.seen f.chain) f w m.finds (λ q. refl)
     (λ q. one_more q.ring.log.accepted (next_ticket q.ring)) h
 transition_orders (Transition.Break k e) w m h =
     keeps (length w.inventory) (broken_by e) k w.units w.queues (λ q. refl) (λ q. refl) h
@@ -304,15 +304,15 @@ transition_orders (Transition.EnterStale x) w m h =
     let s = Slot.Direct x.chain (Outcome.Ended Ending.Lost) in
     sheds (length w.inventory) x w s m.comes (past_ready x.chain (Outcome.Ended Ending.Lost)) h
 transition_orders (Transition.Direct c o xs) w m h =
-    directs (length w.inventory) (all_written w.memory xs) c o w m.queue m.there m.ready h
+    directs (length w.inventory) xs.seen c o w m.queue m.there m.ready h
 transition_orders (Transition.Answer k x o xs) w m h =
-    let g = completing (all_written w.memory xs) x.chain in
+    let g = completing xs.seen x.chain in
     keeps (length w.inventory) g x.chain.ticket.queue w.units w.queues (λ q. refl) (λ q. refl) h
 transition_orders (Transition.Respond c r xs) w m h =
-    let g = completing (all_written w.memory xs) c in
+    let g = completing xs.seen c in
     keeps (length w.inventory) g c.ticket.queue w.units w.queues (λ q. refl) (λ q. refl) h
 transition_orders (Transition.Give e c xs) w m h =
-    let g = completing (all_written w.memory xs) c in
+    let g = completing xs.seen c in
     keeps (length w.inventory) g c.ticket.queue w.units w.queues (λ q. refl) (λ q. refl) h
 transition_orders (Transition.Commit k x r) w m h =
     units_on (length w.inventory) (Step.Commit x.entry.ticket r) x.unit w.units w.queues (λ i l. refl) h

@@ -164,7 +164,7 @@ held_transition f w (Transition.Hold g) h =
     let p = sum_by_push (of_chain f.port) w.buffers g.chain in
     omega (arith, q, p)
 held_transition f w (Transition.UseBuffer g xs) h =
-    let s = spending (all_written w.memory xs) g.chain in
+    let s = spending xs.seen g.chain in
     let q = same_sum (in_queue f) s g.chain.ticket.queue w.queues (λ x. refl) in
     omega (arith, q)
 held_transition f w (Transition.Break k n) h =
@@ -198,7 +198,7 @@ held_transition f w (Transition.EnterStale x) h =
     let q = lets_go f new x.chain.ticket.queue w.queues c.queue (Slot.Arrived x) c.there c.arrived in
     omega (arith, q)
 held_transition f w (Transition.Direct c o xs) h =
-    let q = sum_change (in_queue f) (directing (all_written w.memory xs) c) c.ticket.queue w.queues h.queue h.there in
+    let q = sum_change (in_queue f) (directing xs.seen c) c.ticket.queue w.queues h.queue h.there in
     let e = ap (in_slot f) h.ready in
     omega (arith, q, e)
 held_transition f w (Transition.Put k x) h =
@@ -230,7 +230,7 @@ held_transition f w (Transition.CommitUnknown k x) h =
     omega (arith, s)
 held_transition f w (Transition.Answer k x o xs) h =
     let s = turns f k w.seats (Hand.Done x o) (Hand.Answered x.unit x.chain.ticket) h.out h.seat in
-    let g = completing (all_written w.memory xs) x.chain in
+    let g = completing xs.seen x.chain in
     let q = same_sum (in_queue f) g x.chain.ticket.queue w.queues (λ z. refl) in
     omega (arith, s, q)
 held_transition f w (Transition.Leave k place t jobs) h =
@@ -248,7 +248,7 @@ held_transition f w (Transition.Ask t place rule b) h = let g = goes_on f.opened
 held_transition f w (Transition.MarkRefused t) h = let g = goes_on f.opened failing w.function in omega (arith, g)
 held_transition f w (Transition.Check t p) h = let g = goes_on f.opened checking w.function in omega (arith, g)
 held_transition f w (Transition.Respond c r xs) h =
-    let q = same_sum (in_queue f) (completing (all_written w.memory xs) c) c.ticket.queue w.queues (λ z. refl) in
+    let q = same_sum (in_queue f) (completing xs.seen c) c.ticket.queue w.queues (λ z. refl) in
     let g = ap (of_function f.opened) h.waiting.there in
     let e = ap (of_chain f.opened) h.chain in
     omega (arith, q, g, e)
@@ -261,7 +261,7 @@ held_transition f w (Transition.Resize place blocks) h =
     let u = stays f.kept (Step.Resize blocks) place w.units h.unit h.there refl in
     omega (arith, u)
 held_transition f w (Transition.Give e c xs) h =
-    let q = same_sum (in_queue f) (completing (all_written w.memory xs) c) c.ticket.queue w.queues (λ z. refl) in
+    let q = same_sum (in_queue f) (completing xs.seen c) c.ticket.queue w.queues (λ z. refl) in
     let a = ap (λ l. sum_by (of_chain f.port) l) h.held in
     let b = ap (λ l. sum_by (of_chain f.port) (drop 1 l)) h.held in
     let n = sum_by-cons (of_chain f.port) c h.more in

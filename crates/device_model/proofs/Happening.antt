@@ -22,14 +22,16 @@ use Rattle.task_mgmt.specs.Functions.{step_by, response_of}
 use Rattle.task_mgmt.specs.declared.kind.Kind.{Kind}
 use Rattle.task_mgmt.specs.declared.kind.Kind.TheVariants.{Marking, Querying}
 use Rattle.task_mgmt.specs.declared.function.Mark.{Mark as Place}
-use Rattle.device_model.specs.Parts.{Outcome, Slot, Hand, bytes_of, lengths_of, answer_writes}
+use Rattle.device_model.specs.Parts.{Outcome, as_left, Slot, Hand, bytes_of, lengths_of, answer_writes}
 use Rattle.device_model.specs.World.{PlainQueue, Opened, PlainWorld, owner}
 use Rattle.device_model.specs.Events.{Event}
 use Rattle.device_model.specs.Transitions.{Transition, event_of}
 use Rattle.device_model.specs.Happens.{Happens, Occurrence, Reached, SeatIs, Comes, MayStep, Holds, handed_out}
 use Rattle.device_model.specs.Applies.{Applies, MayPut, MayCheck, MayRespond, MayTake}
 use Rattle.device_model.specs.Lawful.{AreUnits}
-use Rattle.device_model.specs.Standing.{IsOwned, SlotOwns, AreOwned, SlotIsLatest, front_of, AreBehind, FunctionOwns, IsToCommit, IsToLeave, AreAtWork, FunctionIsThere}
+use Rattle.device_model.specs.Standing.{IsOwned, SlotOwns, AreOwned, SlotIsLatest, front_of, AreBehind, AreNamedThere, FunctionOwns, IsToCommit, IsToLeave, AreAtWork, FunctionIsThere}
+use Rattle.ring_core.specs.Writes.{all_written}
+use Rattle.device_model.proofs.Seeing.{seen_as_left}
 use Rattle.device_model.proofs.Owning.{owned}
 use Rattle.device_model.proofs.Staying.{run_stays, run_keeps, units_listed}
 use Rattle.device_model.proofs.Floors.{AreOrdered, new_ordered, transition_orders, all_behind}
@@ -38,6 +40,8 @@ use Rattle.device_model.proofs.Functions.{FindsUnits, new_finds, transition_find
 use Rattle.device_model.specs.Waking.{IsOwn, IsFetch}
 use Rattle.device_model.proofs.Rooms.{run_lists}
 use Rattle.device_model.proofs.Off.{first_off}
+use Rattle.device_model.proofs.Knowing.{named_there}
+use Rattle.unit_model.specs.Asking.{IsNamed}
 
 -- what is known of a world that is reached
 record IsFit (w : PlainWorld) : Type 0 where
@@ -45,6 +49,7 @@ record IsFit (w : PlainWorld) : Type 0 where
   pub behind : AreBehind w
   pub at_work : AreAtWork w
   pub units : AreUnits w
+  pub named : AreNamedThere w
   pub finds : FunctionIsThere (length w.units) w.function
   pub working : 1 ≤ w.workers
   pub seated : length w.seats ≡ w.workers + 1
@@ -66,6 +71,7 @@ fit old trace w r =
       behind = all_behind w listed ordered;
       at_work = all_work w works.3;
       units = works.0;
+      named = named_there old trace w r;
       finds = subst (λ n. FunctionIsThere n w.function) (sym listed) finds;
       working = omega (arith, a, c);
       seated = omega (arith, b, c, d);
@@ -88,7 +94,7 @@ there xs k lt =
 abbrev CanEnter : PlainWorld → ℕ → PlainJob → Type 0
 CanEnter w i x =
     (c : Comes w x) × (floor x.entry.ticket.queue c.unit.steps ≤ x.entry.ticket.number)
-    × (length (alive c.unit.steps) ≤ 64) × (x.chain.ticket.queue ≡ i)
+    × (length (alive c.unit.steps) ≤ 64) × (x.chain.ticket.queue ≡ i) × IsNamed x c.unit
 
 can_enter : (w : PlainWorld) (i : ℕ) (q : PlainQueue) (x : PlainJob) → IsFit w → slice_get w.queues i ≡ Some q
     → q.slot ≡ Slot.Arrived x → CanEnter w i x
@@ -117,25 +123,26 @@ can_enter w i q x f at e =
       subst (λ j. floor j last.unit.steps ≤ x.entry.ticket.number) (sym named) below,
       alive_few last.unit.opening last.unit.steps (f.units x.unit last.unit last.there).lawful,
       own.0,
+      f.named x i q last.unit at e last.there,
     )
 
 few_or_full : (n : ℕ) → n ≤ 64 → (n < 64) ⊎ (n ≡ 64)
 few_or_full n le = grind arith
 
-run_or_park : (w : PlainWorld) (i : ℕ) (x : PlainJob) (c : Comes w x) → MayStep c.unit (Step.Enter x.entry)
-    → x.chain.ticket.queue ≡ i → Does w (Event.Enter i)
-run_or_park w i x c may e =
+run_or_park : (w : PlainWorld) (i : ℕ) (x : PlainJob) (c : Comes w x) → IsNamed x c.unit
+    → MayStep c.unit (Step.Enter x.entry) → x.chain.ticket.queue ≡ i → Does w (Event.Enter i)
+run_or_park w i x c named may e =
     (elim (is_blocked x.entry (alive (Step.Enter x.entry ∷ c.unit.steps))) as (λ b.
     is_blocked x.entry (alive (Step.Enter x.entry ∷ c.unit.steps)) ≡ b → Does w (Event.Enter i)) [
-      | true ↦ λ k. (Transition.Park x, ap Event.Enter e, record { comes = c; may = may; blocked = k })
-      | false ↦ λ k. (Transition.Run x, ap Event.Enter e, record { comes = c; may = may; blocked = k })
+      | true ↦ λ k. (Transition.Park x, ap Event.Enter e, record { comes = c; named = named; may = may; blocked = k })
+      | false ↦ λ k. (Transition.Run x, ap Event.Enter e, record { comes = c; named = named; may = may; blocked = k })
     ]) refl
 
 enters : (w : PlainWorld) (i : ℕ) (x : PlainJob) → CanEnter w i x → Does w (Event.Enter i)
-enters w i x (c, floor, few, e) =
+enters w i x (c, floor, few, e, named) =
     elim (few_or_full (length (alive c.unit.steps)) few) [
-      | inl lt ↦ run_or_park w i x c (lt, floor) e
-      | inr full ↦ (Transition.EnterFull x, ap Event.Enter e, record { comes = c; may = (full, floor) })
+      | inl lt ↦ run_or_park w i x c named (lt, floor) e
+      | inr full ↦ (Transition.EnterFull x, ap Event.Enter e, record { comes = c; named = named; may = (full, floor) })
     ]
 
 -- Direct
@@ -144,10 +151,16 @@ directs : (w : PlainWorld) (i : ℕ) (c : PlainChain) (o : Outcome) (q : PlainQu
     → slice_get w.queues i ≡ Some q → q.slot ≡ Slot.Direct c o → Does w (Event.Direct i)
 directs w i c o q f at e =
     let own : SlotOwns w i (Slot.Direct c o) = subst (SlotOwns w i) e (f.owned.slots i q at) in
-    let xs = answer_writes q.ring c (bytes_of (lengths_of c) o) in (
+    let xs = as_left w.memory (answer_writes q.ring c (bytes_of (lengths_of c) o)) in (
       Transition.Direct c o xs,
       ap Event.Direct own.0,
-      record { queue = q; there = ap (λ j. slice_get w.queues j) own.0 ∙ at; ready = e; writes = refl },
+      record {
+        queue = q;
+        there = ap (λ j. slice_get w.queues j) own.0 ∙ at;
+        ready = e;
+        writes = refl;
+        seen = seen_as_left w.shared (all_written w.memory xs.writes);
+      },
     )
 
 -- Put
@@ -216,11 +229,19 @@ commits w k x out c at =
 
 answers : (w : PlainWorld) (k : ℕ) (x : PlainJob) (o : Outcome) (out : List PlainJob) → IsOwned w x.chain
     → SeatIs w k (Hand.Done x o) out → Does w (Event.Answer k)
-answers w k x o out own at = (
-  Transition.Answer k x o (answer_writes own.queue.ring x.chain (bytes_of (lengths_of x.chain) o)),
-  refl,
-  record { out = out; seat = at; queue = own.queue; there = own.there; writes = refl },
-)
+answers w k x o out own at =
+    let xs = as_left w.memory (answer_writes own.queue.ring x.chain (bytes_of (lengths_of x.chain) o)) in (
+      Transition.Answer k x o xs,
+      refl,
+      record {
+        out = out;
+        seat = at;
+        queue = own.queue;
+        there = own.there;
+        writes = refl;
+        seen = seen_as_left w.shared (all_written w.memory xs.writes);
+      },
+    )
 
 leaves : (w : PlainWorld) (k place : ℕ) (t : Ticket) (out : List PlainJob) → IsToLeave w place t
     → SeatIs w k (Hand.Answered place t) out → Does w (Event.Leave k)
@@ -304,8 +325,9 @@ responds : (w : PlainWorld) → IsFit w → MayRespond w → Does w Event.Answer
 responds w f h =
     let c = h.opened.chain in
     let own : FunctionOwns w (Some h.opened) = subst (FunctionOwns w) h.there f.owned.function in
-    let r = response_of h.opened.function in (
-      Transition.Respond c r (answer_writes own.1.queue.ring c (function_bytes r)),
+    let r = response_of h.opened.function in
+    let xs = as_left w.memory (answer_writes own.1.queue.ring c (function_bytes r)) in (
+      Transition.Respond c r xs,
       refl,
       record {
         waiting = record { opened = h.opened; there = h.there; of = refl; left = h.left; still = h.still };
@@ -314,6 +336,7 @@ responds w f h =
         queue = own.1.queue;
         there = own.1.there;
         writes = refl;
+        seen = seen_as_left w.shared (all_written w.memory xs.writes);
       },
     )
 
@@ -324,8 +347,9 @@ raises : (w : PlainWorld) (e : Report) (later : List Report) (buffers : List Pla
 raises w e later [] f waits held = (Transition.Miss e, refl, record { later = later; waits = waits; none = held })
 raises w e later (c ∷ more) f waits held =
     let P : List PlainChain → Type 0 = λ l. AllByRecursion (λ (z : PlainChain). (z.ticket.queue ≡ 1) × IsOwned w z) l in
-    let own : IsOwned w c = (subst P held f.owned.buffers).0.1 in (
-      Transition.Give e c (answer_writes own.queue.ring c (event_bytes e)),
+    let own : IsOwned w c = (subst P held f.owned.buffers).0.1 in
+    let xs = as_left w.memory (answer_writes own.queue.ring c (event_bytes e)) in (
+      Transition.Give e c xs,
       refl,
       record {
         later = later;
@@ -335,6 +359,7 @@ raises w e later (c ∷ more) f waits held =
         queue = own.queue;
         there = own.there;
         writes = refl;
+        seen = seen_as_left w.shared (all_written w.memory xs.writes);
       },
     )
 

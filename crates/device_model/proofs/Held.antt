@@ -64,7 +64,7 @@ transition_uses (Transition.Refuse f a) w m h =
 transition_uses (Transition.Open f g) w m h = uses_none (taking f.chain) f.chain.ticket.queue w.queues (λ q. refl) h
 transition_uses (Transition.Hold f) w m h = uses_none (taking f.chain) f.chain.ticket.queue w.queues (λ q. refl) h
 transition_uses (Transition.UseBuffer f xs) w m h =
-    uses_one f.chain (spending (all_written w.memory xs) f.chain) w.queues (λ q. refl) h
+    uses_one f.chain (spending xs.seen f.chain) w.queues (λ q. refl) h
 transition_uses (Transition.Break k n) w m h = uses_none (broken_by n) k w.queues (λ q. refl) h
 transition_uses (Transition.Run x) w m h = uses_none (slotted Slot.Empty) x.chain.ticket.queue w.queues (λ q. refl) h
 transition_uses (Transition.Park x) w m h = uses_none (slotted Slot.Empty) x.chain.ticket.queue w.queues (λ q. refl) h
@@ -77,11 +77,11 @@ transition_uses (Transition.EnterBusy x) w m h =
 transition_uses (Transition.EnterStale x) w m h =
     let g = slotted (Slot.Direct x.chain (Outcome.Ended Ending.Lost)) in
     uses_none g x.chain.ticket.queue w.queues (λ q. refl) h
-transition_uses (Transition.Direct c o xs) w m h = uses_one c (directing (all_written w.memory xs) c) w.queues (λ q. refl) h
+transition_uses (Transition.Direct c o xs) w m h = uses_one c (directing xs.seen c) w.queues (λ q. refl) h
 transition_uses (Transition.Answer k x o xs) w m h =
-    uses_one x.chain (completing (all_written w.memory xs) x.chain) w.queues (λ q. refl) h
-transition_uses (Transition.Respond c r xs) w m h = uses_one c (completing (all_written w.memory xs) c) w.queues (λ q. refl) h
-transition_uses (Transition.Give e c xs) w m h = uses_one c (completing (all_written w.memory xs) c) w.queues (λ q. refl) h
+    uses_one x.chain (completing xs.seen x.chain) w.queues (λ q. refl) h
+transition_uses (Transition.Respond c r xs) w m h = uses_one c (completing xs.seen c) w.queues (λ q. refl) h
+transition_uses (Transition.Give e c xs) w m h = uses_one c (completing xs.seen c) w.queues (λ q. refl) h
 transition_uses d w m h = h
 
 -- What counts for one queue alone

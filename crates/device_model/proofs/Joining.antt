@@ -62,6 +62,7 @@ joins (Transition.Arrive f x) w s u q =
       chain = q.2.1;
       ticket = q.2.2;
       decided = q.2.3;
+      addressed = q.2.4;
     }
 joins (Transition.Refuse f a) w s u q =
     record { finds = finds w f q.0 s.0 q.1 q.2.0; opened = s.1; kind = s.2; decided = q.2.1 }
@@ -69,7 +70,7 @@ joins (Transition.Open f g) w s u q =
     record { finds = finds w f q.0 s.0 q.1 q.2.0; closed = s.1; control = s.2; decided = q.2.1 }
 joins (Transition.Hold f) w s u q = record { finds = finds w f q.0 s.0 q.1 q.2.0; event = s.1; decided = q.2.1 }
 joins (Transition.UseBuffer f xs) w s u q =
-    record { finds = finds w f q.0 s.0 q.1 q.2.0; event = s.1; decided = q.2.1; writes = q.2.2 }
+    record { finds = finds w f q.0 s.0 q.1 q.2.0; event = s.1; decided = q.2.1; writes = q.2.2; seen = q.2.3 }
 joins (Transition.Break i n) w s u q =
     record {
       queue = q.0;
@@ -79,12 +80,20 @@ joins (Transition.Break i n) w s u q =
       opened = s.1;
       offered = q.2.1;
     }
-joins (Transition.Run x) w s u q = record { comes = comes w x u.0 s.0 s.1 u.1; may = u.2.0; blocked = u.2.1 }
-joins (Transition.Park x) w s u q = record { comes = comes w x u.0 s.0 s.1 u.1; may = u.2.0; blocked = u.2.1 }
-joins (Transition.EnterFull x) w s u q = record { comes = comes w x u.0 s.0 s.1 u.1; may = u.2 }
-joins (Transition.EnterBusy x) w s u q = record { comes = comes w x u.0 s.0 s.1 u.1; fresh = u.2 }
+joins (Transition.Run x) w s u q = record { comes = comes w x u.0 s.0 s.1 u.1; named = u.2.0; may = u.2.1; blocked = u.2.2 }
+joins (Transition.Park x) w s u q = record { comes = comes w x u.0 s.0 s.1 u.1; named = u.2.0; may = u.2.1; blocked = u.2.2 }
+joins (Transition.EnterFull x) w s u q =
+    record { comes = comes w x u.0 s.0 s.1 u.1; named = u.2.0; may = u.2.1 }
+joins (Transition.EnterBusy x) w s u q =
+    record { comes = comes w x u.0 s.0 s.1 u.1; named = u.2.0; fresh = u.2.1 }
 joins (Transition.Direct c o xs) w s u q =
-    record { queue = q.0; there = q.1; ready = slot_is w c.ticket.queue (Slot.Direct c o) q.0 s q.1; writes = q.2 }
+    record {
+      queue = q.0;
+      there = q.1;
+      ready = slot_is w c.ticket.queue (Slot.Direct c o) q.0 s q.1;
+      writes = q.2.0;
+      seen = q.2.1;
+    }
 joins (Transition.Put k x) w s u q = s
 joins (Transition.Keep k x) w s u q = s
 joins (Transition.Take k from x) w s u q = s
@@ -94,7 +103,8 @@ joins (Transition.CommitBusy k x) w s u q =
     record { holds = holds w k (Hand.Taken x) x.unit u.0 s u.1; may = u.2.0; wants = u.2.1 }
 joins (Transition.CommitAborted k x why) w s u q =
     record { holds = holds w k (Hand.Taken x) x.unit u.0 s u.1; alive = u.2.0; marked = u.2.1 }
-joins (Transition.Answer k x o xs) w s u q = record { out = s.0; seat = s.1; queue = q.0; there = q.1; writes = q.2 }
+joins (Transition.Answer k x o xs) w s u q =
+    record { out = s.0; seat = s.1; queue = q.0; there = q.1; writes = q.2.0; seen = q.2.1 }
 joins (Transition.Leave k place t jobs) w s u q =
     record { holds = holds w k (Hand.Answered place t) place u.0 s u.1; may = u.2.0; enables = u.2.1 }
 joins (Transition.Mark t p m jobs) w s u q =
@@ -116,7 +126,8 @@ joins (Transition.Respond c r xs) w s u q =
       response = s.1;
       queue = q.0;
       there = q.1;
-      writes = q.2;
+      writes = q.2.0;
+      seen = q.2.1;
     }
 joins (Transition.Hard p jobs) w s u q =
     record { unit = u.0; there = u.1; before = u.2.0; releases = u.2.1; seat = s.0; seat_there = s.1 }
@@ -129,7 +140,8 @@ joins (Transition.Give e c xs) w s u q =
       held = s.held;
       queue = q.0;
       there = q.1;
-      writes = q.2;
+      writes = q.2.0;
+      seen = q.2.1;
     }
 joins (Transition.Miss e) w s u q = s
 joins (Transition.EnterStale x) w s u q = absurd s

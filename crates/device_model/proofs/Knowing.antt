@@ -1,5 +1,5 @@
 -- What is known of the world that transitions lead to.
-use Rattle.std.proofs.Common.{◌≡◌, ℕ, ◌<◌, Bool, true, false, ◌||◌, is_some, List, [], ◌∷◌, map, length, Option, Some, None, refl, sym, ◌∙◌, ap, subst, zero, suc, arith}
+use Rattle.std.proofs.Common.{◌≡◌, ℕ, ◌<◌, Bool, true, false, ◌||◌, is_some, List, [], ◌∷◌, map, length, Option, Some, None, inl, inr, refl, sym, ◌∙◌, ap, subst, zero, suc, arith}
 use Rattle.std.specs.Prelude.{slice_get}
 use Rattle.ring_core.specs.declared.log.Ticket.{Ticket}
 use Rattle.unit_model.specs.declared.reason.Reason.{Reason}
@@ -9,14 +9,15 @@ use Rattle.unit_model.specs.Marks.{mark_of, marked}
 use Rattle.unit_model.specs.Enabling.{enabled}
 use Rattle.unit_model.specs.Jobs.{PlainJob}
 use Rattle.unit_model.specs.Unit.{PlainUnit}
+use Rattle.unit_model.specs.Receipts.{unit_address}
 use Rattle.unit_model.specs.Asking.{IsOf}
 use Rattle.task_mgmt.specs.declared.kind.MarkBy.TheVariants.{Abort, Reset}
-use Rattle.device_model.specs.Parts.{Hand}
-use Rattle.device_model.specs.World.{PlainWorld, Opens}
+use Rattle.device_model.specs.Parts.{Hand, Slot}
+use Rattle.device_model.specs.World.{PlainQueue, PlainWorld, Opens}
 use Rattle.device_model.specs.Transitions.{Transition}
-use Rattle.device_model.specs.Happens.{May, CommitsUnknown, EntersStale, UnitIs, occurrence_of, world_of, Leads}
+use Rattle.device_model.specs.Happens.{May, CommitsUnknown, EntersStale, UnitIs, Occurrence, Reached, occurrence_of, world_of, Leads}
 use Rattle.device_model.specs.Lawful.{KeepsParts}
-use Rattle.device_model.specs.Standing.{AreAtWork, AreBehind, front_of}
+use Rattle.device_model.specs.Standing.{AreAtWork, AreBehind, AreNamedThere, front_of}
 use Rattle.device_model.proofs.Lists.{nothing, same}
 use Rattle.device_model.proofs.Staying.{run_keeps, run_stays, units_listed}
 use Rattle.device_model.proofs.Floors.{AreOrdered, new_ordered, transition_orders, all_behind}
@@ -24,7 +25,7 @@ use Rattle.device_model.proofs.Working.{Works, run_works, all_work}
 use Rattle.device_model.specs.Happened.{Happened, IsFetch, IsEnter, IsLoss, NoneIsLost}
 use Rattle.device_model.specs.Histories.{history_of, Stands, AreHistories}
 use Rattle.device_model.specs.Entering.{IsSent}
-use Rattle.device_model.proofs.Traces.{leads_run, leads_beginning, told_at, beginning_tail, told_on}
+use Rattle.device_model.proofs.Traces.{in_run, leads_run, leads_beginning, told_at, beginning_tail, told_on}
 use Rattle.device_model.proofs.Steps.{step_in, place_in, step_is, done_at}
 use Rattle.device_model.proofs.Saying.{Says, says_transition, says_new, sent_there}
 
@@ -68,10 +69,19 @@ never_lost k x w m h =
           })
     ]) refl
 
--- and is given no ticket before one that it saw
-never_stalled : (old : PlainWorld) (ds : List Transition) (x : PlainJob) (w : PlainWorld) → EntersStale w x → AreBehind w
-    → Says old ds w → ⊥
-never_stalled old ds x w m b h =
+-- each request that arrived names the unit that it is for
+named_where : (old : PlainWorld) (ds : List Transition) (w : PlainWorld) → Opens old → Says old ds w → AreNamedThere w
+named_where old ds w o h x i q u at e there =
+    let sent = sent_there old.inventory ds w x q i at e h.slots in
+    let told = (h.units x.unit u there).0 in
+    let one : x.address ≡ unit_address told.opened.opening =
+    same (sym sent.job.addressed ∙ o.addressed x.unit told.opened told.there) in
+    one ∙ sym (ap (λ z. unit_address z) told.opening)
+
+-- no unit is given a request that names another, or a ticket before one that it saw
+never_stalled : (old : PlainWorld) (ds : List Transition) (x : PlainJob) (w : PlainWorld) → Opens old → EntersStale w x
+    → AreBehind w → Says old ds w → ⊥
+never_stalled old ds x w o m b h =
     let c = m.comes in
     let q = x.chain.ticket.queue in
     let sent = sent_there old.inventory ds w x c.queue q c.there c.arrived h.slots in
@@ -79,15 +89,17 @@ never_stalled old ds x w m b h =
     let floor_is = ap (λ (t : Ticket). floor t.queue c.unit.steps) one in
     let below = (b q c.queue c.there).floors x.unit c.unit c.unit_there in
     let front = ap (λ s. front_of s (length c.queue.ring.log.accepted)) c.arrived in
-    let stale = m.stale in
-    omega (arith, below, front, floor_is, stale)
+    elim m.stale [
+      | inl other ↦ other (named_where old ds w o h x q c.queue c.unit c.there c.arrived c.unit_there)
+      | inr late ↦ omega (arith, below, front, floor_is, late)
+    ]
 
 no_loss : (old : PlainWorld) (d : Transition) (ds : List Transition) → Opens old → Leads old (d ∷ ds)
     → Says old ds (world_of old ds) → IsLoss d → ⊥
 no_loss old (Transition.CommitUnknown k x) ds o l h loss =
     never_lost k x (world_of old ds) l.1 (all_work (world_of old ds) (works_at old ds o l.0).3)
 no_loss old (Transition.EnterStale x) ds o l h loss =
-    never_stalled old ds x (world_of old ds) l.1 (behind_at old ds o l.0) h
+    never_stalled old ds x (world_of old ds) o l.1 (behind_at old ds o l.0) h
 no_loss old d ds o l h loss = loss
 
 pub says_at : (old : PlainWorld) (ds : List Transition) → Opens old → Leads old ds → Says old ds (world_of old ds)
@@ -95,6 +107,12 @@ says_at old [] o l = says_new old o
 says_at old (d ∷ ds) o l =
     let h = says_at old ds o l.0 in
     says_transition old d ds (world_of old ds) (parts_at old ds l.0).inventory (no_loss old d ds o l h) l.1 h
+
+all_named : (old : PlainWorld) (ds : List Transition) → Opens old → Leads old ds → AreNamedThere (world_of old ds)
+all_named old ds o l = named_where old ds (world_of old ds) o (says_at old ds o l)
+
+pub named_there : (old : PlainWorld) (trace : List Occurrence) (w : PlainWorld) → Reached old trace w → AreNamedThere w
+named_there old trace w r = in_run (λ ds v. AreNamedThere v) old (λ ds l. all_named old ds r.opens l) trace w r.runs
 
 pub none_is_lost : (old : PlainWorld) (ds : List Transition) → Opens old → Leads old ds → NoneIsLost ds
 none_is_lost old ds o l h =

@@ -1,4 +1,5 @@
 pub mod Lists
+pub mod Seeing
 pub mod Running
 pub mod Phasing
 pub mod Joining
@@ -9,6 +10,7 @@ pub mod Jobs
 pub mod Places
 pub mod Once
 pub mod Using
+pub mod Noticing
 pub mod Staying
 pub mod Numbering
 pub mod Holding
@@ -36,6 +38,7 @@ pub mod Rests
 pub mod Happening
 pub mod Lowers
 pub mod Bounds
+pub mod Live
 pub mod Runs
 pub mod Waking
 pub mod AtOnce

@@ -64,15 +64,15 @@ own_transition (Transition.EnterBusy x) w m h =
 own_transition (Transition.EnterStale x) w m h =
     uses_none (slotted (Slot.Direct x.chain (Outcome.Ended Ending.Lost))) x.chain.ticket.queue w.queues (λ q. refl) h
 own_transition (Transition.UseBuffer f xs) w m h =
-    uses_own (spending (all_written w.memory xs) f.chain) f.chain.ticket w.queues (λ q. refl) h
+    uses_own (spending xs.seen f.chain) f.chain.ticket w.queues (λ q. refl) h
 own_transition (Transition.Direct c o xs) w m h =
-    uses_own (directing (all_written w.memory xs) c) c.ticket w.queues (λ q. refl) h
+    uses_own (directing xs.seen c) c.ticket w.queues (λ q. refl) h
 own_transition (Transition.Answer k x o xs) w m h =
-    uses_own (completing (all_written w.memory xs) x.chain) x.chain.ticket w.queues (λ q. refl) h
+    uses_own (completing xs.seen x.chain) x.chain.ticket w.queues (λ q. refl) h
 own_transition (Transition.Respond c r xs) w m h =
-    uses_own (completing (all_written w.memory xs) c) c.ticket w.queues (λ q. refl) h
+    uses_own (completing xs.seen c) c.ticket w.queues (λ q. refl) h
 own_transition (Transition.Give e c xs) w m h =
-    uses_own (completing (all_written w.memory xs) c) c.ticket w.queues (λ q. refl) h
+    uses_own (completing xs.seen c) c.ticket w.queues (λ q. refl) h
 own_transition d w m h = h
 
 own_new : (w : PlainWorld) → Opens w → AllAreOwn w

@@ -78,7 +78,7 @@ lowers (Transition.Hold f) w h =
     omega (arith, a, b, p)
 lowers (Transition.UseBuffer f xs) w h =
     let a = held_transition owed w (Transition.UseBuffer f xs) h in
-    let b = still_whole (spending (all_written w.memory xs) f.chain) f.chain.ticket.queue w (λ q. refl) in
+    let b = still_whole (spending xs.seen f.chain) f.chain.ticket.queue w (λ q. refl) in
     let p = ap price_at h.event in
     omega (arith, a, b, p)
 lowers (Transition.Break k n) w h =
@@ -106,7 +106,7 @@ lowers (Transition.EnterBusy x) w h =
     omega (arith, a, b)
 lowers (Transition.Direct c o xs) w h =
     let a = held_transition owed w (Transition.Direct c o xs) h in
-    let b = still_whole (directing (all_written w.memory xs) c) c.ticket.queue w (λ q. refl) in
+    let b = still_whole (directing xs.seen c) c.ticket.queue w (λ q. refl) in
     omega (arith, a, b)
 lowers (Transition.Put k x) w h = let a = held_transition owed w (Transition.Put k x) h in omega (arith, a)
 lowers (Transition.Keep k x) w h = let a = held_transition owed w (Transition.Keep k x) h in omega (arith, a)
@@ -116,7 +116,7 @@ lowers (Transition.CommitBusy k x) w h = let a = held_transition owed w (Transit
 lowers (Transition.CommitAborted k x why) w h = let a = held_transition owed w (Transition.CommitAborted k x why) h in omega (arith, a)
 lowers (Transition.Answer k x o xs) w h =
     let a = held_transition owed w (Transition.Answer k x o xs) h in
-    let b = still_whole (completing (all_written w.memory xs) x.chain) x.chain.ticket.queue w (λ q. refl) in
+    let b = still_whole (completing xs.seen x.chain) x.chain.ticket.queue w (λ q. refl) in
     omega (arith, a, b)
 lowers (Transition.Leave k place t jobs) w h = let a = held_transition owed w (Transition.Leave k place t jobs) h in omega (arith, a)
 lowers (Transition.Mark t p m jobs) w h =
@@ -145,7 +145,7 @@ lowers (Transition.Check t p) w h =
     omega (arith, a, b, c, d, e)
 lowers (Transition.Respond c r xs) w h =
     let a = held_transition owed w (Transition.Respond c r xs) h in
-    let b = still_whole (completing (all_written w.memory xs) c) c.ticket.queue w (λ q. refl) in
+    let b = still_whole (completing xs.seen c) c.ticket.queue w (λ q. refl) in
     omega (arith, a, b)
 lowers (Transition.Hard p jobs) w h =
     let a = held_transition owed w (Transition.Hard p jobs) h in
@@ -159,7 +159,7 @@ lowers (Transition.Resize place blocks) w h =
     omega (arith, a, n, m)
 lowers (Transition.Give e c xs) w h =
     let a = held_transition owed w (Transition.Give e c xs) h in
-    let b = still_whole (completing (all_written w.memory xs) c) c.ticket.queue w (λ q. refl) in
+    let b = still_whole (completing xs.seen c) c.ticket.queue w (λ q. refl) in
     let d = ap (λ l. length l) h.waits in
     let g = ap (λ l. length (drop 1 l)) h.waits in
     omega (arith, a, b, d, g)

@@ -110,7 +110,7 @@ queues_after (Transition.Refuse f a) w m h =
 queues_after (Transition.Open f g) w m h = left_so (taking f.chain) f.chain.ticket.queue w.queues (λ q n. n) h
 queues_after (Transition.Hold f) w m h = left_so (taking f.chain) f.chain.ticket.queue w.queues (λ q n. n) h
 queues_after (Transition.UseBuffer f xs) w m h =
-    left_so (spending (all_written w.memory xs) f.chain) f.chain.ticket.queue w.queues (λ q n. n) h
+    left_so (spending xs.seen f.chain) f.chain.ticket.queue w.queues (λ q n. n) h
 queues_after (Transition.Break k n) w m h = left_so (broken_by n) k w.queues (λ q n. n) h
 queues_after (Transition.Run x) w m h = refilled (slotted Slot.Empty) x.chain.ticket.queue w.queues (λ q. tt) h
 queues_after (Transition.Park x) w m h = refilled (slotted Slot.Empty) x.chain.ticket.queue w.queues (λ q. tt) h
@@ -124,13 +124,13 @@ queues_after (Transition.EnterStale x) w m h =
     let s = Slot.Direct x.chain (Outcome.Ended Ending.Lost) in
     refilled (slotted s) x.chain.ticket.queue w.queues (λ q. tt) h
 queues_after (Transition.Direct c o xs) w m h =
-    refilled (directing (all_written w.memory xs) c) c.ticket.queue w.queues (λ q. tt) h
+    refilled (directing xs.seen c) c.ticket.queue w.queues (λ q. tt) h
 queues_after (Transition.Answer k x o xs) w m h =
-    left_so (completing (all_written w.memory xs) x.chain) x.chain.ticket.queue w.queues (λ q n. n) h
+    left_so (completing xs.seen x.chain) x.chain.ticket.queue w.queues (λ q n. n) h
 queues_after (Transition.Respond c r xs) w m h =
-    left_so (completing (all_written w.memory xs) c) c.ticket.queue w.queues (λ q n. n) h
+    left_so (completing xs.seen c) c.ticket.queue w.queues (λ q n. n) h
 queues_after (Transition.Give e c xs) w m h =
-    left_so (completing (all_written w.memory xs) c) c.ticket.queue w.queues (λ q n. n) h
+    left_so (completing xs.seen c) c.ticket.queue w.queues (λ q n. n) h
 queues_after d w m h = h
 
 -- the job in a slot

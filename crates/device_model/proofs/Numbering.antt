@@ -82,7 +82,7 @@ transition_numbers (Transition.Open f g) w m h =
 transition_numbers (Transition.Hold f) w m h =
     accepting_one (taking f.chain) f.chain.ticket.queue w.queues (λ q. refl) (λ q. refl) h
 transition_numbers (Transition.UseBuffer f xs) w m h =
-    let g = spending (all_written w.memory xs) f.chain in
+    let g = spending xs.seen f.chain in
     accepting_one g f.chain.ticket.queue w.queues (λ q. refl) (λ q. refl) h
 transition_numbers (Transition.Break k n) w m h = accepting_none (broken_by n) k w.queues (λ q. refl) (λ q. refl) h
 transition_numbers (Transition.Run x) w m h =
@@ -99,15 +99,15 @@ transition_numbers (Transition.EnterStale x) w m h =
     let g = slotted (Slot.Direct x.chain (Outcome.Ended Ending.Lost)) in
     accepting_none g x.chain.ticket.queue w.queues (λ q. refl) (λ q. refl) h
 transition_numbers (Transition.Direct c o xs) w m h =
-    let g = directing (all_written w.memory xs) c in
+    let g = directing xs.seen c in
     accepting_none g c.ticket.queue w.queues (λ q. refl) (λ q. refl) h
 transition_numbers (Transition.Answer k x o xs) w m h =
-    let g = completing (all_written w.memory xs) x.chain in
+    let g = completing xs.seen x.chain in
     accepting_none g x.chain.ticket.queue w.queues (λ q. refl) (λ q. refl) h
 transition_numbers (Transition.Respond c r xs) w m h =
-    let g = completing (all_written w.memory xs) c in
+    let g = completing xs.seen c in
     accepting_none g c.ticket.queue w.queues (λ q. refl) (λ q. refl) h
 transition_numbers (Transition.Give e c xs) w m h =
-    let g = completing (all_written w.memory xs) c in
+    let g = completing xs.seen c in
     accepting_none g c.ticket.queue w.queues (λ q. refl) (λ q. refl) h
 transition_numbers d w m h = h

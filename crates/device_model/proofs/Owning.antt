@@ -108,7 +108,7 @@ first_owned (Transition.Hold f) w m c o =
 first_owned (Transition.UseBuffer f xs) w m c o =
     let r = m.finds.queue.ring in
     let none = free r w.memory f.chain f.bytes _ m.finds.taken in
-    took w (after (Transition.UseBuffer f xs) w) f (spending (all_written w.memory xs) f.chain) m.finds c refl
+    took w (after (Transition.UseBuffer f xs) w) f (spending xs.seen f.chain) m.finds c refl
     (owns_spending r c f.chain none) o
 first_owned (Transition.Break k n) w m c o =
     owned_after w (after (Transition.Break k n) w) (broken_by n) k m.queue c m.there refl
@@ -168,20 +168,20 @@ then_owned : (d : Transition) (w : PlainWorld) → May d w → Stand w w → (c 
     → spared d c.ticket ≡ 0 → IsOwned (after d w) c
 then_owned (Transition.Direct u a xs) w m h c o z =
     let s = subst (SlotOwns w u.ticket.queue) m.ready (h.0 u.ticket.queue m.queue m.there) in
-    used w (after (Transition.Direct u a xs) w) (directing (all_written w.memory xs) u) u m.queue c m.there refl
+    used w (after (Transition.Direct u a xs) w) (directing xs.seen u) u m.queue c m.there refl
     (λ p. owns_using m.queue.ring c u p z) s.1 o
 then_owned (Transition.Answer k x a xs) w m h c o z =
     let j : IsJob w x = (h.2 k (record { hand = Hand.Done x a; out = m.out }) m.seat).0 in
-    used w (after (Transition.Answer k x a xs) w) (completing (all_written w.memory xs) x.chain) x.chain m.queue c m.there
+    used w (after (Transition.Answer k x a xs) w) (completing xs.seen x.chain) x.chain m.queue c m.there
     refl (λ p. owns_using m.queue.ring c x.chain p z) j.chain o
 then_owned (Transition.Respond u r xs) w m h c o z =
     let s = (subst (FunctionOwns w) m.waiting.there h.4).1 in
     let own = subst (IsOwned w) m.chain s in
-    used w (after (Transition.Respond u r xs) w) (completing (all_written w.memory xs) u) u m.queue c m.there refl
+    used w (after (Transition.Respond u r xs) w) (completing xs.seen u) u m.queue c m.there refl
     (λ p. owns_using m.queue.ring c u p z) own o
 then_owned (Transition.Give e u xs) w m h c o z =
     let s = subst (AllByRecursion (BufferOwns w)) m.held h.5 in
-    used w (after (Transition.Give e u xs) w) (completing (all_written w.memory xs) u) u m.queue c m.there refl
+    used w (after (Transition.Give e u xs) w) (completing xs.seen u) u m.queue c m.there refl
     (λ p. owns_using m.queue.ring c u p z) s.0.1 o
 then_owned (Transition.Poke x) w m h c o z = o
 then_owned d w m h c o z = o

@@ -22,14 +22,14 @@ UnitPart d w i =
 pub unit_part : (d : Transition) (w : PlainWorld) → Happens d w → Under (unit_of d) (UnitPart d w)
 unit_part (Transition.Run x) w h =
     let u = h.comes.unit in let at = h.comes.unit_there in
-    (u, at, (h.may, h.blocked), get_change (stepped (Step.Enter x.entry)) x.unit w.units u at)
+    (u, at, (h.named, h.may, h.blocked), get_change (stepped (Step.Enter x.entry)) x.unit w.units u at)
 unit_part (Transition.Park x) w h =
     let u = h.comes.unit in let at = h.comes.unit_there in
-    (u, at, (h.may, h.blocked), get_change (parking x) x.unit w.units u at)
+    (u, at, (h.named, h.may, h.blocked), get_change (parking x) x.unit w.units u at)
 unit_part (Transition.EnterFull x) w h =
     let u = h.comes.unit in let at = h.comes.unit_there in
-    (u, at, h.may, get_change (stepped (Step.Full x.entry.ticket)) x.unit w.units u at)
-unit_part (Transition.EnterBusy x) w h = (h.comes.unit, h.comes.unit_there, h.fresh, h.comes.unit_there)
+    (u, at, (h.named, h.may), get_change (stepped (Step.Full x.entry.ticket)) x.unit w.units u at)
+unit_part (Transition.EnterBusy x) w h = (h.comes.unit, h.comes.unit_there, (h.named, h.fresh), h.comes.unit_there)
 unit_part (Transition.Commit k x r) w h =
     let u = h.holds.unit in let at = h.holds.there in
     (u, at, h.may, get_change (stepped (Step.Commit x.entry.ticket r)) x.unit w.units u at)
@@ -61,7 +61,7 @@ unit_part d w h = tt
 -- on the queue and the memory
 abbrev pub QueuePart : Transition → PlainWorld → ℕ → Type 0
 QueuePart d w i =
-    (q : PlainQueue) × (slice_get w.queues i ≡ Some q) × AsksQueue w.inventory w.missed d q w.memory
+    (q : PlainQueue) × (slice_get w.queues i ≡ Some q) × AsksQueue w.shared w.inventory w.missed d q w.memory
     × (slice_get (after d w).queues i ≡ Some (queue_after d w.memory q))
 
 -- one queue is changed
@@ -74,7 +74,7 @@ queue_part (Transition.Arrive f x) w h =
     let q = h.finds.queue in let at = h.finds.there in (
       q,
       at,
-      (h.finds.taken, h.chain, h.ticket, h.decided),
+      (h.finds.taken, h.chain, h.ticket, h.decided, h.addressed),
       at_queue (arriving f.chain (Slot.Arrived x)) f.chain.ticket.queue w q at,
     )
 queue_part (Transition.Refuse f a) w h =
@@ -94,34 +94,34 @@ queue_part (Transition.UseBuffer f xs) w h =
     let q = h.finds.queue in let at = h.finds.there in (
       q,
       at,
-      (h.finds.taken, h.decided, h.writes),
-      at_queue (spending (all_written w.memory xs) f.chain) f.chain.ticket.queue w q at,
+      (h.finds.taken, h.decided, h.writes, h.seen),
+      at_queue (spending xs.seen f.chain) f.chain.ticket.queue w q at,
     )
 queue_part (Transition.Break i n) w h =
     (h.queue, h.there, (h.whole, h.offered), at_queue (broken_by n) i w h.queue h.there)
 queue_part (Transition.Direct c o xs) w h = (
   h.queue,
   h.there,
-  h.writes,
-  at_queue (directing (all_written w.memory xs) c) c.ticket.queue w h.queue h.there,
+  (h.writes, h.seen),
+  at_queue (directing xs.seen c) c.ticket.queue w h.queue h.there,
 )
 queue_part (Transition.Answer k x o xs) w h = (
   h.queue,
   h.there,
-  h.writes,
-  at_queue (completing (all_written w.memory xs) x.chain) x.chain.ticket.queue w h.queue h.there,
+  (h.writes, h.seen),
+  at_queue (completing xs.seen x.chain) x.chain.ticket.queue w h.queue h.there,
 )
 queue_part (Transition.Respond c r xs) w h = (
   h.queue,
   h.there,
-  h.writes,
-  at_queue (completing (all_written w.memory xs) c) c.ticket.queue w h.queue h.there,
+  (h.writes, h.seen),
+  at_queue (completing xs.seen c) c.ticket.queue w h.queue h.there,
 )
 queue_part (Transition.Give e c xs) w h = (
   h.queue,
   h.there,
-  h.writes,
-  at_queue (completing (all_written w.memory xs) c) c.ticket.queue w h.queue h.there,
+  (h.writes, h.seen),
+  at_queue (completing xs.seen c) c.ticket.queue w h.queue h.there,
 )
 queue_part (Transition.EnterStale x) w h = absurd h
 queue_part (Transition.CommitUnknown k x) w h = absurd h

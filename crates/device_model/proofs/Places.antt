@@ -122,7 +122,7 @@ moves p (Transition.Hold f) w h =
       standing = omega (arith, l.slots, e);
     }
 moves p (Transition.UseBuffer f xs) w h =
-    let g = spending (all_written w.memory xs) f.chain in
+    let g = spending xs.seen f.chain in
     let l = line p g f.chain.ticket.queue w.queues h.finds.queue h.finds.there in
     let a = accepted p f w h.finds in
     let u = sum_by_push p h.finds.queue.ring.log.used f.chain.ticket in
@@ -191,7 +191,7 @@ moves p (Transition.EnterStale x) w h =
       standing = omega (arith, l.slots, e);
     }
 moves p (Transition.Direct c o xs) w h =
-    let l = line p (directing (all_written w.memory xs) c) c.ticket.queue w.queues h.queue h.there in
+    let l = line p (directing xs.seen c) c.ticket.queue w.queues h.queue h.there in
     let u = sum_by_push p h.queue.ring.log.used c.ticket in
     let e = ap (of_slot p) h.ready in
     record {
@@ -224,7 +224,7 @@ moves p (Transition.CommitUnknown k x) w h =
     let t = turns (of_job p) k w.seats (Hand.Taken x) new h.holds.out h.holds.seat in
     record { accepted = omega (arith); used = omega (arith); standing = omega (arith, t) }
 moves p (Transition.Answer k x o xs) w h =
-    let l = line p (completing (all_written w.memory xs) x.chain) x.chain.ticket.queue w.queues h.queue h.there in
+    let l = line p (completing xs.seen x.chain) x.chain.ticket.queue w.queues h.queue h.there in
     let u = sum_by_push p h.queue.ring.log.used x.chain.ticket in
     let k = kept (of_job p) (Transition.Answer k x o xs) w h in
     record {
@@ -261,7 +261,7 @@ moves p (Transition.Check t m) w h =
     let f = goes_on p checking w.function in
     record { accepted = omega (arith); used = omega (arith); standing = omega (arith, f) }
 moves p (Transition.Respond c r xs) w h =
-    let l = line p (completing (all_written w.memory xs) c) c.ticket.queue w.queues h.queue h.there in
+    let l = line p (completing xs.seen c) c.ticket.queue w.queues h.queue h.there in
     let u = sum_by_push p h.queue.ring.log.used c.ticket in
     let f = ap (of_function p) h.waiting.there in
     let e = ap (of_chain p) h.chain in
@@ -271,7 +271,7 @@ moves p (Transition.Respond c r xs) w h =
       standing = omega (arith, l.slots, f, e);
     }
 moves p (Transition.Give e c xs) w h =
-    let l = line p (completing (all_written w.memory xs) c) c.ticket.queue w.queues h.queue h.there in
+    let l = line p (completing xs.seen c) c.ticket.queue w.queues h.queue h.there in
     let u = sum_by_push p h.queue.ring.log.used c.ticket in
     let a = ap (λ l. sum_by (of_chain p) l) h.held in
     let b = ap (λ l. sum_by (of_chain p) (drop 1 l)) h.held in

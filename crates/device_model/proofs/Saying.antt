@@ -266,7 +266,9 @@ says_transition old (Transition.Arrive f x) ds w e n m h =
     let d = Transition.Arrive f x in
     let i = old.inventory in
     let decided = subst (λ z. DecidesRequest z f (decision.Enter x.unit (request_of x.entry))) e m.decided in
-    let job : IsJobOf i f x = record { chain = sym m.chain; ticket = m.ticket; decided = decided } in
+    let addressed = subst (λ z. slice_get z x.unit ≡ Some x.address) e m.addressed in
+    let job : IsJobOf i f x =
+    record { chain = sym m.chain; ticket = m.ticket; decided = decided; addressed = addressed } in
     let sent : IsSent i (d ∷ ds) x = record { fetch = f; fetched = inl refl; job = job } in
     let q = f.chain.ticket.queue in
     queues_alone old d ds w (after d w) refl refl refl (λ k. refl)
@@ -289,7 +291,7 @@ says_transition old (Transition.Hold f) ds w e n m h =
     (kept_slots old.inventory d ds (taking f.chain) f.chain.ticket.queue w.queues (λ z. refl) h.slots) h
 says_transition old (Transition.UseBuffer f xs) ds w e n m h =
     let d = Transition.UseBuffer f xs in
-    let g = spending (all_written w.memory xs) f.chain in
+    let g = spending xs.seen f.chain in
     queues_alone old d ds w (after d w) refl refl refl (λ k. refl)
     (kept_slots old.inventory d ds g f.chain.ticket.queue w.queues (λ z. refl) h.slots) h
 says_transition old (Transition.Break q f) ds w e n m h =
@@ -339,7 +341,7 @@ says_transition old (Transition.EnterBusy x) ds w e n m h =
     (new_slots i d ds (slotted s) q w.queues s (λ z. refl) (x, refl, sent, inl refl) h.slots) h
 says_transition old (Transition.Direct c o xs) ds w e n m h =
     let d = Transition.Direct c o xs in
-    let g = directing (all_written w.memory xs) c in
+    let g = directing xs.seen c in
     queues_alone old d ds w (after d w) refl refl refl (λ k. refl)
     (new_slots old.inventory d ds g c.ticket.queue w.queues Slot.Empty (λ z. refl) tt h.slots) h
 says_transition old (Transition.Put k x) ds w e n m h =
@@ -401,7 +403,7 @@ says_transition old (Transition.CommitAborted k x why) ds w e n m h =
     }
 says_transition old (Transition.Answer k x o xs) ds w e n m h =
     let d = Transition.Answer k x o xs in
-    let g = completing (all_written w.memory xs) x.chain in
+    let g = completing xs.seen x.chain in
     record {
       slots = kept_slots old.inventory d ds g x.chain.ticket.queue w.queues (λ z. refl) h.slots;
       seats = handed d ds (Hand.Answered x.unit x.chain.ticket) k w.seats tt h.seats;
@@ -430,7 +432,7 @@ says_transition old (Transition.Mark t p how jobs) ds w e n m h =
     }
 says_transition old (Transition.Respond c r xs) ds w e n m h =
     let d = Transition.Respond c r xs in
-    let g = completing (all_written w.memory xs) c in
+    let g = completing xs.seen c in
     queues_alone old d ds w (after d w) refl refl refl (λ k. refl)
     (kept_slots old.inventory d ds g c.ticket.queue w.queues (λ z. refl) h.slots) h
 says_transition old (Transition.Hard p jobs) ds w e n m h =
@@ -453,7 +455,7 @@ says_transition old (Transition.Resize place blocks) ds w e n m h =
     }
 says_transition old (Transition.Give r c xs) ds w e n m h =
     let d = Transition.Give r c xs in
-    let g = completing (all_written w.memory xs) c in
+    let g = completing xs.seen c in
     queues_alone old d ds w (after d w) refl refl refl (λ k. refl)
     (kept_slots old.inventory d ds g c.ticket.queue w.queues (λ z. refl) h.slots) h
 says_transition old (Transition.CommitUnknown k x) ds w e n m h = absurd (n tt)

@@ -10,7 +10,7 @@ use Rattle.ring_core.specs.Writes.{Write, all_written}
 use Rattle.unit_model.specs.Jobs.{PlainJob}
 use Rattle.unit_model.specs.Unit.{after as stepped, parking}
 use Rattle.task_mgmt.specs.Functions.{step_by}
-use Rattle.device_model.specs.Parts.{Outcome, Slot, Hand}
+use Rattle.device_model.specs.Parts.{Completion, Outcome, Slot, Hand}
 use Rattle.device_model.specs.World.{PlainWorld, Opens, change, owner, Everywhere}
 use Rattle.device_model.specs.Transitions.{Transition}
 use Rattle.device_model.specs.After.{hard_code, arriving, taking, slotted, broken_by, completing, directing, spending, with_hand, without_first, with_jobs, with_job, leaving, completed, after}
@@ -53,17 +53,18 @@ abbrev KeepingLists : PlainWorld → PlainWorld → Type 0
 KeepingLists w v = length v.handed_off ≡ length w.handed_off
 
 -- the transition leaves these three as many as they are
-so_many : (w v : PlainWorld) → v.inventory ≡ w.inventory → v.workers ≡ w.workers → v.limit ≡ w.limit → Keeping w v
+so_many : (w v : PlainWorld) → v.shared ≡ w.shared → v.inventory ≡ w.inventory → v.workers ≡ w.workers → v.limit ≡ w.limit → Keeping w v
     → KeepingLists w v → KeepsParts w v
-so_many w v a b c k l =
-    record { inventory = a; workers = b; limit = c; queues = k.0; units = k.1; seats = k.2; lists = l }
+so_many w v s a b c k l =
+    record { shared = s; inventory = a; workers = b; limit = c; queues = k.0; units = k.1; seats = k.2; lists = l }
 
 pub all_stay : (w : PlainWorld) → KeepsParts w w
-all_stay w = so_many w w refl refl refl (refl, refl, refl) refl
+all_stay w = so_many w w refl refl refl refl (refl, refl, refl) refl
 
 joined : (u v w : PlainWorld) → KeepsParts u v → KeepsParts v w → KeepsParts u w
 joined u v w a b =
     record {
+      shared = b.shared ∙ a.shared;
       inventory = b.inventory ∙ a.inventory;
       workers = b.workers ∙ a.workers;
       limit = b.limit ∙ a.limit;
@@ -73,8 +74,8 @@ joined u v w a b =
       lists = b.lists ∙ a.lists;
     }
 
-used_many : (c : PlainChain) (xs : List Write) (w : PlainWorld) → length (completed c xs w) ≡ length w.queues
-used_many c xs w = many (completing (all_written w.memory xs) c) c.ticket.queue w.queues
+used_many : (c : PlainChain) (xs : Completion) (w : PlainWorld) → length (completed c xs w) ≡ length w.queues
+used_many c xs w = many (completing xs.seen c) c.ticket.queue w.queues
 
 slotted_many : (s : Slot) (x : PlainJob) (w : PlainWorld)
     → length (change (slotted s) x.chain.ticket.queue w.queues) ≡ length w.queues
@@ -91,7 +92,7 @@ so_many_after (Transition.Refuse f a) w =
 so_many_after (Transition.Open f g) w = (many (taking f.chain) f.chain.ticket.queue w.queues, refl, refl)
 so_many_after (Transition.Hold f) w = (many (taking f.chain) f.chain.ticket.queue w.queues, refl, refl)
 so_many_after (Transition.UseBuffer f xs) w =
-    (many (spending (all_written w.memory xs) f.chain) f.chain.ticket.queue w.queues, refl, refl)
+    (many (spending xs.seen f.chain) f.chain.ticket.queue w.queues, refl, refl)
 so_many_after (Transition.Break k n) w = (many (broken_by n) k w.queues, refl, refl)
 so_many_after (Transition.Run x) w = (
   slotted_many Slot.Empty x w,
@@ -107,7 +108,7 @@ so_many_after (Transition.EnterFull x) w = (
 so_many_after (Transition.EnterBusy x) w = (slotted_many (Slot.Direct x.chain (Outcome.Ended Ending.Busy)) x w, refl, refl)
 so_many_after (Transition.EnterStale x) w = (slotted_many (Slot.Direct x.chain (Outcome.Ended Ending.Lost)) x w, refl, refl)
 so_many_after (Transition.Direct c o xs) w =
-    (many (directing (all_written w.memory xs) c) c.ticket.queue w.queues, refl, refl)
+    (many (directing xs.seen c) c.ticket.queue w.queues, refl, refl)
 so_many_after (Transition.Put k x) w = (refl, refl, many (without_first Hand.Empty) k w.seats)
 so_many_after (Transition.Keep k x) w = (refl, refl, many (without_first (Hand.Taken x)) k w.seats)
 so_many_after (Transition.Take k from x) w = (refl, refl, many (with_hand (Hand.Taken x)) k w.seats)
@@ -143,6 +144,10 @@ lists_after (Transition.Put k x) w = many (with_job x) k w.handed_off
 lists_after (Transition.Take k from x) w = many (drop 1) from w.handed_off
 lists_after d w = refl
 
+shared_after : (d : Transition) (w : PlainWorld) → (after d w).shared ≡ w.shared
+shared_after (Transition.Poke x) w = refl
+shared_after d w = refl
+
 inventory_after : (d : Transition) (w : PlainWorld) → (after d w).inventory ≡ w.inventory
 inventory_after (Transition.Poke x) w = refl
 inventory_after d w = refl
@@ -157,7 +162,7 @@ limit_after d w = refl
 
 pub transition_stays : (d : Transition) (w : PlainWorld) → KeepsParts w (after d w)
 transition_stays d w =
-    so_many w (after d w) (inventory_after d w) (workers_after d w) (limit_after d w) (so_many_after d w)
+    so_many w (after d w) (shared_after d w) (inventory_after d w) (workers_after d w) (limit_after d w) (so_many_after d w)
     (lists_after d w)
 
 pub run_stays : (old : PlainWorld) (trace : List Occurrence) (w : PlainWorld) → Runs old trace w → KeepsParts old w

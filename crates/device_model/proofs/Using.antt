@@ -31,17 +31,17 @@ used_there g u t qs q at e is =
 pub is_used : (d : Transition) (w : PlainWorld) (t : Ticket) → Happens d w → (action_of d).answered ≡ Some t
     → IsUsedBy t w (after d w)
 is_used (Transition.UseBuffer f xs) w t h e =
-    let g = spending (all_written w.memory xs) f.chain in
+    let g = spending xs.seen f.chain in
     used_there g f.chain.ticket t w.queues h.finds.queue h.finds.there (λ z. refl) e
 is_used (Transition.Direct c o xs) w t h e =
-    used_there (directing (all_written w.memory xs) c) c.ticket t w.queues h.queue h.there (λ z. refl) e
+    used_there (directing xs.seen c) c.ticket t w.queues h.queue h.there (λ z. refl) e
 is_used (Transition.Answer k x o xs) w t h e =
-    let g = completing (all_written w.memory xs) x.chain in
+    let g = completing xs.seen x.chain in
     used_there g x.chain.ticket t w.queues h.queue h.there (λ z. refl) e
 is_used (Transition.Respond c r xs) w t h e =
-    used_there (completing (all_written w.memory xs) c) c.ticket t w.queues h.queue h.there (λ z. refl) e
+    used_there (completing xs.seen c) c.ticket t w.queues h.queue h.there (λ z. refl) e
 is_used (Transition.Give r c xs) w t h e =
-    used_there (completing (all_written w.memory xs) c) c.ticket t w.queues h.queue h.there (λ z. refl) e
+    used_there (completing xs.seen c) c.ticket t w.queues h.queue h.there (λ z. refl) e
 is_used (Transition.Idle e) w t h is = absurd h
 is_used (Transition.Poke x) w t h e = absurd (nothing e)
 is_used d w t h e = absurd (nothing e)

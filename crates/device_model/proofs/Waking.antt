@@ -109,7 +109,7 @@ enter_wakes (Transition.Open f g) w i m (y, h) =
 enter_wakes (Transition.Hold f) w i m (y, h) =
     inl (y, slot_kept (taking f.chain) f.chain.ticket.queue w.queues i (Slot.Arrived y) (λ x. refl) h)
 enter_wakes (Transition.UseBuffer f xs) w i m (y, h) =
-    let g = spending (all_written w.memory xs) f.chain in
+    let g = spending xs.seen f.chain in
     inl (y, slot_kept g f.chain.ticket.queue w.queues i (Slot.Arrived y) (λ x. refl) h)
 enter_wakes (Transition.Break k n) w i m (y, h) =
     inl (y, slot_kept (broken_by n) k w.queues i (Slot.Arrived y) (λ x. refl) h)
@@ -128,16 +128,16 @@ enter_wakes (Transition.EnterBusy x) w i m (y, h) =
     let n = x.chain.ticket.queue in
     inl (y, slot_other (slotted t) n w.queues i (Slot.Arrived y) t (λ z. refl) ready_arrived h)
 enter_wakes (Transition.Direct c o xs) w i m (y, h) =
-    let g = directing (all_written w.memory xs) c in
+    let g = directing xs.seen c in
     inl (y, slot_other g c.ticket.queue w.queues i (Slot.Arrived y) Slot.Empty (λ z. refl) empty_arrived h)
 enter_wakes (Transition.Answer k x o xs) w i m (y, h) =
-    let g = completing (all_written w.memory xs) x.chain in
+    let g = completing xs.seen x.chain in
     inl (y, slot_kept g x.chain.ticket.queue w.queues i (Slot.Arrived y) (λ z. refl) h)
 enter_wakes (Transition.Respond c r xs) w i m (y, h) =
-    let g = completing (all_written w.memory xs) c in
+    let g = completing xs.seen c in
     inl (y, slot_kept g c.ticket.queue w.queues i (Slot.Arrived y) (λ z. refl) h)
 enter_wakes (Transition.Give e c xs) w i m (y, h) =
-    let g = completing (all_written w.memory xs) c in
+    let g = completing xs.seen c in
     inl (y, slot_kept g c.ticket.queue w.queues i (Slot.Arrived y) (λ z. refl) h)
 enter_wakes (Transition.EnterStale x) w i m h = absurd m
 enter_wakes d w i m h = inl h
@@ -161,7 +161,7 @@ direct_wakes (Transition.Open f g) w i m (c, o, h) =
 direct_wakes (Transition.Hold f) w i m (c, o, h) =
     inl (c, o, slot_kept (taking f.chain) f.chain.ticket.queue w.queues i (Slot.Direct c o) (λ z. refl) h)
 direct_wakes (Transition.UseBuffer f xs) w i m (c, o, h) =
-    let g = spending (all_written w.memory xs) f.chain in
+    let g = spending xs.seen f.chain in
     inl (c, o, slot_kept g f.chain.ticket.queue w.queues i (Slot.Direct c o) (λ z. refl) h)
 direct_wakes (Transition.Break k n) w i m (c, o, h) =
     inl (c, o, slot_kept (broken_by n) k w.queues i (Slot.Direct c o) (λ z. refl) h)
@@ -184,16 +184,16 @@ direct_wakes (Transition.EnterBusy x) w i m (c, o, h) =
       | inr p ↦ inl (c, o, p)
     ]
 direct_wakes (Transition.Direct a b xs) w i m (c, o, h) =
-    let g = directing (all_written w.memory xs) a in
+    let g = directing xs.seen a in
     inl (c, o, slot_other g a.ticket.queue w.queues i (Slot.Direct c o) Slot.Empty (λ z. refl) empty_direct h)
 direct_wakes (Transition.Answer k x b xs) w i m (c, o, h) =
-    let g = completing (all_written w.memory xs) x.chain in
+    let g = completing xs.seen x.chain in
     inl (c, o, slot_kept g x.chain.ticket.queue w.queues i (Slot.Direct c o) (λ z. refl) h)
 direct_wakes (Transition.Respond a r xs) w i m (c, o, h) =
-    let g = completing (all_written w.memory xs) a in
+    let g = completing xs.seen a in
     inl (c, o, slot_kept g a.ticket.queue w.queues i (Slot.Direct c o) (λ z. refl) h)
 direct_wakes (Transition.Give e a xs) w i m (c, o, h) =
-    let g = completing (all_written w.memory xs) a in
+    let g = completing xs.seen a in
     inl (c, o, slot_kept g a.ticket.queue w.queues i (Slot.Direct c o) (λ z. refl) h)
 direct_wakes (Transition.EnterStale x) w i m h = absurd m
 direct_wakes d w i m h = inl h

@@ -5,7 +5,7 @@ use Rattle.scsi_codec.specs.EventQueue.{transport_reset, param_change}
 use Rattle.unit_attention.specs.declared.code.Code.{Code}
 use Rattle.unit_attention.specs.Code.{code}
 use Rattle.ring_core.specs.State.{RingState, PlainChain, accepting, using, breaking}
-use Rattle.ring_core.specs.Writes.{Write, all_written}
+use Rattle.ring_core.specs.Writes.{all_written}
 use Rattle.ring_core.specs.Offer.{wants_notice}
 use Rattle.ring_core.specs.declared.fault.RingFault.{RingFault}
 use Rattle.unit_model.specs.Steps.{Step}
@@ -14,7 +14,7 @@ use Rattle.unit_model.specs.Receipts.{unit_address}
 use Rattle.unit_model.specs.Jobs.{PlainJob}
 use Rattle.unit_model.specs.Unit.{PlainUnit, after as stepped, parking}
 use Rattle.task_mgmt.specs.Functions.{PlainFunction, marking, asking, failing, checking, step_by}
-use Rattle.device_model.specs.Parts.{Outcome, Slot, Hand, is_short}
+use Rattle.device_model.specs.Parts.{Completion, Outcome, Slot, Hand, is_short}
 use Rattle.device_model.specs.World.{PlainQueue, Seat, Opened, PlainWorld, change, owner}
 use Rattle.device_model.specs.Transitions.{Transition}
 
@@ -39,7 +39,7 @@ slotted s q = record q { slot = s }
 abbrev pub broken_by : RingFault → PlainQueue → PlainQueue
 broken_by f q = record q { ring = breaking q.ring f }
 
--- a chain was used, and memory is this: the driver may want a notice
+-- a chain was used, and memory was seen as this then: the driver may want a notice
 abbrev pub used_in : List ℕ → PlainChain → RingState → PlainQueue → PlainQueue
 used_in m c s q = record q { ring = using s c; notices = q.notices + bit (wants_notice (using s c) m) }
 
@@ -102,9 +102,9 @@ abbrev pub change_reports : Bool → Option PlainUnit → List Report
 change_reports told None = []
 change_reports told (Some u) = if told then (change_report u ∷ []) else []
 
--- the chain of a queue is used, by these writes
-abbrev pub completed : PlainChain → List Write → PlainWorld → List PlainQueue
-completed c xs w = change (completing (all_written w.memory xs) c) c.ticket.queue w.queues
+-- the chain of a queue is used so
+abbrev pub completed : PlainChain → Completion → PlainWorld → List PlainQueue
+completed c xs w = change (completing xs.seen c) c.ticket.queue w.queues
 
 abbrev pub after : Transition → PlainWorld → PlainWorld
 after (Transition.Poke x) w = record w { memory = all_written w.memory (x ∷ []) }
@@ -121,8 +121,8 @@ after (Transition.Hold f) w =
     record w { queues = change (taking f.chain) f.chain.ticket.queue w.queues; buffers = w.buffers ++ f.chain ∷ [] }
 after (Transition.UseBuffer f xs) w =
     record w {
-      queues = change (spending (all_written w.memory xs) f.chain) f.chain.ticket.queue w.queues;
-      memory = all_written w.memory xs;
+      queues = change (spending xs.seen f.chain) f.chain.ticket.queue w.queues;
+      memory = all_written w.memory xs.writes;
       missed = w.missed && is_short f.chain;
     }
 after (Transition.Break q n) w = record w { queues = change (broken_by n) q w.queues }
@@ -152,8 +152,8 @@ after (Transition.EnterStale x) w =
     }
 after (Transition.Direct c o xs) w =
     record w {
-      queues = change (directing (all_written w.memory xs) c) c.ticket.queue w.queues;
-      memory = all_written w.memory xs;
+      queues = change (directing xs.seen c) c.ticket.queue w.queues;
+      memory = all_written w.memory xs.writes;
     }
 after (Transition.Put k x) w =
     record w {
@@ -183,7 +183,7 @@ after (Transition.Answer k x o xs) w =
     record w {
       seats = change (with_hand (Hand.Answered x.unit x.chain.ticket)) k w.seats;
       queues = completed x.chain xs w;
-      memory = all_written w.memory xs;
+      memory = all_written w.memory xs.writes;
     }
 after (Transition.Leave k u t jobs) w =
     record w { seats = change (leaving jobs) k w.seats; units = change (stepped (Step.Leave t)) u w.units }
@@ -197,7 +197,7 @@ after (Transition.Ask t u rule b) w = record w { function = on_function (asking 
 after (Transition.MarkRefused t) w = record w { function = on_function failing w.function }
 after (Transition.Check t p) w = record w { function = on_function checking w.function }
 after (Transition.Respond c r xs) w =
-    record w { queues = completed c xs w; memory = all_written w.memory xs; function = None }
+    record w { queues = completed c xs w; memory = all_written w.memory xs.writes; function = None }
 after (Transition.Hard p jobs) w =
     record w {
       units = change (stepped (Step.Reset hard_code)) p.unit w.units;
@@ -212,7 +212,7 @@ after (Transition.Resize place blocks) w =
 after (Transition.Give e c xs) w =
     record w {
       queues = completed c xs w;
-      memory = all_written w.memory xs;
+      memory = all_written w.memory xs.writes;
       buffers = drop 1 w.buffers;
       waiting = drop 1 w.waiting;
     }

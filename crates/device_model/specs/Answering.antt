@@ -3,7 +3,6 @@ use Rattle.std.specs.Prelude.{ℕ, ◌≡◌, ◌≤◌, ◌+◌, ◌⊎◌, Lis
 use Rattle.std.specs.List.{sum_by}
 use Rattle.replies.specs.PlainReply.{PlainReply}
 use Rattle.ring_core.specs.State.{PlainChain}
-use Rattle.ring_core.specs.Writes.{Write}
 use Rattle.ring_core.specs.declared.log.Ticket.{Ticket}
 use Rattle.unit_model.specs.declared.reason.Reason.{Reason}
 use Rattle.unit_model.specs.Tasks.{Entry}
@@ -14,7 +13,7 @@ use Rattle.unit_model.specs.Lawful.{IsReady}
 use Rattle.unit_model.specs.Endings.{Ending}
 use Rattle.unit_model.specs.Jobs.{PlainJob}
 use Rattle.unit_model.specs.Unit.{PlainUnit}
-use Rattle.device_model.specs.Parts.{PlainFetch, Outcome, lengths_of, bytes_of, answer_writes}
+use Rattle.device_model.specs.Parts.{Completion, PlainFetch, Outcome, lengths_of, bytes_of, answer_writes}
 use Rattle.device_model.specs.World.{PlainQueue, PlainWorld}
 use Rattle.device_model.specs.Transitions.{Transition}
 use Rattle.device_model.specs.Happens.{QueueIs, UnitIs, IsDirect, world_of}
@@ -46,14 +45,14 @@ IsTrue old f (Outcome.Ended ending) ds = (x : PlainJob) × IsJobOf old.inventory
 
 -- the chain is that of a Fetch; the writes are those of the outcome's bytes in its queue as it is before the answer;
 -- and what they tell is true by then
-pub record IsAnsweredSo (old : PlainWorld) (past : List Transition) (c : PlainChain) (o : Outcome) (xs : List Write)
+pub record IsAnsweredSo (old : PlainWorld) (past : List Transition) (c : PlainChain) (o : Outcome) (xs : Completion)
     : Type 0 where
   pub fetch : PlainFetch
   pub fetched : Happened (IsFetch fetch) past
   pub chain : fetch.chain ≡ c
   pub queue : PlainQueue
   pub there : QueueIs (world_of old past) c.ticket.queue queue
-  pub writes : xs ≡ answer_writes queue.ring c (bytes_of (lengths_of c) o)
+  pub writes : xs.writes ≡ answer_writes queue.ring c (bytes_of (lengths_of c) o)
   pub truth : IsTrue old fetch o past
 
 -- the task of a ticket has a Commit in no history
@@ -68,9 +67,9 @@ pub record AreAnswered (old : PlainWorld) (ds : List Transition) (w : PlainWorld
       → used_worth (only t) w ≡ sum_by (directs (only t)) ds + sum_by (answers (only t)) ds
   pub once : (t : Ticket) → sum_by (directs (only t)) ds + sum_by (answers (only t)) ds ≤ 1
   pub told : (t : Ticket) → 2 ≤ t.queue → 1 ≤ used_worth (only t) w → Happened (IsAnswer t) ds
-  pub direct : (c : PlainChain) (o : Outcome) (xs : List Write) (past : List Transition)
+  pub direct : (c : PlainChain) (o : Outcome) (xs : Completion) (past : List Transition)
       → IsBeginning (Transition.Direct c o xs ∷ past) ds → IsAnsweredSo old past c o xs
-  pub answer : (k : ℕ) (x : PlainJob) (o : Outcome) (xs : List Write) (past : List Transition)
+  pub answer : (k : ℕ) (x : PlainJob) (o : Outcome) (xs : Completion) (past : List Transition)
       → IsBeginning (Transition.Answer k x o xs ∷ past) ds → IsAnsweredSo old past x.chain o xs
-  pub aborted : (k : ℕ) (x : PlainJob) (why : Reason) (xs : List Write) (past : List Transition)
+  pub aborted : (k : ℕ) (x : PlainJob) (why : Reason) (xs : Completion) (past : List Transition)
       → IsBeginning (Transition.Answer k x (Outcome.Ended (Ending.Aborted why)) xs ∷ past) ds → NeverRan x.chain.ticket ds

@@ -1,5 +1,5 @@
 -- What enters the units of a reached device.
-use Rattle.std.specs.Prelude.{ℕ, ◌≡◌, ◌≤◌, List, ◌∷◌}
+use Rattle.std.specs.Prelude.{ℕ, ◌≡◌, ◌≤◌, List, ◌∷◌, Some, slice_get}
 use Rattle.std.specs.List.{sum_by}
 use Rattle.scsi_codec.specs.declared.lun.Address.{Address}
 use Rattle.ring_core.specs.declared.log.Ticket.{Ticket}
@@ -16,11 +16,13 @@ use Rattle.device_model.specs.Worths.{fetches, entered_worth, was_accepted}
 use Rattle.device_model.specs.Happened.{Happened, IsBeginning, IsFetch}
 use Rattle.device_model.specs.Histories.{Stands, history_of}
 
--- the job is the fetched chain's, for the unit and with the task that were decided of its bytes
+-- the job is the fetched chain's, for the unit and with the task that were decided of its bytes, and names the address
+-- that stands in the inventory there
 pub record IsJobOf (inventory : List Address) (f : PlainFetch) (x : PlainJob) : Type 0 where
   pub chain : f.chain ≡ x.chain
   pub ticket : x.entry.ticket ≡ f.chain.ticket
   pub decided : DecidesRequest inventory f (decision.Enter x.unit (request_of x.entry))
+  pub addressed : slice_get inventory x.unit ≡ Some x.address
 
 -- the job is that of a chain that was fetched
 pub record IsSent (inventory : List Address) (ds : List Transition) (x : PlainJob) : Type 0 where

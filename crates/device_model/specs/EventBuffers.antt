@@ -3,8 +3,7 @@ use Rattle.std.specs.Prelude.{ℕ, ◌≡◌, ◌||◌, ◌&&◌, Bool, true, fa
 use Rattle.scsi_codec.specs.declared.event_queue.Event.{Event as Report}
 use Rattle.scsi_codec.specs.EventQueue.{event_bytes}
 use Rattle.ring_core.specs.State.{RingState, PlainChain}
-use Rattle.ring_core.specs.Writes.{Write}
-use Rattle.device_model.specs.Parts.{PlainFetch, answer_writes, is_short}
+use Rattle.device_model.specs.Parts.{Completion, PlainFetch, answer_writes, is_short}
 use Rattle.device_model.specs.World.{PlainQueue, PlainWorld}
 use Rattle.device_model.specs.Transitions.{Transition}
 use Rattle.device_model.specs.After.{with_chain, reports_of, change_reports}
@@ -47,10 +46,10 @@ missed_of (d ∷ past) = missed_of past
 
 -- the bytes are written into the chain, in its queue as it is after these transitions and this change
 pub record IsWrittenIn (old : PlainWorld) (past : List Transition) (c : PlainChain) (g : RingState → RingState)
-    (bytes : List ℕ) (xs : List Write) : Type 0 where
+    (bytes : List ℕ) (xs : Completion) : Type 0 where
   pub queue : PlainQueue
   pub there : QueueIs (world_of old past) c.ticket.queue queue
-  pub writes : xs ≡ answer_writes (g queue.ring) c bytes
+  pub writes : xs.writes ≡ answer_writes (g queue.ring) c bytes
 
 -- each event that is raised is given or missed, the first one first; it goes into the oldest buffer that is held; with
 -- none it is missed, and the next buffer that is long enough tells so at once; a short one is used at once, with no
@@ -62,8 +61,8 @@ pub record AreEvents (old : PlainWorld) (ds : List Transition) (w : PlainWorld) 
   pub misses : (e : Report) (past : List Transition) → IsBeginning (Transition.Miss e ∷ past) ds → given_of past ≡ arrived_of past
   pub holds : (f : PlainFetch) (past : List Transition) → IsBeginning (Transition.Hold f ∷ past) ds
       → (is_short f.chain || missed_of past) ≡ false
-  pub spends : (f : PlainFetch) (xs : List Write) (past : List Transition) → IsBeginning (Transition.UseBuffer f xs ∷ past) ds
+  pub spends : (f : PlainFetch) (xs : Completion) (past : List Transition) → IsBeginning (Transition.UseBuffer f xs ∷ past) ds
       → ((is_short f.chain || missed_of past) ≡ true)
       × IsWrittenIn old past f.chain (with_chain f.chain) (spent_bytes f.chain) xs
-  pub gives : (e : Report) (c : PlainChain) (xs : List Write) (past : List Transition)
+  pub gives : (e : Report) (c : PlainChain) (xs : Completion) (past : List Transition)
       → IsBeginning (Transition.Give e c xs ∷ past) ds → IsWrittenIn old past c (λ s. s) (event_bytes e) xs

@@ -6,7 +6,6 @@ use Rattle.scsi_codec.specs.declared.lun.Address.{Address}
 use Rattle.scsi_codec.specs.declared.control_queue.FunctionResponse.{FunctionResponse}
 use Rattle.scsi_codec.specs.declared.control_queue.FunctionResponse.TheVariants.{Complete, Failure, Succeeded}
 use Rattle.ring_core.specs.State.{PlainChain}
-use Rattle.ring_core.specs.Writes.{Write}
 use Rattle.ring_core.specs.declared.log.Ticket.{Ticket}
 use Rattle.unit_model.specs.declared.rule.Rule.{Rule}
 use Rattle.unit_model.specs.Tasks.{Entry}
@@ -20,7 +19,7 @@ use Rattle.task_mgmt.specs.declared.kind.Kind.{Kind}
 use Rattle.task_mgmt.specs.declared.kind.Kind.TheVariants.{Marking, Querying}
 use Rattle.task_mgmt.specs.declared.kind.MarkBy.{MarkBy}
 use Rattle.task_mgmt.specs.declared.function.Mark.{Mark as Place}
-use Rattle.device_model.specs.Parts.{PlainFetch, answer_writes}
+use Rattle.device_model.specs.Parts.{Completion, PlainFetch, answer_writes}
 use Rattle.device_model.specs.World.{PlainQueue, PlainWorld}
 use Rattle.device_model.specs.Transitions.{Transition}
 use Rattle.device_model.specs.Happens.{QueueIs, DecidesControl, world_of}
@@ -63,7 +62,7 @@ IsResponse r = (r ≡ Complete) ⊎ ((r ≡ Succeeded) ⊎ (r ≡ Failure))
 
 -- all its units were visited, unless memory was refused; all its marks are clear; it found a task exactly where a look
 -- did, and failed exactly where memory was refused; and its bytes are those of its response
-pub record IsOver (old : PlainWorld) (past : List Transition) (c : PlainChain) (r : FunctionResponse) (xs : List Write)
+pub record IsOver (old : PlainWorld) (past : List Transition) (c : PlainChain) (r : FunctionResponse) (xs : Completion)
     : Type 0 where
   pub begun : IsBegun old.inventory past c.ticket
   pub chain : begun.fetch.chain ≡ c
@@ -75,7 +74,7 @@ pub record IsOver (old : PlainWorld) (past : List Transition) (c : PlainChain) (
   pub fails : (r ≡ Failure) ↔ Happened (IsFail c.ticket) past
   pub queue : PlainQueue
   pub there : QueueIs (world_of old past) c.ticket.queue queue
-  pub writes : xs ≡ answer_writes queue.ring c (function_bytes r)
+  pub writes : xs.writes ≡ answer_writes queue.ring c (function_bytes r)
 
 -- a look says whether a task is alive that its rule meets; marks and looks are of the kind and on the units that were
 -- decided of the function's Fetch; a function is answered once it is over
@@ -86,5 +85,5 @@ pub record AreOver (old : PlainWorld) (ds : List Transition) : Type 0 where
   pub looks : (t : Ticket) (place : ℕ) (rule : Rule) (b : Bool) (past : List Transition)
       → IsBeginning (Transition.Ask t place rule b ∷ past) ds
       → (b ≡ any_met rule (alive (history_of place past))) × IsFor old.inventory past t (Querying rule) place
-  pub responds : (c : PlainChain) (r : FunctionResponse) (xs : List Write) (past : List Transition)
+  pub responds : (c : PlainChain) (r : FunctionResponse) (xs : Completion) (past : List Transition)
       → IsBeginning (Transition.Respond c r xs ∷ past) ds → IsOver old past c r xs

@@ -8,7 +8,7 @@ use Rattle.scsi_codec.specs.ControlQueue.{IsControl, function_bytes}
 use Rattle.scsi_codec.specs.declared.control_queue.Control.{Control}
 use Rattle.scsi_codec.specs.declared.control_queue.FunctionResponse.{FunctionResponse}
 use Rattle.ring_core.specs.State.{PlainChain}
-use Rattle.ring_core.specs.Writes.{Write}
+use Rattle.ring_core.specs.Writes.{all_written}
 use Rattle.ring_core.specs.Offer.{Offers, Refused, MayLackMemory}
 use Rattle.ring_core.specs.Fetch.{Takes}
 use Rattle.ring_core.specs.declared.fault.RingFault.{RingFault}
@@ -30,7 +30,7 @@ use Rattle.unit_model.specs.Released.{released}
 use Rattle.replies.specs.Memory.{may_run_short}
 use Rattle.unit_model.specs.Jobs.{PlainJob, of_tasks}
 use Rattle.unit_model.specs.Unit.{PlainUnit}
-use Rattle.unit_model.specs.Asking.{IsOf}
+use Rattle.unit_model.specs.Asking.{IsOf, IsNamed, IsMisdelivered}
 use Rattle.task_mgmt.specs.Functions.{PlainFunction, step_by, response_of}
 use Rattle.task_mgmt.specs.Control.{decided_of}
 use Rattle.task_mgmt.specs.declared.control.ControlDecision.{ControlDecision}
@@ -39,7 +39,7 @@ use Rattle.task_mgmt.specs.declared.kind.Kind.{Kind}
 use Rattle.task_mgmt.specs.declared.kind.Kind.TheVariants.{Marking, Querying}
 use Rattle.task_mgmt.specs.declared.kind.MarkBy.{MarkBy}
 use Rattle.task_mgmt.specs.declared.function.Mark.{Mark as Place}
-use Rattle.device_model.specs.Parts.{PlainFetch, Outcome, Slot, Hand, lengths_of, request_of, bytes_of, answer_writes, is_short}
+use Rattle.device_model.specs.Parts.{PlainFetch, Outcome, Completion, IsSeen, Slot, Hand, lengths_of, request_of, bytes_of, answer_writes, is_short}
 use Rattle.device_model.specs.World.{PlainQueue, Seat, Opened, PlainWorld, Opens, IsBefore, owner}
 use Rattle.device_model.specs.Events.{Event}
 use Rattle.device_model.specs.Transitions.{Transition, Action, event_of, action_of}
@@ -101,6 +101,7 @@ pub record Arrives (w : PlainWorld) (f : PlainFetch) (x : PlainJob) : Type 0 whe
   pub chain : x.chain ≡ f.chain
   pub ticket : x.entry.ticket ≡ f.chain.ticket
   pub decided : DecidesRequest w.inventory f (decision.Enter x.unit (request_of x.entry))
+  pub addressed : slice_get w.inventory x.unit ≡ Some x.address
 
 pub record Refuses (w : PlainWorld) (f : PlainFetch) (a : List ℕ) : Type 0 where
   pub finds : Finds w f
@@ -125,11 +126,12 @@ abbrev pub spent_bytes : PlainChain → List ℕ
 spent_bytes c = if is_short c then [] else event_bytes missed_event
 
 -- the buffer is used at once
-pub record UsesBuffer (w : PlainWorld) (f : PlainFetch) (xs : List Write) : Type 0 where
+pub record UsesBuffer (w : PlainWorld) (f : PlainFetch) (xs : Completion) : Type 0 where
   pub finds : Finds w f
   pub event : f.chain.ticket.queue ≡ 1
   pub decided : (is_short f.chain || w.missed) ≡ true
-  pub writes : xs ≡ answer_writes (with_chain f.chain finds.queue.ring) f.chain (spent_bytes f.chain)
+  pub writes : xs.writes ≡ answer_writes (with_chain f.chain finds.queue.ring) f.chain (spent_bytes f.chain)
+  pub seen : IsSeen w.shared (all_written w.memory xs.writes) xs.seen
 
 pub record Breaks (w : PlainWorld) (q : ℕ) (n : RingFault) : Type 0 where
   pub queue : PlainQueue
@@ -151,27 +153,31 @@ pub record Comes (w : PlainWorld) (x : PlainJob) : Type 0 where
 
 pub record Enters (w : PlainWorld) (x : PlainJob) (parks : Bool) : Type 0 where
   pub comes : Comes w x
+  pub named : IsNamed x comes.unit
   pub may : MayStep comes.unit (Step.Enter x.entry)
   pub blocked : is_blocked x.entry (alive (Step.Enter x.entry ∷ comes.unit.steps)) ≡ parks
 
 pub record Overflows (w : PlainWorld) (x : PlainJob) : Type 0 where
   pub comes : Comes w x
+  pub named : IsNamed x comes.unit
   pub may : MayStep comes.unit (Step.Full x.entry.ticket)
 
 -- memory was refused, which only a ticket that isn't stale asks for
 pub record EntersBusy (w : PlainWorld) (x : PlainJob) : Type 0 where
   pub comes : Comes w x
+  pub named : IsNamed x comes.unit
   pub fresh : floor x.entry.ticket.queue comes.unit.steps ≤ x.entry.ticket.number
 
 pub record EntersStale (w : PlainWorld) (x : PlainJob) : Type 0 where
   pub comes : Comes w x
-  pub stale : x.entry.ticket.number < floor x.entry.ticket.queue comes.unit.steps
+  pub stale : IsMisdelivered x comes.unit
 
-pub record Directs (w : PlainWorld) (c : PlainChain) (o : Outcome) (xs : List Write) : Type 0 where
+pub record Directs (w : PlainWorld) (c : PlainChain) (o : Outcome) (xs : Completion) : Type 0 where
   pub queue : PlainQueue
   pub there : QueueIs w c.ticket.queue queue
   pub ready : queue.slot ≡ Slot.Direct c o
-  pub writes : xs ≡ answer_writes queue.ring c (bytes_of (lengths_of c) o)
+  pub writes : xs.writes ≡ answer_writes queue.ring c (bytes_of (lengths_of c) o)
+  pub seen : IsSeen w.shared (all_written w.memory xs.writes) xs.seen
 
 pub record Puts (w : PlainWorld) (k : ℕ) (x : PlainJob) : Type 0 where
   pub rest : List PlainJob
@@ -224,12 +230,13 @@ pub record CommitsUnknown (w : PlainWorld) (k : ℕ) (x : PlainJob) : Type 0 whe
   pub not_marked : (e : Entry) (why : Reason) → IsOf x e holds.unit.steps
       → mark_of x.entry.ticket holds.unit.steps ≡ Some why → ⊥
 
-pub record Answers (w : PlainWorld) (k : ℕ) (x : PlainJob) (o : Outcome) (xs : List Write) : Type 0 where
+pub record Answers (w : PlainWorld) (k : ℕ) (x : PlainJob) (o : Outcome) (xs : Completion) : Type 0 where
   pub out : List PlainJob
   pub seat : SeatIs w k (Hand.Done x o) out
   pub queue : PlainQueue
   pub there : QueueIs w x.chain.ticket.queue queue
-  pub writes : xs ≡ answer_writes queue.ring x.chain (bytes_of (lengths_of x.chain) o)
+  pub writes : xs.writes ≡ answer_writes queue.ring x.chain (bytes_of (lengths_of x.chain) o)
+  pub seen : IsSeen w.shared (all_written w.memory xs.writes) xs.seen
 
 pub record Leaves (w : PlainWorld) (k place : ℕ) (t : Ticket) (jobs : List PlainJob) : Type 0 where
   pub holds : Holds w k (Hand.Answered place t) place
@@ -278,13 +285,14 @@ pub record Checks (w : PlainWorld) (t : Ticket) (p : Place) : Type 0 where
   pub there : UnitIs w p.unit unit
   pub clear : is_clear p.place unit.steps ≡ true
 
-pub record Responds (w : PlainWorld) (c : PlainChain) (r : FunctionResponse) (xs : List Write) : Type 0 where
+pub record Responds (w : PlainWorld) (c : PlainChain) (r : FunctionResponse) (xs : Completion) : Type 0 where
   pub waiting : IsWaiting w c.ticket []
   pub chain : waiting.opened.chain ≡ c
   pub response : r ≡ response_of waiting.opened.function
   pub queue : PlainQueue
   pub there : QueueIs w c.ticket.queue queue
-  pub writes : xs ≡ answer_writes queue.ring c (function_bytes r)
+  pub writes : xs.writes ≡ answer_writes queue.ring c (function_bytes r)
+  pub seen : IsSeen w.shared (all_written w.memory xs.writes) xs.seen
 
 pub record Resets (w : PlainWorld) (p : Place) (jobs : List PlainJob) : Type 0 where
   pub unit : PlainUnit
@@ -299,14 +307,15 @@ pub record Resizes (w : PlainWorld) (place blocks : ℕ) : Type 0 where
   pub there : UnitIs w place unit
   pub may : MayStep unit (Step.Resize blocks)
 
-pub record Gives (w : PlainWorld) (e : Report) (c : PlainChain) (xs : List Write) : Type 0 where
+pub record Gives (w : PlainWorld) (e : Report) (c : PlainChain) (xs : Completion) : Type 0 where
   pub later : List Report
   pub waits : w.waiting ≡ e ∷ later
   pub more : List PlainChain
   pub held : w.buffers ≡ c ∷ more
   pub queue : PlainQueue
   pub there : QueueIs w c.ticket.queue queue
-  pub writes : xs ≡ answer_writes queue.ring c (event_bytes e)
+  pub writes : xs.writes ≡ answer_writes queue.ring c (event_bytes e)
+  pub seen : IsSeen w.shared (all_written w.memory xs.writes) xs.seen
 
 pub record Misses (w : PlainWorld) (e : Report) : Type 0 where
   pub later : List Report

@@ -21,6 +21,7 @@ AreUnits w = Everywhere (λ i u. IsUnit u) w.units
 
 -- the parts of the device are those that it opened with
 pub record KeepsParts (old new : PlainWorld) : Type 0 where
+  pub shared : new.shared ≡ old.shared
   pub inventory : new.inventory ≡ old.inventory
   pub workers : new.workers ≡ old.workers
   pub limit : new.limit ≡ old.limit

@@ -2,13 +2,14 @@
 use Rattle.std.specs.Prelude.{ℕ, ◌≡◌, ◌+◌, List, [], ◌∷◌, ◌++◌, Option, Some, slice_get}
 use Rattle.std.specs.List.{sum_by}
 use Rattle.ring_core.specs.Writes.{all_written}
+use Rattle.ring_core.specs.Offer.{wants_notice}
 use Rattle.ring_core.specs.declared.fault.RingFault.{RingFault}
 use Rattle.ring_core.specs.declared.log.Ticket.{Ticket}
 use Rattle.unit_model.specs.Jobs.{PlainJob}
 use Rattle.device_model.specs.Parts.{Hand}
 use Rattle.device_model.specs.World.{PlainQueue, Seat, PlainWorld, all_off}
 use Rattle.device_model.specs.Transitions.{Transition}
-use Rattle.device_model.specs.After.{after}
+use Rattle.device_model.specs.After.{bit, after}
 use Rattle.device_model.specs.Happens.{Occurrence}
 use Rattle.device_model.specs.Phases.{queue_of}
 
@@ -43,6 +44,18 @@ abbrev pub NoneIsUsed : PlainWorld → PlainWorld → Type 0
 NoneIsUsed old new =
     (i : ℕ) (q : PlainQueue) → slice_get old.queues i ≡ Some q
     → (r : PlainQueue) × (slice_get new.queues i ≡ Some r) × (r.ring.log.used ≡ q.ring.log.used)
+
+-- the queue of the ticket, whose chain was used last, counts one notice more where its driver wants one by what was seen
+abbrev pub IsCountedBy : Ticket → List ℕ → PlainWorld → PlainWorld → Type 0
+IsCountedBy t seen old new =
+    (q r : PlainQueue) × (slice_get old.queues t.queue ≡ Some q) × (slice_get new.queues t.queue ≡ Some r)
+    × (r.notices ≡ q.notices + bit (wants_notice r.ring seen))
+
+-- each queue counts the notices that it did
+abbrev pub NoneIsCounted : PlainWorld → PlainWorld → Type 0
+NoneIsCounted old new =
+    (i : ℕ) (q : PlainQueue) → slice_get old.queues i ≡ Some q
+    → (r : PlainQueue) × (slice_get new.queues i ≡ Some r) × (r.notices ≡ q.notices)
 
 -- What the jobs of the seats and of the hand-off count, each by what p says of it
 

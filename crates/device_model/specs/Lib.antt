@@ -24,3 +24,4 @@ pub mod Ordering
 pub mod Functions
 pub mod EventBuffers
 pub mod Promise
+pub mod Live

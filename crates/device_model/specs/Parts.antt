@@ -1,9 +1,9 @@
 -- What the parts of the device hold between two steps.
-use Rattle.std.specs.Prelude.{ℕ, ◌++◌, nat_lt, Bool, List, length}
+use Rattle.std.specs.Prelude.{ℕ, ◌≡◌, ◌++◌, nat_lt, Bool, true, false, List, length}
 use Rattle.ring_core.specs.State.{RingState, PlainChain}
 use Rattle.ring_core.specs.declared.log.Ticket.{Ticket}
 use Rattle.ring_core.specs.Parts.{readable_total, writable_total}
-use Rattle.ring_core.specs.Writes.{Write, scatter_writes}
+use Rattle.ring_core.specs.Writes.{Write, all_written, scatter_writes}
 use Rattle.ring_core.specs.Offer.{used_writes}
 use Rattle.decisions.specs.declared.answer.ChainLengths.{ChainLengths}
 use Rattle.decisions.specs.UnitRequest.{PlainRequest}
@@ -38,6 +38,21 @@ bytes_of n (Outcome.Ended ending) = answer_of n ending
 -- what answers a chain: the bytes over its writable parts, and then its used entry
 abbrev pub answer_writes : RingState → PlainChain → List ℕ → List Write
 answer_writes s c bytes = scatter_writes c.parts 0 bytes ++ used_writes s c.id (length bytes)
+
+-- what the completion of a chain writes, and the memory behind these writes by which it is decided whether the driver
+-- wants a notice
+pub record Completion : Type 0 where
+  pub writes : List Write
+  pub seen : List ℕ
+
+-- these writes, and memory seen as they left it
+abbrev pub as_left : List ℕ → List Write → Completion
+as_left m xs = record { writes = xs; seen = all_written m xs }
+
+-- a memory of the device's own is seen as it was left; one that is shared with the guest has any bytes by then
+abbrev pub IsSeen : Bool → List ℕ → List ℕ → Type 0
+IsSeen false left seen = seen ≡ left
+IsSeen true left seen = length seen ≡ length left
 
 -- what a queue has between two steps: nothing, a request for a unit, or a chain that is to be answered
 pub data Slot : Type 0 where

@@ -18,13 +18,13 @@ use Rattle.unit_model.specs.Clearing.{is_clear}
 use Rattle.unit_model.specs.Seen.{any_met}
 use Rattle.unit_model.specs.Jobs.{PlainJob}
 use Rattle.unit_model.specs.Unit.{PlainUnit, after as stepped, parking}
-use Rattle.unit_model.specs.Asking.{CannotCommit}
+use Rattle.unit_model.specs.Asking.{IsNamed, IsMisdelivered, CannotCommit}
 use Rattle.task_mgmt.specs.Functions.{step_by, response_of}
 use Rattle.task_mgmt.specs.declared.control.ControlDecision.TheVariants as managed
 use Rattle.task_mgmt.specs.declared.kind.Kind.{Kind}
 use Rattle.task_mgmt.specs.declared.kind.Kind.TheVariants.{Marking, Querying}
 use Rattle.task_mgmt.specs.declared.function.Mark.{Mark as Place}
-use Rattle.device_model.specs.Parts.{PlainFetch, Outcome, Slot, Hand, lengths_of, request_of, bytes_of, answer_writes, is_short}
+use Rattle.device_model.specs.Parts.{PlainFetch, Outcome, IsSeen, Slot, Hand, lengths_of, request_of, bytes_of, answer_writes, is_short}
 use Rattle.device_model.specs.World.{PlainQueue, Seat, Opened, PlainWorld, owner}
 use Rattle.device_model.specs.Transitions.{Transition, action_of}
 use Rattle.device_model.specs.After.{with_chain, arriving, taking, broken_by, completing, directing, spending, hard_code}
@@ -55,12 +55,14 @@ unit_of d = None
 -- what it asks of the unit
 abbrev pub AsksUnit : Transition → PlainUnit → Type 0
 AsksUnit (Transition.Run x) u =
-    MayStep u (Step.Enter x.entry) × (is_blocked x.entry (alive (Step.Enter x.entry ∷ u.steps)) ≡ false)
+    IsNamed x u × MayStep u (Step.Enter x.entry)
+    × (is_blocked x.entry (alive (Step.Enter x.entry ∷ u.steps)) ≡ false)
 AsksUnit (Transition.Park x) u =
-    MayStep u (Step.Enter x.entry) × (is_blocked x.entry (alive (Step.Enter x.entry ∷ u.steps)) ≡ true)
-AsksUnit (Transition.EnterFull x) u = MayStep u (Step.Full x.entry.ticket)
-AsksUnit (Transition.EnterBusy x) u = floor x.entry.ticket.queue u.steps ≤ x.entry.ticket.number
-AsksUnit (Transition.EnterStale x) u = x.entry.ticket.number < floor x.entry.ticket.queue u.steps
+    IsNamed x u × MayStep u (Step.Enter x.entry)
+    × (is_blocked x.entry (alive (Step.Enter x.entry ∷ u.steps)) ≡ true)
+AsksUnit (Transition.EnterFull x) u = IsNamed x u × MayStep u (Step.Full x.entry.ticket)
+AsksUnit (Transition.EnterBusy x) u = IsNamed x u × (floor x.entry.ticket.queue u.steps ≤ x.entry.ticket.number)
+AsksUnit (Transition.EnterStale x) u = IsMisdelivered x u
 AsksUnit (Transition.Commit k x r) u = MayStep u (Step.Commit x.entry.ticket r)
 AsksUnit (Transition.CommitBusy k x) u = MayStep u (Step.Busy x.entry.ticket) × MayYield u x.entry.command
 AsksUnit (Transition.CommitAborted k x why) u =
@@ -105,24 +107,30 @@ queue_of d = None
 abbrev pub GivesChain : PlainQueue → List ℕ → PlainFetch → Type 0
 GivesChain q m f = Takes q.ring m f.chain f.bytes (with_chain f.chain q.ring)
 
--- what it asks of the queue and of memory, where these units are and an event was missed or not
-abbrev pub AsksQueue : List Address → Bool → Transition → PlainQueue → List ℕ → Type 0
-AsksQueue inventory missed (Transition.Arrive f x) q m =
+-- what it asks of the queue and of memory, which is shared or not, where these units are and an event was missed or not
+abbrev pub AsksQueue : Bool → List Address → Bool → Transition → PlainQueue → List ℕ → Type 0
+AsksQueue shared inventory missed (Transition.Arrive f x) q m =
     GivesChain q m f × (x.chain ≡ f.chain) × (x.entry.ticket ≡ f.chain.ticket)
     × DecidesRequest inventory f (decision.Enter x.unit (request_of x.entry))
-AsksQueue inventory missed (Transition.Refuse f a) q m = GivesChain q m f × IsDirect inventory f.chain.ticket.queue f a
-AsksQueue inventory missed (Transition.Open f g) q m = GivesChain q m f × DecidesControl inventory f (managed.Opens g)
-AsksQueue inventory missed (Transition.Hold f) q m = GivesChain q m f × ((is_short f.chain || missed) ≡ false)
-AsksQueue inventory missed (Transition.UseBuffer f xs) q m =
+    × (slice_get inventory x.unit ≡ Some x.address)
+AsksQueue shared inventory missed (Transition.Refuse f a) q m = GivesChain q m f × IsDirect inventory f.chain.ticket.queue f a
+AsksQueue shared inventory missed (Transition.Open f g) q m = GivesChain q m f × DecidesControl inventory f (managed.Opens g)
+AsksQueue shared inventory missed (Transition.Hold f) q m = GivesChain q m f × ((is_short f.chain || missed) ≡ false)
+AsksQueue shared inventory missed (Transition.UseBuffer f xs) q m =
     GivesChain q m f × ((is_short f.chain || missed) ≡ true)
-    × (xs ≡ answer_writes (with_chain f.chain q.ring) f.chain (spent_bytes f.chain))
-AsksQueue inventory missed (Transition.Break i n) q m = (q.ring.broken ≡ None) × Offers q.ring m (Refused n)
-AsksQueue inventory missed (Transition.Direct c o xs) q m = xs ≡ answer_writes q.ring c (bytes_of (lengths_of c) o)
-AsksQueue inventory missed (Transition.Answer k x o xs) q m =
-    xs ≡ answer_writes q.ring x.chain (bytes_of (lengths_of x.chain) o)
-AsksQueue inventory missed (Transition.Respond c r xs) q m = xs ≡ answer_writes q.ring c (function_bytes r)
-AsksQueue inventory missed (Transition.Give e c xs) q m = xs ≡ answer_writes q.ring c (event_bytes e)
-AsksQueue inventory missed d q m = ⊥
+    × (xs.writes ≡ answer_writes (with_chain f.chain q.ring) f.chain (spent_bytes f.chain))
+    × IsSeen shared (all_written m xs.writes) xs.seen
+AsksQueue shared inventory missed (Transition.Break i n) q m = (q.ring.broken ≡ None) × Offers q.ring m (Refused n)
+AsksQueue shared inventory missed (Transition.Direct c o xs) q m =
+    (xs.writes ≡ answer_writes q.ring c (bytes_of (lengths_of c) o)) × IsSeen shared (all_written m xs.writes) xs.seen
+AsksQueue shared inventory missed (Transition.Answer k x o xs) q m =
+    (xs.writes ≡ answer_writes q.ring x.chain (bytes_of (lengths_of x.chain) o))
+    × IsSeen shared (all_written m xs.writes) xs.seen
+AsksQueue shared inventory missed (Transition.Respond c r xs) q m =
+    (xs.writes ≡ answer_writes q.ring c (function_bytes r)) × IsSeen shared (all_written m xs.writes) xs.seen
+AsksQueue shared inventory missed (Transition.Give e c xs) q m =
+    (xs.writes ≡ answer_writes q.ring c (event_bytes e)) × IsSeen shared (all_written m xs.writes) xs.seen
+AsksQueue shared inventory missed d q m = ⊥
 
 -- and what it leaves of the queue, and of memory
 abbrev pub queue_after : Transition → List ℕ → PlainQueue → PlainQueue
@@ -130,12 +138,12 @@ queue_after (Transition.Arrive f x) m q = arriving f.chain (Slot.Arrived x) q
 queue_after (Transition.Refuse f a) m q = arriving f.chain (Slot.Direct f.chain (Outcome.Decided a)) q
 queue_after (Transition.Open f g) m q = taking f.chain q
 queue_after (Transition.Hold f) m q = taking f.chain q
-queue_after (Transition.UseBuffer f xs) m q = spending (all_written m xs) f.chain q
+queue_after (Transition.UseBuffer f xs) m q = spending xs.seen f.chain q
 queue_after (Transition.Break i n) m q = broken_by n q
-queue_after (Transition.Direct c o xs) m q = directing (all_written m xs) c q
-queue_after (Transition.Answer k x o xs) m q = completing (all_written m xs) x.chain q
-queue_after (Transition.Respond c r xs) m q = completing (all_written m xs) c q
-queue_after (Transition.Give e c xs) m q = completing (all_written m xs) c q
+queue_after (Transition.Direct c o xs) m q = directing xs.seen c q
+queue_after (Transition.Answer k x o xs) m q = completing xs.seen x.chain q
+queue_after (Transition.Respond c r xs) m q = completing xs.seen c q
+queue_after (Transition.Give e c xs) m q = completing xs.seen c q
 queue_after d m q = q
 
 abbrev pub bytes_after : Transition → List ℕ → List ℕ
@@ -220,4 +228,4 @@ LendsUnit d w = Under (unit_of d) (λ i. (u : PlainUnit) × (slice_get w.units i
 abbrev pub LendsQueue : Transition → PlainWorld → Type 0
 LendsQueue d w =
     Under (queue_of d) (λ i. (q : PlainQueue) × (slice_get w.queues i ≡ Some q)
-    × AsksQueue w.inventory w.missed d q w.memory)
+    × AsksQueue w.shared w.inventory w.missed d q w.memory)

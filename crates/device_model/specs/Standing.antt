@@ -9,6 +9,7 @@ use Rattle.unit_model.specs.Marks.{marked}
 use Rattle.unit_model.specs.Enabling.{enabled}
 use Rattle.unit_model.specs.Jobs.{PlainJob}
 use Rattle.unit_model.specs.Unit.{PlainUnit}
+use Rattle.unit_model.specs.Asking.{IsNamed}
 use Rattle.unit_model.specs.declared.rule.Rule.{Rule}
 use Rattle.task_mgmt.specs.declared.kind.Kind.{Kind}
 use Rattle.task_mgmt.specs.declared.kind.Kind.TheVariants.{Marking, Querying}
@@ -117,6 +118,11 @@ pub record IsBehind (w : PlainWorld) (i : ℕ) (q : PlainQueue) : Type 0 where
 
 abbrev pub AreBehind : PlainWorld → Type 0
 AreBehind w = Everywhere (IsBehind w) w.queues
+
+-- each request that arrived names the unit that it is for
+abbrev pub AreNamedThere : PlainWorld → Type 0
+AreNamedThere w = (x : PlainJob) (i : ℕ) (q : PlainQueue) (u : PlainUnit) → slice_get w.queues i ≡ Some q
+    → q.slot ≡ Slot.Arrived x → UnitIs w x.unit u → IsNamed x u
 
 -- Room
 

@@ -13,7 +13,7 @@ use Rattle.unit_model.specs.Jobs.{PlainJob}
 use Rattle.task_mgmt.specs.Functions.{PlainFunction}
 use Rattle.task_mgmt.specs.declared.kind.MarkBy.{MarkBy}
 use Rattle.task_mgmt.specs.declared.function.Mark.{Mark as Place}
-use Rattle.device_model.specs.Parts.{PlainFetch, Outcome}
+use Rattle.device_model.specs.Parts.{PlainFetch, Outcome, Completion}
 use Rattle.device_model.specs.Events.{Event}
 
 pub data Transition : Type 0 where
@@ -24,16 +24,16 @@ pub data Transition : Type 0 where
   Refuse : PlainFetch → List ℕ → Transition
   Open : PlainFetch → PlainFunction → Transition
   Hold : PlainFetch → Transition
-  UseBuffer : PlainFetch → List Write → Transition
+  UseBuffer : PlainFetch → Completion → Transition
   Break : ℕ → RingFault → Transition
-  -- Enter: the task may run, or is parked; its unit is full, or was refused memory; or saw a later ticket, which never
-  -- happens
+  -- Enter: the task may run, or is parked; its unit is full, or was refused memory; or isn't the one that is named, or saw
+  -- a later ticket, neither of which ever happens
   Run : PlainJob → Transition
   Park : PlainJob → Transition
   EnterFull : PlainJob → Transition
   EnterBusy : PlainJob → Transition
   EnterStale : PlainJob → Transition
-  Direct : PlainChain → Outcome → List Write → Transition
+  Direct : PlainChain → Outcome → Completion → Transition
   -- Put: to the own list of the hand-off, or where that is full to the own hand
   Put : ℕ → PlainJob → Transition
   Keep : ℕ → PlainJob → Transition
@@ -44,7 +44,7 @@ pub data Transition : Type 0 where
   CommitBusy : ℕ → PlainJob → Transition
   CommitAborted : ℕ → PlainJob → Reason → Transition
   CommitUnknown : ℕ → PlainJob → Transition
-  Answer : ℕ → PlainJob → Outcome → List Write → Transition
+  Answer : ℕ → PlainJob → Outcome → Completion → Transition
   -- the unit, the ticket, and the jobs that are handed out
   Leave : ℕ → ℕ → Ticket → List PlainJob → Transition
   -- Mark, by the function's ticket: the place of its step, what marks, and the jobs that are handed out; or a look at a
@@ -54,12 +54,12 @@ pub data Transition : Type 0 where
   MarkRefused : Ticket → Transition
   Check : Ticket → Place → Transition
   -- AnswerTmf
-  Respond : PlainChain → FunctionResponse → List Write → Transition
+  Respond : PlainChain → FunctionResponse → Completion → Transition
   Hard : Place → List PlainJob → Transition
   -- the unit, and its blocks from now on
   Resize : ℕ → ℕ → Transition
   -- Raise: into the oldest buffer, or missed
-  Give : Report → PlainChain → List Write → Transition
+  Give : Report → PlainChain → Completion → Transition
   Miss : Report → Transition
   Idle : Event → Transition
 
@@ -118,10 +118,19 @@ answering t xs = record { writes = xs; answered = Some t; changed = true }
 
 abbrev pub action_of : Transition → Action
 action_of (Transition.Poke x) = record { writes = x ∷ []; answered = None; changed = true }
-action_of (Transition.UseBuffer f xs) = answering f.chain.ticket xs
-action_of (Transition.Direct c o xs) = answering c.ticket xs
-action_of (Transition.Answer k x o xs) = answering x.chain.ticket xs
-action_of (Transition.Respond c r xs) = answering c.ticket xs
-action_of (Transition.Give e c xs) = answering c.ticket xs
+action_of (Transition.UseBuffer f xs) = answering f.chain.ticket xs.writes
+action_of (Transition.Direct c o xs) = answering c.ticket xs.writes
+action_of (Transition.Answer k x o xs) = answering x.chain.ticket xs.writes
+action_of (Transition.Respond c r xs) = answering c.ticket xs.writes
+action_of (Transition.Give e c xs) = answering c.ticket xs.writes
 action_of (Transition.Idle e) = record { writes = []; answered = None; changed = false }
 action_of d = quiet
+
+-- what it completes
+abbrev pub completion_of : Transition → Option Completion
+completion_of (Transition.UseBuffer f xs) = Some xs
+completion_of (Transition.Direct c o xs) = Some xs
+completion_of (Transition.Answer k x o xs) = Some xs
+completion_of (Transition.Respond c r xs) = Some xs
+completion_of (Transition.Give e c xs) = Some xs
+completion_of d = None

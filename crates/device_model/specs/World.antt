@@ -5,6 +5,7 @@ use Rattle.scsi_codec.specs.declared.event_queue.Event.{Event as Report}
 use Rattle.ring_core.specs.State.{RingState, PlainChain}
 use Rattle.unit_model.specs.Jobs.{PlainJob}
 use Rattle.unit_model.specs.Unit.{PlainUnit}
+use Rattle.unit_model.specs.Receipts.{unit_address}
 use Rattle.task_mgmt.specs.Functions.{PlainFunction}
 use Rattle.device_model.specs.Parts.{Slot, Hand}
 
@@ -28,6 +29,9 @@ pub record Opened : Type 0 where
 -- operator's
 pub record PlainWorld : Type 0 where
   pub memory : List ℕ
+  -- the guest may write into memory at any time, also between an answer and the look whether a notice of it is wanted;
+  -- else it does so between two steps alone
+  pub shared : Bool
   -- the addresses of the units, in their order
   pub inventory : List Address
   pub queues : List PlainQueue
@@ -94,6 +98,7 @@ pub record Opens (w : PlainWorld) : Type 0 where
   pub queues : Everywhere (λ i q. IsNewQueue i q) w.queues
   pub units : Everywhere (λ i u. IsNewUnit u) w.units
   pub there : length w.units ≡ length w.inventory
+  pub addressed : Everywhere (λ i u. slice_get w.inventory i ≡ Some (unit_address u.opening)) w.units
   pub seats : Everywhere (λ i s. IsNewSeat s) w.seats
   pub working : 1 ≤ w.workers
   pub seated : length w.seats ≡ w.workers + 1

@@ -7,9 +7,10 @@ ghost use Rattle.ring_core.specs.State.{tickets};
 ghost use Rattle.ring_core.specs.declared.log.Ticket.{Ticket};
 ghost use Rattle.unit_model.specs.Jobs.{PlainJob};
 ghost use Rattle.unit_model.specs.Unit.{PlainUnit};
+ghost use Rattle.device_model.specs.Parts.{Completion};
 ghost use Rattle.device_model.specs.World.{PlainQueue, PlainWorld, Everywhere, Opens};
 ghost use Rattle.device_model.specs.Events.{Event as AnEvent};
-ghost use Rattle.device_model.specs.Transitions.{Transition, action_of, event_of};
+ghost use Rattle.device_model.specs.Transitions.{Transition, action_of, completion_of, event_of};
 ghost use Rattle.device_model.specs.After.{after};
 ghost use Rattle.device_model.specs.Happens.{
   Happens,
@@ -42,13 +43,24 @@ ghost use Rattle.device_model.specs.Standing.{
   BuffersAreOutstanding,
   AreAtWork,
   AreBehind,
+  AreNamedThere,
   HaveRoom,
   FunctionIsThere,
   IsToCheck,
 };
 ghost use Rattle.device_model.specs.Applies.{Applies};
 ghost use Rattle.device_model.specs.Turns.{Turns, IsStep};
-ghost use Rattle.device_model.specs.Laws.{AreApart, IsUsedBy, NoneIsUsed, memory_after, jobs_out, brings, ends};
+ghost use Rattle.device_model.specs.Laws.{
+  AreApart,
+  IsUsedBy,
+  NoneIsUsed,
+  IsCountedBy,
+  NoneIsCounted,
+  memory_after,
+  jobs_out,
+  brings,
+  ends,
+};
 
 /// A device that was just opened is reached by the empty trace. A run behind a reached trace is reached by both. So a
 /// law over all reached traces speaks of every moment of every run.
@@ -82,7 +94,7 @@ pub fn each_transition_does_its_part()
     ensures unit { (w : PlainWorld) (d : Transition) → Happens d w → Under (unit_of d) (λ i. (u : PlainUnit)
         × (slice_get w.units i ≡ Some u) × AsksUnit d u × (slice_get (after d w).units i ≡ Some (unit_after d u))) }
     ensures queue { (w : PlainWorld) (d : Transition) → Happens d w → Under (queue_of d) (λ i. (q : PlainQueue)
-        × (slice_get w.queues i ≡ Some q) × AsksQueue w.inventory w.missed d q w.memory
+        × (slice_get w.queues i ≡ Some q) × AsksQueue w.shared w.inventory w.missed d q w.memory
         × (slice_get (after d w).queues i ≡ Some (queue_after d w.memory q))) }
     ensures memory { (w : PlainWorld) (d : Transition) → (after d w).memory ≡ bytes_after d w.memory }
 {}
@@ -112,6 +124,17 @@ pub fn an_answer_uses_its_chain()
         IsUsedBy t w (after d w) }
     ensures none { (w : PlainWorld) (d : Transition) → Happens d w → (action_of d).answered ≡ None →
         NoneIsUsed w (after d w) }
+{}
+
+/// A completion counts a notice where the driver wants one, by the memory that was seen behind its writes; nothing else
+/// counts one. A memory of the device's own is seen as these writes left it.
+pub fn a_completion_counts_its_notice()
+    ensures counted { (w : PlainWorld) (d : Transition) (t : Ticket) (xs : Completion) → Happens d w →
+        (action_of d).answered ≡ Some t → completion_of d ≡ Some xs → IsCountedBy t xs.seen w (after d w) }
+    ensures none { (w : PlainWorld) (d : Transition) → Happens d w → (action_of d).answered ≡ None →
+        NoneIsCounted w (after d w) }
+    ensures own { (w : PlainWorld) (d : Transition) (xs : Completion) → w.shared ≡ false → Happens d w →
+        completion_of d ≡ Some xs → xs.seen ≡ (after d w).memory }
 {}
 
 /// No job is lost or made between a unit and its answer. A seat's list, its hand and the hand-off keep the jobs that
@@ -186,6 +209,12 @@ pub fn tasks_are_at_work()
 /// has its ticket or a later one of its queue. So no unit finds it stale.
 pub fn tickets_rise()
     ensures { (old : PlainWorld) (trace : List Occurrence) (w : PlainWorld) → Reached old trace w → AreBehind w }
+{}
+
+/// A request that arrived names the unit that it is for, in every world that is reached. So no unit finds that it names
+/// another.
+pub fn requests_come_to_their_units()
+    ensures { (old : PlainWorld) (trace : List Occurrence) (w : PlainWorld) → Reached old trace w → AreNamedThere w }
 {}
 
 /// No seat has more jobs than the units' task sets have places, in every world that is reached. The jobs that a seat

@@ -5,6 +5,7 @@
 
 mod event;
 pub mod laws;
+pub mod live_laws;
 pub mod settling_laws;
 pub mod trace_laws;
 

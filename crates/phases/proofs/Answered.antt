@@ -12,6 +12,7 @@ use Rattle.unit_model.specs.Jobs.{PlainJob}
 use Rattle.unit_history.specs.Endings.{ending_of}
 use Rattle.unit_history.specs.declared.outcomes.Outcome as answers
 use Rattle.device_model.specs.Parts.{Outcome, Hand, lengths_of}
+use Rattle.device_model.proofs.Seeing.{seen_as_left}
 use Rattle.queues.specs.Queue.{BareQueue, completing}
 use Rattle.phases.specs.Answering.{Answers}
 use Rattle.phases.specs.Direct.{decided_writes}
@@ -29,7 +30,7 @@ used q m x o = completing (written q m x o) x.chain q
 -- what answers a job, from plain parts
 answers_plainly : (x : PlainJob) (o : Outcome) (q : BareQueue) (m : List ℕ)
     → Answers (Hand.Done x o) q m true (used q m x o) (written q m x o) (Hand.Answered x.unit x.chain.ticket)
-answers_plainly x o q m = (λ k inventory s. record { asks = λ missed. refl; queue = refl; memory = refl }, refl)
+answers_plainly x o q m = (λ k inventory s. record { asks = λ shared missed. (refl, seen_as_left shared (written q m x o)); queue = refl; memory = refl }, refl)
 
 -- a job that ended so is answered by its ending
 pub answered_so : (x : PlainJob) (e : Ending) (q q' : BareQueue) (m n m' : List ℕ) (len : ℕ) (c : PlainChain) (place : ℕ)

@@ -5,10 +5,11 @@ use Rattle.ring_core.specs.Fetch.{Takes}
 use Rattle.ring_core.specs.Writes.{Write, all_written}
 use Rattle.ring_core.specs.declared.log.Ticket.{Ticket}
 use Rattle.event_queue.specs.Port.{PlainPort}
-use Rattle.device_model.specs.Parts.{PlainFetch, Slot, answer_writes, is_short}
+use Rattle.device_model.specs.Parts.{PlainFetch, Slot, as_left, answer_writes, is_short}
 use Rattle.device_model.specs.Transitions.{Transition}
 use Rattle.device_model.specs.After.{with_chain}
 use Rattle.device_model.specs.Happens.{spent_bytes}
+use Rattle.device_model.proofs.Seeing.{seen_as_left}
 use Rattle.queues.specs.Queue.{BareQueue, completing}
 use Rattle.phases.specs.Queue.{with_slot}
 use Rattle.queues.specs.Looking.{Breaks}
@@ -49,7 +50,7 @@ module _ (old new : BareQueue) (m : List ℕ) (c : PlainChain) (bytes : List ℕ
     Transition.Hold fetch,
     of_queue,
     record {
-      asks = λ inventory. (gives, held);
+      asks = λ shared inventory. (gives, held);
       queue = ap (with_slot s) (stays.queue ∙ is_accepted);
       memory = stays.memory;
       port = port;
@@ -58,10 +59,10 @@ module _ (old new : BareQueue) (m : List ℕ) (c : PlainChain) (bytes : List ℕ
   buffer_taken q' m' p' true spent (uses, port) =
       let memory : m' ≡ all_written m writes =
       uses.memory ∙ ap (λ (n : BareQueue). all_written m (answer_writes n.ring c (spent_bytes c))) is_accepted in (
-        Transition.UseBuffer fetch writes,
+        Transition.UseBuffer fetch (as_left m writes),
         of_queue,
         record {
-          asks = λ inventory. (gives, spent, refl);
+          asks = λ shared inventory. (gives, spent, refl, seen_as_left shared (all_written m writes));
           queue =
               ap (with_slot s)
               (uses.queue
@@ -77,7 +78,7 @@ pub broken_at_port : (old new : BareQueue) (m : List ℕ) (s : Slot) (p : PlainP
     → DoesAtPort (Transition.Break old.ring.queue b.fault) (with_slot s old) m p (with_slot s new) m p
 broken_at_port old new m s p b =
     record {
-      asks = λ inventory. (b.whole, b.offered);
+      asks = λ shared inventory. (b.whole, b.offered);
       queue = ap (with_slot s) b.after;
       memory = refl;
       port = refl;

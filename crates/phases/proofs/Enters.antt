@@ -23,21 +23,21 @@ module _ (x : PlainJob) (u v : PlainUnit) (out : Jobs) where
   -- its job is handed out
   pub runs : (job : PlainJob) → Enters u x (entered.Run job) v
       → EntersAs x u out v Slot.Empty (with_more (job ∷ []) out)
-  runs job (is, free, step) =
-      (Transition.Run x, refl, record { asks = (step.may, free); is = step.is }, refl, with_one out x job is)
+  runs job (is, named, free, step) =
+      (Transition.Run x, refl, record { asks = (named, step.may, free); is = step.is }, refl, with_one out x job is)
 
   -- its job is kept
   pub parks : Enters u x entered.Parked v → EntersAs x u out v Slot.Empty out
-  parks (blocked, may, is) =
-      (Transition.Park x, refl, record { asks = (may, blocked); is = is }, refl, with_none out)
+  parks (named, blocked, may, is) =
+      (Transition.Park x, refl, record { asks = (named, may, blocked); is = is }, refl, with_none out)
 
   -- the unit is full
   pub overflows : (job : PlainJob) → Enters u x (entered.Full job) v
       → EntersAs x u out v (Slot.Direct job.chain (Outcome.Ended Ending.Full)) out
-  overflows job (is, step) = (
+  overflows job (is, named, step) = (
     Transition.EnterFull x,
     refl,
-    record { asks = step.may; is = step.is },
+    record { asks = (named, step.may); is = step.is },
     ap (λ (j : PlainJob). Slot.Direct j.chain (Outcome.Ended Ending.Full)) is,
     with_none out,
   )
@@ -45,15 +45,15 @@ module _ (x : PlainJob) (u v : PlainUnit) (out : Jobs) where
   -- the unit was refused memory
   pub sheds : (job : PlainJob) → Enters u x (entered.Busy job) v
       → EntersAs x u out v (Slot.Direct job.chain (Outcome.Ended Ending.Busy)) out
-  sheds job (is, fresh, same) = (
+  sheds job (is, named, fresh, same) = (
     Transition.EnterBusy x,
     refl,
-    record { asks = fresh; is = same },
+    record { asks = (named, fresh); is = same },
     ap (λ (j : PlainJob). Slot.Direct j.chain (Outcome.Ended Ending.Busy)) is,
     with_none out,
   )
 
-  -- the unit saw a later ticket
+  -- the unit isn't the one that is named, or it saw a later ticket
   pub stalls : (job : PlainJob) → Enters u x (entered.Stale job) v
       → EntersAs x u out v (Slot.Direct job.chain (Outcome.Ended Ending.Lost)) out
   stalls job (is, late, same) = (

@@ -60,7 +60,7 @@ module _ (inventory : List Address) (old new : BareQueue) (m : List ℕ) (c : Pl
     Transition.Arrive fetch x,
     of_queue,
     record {
-      asks = λ missed. (gives, arrives.0, arrives.1, arrives.2);
+      asks = λ shared missed. (gives, arrives.0, arrives.1, arrives.2, arrives.3);
       queue = left (Slot.Arrived x);
       memory = refl;
     },
@@ -73,7 +73,7 @@ module _ (inventory : List Address) (old new : BareQueue) (m : List ℕ) (c : Pl
         Transition.Refuse fetch a,
         of_queue,
         record {
-          asks = λ missed. (gives, request_direct inventory c.ticket.queue fetch a two_of decides);
+          asks = λ shared missed. (gives, request_direct inventory c.ticket.queue fetch a two_of decides);
           queue = ap (λ (x : Slot). with_slot x new) ready ∙ left (Slot.Direct c (Outcome.Decided a));
           memory = refl;
         },
@@ -88,7 +88,7 @@ module _ (inventory : List Address) (old new : BareQueue) (m : List ℕ) (c : Pl
         Transition.Refuse fetch a,
         of_queue ∙ control,
         record {
-          asks = λ missed. (gives, control_direct inventory c.ticket.queue fetch a (of_queue ∙ control) decides);
+          asks = λ shared missed. (gives, control_direct inventory c.ticket.queue fetch a (of_queue ∙ control) decides);
           queue = ap (λ (x : Slot). with_slot x new) ready ∙ left (Slot.Direct c (Outcome.Decided a));
           memory = refl;
         },
@@ -99,7 +99,7 @@ module _ (inventory : List Address) (old new : BareQueue) (m : List ℕ) (c : Pl
         Transition.Open fetch g,
         of_queue ∙ control,
         record {
-          asks = λ missed. (gives, decides);
+          asks = λ shared missed. (gives, decides);
           queue = ap (λ (x : Slot). with_slot x new) stays ∙ left s;
           memory = refl;
         },
@@ -111,7 +111,7 @@ pub broken : (inventory : List Address) (old new : BareQueue) (m : List ℕ) (s 
     → DoesQueue inventory (Transition.Break old.ring.queue b.fault) (with_slot s old) m (with_slot s new) m
 broken inventory old new m s b =
     record {
-      asks = λ missed. (b.whole, b.offered);
+      asks = λ shared missed. (b.whole, b.offered);
       queue = ap (with_slot s) b.after;
       memory = refl;
     }

@@ -4,7 +4,7 @@ use Rattle.scsi_codec.specs.ControlQueue.{function_bytes}
 use Rattle.ring_core.specs.State.{RingState, PlainChain}
 use Rattle.ring_core.specs.Writes.{Write}
 use Rattle.task_mgmt.specs.Functions.{is_over, response_of}
-use Rattle.device_model.specs.Parts.{Outcome, Slot, lengths_of, bytes_of, answer_writes}
+use Rattle.device_model.specs.Parts.{Outcome, Slot, as_left, lengths_of, bytes_of, answer_writes}
 use Rattle.device_model.specs.World.{Opened}
 use Rattle.device_model.specs.Transitions.{Transition}
 use Rattle.queues.specs.Queue.{BareQueue, MayComplete}
@@ -27,7 +27,7 @@ pub record LetsGo (q : BareQueue) (m : List ℕ) (c : PlainChain) (q' : BareQueu
 
 abbrev pub Directs : Slot → BareQueue → List ℕ → Bool → BareQueue → List ℕ → Slot → Type 0
 Directs (Slot.Direct c o) q m true q' m' s' =
-    ((inventory : List _) → DoesQueue inventory (Transition.Direct c o (decided_writes q.ring c o))
+    ((inventory : List _) → DoesQueue inventory (Transition.Direct c o (as_left m (decided_writes q.ring c o)))
     (with_slot (Slot.Direct c o) q) m (with_slot s' q') m') × (s' ≡ Slot.Empty)
 Directs (Slot.Direct c o) q m false q' m' s' = LetsGo q m c q' m' × (s' ≡ Slot.Empty)
 Directs s q m true q' m' s' = ⊥
@@ -36,7 +36,7 @@ Directs s q m false q' m' s' = StaysQueue q q' m m' × (s' ≡ s)
 abbrev pub RespondsWhere : Bool → Opened → BareQueue → List ℕ → Bool → BareQueue → List ℕ → Option Opened → Type 0
 RespondsWhere true f q m true q' m' f' =
     AtQueue (Transition.Respond f.chain (response_of f.function)
-    (answer_writes q.ring f.chain (function_bytes (response_of f.function)))) q m q' m' × (f' ≡ None)
+    (as_left m (answer_writes q.ring f.chain (function_bytes (response_of f.function))))) q m q' m' × (f' ≡ None)
 RespondsWhere true f q m false q' m' f' = LetsGo q m f.chain q' m' × (f' ≡ None)
 RespondsWhere false f q m true q' m' f' = ⊥
 RespondsWhere false f q m false q' m' f' = StaysQueue q q' m m' × (f' ≡ Some f)

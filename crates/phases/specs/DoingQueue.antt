@@ -11,7 +11,7 @@ use Rattle.phases.specs.Queue.{with_slot}
 -- a transition on a queue with memory, where these units are
 pub record DoesQueue (inventory : List Address) (d : Transition) (q : PlainQueue) (m : List ℕ) (q' : PlainQueue)
     (m' : List ℕ) : Type 0 where
-  pub asks : (missed : Bool) → AsksQueue inventory missed d q m
+  pub asks : (shared missed : Bool) → AsksQueue shared inventory missed d q m
   pub queue : q' ≡ queue_after d m q
   pub memory : m' ≡ bytes_after d m
 

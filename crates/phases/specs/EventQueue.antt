@@ -8,7 +8,7 @@ use Rattle.ring_core.specs.State.{PlainChain}
 use Rattle.ring_core.specs.Writes.{all_written}
 use Rattle.ring_core.specs.Offer.{MayLackMemory}
 use Rattle.event_queue.specs.Port.{PlainPort}
-use Rattle.device_model.specs.Parts.{answer_writes, is_short}
+use Rattle.device_model.specs.Parts.{answer_writes, as_left, is_short}
 use Rattle.device_model.specs.World.{PlainQueue}
 use Rattle.device_model.specs.Transitions.{Transition}
 use Rattle.device_model.specs.Happens.{spent_bytes}
@@ -38,7 +38,7 @@ port_after d p = p
 -- a transition on the queue with memory and the port, which says whether an event was missed, whatever units there are
 pub record DoesAtPort (d : Transition) (q : PlainQueue) (m : List ℕ) (p : PlainPort) (q' : PlainQueue) (m' : List ℕ)
     (p' : PlainPort) : Type 0 where
-  pub asks : (inventory : List Address) → AsksQueue inventory p.missed d q m
+  pub asks : (shared : Bool) (inventory : List Address) → AsksQueue shared inventory p.missed d q m
   pub queue : q' ≡ queue_after d m q
   pub memory : m' ≡ bytes_after d m
   pub port : p' ≡ port_after d p
@@ -79,8 +79,8 @@ abbrev pub RaisesTo : List PlainChain → Report → List Report → BareQueue �
     → PlainPort
     → List Report → Type 0
 RaisesTo (c ∷ more) e later q m p true q' m' p' w' =
-    AtQueue (Transition.Give e c (answer_writes q.ring c (event_bytes e))) q m q' m'
-    × (p' ≡ port_after (Transition.Give e c (answer_writes q.ring c (event_bytes e))) p) × (w' ≡ later)
+    AtQueue (Transition.Give e c (as_left m (answer_writes q.ring c (event_bytes e)))) q m q' m'
+    × (p' ≡ port_after (Transition.Give e c (as_left m (answer_writes q.ring c (event_bytes e)))) p) × (w' ≡ later)
 RaisesTo (c ∷ more) e later q m p false q' m' p' w' =
     (MayComplete q m c → ⊥) × StaysRaised q m p (e ∷ later) q' m' p' w'
 RaisesTo [] e later q m p true q' m' p' w' = StaysQueue q q' m m' × (p' ≡ port_after (Transition.Miss e) p) × (w' ≡ later)

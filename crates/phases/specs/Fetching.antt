@@ -1,5 +1,5 @@
 -- What a fetch does: of a request queue, and of the control queue.
-use Rattle.std.specs.Prelude.{ℕ, ◌≡◌, ◌≤◌, ◌⊎◌, Bool, true, false, List, length, Option, Some, None, Result, Ok, Err}
+use Rattle.std.specs.Prelude.{ℕ, ◌≡◌, ◌≤◌, ◌⊎◌, Bool, true, false, List, length, Option, Some, None, slice_get, Result, Ok, Err}
 use Rattle.block_store.specs.declared.NoMemory.{NoMemory}
 use Rattle.scsi_codec.specs.declared.lun.Address.{Address}
 use Rattle.ring_core.specs.Offer.{Offers, Nothing, MayLackMemory}
@@ -30,6 +30,7 @@ Arrives inventory c bytes Slot.Empty = ⊥
 Arrives inventory c bytes (Slot.Arrived x) =
     (x.chain ≡ c) × (x.entry.ticket ≡ c.ticket)
     × DecidesRequest inventory (record { chain = c; bytes = bytes }) (decision.Enter x.unit (request_of x.entry))
+    × (slice_get inventory x.unit ≡ Some x.address)
 Arrives inventory c bytes (Slot.Direct d o) =
     (a : List ℕ) × (d ≡ c) × (o ≡ Outcome.Decided a)
     × DecidesRequest inventory (record { chain = c; bytes = bytes }) (decision.Direct a)

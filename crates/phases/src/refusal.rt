@@ -7,6 +7,6 @@ pub enum Refusal {
     Full,
     /// Memory was refused.
     Busy,
-    /// A later ticket of its queue had come before, which never happens in one device.
+    /// It names another unit, or a later ticket of its queue had come before. Neither ever happens in one device.
     Stale,
 }

@@ -46,7 +46,8 @@ fn decided(inventory: &Inventory, fetched: Fetched, slot: &mut Slot) -> Taken
         }
         Decision::Enter(unit, request) => {
             chain.keep_room(bytes);
-            Taken::Arrived(Arrival::new(unit, chain, request))
+            let address = inventory.as_slice()[unit];
+            Taken::Arrived(Arrival::new(unit, address, chain, request))
         }
     }
 }

@@ -11,6 +11,7 @@ use cdb::Command;
 use decisions::{ChainLengths, TaskAttribute, UnitRequest};
 use record::Record;
 use ring_core::{Chain, Ticket};
+use scsi_codec::Address;
 use std::alloc::{AllocError, Global};
 use std::collections::VecDeque;
 use std::marker::Model;
@@ -20,6 +21,7 @@ use std::marker::Model;
 #[derive(Drop)]
 pub struct Arrival {
     unit: usize,
+    address: Address,
     chain: Chain,
     request: UnitRequest,
 }
@@ -30,20 +32,26 @@ impl Model for Arrival {
 
     ghost Value = { PlainJob };
 
-    ghost view = { λ a. record { unit = a.unit; chain = a.chain; entry = entry_of a.chain.ticket a.request } };
+    ghost view = { λ a. record { unit = a.unit; address = a.address; chain = a.chain; entry = entry_of a.chain.ticket a.request } };
 
     ghost invariant = { λ a. HasRoom a.chain a.request.command };
 }
 
 impl Arrival {
-    /// Makes the request of a chain, for the unit at this index of the inventory. The chain has room for its answer:
-    /// the decision that the request goes to a unit tested that.
-    pub fn new(unit: usize, chain: Chain, request: UnitRequest) -> Arrival
+    /// Makes the request of a chain, for the unit at this index of the inventory, which has this address there. The
+    /// chain has room for its answer: the decision that the request goes to a unit tested that.
+    pub fn new(unit: usize, address: Address, chain: Chain, request: UnitRequest) -> Arrival
         requires { HasRoom chain request.command }
-        ensures { result ≡ record { unit = unit; chain = chain; entry = entry_of chain.ticket request } }
+        ensures { result ≡ record {
+          unit = unit;
+          address = address;
+          chain = chain;
+          entry = entry_of chain.ticket request;
+        } }
     {
         Arrival {
             unit,
+            address,
             chain,
             request,
         }
@@ -54,6 +62,14 @@ impl Arrival {
         ensures { result ≡ self.now.unit }
     {
         self.unit
+    }
+
+    /// Returns the address of the unit that it names.
+    #[inline(always)]
+    pub fn address(&self) -> Address
+        ensures { result ≡ self.now.address }
+    {
+        self.address
     }
 
     /// Returns the ticket of its chain.
@@ -131,11 +147,13 @@ impl Arrival {
     {
         let Arrival {
             unit,
+            address,
             chain,
             request,
         } = self;
         let job = Job {
             unit,
+            address,
             chain,
             id: request.id(),
             attribute: request.attribute(),
@@ -159,6 +177,7 @@ impl Arrival {
 #[derive(Drop)]
 pub struct Job {
     unit: usize,
+    address: Address,
     chain: Chain,
     id: u64,
     attribute: TaskAttribute,
@@ -173,6 +192,7 @@ impl Model for Job {
 
     ghost view = { λ j. record {
       unit = j.unit;
+      address = j.address;
       chain = j.chain;
       entry = record {
         ticket = j.chain.ticket;

@@ -7,6 +7,7 @@ use Rattle.unit_attention.specs.declared.code.Code.{Code}
 use Rattle.unit_model.specs.Steps.{Step, floor}
 use Rattle.unit_model.specs.Contents.{Opening}
 use Rattle.unit_model.specs.Jobs.{PlainJob}
+use Rattle.unit_model.specs.Receipts.{unit_address}
 use Rattle.task_set.specs.Tasks.{PlainTask, parked_of, entering, run_at_once}
 use Rattle.unit_history.specs.Calls.{Enters, entered_of}
 use Rattle.unit_history.specs.LastTickets.{floor_kept}
@@ -33,12 +34,14 @@ module _ {o : Opening} {past : List Step} {block_at : Blocks} {pending : List Co
   not_stale t b is above = subst (λ n. n ≤ t.number) (k.floors t.queue) (ltb-false t.number (floor_kept last_tickets t.queue) (sym is ∙ above))
 
   -- as many tasks as there may be are alive
-  pub enters_full : (j : PlainJob) (steps' : List Step) (keeps keeps' : Bool) → length tasks ≡ 64 → floor j.entry.ticket.queue past ≤ j.entry.ticket.number
+  pub enters_full : (j : PlainJob) (steps' : List Step) (keeps keeps' : Bool) → j.address ≡ unit_address o
+      → length tasks ≡ 64 → floor j.entry.ticket.queue past ≤ j.entry.ticket.number
       → steps' ≡ Step.Full j.entry.ticket ∷ past → keeps' ≡ keeps
       → Enters (record { opening = o; steps = past; parked = parked_of tasks; keeps_replies = keeps }) j (entered.Full j)
       (record { opening = o; steps = steps'; parked = parked_of tasks; keeps_replies = keeps' })
-  enters_full j steps' keeps keeps' full le steps kept = (
+  enters_full j steps' keeps keeps' named full le steps kept = (
     refl,
+    named,
     record {
       may = may_full k j.entry.ticket full le;
       is = same_unit o _ steps' _ _ keeps keeps' steps (parked_full past tasks j.entry.ticket) kept;
@@ -46,21 +49,24 @@ module _ {o : Opening} {past : List Step} {block_at : Blocks} {pending : List Co
   )
 
   -- its task enters, and its job is handed out where nothing blocks it
-  pub enters_task : (j : PlainJob) (x : Option PlainJob) (place : ℕ) (steps' : List Step) (keeps keeps' : Bool) → length tasks < 64
+  pub enters_task : (j : PlainJob) (x : Option PlainJob) (place : ℕ) (steps' : List Step) (keeps keeps' : Bool)
+      → j.address ≡ unit_address o → length tasks < 64
       → floor j.entry.ticket.queue past ≤ j.entry.ticket.number → x ≡ run_at_once tasks j → steps' ≡ Step.Enter j.entry ∷ past → keeps' ≡ keeps
       → Enters (record { opening = o; steps = past; parked = parked_of tasks; keeps_replies = keeps }) j (entered_of x)
       (record { opening = o; steps = steps'; parked = parked_of (tasks ++ entering place tasks j ∷ []); keeps_replies = keeps' })
-  enters_task j (Some now) place steps' keeps keeps' few le run steps kept =
+  enters_task j (Some now) place steps' keeps keeps' named few le run steps kept =
       let free = run_free o past block_at pending tasks last_tickets room j now k (sym run) in (
         free.0,
+        named,
         free.1,
         record {
           may = may_enter k j.entry few le;
           is = same_unit o _ steps' _ _ keeps keeps' steps (parked_run o past block_at pending tasks last_tickets room place j k free.1) kept;
         },
       )
-  enters_task j None place steps' keeps keeps' few le run steps kept =
+  enters_task j None place steps' keeps keeps' named few le run steps kept =
       let blocked = run_blocked o past block_at pending tasks last_tickets room j k (sym run) in (
+        named,
         blocked,
         may_enter k j.entry few le,
         same_unit o _ steps' _ _ keeps keeps' steps (parked_blocked o past block_at pending tasks last_tickets room place j k blocked) kept,

@@ -1,5 +1,5 @@
 -- What the calls of a unit answer, by cases.
-use Rattle.std.specs.Prelude.{ℕ, ◌≡◌, ◌<◌, ◌≤◌, true, false, ◌||◌, List, ◌∷◌, Option, Some, None, IsTrue, ⊤}
+use Rattle.std.specs.Prelude.{ℕ, ◌≡◌, ◌≤◌, true, false, ◌||◌, List, ◌∷◌, Option, Some, None, IsTrue, ⊤}
 use Rattle.ring_core.specs.declared.log.Ticket.{Ticket}
 use Rattle.unit_model.specs.Tasks.{Entry, task_of, is_blocked}
 use Rattle.unit_model.specs.Steps.{Step, alive, done, floor}
@@ -9,7 +9,7 @@ use Rattle.unit_model.specs.Lawful.{IsReady, May}
 use Rattle.unit_model.specs.Receipts.{receipt_of}
 use Rattle.unit_model.specs.Jobs.{PlainJob}
 use Rattle.unit_model.specs.Unit.{PlainUnit, parking, Steps}
-use Rattle.unit_model.specs.Asking.{IsOf, CannotCommit}
+use Rattle.unit_model.specs.Asking.{IsOf, IsNamed, IsMisdelivered, CannotCommit}
 use Rattle.replies.specs.Memory.{may_run_short}
 use Rattle.unit_history.specs.declared.outcomes.Entered.{Entered}
 use Rattle.unit_history.specs.declared.outcomes.Entered.TheVariants as entered
@@ -23,21 +23,22 @@ abbrev pub entered_of : Option PlainJob → Entered
 entered_of (Some job) = entered.Run job
 entered_of None = entered.Parked
 
--- the job is handed out where nothing blocks its task, and else kept; TASK SET FULL, want of memory and a ticket that
--- isn't above the last of its queue give it back
+-- a request enters the unit that it names and no other: the job is handed out where nothing blocks its task, and else
+-- kept; TASK SET FULL and want of memory give it back, and so does a unit that isn't named, or that saw a later ticket of
+-- its queue
 abbrev pub Enters : PlainUnit → PlainJob → Entered → PlainUnit → Type 0
 Enters old j (entered.Run job) new =
-    (job ≡ j) × (is_blocked j.entry (alive (Step.Enter j.entry ∷ old.steps)) ≡ false)
+    (job ≡ j) × IsNamed j old × (is_blocked j.entry (alive (Step.Enter j.entry ∷ old.steps)) ≡ false)
     × Steps old (Step.Enter j.entry) new
 Enters old j entered.Parked new =
-    (is_blocked j.entry (alive (Step.Enter j.entry ∷ old.steps)) ≡ true)
+    IsNamed j old × (is_blocked j.entry (alive (Step.Enter j.entry ∷ old.steps)) ≡ true)
     × May old.opening (Step.Enter j.entry) old.steps
     × (new ≡ parking j old)
-Enters old j (entered.Full job) new = (job ≡ j) × Steps old (Step.Full j.entry.ticket) new
-Enters old j (entered.Busy job) new = (job ≡ j) × (floor j.entry.ticket.queue old.steps ≤ j.entry.ticket.number)
+Enters old j (entered.Full job) new = (job ≡ j) × IsNamed j old × Steps old (Step.Full j.entry.ticket) new
+Enters old j (entered.Busy job) new = (job ≡ j) × IsNamed j old
+    × (floor j.entry.ticket.queue old.steps ≤ j.entry.ticket.number)
     × (new ≡ old)
-Enters old j (entered.Stale job) new = (job ≡ j) × (j.entry.ticket.number < floor j.entry.ticket.queue old.steps)
-    × (new ≡ old)
+Enters old j (entered.Stale job) new = (job ≡ j) × IsMisdelivered j old × (new ≡ old)
 
 -- the command runs whole and its receipt has the reply; its task was marked, and nothing changes; it is refused memory,
 -- and only a Busy stands for it; or no task of the job can take the step

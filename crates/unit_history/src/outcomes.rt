@@ -25,7 +25,7 @@ pub enum Entered {
     Full(Job),
     /// Memory was refused, and nothing changed: BUSY (SAM-5 §5.3.1).
     Busy(Job),
-    /// Its ticket is not above the last of its queue, and nothing changed.
+    /// It names another unit, or its ticket is not above the last of its queue. Nothing changed.
     Stale(Job),
 }
 

@@ -12,7 +12,7 @@ use crate::answering::Answering;
 use crate::execution::keep_larger;
 use crate::performing::{run, tell_oldest};
 use crate::recorded::{RecordedReply, RecordedStep};
-use crate::unit::{UnitState, make_way, recorded_entry};
+use crate::unit::{UnitState, has_address, make_way, recorded_entry};
 use block_commands::{UnitFacts, read_in_place};
 use block_store::{NoMemory, PagedStore, Store};
 use replies::Reply;
@@ -88,8 +88,9 @@ fn step_of_run(ticket: Ticket, ran: Result<RecordedReply, NoMemory>) -> Recorded
 
 impl UnitState {
     /// Serves a request to its end: its task enters, its command runs, its answer is written, and its task leaves.
-    /// Returns true then, and the caller uses the chain. It does so only where no task is alive, no replies are kept,
-    /// the ticket is above the last of its queue, and room for its steps was made. Else nothing is changed.
+    /// Returns true then, and the caller uses the chain. It does so only where no task is alive, the request names the
+    /// unit, no replies are kept, the ticket is above the last of its queue, and room for its steps was made. Else
+    /// nothing is changed.
     #[inline(always)]
     pub fn serve_alone<A: Answering>(&mut self, arrival: &Arrival, answering: &mut A) -> bool
         requires may { A.may_answer answering.old arrival.now }
@@ -99,6 +100,9 @@ impl UnitState {
     {
         let ticket = arrival.ticket();
         if self.tasks.len() > 0 {
+            return false;
+        }
+        if !has_address(&self.facts, arrival.address()) {
             return false;
         }
         if self.log.keeps_replies() {

@@ -1,6 +1,6 @@
 //! A logical unit.
 
-ghost use Rattle.std.specs.Prelude.{◌≡◌, ◌+◌, ◌-◌, ◌<◌, ◌≤◌, length, OnOk, OnErr};
+ghost use Rattle.std.specs.Prelude.{◌≡◌, ◌≢◌, ◌+◌, ◌-◌, ◌<◌, ◌≤◌, length, OnOk, OnErr, IsTrue, IsFalse};
 ghost use Rattle.unit_model.specs.Base.{most_before};
 ghost use Rattle.unit_model.specs.Contents.{is_capacity as may_have};
 ghost use Rattle.task_set.specs.Tasks.{seen_of};
@@ -19,6 +19,7 @@ use block_store::{NoMemory, PagedStore, Prepared, Store};
 use decisions::UnitSpec;
 use record::Record;
 use ring_core::Answered;
+use scsi_codec::Address;
 use std::alloc::{AllocError, Global};
 use std::marker::Model;
 use task_set::{Arrival, Full, JobList, TaskSet};
@@ -73,6 +74,15 @@ pub(crate) fn recorded_entry(arrival: &Arrival) -> RecordedEntry
     ensures { result ≡ arrival.now.entry }
 {
     RecordedEntry::new(arrival.ticket(), arrival.request())
+}
+
+/// Returns true if a unit of which commands are told this has the address.
+#[inline(always)]
+pub(crate) fn has_address(facts: &UnitFacts, address: Address) -> bool
+    ensures yes { IsTrue result → address ≡ record { target = facts.now.target; lun = facts.now.lun } }
+    ensures no { IsFalse result → address ≢ record { target = facts.now.target; lun = facts.now.lun } }
+{
+    address.target == facts.target && address.lun == facts.lun
 }
 
 /// Returns true if a unit may have so many blocks: 1 to 2^40.
@@ -197,11 +207,14 @@ impl UnitState {
     }
 
     /// Enters the task of a request that was fetched, in one hold of the unit's lock (SAM-5 §8.6). Refusals are tested
-    /// first to last: `Stale`, where its ticket isn't above the last of its queue; `Busy`, where room for its steps was
-    /// refused; `Full`, where 64 tasks are alive. After the first two nothing is changed.
+    /// first to last: `Stale`, where it names another unit, or its ticket isn't above the last of its queue; `Busy`,
+    /// where room for its steps was refused; `Full`, where 64 tasks are alive. After the first two nothing is changed.
     pub fn enter(&mut self, arrival: Arrival) -> Entered
         ensures { Enters self.old arrival result self.new }
     {
+        if !has_address(&self.facts, arrival.address()) {
+            return Entered::Stale(arrival.into_job());
+        }
         let ticket = arrival.ticket();
         if self.last_tickets.is_stale(ticket) {
             return Entered::Stale(arrival.into_job());

@@ -1,14 +1,16 @@
 -- Jobs as plain values.
 use Rattle.std.specs.Prelude.{ℕ, ◌+◌, ◌≤◌, ◌<◌, ◌^◌, Bool, not, is_some, List, filter}
+use Rattle.scsi_codec.specs.declared.lun.Address.{Address}
 use Rattle.cdb.specs.declared.commands.Command.{Command}
 use Rattle.cdb.specs.Need.{need_of}
 use Rattle.ring_core.specs.State.{PlainChain}
 use Rattle.ring_core.specs.Parts.{writable_total}
 use Rattle.unit_model.specs.Tasks.{Entry, task_of}
 
--- own: the index of its unit in the inventory, its chain, and the task as it entered
+-- own: the index of its unit in the inventory, the address that its request names, its chain, and the task as it entered
 pub record PlainJob : Type 0 where
   pub unit : ℕ
+  pub address : Address
   pub chain : PlainChain
   pub entry : Entry
 

@@ -4,7 +4,7 @@ use Rattle.std.specs.Prelude.{slice_get, slice_set, map}
 use Rattle.ring_core.specs.State.{Owns}
 use Rattle.ring_core.specs.Writes.{all_written}
 use Rattle.unit_model.specs.Jobs.{PlainJob}
-use Rattle.device_model.specs.Parts.{Outcome, Slot, Hand}
+use Rattle.device_model.specs.Parts.{as_left, Outcome, Slot, Hand}
 use Rattle.device_model.specs.World.{PlainQueue, Seat, PlainWorld, Everywhere, change}
 use Rattle.device_model.specs.Transitions.{Transition}
 use Rattle.device_model.specs.Events.{Event}
@@ -46,13 +46,13 @@ module _ (w : PlainWorld) (kept : List KeptSeat) (k : ℕ) (x : PlainJob) (o : O
   held = (jobs, shown w kept k (record { hand = Hand.Done x o; jobs = jobs; limit = limit }) seats at)
 
   -- the job is answered
-  answered : AtQueue (Transition.Answer k x o (decided_writes q.ring x.chain o)) q w.memory r m
+  answered : AtQueue (Transition.Answer k x o (as_left w.memory (decided_writes q.ring x.chain o))) q w.memory r m
       → h ≡ Hand.Answered x.unit x.chain.ticket
       → Turns w (Event.Answer k) true (with_queue_and_seat w m x.chain.ticket.queue (with_slot slot r) kept k
       (record { hand = h; jobs = jobs; limit = limit }))
   answered at_queue hs =
       let xs = decided_writes q.ring x.chain o in
-      let d = Transition.Answer k x o xs in
+      let d = Transition.Answer k x o (as_left w.memory xs) in
       let i = x.chain.ticket.queue in
       let does = at_queue w.inventory slot in
       let hand = Hand.Answered x.unit x.chain.ticket in
@@ -64,7 +64,7 @@ module _ (w : PlainWorld) (kept : List KeptSeat) (k : ℕ) (x : PlainJob) (o : O
       let g : PlainQueue → PlainQueue = completing (all_written w.memory xs) x.chain in
       let eq : slice_set w.queues i (with_slot slot r) ≡ change g i w.queues =
       ap (λ (z : PlainQueue). slice_set w.queues i z) does.queue ∙ set_change g i w.queues (with_slot slot q) there in
-      (d, refl, joins d w held tt (with_slot slot q, there, does.asks w.missed), moved_queue w _ _ _ _ _ _ does.memory eq es)
+      (d, refl, joins d w held tt (with_slot slot q, there, does.asks w.shared w.missed), moved_queue w _ _ _ _ _ _ does.memory eq es)
 
   -- the queue owns the chain, so it isn't let go
   must_answer : IsSound w → Everywhere (λ i (q : PlainQueue). q.ring.memory ≡ length w.memory) w.queues

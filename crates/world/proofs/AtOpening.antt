@@ -14,6 +14,8 @@ use Rattle.ring_core.specs.declared.layout.Layout.{Layout}
 use Rattle.decisions.specs.Inventory.{address_of, is_rising}
 use Rattle.decisions.specs.declared.inventory.UnitSpec.{UnitSpec}
 use Rattle.unit_model.specs.Unit.{PlainUnit}
+use Rattle.unit_model.specs.Receipts.{unit_address}
+use Rattle.scsi_codec.specs.declared.lun.Address.{Address}
 use Rattle.device_model.specs.Parts.{Slot}
 use Rattle.device_model.specs.World.{PlainQueue, PlainWorld, Seat, Everywhere, IsNewQueue, IsNewUnit, IsNewSeat, Opens}
 use Rattle.device_model.proofs.Lists.{nothing, same}
@@ -26,6 +28,7 @@ use Rattle.unit_history.specs.Disks.{opening_over, IsDiskOf}
 use Rattle.world.specs.Opening.{AreOpening, AreFresh, AreSeats, IsOpening, AreDisksOf, IsOpeningOver, over_disks, opening_unit}
 use Rattle.world.specs.Kept.{KeptSeat, seat_of, HasLists}
 use Rattle.world.specs.Sound.{AreFew, IsWhole}
+use Rattle.world.proofs.Setting.{map_get}
 use Rattle.world.specs.Sound as seen
 
 -- the item that was put at the end of a list
@@ -166,6 +169,28 @@ config_few c is =
     (nat_le 1 c.workers) (nat_le c.workers 8) (nat_le 1 c.handoff) (nat_le c.handoff 4096) (are_units c.units.items) is in
     (few_queues (form_of c.features) (size_of c) c.queues.items t.0, below 1 c.workers t.1, below c.workers 8 t.2)
 
+-- each unit has the address that stands in the inventory at its place
+addressed_open : (wanted : List UnitSpec) (inventory : List Address) (units : List PlainUnit) → AreFresh wanted units
+    → inventory ≡ map address_of wanted
+    → Everywhere (λ (i : ℕ) (u : PlainUnit). slice_get inventory i ≡ Some (unit_address u.opening)) units
+addressed_open wanted inventory units fresh is k u at =
+    let found = stands_at wanted k (omega (arith, slice_get_within units k u at, fresh.count)) in
+    let one : opening_unit (map address_of wanted) found.0 ≡ u = same (sym (fresh.each k found.0 found.1) ∙ at) in
+    ap (λ (ns : List Address). slice_get ns k) is
+    ∙ map_get address_of k wanted found.0 found.1
+    ∙ ap (λ (z : PlainUnit). Some (unit_address z.opening)) one
+
+-- and so where they are over disks
+over_addresses : (f : ℕ → Option Address) (units : List PlainUnit) (disks : List PagedStore)
+    → ((i : ℕ) (u : PlainUnit) → slice_get units i ≡ Some u → f i ≡ Some (unit_address u.opening))
+    → (i : ℕ) (u : PlainUnit) → slice_get (over_disks units disks) i ≡ Some u → f i ≡ Some (unit_address u.opening)
+over_addresses f [] disks is i u at = absurd (nothing at)
+over_addresses f (v ∷ units) [] is i u at = is i u at
+over_addresses f (v ∷ units) (disk ∷ disks) is zero u at =
+    is zero v refl ∙ ap (λ (z : PlainUnit). Some (unit_address z.opening)) (same at)
+over_addresses f (v ∷ units) (disk ∷ disks) is (suc i) u at =
+    over_addresses (λ j. f (suc j)) units disks (λ j z e. is (suc j) z e) i u at
+
 -- in the device of a configuration that is taken nothing has happened yet
 pub opens : (c : Config) (w : PlainWorld) → is_config c ≡ true → IsOpening c w → Opens w
 opens c w is o =
@@ -180,6 +205,7 @@ opens c w is o =
           (λ (k : ℕ) (u : PlainUnit). IsNewUnit u) c.units.items w.units o.units.count o.units.each
           (λ k u. record { steps = refl; parked = refl });
       there = o.units.count ∙ (sym (rw length-map refl) ∙ ap length (sym o.inventory));
+      addressed = addressed_open c.units.items w.inventory w.units o.units o.inventory;
       seats = o.idle;
       working = subst (λ n. 1 ≤ n) (sym o.workers) few.1;
       seated = o.seats ∙ ap (λ n. n + 1) (sym o.workers);
@@ -337,6 +363,7 @@ opens_over c disks w is o =
       queues = bare.queues;
       units = new_over o.bare.units disks bare.units;
       there = over_length o.bare.units disks ∙ bare.there;
+      addressed = over_addresses (λ i. slice_get o.bare.inventory i) o.bare.units disks bare.addressed;
       seats = bare.seats;
       working = bare.working;
       seated = bare.seated;

@@ -35,8 +35,9 @@ open_event w (suc i) e = tt
 module _ (w : PlainWorld) (k : ℕ) (q q' : PlainQueue) (m' : List ℕ) (p p' : PlainPort) (second : k ≡ 1)
     (at : slice_get w.queues k ≡ Some q) (held : p.buffers ≡ w.buffers) (missed : p.missed ≡ w.missed) where
   -- what the transition asks where the port's word stands for the world's
-  asked : (d : Transition) → AsksQueue w.inventory p.missed d q w.memory → AsksQueue w.inventory w.missed d q w.memory
-  asked d h = subst (λ b. AsksQueue w.inventory b d q w.memory) missed h
+  asked : (d : Transition) → AsksQueue w.shared w.inventory p.missed d q w.memory
+      → AsksQueue w.shared w.inventory w.missed d q w.memory
+  asked d h = subst (λ b. AsksQueue w.shared w.inventory b d q w.memory) missed h
 
   -- the world afterwards, where only these parts changed
   abbrev changed : List ℕ → List PlainQueue → PlainPort → PlainWorld
@@ -58,7 +59,7 @@ module _ (w : PlainWorld) (k : ℕ) (q q' : PlainQueue) (m' : List ℕ) (p p' : 
       let qs = change (taking f.chain) f.chain.ticket.queue w.queues in (
         d,
         ap (λ n. Event.Fetch n) of,
-        joins d w ((q, here, empty), of) tt (q, here, asked d (does.asks w.inventory)),
+        joins d w ((q, here, empty), of) tt (q, here, asked d (does.asks w.shared w.inventory)),
         parts_are w.memory qs _ does.memory set does.port
             ∙ ap (λ (b : List PlainChain). record w { queues = qs; buffers = b ++ f.chain ∷ []; missed = p.missed }) held
             ∙ ap (λ (b : Bool). record w { queues = qs; buffers = w.buffers ++ f.chain ∷ []; missed = b }) missed,
@@ -66,12 +67,12 @@ module _ (w : PlainWorld) (k : ℕ) (q q' : PlainQueue) (m' : List ℕ) (p p' : 
   event_transition (Transition.UseBuffer f xs) empty of does =
       let d = Transition.UseBuffer f xs in
       let here = at_number w k f.chain.ticket.queue q at (of ∙ sym second) in
-      let m = all_written w.memory xs in
-      let set = set_as (spending m f.chain) k f.chain.ticket.queue w.queues q q' at does.queue (of ∙ sym second) in
-      let qs = change (spending m f.chain) f.chain.ticket.queue w.queues in (
+      let m = all_written w.memory xs.writes in
+      let set = set_as (spending xs.seen f.chain) k f.chain.ticket.queue w.queues q q' at does.queue (of ∙ sym second) in
+      let qs = change (spending xs.seen f.chain) f.chain.ticket.queue w.queues in (
         d,
         ap (λ n. Event.Fetch n) of,
-        joins d w ((q, here, empty), of) tt (q, here, asked d (does.asks w.inventory)),
+        joins d w ((q, here, empty), of) tt (q, here, asked d (does.asks w.shared w.inventory)),
         parts_are m qs _ does.memory set does.port
             ∙ ap (λ (b : List PlainChain). record w { memory = m; queues = qs; buffers = b; missed = p.missed && is_short f.chain }) held
             ∙ ap (λ (b : Bool). record w { memory = m; queues = qs; missed = b && is_short f.chain }) missed,
@@ -83,7 +84,7 @@ module _ (w : PlainWorld) (k : ℕ) (q q' : PlainQueue) (m' : List ℕ) (p p' : 
       let qs = change (broken_by fault) n w.queues in (
         d,
         ap (λ n. Event.Fetch n) of,
-        joins d w ((q, here, empty), open_event w n of) tt (q, here, asked d (does.asks w.inventory)),
+        joins d w ((q, here, empty), open_event w n of) tt (q, here, asked d (does.asks w.shared w.inventory)),
         parts_are w.memory qs _ does.memory set does.port
             ∙ ap (λ (b : List PlainChain). record w { queues = qs; buffers = b; missed = p.missed }) held
             ∙ ap (λ (b : Bool). record w { queues = qs; missed = b }) missed,

@@ -3,7 +3,7 @@ use Rattle.std.proofs.Common.{◌≡◌, ℕ, Bool, true, false, List, [], lengt
 use Rattle.std.specs.Prelude.{slice_get, slice_set}
 use Rattle.ring_core.specs.State.{PlainChain, Owns}
 use Rattle.ring_core.specs.Writes.{all_written}
-use Rattle.device_model.specs.Parts.{Outcome, Slot}
+use Rattle.device_model.specs.Parts.{as_left, Outcome, Slot}
 use Rattle.device_model.specs.World.{PlainQueue, PlainWorld, Everywhere, change}
 use Rattle.device_model.specs.Transitions.{Transition}
 use Rattle.device_model.specs.Events.{Event}
@@ -43,7 +43,7 @@ module _ (w : PlainWorld) (i : ℕ) (d : PlainChain) (o : Outcome) (q r : BareQu
     (there : slice_get w.queues i ≡ Some (with_slot (Slot.Direct d o) q)) where
   -- the chain is answered
   directed : d.ticket.queue ≡ i
-      → DoesQueue w.inventory (Transition.Direct d o (decided_writes q.ring d o)) (with_slot (Slot.Direct d o) q) w.memory
+      → DoesQueue w.inventory (Transition.Direct d o (as_left w.memory (decided_writes q.ring d o))) (with_slot (Slot.Direct d o) q) w.memory
       (with_slot s r) m → Turns w (Event.Direct i) true (with_queue w m i (with_slot s r))
   directed is does =
       let xs = decided_writes q.ring d o in
@@ -53,10 +53,10 @@ module _ (w : PlainWorld) (i : ℕ) (d : PlainChain) (o : Outcome) (q r : BareQu
       let eq : slice_set w.queues i (with_slot s r) ≡ change g d.ticket.queue w.queues =
       ap (λ (y : PlainQueue). slice_set w.queues i y) does.queue
       ∙ (set_change g i w.queues z there ∙ ap (λ n. change g n w.queues) (sym is)) in
-      let e = Transition.Direct d o xs in (
+      let e = Transition.Direct d o (as_left w.memory xs) in (
         e,
         ap (λ n. Event.Direct n) is,
-        joins e w (z, there_d, refl) tt (z, there_d, does.asks w.missed),
+        joins e w (z, there_d, refl) tt (z, there_d, does.asks w.shared w.missed),
         moved w _ _ _ _ does.memory eq,
       )
 

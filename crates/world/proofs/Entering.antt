@@ -1,11 +1,12 @@
 -- A request that arrived comes to its unit.
-use Rattle.std.proofs.Common.{◌≡◌, ◌<◌, ◌≤◌, ◌+◌, ◌*◌, ℕ, Bool, true, false, List, [], ◌∷◌, length, Some, refl, sym, ap, ◌∙◌, subst, arith}
+use Rattle.std.proofs.Common.{◌≡◌, ◌<◌, ◌≤◌, ◌+◌, ◌*◌, ℕ, Bool, true, false, List, [], ◌∷◌, length, Some, refl, sym, ap, ◌∙◌, subst, inl, inr, arith}
 use Rattle.std.specs.Prelude.{slice_get, slice_set, map}
 use Rattle.std.proofs.Math.Path.{subst₂}
 use Rattle.unit_model.specs.Steps.{Step, floor}
 use Rattle.unit_model.specs.Endings.{Ending}
 use Rattle.unit_model.specs.Jobs.{PlainJob, Jobs}
 use Rattle.unit_model.specs.Unit.{PlainUnit, after as stepped, parking}
+use Rattle.unit_model.specs.Asking.{IsMisdelivered}
 use Rattle.device_model.specs.Parts.{Outcome, Slot}
 use Rattle.device_model.specs.World.{PlainQueue, Seat, PlainWorld, owner, change}
 use Rattle.device_model.specs.Events.{Event}
@@ -76,7 +77,7 @@ module _ (w : PlainWorld) (kept : List KeptSeat) (are : w.seats ≡ map seat_of 
   Does d = DoesUnit d u v
 
   -- each transition of the job's entering
-  entered : (d : Transition) → IsEntering x d → (x.entry.ticket.number < floor x.entry.ticket.queue u.steps → ⊥)
+  entered : (d : Transition) → IsEntering x d → (IsMisdelivered x u → ⊥)
       → Does d → slot ≡ slot_after d → out ≡ with_more (brings d) (list_of s)
       → Turns w (Event.Enter x.chain.ticket.queue) true
       (entered_in w kept x.chain.ticket.queue (slotted slot q) x.unit v n (listing out s))
@@ -141,11 +142,15 @@ enters w kept are sound limits i p n q u s n_is q_at u_at s_at slot v out (Slot.
     let behind : floor i u.steps ≤ x.entry.ticket.number =
     subst (λ z. floor i u.steps ≤ front_of z (length q.ring.log.accepted)) is
     ((sound.behind i q q_at).floors p u u_at) in
-    let fresh : x.entry.ticket.number < floor x.entry.ticket.queue u.steps → ⊥ =
-    λ late.
-    let later : x.entry.ticket.number < floor i u.steps =
-    subst (λ k. x.entry.ticket.number < floor k u.steps) (ap (λ t. t.queue) own.1.ticket ∙ own.0) late in
-    omega (arith, behind, later) in
+    let fresh : IsMisdelivered x u → ⊥ =
+    λ m.
+    elim m [
+      | inl other ↦ other (sound.named x i q u q_at is (ap (λ k. slice_get w.units k) (same place) ∙ u_at))
+      | inr late ↦
+          let later : x.entry.ticket.number < floor i u.steps =
+          subst (λ k. x.entry.ticket.number < floor k u.steps) (ap (λ t. t.queue) own.1.ticket ∙ own.0) late in
+          omega (arith, behind, later)
+    ] in
     (subst₂
     (λ i p. n ≡ owner w.workers i → slice_get w.queues i ≡ Some q → slice_get w.units p ≡ Some u
     → Turns w (Event.Enter i) true (entered_in w kept i (slotted slot q) p v n (listing out s)))

@@ -53,7 +53,7 @@ request_transition w i q q' (Transition.Arrive f x) two at empty of does =
     let d = Transition.Arrive f x in (
       d,
       ap (λ n. Event.Fetch n) of,
-      joins d w ((q, here, empty), omega (arith, two, of)) tt (q, here, does.asks w.missed),
+      joins d w ((q, here, empty), omega (arith, two, of)) tt (q, here, does.asks w.shared w.missed),
       ap (λ qs. with_queues qs w)
           (set_as (arriving f.chain (Slot.Arrived x)) i f.chain.ticket.queue w.queues q q' at does.queue of),
     )
@@ -64,7 +64,7 @@ request_transition w i q q' (Transition.Refuse f a) two at empty of does =
       d,
       ap (λ n. Event.Fetch n) of,
       joins d w ((q, here, empty), open_request w f.chain.ticket.queue above, inr above) tt
-          (q, here, does.asks w.missed),
+          (q, here, does.asks w.shared w.missed),
       ap (λ qs. with_queues qs w)
           (set_as (arriving f.chain (Slot.Direct f.chain (Outcome.Decided a))) i f.chain.ticket.queue w.queues q q' at
           does.queue of),
@@ -75,7 +75,7 @@ request_transition w i q q' (Transition.Break n fault) two at empty of does =
     let d = Transition.Break n fault in (
       d,
       ap (λ n. Event.Fetch n) of,
-      joins d w ((q, here, empty), open_request w n above) tt (q, here, does.asks w.missed),
+      joins d w ((q, here, empty), open_request w n above) tt (q, here, does.asks w.shared w.missed),
       ap (λ qs. with_queues qs w) (set_as (broken_by fault) i n w.queues q q' at does.queue of),
     )
 request_transition w i q q' d two at empty of does = absurd of
@@ -135,7 +135,7 @@ control_transition w k q q' f' (Transition.Refuse f a) first at empty none of do
       d,
       ap (λ n. Event.Fetch n) of,
       joins d w ((q, here, empty), open_at_zero w f.chain.ticket.queue of none, inl of) tt
-          (q, here, does.asks w.missed),
+          (q, here, does.asks w.shared w.missed),
       ap (λ qs. with_both qs f' w) set
           ∙ ap (λ g. with_both (change (arriving f.chain (Slot.Direct f.chain (Outcome.Decided a)))
           f.chain.ticket.queue w.queues) g w) (is ∙ sym none),
@@ -146,7 +146,7 @@ control_transition w k q q' f' (Transition.Open f g) first at empty none of does
     let set = set_as (taking f.chain) k f.chain.ticket.queue w.queues q q' at does.queue (of ∙ sym first) in (
       d,
       ap (λ n. Event.Fetch n) of,
-      joins d w ((q, here, empty), none, of) tt (q, here, does.asks w.missed),
+      joins d w ((q, here, empty), none, of) tt (q, here, does.asks w.shared w.missed),
       ap (λ qs. with_both qs f' w) set
           ∙ ap (λ o. with_both (change (taking f.chain) f.chain.ticket.queue w.queues) o w) is,
     )
@@ -156,7 +156,7 @@ control_transition w k q q' f' (Transition.Break n fault) first at empty none of
     let set = set_as (broken_by fault) k n w.queues q q' at does.queue (of ∙ sym first) in (
       d,
       ap (λ n. Event.Fetch n) of,
-      joins d w ((q, here, empty), open_at_zero w n of none) tt (q, here, does.asks w.missed),
+      joins d w ((q, here, empty), open_at_zero w n of none) tt (q, here, does.asks w.shared w.missed),
       ap (λ qs. with_both qs f' w) set
           ∙ ap (λ g. with_both (change (broken_by fault) n w.queues) g w) (is ∙ sym none),
     )

@@ -7,7 +7,7 @@ use Rattle.scsi_codec.specs.EventQueue.{event_bytes}
 use Rattle.ring_core.specs.State.{PlainChain}
 use Rattle.ring_core.specs.Writes.{all_written}
 use Rattle.event_queue.specs.Port.{PlainPort}
-use Rattle.device_model.specs.Parts.{Slot, answer_writes}
+use Rattle.device_model.specs.Parts.{as_left, Slot, answer_writes}
 use Rattle.device_model.specs.World.{PlainQueue, PlainWorld, change}
 use Rattle.device_model.specs.Events.{Event}
 use Rattle.device_model.specs.Transitions.{Transition}
@@ -71,7 +71,7 @@ module _ (w : PlainWorld) (k : ℕ) (s : Slot) (l l' : BareQueue) (m' : List ℕ
   raises_to (c ∷ more) e later true has waits fits owned h =
       let xs = answer_writes l.ring c (event_bytes e) in
       let m = all_written w.memory xs in
-      let d = Transition.Give e c xs in
+      let d = Transition.Give e c (as_left w.memory xs) in
       let does = h.0 w.inventory s in
       let first = owned.0.0 ∙ sym second in
       let here : slice_get w.queues c.ticket.queue ≡ Some (with_slot s l) = ap (λ i. slice_get w.queues i) first ∙ at in
@@ -80,7 +80,7 @@ module _ (w : PlainWorld) (k : ℕ) (s : Slot) (l l' : BareQueue) (m' : List ℕ
         d,
         refl,
         joins d w (record { later = later; waits = waits; more = more; held = sym held ∙ has }) tt
-            (with_slot s l, here, does.asks w.missed),
+            (with_slot s l, here, does.asks w.shared w.missed),
         parts_are m qs _ later does.memory set h.1 h.2
             ∙ ap (λ (b : List PlainChain). record w {
               memory = m;
@@ -134,7 +134,7 @@ to_sizes : (cs : List PlainChain) (e : Report) (later : List Report) (l l' : Bar
 to_sizes (c ∷ more) e later l l' m m' p p' x' true h =
     let xs = answer_writes l.ring c (event_bytes e) in (
       ap (λ (q : PlainQueue). q.ring.memory) (h.0 [] Slot.Empty).queue
-          ∙ keeps_memory (Transition.Give e c xs) m (with_slot Slot.Empty l),
+          ∙ keeps_memory (Transition.Give e c (as_left m xs)) m (with_slot Slot.Empty l),
       ap (λ (z : PlainPort). z.limit) h.1,
     )
 to_sizes (c ∷ more) e later l l' m m' p p' x' false h =

@@ -5,7 +5,7 @@ use Rattle.std.proofs.lemmas.Bool.{eqb-true}
 use Rattle.scsi_codec.specs.ControlQueue.{function_bytes}
 use Rattle.ring_core.specs.Writes.{all_written}
 use Rattle.task_mgmt.specs.Functions.{PlainFunction, is_over, response_of}
-use Rattle.device_model.specs.Parts.{Slot, answer_writes}
+use Rattle.device_model.specs.Parts.{as_left, Slot, answer_writes}
 use Rattle.device_model.specs.World.{PlainQueue, Opened, PlainWorld, change}
 use Rattle.device_model.specs.Events.{Event}
 use Rattle.device_model.specs.Transitions.{Transition}
@@ -86,7 +86,7 @@ where_turns w k s l l' m' f f' true true first at fits there owns over h =
     let r = response_of f.function in
     let xs = answer_writes l.ring f.chain (function_bytes r) in
     let m = all_written w.memory xs in
-    let d = Transition.Respond f.chain r xs in
+    let d = Transition.Respond f.chain r (as_left w.memory xs) in
     let does = h.0 w.inventory s in
     let none = over_left f.function over in
     let here : slice_get w.queues f.chain.ticket.queue ≡ Some (with_slot s l) =
@@ -99,7 +99,7 @@ where_turns w k s l l' m' f f' true true first at fits there owns over h =
     does.queue (owns.0 ∙ sym first) in (
       d,
       refl,
-      joins d w (record { waiting = waiting; chain = refl }, refl) tt (with_slot s l, here, does.asks w.missed),
+      joins d w (record { waiting = waiting; chain = refl }, refl) tt (with_slot s l, here, does.asks w.shared w.missed),
       ap (λ m. with_three m queues f' w) does.memory ∙ ap (λ qs. with_three m qs f' w) set
           ∙ ap (λ g. with_three m completed g w) h.1,
     )
@@ -139,7 +139,7 @@ where_memory : (over : Bool) (f : Opened) (f' : Option Opened) (l l' : BareQueue
 where_memory true f f' l l' m m' true h =
     let x = answer_writes l.ring f.chain (function_bytes (response_of f.function)) in
     ap (λ (q : PlainQueue). q.ring.memory) (h.0 [] Slot.Empty).queue
-    ∙ keeps_memory (Transition.Respond f.chain (response_of f.function) x) m (with_slot Slot.Empty l)
+    ∙ keeps_memory (Transition.Respond f.chain (response_of f.function) (as_left m x)) m (with_slot Slot.Empty l)
 where_memory true f f' l l' m m' false h = ap (λ (q : BareQueue). q.ring.memory) h.0.stays.queue
 where_memory false f f' l l' m m' true h = absurd h
 where_memory false f f' l l' m m' false h = ap (λ (q : BareQueue). q.ring.memory) h.0.queue

@@ -62,6 +62,7 @@ pub record IsOpening (c : Config) (w : PlainWorld) : Type 0 where
   pub form : Form
   pub agreed : form_of c.features ≡ Some form
   pub memory : w.memory ≡ replicate (size_of c) 0
+  pub own : w.shared ≡ false
   pub inventory : w.inventory ≡ map address_of c.units.items
   pub queues : AreOpening form (size_of c) (features_of c.features) c.queues.items w.queues
   pub units : AreFresh c.units.items w.units

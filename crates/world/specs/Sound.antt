@@ -4,7 +4,7 @@ use Rattle.unit_model.specs.Unit.{PlainUnit}
 use Rattle.device_model.specs.World.{PlainQueue, PlainWorld, Everywhere}
 use Rattle.device_model.specs.Happens.{Occurrence, Reached}
 use Rattle.device_model.specs.Lawful.{AreNumbered}
-use Rattle.device_model.specs.Standing.{AreOwned, AreAtWork, AreBehind, HaveRoom, FunctionIsThere, BuffersAreOutstanding}
+use Rattle.device_model.specs.Standing.{AreOwned, AreAtWork, AreBehind, AreNamedThere, HaveRoom, FunctionIsThere, BuffersAreOutstanding}
 
 -- some trace reached it from an opening
 pub record IsReached (w : PlainWorld) : Type 0 where
@@ -17,6 +17,7 @@ pub record IsSound (w : PlainWorld) : Type 0 where
   pub owned : AreOwned w
   pub works : AreAtWork w
   pub behind : AreBehind w
+  pub named : AreNamedThere w
   pub room : HaveRoom w
   pub function : FunctionIsThere (length w.units) w.function
   pub numbered : AreNumbered w

@@ -29,7 +29,7 @@ pub(crate) struct Device {
 }
 
 impl Model for Device {
-    ghost use Rattle.std.specs.Prelude.{map};
+    ghost use Rattle.std.specs.Prelude.{map, false};
     ghost use Rattle.device_model.specs.World.{PlainWorld};
     ghost use Rattle.world.specs.Kept.{seat_of, HasLists};
 
@@ -37,6 +37,7 @@ impl Model for Device {
 
     ghost view = { λ d. record {
       memory = d.memory;
+      shared = false;
       inventory = d.inventory;
       queues = d.bays.items;
       units = d.units.items;

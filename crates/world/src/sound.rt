@@ -4,7 +4,8 @@ ghost use Rattle.world.specs.Sound.{AreSound};
 
 use device_model::laws::{
     functions_find_their_units, held_buffers_are_outstanding, lists_have_room, logs_are_numbered,
-    parts_stay, tasks_are_at_work, tickets_rise, what_stands_is_owned,
+    parts_stay, requests_come_to_their_units, tasks_are_at_work, tickets_rise,
+    what_stands_is_owned,
 };
 
 /// Shows that all that a step rests on holds of every device that some trace reached.
@@ -14,6 +15,7 @@ pub(crate) fn all_are_sound()
     what_stands_is_owned();
     tasks_are_at_work();
     tickets_rise();
+    requests_come_to_their_units();
     lists_have_room();
     functions_find_their_units();
     logs_are_numbered();

@@ -28,6 +28,7 @@ returns c =
       form = c.in-Some.form;
       agreed = sym c.form.ensures ∙ c.in-Some.is;
       memory = c.in-Ok.ensures.zeros;
+      own = refl;
       inventory = c.new-inventory.ensures ∙ ap (λ (us : List UnitSpec). map address_of us) c.as_slice-2.ensures.value;
       queues =
           subst (λ (n : ℕ). AreOpening c.in-Some.form n (features_of c.args.config.now.features) c.args.config.now.queues.items c.in_ok-bays.bays.items) size

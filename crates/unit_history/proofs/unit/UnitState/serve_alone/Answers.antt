@@ -82,7 +82,7 @@ returns-clause-serves g c =
     (facts_of (told u.facts u.attentions) (u.store.capacity)) (unkept c.run_and_answer-ran.result) (pages.blocks_of c.run_and_answer-ran.new.store.pages)
     c.run_and_answer-ran.new.attentions (told_is c.self.invariant.kept u.facts (u.store.capacity) refl refl refl c.self.invariant.sized)
     c.run_and_answer-ran.ensures.performed c.push_three.new.self.steps steps
-    answers c.self.inside.log.keeps c.push_three.new.self.keeps keeps
+    answers c.self.inside.log.keeps c.push_three.new.self.keeps (sym c.address.ensures ∙ c.if-not-has_address.ensures.yes refl) keeps
     (c.push_three.ensures.keeps ∙ c.in-Ok-make_way.ensures.keeps ∙ keeps)
     (subst answers (ends_as _ _ _ c.run_and_answer-ran.result) c.run_and_answer-ran.ensures.answered)
     (sym c.ticket-ticket.ensures.chain ∙ own))
