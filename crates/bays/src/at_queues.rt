@@ -18,10 +18,9 @@ use block_store::NoMemory;
 use decisions::Inventory;
 use event_queue::{EventPort, WaitingEvents};
 use phases::{
-    Hand, OpenFunction, Slot, phase_answer, phase_answer_tmf, phase_direct, phase_fetch,
-    phase_fetch_control, phase_fetch_event, phase_raise,
+    Hand, Note, OpenFunction, ReceiptOrNote, Slot, phase_answer, phase_answer_tmf, phase_direct,
+    phase_fetch, phase_fetch_control, phase_fetch_event, phase_raise,
 };
-use unit_history::{Note, ReceiptOrNote};
 
 /// Takes the next chain of a request queue (`phase_fetch`), in one hold of it and of the memory. The queue's owner
 /// calls. Returns true if something changed, or `NoMemory` as the phase does.

@@ -11,9 +11,8 @@ use crate::lend::QueueBays;
 use block_store::NoMemory;
 use decisions::Inventory;
 use guest_mem::GuestMem;
-use phases::{Hand, Slot, phase_answer, phase_fetch};
+use phases::{Hand, ReceiptOrNote, Slot, phase_answer, phase_fetch};
 use queues::Queue;
-use unit_history::ReceiptOrNote;
 
 /// Runs `phase_answer` and then `phase_fetch`.
 fn answer_fetch(

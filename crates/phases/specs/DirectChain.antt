@@ -2,9 +2,9 @@
 use Rattle.std.specs.Prelude.{ℕ, List, Option, Some, None}
 use Rattle.ring_core.specs.State.{PlainChain}
 use Rattle.unit_model.specs.Endings.{Ending}
-use Rattle.unit_history.specs.Notes.{PlainNote, note_of}
-use Rattle.unit_history.specs.declared.note.Cause.{Cause}
-use Rattle.unit_history.specs.declared.note.Cause.TheVariants as cause
+use Rattle.phases.specs.Notes.{PlainNote, note_of}
+use Rattle.phases.specs.declared.note.Cause.{Cause}
+use Rattle.phases.specs.declared.note.Cause.TheVariants as cause
 use Rattle.device_model.specs.Parts.{Outcome, Slot}
 use Rattle.phases.specs.declared.refusal.Refusal.{Refusal}
 use Rattle.phases.specs.declared.refusal.Refusal.TheVariants as refusal

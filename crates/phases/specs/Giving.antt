@@ -9,10 +9,10 @@ use Rattle.unit_history.specs.declared.outcomes.Outcome.TheVariants as outcome
 use Rattle.phases.specs.Parts.{outcome_in}
 use Rattle.phases.specs.declared.hand.Hand.{Hand}
 use Rattle.phases.specs.declared.hand.Hand.TheVariants as hand
-use Rattle.unit_history.specs.declared.note.Cause.TheVariants as cause
-use Rattle.unit_history.specs.declared.receipt_or_note.ReceiptOrNote.{ReceiptOrNote}
-use Rattle.unit_history.specs.declared.receipt_or_note.ReceiptOrNote.TheVariants as given
-use Rattle.unit_history.specs.Notes.{note_of}
+use Rattle.phases.specs.declared.note.Cause.TheVariants as cause
+use Rattle.phases.specs.declared.receipt_or_note.ReceiptOrNote.{ReceiptOrNote}
+use Rattle.phases.specs.declared.receipt_or_note.ReceiptOrNote.TheVariants as given
+use Rattle.phases.specs.Notes.{note_of}
 
 -- own: a job is given the receipt of its Commit; where it has none, a note of why
 abbrev pub given_for : Ticket → answers.Outcome → ReceiptOrNote

@@ -1,6 +1,7 @@
 pub mod Queue
 pub mod DoingQueue
 pub mod Slots
+pub mod Notes
 pub mod DirectChain
 pub mod Fetching
 pub mod Taking

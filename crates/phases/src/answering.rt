@@ -10,11 +10,13 @@ ghost use Rattle.phases.specs.Answering.{Answers};
 
 use crate::hand::Hand;
 use crate::job_in_hand::JobInHand;
+use crate::note::{Cause, Note};
+use crate::receipt_or_note::ReceiptOrNote;
 use guest_mem::GuestMem;
 use queues::Queue;
 use ring_core::{Chain, Ticket};
 use std::mem;
-use unit_history::{Cause, Note, Outcome, ReceiptOrNote};
+use unit_history::Outcome;
 
 /// Writes what answers a job whose commit is over: how many bytes it has. `None` where the memory isn't the queue's, or
 /// the queue doesn't own the chain.

@@ -11,13 +11,13 @@ ghost use Rattle.phases.specs.DirectChain.{note_in};
 ghost use Rattle.phases.specs.Direct.{Directs, Responds};
 
 use crate::function::OpenFunction;
+use crate::note::Note;
 use crate::slot::Slot;
 use decisions::DirectAnswer;
 use guest_mem::GuestMem;
 use queues::{Queue, write_direct};
 use ring_core::{Answered, Chain};
 use std::mem;
-use unit_history::Note;
 
 /// Answers a chain, and uses it.
 fn answer_chain(

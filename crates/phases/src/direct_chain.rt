@@ -6,6 +6,7 @@ ghost use Rattle.device_model.specs.Parts.{Outcome, lengths_of, bytes_of};
 ghost use Rattle.phases.specs.DirectChain.{refused_as, outcome_of};
 ghost use Rattle.phases.specs.DirectChain.{cause_for};
 
+use crate::note::Cause;
 use crate::refusal::Refusal;
 use decisions::DirectAnswer;
 use replies::{BUSY, TASK_SET_FULL};
@@ -13,7 +14,6 @@ use ring_core::Chain;
 use scsi_codec::ResponseCode;
 use std::marker::Model;
 use task_set::Job;
-use unit_history::Cause;
 
 /// A chain that is to be answered, with its answer.
 #[derive(Drop)]

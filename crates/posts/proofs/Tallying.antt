@@ -6,7 +6,7 @@ use Rattle.unit_model.specs.Jobs.{PlainJob, Jobs}
 use Rattle.unit_model.specs.Unit.{PlainUnit}
 use Rattle.unit_history.specs.declared.outcomes.Outcome as answers
 use Rattle.unit_history.specs.declared.outcomes.Outcome.TheVariants as outcome
-use Rattle.unit_history.specs.declared.receipt_or_note.ReceiptOrNote.{ReceiptOrNote}
+use Rattle.phases.specs.declared.receipt_or_note.ReceiptOrNote.{ReceiptOrNote}
 use Rattle.device_model.specs.Parts.{Slot, Hand}
 use Rattle.queues.specs.Queue.{BareQueue}
 use Rattle.phases.specs.Parts.{hand_of, hand_with, committing_unit, leaving_unit}

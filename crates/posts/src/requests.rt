@@ -10,10 +10,9 @@ use crate::post::{Post, drain};
 use crate::progress::Progress;
 use crate::shared::Shared;
 use bays::{Gate, Point, direct_on, fetch_on};
-use phases::Slot;
+use phases::{ReceiptOrNote, Slot};
 use std::sync::Wait;
 use std::sync::ledger::Ledger;
-use unit_history::ReceiptOrNote;
 
 /// A worker serves at most so many requests of one queue in a row.
 const IN_A_ROW: usize = 16;

@@ -5,8 +5,8 @@ use Rattle.std.specs.List.{fold, list_all}
 use Rattle.ring_core.specs.declared.log.Ticket.{Ticket}
 use Rattle.unit_model.specs.Tasks.{same_ticket}
 use Rattle.unit_model.specs.Receipts.{Receipt}
-use Rattle.unit_history.specs.Notes.{PlainNote}
-use Rattle.unit_history.specs.declared.note.Cause.{Cause}
+use Rattle.phases.specs.Notes.{PlainNote}
+use Rattle.phases.specs.declared.note.Cause.{Cause}
 use Rattle.report.specs.declared.tally.Answer.{Answer}
 use Rattle.report.specs.declared.tally.Answer.TheVariants as answer
 use Rattle.report.specs.declared.tally.Tally.{Tally}

@@ -5,7 +5,7 @@ use Rattle.std.proofs.Crossing.{crosses}
 use Rattle.std.proofs.option.Option.TheSendSync as option
 use Rattle.unit_history.proofs.outcomes.BareReceipt.TheSendSync as receipt
 use Rattle.replies.proofs.reply.Reply.TheSendSync as reply
-use Rattle.unit_history.proofs.note.Note.TheSendSync as note
+use Rattle.phases.proofs.note.Note.TheSendSync as note
 use Rattle.report.specs.contracts.kept.Kept.{the_field, the_type}
 
 pub kept_sends : IsSend the_field.row

@@ -14,7 +14,7 @@ use Rattle.unit_model.specs.Receipts.{Receipt}
 use Rattle.unit_model.proofs.Tickets.{same-true, itself}
 use Rattle.unit_model.specs.Unit.{PlainUnit}
 use Rattle.queues.specs.Queue.{BareQueue}
-use Rattle.unit_history.specs.Notes.{PlainNote}
+use Rattle.phases.specs.Notes.{PlainNote}
 use Rattle.report.specs.declared.tally.Tally.{Tally}
 use Rattle.report.specs.Settled.{is_asked, is_used, uses, is_request, is_settled, count_accepted, any_folded}
 use Rattle.report.specs.Closed.{IsFirst, is_outstanding}

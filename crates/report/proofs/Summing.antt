@@ -13,9 +13,9 @@ use Rattle.unit_model.proofs.Tickets.{itself}
 use Rattle.unit_model.specs.Unit.{PlainUnit}
 use Rattle.decisions.specs.declared.inventory.UnitSpec.{UnitSpec}
 use Rattle.queues.specs.Queue.{BareQueue}
-use Rattle.unit_history.specs.Notes.{PlainNote}
-use Rattle.unit_history.specs.declared.note.Cause.{Cause}
-use Rattle.unit_history.specs.declared.note.Cause.TheVariants as cause
+use Rattle.phases.specs.Notes.{PlainNote}
+use Rattle.phases.specs.declared.note.Cause.{Cause}
+use Rattle.phases.specs.declared.note.Cause.TheVariants as cause
 use Rattle.report.specs.Words.{has_run}
 use Rattle.report.specs.Settled.{answers, is_asked, is_used, is_request, is_settled, is_astray, has_answer, all_left, where_entered, any_run, has_run_there, is_of, is_founded, is_right, are_right}
 use Rattle.report.specs.Opened.{AreOpenedAs, AreInPlace}

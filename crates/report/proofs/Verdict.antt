@@ -9,9 +9,9 @@ use Rattle.unit_model.specs.Steps.{alive, has_entered, has_left}
 use Rattle.unit_model.specs.Base.{base_of, kept_steps, folded_steps}
 use Rattle.unit_model.specs.Receipts.{Receipt}
 use Rattle.unit_model.specs.Unit.{PlainUnit}
-use Rattle.unit_history.specs.Notes.{PlainNote}
-use Rattle.unit_history.specs.declared.note.Cause.{Cause}
-use Rattle.unit_history.specs.declared.note.Cause.TheVariants as cause
+use Rattle.phases.specs.Notes.{PlainNote}
+use Rattle.phases.specs.declared.note.Cause.{Cause}
+use Rattle.phases.specs.declared.note.Cause.TheVariants as cause
 use Rattle.report.specs.declared.tally.Answer.{Answer}
 use Rattle.report.specs.declared.tally.Answer.TheVariants as answer
 use Rattle.report.specs.declared.tally.Tally.{Tally}

@@ -8,8 +8,8 @@ use Rattle.unit_model.specs.Base.{base_of, kept_steps}
 use Rattle.unit_model.specs.Receipts.{Receipt, IsConfirmed}
 use Rattle.unit_model.specs.Unit.{PlainUnit, IsUnit}
 use Rattle.queues.specs.Queue.{BareQueue}
-use Rattle.unit_history.specs.Notes.{PlainNote}
-use Rattle.unit_history.specs.declared.note.Cause.TheVariants as cause
+use Rattle.phases.specs.Notes.{PlainNote}
+use Rattle.phases.specs.declared.note.Cause.TheVariants as cause
 use Rattle.report.specs.declared.report.Report.{Report}
 use Rattle.report.specs.declared.fault.CloseFault.{CloseFault}
 use Rattle.report.specs.declared.fault.CloseFault.TheVariants as fault

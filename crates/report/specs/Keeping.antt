@@ -5,9 +5,9 @@ use Rattle.std.specs.Option.{option_map}
 use Rattle.replies.specs.PlainReply.{PlainReply, plain_of}
 use Rattle.replies.specs.declared.reply.Reply.{Reply}
 use Rattle.unit_model.specs.Receipts.{Receipt, longest_kept}
-use Rattle.unit_history.specs.Notes.{PlainNote}
-use Rattle.unit_history.specs.declared.receipt_or_note.ReceiptOrNote.{ReceiptOrNote}
-use Rattle.unit_history.specs.declared.receipt_or_note.ReceiptOrNote.TheVariants as given
+use Rattle.phases.specs.Notes.{PlainNote}
+use Rattle.phases.specs.declared.receipt_or_note.ReceiptOrNote.{ReceiptOrNote}
+use Rattle.phases.specs.declared.receipt_or_note.ReceiptOrNote.TheVariants as given
 use Rattle.report.specs.Rooms.{replies_kept}
 use Rattle.report.specs.declared.kept.Kept.{Kept}
 

@@ -9,9 +9,9 @@ use Rattle.unit_model.specs.Marks.{marked}
 use Rattle.unit_model.specs.Receipts.{Receipt}
 use Rattle.unit_model.specs.Unit.{PlainUnit}
 use Rattle.queues.specs.Queue.{BareQueue}
-use Rattle.unit_history.specs.Notes.{PlainNote}
-use Rattle.unit_history.specs.declared.note.Cause.{Cause}
-use Rattle.unit_history.specs.declared.note.Cause.TheVariants as cause
+use Rattle.phases.specs.Notes.{PlainNote}
+use Rattle.phases.specs.declared.note.Cause.{Cause}
+use Rattle.phases.specs.declared.note.Cause.TheVariants as cause
 use Rattle.report.specs.Words.{has_busy, has_full, has_run, has_step, in_two}
 
 -- how many chains a queue accepted, if there is one

@@ -13,9 +13,9 @@ use Rattle.unit_history.specs.Runs.{committed}
 use Rattle.unit_history.specs.declared.kind.StepKind.{StepKind}
 use Rattle.unit_history.specs.declared.kind.StepKind.TheVariants as kind
 use Rattle.queues.specs.Queue.{BareQueue}
-use Rattle.unit_history.specs.Notes.{PlainNote}
-use Rattle.unit_history.specs.declared.note.Cause.{Cause}
-use Rattle.unit_history.specs.declared.note.Cause.TheVariants as cause
+use Rattle.phases.specs.Notes.{PlainNote}
+use Rattle.phases.specs.declared.note.Cause.{Cause}
+use Rattle.phases.specs.declared.note.Cause.TheVariants as cause
 use Rattle.report.specs.Words.{is_before}
 use Rattle.report.specs.Settled.{is_request}
 use Rattle.report.specs.declared.tally.Answer.{Answer}

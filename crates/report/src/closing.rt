@@ -10,11 +10,12 @@ use crate::kept::{Kept, reply_out};
 use crate::report::Report;
 use decisions::UnitSpec;
 use guest_mem::GuestMem;
+use phases::Note;
 use queues::Queue;
 use replies::Reply;
 use std::alloc::{AllocError, Global};
 use std::sync::Mutex;
-use unit_history::{BareReceipt, Note, Receipt, UnitState};
+use unit_history::{BareReceipt, Receipt, UnitState};
 
 /// Returns the values that stood under locks.
 fn out_of_locks<T: Drop>(alloc: Global, locks: Vec<Mutex<T>>) -> Result<Vec<T>, AllocError>

@@ -8,9 +8,10 @@ ghost use Rattle.replies.specs.PlainReply.{plain_of};
 ghost use Rattle.report.specs.Keeping.{has_long, shortened, without_reply, reply_in, reply_of, receipts_of, receipts_in, KeepsReceipt, KeepsGiven};
 ghost use Rattle.report.specs.Rooms.{HasRoomForOne, replies_kept};
 
+use phases::{Note, ReceiptOrNote};
 use replies::Reply;
 use std::alloc::{AllocError, Global};
-use unit_history::{BareReceipt, LONGEST_KEPT, Note, Receipt, ReceiptOrNote};
+use unit_history::{BareReceipt, LONGEST_KEPT, Receipt};
 
 /// Gives the number of its latest receipts of which a seat has the replies.
 const REPLIES_KEPT: usize = 4096;

@@ -4,9 +4,10 @@ ghost use Rattle.std.specs.Prelude.{◌≡◌, is_some};
 ghost use Rattle.std.specs.List.{list_any};
 
 use guest_mem::GuestMem;
+use phases::Note;
 use queues::Queue;
 use ring_core::QueueLog;
-use unit_history::{Note, Receipt, UnitState};
+use unit_history::{Receipt, UnitState};
 
 /// Returns true if a fault of the guest broke a queue.
 fn is_any_broken(queues: &[Queue]) -> bool

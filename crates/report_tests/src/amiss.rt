@@ -1,10 +1,11 @@
 //! Reports with something amiss, and what is said of them.
 
 use decisions::UnitSpec;
+use phases::{Note, ReceiptOrNote};
 use report::{CloseFault, Report, examine};
 use small_device::{Parts, REFUSED, REFUSED_FIRST, RUN, RUN_ELSEWHERE, UNITS, queue, unit};
 use std::alloc::Global;
-use unit_history::{Note, Receipt, ReceiptOrNote, UnitState};
+use unit_history::{Receipt, UnitState};
 
 /// The fault of a report of a device whose queue 2 had a request that ran, and whose queue 3 had one that was refused.
 #[derive(Clone, Copy)]

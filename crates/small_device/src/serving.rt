@@ -7,9 +7,9 @@ use bays::{
 };
 use decisions::Inventory;
 use event_queue::{EventPort, WaitingEvents};
-use phases::{Hand, OpenFunction, Slot};
+use phases::{Cause, Hand, Note, OpenFunction, ReceiptOrNote, Slot};
 use std::alloc::Global;
-use unit_history::{Cause, Job, JobList, Note, ReceiptOrNote};
+use unit_history::{Job, JobList};
 
 /// A guest's request: TEST UNIT READY of a unit, by target and LUN, on a queue.
 #[derive(Clone, Copy)]

@@ -1,4 +1,3 @@
-pub mod Notes
 pub mod Kept
 pub mod Runs
 pub mod Folding

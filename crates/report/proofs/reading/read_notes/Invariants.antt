@@ -2,7 +2,7 @@ use Rattle.std.proofs.Common.{◌≡◌, take}
 use Rattle.std.specs.List.{fold}
 use Rattle.std.specs.Option.{option_map}
 use Rattle.ring_core.specs.declared.log.Ticket.{Ticket}
-use Rattle.unit_history.specs.Notes.{PlainNote}
+use Rattle.phases.specs.Notes.{PlainNote}
 use Rattle.report.specs.Closed.{IsFirst}
 use Rattle.report.specs.Tallies.{with_note, tally_at}
 use Rattle.report.specs.Sources.{stray}

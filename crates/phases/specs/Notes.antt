@@ -1,6 +1,6 @@
 -- That a request was answered without a receipt, as a plain value.
 use Rattle.ring_core.specs.declared.log.Ticket.{Ticket}
-use Rattle.unit_history.specs.declared.note.Cause.{Cause}
+use Rattle.phases.specs.declared.note.Cause.{Cause}
 
 -- own: the chain of the ticket, and why
 pub record PlainNote : Type 0 where

@@ -30,7 +30,7 @@ pub struct Note {
 }
 
 impl Model for Note {
-    ghost use Rattle.unit_history.specs.Notes.{PlainNote};
+    ghost use Rattle.phases.specs.Notes.{PlainNote};
 
     ghost Value = { PlainNote };
 
@@ -38,8 +38,8 @@ impl Model for Note {
 }
 
 impl Note {
-    /// Makes the note of a request that is answered. The phase that answers it calls.
-    pub fn new(ticket: Ticket, cause: Cause) -> Note
+    /// Makes the note of a request that is answered. The phases that answer call it, and no crate above can.
+    pub(crate) fn new(ticket: Ticket, cause: Cause) -> Note
         ensures { result ≡ record { ticket = ticket; cause = cause } }
     {
         Note { ticket, cause }
