@@ -9,6 +9,7 @@ pub mod Exact
 pub mod Exists
 pub mod Tabulated
 pub mod Scattering
+pub mod Narrowing
 pub mod RightChains
 pub mod ChainProperties
 pub mod Cases

@@ -3,6 +3,7 @@ pub mod State
 pub mod Sound
 pub mod Parts
 pub mod Writes
+pub mod Narrow
 pub mod Walk
 pub mod Walking
 pub mod Split

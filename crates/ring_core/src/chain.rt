@@ -1,5 +1,7 @@
 //! The chain that a queue hands out.
 
+mod narrow;
+
 use crate::descriptor::Part;
 use crate::log::Ticket;
 use smallvec::SmallVec;
