@@ -83,7 +83,8 @@ static bool lock_folder(int folder) {
 }
 
 // Binds under the folder's lock. The socket never has more of a mode than it is to have.
-static bool bind_locked(struct listener *listener, const struct sockaddr_un *address, int mode, uid_t user, gid_t group, char *why, size_t room) {
+static bool bind_locked(struct listener *listener, const struct sockaddr_un *address, int mode, uid_t user, gid_t group, char *why,
+                        size_t room) {
   bool stale;
   struct stat stat;
   const char *path = address->sun_path;
@@ -124,7 +125,8 @@ bool listener_take(struct listener *listener, int fd, char *why, size_t room) {
   struct sockaddr_un address;
   socklen_t room_there = sizeof address;
   listener->connected = !listens;
-  if (!listens && getpeername(fd, (struct sockaddr *)&address, &room_there)) return snprintf(why, room, "descriptor %d: no connection", fd), false;
+  bool is_loose = !listens && getpeername(fd, (struct sockaddr *)&address, &room_there);
+  if (is_loose) return snprintf(why, room, "descriptor %d: a socket that neither listens nor is connected", fd), false;
   int flags = fcntl(fd, F_GETFL);
   bool set = flags >= 0 && !fcntl(fd, F_SETFL, flags | O_NONBLOCK) && !fcntl(fd, F_SETFD, FD_CLOEXEC);
   return set || (snprintf(why, room, "descriptor %d: %s", fd, strerror(errno)), false);
@@ -133,8 +135,8 @@ bool listener_take(struct listener *listener, int fd, char *why, size_t room) {
 bool listener_close(struct listener *listener) {
   struct stat stat;
   bool gone = true;
-  if (listener->path && !lstat(listener->path, &stat) && S_ISSOCK(stat.st_mode) && stat.st_dev == listener->device && stat.st_ino == listener->inode)
-    gone = !unlinkat(AT_FDCWD, listener->path, 0);
+  bool is_there = listener->path && !lstat(listener->path, &stat) && S_ISSOCK(stat.st_mode);
+  if (is_there && stat.st_dev == listener->device && stat.st_ino == listener->inode) gone = !unlinkat(AT_FDCWD, listener->path, 0);
   int error = errno;
   if (listener->fd >= 0) close(listener->fd);
   *listener = (struct listener){.fd = -1};

@@ -62,7 +62,8 @@ static bool number(const char *word, int base, long least, long most, const char
   char *end;
   errno = 0;
   long value = strtol(word, &end, base);
-  if (*word < '0' || *word > '9' || *end || errno || value < least || value > most) return fprintf(stderr, "%s, not %s\n", wanted, word), false;
+  bool is_number = *word >= '0' && *word <= '9' && !*end && !errno;
+  if (!is_number || value < least || value > most) return fprintf(stderr, "%s, not %s\n", wanted, word), false;
   *found = (int)value;
   return true;
 }

@@ -419,12 +419,15 @@ def flood(front, count):
 
 
 def test_nobody_reads(room):
-    """A pipe that is full stops neither the daemon nor its end; its flags stay as they were."""
-    for socketed in (False, True):
-        ours, theirs = [it.detach() for it in socket.socketpair()] if socketed else os.pipe()
+    """A pipe that is full stops neither the daemon nor its end; its flags stay as they were. The same holds for a socket, and for a pipe
+    of another user's, which the daemon can't open by its name.
+    """
+    room.folder.chmod(0o777)
+    for kind in ("pipe", "socket", *(["another's pipe"] if os.geteuid() == 0 else [])):
+        ours, theirs = [it.detach() for it in socket.socketpair()] if kind == "socket" else os.pipe()
         try:
-            with room.runs("--disk", "0:0=1M", stderr=theirs):
-                if not socketed:
+            with room.runs("--disk", "0:0=1M", stderr=theirs, user=65534 if kind == "another's pipe" else None):
+                if kind != "socket":
                     fcntl.fcntl(theirs, fcntl.F_SETPIPE_SZ, 4096)
                     os.write(theirs, b"x" * 3900)
                 with connected(room.socket) as front:
@@ -451,6 +454,16 @@ def test_lines(room):
     assert 20 < len(refused) < 200 and 4900 < left_out + len(refused), (len(refused), left_out)
     assert all("session 1: " in line for line in refused)
     assert stat.S_IMODE(log.stat().st_mode) & 0o077 == 0
+
+
+def test_quiet(room):
+    """A quiet daemon says nothing of sessions."""
+    with room.runs("--disk", "0:0=1M", "--quiet") as run:
+        with connected(room.socket) as front:
+            flood(front, 100)
+        assert serves(room.socket)
+        run.terminate()
+        assert run.stderr.read() == ""
 
 
 def test_log_is_opened_again(room):
