@@ -18,6 +18,7 @@ import subprocess
 import time
 from pathlib import Path
 
+DOCS = Path(__file__).resolve().parent.parent.parent / "docs"
 MIB = 1 << 20
 GET_FEATURES, SET_OWNER = 1, 3
 # QEMU's bytes: a permission that is used is 100 and its bit, one that isn't shared 200 and its bit.
@@ -199,6 +200,15 @@ def test_words(room):
     assert all(word in usage for word in ("--socket", "--disk", "--user", "--log", "snapshot", "grow"))
     assert re.fullmatch(r"vscsi-vhost-user \d+\.\d+\S*\nwith(out)? seccomp\n", room.ends("--version", status=0))
     assert json.loads(room.ends("--print-capabilities", status=0)) == {"type": "scsi", "features": []}
+
+
+def test_documents(room):
+    """The page, the manual and --help have the same words."""
+    said = [set(re.findall(r"--[a-z][a-z-]*|\b(?:grow|snapshot|detect-zeroes)\b", text.replace("\\-", "-"))) for text in (
+        room.ends("--help", status=0),
+        (DOCS / "vscsi-vhost-user.1").read_text(),
+        (DOCS / "DAEMON.md").read_text().split("## Words")[1].split("## ")[0])]
+    assert said[0] == said[1] == said[2] and len(said[0]) > 15, [sorted(it - said[0]) + sorted(said[0] - it) for it in said]
 
 
 def test_socket_path_is_socket(room):
