@@ -4,12 +4,13 @@
 #include <fcntl.h>
 #include <linux/fs.h>
 #include <stdio.h>
-#include <stdlib.h>
 #include <string.h>
 #include <sys/file.h>
 #include <sys/ioctl.h>
 #include <sys/stat.h>
 #include <unistd.h>
+
+#include "folders.h"
 
 // Where QEMU's locks are (block/file-posix.c): who uses a permission has a byte of the first run locked for reading, and who doesn't
 // share it one of the second. WRITE_UNCHANGED (2) is shared by all.
@@ -89,12 +90,9 @@ bool images_open(struct disks *disks, char *why, size_t room) {
 
 // Waits until the entry of a new file stands in its folder.
 static bool sync_folder(const char *path) {
-  const char *slash = strrchr(path, '/');
-  char *folder = slash ? strndup(path, (size_t)(slash - path) + 1) : strdup(".");
-  int file = folder ? open(folder, O_RDONLY | O_DIRECTORY | O_CLOEXEC) : -1;
-  bool synced = file >= 0 && !fsync(file);
-  if (file >= 0) close(file);
-  free(folder);
+  int folder = folder_open(path, O_RDONLY);
+  bool synced = folder >= 0 && !fsync(folder);
+  if (folder >= 0) close(folder);
   return synced;
 }
 

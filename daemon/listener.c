@@ -3,7 +3,6 @@
 #include <errno.h>
 #include <fcntl.h>
 #include <stdio.h>
-#include <stdlib.h>
 #include <string.h>
 #include <sys/file.h>
 #include <sys/socket.h>
@@ -11,6 +10,8 @@
 #include <sys/un.h>
 #include <time.h>
 #include <unistd.h>
+
+#include "folders.h"
 
 // How often a folder's lock is tried, 50 ms apart, and how many connections wait to be looked at.
 enum { TRIES = 20, BACKLOG = 16 };
@@ -50,17 +51,14 @@ static bool is_free(const struct sockaddr_un *address, bool *stale, char *why, s
   return true;
 }
 
-// Opens the folder of a path, or answers -1 with errno.
+// Opens the folder of a path, which has to be writable. Returns -1, with errno, where it can't be.
 static int open_folder(const char *path) {
-  const char *slash = strrchr(path, '/');
-  char *folder = slash ? strndup(path, (size_t)(slash - path) + 1) : strdup(".");
-  int fd = folder ? open(folder, O_RDONLY | O_DIRECTORY | O_CLOEXEC) : -1;
-  if (fd >= 0 && faccessat(fd, ".", W_OK | X_OK, AT_EACCESS)) {
-    close(fd);
-    fd = -1;
-  }
-  free(folder);
-  return fd;
+  int fd = folder_open(path, O_RDONLY);
+  if (fd < 0 || !faccessat(fd, ".", W_OK | X_OK, AT_EACCESS)) return fd;
+  int error = errno;
+  close(fd);
+  errno = error;
+  return -1;
 }
 
 bool listener_can_bind(const char *path, char *why, size_t room) {

@@ -149,7 +149,7 @@ static bool open_all(struct daemon *daemon, char *why, size_t room) {
   if (!images_open(&daemon->disks, why, room)) return false;
   bool stands = images_make(&daemon->disks, owner.user, owner.group, why, room) && blocks_load(&daemon->disks, why, room) &&
                 (!has_path || listener_bind(&daemon->listener, options->path, options->mode, owner.user, owner.group, why, room)) &&
-                sandbox_become(&owner, why, room) && (!options->seccomp || sandbox_limit_calls(has_path, options->log, why, room));
+                sandbox_become(&owner, why, room) && (!options->limits || sandbox_limit(options->path, options->log, why, room));
   if (!stands) images_undo(&daemon->disks);
   return stands;
 }
@@ -169,8 +169,8 @@ static int run(struct daemon *daemon) {
     if (signals_end_waits()) return log_say(LOG_NOTE, NULL, "ended before it served"), 0;
     return refuse(why);
   }
-  const char *place = daemon->options.path ? daemon->options.path : "a descriptor", *limited = daemon->options.seccomp ? "" : "not ";
-  log_say(LOG_NOTE, NULL, "serves %zu disks at %s; system calls are %slimited", daemon->disks.count, place, limited);
+  const char *place = daemon->options.path ? daemon->options.path : "a descriptor";
+  log_say(LOG_NOTE, NULL, "serves %zu disks at %s; %s", daemon->disks.count, place, sandbox_limits());
   if (daemon->listener.connected) {
     begin_session(daemon, daemon->listener.fd);
     daemon->listener.fd = -1;

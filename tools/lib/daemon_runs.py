@@ -5,6 +5,7 @@ where something isn't so.
 """
 
 import contextlib
+import errno
 import fcntl
 import json
 import os
@@ -61,7 +62,7 @@ class Room:
         run = subprocess.Popen([self.program, *named, *words], stderr=stderr, text=True, **more)
         try:
             if named:
-                wait_for(lambda: run.poll() is not None or listens(path), "the daemon to listen")
+                wait_for(lambda: run.poll() is not None or (path.exists() and listens(path)), "the daemon to listen")
                 assert run.poll() is None, f"{words}: status {run.returncode}, {run.stderr.read() if run.stderr else ''}"
             yield run
             run.send_signal(by)
@@ -371,7 +372,8 @@ def test_locks(room):
             with room.runs("--disk", f"0:0=1M,file={disk},snapshot", path=room.folder / "other"):
                 pass
     # Whoever writes, whoever lets nobody write, and whoever lets nobody read.
-    for at, is_snapshot_refused in ((100 + WRITES, True), (200 + WRITES, False), (200 + READS, True), (100 + RESIZES, True), (100 + READS, False)):
+    held = ((100 + WRITES, True), (200 + WRITES, False), (200 + READS, True), (100 + RESIZES, True), (100 + READS, False))
+    for at, is_snapshot_refused in held:
         with disk.open("r+b") as file:
             lock(file, at)
             if at != 100 + READS:
@@ -657,6 +659,31 @@ def test_other_calls_kill(room):
     return None
 
 
+def test_files_are_limited(room):
+    """With Landlock the daemon adds only to files of its log's folder, and removes only files of its socket's."""
+    if not room.shim:
+        return "needs a program without sanitizers"
+    logs, sockets, other = room.folder / "logs", room.folder / "sockets", room.folder / "other"
+    for folder in (logs, sockets, other):
+        folder.mkdir()
+    words = [room.program, "--socket", sockets / "socket", "--disk", "0:0=1M", "--log", logs / "log"]
+
+    def tries(what, path, *more):
+        """The status by which the shim ends the daemon: 100 and the error number of what it tried, or 100."""
+        path.touch()
+        environment = {"LD_PRELOAD": str(room.shim), what: str(path)}
+        return subprocess.run([*words, *more], env=environment, timeout=20).returncode
+
+    tries("ADD", logs / "file")
+    if not re.search("files (and system calls )?are limited", (logs / "log").read_text()):
+        return "the kernel has no Landlock"
+    assert tries("ADD", other / "file") == 100 + errno.EACCES and tries("ADD", logs / "file") == 100
+    assert tries("REMOVE", other / "file") == 100 + errno.EACCES and (other / "file").exists()
+    assert tries("REMOVE", sockets / "file") == 100 and not (sockets / "file").exists()
+    assert tries("ADD", other / "file", "--seccomp", "off") == 100
+    return None
+
+
 def test_hardened(room):
     """The program that users run is built as tools/daemon says."""
     if not room.shim or not shutil.which("readelf"):
@@ -669,13 +696,19 @@ def test_hardened(room):
 
 SHIM = r"""
 #define _GNU_SOURCE
+#include <errno.h>
+#include <fcntl.h>
 #include <stdlib.h>
 #include <sys/epoll.h>
 #include <sys/syscall.h>
 #include <unistd.h>
 
-// Makes a call that isn't the daemon's before it waits, and reads slowly, where the environment asks for that.
+enum { AS_THE_LOG = O_WRONLY | O_APPEND | O_CREAT | O_NONBLOCK | O_NOCTTY | O_CLOEXEC };
+
+// Does what isn't the daemon's before it waits, and reads slowly, where the environment asks for that.
 int epoll_wait(int epoll, struct epoll_event *events, int most, int wait) {
+  if (getenv("ADD")) _exit(100 + (open(getenv("ADD"), AS_THE_LOG, 0600) < 0 ? errno : 0));
+  if (getenv("REMOVE")) _exit(100 + (unlinkat(AT_FDCWD, getenv("REMOVE"), 0) < 0 ? errno : 0));
   if (getenv("CALL")) syscall(atol(getenv("CALL")), -1, NULL, NULL, NULL, NULL);
   return (int)syscall(SYS_epoll_pwait, epoll, events, most, wait, NULL, 8);
 }
