@@ -328,6 +328,20 @@ def test_loads_before_it_listens(room):
     return None
 
 
+def test_unreadable(room):
+    """An image that can't be read is status 1, and the line names the disk and its path."""
+    if not room.shim:
+        return "needs a program without sanitizers"
+    disk = room.file("disk.img", 8 * MIB)
+    words = [room.program, "--socket", room.socket, "--disk", "3:0=1M", "--disk", f"3:9=file={disk}", "--quiet"]
+    with subprocess.Popen(words, stderr=subprocess.PIPE, text=True, env={"LD_PRELOAD": str(room.shim), "SLOW": "1"}) as run:
+        time.sleep(0.3)
+        os.truncate(disk, MIB)
+        assert f"disk 3:9 ({disk}): it can't be read: Input/output error" in run.stderr.read()
+        assert run.wait(10) == 1 and not room.socket.exists()
+    return None
+
+
 def test_block_devices(room):
     """A block device is taken; its length is what it has."""
     disk = room.file("disk.img", 2 * MIB)
