@@ -32,6 +32,8 @@ class Room:
     def __init__(self, folder, program, shim=None):
         self.folder, self.program, self.shim = folder, program, shim
         self.socket = folder / "socket"
+        # What the daemon does within a second has this long, since the machine may be busy; sanitizers look for leaks at the end.
+        self.late = 2 if shim else 10
 
     def file(self, name, size=MIB, fill=b"\x5a"):
         """Makes a file of so many bytes."""
@@ -54,9 +56,7 @@ class Room:
 
     @contextlib.contextmanager
     def runs(self, *words, ends=0, by=signal.SIGTERM, path=None, stderr=subprocess.PIPE, **more):
-        """A daemon that runs until the block ends, then ends by a signal within a second, with this status. With `path` it is asked
-        to listen there.
-        """
+        """A daemon that runs until the block ends, and then is ended by a signal, with this status. With `path` it listens there."""
         path = path or self.socket
         named = [] if any(str(word).startswith("--fd") for word in words) else ["--socket", path]
         run = subprocess.Popen([self.program, *named, *words], stderr=stderr, text=True, **more)
@@ -68,7 +68,7 @@ class Room:
             run.send_signal(by)
             began = time.monotonic()
             assert run.wait(20) == ends, f"{words}: status {run.returncode}"
-            assert time.monotonic() - began < 1, f"{words}: ended late"
+            assert time.monotonic() - began < self.late, f"{words}: ended late"
         finally:
             run.kill()
             run.wait()
@@ -320,7 +320,7 @@ def test_loads_before_it_listens(room):
         assert not room.socket.exists() and run.poll() is None
         run.terminate()
         began = time.monotonic()
-        assert run.wait(10) == 0 and time.monotonic() - began < 1
+        assert run.wait(10) == 0 and time.monotonic() - began < room.late
         assert not room.socket.exists() and not new.exists()
     finally:
         run.kill()
@@ -334,11 +334,17 @@ def test_unreadable(room):
         return "needs a program without sanitizers"
     disk = room.file("disk.img", 8 * MIB)
     words = [room.program, "--socket", room.socket, "--disk", "3:0=1M", "--disk", f"3:9=file={disk}", "--quiet"]
-    with subprocess.Popen(words, stderr=subprocess.PIPE, text=True, env={"LD_PRELOAD": str(room.shim), "SLOW": "1"}) as run:
-        time.sleep(0.3)
-        os.truncate(disk, MIB)
-        assert f"disk 3:9 ({disk}): it can't be read: Input/output error" in run.stderr.read()
+    run = subprocess.Popen(words, stderr=subprocess.PIPE, text=True, env={"LD_PRELOAD": str(room.shim), "SLOW": "1"})
+    try:
+        with disk.open("r+b") as file:
+            wait_for(lambda: is_locked(file, 100 + RESIZES), "the lock")
+            file.truncate(512)
         assert run.wait(10) == 1 and not room.socket.exists()
+        assert f"disk 3:9 ({disk}): it can't be read: Input/output error" in run.stderr.read()
+    finally:
+        run.kill()
+        run.wait()
+        run.stderr.close()
     return None
 
 
@@ -468,6 +474,7 @@ def test_nobody_reads(room):
 def test_lines(room):
     """Lines have the time and the session, come at a limited rate, and those that are left out are counted."""
     log = room.folder / "log"
+    began = time.monotonic()
     with room.runs("--disk", "0:0=1M", "--log", log):
         with connected(room.socket) as front:
             flood(front, 5000)
@@ -477,7 +484,8 @@ def test_lines(room):
     assert all(LINE.fullmatch(line) for line in lines), [line for line in lines if not LINE.fullmatch(line)][:3]
     refused = [line for line in lines if "isn't taken" in line]
     left_out = sum(int(count) for count in re.findall(r"(\d+) lines were left out", "\n".join(lines)))
-    assert 20 < len(refused) < 200 and 4900 < left_out + len(refused), (len(refused), left_out)
+    most = 150 + 10 * (time.monotonic() - began)
+    assert 20 < len(refused) < most and 4900 < left_out + len(refused), (len(refused), left_out)
     assert all("session 1: " in line for line in refused)
     assert stat.S_IMODE(log.stat().st_mode) & 0o077 == 0
 
@@ -542,7 +550,7 @@ def test_second_is_refused(room):
             assert is_served(first)
             for _ in range(3):
                 with connected(room.socket) as second:
-                    assert is_over(second, 1)
+                    assert is_over(second, 3)
             assert is_served(first)
         for _ in range(200):
             with connected(room.socket) as front:
@@ -553,26 +561,40 @@ def test_second_is_refused(room):
         assert "refused" in run.stderr.read()
 
 
-def test_silence(room):
-    """Half a message ends a session in a few seconds. A front end that hasn't said a word loses its place to the next one then."""
+def test_halves(room):
+    """Half a message ends a session in a few seconds, also where the front end has said something before."""
     with room.runs("--disk", "0:0=1M"):
-        with connected(room.socket) as half, connected(room.socket) as refused:
-            half.sendall(message(GET_FEATURES)[:5])
-            assert is_over(refused, 1)
-            assert is_over(half, 8)
-        with connected(room.socket) as half:
-            assert is_served(half)
-            half.sendall(message(GET_FEATURES)[:5])
-            assert is_over(half, 8)
-        with connected(room.socket) as silent:
-            time.sleep(5.5)
-            with connected(room.socket) as front:
-                assert is_served(front) and is_over(silent, 1)
-                # A front end that has said something may be idle: its guest may be stopped.
-                time.sleep(5.5)
-                with connected(room.socket) as refused:
-                    assert is_over(refused, 1)
+        for said in (0, 2):
+            with connected(room.socket) as front, contextlib.ExitStack() as others:
+                assert all(is_served(front) for _ in range(said))
+                # The rest of a message may come a little later.
+                front.sendall(message(SET_OWNER)[:5])
+                time.sleep(1)
+                front.sendall(message(SET_OWNER)[5:])
                 assert is_served(front)
+                front.sendall(message(GET_FEATURES)[:5])
+                assert is_over(others.enter_context(connected(room.socket)), 3)
+                assert is_over(front, 15)
+        assert serves(room.socket)
+
+
+def test_silence(room):
+    """A front end that hasn't said a word loses its place to another after a few seconds. One that has said something may be idle, as
+    its guest may be stopped.
+    """
+    with room.runs("--disk", "0:0=1M"):
+        with connected(room.socket) as silent:
+            with connected(room.socket) as refused:
+                assert is_over(refused, 3)
+            began = time.monotonic()
+            wait_for(lambda: serves(room.socket), "the place of the silent one", 15)
+            assert is_over(silent, 3) and time.monotonic() - began > 3
+        with connected(room.socket) as front:
+            assert is_served(front)
+            time.sleep(6)
+            with connected(room.socket) as refused:
+                assert is_over(refused, 3)
+            assert is_served(front)
 
 
 # Isolation.
