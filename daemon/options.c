@@ -109,6 +109,10 @@ static bool is_whole(const struct options *options, const struct disks *disks) {
   if (!options->path == (options->fd < 0)) return fputs("say one of --socket PATH and --fd N\n", stderr), false;
   if (options->mode >= 0 && !options->path) return fputs("--mode is of the socket that --socket makes\n", stderr), false;
   if (!disks_are_whole(disks)) return fputs("there is no disk, or a target without LUN 0\n", stderr), false;
+  for (size_t i = 0; options->log && i < disks->count; i++) {
+    const char *image = disks->disks[i].path;
+    if (image && !strcmp(image, options->log)) return fprintf(stderr, "--log %s: a disk is kept there\n", image), false;
+  }
   return true;
 }
 

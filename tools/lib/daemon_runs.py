@@ -194,7 +194,7 @@ def test_words(room):
              [*named, *disk, "--queues", "17"], [*named, *disk, "--queues", ""], [*named, *disk, "x"], [*named, *disk, "--x"],
              [*named, *disk, "--mode", "888"], [*named, *disk, "--mode", "1777"], [*named, *disk, "--fd", "3"], [*disk, "--fd", "1"],
              [*disk, "--fd", "3", "--mode", "600"], [*named, *disk, "--seccomp", "maybe"], [*named, "--disk", "0:0=1M,snapshot"],
-             [*named, "--disk", "0:0=1M,grow"], [*named, "--disk", "0:0=file="], [*named, "--disk", "0:0=file=x,grow"]]
+             [*named, "--disk", "0:0=1M,grow"], [*named, "--disk", "0:0=1M,file=x", "--log", "x"], [*named, "--disk", "0:0=file="], [*named, "--disk", "0:0=file=x,grow"]]
     for words in wrong:
         assert room.ends(*words, status=2) == ""
     usage = room.ends("--help", status=0)
