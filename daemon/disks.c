@@ -59,12 +59,13 @@ static bool is_there(const struct disks *disks, const struct disk *disk) {
 }
 
 bool disks_add(struct disks *disks, const char *words, char *why, size_t room) {
+  static const char punching[] = "detect-zeroes=unmap";
   struct disk disk = {.file = -1};
   uint64_t target, lun;
   const char *at = words;
   char *path = NULL;
   bool known = true;
-  snprintf(why, room, "%s: not T:L=SIZE[,file=PATH][,ro]", words);
+  snprintf(why, room, "%s: not T:L=SIZE[,file=PATH][,ro][,detect-zeroes=unmap]", words);
   if (!number(&at, 255, ':', &target) || !number(&at, 16383, '=', &lun) || !size(&at, &disk.blocks)) return false;
   disk.target = (uint8_t)target;
   disk.lun = (uint16_t)lun;
@@ -72,8 +73,10 @@ bool disks_add(struct disks *disks, const char *words, char *why, size_t room) {
     size_t length = strcspn(++at, ",");
     bool is_file = length > 5 && !strncmp(at, "file=", 5) && !path, is_ro = length == 2 && !strncmp(at, "ro", 2);
     if (is_file) path = strndup(at + 5, length - 5);
+    bool is_punching = length == strlen(punching) && !strncmp(at, punching, length);
     if (is_ro) disk.read_only = true;
-    known = is_file || is_ro;
+    if (is_punching) disk.punches = true;
+    known = is_file || is_ro || is_punching;
     at += length;
   }
   size_t place = disks->count;
@@ -84,11 +87,12 @@ bool disks_add(struct disks *disks, const char *words, char *why, size_t room) {
     snprintf(why, room, "%s: there already, or one disk too many", words);
   }
   stands = stands && (!path || open_file(&disk, path, why, room));
-  free(path);
   if (!stands) {
+    free(path);
     if (disk.file >= 0) close(disk.file);
     return false;
   }
+  disk.path = path;
   memmove(disks->disks + place + 1, disks->disks + place, (disks->count - place) * sizeof disk);
   disks->disks[place] = disk;
   disks->count++;
@@ -104,6 +108,8 @@ bool disks_are_whole(const struct disks *disks) {
 void disks_close(struct disks *disks) {
   for (size_t i = 0; i < disks->count; i++) {
     if (disks->disks[i].file >= 0) close(disks->disks[i].file);
+    free(disks->disks[i].path);
+    free(disks->disks[i].backlog.ranges);
     store_drop(&disks->stores[i]);
   }
   disks->count = 0;
@@ -121,14 +127,23 @@ bool disk_read(const struct disk *disk, uint64_t first, uint32_t count, uint8_t 
 
 static bool is_zeros(const uint8_t *bytes, size_t count) { return !count || (!bytes[0] && !memcmp(bytes, bytes + 1, count - 1)); }
 
-bool disk_write(struct disk *disk, uint64_t first, uint32_t count, const uint8_t *bytes) {
+// Returns whether the file reads as zeros there, with nothing written.
+static bool is_hole(const struct disk *disk, off_t at, off_t count) {
+  off_t data = lseek(disk->file, at, SEEK_DATA);
+  return data < 0 ? errno == ENXIO : data - at >= count;
+}
+
+bool disk_write(struct disk *disk, uint64_t first, uint32_t count, const uint8_t *bytes, bool unmapped) {
   size_t wanted = (size_t)count * DEVICE_BLOCK;
   off_t at = (off_t)(first * DEVICE_BLOCK);
+  bool zeros = is_zeros(bytes, wanted);
+  if (zeros && is_hole(disk, at, (off_t)wanted)) return true;
   disk->dirty = true;
-  if (is_zeros(bytes, wanted) && !fallocate(disk->file, FALLOC_FL_PUNCH_HOLE | FALLOC_FL_KEEP_SIZE, at, (off_t)wanted)) return true;
+  if (zeros && (unmapped || disk->punches) && !fallocate(disk->file, FALLOC_FL_PUNCH_HOLE | FALLOC_FL_KEEP_SIZE, at, (off_t)wanted)) return true;
   for (size_t done = 0; done < wanted;) {
     ssize_t here = pwrite(disk->file, bytes + done, wanted - done, at + (off_t)done);
-    if (here < 0 && errno != EINTR) return false;
+    if (here == 0) errno = ENOSPC;
+    if (here == 0 || (here < 0 && errno != EINTR)) return false;
     if (here > 0) done += (size_t)here;
   }
   return true;
@@ -149,15 +164,8 @@ bool disk_next(const struct disk *disk, uint64_t *first, uint64_t *end) {
   return true;
 }
 
-bool disks_sync(struct disks *disks) {
-  bool synced = true;
-  for (size_t i = 0; i < disks->count; i++) {
-    struct disk *disk = &disks->disks[i];
-    if (disk->dirty && fdatasync(disk->file)) {
-      synced = false;
-      disk->behind = true;
-    }
-    disk->dirty = false;
-  }
-  return synced;
+bool disk_sync(struct disk *disk) {
+  if (disk->dirty && fdatasync(disk->file)) return false;
+  disk->dirty = false;
+  return true;
 }

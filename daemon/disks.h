@@ -5,14 +5,36 @@
 
 #include "library.h"
 
+enum { MOST_UNMAPPED = 64 };
+
+// A place among the ranges of a backlog: so many blocks of this range are done, and all of those before it.
+struct mark {
+  size_t range;
+  uint64_t done;
+};
+
+// Blocks that a disk's file may lack (blocks.h), as ranges that may overlap; where `all` is true, one range of the whole disk. Those
+// before `written` were written since, and those before `synced` stand there for sure.
+struct backlog {
+  struct vscsi_range *ranges;
+  size_t count, room;
+  bool all;
+  struct mark written, synced;
+  struct vscsi_range unmapped[MOST_UNMAPPED];  // which of these blocks the guest unmapped, as far as there is room
+  size_t unmapped_count;
+};
+
 struct disk {
   uint8_t target;
   uint16_t lun;
   uint64_t blocks;
   int file;        // below 0: the disk is in memory alone
+  char *path;      // of the file
   bool read_only;  // never written to that file
-  bool dirty;      // written since disks_sync
-  bool behind;     // the file couldn't be written, or not for sure: it wants the whole disk
+  bool punches;    // a WRITE of zeros may make a hole of the file
+  bool dirty;      // written since disk_sync
+  int error;       // the error number by which the file can't be written now, or 0
+  struct backlog backlog;
 };
 
 struct disks {
@@ -22,7 +44,7 @@ struct disks {
   bool lost;  // a device couldn't give its disks back
 };
 
-// Adds the disk of words T:L=SIZE[,file=PATH][,ro], in its place of the order. Returns false, and says why, where the words
+// Adds the disk of words T:L=SIZE[,file=PATH][,ro][,detect-zeroes=unmap], in its place of the order. Returns false, and says why, where the words
 // name none or the file can't be had.
 bool disks_add(struct disks *disks, const char *words, char *why, size_t room);
 
@@ -31,14 +53,17 @@ bool disks_are_whole(const struct disks *disks);
 
 void disks_close(struct disks *disks);
 
-// Reads whole blocks of a disk's file, or keeps them there. Blocks of zeros become a hole of the file, where it can have some.
+// Reads whole blocks of a disk's file, or writes them there. Zeros are left out where the file has a hole or room that was reserved
+// and never written; elsewhere zeros become a hole only where `unmapped` is true or the disk punches. Each returns false where the
+// system refused it, and errno says why.
 bool disk_read(const struct disk *disk, uint64_t first, uint32_t count, uint8_t *into);
-bool disk_write(struct disk *disk, uint64_t first, uint32_t count, const uint8_t *bytes);
+bool disk_write(struct disk *disk, uint64_t first, uint32_t count, const uint8_t *bytes, bool unmapped);
 
 // Finds the first blocks from this one on that the file doesn't have as a hole. Returns false behind the last ones.
 bool disk_next(const struct disk *disk, uint64_t *first, uint64_t *end);
 
-// Waits until what was written stands on the files (fdatasync).
-bool disks_sync(struct disks *disks);
+// Waits until what was written stands on the disk's file (fdatasync). Returns false, with errno, where that isn't sure: then all
+// that was written since the last call that returned true has to be written again.
+bool disk_sync(struct disk *disk);
 
 #endif

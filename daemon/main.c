@@ -13,7 +13,7 @@
 #include "session.h"
 
 static const char usage[] =
-    "vscsi-vhost-user --socket PATH --disk T:L=SIZE[,file=PATH][,ro] .. [--queues N] [--shadow] [--quiet]\n"
+    "vscsi-vhost-user --socket PATH --disk T:L=SIZE[,file=PATH][,ro][,detect-zeroes=unmap] .. [--queues N] [--shadow] [--quiet]\n"
     "A virtio SCSI device for a vhost-user front end. SIZE is in bytes, or ends in K, M, G or T.\n";
 
 enum { EVENT_SIGNAL = 2000, EVENT_LISTENER = 2001, EVENTS = 32, WRONG_WORDS = 2 };
@@ -126,6 +126,8 @@ int main(int count, char **words) {
   sigaddset(&signals, SIGINT);
   sigprocmask(SIG_BLOCK, &signals, NULL);
   signal(SIGPIPE, SIG_IGN);
+  // A file that gets too long is an error of the call's.
+  signal(SIGXFSZ, SIG_IGN);
   daemon->epoll = epoll_create1(EPOLL_CLOEXEC);
   daemon->signals = signalfd(-1, &signals, SFD_CLOEXEC | SFD_NONBLOCK);
   daemon->listener = listen_at(daemon->options.path);
@@ -135,7 +137,10 @@ int main(int count, char **words) {
     bool ended = run(daemon);
     if (daemon->connected) end_session(daemon);
     unlink(daemon->options.path);
-    status = ended && disks_sync(&daemon->disks) ? 0 : 1;
+    char why[300];
+    bool kept = blocks_finish(&daemon->disks, why, sizeof why);
+    if (!kept) fprintf(stderr, "vscsi-vhost-user: %s\n", why);
+    status = ended && kept ? 0 : 1;
   }
   if (daemon->listener >= 0) close(daemon->listener);
   if (daemon->signals >= 0) close(daemon->signals);

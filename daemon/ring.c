@@ -20,7 +20,14 @@ bool ring_find(struct ring *ring, const struct memory *memory) {
   return ring->desc_at && ring->driver_at && ring->device_at;
 }
 
-bool ring_has(const struct ring *ring) { return !ring->broken && (ring->packed ? packed_has(ring) : split_has(ring)); }
+bool ring_has(const struct ring *ring) {
+  if (ring->broken) return false;
+  // A driver has no more chains outstanding than descriptors, and a stale descriptor of a packed ring isn't a chain.
+  return ring->packed ? ring->slots < ring->size && packed_has(ring) : ring->outstanding < ring->size && split_has(ring);
+}
+
+uint16_t ring_ahead(const struct ring *ring) { return !ring_has(ring) ? 0 : ring->packed ? packed_ahead(ring) : split_ahead(ring); }
+uint16_t ring_step(const struct ring *ring, const struct chain *chain) { return ring->packed ? chain->slots : 1; }
 
 bool ring_copy(const struct ring *ring, struct device *device) { return ring->packed ? packed_copy(ring, device) : split_copy(ring, device); }
 
@@ -36,6 +43,7 @@ enum fetched ring_fetch(struct ring *ring, const struct source *source, struct c
     *ring->last = its;
     ring->last = &its->next;
     ring->outstanding++;
+    ring->slots += its->slots;
     ring->tables += its->table;
     *chain = its;
     return FETCHED;
@@ -54,6 +62,7 @@ struct chain *ring_take(struct ring *ring, uint16_t id) {
     *at = chain->next;
     if (!chain->next) ring->last = at;
     ring->outstanding--;
+    ring->slots -= chain->slots;
     ring->tables -= chain->table;
     return chain;
   }
@@ -68,6 +77,7 @@ void ring_unfetch(struct ring *ring, struct chain *chain) {
     *at = NULL;
     ring->last = at;
     ring->outstanding--;
+    ring->slots -= chain->slots;
     ring->tables -= chain->table;
     break;
   }
@@ -91,7 +101,7 @@ bool ring_ask(struct ring *ring) {
     __atomic_store_n(event, ring->next, __ATOMIC_RELAXED);
   }
   __atomic_thread_fence(__ATOMIC_SEQ_CST);
-  return ring->outstanding < ring->size && ring_has(ring);
+  return ring_has(ring);
 }
 
 uint32_t ring_base(const struct ring *ring) {

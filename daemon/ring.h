@@ -48,7 +48,7 @@ struct ring {
   uint16_t held_at;
   bool broken;
   struct chain *first, **last;                 // the chains that aren't given back, the oldest first
-  size_t outstanding;                          // how many these are
+  size_t outstanding, slots;                   // how many these are, and how many descriptors of the ring they take
   uint64_t tables;                             // and the bytes of their tables
 };
 
@@ -70,8 +70,13 @@ uint64_t ring_desc_bytes(const struct ring *ring);
 uint64_t ring_driver_bytes(const struct ring *ring);
 uint64_t ring_device_bytes(const struct ring *ring);
 
-// Returns whether the guest made a chain available.
+// Returns whether the guest made a chain available that the ring has room for.
 bool ring_has(const struct ring *ring);
+
+// Counts what the guest made available and wasn't fetched: chains of a split ring, descriptors of a packed one. ring_step is how
+// many of these a chain is.
+uint16_t ring_ahead(const struct ring *ring);
+uint16_t ring_step(const struct ring *ring, const struct chain *chain);
 
 // Copies what is new in the ring from the guest into the device's memory.
 bool ring_copy(const struct ring *ring, struct device *device);
@@ -104,11 +109,13 @@ void ring_drop(struct ring *ring);
 
 // Of split.c and packed.c, behind what stands above.
 bool split_has(const struct ring *ring);
+uint16_t split_ahead(const struct ring *ring);
 bool split_copy(const struct ring *ring, struct device *device);
 enum fetched split_fetch(struct ring *ring, const struct source *source, struct chain *chain);
 void split_use(struct ring *ring, const struct chain *chain, uint32_t length);
 bool split_publish(struct ring *ring);
 bool packed_has(const struct ring *ring);
+uint16_t packed_ahead(const struct ring *ring);
 bool packed_copy(const struct ring *ring, struct device *device);
 enum fetched packed_fetch(struct ring *ring, const struct source *source, struct chain *chain);
 void packed_use(struct ring *ring, const struct chain *chain, uint32_t length);

@@ -3,9 +3,11 @@
 #include <stdio.h>
 #include <string.h>
 #include <sys/epoll.h>
+#include <sys/timerfd.h>
 #include <unistd.h>
 
 #include "bytes.h"
+#include "clock.h"
 #include "space.h"
 
 #define OFFERED ((VSCSI_ACCEPTED_FEATURES & ~VSCSI_F_CHANGE) | F_PROTOCOL_FEATURES)
@@ -16,12 +18,21 @@
 // How often a session is served before others of the daemon's descriptors are looked at.
 enum { MOST_ROUNDS = 64, WHY = 200, REGION_BYTES = 32, SPACE_HEAD = 12, MOST_SPACE = 256 };
 
+// How often it is said that a file can't be written: milliseconds.
+enum { COMPLAINT = 60000 };
+
+static void complain(const char *what, const char *why) { fprintf(stderr, "vscsi-vhost-user: %s: %s\n", what, why); }
+
 static void say(const struct session *session, const char *what, const char *why) {
-  if (!session->quiet) fprintf(stderr, "vscsi-vhost-user: %s: %s\n", what, why);
+  if (!session->quiet) complain(what, why);
+}
+
+static bool watch(int epoll, int fd, uint32_t what) {
+  struct epoll_event event = {.events = EPOLLIN, .data.u32 = what};
+  return fd >= 0 && !epoll_ctl(epoll, EPOLL_CTL_ADD, fd, &event);
 }
 
 bool session_begin(struct session *session, int socket, int epoll, struct disks *disks, unsigned request_queues, bool only_shadow, bool quiet) {
-  struct epoll_event event = {.events = EPOLLIN, .data.u32 = EVENT_SOCKET};
   memset(session, 0, sizeof *session);
   session->socket = socket;
   session->epoll = epoll;
@@ -32,9 +43,11 @@ bool session_begin(struct session *session, int socket, int epoll, struct disks 
   session->backend.only_shadow = only_shadow;
   reader_begin(&session->reader);
   queues_begin(session);
-  if (!epoll_ctl(epoll, EPOLL_CTL_ADD, socket, &event)) return true;
+  session->timer = timerfd_create(CLOCK_MONOTONIC, TFD_CLOEXEC | TFD_NONBLOCK);
+  if (watch(epoll, session->timer, EVENT_TIMER) && watch(epoll, socket, EVENT_SOCKET)) return true;
+  if (session->timer >= 0) close(session->timer);
   close(socket);
-  session->socket = -1;
+  session->socket = session->timer = -1;
   return false;
 }
 
@@ -43,11 +56,15 @@ void session_end(struct session *session) {
   queues_end(session);
   memory_clear(&session->backend.memory);
   reader_end(&session->reader);
+  if (session->is_waiting) message_close(&session->waiting);
+  session->is_waiting = false;
   if (session->socket >= 0) {
     epoll_ctl(session->epoll, EPOLL_CTL_DEL, session->socket, NULL);
     close(session->socket);
   }
-  session->socket = -1;
+  // Nobody else has a descriptor of the timer's, so epoll forgets it.
+  if (session->timer >= 0) close(session->timer);
+  session->socket = session->timer = -1;
 }
 
 static bool reply_number(const struct session *session, const struct message *message, uint64_t number) {
@@ -141,22 +158,44 @@ static bool take(struct session *session, struct message *message) {
   }
 }
 
+// Does what a message says, and acknowledges it. Returns false where the connection is over.
+static bool finish(struct session *session, struct message *message) {
+  bool taken = take(session, message), stands = taken;
+  message_close(message);
+  if (session->protocol & P_REPLY_ACK && message->flags & NEEDS_REPLY && !is_answered(message->request)) stands = reply_number(session, message, !taken);
+  if (!taken) {
+    char why[WHY];
+    unsigned long long first = (unsigned long long)little_get(message->payload, 8);
+    snprintf(why, sizeof why, "%u of %u bytes, %llx, isn't taken", message->request, message->size, first);
+    say(session, "a message", why);
+  }
+  return stands;
+}
+
+// Returns whether a message may end the device, or take away what a round's chains lie in.
+static bool is_final(uint32_t request) {
+  return request == GET_VRING_BASE || request == RESET_DEVICE || request == RESET_OWNER || request == SET_MEM_TABLE || request == SET_VRING_KICK;
+}
+
+// Returns whether the round's answers are about to be shown: they wait for a file that is being written, and not for one that can't
+// be.
+static bool is_busy(const struct session *session) {
+  const struct backend *backend = &session->backend;
+  return backend->device.live && backend->phase != FETCHING && !backend->pause;
+}
+
 bool session_read(struct session *session) {
   // A front end that sends on and on has its rings served in between.
-  for (unsigned i = 0; i < MOST_ROUNDS; i++) {
+  for (unsigned i = 0; i < MOST_ROUNDS && !session->is_waiting; i++) {
     struct message message = {0};
     enum read_answer answer = reader_next(&session->reader, session->socket, &message);
     if (answer != READ_MESSAGE) return answer == READ_WAITS;
-    bool taken = take(session, &message), stands = taken;
-    message_close(&message);
-    if (session->protocol & P_REPLY_ACK && message.flags & NEEDS_REPLY && !is_answered(message.request)) stands = reply_number(session, &message, !taken);
-    if (!taken) {
-      char why[WHY];
-      unsigned long long first = (unsigned long long)little_get(message.payload, 8);
-      snprintf(why, sizeof why, "%u of %u bytes, %llx, isn't taken", message.request, message.size, first);
-      say(session, "a message", why);
+    if (is_final(message.request) && is_busy(session)) {
+      session->waiting = message;
+      session->is_waiting = true;
+    } else if (!finish(session, &message)) {
+      return false;
     }
-    if (!stands) return false;
   }
   return true;
 }
@@ -166,12 +205,13 @@ static void signal_fd(int fd) {
   if (fd >= 0 && write(fd, &one, sizeof one) < 0) return;  // its count is full: the front end hasn't looked yet
 }
 
-void session_kicked(struct session *session, unsigned q) {
+void session_kicked(struct session *session, unsigned what) {
   uint64_t count;
-  if (q >= session->backend.count || session->queues[q].kick < 0) return;
-  ssize_t got = read(session->queues[q].kick, &count, sizeof count);
-  if (got == 0) epoll_ctl(session->epoll, EPOLL_CTL_DEL, session->queues[q].kick, NULL);  // no eventfd, and at its end
   session->more = true;
+  if (what == EVENT_TIMER && read(session->timer, &count, sizeof count) < 0) return;  // it was set anew meanwhile
+  if (what >= session->backend.count || session->queues[what].kick < 0) return;
+  ssize_t got = read(session->queues[what].kick, &count, sizeof count);
+  if (got == 0) epoll_ctl(session->epoll, EPOLL_CTL_DEL, session->queues[what].kick, NULL);  // no eventfd, and at its end
 }
 
 static void notify(struct session *session, uint32_t owed) {
@@ -187,6 +227,42 @@ static void notify(struct session *session, uint32_t owed) {
   }
 }
 
+// Says once a minute which file can't be written and why, and says when all can be again.
+static void tell_files(struct session *session) {
+  const struct disks *disks = session->backend.disks;
+  bool is_due = !session->complained || clock_now() - session->complained >= COMPLAINT, fails = false;
+  for (size_t i = 0; i < disks->count; i++) {
+    const struct disk *disk = &disks->disks[i];
+    char what[WHY];
+    if (!disk->error) continue;
+    fails = true;
+    snprintf(what, sizeof what, "disk %u:%u: %s can't be written, and is tried again", disk->target, disk->lun, disk->path);
+    if (is_due) complain(what, strerror(disk->error));
+  }
+  if (fails && is_due) session->complained = clock_now();
+  if (!fails && session->complained) {
+    complain("disks", "every file can be written again");
+    session->complained = 0;
+  }
+}
+
+// Sets the timer to when the round is tried again.
+static void set_timer(const struct session *session) {
+  uint64_t now = clock_now(), due = session->backend.due, left = due > now ? due - now : 1;
+  const struct itimerspec when = {.it_value = {.tv_sec = (time_t)(left / 1000), .tv_nsec = (long)(left % 1000) * 1000000}};
+  timerfd_settime(session->timer, 0, &when, NULL);
+}
+
+// Makes the device where something is available for it. Returns false where it can't be.
+static bool make_device(struct session *session, uint32_t queues) {
+  char why[WHY] = "";
+  struct backend *backend = &session->backend;
+  if (!backend_has(backend, queues)) return true;
+  if (!backend_begin(backend, why, sizeof why)) return say(session, "no device", why), false;
+  say(session, "a device", backend->shadow ? "shadow mode" : "direct mode");
+  return true;
+}
+
 bool session_serve(struct session *session) {
   struct backend *backend = &session->backend;
   char why[WHY] = "";
@@ -194,21 +270,19 @@ bool session_serve(struct session *session) {
   for (unsigned q = 0; q < backend->count; q++)
     if (session->queues[q].started && session->queues[q].enabled) queues |= UINT32_C(1) << q;
   session->more = false;
-  if (!backend->device.live) {
-    if (!backend_has(backend, queues)) return true;
-    if (!backend_begin(backend, why, sizeof why)) {
-      say(session, "no device", why);
-      return false;
-    }
-    say(session, "a device", backend->shadow ? "shadow mode" : "direct mode");
-  }
+  if (!backend->device.live && !make_device(session, queues)) return false;
+  if (!backend->device.live) return true;
   enum served served = MORE;
   for (unsigned i = 0; served == MORE && i < MOST_ROUNDS; i++) {
     owed = 0;
     served = backend_serve(backend, queues, &owed, why, sizeof why);
     notify(session, owed);
   }
-  session->more = served == MORE;
-  if (served == FAILED) say(session, "the session ends", why);
-  return served != FAILED;
+  tell_files(session);
+  if (served == LATER) set_timer(session);
+  if (served == FAILED) return say(session, "the session ends", why), false;
+  session->more = served == MORE || served == BUSY;
+  if (!session->is_waiting || is_busy(session)) return true;
+  session->is_waiting = false;
+  return finish(session, &session->waiting) && session_read(session);
 }

@@ -22,10 +22,14 @@ struct session {
   struct session_queue queues[MOST_QUEUES];
   uint64_t features, protocol;
   bool more, quiet;
+  int timer;               // by which a round that has to wait is tried again
+  struct message waiting;  // a message that ends the device, until a round's answers are shown
+  bool is_waiting;
+  uint64_t complained;     // when it was last said that a file can't be written, or 0 where all can
 };
 
-// What an epoll event of this session's is about: its socket, or a queue's kick.
-enum { EVENT_SOCKET = 1000 };
+// What an epoll event of this session's is about: its socket, its timer, or a queue's kick.
+enum { EVENT_SOCKET = 1000, EVENT_TIMER = 1001 };
 
 // Begins over a connected socket, which is the session's from then on. Returns false, without it, where epoll doesn't take it.
 bool session_begin(struct session *session, int socket, int epoll, struct disks *disks, unsigned request_queues, bool only_shadow, bool quiet);
@@ -36,8 +40,8 @@ void session_end(struct session *session);
 // Reads and does what messages there are. Returns false where the connection is over.
 bool session_read(struct session *session);
 
-// Takes a queue's kick.
-void session_kicked(struct session *session, unsigned q);
+// Takes a queue's kick, or the timer's.
+void session_kicked(struct session *session, unsigned what);
 
 // Serves what the driver made available. Returns false where the connection has to end. Sets `more` where another call is wanted.
 bool session_serve(struct session *session);

@@ -5,6 +5,11 @@ static uint16_t load_acquire(const uint8_t *at) { return __atomic_load_n((const 
 
 bool split_has(const struct ring *ring) { return load_acquire(ring->driver_at + 2) != ring->next; }
 
+uint16_t split_ahead(const struct ring *ring) {
+  uint16_t ahead = (uint16_t)(load_acquire(ring->driver_at + 2) - ring->next);
+  return ahead < ring->size ? ahead : ring->size;
+}
+
 bool split_copy(const struct ring *ring, struct device *device) {
   uint8_t index[2];
   // The index first: what stands behind it in the ring was written before it.

@@ -12,7 +12,7 @@
 #include "../bytes.h"
 #include "../chain.h"
 
-enum { AREA = 0x10000, DATA = 0x200000, TABLES = 0x180000, PACKED_BASE_BITS = 0x8000 };
+enum { AREA = 0x10000, DATA = 0x200000, TABLES = 0x180000, MOST_EVENTS = 32 };
 
 void fail(const char *file, int line, const char *what) {
   fprintf(stderr, "%s:%d: not so: %s\n", file, line, what);
@@ -27,9 +27,12 @@ uint64_t place_of(unsigned q, unsigned part) { return (uint64_t)AREA * (q + 1) +
 
 uint64_t guest_of(const struct front *front, uint64_t place) { return front->way.far && place >= HALF ? place - HALF + (UINT64_C(1) << 32) : place; }
 
-void front_begin(struct front *front, struct disks *disks, struct way way) {
+void front_begin(struct front *front, struct disks *disks, struct way way) { front_begin_sized(front, disks, way, SIZE); }
+
+void front_begin_sized(struct front *front, struct disks *disks, struct way way, uint16_t size) {
   int pair[2];
   memset(front, 0, sizeof *front);
+  front->size = size;
   front->way = way;
   front->disks = disks;
   MUST(!socketpair(AF_UNIX, SOCK_STREAM | SOCK_CLOEXEC, 0, pair));
@@ -63,18 +66,29 @@ void front_end(struct front *front) {
   close(front->epoll);
 }
 
+static int look(struct front *front, struct epoll_event *events) { return epoll_wait(front->epoll, events, MOST_EVENTS, 0); }
+
+static void take_events(struct front *front, const struct epoll_event *events, int count) {
+  for (int i = 0; i < count && front->alive; i++) {
+    if (events[i].data.u32 == EVENT_SOCKET) front->alive = session_read(&front->session);
+    else session_kicked(&front->session, events[i].data.u32);
+  }
+  if (front->alive && front->session.more) front->alive = session_serve(&front->session);
+  if (!front->alive) session_end(&front->session);
+}
+
+void turn(struct front *front) {
+  struct epoll_event events[MOST_EVENTS];
+  if (front->alive) take_events(front, events, look(front, events));
+}
+
 void pump(struct front *front) {
   for (unsigned turns = 0; front->alive; turns++) {
-    struct epoll_event events[32];
-    int count = epoll_wait(front->epoll, events, 32, 0);
+    struct epoll_event events[MOST_EVENTS];
+    int count = look(front, events);
     MUST(turns < 100000);
     if (count <= 0 && !front->session.more) return;
-    for (int i = 0; i < count && front->alive; i++) {
-      if (events[i].data.u32 == EVENT_SOCKET) front->alive = session_read(&front->session);
-      else session_kicked(&front->session, events[i].data.u32);
-    }
-    if (front->alive && front->session.more) front->alive = session_serve(&front->session);
-    if (!front->alive) session_end(&front->session);
+    take_events(front, events, count);
   }
 }
 
@@ -107,6 +121,12 @@ static struct sent *message(struct sent *sent, uint32_t request, size_t length) 
 }
 
 static void one(struct sent *sent, uint32_t request, uint64_t number) { little_put(message(sent, request, 8)->bytes + HEADER, number, 8); }
+
+void front_say(const struct front *front, uint32_t request, uint64_t number) {
+  struct sent sent;
+  one(&sent, request, number);
+  MUST(front_send(front, &sent, 0, sent.length));
+}
 
 static void with_fd(struct sent *sent, uint32_t request, unsigned q, int fd) {
   one(sent, request, q);
@@ -145,7 +165,7 @@ size_t front_set_up(const struct front *front, struct sent *sent, uint32_t base)
   little_put(message(&sent[n++], GET_CONFIG, 12 + 36)->bytes + HEADER + 4, 36, 4);
   memory_table(front, &sent[n++]);
   for (unsigned q = 0; q < QUEUES; q++) {
-    one(&sent[n++], SET_VRING_NUM, q | (uint64_t)SIZE << 32);
+    one(&sent[n++], SET_VRING_NUM, q | (uint64_t)front->size << 32);
     one(&sent[n++], SET_VRING_BASE, q | (uint64_t)(way->packed && !base ? 0x80008000 : base) << 32);
     uint8_t *at = message(&sent[n++], SET_VRING_ADDR, 40)->bytes + HEADER;
     little_put(at, q, 4);
@@ -211,26 +231,26 @@ static void put_packed(struct front *front, unsigned q, const struct part *parts
   for (unsigned i = 0; i < count; i++) {
     uint16_t flags = (uint16_t)((queue->next_wrap ? FLAG_AVAILABLE : FLAG_USED) | (i + 1 < count ? FLAG_NEXT : 0) | (parts[i].writable ? FLAG_WRITE : 0) |
                                 (table ? FLAG_INDIRECT : 0));
-    descriptor(front->memory + place_of(q, 0) + 16 * queue->next, guest_of(front, parts[i].place), parts[i].length, (uint16_t)(queue->free & 7), flags);
-    if (++queue->next == SIZE) {
+    descriptor(front->memory + place_of(q, 0) + 16 * queue->next, guest_of(front, parts[i].place), parts[i].length, (uint16_t)(queue->free & (front->size / 2 - 1)), flags);
+    if (++queue->next == front->size) {
       queue->next = 0;
       queue->next_wrap = !queue->next_wrap;
     }
   }
-  // An id is used again only behind seven others.
+  // An id is used again only behind as many others as half the ring's size less one.
   queue->free++;
 }
 
 static void put_split(struct front *front, unsigned q, const struct part *parts, unsigned count, bool table) {
   struct driver_queue *queue = &front->queues[q];
-  uint16_t head = (uint16_t)(queue->free % SIZE);
+  uint16_t head = (uint16_t)(queue->free % front->size);
   for (unsigned i = 0; i < count; i++) {
-    uint16_t at = (uint16_t)(queue->free++ % SIZE);
+    uint16_t at = (uint16_t)(queue->free++ % front->size);
     uint16_t flags = (uint16_t)((i + 1 < count ? FLAG_NEXT : 0) | (parts[i].writable ? FLAG_WRITE : 0) | (table ? FLAG_INDIRECT : 0));
-    descriptor(front->memory + place_of(q, 0) + 16 * at, guest_of(front, parts[i].place), parts[i].length, flags, (uint16_t)(queue->free % SIZE));
+    descriptor(front->memory + place_of(q, 0) + 16 * at, guest_of(front, parts[i].place), parts[i].length, flags, (uint16_t)(queue->free % front->size));
   }
   uint8_t *ring = front->memory + place_of(q, 1);
-  little_put(ring + 4 + 2 * (queue->next % SIZE), head, 2);
+  little_put(ring + 4 + 2 * (queue->next % front->size), head, 2);
   queue->next++;
   __atomic_store_n((uint16_t *)(void *)(ring + 2), queue->next, __ATOMIC_RELEASE);
 }
@@ -243,7 +263,7 @@ static void put(struct front *front, unsigned q, const struct part *parts, unsig
 void driver_put_table(struct front *front, unsigned q, struct part table) { put(front, q, &table, 1, true); }
 
 void driver_put(struct front *front, unsigned q, const struct part *parts, unsigned count) {
-  struct part whole = {.place = TABLES + 0x10000 * (uint64_t)q + 0x100 * (uint64_t)(front->queues[q].free % 16), .length = 16 * count};
+  struct part whole = {.place = TABLES + 0x10000 * (uint64_t)q + 0x100 * (uint64_t)(front->queues[q].free % 256), .length = 16 * count};
   for (unsigned i = 0; front->way.indirect && i < count; i++) {
     uint16_t flags = (uint16_t)((parts[i].writable ? FLAG_WRITE : 0) | (i + 1 < count && !front->way.packed ? FLAG_NEXT : 0));
     uint8_t *at = front->memory + whole.place + 16 * i;
@@ -259,8 +279,8 @@ void driver_kick(struct front *front, unsigned q) {
   const struct driver_queue *queue = &front->queues[q];
   // A driver with event indices notifies only of the chain that the device names.
   if (front->way.event_index && !front->way.packed) {
-    uint16_t event = (uint16_t)little_get(front->memory + place_of(q, 2) + 4 + 8 * SIZE, 2);
-    if ((uint16_t)(queue->next - event - 1) >= SIZE) return;
+    uint16_t event = (uint16_t)little_get(front->memory + place_of(q, 2) + 4 + 8 * (uint64_t)front->size, 2);
+    if ((uint16_t)(queue->next - event - 1) >= front->size) return;
   }
   MUST(write(front->kick[q], &once, sizeof once) == sizeof once);
 }
@@ -270,9 +290,9 @@ bool driver_take(struct front *front, unsigned q, uint32_t *length) {
   if (!front->way.packed) {
     const uint8_t *used = front->memory + place_of(q, 2);
     if (little_get(used + 2, 2) == queue->seen) return false;
-    *length = (uint32_t)little_get(used + 4 + 8 * (queue->seen % SIZE) + 4, 4);
+    *length = (uint32_t)little_get(used + 4 + 8 * (queue->seen % front->size) + 4, 4);
     queue->seen++;
-    if (front->way.event_index) little_put(front->memory + place_of(q, 1) + 4 + 2 * SIZE, queue->seen, 2);
+    if (front->way.event_index) little_put(front->memory + place_of(q, 1) + 4 + 2 * (uint64_t)front->size, queue->seen, 2);
     return true;
   }
   const uint8_t *at = front->memory + place_of(q, 0) + 16 * queue->seen;
@@ -282,19 +302,23 @@ bool driver_take(struct front *front, unsigned q, uint32_t *length) {
   return true;
 }
 
-bool driver_run(struct front *front, unsigned q, const struct part *parts, unsigned count, uint32_t *length) {
+bool driver_next(struct front *front, unsigned q, unsigned count, uint32_t *length) {
   struct driver_queue *queue = &front->queues[q];
   unsigned slots = front->way.indirect ? 1 : count;
-  driver_put(front, q, parts, count);
-  driver_kick(front, q);
-  pump(front);
   if (!driver_take(front, q, length)) return false;
   for (unsigned i = 0; front->way.packed && i < slots; i++) {
-    if (++queue->seen < SIZE) continue;
+    if (++queue->seen < front->size) continue;
     queue->seen = 0;
     queue->seen_wrap = !queue->seen_wrap;
   }
   return true;
+}
+
+bool driver_run(struct front *front, unsigned q, const struct part *parts, unsigned count, uint32_t *length) {
+  driver_put(front, q, parts, count);
+  driver_kick(front, q);
+  pump(front);
+  return driver_next(front, q, count, length);
 }
 
 void put_request(struct front *front, uint64_t place, const uint8_t *block, size_t length) {
