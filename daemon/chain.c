@@ -65,8 +65,3 @@ enum fetched chain_add_table(struct chain *chain, const struct source *source, u
   }
   return BROKEN;
 }
-
-void chain_free(struct chain *chain) {
-  if (chain) free(chain->segments);
-  free(chain);
-}

@@ -12,7 +12,7 @@ static uint64_t zeros_at(const struct backend *backend) {
 }
 
 bool direct_fits(const struct backend *backend) {
-  if (zeros_at(backend) + DEVICE_PAGE > (uint64_t)DEVICE_MOST_PAGES * DEVICE_PAGE) return false;
+  if (memory_end(&backend->memory) > (uint64_t)(DEVICE_MOST_PAGES - 1) * DEVICE_PAGE) return false;
   for (unsigned q = 0; q < backend->count; q++) {
     const struct ring *ring = &backend->queues[q].ring;
     bool begins = ring->next == 0 && ring->used == 0 && (!ring->packed || (ring->next_wrap && ring->used_wrap));
@@ -128,7 +128,7 @@ static bool answer(struct backend *backend, struct backend_queue *queue, uint64_
     left -= here;
   }
   ring_use(&queue->ring, chain, length);
-  chain_free(chain);
+  ring_free(&queue->ring, chain);
   return true;
 }
 

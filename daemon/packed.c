@@ -33,7 +33,6 @@ uint16_t packed_ahead(const struct ring *ring) {
 bool packed_copy(const struct ring *ring, struct device *device) {
   uint16_t place = ring->next;
   bool wrap = ring->next_wrap, inside = false;
-  if (!device_poke(device, ring->driver, ring->driver_at, 4)) return false;
   for (unsigned i = 0; i < ring->size; i++) {
     uint8_t bytes[DESCRIPTOR];
     uint16_t flags = __atomic_load_n(flags_at(ring, place), __ATOMIC_ACQUIRE);

@@ -2,6 +2,9 @@
 
 #include <stdlib.h>
 
+// The parts of a chain whose room is kept for another.
+enum { MOST_KEPT = 256 };
+
 void ring_begin(struct ring *ring) {
   *ring = (struct ring){.next_wrap = true, .used_wrap = true};
   ring->last = &ring->first;
@@ -31,15 +34,24 @@ uint16_t ring_step(const struct ring *ring, const struct chain *chain) { return 
 
 bool ring_copy(const struct ring *ring, struct device *device) { return ring->packed ? packed_copy(ring, device) : split_copy(ring, device); }
 
+// Returns a chain of no parts, which is spare until it is fetched, or NULL where there is no memory.
+static struct chain *blank(struct ring *ring) {
+  if (!ring->spare) ring->spare = calloc(1, sizeof *ring->spare);
+  struct chain *chain = ring->spare;
+  if (!chain) return NULL;
+  *chain = (struct chain){.next = chain->next, .segments = chain->segments, .room = chain->room, .next_before = ring->next, .wrap_before = ring->next_wrap};
+  return chain;
+}
+
 enum fetched ring_fetch(struct ring *ring, const struct source *source, struct chain **chain) {
   if (ring->broken) return BROKEN;
   if (ring->outstanding == ring->size) return NOTHING;
-  struct chain *its = calloc(1, sizeof *its);
+  struct chain *its = blank(ring);
   if (!its) return NO_ROOM;
-  its->next_before = ring->next;
-  its->wrap_before = ring->next_wrap;
   enum fetched fetched = ring->packed ? packed_fetch(ring, source, its) : split_fetch(ring, source, its);
   if (fetched == FETCHED) {
+    ring->spare = its->next;
+    its->next = NULL;
     *ring->last = its;
     ring->last = &its->next;
     ring->outstanding++;
@@ -51,8 +63,18 @@ enum fetched ring_fetch(struct ring *ring, const struct source *source, struct c
   ring->next = its->next_before;
   ring->next_wrap = its->wrap_before;
   ring->broken = fetched == BROKEN;
-  chain_free(its);
   return fetched;
+}
+
+void ring_free(struct ring *ring, struct chain *chain) {
+  // Room for a long table isn't kept.
+  if (chain->room > MOST_KEPT) {
+    free(chain->segments);
+    chain->segments = NULL;
+    chain->room = 0;
+  }
+  chain->next = ring->spare;
+  ring->spare = chain;
 }
 
 struct chain *ring_take(struct ring *ring, uint16_t id) {
@@ -81,7 +103,7 @@ void ring_unfetch(struct ring *ring, struct chain *chain) {
     ring->tables -= chain->table;
     break;
   }
-  chain_free(chain);
+  ring_free(ring, chain);
 }
 
 void ring_use(struct ring *ring, const struct chain *chain, uint32_t length) {
@@ -122,5 +144,11 @@ void ring_drop(struct ring *ring) {
     ring->next = ring->first->next_before;
     ring->next_wrap = ring->first->wrap_before;
   }
-  while (ring->first) chain_free(ring_take(ring, ring->first->id));
+  while (ring->first) ring_free(ring, ring_take(ring, ring->first->id));
+  while (ring->spare) {
+    struct chain *chain = ring->spare;
+    ring->spare = chain->next;
+    free(chain->segments);
+    free(chain);
+  }
 }

@@ -48,6 +48,7 @@ struct ring {
   uint16_t held_at;
   bool broken;
   struct chain *first, **last;                 // the chains that aren't given back, the oldest first
+  struct chain *spare;                         // chains to be used again
   size_t outstanding, slots;                   // how many these are, and how many descriptors of the ring they take
   uint64_t tables;                             // and the bytes of their tables
 };
@@ -90,7 +91,8 @@ void ring_unfetch(struct ring *ring, struct chain *chain);
 // Takes the outstanding chain with this id off the ring, if there is one.
 struct chain *ring_take(struct ring *ring, uint16_t id);
 
-void chain_free(struct chain *chain);
+// Lets go of a chain that was taken off its ring.
+void ring_free(struct ring *ring, struct chain *chain);
 
 // Writes that a chain was used, with so many bytes written; ring_publish makes all of these visible, and returns whether the
 // driver wants to be notified.
@@ -104,7 +106,7 @@ bool ring_ask(struct ring *ring);
 uint32_t ring_base(const struct ring *ring);
 void ring_set_base(struct ring *ring, uint32_t base);
 
-// Lets go of the outstanding chains. The ring stands where its oldest one was fetched.
+// Lets go of all chains. The ring stands where the oldest outstanding one was fetched.
 void ring_drop(struct ring *ring);
 
 // Of split.c and packed.c, behind what stands above.

@@ -56,9 +56,13 @@ bool queue_set_call(struct session *session, struct message *message);
 bool queue_set_err(struct session *session, struct message *message);
 bool queue_get_base(struct session *session, const struct message *message);
 
-// Looks for the areas of all started rings in the guest's memory, after it changed.
-void queues_find(struct session *session);
+// Looks for the areas of all started rings in the guest's memory, after it changed. Where one isn't there the ring breaks, or, where
+// `breaks` is false, isn't served until it is there again.
+void queues_find(struct session *session, bool breaks);
 void queues_begin(struct session *session);
 void queues_end(struct session *session);
+
+// Makes all queues what they were at first, but for the descriptors by which the front end is told of answers and of broken rings.
+void queues_reset(struct session *session);
 
 #endif

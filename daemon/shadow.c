@@ -220,13 +220,15 @@ static bool answer(struct backend *backend, unsigned q, uint64_t number) {
   }
   if (q == EVENT_QUEUE) backend->held[chain->place] = false;
   ring_use(ring, chain, (uint32_t)length);
-  chain_free(chain);
+  ring_free(ring, chain);
   return true;
 }
 
 static bool complete(struct backend *backend, unsigned q) {
   struct backend_queue *queue = &backend->queues[q];
   uint64_t taken, used;
+  // Events wait where their ring's memory isn't there.
+  if (!queue->ready) return true;
   if (!device_progress(&backend->device, q, &taken, &used)) return false;
   for (; queue->used < used; queue->used++)
     if (!answer(backend, q, queue->used)) return false;

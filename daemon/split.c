@@ -1,3 +1,5 @@
+#include <string.h>
+
 #include "bytes.h"
 #include "chain.h"
 
@@ -10,13 +12,31 @@ uint16_t split_ahead(const struct ring *ring) {
   return ahead < ring->size ? ahead : ring->size;
 }
 
+// Copies an entry of the ring and the descriptors along its chain.
+static bool copy_chain(const struct ring *ring, struct device *device, unsigned entry) {
+  uint8_t bytes[DESCRIPTOR];
+  memcpy(bytes, ring->driver_at + 4 + 2 * (size_t)entry, 2);
+  if (!device_poke(device, ring->driver + 4 + 2 * (uint64_t)entry, bytes, 2)) return false;
+  uint16_t at = (uint16_t)little_get(bytes, 2);
+  for (unsigned seen = 0; seen < ring->size && at < ring->size; seen++) {
+    memcpy(bytes, ring->desc_at + (size_t)at * DESCRIPTOR, sizeof bytes);
+    if (!device_poke(device, ring->desc + (uint64_t)at * DESCRIPTOR, bytes, sizeof bytes)) return false;
+    uint64_t flags = little_get(bytes + 12, 2);
+    if (!(flags & FLAG_NEXT) || flags & FLAG_INDIRECT) break;
+    at = (uint16_t)little_get(bytes + 14, 2);
+  }
+  return true;
+}
+
+// Copies what stands behind the next entry, and then the index. What the driver says of notifications the device needn't know.
 bool split_copy(const struct ring *ring, struct device *device) {
-  uint8_t index[2];
+  uint8_t bytes[2];
   // The index first: what stands behind it in the ring was written before it.
-  little_put(index, load_acquire(ring->driver_at + 2), 2);
-  return device_poke(device, ring->desc, ring->desc_at, (size_t)ring_desc_bytes(ring)) && device_poke(device, ring->driver, ring->driver_at, 2) &&
-         device_poke(device, ring->driver + 4, ring->driver_at + 4, (size_t)ring_driver_bytes(ring) - 4) &&
-         device_poke(device, ring->driver + 2, index, 2);
+  uint16_t index = load_acquire(ring->driver_at + 2), ahead = (uint16_t)(index - ring->next);
+  for (uint16_t i = 0; ahead <= ring->size && i < ahead; i++)
+    if (!copy_chain(ring, device, (unsigned)(uint16_t)(ring->next + i) % ring->size)) return false;
+  little_put(bytes, index, 2);
+  return device_poke(device, ring->driver + 2, bytes, 2);
 }
 
 // Adds the parts of the chain that begins at a descriptor.

@@ -5,6 +5,8 @@
 #include <sys/syscall.h>
 #include <unistd.h>
 
+#include "../library.h"
+
 enum { MOST_WRITTEN = 4096 };
 
 struct faults faults;
@@ -25,7 +27,6 @@ ssize_t pwrite(int fd, const void *bytes, size_t count, off_t at) {
   if (faults.write_error && !faults.writes) return errno = faults.write_error, -1;
   if (faults.write_error) faults.writes--;
   ssize_t here = (ssize_t)syscall(SYS_pwrite64, fd, bytes, count, at);
-  if (here > 0) faults.bytes += (unsigned long)here;
   if (here > 0 && written_count < MOST_WRITTEN) {
     written[written_count].at = at;
     written[written_count++].count = (size_t)here;
@@ -44,4 +45,13 @@ int fdatasync(int fd) {
   written_count = 0;
   faults.bad_syncs--;
   return errno = faults.sync_error, -1;
+}
+
+enum vscsi_answer __real_vscsi_serve(struct vscsi *device, uint32_t queues, uint64_t most, uint64_t *steps, bool *more);
+enum vscsi_answer __wrap_vscsi_serve(struct vscsi *device, uint32_t queues, uint64_t most, uint64_t *steps, bool *more);
+
+enum vscsi_answer __wrap_vscsi_serve(struct vscsi *device, uint32_t queues, uint64_t most, uint64_t *steps, bool *more) {
+  if (!faults.refusals) return __real_vscsi_serve(device, queues, most, steps, more);
+  faults.refusals--;
+  return VSCSI_NO_MEMORY;
 }

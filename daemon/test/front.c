@@ -25,7 +25,10 @@ struct way way_of(unsigned number) {
 
 uint64_t place_of(unsigned q, unsigned part) { return (uint64_t)AREA * (q + 1) + (uint64_t)0x4000 * part; }
 
-uint64_t guest_of(const struct front *front, uint64_t place) { return front->way.far && place >= HALF ? place - HALF + (UINT64_C(1) << 32) : place; }
+uint64_t guest_of(const struct front *front, uint64_t place) {
+  if (front->swapped) place ^= HALF;
+  return front->way.far && place >= HALF ? place - HALF + (UINT64_C(1) << 32) : place;
+}
 
 void front_begin(struct front *front, struct disks *disks, struct way way) { front_begin_sized(front, disks, way, SIZE); }
 
@@ -38,7 +41,7 @@ void front_begin_sized(struct front *front, struct disks *disks, struct way way,
   MUST(!socketpair(AF_UNIX, SOCK_STREAM | SOCK_CLOEXEC, 0, pair));
   front->socket = pair[0];
   front->epoll = epoll_create1(EPOLL_CLOEXEC);
-  front->memory_fd = memfd_create("guest", MFD_CLOEXEC);
+  front->memory_fd = memfd_create("guest", MFD_CLOEXEC | MFD_ALLOW_SEALING);
   MUST(!ftruncate(front->memory_fd, GUEST_BYTES));
   front->memory = mmap(NULL, GUEST_BYTES, PROT_READ | PROT_WRITE, MAP_SHARED, front->memory_fd, 0);
   MUST(front->memory != MAP_FAILED);
@@ -95,7 +98,7 @@ void pump(struct front *front) {
 bool front_send(const struct front *front, const struct sent *sent, size_t from, size_t to) {
   union {
     struct cmsghdr header;
-    char room[CMSG_SPACE(2 * sizeof(int))];
+    char room[CMSG_SPACE(MOST_FDS * sizeof(int))];
   } control = {0};
   struct iovec part = {.iov_base = (uint8_t *)(uintptr_t)sent->bytes + from, .iov_len = to - from};
   struct msghdr header = {.msg_iov = &part, .msg_iovlen = 1};
@@ -128,27 +131,52 @@ void front_say(const struct front *front, uint32_t request, uint64_t number) {
   MUST(front_send(front, &sent, 0, sent.length));
 }
 
-static void with_fd(struct sent *sent, uint32_t request, unsigned q, int fd) {
-  one(sent, request, q);
+void front_descriptor(struct sent *sent, uint32_t request, unsigned q, int fd) {
+  one(sent, request, q | (fd < 0 ? 0x100 : 0));
   sent->fds[0] = fd;
-  sent->fd_count = 1;
+  sent->fd_count = fd >= 0;
+}
+
+bool front_ask(struct front *front, const struct sent *sent) {
+  uint8_t payload[8];
+  MUST(front_send(front, sent, 0, sent->length));
+  pump(front);
+  return front->alive && front_reply(front, payload, sizeof payload) == 8 && little_get(payload, 8) == 0;
 }
 
 static uint64_t user_of(const struct front *front, uint64_t place) { return front->way.far && place >= HALF ? place - HALF + FAR_USER : place + USER; }
 
-static void memory_table(const struct front *front, struct sent *sent) {
-  uint8_t *at = message(sent, SET_MEM_TABLE, 8 + 64)->bytes + HEADER;
-  little_put(at, 2, 4);
-  for (unsigned i = 0; i < 2; i++) {
-    uint8_t *region = at + 8 + 32 * i;
-    uint64_t place = (uint64_t)HALF * i;
-    little_put(region, guest_of(front, place), 8);
-    little_put(region + 8, HALF, 8);
-    little_put(region + 16, user_of(front, place), 8);
-    little_put(region + 24, place, 8);
+static void put_area(uint8_t *at, struct area area) {
+  little_put(at, area.guest, 8);
+  little_put(at + 8, area.size, 8);
+  little_put(at + 16, area.user, 8);
+  little_put(at + 24, area.place, 8);
+}
+
+void front_region(const struct front *front, struct sent *sent, uint32_t request, struct area area) {
+  put_area(message(sent, request, 40)->bytes + HEADER + 8, area);
+  sent->fds[0] = front->memory_fd;
+  sent->fd_count = request == ADD_MEM_REG;
+}
+
+void front_table(const struct front *front, struct sent *sent, const struct area *areas, unsigned count) {
+  uint8_t *at = message(sent, SET_MEM_TABLE, 8 + 32 * (size_t)count)->bytes + HEADER;
+  little_put(at, count, 4);
+  for (unsigned i = 0; i < count; i++) {
+    put_area(at + 8 + 32 * (size_t)i, areas[i]);
     sent->fds[i] = front->memory_fd;
   }
-  sent->fd_count = 2;
+  sent->fd_count = count;
+}
+
+struct area front_half(const struct front *front, unsigned half) {
+  uint64_t place = (uint64_t)HALF * half;
+  return (struct area){guest_of(front, place), HALF, user_of(front, place), place};
+}
+
+static void memory_table(const struct front *front, struct sent *sent) {
+  const struct area halves[] = {front_half(front, 0), front_half(front, 1)};
+  front_table(front, sent, halves, 2);
 }
 
 size_t front_set_up(const struct front *front, struct sent *sent, uint32_t base) {
@@ -172,9 +200,9 @@ size_t front_set_up(const struct front *front, struct sent *sent, uint32_t base)
     little_put(at + 8, user_of(front, place_of(q, 0)), 8);
     little_put(at + 16, user_of(front, place_of(q, 2)), 8);
     little_put(at + 24, user_of(front, place_of(q, 1)), 8);
-    with_fd(&sent[n++], SET_VRING_KICK, q, front->kick[q]);
-    with_fd(&sent[n++], SET_VRING_CALL, q, front->call[q]);
-    with_fd(&sent[n++], SET_VRING_ERR, q, front->err[q]);
+    front_descriptor(&sent[n++], SET_VRING_KICK, q, front->kick[q]);
+    front_descriptor(&sent[n++], SET_VRING_CALL, q, front->call[q]);
+    front_descriptor(&sent[n++], SET_VRING_ERR, q, front->err[q]);
   }
   for (unsigned q = 0; q < QUEUES; q++) one(&sent[n++], SET_VRING_ENABLE, q | UINT64_C(1) << 32);
   return n;

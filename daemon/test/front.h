@@ -25,6 +25,7 @@ struct front {
   struct disks *disks;
   int socket, epoll, memory_fd;
   uint16_t size;  // of each ring
+  bool swapped;   // the halves of memory changed their places in the guest's addresses
   uint8_t *memory;
   bool alive;
   int kick[QUEUES], call[QUEUES], err[QUEUES];
@@ -35,7 +36,7 @@ struct front {
 struct sent {
   uint8_t bytes[HEADER + MOST_PAYLOAD];
   size_t length;
-  int fds[2];
+  int fds[MOST_FDS];
   size_t fd_count;
 };
 
@@ -59,6 +60,23 @@ void front_say(const struct front *front, uint32_t request, uint64_t number);
 
 // Fills the messages that set all queues up, from `base` on, and returns how many there are.
 size_t front_set_up(const struct front *front, struct sent *sent, uint32_t base);
+
+// Fills a message that adds or removes a region, or a table of regions that get their descriptors one after the other. A region is
+// (guest's address, size, front end's address, place).
+struct area {
+  uint64_t guest, size, user, place;
+};
+void front_region(const struct front *front, struct sent *sent, uint32_t request, struct area area);
+void front_table(const struct front *front, struct sent *sent, const struct area *areas, unsigned count);
+
+// Returns where half 0 or 1 of the memory lies.
+struct area front_half(const struct front *front, unsigned half);
+
+// Fills a message of a queue that gives a descriptor, or none where it is below 0.
+void front_descriptor(struct sent *sent, uint32_t request, unsigned q, int fd);
+
+// Sends a message that is acknowledged. Returns whether it was taken.
+bool front_ask(struct front *front, const struct sent *sent);
 
 // Sends these messages, and expects each acknowledgement.
 void front_agree(struct front *front);
