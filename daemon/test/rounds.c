@@ -15,7 +15,7 @@
 
 // Where requests and their data lie in the guest's memory, and how many there are.
 enum { REQUESTS = 0x220000, EACH = 0x200, ANSWER = 0x80, BUFFERS = 0x300000, BUFFER = 0x1000, MANY = 120, LARGE_RING = 512 };
-enum { Q = 2, WAYS = 16, APART = 1000003, PATIENCE = 20000, LUN_RESET = 5 };
+enum { Q = 2, WAYS = 16, APART = 1000003, PATIENCE = 60000, LUN_RESET = 5 };
 
 // In memory where the system has that, since a test waits for each fdatasync.
 static char path[] = "/dev/shm/vscsi-round-XXXXXX";
@@ -139,7 +139,7 @@ void test_whole(void) {
     struct disks disks;
     struct front front;
     uint8_t payload[8];
-    make_disk(&disks, "16G");
+    make_disk(&disks, "4G");
     begin(&front, &disks, number);
     put_write(&front, Q, 1, 5 * APART);
     // An UNMAP with more descriptors than are taken: any block may have changed.
@@ -151,9 +151,8 @@ void test_whole(void) {
     unsigned turns = 0, seen = 0, answered = 0;
     uint32_t length;
     for (uint64_t begun = clock_now(); answered < 2; turns++) {
-      uint64_t before = clock_now();
       turn(&front);
-      MUST(clock_now() - before < 1000 && before - begun < PATIENCE);
+      MUST(clock_now() - begun < PATIENCE);
       while (driver_next(&front, Q, 3, &length)) seen++;
       if (front_reply(&front, payload, sizeof payload) && answered++) MUST(seen == 2 && little_get(payload, 4) == 3);
       MUST(!seen || answered);
