@@ -5,9 +5,10 @@
 #include <stdio.h>
 #include <stdlib.h>
 #include <string.h>
-#include <sys/file.h>
-#include <sys/stat.h>
 #include <unistd.h>
+
+#include "log.h"
+#include "signals.h"
 
 // Takes a number and what ends it. The number is at most `most`.
 static bool number(const char **at, uint64_t most, char behind, uint64_t *found) {
@@ -37,62 +38,76 @@ static bool size(const char **at, uint64_t *blocks) {
   return bytes && bytes % DEVICE_BLOCK == 0;
 }
 
-// Opens the file of a disk, makes it where there is none, and makes it as long as the disk.
-static bool open_file(struct disk *disk, const char *path, char *why, size_t room) {
-  uint64_t wanted = disk->blocks * DEVICE_BLOCK;
-  struct stat stat;
-  disk->file = open(path, (disk->read_only ? O_RDONLY : O_RDWR | O_CREAT) | O_CLOEXEC, 0666);
-  if (disk->file < 0 || fstat(disk->file, &stat)) return snprintf(why, room, "%s: %s", path, strerror(errno)), false;
-  if (!S_ISREG(stat.st_mode)) return snprintf(why, room, "%s: not a file", path), false;
-  if (flock(disk->file, (disk->read_only ? LOCK_SH : LOCK_EX) | LOCK_NB)) return snprintf(why, room, "%s: in use", path), false;
-  if ((uint64_t)stat.st_size == wanted) return true;
-  if ((uint64_t)stat.st_size > wanted) return snprintf(why, room, "%s: longer than the disk", path), false;
-  if (disk->read_only) return snprintf(why, room, "%s: shorter than the disk", path), false;
-  if (ftruncate(disk->file, (off_t)wanted)) return snprintf(why, room, "%s: %s", path, strerror(errno)), false;
-  return true;
-}
-
 static bool is_there(const struct disks *disks, const struct disk *disk) {
   for (size_t i = 0; i < disks->count; i++)
     if (disks->disks[i].target == disk->target && disks->disks[i].lun == disk->lun) return true;
   return false;
 }
 
-bool disks_add(struct disks *disks, const char *words, char *why, size_t room) {
-  static const char punching[] = "detect-zeroes=unmap";
-  struct disk disk = {.file = -1};
-  uint64_t target, lun;
-  const char *at = words;
-  char *path = NULL;
-  bool known = true;
-  snprintf(why, room, "%s: not T:L=SIZE[,file=PATH][,ro][,detect-zeroes=unmap]", words);
-  if (!number(&at, 255, ':', &target) || !number(&at, 16383, '=', &lun) || !size(&at, &disk.blocks)) return false;
-  disk.target = (uint8_t)target;
-  disk.lun = (uint16_t)lun;
-  while (known && *at == ',') {
-    size_t length = strcspn(++at, ",");
-    bool is_file = length > 5 && !strncmp(at, "file=", 5) && !path, is_ro = length == 2 && !strncmp(at, "ro", 2);
-    if (is_file) path = strndup(at + 5, length - 5);
-    bool is_punching = length == strlen(punching) && !strncmp(at, punching, length);
-    if (is_ro) disk.read_only = true;
-    if (is_punching) disk.punches = true;
-    known = is_file || is_ro || is_punching;
-    at += length;
+// Takes a path up to its end or to a comma that stands once. Returns NULL where it is empty, or memory was refused.
+static char *take_path(const char **at) {
+  char *path = malloc(strlen(*at) + 1);
+  size_t length = 0;
+  for (; path && **at && !(**at == ',' && (*at)[1] != ','); ++*at) {
+    if (**at == ',') ++*at;
+    path[length++] = **at;
   }
-  size_t place = disks->count;
-  while (place && (disks->disks[place - 1].target > target || (disks->disks[place - 1].target == target && disks->disks[place - 1].lun > lun))) place--;
-  bool stands = known && !*at && (path || !disk.read_only);
+  if (path) path[length] = 0;
+  if (length) return path;
+  free(path);
+  return NULL;
+}
+
+// Takes one word of a disk up to its end or to a comma. Returns false where there is no such word, or it is there already.
+static bool take_word(const char **at, struct disk *disk) {
+  static const char file[] = "file=", punching[] = "detect-zeroes=unmap";
+  size_t length = strcspn(*at, ",");
+  if (!strncmp(*at, file, sizeof file - 1)) {
+    *at += sizeof file - 1;
+    return !disk->path && (disk->path = take_path(at));
+  }
+  bool is_grow = length == 4 && !strncmp(*at, "grow", length), is_snapshot = length == 8 && !strncmp(*at, "snapshot", length);
+  bool is_punching = length == sizeof punching - 1 && !strncmp(*at, punching, length);
+  if (!is_grow && !is_snapshot && !is_punching) return false;
+  disk->punches = disk->punches || is_punching;
+  disk->grows = disk->grows || is_grow;
+  disk->read_only = disk->read_only || is_snapshot;
+  *at += length;
+  return true;
+}
+
+static const char no_read_only[] = "ro: no command is answered DATA PROTECT yet. snapshot leaves the file alone, and loses what is written";
+
+// Takes all words of a disk.
+static bool take_disk(struct disk *disk, const char *at, char *why, size_t room) {
+  uint64_t target, lun;
+  snprintf(why, room, "%s: not T:L=SIZE[,file=PATH][,grow][,snapshot][,detect-zeroes=unmap], or T:L=file=PATH[,..]", at);
+  if (!number(&at, 255, ':', &target) || !number(&at, 16383, '=', &lun)) return false;
+  disk->target = (uint8_t)target;
+  disk->lun = (uint16_t)lun;
+  bool has_size = *at >= '0' && *at <= '9', stands = has_size ? size(&at, &disk->blocks) : take_word(&at, disk);
+  while (stands && *at == ',') {
+    at++;
+    if (!strcmp(at, "ro") || !strncmp(at, "ro,", 3)) return snprintf(why, room, "%s", no_read_only), false;
+    stands = take_word(&at, disk);
+  }
+  if (!stands || *at) return false;
+  if (!disk->path && (disk->read_only || disk->grows || !has_size)) return snprintf(why, room, "grow and snapshot want file=PATH"), false;
+  if (disk->grows && (disk->read_only || !has_size)) return snprintf(why, room, "grow wants a size, and no snapshot"), false;
+  return true;
+}
+
+bool disks_add(struct disks *disks, const char *words, char *why, size_t room) {
+  struct disk disk = {.file = -1};
+  bool stands = take_disk(&disk, words, why, room);
   if (stands && (disks->count == DEVICE_MOST_UNITS || is_there(disks, &disk))) {
     stands = false;
     snprintf(why, room, "%s: there already, or one disk too many", words);
   }
-  stands = stands && (!path || open_file(&disk, path, why, room));
-  if (!stands) {
-    free(path);
-    if (disk.file >= 0) close(disk.file);
-    return false;
-  }
-  disk.path = path;
+  if (!stands) return free(disk.path), false;
+  size_t place = disks->count;
+  for (const struct disk *it = disks->disks; place; place--)
+    if (it[place - 1].target < disk.target || (it[place - 1].target == disk.target && it[place - 1].lun < disk.lun)) break;
   memmove(disks->disks + place + 1, disks->disks + place, (disks->count - place) * sizeof disk);
   disks->disks[place] = disk;
   disks->count++;
@@ -108,18 +123,20 @@ bool disks_are_whole(const struct disks *disks) {
 void disks_close(struct disks *disks) {
   for (size_t i = 0; i < disks->count; i++) {
     if (disks->disks[i].file >= 0) close(disks->disks[i].file);
-    free(disks->disks[i].path);
     free(disks->disks[i].backlog.ranges);
     store_drop(&disks->stores[i]);
+    free(disks->disks[i].path);
   }
   disks->count = 0;
 }
 
 bool disk_read(const struct disk *disk, uint64_t first, uint32_t count, uint8_t *into) {
   size_t wanted = (size_t)count * DEVICE_BLOCK;
+  if (signals_end_waits()) return false;
   for (size_t done = 0; done < wanted;) {
     ssize_t here = pread(disk->file, into + done, wanted - done, (off_t)(first * DEVICE_BLOCK + done));
-    if (here <= 0 && !(here < 0 && errno == EINTR)) return false;
+    if (here == 0) errno = EIO;
+    if (here <= 0 && errno != EINTR) return log_say(LOG_ERROR, disk, "it can't be read: %s", strerror(errno)), false;
     if (here > 0) done += (size_t)here;
   }
   return true;
@@ -139,7 +156,8 @@ bool disk_write(struct disk *disk, uint64_t first, uint32_t count, const uint8_t
   bool zeros = is_zeros(bytes, wanted);
   if (zeros && is_hole(disk, at, (off_t)wanted)) return true;
   disk->dirty = true;
-  if (zeros && (unmapped || disk->punches) && !fallocate(disk->file, FALLOC_FL_PUNCH_HOLE | FALLOC_FL_KEEP_SIZE, at, (off_t)wanted)) return true;
+  bool punches = zeros && (unmapped || disk->punches);
+  if (punches && !fallocate(disk->file, FALLOC_FL_PUNCH_HOLE | FALLOC_FL_KEEP_SIZE, at, (off_t)wanted)) return true;
   for (size_t done = 0; done < wanted;) {
     ssize_t here = pwrite(disk->file, bytes + done, wanted - done, at + (off_t)done);
     if (here == 0) errno = ENOSPC;

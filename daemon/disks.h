@@ -27,13 +27,16 @@ struct backlog {
 struct disk {
   uint8_t target;
   uint16_t lun;
-  uint64_t blocks;
-  int file;        // below 0: the disk is in memory alone
-  char *path;      // of the file
-  bool read_only;  // never written to that file
-  bool punches;    // a WRITE of zeros may make a hole of the file
-  bool dirty;      // written since disk_sync
-  int error;       // the error number by which the file can't be written now, or 0
+  uint64_t blocks;  // 0 until its image is open, where the command line says no size
+  char *path;       // of its image; NULL: the disk is in memory alone
+  int file;         // below 0: there is no image, or it isn't open
+  bool read_only;   // never written to that image
+  bool grows;       // a shorter image is made as long as the disk
+  bool made;        // there was no image
+  bool punches;     // a WRITE of zeros may make a hole of the image
+  uint64_t length;  // of the image when it was opened, in bytes
+  bool dirty;       // written since disk_sync
+  int error;        // the error number by which the image can't be written now, or 0
   struct backlog backlog;
 };
 
@@ -44,18 +47,19 @@ struct disks {
   bool lost;  // a device couldn't give its disks back
 };
 
-// Adds the disk of words T:L=SIZE[,file=PATH][,ro][,detect-zeroes=unmap], in its place of the order. Returns false, and says why, where the words
-// name none or the file can't be had.
+// Adds the disk of words T:L=SIZE[,file=PATH][,grow][,snapshot][,detect-zeroes=unmap] or T:L=file=PATH[,..], in its place of the order. A
+// comma of the path stands there twice. Opens nothing: images_open does that. Returns false, and says why, where the words name no disk.
 bool disks_add(struct disks *disks, const char *words, char *why, size_t room);
 
 // Returns whether each target has a LUN 0, which the device asks for, and there is a disk.
 bool disks_are_whole(const struct disks *disks);
 
+// Closes all images, and lets go of the blocks.
 void disks_close(struct disks *disks);
 
-// Reads whole blocks of a disk's file, or writes them there. Zeros are left out where the file has a hole or room that was reserved
-// and never written; elsewhere zeros become a hole only where `unmapped` is true or the disk punches. Each returns false where the
-// system refused it, and errno says why.
+// Reads whole blocks of a disk's file, or writes them there. No reading begins once a signal that ends the daemon has come. Zeros are left
+// out where the file has a hole or room that was reserved and never written; elsewhere zeros become a hole only where `unmapped` is true
+// or the disk punches. Each returns false where the system refused it, and errno says why.
 bool disk_read(const struct disk *disk, uint64_t first, uint32_t count, uint8_t *into);
 bool disk_write(struct disk *disk, uint64_t first, uint32_t count, const uint8_t *bytes, bool unmapped);
 

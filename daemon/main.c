@@ -1,62 +1,42 @@
 // The daemon: one socket, one front end at a time, one thread.
 #include <errno.h>
-#include <signal.h>
+#include <fcntl.h>
+#include <poll.h>
 #include <stdio.h>
 #include <stdlib.h>
 #include <string.h>
 #include <sys/epoll.h>
-#include <sys/signalfd.h>
 #include <sys/socket.h>
-#include <sys/un.h>
+#include <time.h>
 #include <unistd.h>
 
+#include "images.h"
+#include "listener.h"
+#include "log.h"
+#include "options.h"
+#include "sandbox.h"
 #include "session.h"
+#include "signals.h"
 
-static const char usage[] =
-    "vscsi-vhost-user --socket PATH --disk T:L=SIZE[,file=PATH][,ro][,detect-zeroes=unmap] .. [--queues N] [--shadow] [--quiet]\n"
-    "A virtio SCSI device for a vhost-user front end. SIZE is in bytes, or ends in K, M, G or T.\n";
-
-enum { EVENT_SIGNAL = 2000, EVENT_LISTENER = 2001, EVENTS = 32, WRONG_WORDS = 2 };
-
-struct options {
-  const char *path;
-  unsigned queues;
-  bool shadow, quiet;
-};
+// PATIENCE: how long a front end may take for the rest of a message, in milliseconds, and for its first one where another wants its place.
+enum { EVENT_SIGNAL = 2000, EVENT_LISTENER = 2001, EVENTS = 32, REFUSED = 1, WRONG_WORDS = 2, WHY = 500, PATIENCE = 5000 };
 
 struct daemon {
   struct options options;
   struct disks disks;
   struct session session;
+  struct listener listener;
+  unsigned long sessions;
   bool connected;
-  int epoll, signals, listener;
+  uint64_t owed_after;  // how many messages the session had read when it began to wait for one
+  int64_t owed_since;   // when that was; 0: it doesn't wait
+  int epoll, signals;
 };
 
-static bool read_words(struct daemon *daemon, char **words) {
-  char why[300];
-  daemon->options = (struct options){.queues = MOST_REQUEST_QUEUES};
-  for (; *words; words++) {
-    bool has = words[1] != NULL;
-    if (!strcmp(*words, "--shadow")) {
-      daemon->options.shadow = true;
-    } else if (!strcmp(*words, "--quiet")) {
-      daemon->options.quiet = true;
-    } else if (has && !strcmp(*words, "--socket")) {
-      daemon->options.path = *++words;
-    } else if (has && !strcmp(*words, "--queues")) {
-      long queues = strtol(*++words, NULL, 10);
-      if (queues < 1 || queues > MOST_REQUEST_QUEUES) return fprintf(stderr, "--queues is 1 to %d\n", MOST_REQUEST_QUEUES), false;
-      daemon->options.queues = (unsigned)queues;
-    } else if (has && !strcmp(*words, "--disk")) {
-      if (!disks_add(&daemon->disks, *++words, why, sizeof why)) return fprintf(stderr, "--disk %s\n", why), false;
-    } else {
-      fputs(usage, stderr);
-      return false;
-    }
-  }
-  if (!daemon->options.path) return fputs(usage, stderr), false;
-  if (!disks_are_whole(&daemon->disks)) return fputs("there is no disk, or a target without LUN 0\n", stderr), false;
-  return true;
+static int64_t now(void) {
+  struct timespec time;
+  clock_gettime(CLOCK_MONOTONIC, &time);
+  return (int64_t)time.tv_sec * 1000 + time.tv_nsec / 1000000;
 }
 
 static bool watch(int epoll, int fd, uint32_t what) {
@@ -64,88 +44,168 @@ static bool watch(int epoll, int fd, uint32_t what) {
   return fd >= 0 && !epoll_ctl(epoll, EPOLL_CTL_ADD, fd, &event);
 }
 
-// Listens at a path. A socket that stands there and that nobody listens at is taken away.
-static int listen_at(const char *path) {
-  struct sockaddr_un address = {.sun_family = AF_UNIX};
-  if (strlen(path) >= sizeof address.sun_path) return errno = ENAMETOOLONG, -1;
-  strcpy(address.sun_path, path);
-  int fd = socket(AF_UNIX, SOCK_STREAM | SOCK_CLOEXEC | SOCK_NONBLOCK, 0), other = socket(AF_UNIX, SOCK_STREAM | SOCK_CLOEXEC | SOCK_NONBLOCK, 0);
-  if (other >= 0 && connect(other, (struct sockaddr *)&address, sizeof address) && errno == ECONNREFUSED) unlink(path);
-  if (other >= 0) close(other);
-  if (fd >= 0 && !bind(fd, (struct sockaddr *)&address, sizeof address) && !listen(fd, 4)) return fd;
-  if (fd >= 0) close(fd);
-  return -1;
-}
-
-static void end_session(struct daemon *daemon) {
+static void end_session(struct daemon *daemon, const char *why) {
+  log_say(LOG_NOTE, NULL, "%s", why);
   session_end(&daemon->session);
   daemon->connected = false;
-  watch(daemon->epoll, daemon->listener, EVENT_LISTENER);
+  log_session(0);
 }
 
-static void take_front_end(struct daemon *daemon) {
+// Begins the session of a connection, which is closed where it can't be.
+static void begin_session(struct daemon *daemon, int fd) {
   const struct options *options = &daemon->options;
-  int fd = accept4(daemon->listener, NULL, NULL, SOCK_CLOEXEC | SOCK_NONBLOCK);
-  if (fd < 0) return;
-  // Others wait until this one is gone.
-  epoll_ctl(daemon->epoll, EPOLL_CTL_DEL, daemon->listener, NULL);
+  log_session(++daemon->sessions);
+  log_say(LOG_NOTE, NULL, "a front end is there");
   daemon->connected = true;
-  if (!session_begin(&daemon->session, fd, daemon->epoll, &daemon->disks, options->queues, options->shadow, options->quiet)) end_session(daemon);
+  daemon->owed_since = 0;
+  if (!session_begin(&daemon->session, fd, daemon->epoll, &daemon->disks, options->queues, options->shadow, options->quiet))
+    end_session(daemon, "it can't be watched");
 }
 
-// Runs until a signal ends it.
-static bool run(struct daemon *daemon) {
-  struct epoll_event events[EVENTS];
-  for (;;) {
-    int count = epoll_wait(daemon->epoll, events, EVENTS, daemon->connected && daemon->session.more ? 0 : -1);
-    if (count < 0 && errno != EINTR) return false;
-    bool stands = true;
-    for (int i = 0; i < count; i++) {
-      uint32_t what = events[i].data.u32;
-      if (what == EVENT_SIGNAL) return true;
-      if (what == EVENT_LISTENER) take_front_end(daemon);
-      else if (daemon->connected && what == EVENT_SOCKET) stands = session_read(&daemon->session) && stands;
-      else if (daemon->connected) session_kicked(&daemon->session, what);
-    }
-    if (daemon->connected && stands && daemon->session.more) stands = session_serve(&daemon->session);
-    if (daemon->connected && !stands) end_session(daemon);
+// Returns whether the other end of a connection is gone. What it sent before may still be there.
+static bool is_gone(int fd) {
+  struct pollfd asked = {.fd = fd, .events = POLLRDHUP};
+  return poll(&asked, 1, 0) == 1;
+}
+
+// Takes a connection, or refuses it: one front end is served at a time.
+static void take_front_end(struct daemon *daemon) {
+  struct session *session = &daemon->session;
+  // What a front end sent before it went is read first; the next one waits that long.
+  if (daemon->connected && is_gone(session->socket)) return;
+  int fd = accept4(daemon->listener.fd, NULL, NULL, SOCK_CLOEXEC | SOCK_NONBLOCK);
+  // Where the system has no descriptor left the connection waits, and so does the daemon.
+  if (fd < 0 && errno != EAGAIN && errno != EINTR) poll(NULL, 0, 10);
+  if (fd < 0) return;
+  bool is_silent = daemon->connected && !session->messages && daemon->owed_since && now() - daemon->owed_since >= PATIENCE;
+  if (is_silent) end_session(daemon, "it said nothing, and another front end came");
+  if (!daemon->connected) {
+    begin_session(daemon, fd);
+    return;
   }
+  close(fd);
+  log_say(LOG_NOTE, NULL, "another front end came, and was refused");
+}
+
+// Returns how many milliseconds the front end has left for a message that it owes, or -1 where there is no such limit.
+static int patience(struct daemon *daemon) {
+  struct session *session = &daemon->session;
+  if (!daemon->connected || !session_is_owed(session)) {
+    daemon->owed_since = 0;
+    return -1;
+  }
+  if (!daemon->owed_since || daemon->owed_after != session->messages) {
+    daemon->owed_since = now();
+    daemon->owed_after = session->messages;
+  }
+  int64_t left = daemon->owed_since + PATIENCE - now();
+  // A front end that hasn't begun a message may be a machine that is still starting: it stays while no other wants its place.
+  if (!session->reader.have) return -1;
+  return left > 0 ? (int)left : 0;
+}
+
+// Does what a few events ask for. Returns false where the daemon is to end.
+static bool take_events(struct daemon *daemon, const struct epoll_event *events, int count) {
+  bool stands = true, comes = false;
+  for (int i = 0; i < count; i++) {
+    uint32_t what = events[i].data.u32;
+    enum signal_read came = what == EVENT_SIGNAL ? signals_read(daemon->signals) : SIGNAL_NONE;
+    if (came == SIGNAL_END) return false;
+    if (came == SIGNAL_LOG) log_reopen();
+    else if (what == EVENT_LISTENER) comes = true;
+    else if (daemon->connected && what == EVENT_SOCKET) stands = session_read(&daemon->session) && stands;
+    else if (daemon->connected && what < EVENT_SIGNAL) session_kicked(&daemon->session, what);
+  }
+  if (daemon->connected && stands && daemon->session.more) stands = session_serve(&daemon->session);
+  if (daemon->connected && !stands) end_session(daemon, "the session is over");
+  if (comes) take_front_end(daemon);
+  return true;
+}
+
+// Serves until a signal ends it, or the one front end that was handed in is gone. Returns false where it can't go on.
+static bool serve(struct daemon *daemon) {
+  struct epoll_event events[EVENTS];
+  while (daemon->connected || !daemon->listener.connected) {
+    int wait = patience(daemon);
+    if (wait == 0) {
+      end_session(daemon, "it sent half a message, and no more");
+      continue;
+    }
+    int count = epoll_wait(daemon->epoll, events, EVENTS, daemon->connected && daemon->session.more ? 0 : wait);
+    if (count < 0 && errno != EINTR) return log_say(LOG_ERROR, NULL, "no event can be waited for: %s", strerror(errno)), false;
+    if (!take_events(daemon, events, count)) return true;
+  }
+  return true;
+}
+
+// Opens all, in an order by which nothing is made or changed before whatever may be refused was tried: the socket comes last, so a front
+// end never waits for disks that are still loaded.
+static bool open_all(struct daemon *daemon, char *why, size_t room) {
+  const struct options *options = &daemon->options;
+  struct owner owner;
+  bool has_path = options->path;
+  if (!sandbox_find(&owner, options->user, options->group, why, room)) return false;
+  if (has_path ? !listener_can_bind(options->path, why, room) : !listener_take(&daemon->listener, options->fd, why, room)) return false;
+  if (!images_open(&daemon->disks, why, room)) return false;
+  bool stands = images_make(&daemon->disks, owner.user, owner.group, why, room) && blocks_load(&daemon->disks, why, room) &&
+                (!has_path || listener_bind(&daemon->listener, options->path, options->mode, owner.user, owner.group, why, room)) &&
+                sandbox_become(&owner, why, room) && (!options->limits || sandbox_limit(options->path, options->log, why, room));
+  if (!stands) images_undo(&daemon->disks);
+  return stands;
+}
+
+static int refuse(const char *why) {
+  log_say(LOG_ERROR, NULL, "%s", why);
+  return REFUSED;
+}
+
+// Opens all and serves. Returns the status to end with.
+static int run(struct daemon *daemon) {
+  char why[WHY];
+  daemon->signals = signals_begin();
+  daemon->epoll = epoll_create1(EPOLL_CLOEXEC);
+  if (!sandbox_begin() || !watch(daemon->epoll, daemon->signals, EVENT_SIGNAL)) return refuse(strerror(errno));
+  if (!open_all(daemon, why, sizeof why)) {
+    if (signals_end_waits()) return log_say(LOG_NOTE, NULL, "ended before it served"), 0;
+    return refuse(why);
+  }
+  const char *place = daemon->options.path ? daemon->options.path : "a descriptor";
+  log_say(LOG_NOTE, NULL, "serves %zu disks at %s; %s", daemon->disks.count, place, sandbox_limits());
+  if (daemon->listener.connected) {
+    begin_session(daemon, daemon->listener.fd);
+    daemon->listener.fd = -1;
+  } else if (!watch(daemon->epoll, daemon->listener.fd, EVENT_LISTENER)) {
+    return refuse(strerror(errno));
+  }
+  bool served = serve(daemon);
+  if (daemon->connected) end_session(daemon, "the daemon ends");
+  if (!blocks_finish(&daemon->disks, why, sizeof why)) return refuse(why);
+  return served ? 0 : REFUSED;
+}
+
+// Has something stand at the standard descriptors, so none of the daemon's own files is taken for one of them.
+static bool hold_standard(void) {
+  int fd = open("/dev/null", O_RDWR);
+  while (fd >= 0 && fd <= STDERR_FILENO) fd = open("/dev/null", O_RDWR);
+  return fd >= 0 && !close(fd);
 }
 
 int main(int count, char **words) {
-  struct daemon *daemon = calloc(1, sizeof *daemon);
-  int status = 1;
-  sigset_t signals;
-  if (!daemon || count < 1) return 1;
-  if (!read_words(daemon, words + 1)) {
-    status = WRONG_WORDS;
-    goto end;
+  struct daemon *daemon = hold_standard() ? calloc(1, sizeof *daemon) : NULL;
+  if (!daemon) return REFUSED;
+  *daemon = (struct daemon){.listener.fd = -1, .epoll = -1, .signals = -1};
+  enum wanted wanted = options_read(&daemon->options, &daemon->disks, count, words);
+  int status = wanted == WANTED_WRONG ? WRONG_WORDS : 0;
+  if (wanted == WANTED_RUN && !log_open(daemon->options.log, daemon->options.quiet)) {
+    fprintf(stderr, "%s: %s\n", daemon->options.log, strerror(errno));
+    status = REFUSED;
+  } else if (wanted == WANTED_RUN) {
+    status = run(daemon);
+    if (!listener_close(&daemon->listener)) log_say(LOG_ERROR, NULL, "the socket's path stays: %s", strerror(errno));
+    log_close();
   }
-  sigemptyset(&signals);
-  sigaddset(&signals, SIGTERM);
-  sigaddset(&signals, SIGINT);
-  sigprocmask(SIG_BLOCK, &signals, NULL);
-  signal(SIGPIPE, SIG_IGN);
-  // A file that gets too long is an error of the call's.
-  signal(SIGXFSZ, SIG_IGN);
-  daemon->epoll = epoll_create1(EPOLL_CLOEXEC);
-  daemon->signals = signalfd(-1, &signals, SFD_CLOEXEC | SFD_NONBLOCK);
-  daemon->listener = listen_at(daemon->options.path);
-  if (daemon->listener < 0) {
-    fprintf(stderr, "%s: %s\n", daemon->options.path, strerror(errno));
-  } else if (watch(daemon->epoll, daemon->signals, EVENT_SIGNAL) && watch(daemon->epoll, daemon->listener, EVENT_LISTENER)) {
-    bool ended = run(daemon);
-    if (daemon->connected) end_session(daemon);
-    unlink(daemon->options.path);
-    char why[300];
-    bool kept = blocks_finish(&daemon->disks, why, sizeof why);
-    if (!kept) fprintf(stderr, "vscsi-vhost-user: %s\n", why);
-    status = ended && kept ? 0 : 1;
-  }
-  if (daemon->listener >= 0) close(daemon->listener);
   if (daemon->signals >= 0) close(daemon->signals);
   if (daemon->epoll >= 0) close(daemon->epoll);
-end:
   disks_close(&daemon->disks);
   free(daemon);
   return status;

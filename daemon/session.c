@@ -10,6 +10,7 @@
 #include "bytes.h"
 #include "clock.h"
 #include "guard.h"
+#include "log.h"
 #include "space.h"
 
 #define OFFERED ((VSCSI_ACCEPTED_FEATURES & ~VSCSI_F_CHANGE) | F_PROTOCOL_FEATURES)
@@ -23,10 +24,8 @@ enum { MOST_ROUNDS = 64, WHY = 200, REGION_BYTES = 32, SPACE_HEAD = 12, MOST_SPA
 // How often it is said that a file can't be written, and how often a ring is looked at that has no kick: milliseconds.
 enum { COMPLAINT = 60000, POLL = 1 };
 
-static void complain(const char *what, const char *why) { fprintf(stderr, "vscsi-vhost-user: %s: %s\n", what, why); }
-
 static void say(const struct session *session, const char *what, const char *why) {
-  if (!session->quiet) complain(what, why);
+  if (!session->quiet) log_say(LOG_NOTE, NULL, "%s: %s", what, why);
 }
 
 static bool watch(int epoll, int fd, uint32_t what) {
@@ -216,6 +215,8 @@ static bool is_busy(const struct session *session) {
   return backend->device.live && backend->phase != FETCHING && !backend->pause;
 }
 
+bool session_is_owed(const struct session *session) { return !session->messages || session->reader.have; }
+
 static bool read_on(void *with) {
   struct session *session = with;
   // A front end that sends on and on has its rings served in between.
@@ -223,6 +224,7 @@ static bool read_on(void *with) {
     struct message message = {0};
     enum read_answer answer = reader_next(&session->reader, session->socket, &message);
     if (answer != READ_MESSAGE) return answer == READ_WAITS;
+    session->messages++;
     if (is_final(message.request) && is_busy(session)) {
       session->waiting = message;
       session->is_waiting = true;
@@ -236,7 +238,7 @@ static bool read_on(void *with) {
 // Makes a call that may look at the guest's memory. Where a front end took some of it away, its session ends.
 static bool guarded(struct session *session, bool (*call)(void *session)) {
   bool stands = false;
-  if (!guard_run(call, session, &stands)) say(session, "the session ends", "the guest's memory became shorter");
+  if (!guard_run(call, session, &stands)) log_say(LOG_ERROR, NULL, "the session ends: the guest's memory became shorter");
   return stands;
 }
 
@@ -276,15 +278,13 @@ static void tell_files(struct session *session) {
   bool is_due = !session->complained || clock_now() - session->complained >= COMPLAINT, fails = false;
   for (size_t i = 0; i < disks->count; i++) {
     const struct disk *disk = &disks->disks[i];
-    char what[WHY];
     if (!disk->error) continue;
     fails = true;
-    snprintf(what, sizeof what, "disk %u:%u: %s can't be written, and is tried again", disk->target, disk->lun, disk->path);
-    if (is_due) complain(what, strerror(disk->error));
+    if (is_due) log_say(LOG_ERROR, disk, "can't be written, and is tried again: %s", strerror(disk->error));
   }
   if (fails && is_due) session->complained = clock_now();
   if (!fails && session->complained) {
-    complain("disks", "every file can be written again");
+    log_say(LOG_ERROR, NULL, "every disk's file can be written again");
     session->complained = 0;
   }
 }
@@ -316,7 +316,7 @@ static bool make_device(struct session *session, uint32_t queues) {
   char why[WHY] = "";
   struct backend *backend = &session->backend;
   if (!backend_has(backend, queues)) return true;
-  if (!backend_begin(backend, why, sizeof why)) return say(session, "no device", why), false;
+  if (!backend_begin(backend, why, sizeof why)) return log_say(LOG_ERROR, NULL, "no device: %s", why), false;
   say(session, "a device", backend->shadow ? "shadow mode" : "direct mode");
   return true;
 }
@@ -337,7 +337,7 @@ static bool serve(void *with) {
     notify(session, owed);
   }
   tell_files(session);
-  if (served == FAILED) return say(session, "the session ends", why), false;
+  if (served == FAILED) return log_say(LOG_ERROR, NULL, "the session ends: %s", why), false;
   session->more = served == MORE || served == BUSY;
   wait(session, served);
   if (!session->is_waiting || is_busy(session)) return true;

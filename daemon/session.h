@@ -21,6 +21,7 @@ struct session {
   struct backend backend;
   struct session_queue queues[MOST_QUEUES];
   uint64_t features, protocol;
+  uint64_t messages;  // that came
   bool more, quiet;
   int timer;               // by which a round that has to wait is tried again
   struct message waiting;  // a message that ends the device, until a round's answers are shown
@@ -39,6 +40,9 @@ void session_end(struct session *session);
 
 // Reads and does what messages there are. Returns false where the connection is over.
 bool session_read(struct session *session);
+
+// Returns whether the front end owes a message: it has sent none yet, or a part of one.
+bool session_is_owed(const struct session *session);
 
 // Takes a queue's kick, or the timer's.
 void session_kicked(struct session *session, unsigned what);

@@ -10,6 +10,7 @@
 
 #include "../bytes.h"
 #include "../clock.h"
+#include "../images.h"
 #include "faults.h"
 #include "front.h"
 
@@ -20,17 +21,20 @@ enum { Q = 2, WAYS = 16, APART = 1000003, PATIENCE = 60000, LUN_RESET = 5 };
 // In memory where the system has that, since a test waits for each fdatasync.
 static char path[] = "/dev/shm/vscsi-round-XXXXXX";
 
-// Makes disk 0:0 of this size on a new file.
-static void make_disk(struct disks *disks, const char *size) {
+// Makes disk 0:0 of this size on a new file, with more words.
+static void make_disk_with(struct disks *disks, const char *size, const char *more) {
   char words[100], why[200];
   memset(disks, 0, sizeof *disks);
   if (access("/dev/shm", W_OK)) strcpy(path, "/tmp/vscsi-round-XXXXXX");
   memset(path + strlen(path) - 6, 'X', 6);
   close(mkstemp(path));
-  snprintf(words, sizeof words, "0:0=%s,file=%s", size, path);
-  MUST(disks_add(disks, words, why, sizeof why));
+  snprintf(words, sizeof words, "0:0=%s,file=%s,grow%s", size, path, more);
+  MUST(disks_add(disks, words, why, sizeof why) && images_open(disks, why, sizeof why));
+  MUST(images_make(disks, (uid_t)-1, (gid_t)-1, why, sizeof why));
   faults_clear();
 }
+
+static void make_disk(struct disks *disks, const char *size) { make_disk_with(disks, size, ""); }
 
 static void begin(struct front *front, struct disks *disks, unsigned number) {
   front_begin_sized(front, disks, way_of(number), LARGE_RING);

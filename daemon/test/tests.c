@@ -8,6 +8,7 @@
 
 #include "../bytes.h"
 #include "../chain.h"
+#include "../images.h"
 #include "chains.h"
 #include "front.h"
 #include "rounds.h"
@@ -32,6 +33,7 @@ static void make_disks(struct disks *disks, const char *words) {
   char why[200];
   MUST(disks_add(disks, words, why, sizeof why));
   MUST(disks_are_whole(disks));
+  MUST(images_open(disks, why, sizeof why) && images_make(disks, (uid_t)-1, (gid_t)-1, why, sizeof why));
 }
 
 // Commands of every kind that changes blocks; what they leave is looked at by each later session.
@@ -242,7 +244,7 @@ static void test_rings(void) {
   disks_close(&disks);
 }
 
-// A disk on a file: another daemon finds it, and one that is read only leaves the file alone.
+// A disk on a file: another daemon finds it, and one that has a snapshot leaves the file alone.
 static void test_files(void) {
   char path[] = "/tmp/vscsi-disk-XXXXXX", words[100], why[200];
   uint8_t kept[BYTES], other[BYTES], found[BYTES];
@@ -250,10 +252,11 @@ static void test_files(void) {
   for (unsigned turn = 0; turn < 4; turn++) {
     struct disks disks = {0};
     struct front front;
-    snprintf(words, sizeof words, "0:0=1M,file=%s%s", path, turn == 2 ? ",ro" : "");
+    snprintf(words, sizeof words, "0:0=1M,file=%s%s", path, turn == 2 ? ",snapshot" : turn ? "" : ",grow");
     make_disks(&disks, words);
     struct disks second = {0};
-    if (turn == 0) MUST(!disks_add(&second, words, why, sizeof why));
+    if (turn == 0) MUST(disks_add(&second, words, why, sizeof why) && !images_open(&second, why, sizeof why));
+    disks_close(&second);
     front_begin(&front, &disks, way_of(turn));
     front_agree(&front);
     if (turn) look(&front, kept);
@@ -269,12 +272,24 @@ static void test_files(void) {
 }
 
 static void test_words(void) {
-  static const char *const wrong[] = {"", "0", "0:0", "0:0=", "0:0=0", "0:0=513", "0:0=1M,", "0:0=1M,rw", "0:0=1M,ro", "256:0=1M", "0:16384=1M", "0:0=1P",
-                                      "0:0=9999999999999999999999", "0:0=1M,file=", "0:0=1M,file=/", "0:0=1M,file=/nowhere/x", "-1:0=1M", "0:0=1025T"};
+  static const char *const wrong[] = {"", "0", "0:0", "0:0=", "0:0=0", "0:0=513", "0:0=1M,", "0:0=1M,rw", "256:0=1M", "0:16384=1M", "0:0=1P",
+                                      "0:0=9999999999999999999999", "0:0=1M,file=", "-1:0=1M", "0:0=1025T", "0:0=1M,ro", "0:0=1M,ro,file=x",
+                                      "0:0=1M,snapshot", "0:0=1M,grow", "0:0=1M,file=x,grow,snapshot", "0:0=file=", "0:0=file=x,grow",
+                                      "0:0=file=x,1M", "0:0=1M,file=x,file=y", "0:0=snapshot", "0:0=1M,file=x,", "0:0=1M,file=x,,,"};
+  static const char *const refused[] = {"0:0=1M,file=/", "0:0=1M,file=/nowhere/x", "0:0=file=/nowhere/x", "0:0=1M,file=/nowhere/x,snapshot"};
   char why[300];
   struct disks disks = {0};
   for (size_t i = 0; i < sizeof wrong / sizeof *wrong; i++) MUST(!disks_add(&disks, wrong[i], why, sizeof why) && *why);
   MUST(!disks_are_whole(&disks));
+  for (size_t i = 0; i < sizeof refused / sizeof *refused; i++) {
+    *why = 0;
+    MUST(disks_add(&disks, refused[i], why, sizeof why) && disks_are_whole(&disks));
+    MUST(!(images_open(&disks, why, sizeof why) && images_make(&disks, (uid_t)-1, (gid_t)-1, why, sizeof why)) && *why);
+    images_undo(&disks);
+    disks_close(&disks);
+  }
+  MUST(disks_add(&disks, "0:0=1M,snapshot,file=a,,b,,,,c", why, sizeof why) && !strcmp(disks.disks[0].path, "a,b,,c") && disks.disks[0].read_only);
+  disks_close(&disks);
   MUST(disks_add(&disks, "1:1=512", why, sizeof why) && !disks_are_whole(&disks) && !disks_add(&disks, "1:1=512", why, sizeof why));
   MUST(disks_add(&disks, "1:0=4G", why, sizeof why) && disks_are_whole(&disks) && disks.disks[0].lun == 0 && disks.disks[0].blocks == 4 << 21);
   disks_close(&disks);

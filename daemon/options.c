@@ -1,0 +1,138 @@
+#include "options.h"
+
+#include <errno.h>
+#include <getopt.h>
+#include <limits.h>
+#include <stdio.h>
+#include <stdlib.h>
+#include <string.h>
+#include <unistd.h>
+
+#include "backend.h"
+#include "sandbox.h"
+
+#ifndef VSCSI_DAEMON_VERSION
+#define TEXT_OF(number) #number
+#define TEXT(number) TEXT_OF(number)
+#define VSCSI_DAEMON_VERSION TEXT(VSCSI_VERSION_MAJOR) "." TEXT(VSCSI_VERSION_MINOR) "." TEXT(VSCSI_VERSION_PATCH)
+#endif
+
+static const char usage[] =
+    "vscsi-vhost-user --socket PATH|--fd N --disk T:L=SIZE[,file=PATH][,grow][,snapshot][,detect-zeroes=unmap] ..\n"
+    "A virtio SCSI device for a vhost-user front end.\n"
+    "\n"
+    "  --socket PATH        listen there (also --socket-path)\n"
+    "  --fd N               take the listening or connected socket with this number\n"
+    "  --mode OCTAL         the mode of the socket at PATH\n"
+    "  --disk T:L=SIZE      a disk at target T and LUN L, of SIZE bytes, or K, M, G or T of them\n"
+    "  --disk T:L=file=PATH a disk as long as its file\n"
+    "      file=PATH        keep it on this file or block device; a comma of the path is written twice\n"
+    "      grow             make a shorter file as long as SIZE\n"
+    "      snapshot         never write the file; what the guest writes is lost at the end\n"
+    "      detect-zeroes=unmap  zeros that the guest writes become holes of the file\n"
+    "  --queues N           at most N request queues, 1 to 16\n"
+    "  --shadow             take shadow mode for every guest\n"
+    "  --user NAME          run as this user once all is open\n"
+    "  --group NAME         run as this group\n"
+    "  --seccomp on|off     limit what the process may do; on is the default\n"
+    "  --log PATH           add lines to this file, in place of standard error\n"
+    "  --quiet              say errors alone\n"
+    "  --help, --version, --print-capabilities\n";
+
+enum word { SOCKET = 256, FD, MODE, DISK, QUEUES, SHADOW, USER, GROUP, SECCOMP, LOG, QUIET, HELP, VERSION_WORD, CAPABILITIES };
+
+static const struct option known[] = {{"socket", required_argument, NULL, SOCKET},
+                                      {"socket-path", required_argument, NULL, SOCKET},
+                                      {"fd", required_argument, NULL, FD},
+                                      {"mode", required_argument, NULL, MODE},
+                                      {"disk", required_argument, NULL, DISK},
+                                      {"queues", required_argument, NULL, QUEUES},
+                                      {"shadow", no_argument, NULL, SHADOW},
+                                      {"user", required_argument, NULL, USER},
+                                      {"group", required_argument, NULL, GROUP},
+                                      {"seccomp", required_argument, NULL, SECCOMP},
+                                      {"log", required_argument, NULL, LOG},
+                                      {"quiet", no_argument, NULL, QUIET},
+                                      {"help", no_argument, NULL, HELP},
+                                      {"version", no_argument, NULL, VERSION_WORD},
+                                      {"print-capabilities", no_argument, NULL, CAPABILITIES},
+                                      {0}};
+
+// Takes a whole word as a number from `least` to `most`; `wanted` says in the operator's words what it has to be.
+static bool number(const char *word, int base, long least, long most, const char *wanted, int *found) {
+  char *end;
+  errno = 0;
+  long value = strtol(word, &end, base);
+  bool is_number = *word >= '0' && *word <= '9' && !*end && !errno;
+  if (!is_number || value < least || value > most) return fprintf(stderr, "%s, not %s\n", wanted, word), false;
+  *found = (int)value;
+  return true;
+}
+
+static bool seccomp(struct options *options, const char *word) {
+  options->limits = !strcmp(word, "on");
+  if (!options->limits && strcmp(word, "off")) return fprintf(stderr, "--seccomp is on or off, not %s\n", word), false;
+  if (options->limits && !sandbox_has_seccomp()) return fputs("--seccomp on: this daemon is built without it\n", stderr), false;
+  return true;
+}
+
+// Takes one word and what stands behind it.
+static bool take(struct options *options, struct disks *disks, int word, char *behind) {
+  char why[500];
+  int queues;
+  switch (word) {
+    case SOCKET: return options->path = behind, true;
+    case FD: return number(behind, 10, STDERR_FILENO + 1, INT_MAX, "--fd is the number of a descriptor, 3 or more", &options->fd);
+    case MODE: return number(behind, 8, 0, 0777, "--mode is an octal number from 0 to 777", &options->mode);
+    case USER: return options->user = behind, true;
+    case GROUP: return options->group = behind, true;
+    case LOG: return options->log = behind, true;
+    case SHADOW: return options->shadow = true;
+    case QUIET: return options->quiet = true;
+    case SECCOMP: return seccomp(options, behind);
+    case QUEUES:
+      if (!number(behind, 10, 1, MOST_REQUEST_QUEUES, "--queues is a number from 1 to 16", &queues)) return false;
+      options->queues = (unsigned)queues;
+      return true;
+    case DISK: return disks_add(disks, behind, why, sizeof why) || (fprintf(stderr, "--disk %s\n", why), false);
+    default: return false;
+  }
+}
+
+// Takes the socket that systemd handed in, where the command line names none.
+static void take_activation(struct options *options) {
+  const char *process = getenv("LISTEN_PID"), *count = getenv("LISTEN_FDS");
+  if (options->path || options->fd >= 0 || !process || !count) return;
+  if (strtol(process, NULL, 10) == (long)getpid() && !strcmp(count, "1")) options->fd = STDERR_FILENO + 1;
+}
+
+static bool is_whole(const struct options *options, const struct disks *disks) {
+  if (!options->path == (options->fd < 0)) return fputs("say one of --socket PATH and --fd N\n", stderr), false;
+  if (options->mode >= 0 && !options->path) return fputs("--mode is of the socket that --socket makes\n", stderr), false;
+  if (!disks_are_whole(disks)) return fputs("there is no disk, or a target without LUN 0\n", stderr), false;
+  for (size_t i = 0; options->log && i < disks->count; i++) {
+    const char *image = disks->disks[i].path;
+    if (image && !strcmp(image, options->log)) return fprintf(stderr, "--log %s: a disk is kept there\n", image), false;
+  }
+  return true;
+}
+
+static bool print(const char *text) { return fputs(text, stdout) >= 0 && !fflush(stdout); }
+
+enum wanted options_read(struct options *options, struct disks *disks, int count, char **words) {
+  int word;
+  *options = (struct options){.fd = -1, .mode = -1, .queues = MOST_REQUEST_QUEUES, .limits = true};
+  while ((word = getopt_long(count, words, "", known, NULL)) != -1) {
+    if (word == HELP) return print(usage) ? WANTED_NOTHING : WANTED_WRONG;
+    if (word == CAPABILITIES) return print("{\"type\": \"scsi\", \"features\": []}\n") ? WANTED_NOTHING : WANTED_WRONG;
+    if (word == VERSION_WORD) {
+      const char *built = sandbox_has_seccomp() ? "with seccomp" : "without seccomp";
+      return printf("vscsi-vhost-user %s\n%s\n", VSCSI_DAEMON_VERSION, built) > 0 && !fflush(stdout) ? WANTED_NOTHING : WANTED_WRONG;
+    }
+    if (word == '?' || !take(options, disks, word, optarg)) return fputs("--help says the words\n", stderr), WANTED_WRONG;
+  }
+  take_activation(options);
+  if (optind == count && is_whole(options, disks)) return WANTED_RUN;
+  if (optind < count) fprintf(stderr, "%s: no word of the daemon's\n", words[optind]);
+  return fputs("--help says the words\n", stderr), WANTED_WRONG;
+}

@@ -1,0 +1,834 @@
+"""Tests the daemon as its operator meets it: its words, its socket, its images, its log, its limits. Part of tools/daemon_tests.
+
+Each test is a function of a Room: the program, an empty folder, and what else the machine has. A test ends with an AssertionError
+where something isn't so.
+"""
+
+import contextlib
+import errno
+import fcntl
+import json
+import os
+import re
+import resource
+import shutil
+import signal
+import socket
+import stat
+import struct
+import subprocess
+import time
+from pathlib import Path
+
+from front_end import FrontEnd
+
+DOCS = Path(__file__).resolve().parent.parent.parent / "docs"
+MIB = 1 << 20
+GET_FEATURES, SET_OWNER = 1, 3
+# QEMU's bytes: a permission that is used is 100 and its bit, one that isn't shared 200 and its bit.
+READS, WRITES, RESIZES = 0, 1, 3
+
+
+class Room:
+    """Where a test runs: a folder of its own, the daemon, and what was built beside it."""
+
+    def __init__(self, folder, program, shim=None):
+        self.folder, self.program, self.shim = folder, program, shim
+        self.socket = folder / "socket"
+        # What the daemon does within a second has this long, since the machine may be busy; sanitizers look for leaks at the end.
+        self.late = 2 if shim else 10
+
+    def file(self, name, size=MIB, fill=b"\x5a"):
+        """Makes a file of so many bytes."""
+        path = self.folder / name
+        path.write_bytes(fill * size)
+        return path
+
+    def ends(self, *words, status, says="", **more):
+        """Runs the daemon to its end, which comes by itself, with this status and a text on standard error. Gives its standard output."""
+        run = subprocess.run([self.program, *words], capture_output=True, text=True, timeout=20, **more)
+        assert run.returncode == status, f"{words}: status {run.returncode}, {run.stderr}"
+        assert says in run.stderr and (status == 0) == (not run.stderr), f"{words}: {run.stderr!r}"
+        return run.stdout
+
+    def refuses(self, *words, says="", **more):
+        """The daemon ends with status 1 and a text, and no socket is left."""
+        before = self.socket.exists()
+        self.ends("--socket", self.socket, *words, status=1, says=says, **more)
+        assert self.socket.exists() == before
+
+    @contextlib.contextmanager
+    def runs(self, *words, ends=0, by=signal.SIGTERM, path=None, stderr=subprocess.PIPE, **more):
+        """A daemon that runs until the block ends, and then is ended by a signal, with this status. With `path` it listens there."""
+        path = path or self.socket
+        named = [] if any(str(word).startswith("--fd") for word in words) else ["--socket", path]
+        run = subprocess.Popen([self.program, *named, *words], stderr=stderr, text=True, **more)
+        try:
+            if named:
+                wait_for(lambda: run.poll() is not None or (path.exists() and listens(path)), "the daemon to listen")
+                assert run.poll() is None, f"{words}: status {run.returncode}, {run.stderr.read() if run.stderr else ''}"
+            yield run
+            run.send_signal(by)
+            began = time.monotonic()
+            assert run.wait(20) == ends, f"{words}: status {run.returncode}"
+            assert time.monotonic() - began < self.late, f"{words}: ended late"
+        finally:
+            run.kill()
+            run.wait()
+            if run.stderr:
+                run.stderr.close()
+
+
+def wait_for(is_so, what, seconds=10):
+    end = time.monotonic() + seconds
+    while not is_so():
+        assert time.monotonic() < end, f"waited for {what}"
+        time.sleep(0.02)
+
+
+def listens(path):
+    """Whether the table of sockets has one that listens at a path. Nothing is connected."""
+    lines = Path("/proc/net/unix").read_text(errors="replace").splitlines()
+    return any(line.endswith(f" {path}") and line.split()[3] == "00010000" for line in lines)
+
+
+def connected(path):
+    it = socket.socket(socket.AF_UNIX)
+    it.connect(str(path))
+    it.settimeout(10)
+    return it
+
+
+def message(request, payload=b"", flags=1):
+    return struct.pack("<III", request, flags, len(payload)) + payload
+
+
+def is_served(front):
+    """Whether a front end is answered."""
+    try:
+        front.sendall(message(GET_FEATURES))
+        got = front.recv(20)
+    except OSError:
+        return False
+    return len(got) == 20 and struct.unpack("<IIIQ", got)[:3] == (GET_FEATURES, 5, 8) and got[16] & 1 == 1
+
+
+def serves(path):
+    with connected(path) as front:
+        return is_served(front)
+
+
+def is_over(front, seconds):
+    """Whether the daemon ends a connection within so many seconds."""
+    front.settimeout(seconds)
+    try:
+        return front.recv(1) == b""
+    except ConnectionError:
+        return True
+    except socket.timeout:
+        return False
+
+
+# The socket.
+
+
+def test_socket_takes_no_file(room):
+    """Only a socket that nobody listens at is ever taken away."""
+    disk = room.file("disk.img")
+    words = ["--disk", f"0:0=1M,file={disk}"]
+    room.ends("--socket", disk, *words, status=1, says="disk.img: ")
+    assert disk.read_bytes() == b"\x5a" * MIB
+    link, pipe, notes = room.folder / "link", room.folder / "pipe", room.file("notes", 10)
+    link.symlink_to(notes)
+    os.mkfifo(pipe)
+    for path in (link, pipe, notes):
+        room.ends("--socket", path, *words, status=1, says=f"{path.name}: ")
+    assert link.is_symlink() and pipe.is_fifo() and notes.read_bytes() == b"\x5a" * 10
+    stale = socket.socket(socket.AF_UNIX)
+    stale.bind(str(room.socket))
+    stale.close()
+    link.unlink()
+    link.symlink_to(room.socket)
+    room.ends("--socket", link, *words, status=1, says="link: ")
+    assert link.is_symlink() and room.socket.is_socket()
+    with room.runs(*words):
+        assert serves(room.socket)
+    assert not room.socket.exists()
+
+
+def test_socket_of_another_stays(room):
+    """A second daemon is refused at a path that is listened at, and one that took the path over keeps it."""
+    with room.runs("--disk", "0:0=1M") as first:
+        room.refuses("--disk", "0:0=1M", says="socket: ")
+        assert serves(room.socket)
+        room.socket.unlink()
+        with room.runs("--disk", "0:0=1M"):
+            first.terminate()
+            assert first.wait(10) == 0
+            assert serves(room.socket)
+    assert not room.socket.exists()
+
+
+def test_one_of_many_gets_a_path(room):
+    """Of daemons that start at once where a stale socket stands, one listens, and the others are refused."""
+    for _ in range(5):
+        stale = socket.socket(socket.AF_UNIX)
+        stale.bind(str(room.socket))
+        stale.close()
+        words = [room.program, "--socket", room.socket, "--disk", "0:0=1M", "--quiet"]
+        runs = [subprocess.Popen(words, stderr=subprocess.DEVNULL) for _ in range(6)]
+        try:
+            wait_for(lambda: sum(run.poll() is None for run in runs) <= 1, "five to be refused")
+            wait_for(lambda: listens(room.socket), "one to listen")
+            assert sorted(run.poll() or 0 for run in runs) == [0, 1, 1, 1, 1, 1] and serves(room.socket)
+        finally:
+            for run in runs:
+                run.terminate()
+                run.wait(10)
+
+
+# Words and statuses.
+
+
+def test_words(room):
+    """Wrong words are status 2 and a text; help and versions are status 0 and on standard output."""
+    disk, named = ["--disk", "0:0=1M"], ["--socket", room.socket]
+    wrong = [[], ["--socket"], named, disk, [*named, "--disk", "0:1=1M"], ["--queues", "16"], [*named, *disk, "--queues", "5abc"],
+             [*named, *disk, "--queues", "17"], [*named, *disk, "--queues", ""], [*named, *disk, "x"], [*named, *disk, "--x"],
+             [*named, *disk, "--mode", "888"], [*named, *disk, "--mode", "1777"], [*named, *disk, "--fd", "3"], [*disk, "--fd", "1"],
+             [*disk, "--fd", "3", "--mode", "600"], [*named, *disk, "--seccomp", "maybe"], [*named, "--disk", "0:0=1M,snapshot"],
+             [*named, "--disk", "0:0=1M,grow"], [*named, "--disk", "0:0=1M,file=x", "--log", "x"], [*named, "--disk", "0:0=file="], [*named, "--disk", "0:0=file=x,grow"]]
+    for words in wrong:
+        assert room.ends(*words, status=2) == ""
+    usage = room.ends("--help", status=0)
+    assert all(word in usage for word in ("--socket", "--disk", "--user", "--log", "snapshot", "grow"))
+    assert re.fullmatch(r"vscsi-vhost-user \d+\.\d+\S*\nwith(out)? seccomp\n", room.ends("--version", status=0))
+    assert json.loads(room.ends("--print-capabilities", status=0)) == {"type": "scsi", "features": []}
+
+
+def test_documents(room):
+    """The page, the manual and --help have the same words."""
+    said = [set(re.findall(r"--[a-z][a-z-]*|\b(?:grow|snapshot|detect-zeroes)\b", text.replace("\\-", "-"))) for text in (
+        room.ends("--help", status=0),
+        (DOCS / "vscsi-vhost-user.1").read_text(),
+        (DOCS / "DAEMON.md").read_text().split("## Words")[1].split("## ")[0])]
+    assert said[0] == said[1] == said[2] and len(said[0]) > 15, [sorted(it - said[0]) + sorted(said[0] - it) for it in said]
+
+
+def test_socket_path_is_socket(room):
+    words = [room.program, f"--socket-path={room.socket}", "--disk=0:0=1M", "--quiet"]
+    with subprocess.Popen(words, stderr=subprocess.DEVNULL) as run:
+        wait_for(lambda: listens(room.socket), "the daemon to listen")
+        assert serves(room.socket)
+        run.send_signal(signal.SIGINT)
+        assert run.wait(10) == 0 and not room.socket.exists()
+
+
+def test_read_only_is_refused(room):
+    """`ro` is refused, since the guest would be told that its WRITEs were done. `snapshot` says that they are lost."""
+    disk = room.file("disk.img")
+    room.ends("--socket", room.socket, "--disk", f"0:0=1M,file={disk},ro", status=2, says="snapshot")
+    disk.chmod(0o400)
+    with room.runs("--disk", f"0:0=1M,file={disk},snapshot"):
+        assert serves(room.socket)
+        room.ends("--socket", room.folder / "other", "--disk", f"0:0=1M,file={disk}", status=1, says="disk.img: in use")
+
+
+def test_system_refuses(room):
+    """What the system refuses is status 1, also where the daemon is to be quiet."""
+    room.refuses("--disk", f"0:0=1M,file={room.folder / 'missing.img'},snapshot", says="missing.img: No such file")
+    room.refuses("--disk", f"0:0=file={room.folder / 'missing.img'}", says="missing.img: No such file")
+    room.refuses("--disk", f"0:0=1M,file={room.folder / 'no/x.img'}", "--quiet", says="x.img: No such file")
+    room.refuses("--disk", f"0:0=1M,file={room.folder}", says="directory")
+    room.refuses("--disk", "0:0=1M,file=/dev/null", says="/dev/null: ")
+    os.mkfifo(room.folder / "pipe")
+    room.refuses("--disk", f"0:0=1M,file={room.folder / 'pipe'},snapshot", says="pipe: ")
+    room.ends("--socket", room.folder / "no/socket", "--disk", "0:0=1M", status=1, says="no/socket: No such file")
+    room.ends("--socket", room.folder / ("x" * 120), "--disk", "0:0=1M", status=1, says="xxx: ")
+    room.ends("--fd", "77", "--disk", "0:0=1M", status=1, says="77")
+    room.refuses("--disk", "0:0=1M", "--user", "no-such-user", says="no-such-user")
+    room.refuses("--disk", "0:0=1M", "--log", room.folder / "no/log", says="no/log: No such file")
+
+
+# Images.
+
+
+def test_lengths(room):
+    """An image has to be as long as its disk, unless `grow` is said, or no size."""
+    disk = room.file("disk.img")
+    room.refuses("--disk", f"0:0=2M,file={disk}", says="disk.img: shorter")
+    room.refuses("--disk", f"0:0=512K,file={disk}", says="disk.img: longer")
+    room.refuses("--disk", f"0:0=512K,file={disk},grow", says="disk.img: longer")
+    assert disk.stat().st_size == MIB
+    for words in (f"0:0=file={disk}", f"0:0=file={disk},snapshot", f"0:0=1M,file={disk},grow", f"0:0=1M,file={disk}"):
+        with room.runs("--disk", words):
+            assert disk.stat().st_size == MIB
+    with room.runs("--disk", f"0:0=2M,file={disk},grow"):
+        assert serves(room.socket)
+    assert disk.stat().st_size == 2 * MIB and disk.read_bytes()[:MIB] == b"\x5a" * MIB
+    for size in (0, 513):
+        room.refuses("--disk", f"0:0=file={room.file('odd.img', size)}", says="odd.img: ")
+
+
+def test_commas(room):
+    """A comma of a path is written twice."""
+    disk = room.file("a,b,,c.img")
+    with room.runs("--disk", f"0:0=file={str(disk).replace(',', ',,')},snapshot"):
+        assert serves(room.socket)
+    with room.runs("--disk", f"0:0=1M,file={room.folder}/new,,"):
+        assert (room.folder / "new,").stat().st_size == MIB
+
+
+def test_new_images(room):
+    """A new image is its owner's alone."""
+    disk = room.folder / "new.img"
+    with room.runs("--disk", f"0:0=3M,file={disk}", umask=0):
+        assert stat.S_IMODE(disk.stat().st_mode) == 0o600 and disk.stat().st_size == 3 * MIB
+    assert disk.stat().st_blocks == 0
+
+
+def test_nothing_is_made_in_vain(room):
+    """Where the daemon can't serve, it leaves no new image, and none that grew."""
+    new, small = room.folder / "new.img", room.file("small.img")
+    words = ["--disk", f"0:0=2M,file={small},grow", "--disk", f"0:1=1M,file={new}"]
+
+    def is_left():
+        return not new.exists() and small.stat().st_size == MIB
+
+    room.ends("--socket", room.folder / "no/socket", *words, status=1)
+    assert is_left()
+    room.ends("--socket", room.file("notes"), *words, status=1)
+    assert is_left()
+    with room.runs("--disk", "0:0=1M"):
+        room.refuses(*words)
+        assert is_left()
+    room.refuses(*words, "--disk", f"0:2=1M,file={room.folder / 'no/x.img'}", says="x.img: ")
+    assert is_left()
+    room.refuses(*words, "--disk", f"0:2=1M,file={new}", says="new.img: ")
+    assert is_left()
+    with room.runs(*words):
+        assert new.stat().st_size == MIB and small.stat().st_size == 2 * MIB
+
+
+def test_loads_before_it_listens(room):
+    """Front ends meet a daemon that has loaded its disks; SIGTERM ends it while it still loads."""
+    if not room.shim:
+        return "needs a program without sanitizers"
+    disk, new = room.file("disk.img", 16 * MIB), room.folder / "new.img"
+    words = ["--socket", room.socket, "--disk", f"0:0=file={disk}", "--disk", f"0:1=1M,file={new}"]
+    run = subprocess.Popen([room.program, *words], stderr=subprocess.DEVNULL, env={"LD_PRELOAD": str(room.shim), "SLOW": "1"})
+    try:
+        wait_for(new.exists, "the new image")
+        time.sleep(0.3)
+        assert not room.socket.exists() and run.poll() is None
+        run.terminate()
+        began = time.monotonic()
+        assert run.wait(10) == 0 and time.monotonic() - began < room.late
+        assert not room.socket.exists() and not new.exists()
+    finally:
+        run.kill()
+        run.wait()
+    return None
+
+
+def test_unreadable(room):
+    """An image that can't be read is status 1, and the line names the disk and its path."""
+    if not room.shim:
+        return "needs a program without sanitizers"
+    disk = room.file("disk.img", 8 * MIB)
+    words = [room.program, "--socket", room.socket, "--disk", "3:0=1M", "--disk", f"3:9=file={disk}", "--quiet"]
+    run = subprocess.Popen(words, stderr=subprocess.PIPE, text=True, env={"LD_PRELOAD": str(room.shim), "SLOW": "1"})
+    try:
+        with disk.open("r+b") as file:
+            wait_for(lambda: is_locked(file, 100 + RESIZES), "the lock")
+            file.truncate(512)
+        assert run.wait(10) == 1 and not room.socket.exists()
+        assert f"disk 3:9 ({disk}): it can't be read: Input/output error" in run.stderr.read()
+    finally:
+        run.kill()
+        run.wait()
+        run.stderr.close()
+    return None
+
+
+def test_block_devices(room):
+    """A block device is taken; its length is what it has."""
+    disk = room.file("disk.img", 2 * MIB)
+    made = subprocess.run(["losetup", "--find", "--show", disk], capture_output=True, text=True) if shutil.which("losetup") else None
+    if made is None or made.returncode:
+        return "no loop device can be had"
+    device = made.stdout.strip()
+    try:
+        room.refuses("--disk", f"0:0=1M,file={device}", says=f"{device}: longer")
+        room.refuses("--disk", f"0:0=3M,file={device},grow", says=f"{device}: shorter")
+        for words in (f"0:0=2M,file={device}", f"0:0=file={device}"):
+            with room.runs("--disk", words):
+                assert serves(room.socket)
+    finally:
+        subprocess.run(["losetup", "--detach", device], check=True)
+    return None
+
+
+def lock(file, at, kind=fcntl.F_RDLCK, what=fcntl.F_OFD_SETLK):
+    """Locks a byte by the description of an open file, or asks who has it: gives the lock that stands there."""
+    return struct.unpack("hhqqi4x", fcntl.fcntl(file, what, struct.pack("hhqqi4x", kind, os.SEEK_SET, at, 1, 0)))[0]
+
+
+def is_locked(file, at):
+    return lock(file, at, fcntl.F_WRLCK, fcntl.F_OFD_GETLK) != fcntl.F_UNLCK
+
+
+def test_locks(room):
+    """Images are locked on QEMU's bytes, both ways, and by flock."""
+    disk = room.file("disk.img")
+    words = ["--disk", f"0:0=1M,file={disk}"]
+    with disk.open("r+b") as file:
+        with room.runs(*words):
+            assert [is_locked(file, 100 + i) for i in range(4)] == [True, True, False, True]
+            assert [is_locked(file, 200 + i) for i in range(4)] == [False, True, False, True]
+            with room.runs("--disk", "0:0=1M", path=room.folder / "other"):
+                pass
+            for word in (words[1], f"{words[1]},snapshot"):
+                room.ends("--socket", room.folder / "other", "--disk", word, status=1, says="disk.img: in use")
+        with room.runs("--disk", f"0:0=1M,file={disk},snapshot"):
+            assert [is_locked(file, at) for at in (100, 101, 103, 200, 201, 203)] == [True, False, False, False, True, True]
+            with room.runs("--disk", f"0:0=1M,file={disk},snapshot", path=room.folder / "other"):
+                pass
+    # Whoever writes, whoever lets nobody write, and whoever lets nobody read.
+    held = ((100 + WRITES, True), (200 + WRITES, False), (200 + READS, True), (100 + RESIZES, True), (100 + READS, False))
+    for at, is_snapshot_refused in held:
+        with disk.open("r+b") as file:
+            lock(file, at)
+            if at != 100 + READS:
+                room.refuses(*words, says="disk.img: in use")
+            if is_snapshot_refused:
+                room.refuses("--disk", f"0:0=1M,file={disk},snapshot", says="disk.img: in use")
+            else:
+                with room.runs("--disk", f"0:0=1M,file={disk},snapshot"):
+                    pass
+    with disk.open("r+b") as file:
+        fcntl.flock(file, fcntl.LOCK_EX)
+        room.refuses(*words, says="disk.img: in use")
+
+
+def test_qemu_tools(room):
+    """QEMU's own tools refuse what the daemon has, and the other way round."""
+    if not shutil.which("qemu-io"):
+        return "no qemu-io (qemu-utils)"
+    disk = room.file("disk.img")
+    writes = ["qemu-io", "-f", "raw", "-c", "write -P 1 0 512", disk]
+    with room.runs("--disk", f"0:0=1M,file={disk}"):
+        run = subprocess.run(writes, capture_output=True, text=True)
+        assert run.returncode and "lock" in run.stderr, run.stderr
+    assert disk.read_bytes() == b"\x5a" * MIB
+    assert subprocess.run(writes, capture_output=True).returncode == 0
+    with subprocess.Popen(["qemu-io", "-f", "raw", disk], stdin=subprocess.PIPE, stdout=subprocess.PIPE, text=True) as run:
+        run.stdin.write("read 0 512\n")
+        run.stdin.flush()
+        while "read 512" not in run.stdout.readline():
+            pass
+        room.refuses("--disk", f"0:0=1M,file={disk}", says="disk.img: in use")
+        run.stdin.write("quit\n")
+        run.stdin.flush()
+        run.stdout.read()
+    with room.runs("--disk", f"0:0=1M,file={disk}"):
+        pass
+    return None
+
+
+# The log.
+
+LINE = re.compile(r"\d{4}-\d\d-\d\dT\d\d:\d\d:\d\d\.\d{3}Z vscsi-vhost-user: (session \d+: )?\S.*")
+
+
+def flood(front, count):
+    """Sends messages that aren't taken, each of which is answered."""
+    front.sendall(message(16, struct.pack("<Q", 1 << 3)))  # SET_PROTOCOL_FEATURES: acknowledgements
+    for done in range(0, count, 100):
+        front.sendall(message(99, b"\0" * 8, 1 | 8) * 100)
+        left = 20 * 100
+        while left:
+            got = front.recv(left)
+            assert got, f"the session ended behind {done} messages"
+            left -= len(got)
+
+
+def test_nobody_reads(room):
+    """A pipe that is full stops neither the daemon nor its end; its flags stay as they were. The same holds for a socket, and for a pipe
+    of another user's, which the daemon can't open by its name.
+    """
+    room.folder.chmod(0o777)
+    for kind in ("pipe", "socket", *(["another's pipe"] if os.geteuid() == 0 else [])):
+        ours, theirs = [it.detach() for it in socket.socketpair()] if kind == "socket" else os.pipe()
+        try:
+            with room.runs("--disk", "0:0=1M", stderr=theirs, user=65534 if kind == "another's pipe" else None):
+                if kind != "socket":
+                    fcntl.fcntl(theirs, fcntl.F_SETPIPE_SZ, 4096)
+                    os.write(theirs, b"x" * 3900)
+                with connected(room.socket) as front:
+                    flood(front, 3000)
+                    assert not fcntl.fcntl(theirs, fcntl.F_GETFL) & os.O_NONBLOCK
+                assert serves(room.socket)
+        finally:
+            os.close(ours)
+            os.close(theirs)
+
+
+def test_lines(room):
+    """Lines have the time and the session, come at a limited rate, and those that are left out are counted."""
+    log = room.folder / "log"
+    began = time.monotonic()
+    with room.runs("--disk", "0:0=1M", "--log", log):
+        with connected(room.socket) as front:
+            flood(front, 5000)
+            time.sleep(0.5)
+            flood(front, 100)
+    lines = log.read_text().splitlines()
+    assert all(LINE.fullmatch(line) for line in lines), [line for line in lines if not LINE.fullmatch(line)][:3]
+    refused = [line for line in lines if "isn't taken" in line]
+    left_out = sum(int(count) for count in re.findall(r"(\d+) lines were left out", "\n".join(lines)))
+    most = 150 + 10 * (time.monotonic() - began)
+    assert 20 < len(refused) < most and 4900 < left_out + len(refused), (len(refused), left_out)
+    assert all("session 1: " in line for line in refused)
+    assert stat.S_IMODE(log.stat().st_mode) & 0o077 == 0
+
+
+def test_quiet(room):
+    """A quiet daemon says nothing of sessions."""
+    with room.runs("--disk", "0:0=1M", "--quiet") as run:
+        with connected(room.socket) as front:
+            flood(front, 100)
+        assert serves(room.socket)
+        run.terminate()
+        assert run.stderr.read() == ""
+
+
+def test_log_is_opened_again(room):
+    """SIGHUP has the log's file opened again, and does nothing else."""
+    log, old = room.folder / "log", room.folder / "log.1"
+    with room.runs("--disk", "0:0=1M", "--log", log) as run:
+        log.rename(old)
+        run.send_signal(signal.SIGHUP)
+        wait_for(log.exists, "the new log")
+        assert serves(room.socket)
+        wait_for(lambda: "session 1: " in log.read_text(), "a line in the new log")
+    assert "session 1: " not in old.read_text()
+    with room.runs("--disk", "0:0=1M") as run:
+        run.send_signal(signal.SIGHUP)
+        assert serves(room.socket)
+    assert not room.socket.exists()
+
+
+def test_names_stay_in_their_line(room):
+    """No byte of a path ends a line."""
+    disk = room.folder / "a\nb\x1b[2J"
+    run = subprocess.run([room.program, "--socket", room.socket, "--disk", f"0:0=file={disk}"], capture_output=True, text=True)
+    assert run.returncode == 1 and run.stderr.count("\n") == 1 and "\x1b" not in run.stderr and LINE.fullmatch(run.stderr[:-1])
+
+
+def test_closed_descriptors(room):
+    """With no standard error, no file of the daemon's takes its place."""
+    disk = room.folder / "disk.img"
+    close = "exec \"$0\" \"$@\" 0<&- 1>&- 2>&-"
+    run = subprocess.Popen(["sh", "-c", close, room.program, "--socket", room.socket, "--disk", f"0:0=1M,file={disk}"])
+    try:
+        wait_for(lambda: listens(room.socket), "the daemon to listen")
+        with connected(room.socket) as front:
+            flood(front, 100)
+        assert all(os.readlink(f"/proc/{run.pid}/fd/{i}") == "/dev/null" for i in range(3))
+        run.terminate()
+        assert run.wait(10) == 0 and disk.read_bytes() == b"\0" * MIB
+    finally:
+        run.kill()
+        run.wait()
+
+
+# Front ends that let it wait.
+
+
+def test_second_is_refused(room):
+    """One front end is served; another is refused at once. One that goes leaves its place at once."""
+    with room.runs("--disk", "0:0=1M") as run:
+        with connected(room.socket) as first:
+            assert is_served(first)
+            for _ in range(3):
+                with connected(room.socket) as second:
+                    assert is_over(second, 3)
+            assert is_served(first)
+        for _ in range(200):
+            with connected(room.socket) as front:
+                front.sendall(message(SET_OWNER) * 100 + b"\0" * 5)
+        with connected(room.socket) as front:
+            assert is_served(front)
+        run.terminate()
+        assert "refused" in run.stderr.read()
+
+
+def test_halves(room):
+    """Half a message ends a session in a few seconds, also where the front end has said something before."""
+    with room.runs("--disk", "0:0=1M"):
+        for said in (0, 2):
+            with connected(room.socket) as front, contextlib.ExitStack() as others:
+                assert all(is_served(front) for _ in range(said))
+                # The rest of a message may come a little later.
+                front.sendall(message(SET_OWNER)[:5])
+                time.sleep(1)
+                front.sendall(message(SET_OWNER)[5:])
+                assert is_served(front)
+                front.sendall(message(GET_FEATURES)[:5])
+                assert is_over(others.enter_context(connected(room.socket)), 3)
+                assert is_over(front, 15)
+        assert serves(room.socket)
+
+
+def test_silence(room):
+    """A front end that hasn't said a word loses its place to another after a few seconds. One that has said something may be idle, as
+    its guest may be stopped.
+    """
+    with room.runs("--disk", "0:0=1M"):
+        with connected(room.socket) as silent:
+            with connected(room.socket) as refused:
+                assert is_over(refused, 3)
+            began = time.monotonic()
+            wait_for(lambda: serves(room.socket), "the place of the silent one", 15)
+            assert is_over(silent, 3) and time.monotonic() - began > 3
+        with connected(room.socket) as front:
+            assert is_served(front)
+            time.sleep(6)
+            with connected(room.socket) as refused:
+                assert is_over(refused, 3)
+            assert is_served(front)
+
+
+# Files that can't be written for a time.
+
+
+@contextlib.contextmanager
+def driven(room, *words, ends):
+    """A daemon with a driver of one request queue, and its log. It is ended by SIGTERM, with this status."""
+    log = room.folder / "log"
+    with room.runs("--log", log, *words, ends=ends) as run, FrontEnd(connected(room.socket)) as front:
+        yield run, front, log
+
+
+def limit_files(run, most):
+    """Lets a process write files up to this length."""
+    resource.prlimit(run.pid, resource.RLIMIT_FSIZE, (most, resource.RLIM_INFINITY))
+
+
+def test_held(room):
+    """A request whose file can't be written waits; messages and signals don't; and it goes on once the file can be written."""
+    for goes_on in (True, False):
+        image = room.folder / f"image{goes_on}"
+        with driven(room, "--disk", f"0:0=16M,file={image}", ends=0 if goes_on else 1) as (run, front, log):
+            front.write(0, b"a" * 4096)
+            wait_for(lambda: front.answered() == 1, "the first WRITE")
+            limit_files(run, MIB)
+            front.write(8192, b"b" * 4096)
+            wait_for(lambda: str(image) in log.read_text(), "a line that names the file")
+            assert front.asks() and front.answered() == 1 and run.poll() is None
+            if goes_on:
+                limit_files(run, resource.RLIM_INFINITY)
+                wait_for(lambda: front.answered() == 2, "the second WRITE")
+        text, kept = log.read_text(), image.read_bytes()
+        assert os.strerror(errno.EFBIG) in text and ("aren't kept" in text) == (not goes_on)
+        assert kept[:4096] == b"a" * 4096 and (not goes_on or kept[4 * MIB :][:4096] == b"b" * 4096)
+        log.unlink()
+
+
+def test_written_whole(room):
+    """While a disk is written from its first block to its last, messages are answered, and the daemon ends by a signal."""
+    with driven(room, "--disk", f"0:0=8T,file={room.folder / 'image'}", ends=1) as (_, front, log):
+        front.refused_unmap()
+        for _ in range(5):
+            time.sleep(0.1)
+            assert front.asks() and front.answered() == 0
+    assert "aren't kept" in log.read_text()
+
+
+# Isolation.
+
+
+def facts(run):
+    """What the system says of a process: names and values of /proc/PID/status."""
+    return dict(line.split(":\t", 1) for line in Path(f"/proc/{run.pid}/status").read_text().splitlines() if ":\t" in line)
+
+
+def has_seccomp(room):
+    return "with seccomp" in room.ends("--version", status=0)
+
+
+def test_limits(room):
+    """The daemon can't gain privileges, writes no core file, and opens a limited number of files."""
+    with room.runs("--disk", "0:0=1M") as run:
+        told = facts(run)
+        limits = Path(f"/proc/{run.pid}/limits").read_text()
+        assert told["NoNewPrivs"] == "1" and told["Seccomp"] == ("2" if has_seccomp(room) else "0")
+        assert re.search(r"Max core file size +0 +0", limits) and re.search(r"Max open files +1024 ", limits)
+    if has_seccomp(room):
+        with room.runs("--disk", "0:0=1M", "--seccomp", "off") as run:
+            assert facts(run)["Seccomp"] == "0" and facts(run)["NoNewPrivs"] == "1"
+
+
+def test_modes(room):
+    """The socket has the mode that is said, whatever the umask, or else what the umask leaves."""
+    for words, umask, mode in ((["--mode", "0660"], 0o777, 0o660), (["--mode", "600"], 0, 0o600), ([], 0o027, 0o750)):
+        with room.runs("--disk", "0:0=1M", *words, umask=umask):
+            assert stat.S_IMODE(room.socket.stat().st_mode) == mode
+
+
+def test_users(room):
+    """Started by root it becomes another user, whose the socket and a new image are."""
+    if os.geteuid():
+        with room.runs("--disk", "0:0=1M", "--user", str(os.geteuid())):
+            pass
+        room.refuses("--disk", "0:0=1M", "--user", "root", says="user")
+        return "the tests don't run as root: the change of user is not tried"
+    room.folder.chmod(0o777)
+    disk = room.folder / "new.img"
+    with room.runs("--disk", f"0:0=1M,file={disk}", "--user", "nobody", "--group", "daemon", "--mode", "660") as run:
+        told = facts(run)
+        assert told["Uid"].split() == ["65534"] * 4 and told["Gid"].split() == ["1"] * 4 and told["CapEff"] == "0000000000000000"
+        assert told["Groups"].split() in ([], ["1"], ["65534"], ["1", "65534"])
+        assert (room.socket.stat().st_uid, room.socket.stat().st_gid, disk.stat().st_uid) == (65534, 1, 65534)
+        assert serves(room.socket)
+    assert not room.socket.exists()
+    return None
+
+
+def test_handed_in(room):
+    """A listening socket can be handed in, also as systemd does it, or a front end's connection: nothing is bound or taken away."""
+    def ended(run, by):
+        if by:
+            run.terminate()
+        assert run.wait(10) == 0, run.returncode
+
+    with socket.socket(socket.AF_UNIX) as listener:
+        listener.bind(str(room.socket))
+        listener.listen()
+        given = listener.fileno()
+        words = [room.program, "--disk", "0:0=1M", "--quiet"]
+        with subprocess.Popen([*words, "--fd", str(given)], pass_fds=[given]) as run:
+            assert serves(room.socket) and serves(room.socket)
+            ended(run, True)
+        # What systemd does: the descriptor is 3, and the environment has the process's own number.
+        script = "exec 3<&$1; export LISTEN_FDS=1 LISTEN_PID=$$; shift; exec \"$@\""
+        with subprocess.Popen(["bash", "-c", script, "sh", str(given), *words], pass_fds=[given]) as run:
+            assert serves(room.socket)
+            ended(run, True)
+        assert room.socket.is_socket()
+    ours, theirs = socket.socketpair()
+    with subprocess.Popen([*words, "--fd", str(theirs.fileno())], pass_fds=[theirs.fileno()]) as run:
+        theirs.close()
+        ours.settimeout(10)
+        assert is_served(ours)
+        ours.close()
+        ended(run, False)
+    with socket.socket(socket.AF_UNIX) as neither, room.file("notes").open() as file:
+        for given in (neither.fileno(), file.fileno()):
+            room.ends("--fd", str(given), "--disk", "0:0=1M", status=1, says=str(given), pass_fds=[given])
+
+
+def test_other_calls_kill(room):
+    """With seccomp any call that serving doesn't take ends the process by SIGSYS."""
+    if not room.shim or not has_seccomp(room):
+        return "needs a program with seccomp"
+    # By their numbers on x86-64 and on the 64-bit ARM: socket, execve, openat, ptrace, clone, unshare.
+    calls = {"x86_64": (41, 59, 257, 101, 56, 272), "aarch64": (198, 221, 56, 117, 220, 97)}.get(os.uname().machine, ())
+    for call in calls:
+        environment = {"LD_PRELOAD": str(room.shim), "CALL": str(call)}
+        run = subprocess.run([room.program, "--socket", room.socket, "--disk", "0:0=1M"], env=environment, capture_output=True, timeout=20)
+        assert run.returncode == -signal.SIGSYS, (call, run.returncode)
+        with room.runs("--disk", "0:0=1M", "--seccomp", "off", env=environment):
+            assert serves(room.socket)
+    return None
+
+
+def test_files_are_limited(room):
+    """With Landlock the daemon adds only to files of its log's folder, and removes only files of its socket's."""
+    if not room.shim:
+        return "needs a program without sanitizers"
+    logs, sockets, other = room.folder / "logs", room.folder / "sockets", room.folder / "other"
+    for folder in (logs, sockets, other):
+        folder.mkdir()
+    words = [room.program, "--socket", sockets / "socket", "--disk", "0:0=1M", "--log", logs / "log"]
+
+    def tries(what, path, *more):
+        """The status by which the shim ends the daemon: 100 and the error number of what it tried, or 100."""
+        path.touch()
+        environment = {"LD_PRELOAD": str(room.shim), what: str(path)}
+        return subprocess.run([*words, *more], env=environment, timeout=20).returncode
+
+    tries("ADD", logs / "file")
+    if not re.search("files (and system calls )?are limited", (logs / "log").read_text()):
+        return "the kernel has no Landlock"
+    assert tries("ADD", other / "file") == 100 + errno.EACCES and tries("ADD", logs / "file") == 100
+    assert tries("REMOVE", other / "file") == 100 + errno.EACCES and (other / "file").exists()
+    assert tries("REMOVE", sockets / "file") == 100 and not (sockets / "file").exists()
+    assert tries("ADD", other / "file", "--seccomp", "off") == 100
+    return None
+
+
+def test_hardened(room):
+    """The program that users run is built as tools/daemon says."""
+    if not room.shim or not shutil.which("readelf"):
+        return "needs readelf, and a program without sanitizers"
+    told = subprocess.run(["readelf", "-hldW", "--syms", room.program], capture_output=True, text=True, check=True).stdout
+    assert "DYN (Position-Independent Executable" in told and re.search(r"FLAGS.*BIND_NOW|\(BIND_NOW\)", told) and "GNU_RELRO" in told
+    assert "__stack_chk_fail" in told and re.search(r"__\w+_chk@", told) and re.search(r"GNU_STACK .* RW ", told)
+    return None
+
+
+SHIM = r"""
+#define _GNU_SOURCE
+#include <errno.h>
+#include <fcntl.h>
+#include <stdlib.h>
+#include <sys/epoll.h>
+#include <sys/syscall.h>
+#include <unistd.h>
+
+enum { AS_THE_LOG = O_WRONLY | O_APPEND | O_CREAT | O_NONBLOCK | O_NOCTTY | O_CLOEXEC };
+
+// Does what isn't the daemon's before it waits, and reads slowly, where the environment asks for that.
+int epoll_wait(int epoll, struct epoll_event *events, int most, int wait) {
+  if (getenv("ADD")) _exit(100 + (open(getenv("ADD"), AS_THE_LOG, 0600) < 0 ? errno : 0));
+  if (getenv("REMOVE")) _exit(100 + (unlinkat(AT_FDCWD, getenv("REMOVE"), 0) < 0 ? errno : 0));
+  if (getenv("CALL")) syscall(atol(getenv("CALL")), -1, NULL, NULL, NULL, NULL);
+  return (int)syscall(SYS_epoll_pwait, epoll, events, most, wait, NULL, 8);
+}
+
+ssize_t pread(int fd, void *to, size_t count, off_t at) {
+  if (getenv("SLOW")) usleep(20000);
+  return syscall(SYS_pread64, fd, to, count, at);
+}
+"""
+
+
+def make_shim(folder):
+    """Builds what is loaded into the daemon that users run, to have it do what it doesn't by itself."""
+    (folder / "shim.c").write_text(SHIM)
+    subprocess.run(["cc", "-shared", "-fPIC", "-O1", folder / "shim.c", "-o", folder / "shim.so"], check=True)
+    return folder / "shim.so"
+
+
+TESTS = [it for name, it in list(globals().items()) if name.startswith("test_")]
+
+
+def run_all(folder, program, shim=None, wanted=()):
+    """Runs all tests, or those that are named, each in a folder of its own. Gives how many failed."""
+    failed = 0
+    for test in TESTS:
+        name = test.__name__.removeprefix("test_").replace("_", " ")
+        if wanted and name not in wanted:
+            continue
+        place = folder / test.__name__
+        place.mkdir()
+        try:
+            skipped = test(Room(place, program, shim))
+            print(f"{name}: {f'left out: {skipped}' if skipped else 'passed'}", flush=True)
+        except (AssertionError, OSError, subprocess.TimeoutExpired) as fault:
+            failed += 1
+            line = fault.__traceback__.tb_next.tb_lineno if fault.__traceback__.tb_next else 0
+            print(f"{name}: FAILED, line {line}: {type(fault).__name__} {fault}", flush=True)
+    return failed
