@@ -39,7 +39,9 @@ static struct chain *blank(struct ring *ring) {
   if (!ring->spare) ring->spare = calloc(1, sizeof *ring->spare);
   struct chain *chain = ring->spare;
   if (!chain) return NULL;
-  *chain = (struct chain){.next = chain->next, .segments = chain->segments, .room = chain->room, .next_before = ring->next, .wrap_before = ring->next_wrap};
+  *chain = (struct chain){.next = chain->next, .segments = chain->segments, .room = chain->room};
+  chain->next_before = ring->next;
+  chain->wrap_before = ring->next_wrap;
   return chain;
 }
 

@@ -192,7 +192,8 @@ static bool take(struct session *session, struct message *message) {
 static bool finish(struct session *session, struct message *message) {
   bool taken = take(session, message), stands = taken;
   message_close(message);
-  if (session->protocol & P_REPLY_ACK && message->flags & NEEDS_REPLY && !is_answered(message->request)) stands = reply_number(session, message, !taken);
+  bool is_acknowledged = session->protocol & P_REPLY_ACK && message->flags & NEEDS_REPLY && !is_answered(message->request);
+  if (is_acknowledged) stands = reply_number(session, message, !taken);
   if (!taken) {
     char why[WHY];
     unsigned long long first = (unsigned long long)little_get(message->payload, 8);
@@ -204,8 +205,8 @@ static bool finish(struct session *session, struct message *message) {
 
 // Returns whether a message may end the device, or take away what a round's chains lie in.
 static bool is_final(uint32_t request) {
-  return request == GET_VRING_BASE || request == RESET_DEVICE || request == RESET_OWNER || request == SET_MEM_TABLE || request == ADD_MEM_REG ||
-         request == REM_MEM_REG || request == SET_VRING_KICK;
+  return request == GET_VRING_BASE || request == SET_VRING_KICK || request == RESET_DEVICE || request == RESET_OWNER ||
+         request == SET_MEM_TABLE || request == ADD_MEM_REG || request == REM_MEM_REG;
 }
 
 // Returns whether the round's answers are about to be shown: they wait for a file that is being written, and not for one that can't
@@ -254,9 +255,10 @@ void session_kicked(struct session *session, unsigned what) {
   session->more = true;
   if (what == EVENT_TIMER && read(session->timer, &count, sizeof count) < 0) return;  // it was set anew meanwhile
   if (what >= session->backend.count || session->queues[what].kick < 0) return;
-  ssize_t got = read(session->queues[what].kick, &count, sizeof count);
+  int kick = session->queues[what].kick;
+  ssize_t got = read(kick, &count, sizeof count);
   // No eventfd, and at its end, or nothing that can be read.
-  if (got == 0 || (got < 0 && errno != EAGAIN && errno != EINTR)) epoll_ctl(session->epoll, EPOLL_CTL_DEL, session->queues[what].kick, NULL);
+  if (got == 0 || (got < 0 && errno != EAGAIN && errno != EINTR)) epoll_ctl(session->epoll, EPOLL_CTL_DEL, kick, NULL);
 }
 
 static void notify(struct session *session, uint32_t owed) {

@@ -193,7 +193,8 @@ bool shadow_fetch(struct backend *backend, uint32_t queues, char *why, size_t ro
   struct round round = {.at = ROOM_AT};
   bool fetched = !is_served(backend, queues, EVENT_QUEUE) || fetch(backend, EVENT_QUEUE, &round, UINT_MAX);
   // Before the requests, which may take all room; and behind them, where they were what had to come first.
-  fetched = fetched && fetch_control(backend, queues, &round) && fetch_requests(backend, queues, &round) && fetch_control(backend, queues, &round);
+  fetched = fetched && fetch_control(backend, queues, &round) && fetch_requests(backend, queues, &round);
+  fetched = fetched && fetch_control(backend, queues, &round);
   if (!fetched) snprintf(why, room, "the device doesn't take a request");
   return fetched;
 }

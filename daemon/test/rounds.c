@@ -230,6 +230,44 @@ void test_abandoned(void) {
   }
 }
 
+// Has the session run one request, and returns how many blocks the file system has for the file then.
+static blkcnt_t blocks_behind(struct front *front) {
+  struct stat stat;
+  driver_kick(front, Q);
+  MUST(await(front, Q, 1, PATIENCE) == 1 && is_good(front, 0) && !lstat(path, &stat));
+  return stat.st_blocks;
+}
+
+static void put_zeros(struct front *front, uint32_t block) {
+  put_write(front, Q, 0, block);
+  memset(buffer_of(front, 0), 0, BUFFER);
+}
+
+void test_zeros(void) {
+  for (unsigned number = 0; number < 2 * WAYS; number++) {
+    bool punches = number >= WAYS;
+    struct disks disks;
+    struct front front;
+    struct stat stat;
+    make_disk_with(&disks, "1M", punches ? ",detect-zeroes=unmap" : "");
+    begin(&front, &disks, number % WAYS);
+    put_write(&front, Q, 0, 0);
+    blkcnt_t full = blocks_behind(&front);
+    put_zeros(&front, 0);
+    blkcnt_t zeros = blocks_behind(&front);
+    MUST(full && zeros == (punches ? 0 : full) && has(0, 0, true));
+    put_write(&front, Q, 0, 0);
+    MUST(blocks_behind(&front) == full && has(0, 0, false));
+    put_unmap(&front, 0, 0, 1);
+    MUST(blocks_behind(&front) == 0 && has(0, 0, true));
+    // Room that was reserved stays, and takes no zeros.
+    MUST(!fallocate(disks.disks[0].file, 0, 0, 1 << 20) && !lstat(path, &stat));
+    put_zeros(&front, 64);
+    MUST(blocks_behind(&front) == stat.st_blocks && lseek(disks.disks[0].file, 0, SEEK_DATA) < 0);
+    end(&front, &disks);
+  }
+}
+
 // Serves one round.
 static void serve(struct front *front) {
   char why[200];

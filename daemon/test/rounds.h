@@ -17,6 +17,9 @@ void test_forgetful(void);
 // A front end that goes away while the file can't be written: the next one finds everything on the file.
 void test_abandoned(void);
 
+// Zeros that are written, and blocks that are unmapped, on files that have the word detect-zeroes=unmap or not.
+void test_zeros(void);
+
 // A queue that is refilled whenever it is served, beside one with a request.
 void test_turns(void);
 

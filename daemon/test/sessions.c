@@ -130,8 +130,8 @@ void test_regions(void) {
   static const struct {
     struct area more;
     bool taken;
-  } tries[] = {{{0, 0, 0, 0}, true},         {{2048, 0, 0, 0}, false}, {{0, 0, 8, 0}, false},      {{0, 0, 0, 512}, false},
-               {{0, UINT64_MAX, 0, 0}, true}, {{0, 1, 0, 0}, true},     {{0, 0, 0, 1 << 23}, false}, {{0, UINT64_C(0) - PAGE, 0, 0}, false}};
+  } tries[] = {{{0, 0, 0, 0}, true},          {{2048, 0, 0, 0}, false}, {{0, 0, 8, 0}, false},       {{0, 0, 0, 512}, false},
+               {{0, UINT64_MAX, 0, 0}, true}, {{0, 1, 0, 0}, true},     {{0, 0, 0, 1 << 23}, false}, {{0, 0 - (uint64_t)PAGE, 0, 0}, false}};
   for (unsigned number = 0; number < WAYS; number += 3) {
     struct disks disks;
     struct front front;
@@ -140,8 +140,9 @@ void test_regions(void) {
     begin(&front, &disks, number);
     agree(&front);
     for (unsigned i = 0; i < sizeof tries / sizeof *tries; i++) {
+      const struct area *more = &tries[i].more;
       it = page_of(i);
-      it = (struct area){it.guest + tries[i].more.guest, it.size + tries[i].more.size, it.user + tries[i].more.user, it.place + tries[i].more.place};
+      it = (struct area){it.guest + more->guest, it.size + more->size, it.user + more->user, it.place + more->place};
       front_region(&front, &sent, ADD_MEM_REG, it);
       MUST(front_ask(&front, &sent) == tries[i].taken);
     }

@@ -304,7 +304,7 @@ int main(int count, char **words) {
                {"totals", test_totals}, {"empty", test_empty}, {"order", test_order}, {"tables", test_tables},
                {"shared", test_shared}, {"cuts", test_cuts}, {"fields", test_fields}, {"rings", test_rings},
                {"scattered", test_scattered}, {"whole", test_whole}, {"full", test_full}, {"forgetful", test_forgetful},
-               {"abandoned", test_abandoned}, {"turns", test_turns}, {"order of control", test_order_of_control},
+               {"abandoned", test_abandoned}, {"zeros", test_zeros}, {"turns", test_turns}, {"order of control", test_order_of_control},
                {"moved", test_moved}, {"slots", test_slots}, {"regions", test_regions}, {"short", test_short},
                {"forms", test_forms}, {"stale", test_stale}, {"kicks", test_kicks}, {"reset", test_reset},
                {"refused", test_refused}};
