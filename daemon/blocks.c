@@ -130,7 +130,6 @@ static bool write_chunk(struct device *device, struct disks *disks, size_t which
 static enum kept keep(struct device *device, struct disks *disks, size_t which, uint64_t until) {
   struct disk *disk = &disks->disks[which];
   struct backlog *backlog = &disk->backlog;
-  if (!backlog->count) return backlog->unmapped_count = 0, KEPT;
   do {
     if (backlog->written.range == backlog->count) break;
     if (!write_chunk(device, disks, which)) return disk->error = errno, STUCK;
@@ -151,9 +150,13 @@ static enum kept keep(struct device *device, struct disks *disks, size_t which, 
 }
 
 enum kept blocks_keep(struct device *device, struct disks *disks) {
-  uint64_t until = clock_now() + PORTION;
+  uint64_t until = 0;
   enum kept kept = KEPT;
   for (size_t i = 0; i < disks->count; i++) {
+    struct backlog *backlog = &disks->disks[i].backlog;
+    if (!backlog->count) backlog->unmapped_count = 0;
+    if (!backlog->count) continue;
+    if (!until) until = clock_now() + PORTION;
     enum kept its = keep(device, disks, i, until);
     if (its > kept) kept = its;
   }

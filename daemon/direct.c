@@ -1,4 +1,5 @@
 #include <stdio.h>
+#include <string.h>
 
 #include "backend.h"
 #include "bytes.h"
@@ -69,7 +70,8 @@ static bool has_long_tables(const struct backend *backend) {
 
 // Learns what command a request has, once its bytes are in the device's memory.
 static bool weigh(struct backend *backend, const struct chain *chain) {
-  uint8_t request[MOST_LOOKED_AT] = {0};
+  uint8_t request[MOST_LOOKED_AT];
+  memset(request, 0, HEAD);
   size_t wanted = chain->in <= sizeof request ? (size_t)chain->in : HEAD, done = 0;
   for (size_t i = 0; i < chain->count && done < wanted; i++) {
     const struct segment *it = &chain->segments[i];

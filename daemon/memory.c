@@ -41,8 +41,11 @@ static bool map(struct region *region, uint64_t offset, int descriptor) {
   return true;
 }
 
-// Returns the place of the first region that ends behind an address of the guest's.
+// Returns the place of the first region that ends behind an address of the guest's. Looks first where the last one was.
 static size_t place_of(const struct memory *memory, uint64_t guest) {
+  static size_t last;
+  const struct region *hint = memory->regions + last;
+  if (last < memory->count && guest >= hint->guest && guest - hint->guest < hint->size) return last;
   size_t low = 0, high = memory->count;
   while (low < high) {
     size_t middle = (low + high) / 2;
@@ -50,6 +53,7 @@ static size_t place_of(const struct memory *memory, uint64_t guest) {
     if (guest >= region->guest && guest - region->guest >= region->size) low = middle + 1;
     else high = middle;
   }
+  last = low;
   return low;
 }
 

@@ -51,7 +51,8 @@ enum fetched packed_fetch(struct ring *ring, const struct source *source, struct
   for (bool first = true;; first = false) {
     struct descriptor it;
     if (chain->slots + ring->slots >= ring->size) return first ? NOTHING : BROKEN;
-    if (!source_descriptor(source, ring->desc + (uint64_t)ring->next * DESCRIPTOR, &it)) return BROKEN;
+    size_t at = (size_t)ring->next * DESCRIPTOR;
+    if (!source_descriptor(source, ring->desc + at, ring->desc_at + at, &it)) return BROKEN;
     if (first && !is_available(it.fourth, ring->next_wrap)) return NOTHING;
     chain->slots++;
     step(ring->size, &ring->next, &ring->next_wrap);

@@ -308,9 +308,12 @@ static bool is_polled(const struct session *session) {
 
 // Sets the timer to when the session is to be served again with no other cause, if it is.
 static void wait(const struct session *session, enum served served) {
-  uint64_t now = clock_now(), due = session->backend.due;
-  if (served == LATER) set_timer(session, due > now ? due - now : 1);
-  else if (!session->more && is_polled(session)) set_timer(session, POLL);
+  if (served == LATER) {
+    uint64_t now = clock_now(), due = session->backend.due;
+    set_timer(session, due > now ? due - now : 1);
+  } else if (!session->more && is_polled(session)) {
+    set_timer(session, POLL);
+  }
 }
 
 // Makes the device where something is available for it. Returns false where it can't be.

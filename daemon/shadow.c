@@ -1,5 +1,6 @@
 #include <limits.h>
 #include <stdio.h>
+#include <string.h>
 
 #include "backend.h"
 #include "bytes.h"
@@ -111,8 +112,9 @@ static bool place_request(struct chain *chain, struct round *round) {
 
 // Learns what command a request has.
 static bool weigh(struct backend *backend, const struct chain *chain) {
-  uint8_t request[MOST_LOOKED_AT] = {0};
+  uint8_t request[MOST_LOOKED_AT];
   size_t length = chain->in <= sizeof request ? (size_t)chain->in : HEAD;
+  if (length < HEAD) memset(request, 0, HEAD);
   if (!device_peek(&backend->device, chain->in_at, request, length)) return false;
   backend_weigh(backend, request, length);
   return true;

@@ -44,7 +44,8 @@ static enum fetched walk(const struct ring *ring, const struct source *source, s
   uint16_t at = chain->id;
   for (unsigned seen = 0; seen < ring->size; seen++) {
     struct descriptor it;
-    if (!source_descriptor(source, ring->desc + (uint64_t)at * DESCRIPTOR, &it)) return BROKEN;
+    size_t place = (size_t)at * DESCRIPTOR;
+    if (!source_descriptor(source, ring->desc + place, ring->desc_at + place, &it)) return BROKEN;
     if (it.third & FLAG_INDIRECT) {
       if (!ring->indirect || it.third & FLAG_NEXT) return BROKEN;
       return chain_add_table(chain, source, it.addr, it.length, false);
@@ -63,7 +64,7 @@ static bool index_of(const struct ring *ring, const struct source *source, uint1
     *index = load_acquire(ring->driver_at + 2);
     return true;
   }
-  if (!source_load(source, ring->driver + 2, bytes, 2)) return false;
+  if (!source_load(source, ring->driver + 2, NULL, bytes, 2)) return false;
   *index = (uint16_t)little_get(bytes, 2);
   return true;
 }
@@ -75,7 +76,8 @@ enum fetched split_fetch(struct ring *ring, const struct source *source, struct 
   uint16_t ahead = (uint16_t)(index - ring->next);
   if (ahead == 0) return NOTHING;
   if (ahead > ring->size) return BROKEN;
-  if (!source_load(source, ring->driver + 4 + 2 * (uint64_t)(ring->next % ring->size), head, 2)) return BROKEN;
+  size_t entry = 4 + 2 * (size_t)(ring->next % ring->size);
+  if (!source_load(source, ring->driver + entry, ring->driver_at + entry, head, 2)) return BROKEN;
   chain->id = (uint16_t)little_get(head, 2);
   chain->slots = 1;
   if (chain->id >= ring->size) return BROKEN;
