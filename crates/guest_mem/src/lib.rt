@@ -1,8 +1,10 @@
 //! The memory of a guest: one run of bytes, read and written in slices.
 #![tactic(auto)]
 
+mod access;
 mod laws;
 mod memory;
 
+pub use access::Memory;
 pub use laws::{keeps_other_bytes, reads_what_was_written};
 pub use memory::{GuestMem, MemFault, PAGE_BYTES};

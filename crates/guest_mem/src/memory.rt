@@ -1,8 +1,10 @@
 //! The memory itself.
 
-ghost use Rattle.std.specs.Prelude.{◌≡◌, ◌+◌, ◌*◌, ◌≤◌, ◌<◌, ◌^◌, List, ℕ, length, replicate, IfOk, OnOk, OnErr, IsOk, IfErr, ◌↔◌};
+ghost use Rattle.std.specs.Prelude.{◌≡◌, ◌+◌, ◌*◌, ◌≤◌, ◌<◌, ◌^◌, List, ℕ, length, replicate, IfOk, OnOk, OnErr, IsOk, IfErr, ◌↔◌, ⊤};
 ghost use Rattle.guest_mem.specs.Memory.{bytes_at, with_bytes, LiesIn};
+ghost use Rattle.std.proofs.Common.{ap};
 
+use crate::access::Memory;
 use std::alloc::{AllocError, Global};
 use std::error::Error;
 use std::fmt;
@@ -136,4 +138,34 @@ impl GuestMem {
         let start = addr as usize;
         self.bytes[start..start + bytes.len()].copy_from_slice(bytes);
     }
+}
+
+impl Memory for GuestMem {
+    ghost may_be = { λ x m. m ≡ x };
+
+    ghost extent = { length };
+
+    ghost is_open = { λ _. ⊤ };
+
+    ghost begins = { λ x y. y ≡ x };
+
+    fn begin(&mut self) {}
+
+    fn size(&self) -> u64 {
+        GuestMem::size(self)
+    }
+
+    fn read(&mut self, addr: u64, out: &mut [u8]) {
+        out.copy_from_slice(self.range(addr, out.len()));
+    }
+
+    fn append(&mut self, addr: u64, len: usize, out: &mut Vec<u8>) -> Result<(), AllocError> {
+        out.extend_from_slice(self.range(addr, len))
+    }
+
+    fn write(&mut self, addr: u64, bytes: &[u8]) {
+        self.put(addr, bytes);
+    }
+
+    ghost sized = { λ x m e. ap length e };
 }

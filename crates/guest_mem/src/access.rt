@@ -1,0 +1,65 @@
+//! What the device asks of a guest's memory, whether it stands still or changes while the guest runs.
+
+ghost use Rattle.std.specs.Prelude.{◌≡◌, ◌+◌, ◌≤◌, ◌^◌, List, ℕ, length, OnOk, ◌++◌};
+ghost use Rattle.guest_mem.specs.Memory.{bytes_at, with_bytes, LiesIn};
+
+use std::alloc::AllocError;
+
+/// Reads and writes a guest's memory in phases. A phase reads first, and then writes. No clause says what stands at an address
+/// before it is read, since the guest may write there at any moment. All that a phase reads is of one list of bytes: what it read
+/// once stays so for it, whatever the guest writes meanwhile.
+pub trait Memory {
+    /// Says that the memory may be this list of bytes, by all that the phase read and wrote.
+    ghost may_be: { Self → List ℕ → Type 0 };
+
+    /// Counts the bytes of the memory.
+    ghost extent: { Self → ℕ };
+
+    /// Says that the phase wrote nothing yet, so that it may read.
+    ghost is_open: { Self → Type 0 };
+
+    /// Says what a new phase has of the one before it.
+    ghost begins: { Self → Self → Type 0 };
+
+    /// Begins a phase: forgets what was read before, which may have changed.
+    fn begin(&mut self)
+        ensures size { extent self.new ≡ extent self.old }
+        ensures reading { is_open self.new }
+        ensures begun { begins self.old self.new };
+
+    /// Returns how many bytes there are, at most 2^52. There always is a list that the memory may be.
+    fn size(&self) -> u64
+        ensures size { result ≡ extent self.now }
+        ensures bounded { result ≤ 2 ^ 52 }
+        ensures some { (m : List ℕ) × may_be self.now m };
+
+    /// Reads the bytes from `addr` on, as many as `out` holds. Called before the phase writes, for bytes that lie inside.
+    fn read(&mut self, addr: u64, out: &mut [u8])
+        requires reading { is_open self.old }
+        requires inside { LiesIn (extent self.old) addr (length out.old) }
+        ensures reading { is_open self.new }
+        ensures size { extent self.new ≡ extent self.old }
+        ensures stays { (m : List ℕ) → may_be self.new m → may_be self.old m }
+        ensures read { (m : List ℕ) → may_be self.new m → out.new ≡ bytes_at m addr (length out.old) };
+
+    /// Reads `len` bytes from `addr` on, and appends them to `out`. Called as `read` is. An error where memory for them is refused.
+    fn append(&mut self, addr: u64, len: usize, out: &mut Vec<u8>) -> Result<(), AllocError>
+        requires reading { is_open self.old }
+        requires inside { LiesIn (extent self.old) addr len }
+        ensures reading { is_open self.new }
+        ensures size { extent self.new ≡ extent self.old }
+        ensures stays { (m : List ℕ) → may_be self.new m → may_be self.old m }
+        ensures len { OnOk result (length out.new.items ≡ length out.old.items + len) }
+        ensures read { OnOk result ((m : List ℕ) → may_be self.new m
+            → out.new.items ≡ out.old.items ++ bytes_at m addr len) };
+
+    /// Writes `bytes` from `addr` on, and changes nothing else. Called for bytes that lie inside.
+    fn write(&mut self, addr: u64, bytes: &[u8])
+        requires inside { LiesIn (extent self.old) addr (length bytes.now) }
+        ensures size { extent self.new ≡ extent self.old }
+        ensures written { (m : List ℕ) → may_be self.new m
+            → (before : List ℕ) × may_be self.old before × (m ≡ with_bytes before addr bytes.now) };
+
+    /// Proves that what the memory may be has its size.
+    ghost sized: { (x : Self) (m : List ℕ) → may_be x m → length m ≡ extent x };
+}

@@ -1,0 +1,61 @@
+-- What was asked of a bus, the latest first, and what the latest phase knows by it: the bytes that it loaded, and the bytes
+-- that it stored. A phase begins at the latest Begins.
+use Rattle.std.specs.Prelude.{ℕ, ◌≡◌, ◌+◌, ◌-◌, ◌<◌, ◌&&◌, nat_le, nat_lt, Bool, true, false, cond, List, [], ◌∷◌, length, get_or}
+use Rattle.guest_mem.specs.Memory.{with_bytes}
+
+pub data Access : Type 0 where
+  Begins : Access
+  -- from this address on, these bytes
+  Loads : ℕ → List ℕ → Access
+  Stores : ℕ → List ℕ → Access
+
+-- so many bytes from a on have the address p
+abbrev pub spans : ℕ → ℕ → ℕ → Bool
+spans a n p = nat_le a p && nat_lt p (a + n)
+
+-- the byte at p by the loads of the phase: the first load that has the address says it; d where none has it
+abbrev pub loaded : List Access → ℕ → ℕ → ℕ
+loaded [] p d = d
+loaded (Begins ∷ past) p d = d
+loaded (Loads a bs ∷ past) p d = loaded past p (cond (spans a (length bs) p) (get_or bs (p - a) 0) d)
+loaded (Stores a bs ∷ past) p d = loaded past p d
+
+-- memory with the stores of the phase put over it, the first one first
+abbrev pub stored : List Access → List ℕ → List ℕ
+stored [] m = m
+stored (Begins ∷ past) m = m
+stored (Loads a bs ∷ past) m = stored past m
+stored (Stores a bs ∷ past) m = with_bytes (stored past m) a bs
+
+-- each element is a byte
+abbrev pub AreBytes : List ℕ → Type 0
+AreBytes m = (k : ℕ) → get_or m k 0 < 256
+
+-- Memory agrees with the loads of the phase. Once there was no room to keep what is loaded (blind), nothing is loaded any more,
+-- and each byte that wasn't loaded is 0.
+pub record Agrees (size : ℕ) (log : List Access) (blind : Bool) (m : List ℕ) : Type 0 where
+  pub sized : length m ≡ size
+  pub bytes : AreBytes m
+  pub there : (p : ℕ) → p < size → loaded log p (cond blind 0 (get_or m p 0)) ≡ get_or m p 0
+
+-- Memory may be m: it agreed with what the phase loaded, and then had what the phase stored.
+abbrev pub MayBe : ℕ → List Access → Bool → List ℕ → Type 0
+MayBe size log blind m =
+    (m₀ : List ℕ) × Agrees size log blind m₀ × (m ≡ stored log m₀) × (length m ≡ size) × AreBytes m
+
+-- the phase stored nothing that changes memory
+abbrev pub StoredNothing : List Access → Type 0
+StoredNothing log = (m : List ℕ) → stored log m ≡ m
+
+-- a read of n bytes from addr on asks the bus for them, once, and for nothing else; once blind it asks for nothing
+abbrev pub Asks : List Access → List Access → ℕ → ℕ → Bool → Type 0
+Asks log new_log addr n blind =
+    (blind ≡ true → new_log ≡ log)
+    × (blind ≡ false → (fresh : List ℕ) × (length fresh ≡ n) × (new_log ≡ Loads addr fresh ∷ log))
+
+-- a read of the bytes from addr on: the bus was asked for them all, and each is the first that the phase loaded of it
+pub record LoadsThere (log new_log : List Access) (addr : ℕ) (out : List ℕ) : Type 0 where
+  pub fresh : List ℕ
+  pub long : length fresh ≡ length out
+  pub asked : new_log ≡ Loads addr fresh ∷ log
+  pub are : (i : ℕ) → i < length out → get_or out i 0 ≡ loaded log (addr + i) (get_or fresh i 0)

@@ -1,0 +1,30 @@
+-- What a phase keeps of its reads: spans, the earliest first, and their bytes one behind the other.
+use Rattle.std.specs.Prelude.{ℕ, ◌≡◌, ◌+◌, ◌-◌, ◌≤◌, ◌<◌, Bool, cond, List, [], ◌∷◌, ◌++◌, length, get_or, All}
+use Rattle.live_mem.specs.Access.{spans}
+use Rattle.live_mem.specs.declared.span.Span.{Span}
+
+-- a span has this address
+abbrev pub covers : Span → ℕ → Bool
+covers s p = spans s.addr s.len p
+
+-- the byte that is kept for an address of a span
+abbrev pub byte_of : Span → List ℕ → ℕ → ℕ
+byte_of s kept p = get_or kept (s.start + (p - s.addr)) 0
+
+-- the byte at an address by what is kept: the latest span that has it says it; d where none has it
+abbrev pub valued : List Span → List ℕ → ℕ → ℕ → ℕ
+valued [] kept p d = d
+valued (s ∷ ss) kept p d = valued ss kept p (cond (covers s p) (byte_of s kept p) d)
+
+-- the bytes of each span are among so many
+abbrev pub AreKept : List Span → ℕ → Type 0
+AreKept ss many = All (λ s. s.start + s.len ≤ many) ss
+
+-- no span has an address from low up to high
+abbrev pub IsFree : List Span → List ℕ → ℕ → ℕ → Type 0
+IsFree ss kept low high = (p d : ℕ) → low ≤ p → p < high → valued ss kept p d ≡ d
+
+-- these bytes, read from an address on, are kept besides
+pub record Keeps (ss : List Span) (kept : List ℕ) (addr : ℕ) (out : List ℕ) (new_ss : List Span) (new_kept : List ℕ) : Type 0 where
+  pub spans_are : new_ss ≡ ss ++ record { addr = addr; start = length kept; len = length out } ∷ []
+  pub kept_are : new_kept ≡ kept ++ out

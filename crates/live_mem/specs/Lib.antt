@@ -1,0 +1,6 @@
+pub mod Access
+pub mod Calls
+pub mod Heard
+pub mod Kept
+pub mod Live
+pub mod Room

@@ -1,0 +1,167 @@
+//! What a phase read, so that it reads no byte twice.
+
+ghost use Rattle.std.specs.Prelude.{ℕ, ◌≡◌, ◌+◌, ◌<◌, ◌≤◌, ◌^◌, [], List, length, cond, get_or, IfOk, IsOk};
+ghost use Rattle.guest_mem.specs.Memory.{bytes_at, with_bytes};
+ghost use Rattle.live_mem.specs.Kept.{covers, byte_of, valued, AreKept, IsFree, Keeps};
+
+use crate::span::Span;
+use std::alloc::{AllocError, Global};
+
+/// The spans that a phase read, with their bytes. No span has an address from `free_from` up to `free_to`, so that a read in there
+/// looks at no span.
+#[derive(Drop)]
+pub(crate) struct Kept {
+    spans: Vec<Span>,
+    bytes: Vec<u8>,
+    free_from: u64,
+    free_to: u64,
+    ghost all: { AreKept spans.items (length bytes.items) },
+    ghost free: { IsFree spans.items bytes.items free_from free_to },
+}
+
+/// Returns `len` bytes from place `start` on.
+fn part(bytes: &[u8], start: usize, len: usize) -> &[u8]
+    requires { start + len ≤ length bytes.now }
+    ensures bytes { result.now ≡ bytes_at bytes.now start len }
+    ensures len { length result.now ≡ len }
+{
+    &bytes[start..start + len]
+}
+
+/// Puts bytes at a place.
+fn put_at(out: &mut [u8], at: usize, bytes: &[u8])
+    requires { at + length bytes.now ≤ length out.old }
+    ensures bytes { out.new ≡ with_bytes out.old at bytes.now }
+    ensures len { length out.new ≡ length out.old }
+{
+    out[at..at + bytes.len()].copy_from_slice(bytes);
+}
+
+/// Puts what is kept of a span over `out`, which has the bytes from `addr` on.
+#[inline(always)]
+fn put_over(span: &Span, bytes: &[u8], addr: u64, out: &mut [u8])
+    requires kept { span.now.start + span.now.len ≤ length bytes.now }
+    requires small { addr + length out.old ≤ 2 ^ 52 }
+    ensures len { length out.new ≡ length out.old }
+    ensures over { (i : ℕ) → i < length out.old → get_or out.new i 0
+        ≡ cond (covers span.now (addr + i)) (byte_of span.now bytes.now (addr + i)) (get_or out.old i 0) }
+{
+    let end = addr + out.len() as u64;
+    if span.addr >= end || (span.len as u64) <= addr.saturating_sub(span.addr) {
+        return;
+    }
+    let skip = addr.saturating_sub(span.addr) as usize;
+    let at = span.addr.saturating_sub(addr) as usize;
+    let len = (span.len - skip).min(out.len() - at);
+    put_at(out, at, part(bytes, span.start + skip, len));
+}
+
+/// Returns a range of addresses from `end` on that no span has: from the first result up to the second.
+fn free_behind(spans: &[Span], end: u64) -> (u64, u64)
+    ensures from { end ≤ result.0 }
+    ensures free { (bytes : List ℕ) → IsFree spans.now bytes result.0 result.1 }
+{
+    let mut from = end;
+    let mut to = u64::MAX;
+    for span in spans {
+        if span.addr >= end {
+            to = to.min(span.addr);
+        } else {
+            from = from.max(span.addr.saturating_add(span.len as u64));
+        }
+    }
+    (from, to)
+}
+
+impl Kept {
+    ghost use Rattle.std.specs.Prelude.{OnOk, vec_len};
+    ghost use Rattle.live_mem.specs.Room.{Holds};
+
+    /// Keeps nothing, with room for so many reads of so many bytes in all. An error where that memory is refused.
+    pub(crate) fn new(alloc: Global, reads: usize, bytes: usize) -> Result<Kept, AllocError>
+        ensures spans { IfOk result (λ kept. kept.spans.items ≡ []) }
+        ensures bytes { IfOk result (λ kept. kept.bytes.items ≡ []) }
+        ensures room { IfOk result (λ kept. Holds kept reads bytes) }
+    {
+        let spans = Vec::with_capacity(alloc, reads)?;
+        let bytes = Vec::with_capacity(alloc, bytes)?;
+        Ok(Kept {
+            spans,
+            bytes,
+            free_from: 0,
+            free_to: u64::MAX,
+        })
+    }
+
+    /// Forgets everything, and keeps the room.
+    pub(crate) fn clear(&mut self)
+        ensures spans { self.new.spans.items ≡ [] }
+        ensures bytes { self.new.bytes.items ≡ [] }
+        ensures room { (reads bytes : ℕ) → Holds self.old reads bytes → Holds self.new reads bytes }
+    {
+        self.spans.clear();
+        self.bytes.clear();
+        self.free_from = 0;
+        self.free_to = u64::MAX;
+    }
+
+    /// Makes room for one more read of `len` bytes. It takes no memory where there is room, and changes nothing else.
+    pub(crate) fn make_room(&mut self, len: usize) -> Result<(), AllocError>
+        ensures spans { self.new.spans.items ≡ self.old.spans.items }
+        ensures bytes { self.new.bytes.items ≡ self.old.bytes.items }
+        ensures made { OnOk result (Holds self.new 1 len) }
+        ensures room { (reads bytes : ℕ) → Holds self.old reads bytes → Holds self.new reads bytes }
+        ensures succeeds { Holds self.old 1 len → IsOk result }
+    {
+        self.spans.reserve(1)?;
+        self.bytes.reserve(len)
+    }
+
+    /// Puts what is kept over `out`, which has the bytes from `addr` on. Takes note of a range behind them that no span has.
+    pub(crate) fn put_over(&mut self, addr: u64, out: &mut [u8])
+        requires small { addr + length out.old ≤ 2 ^ 52 }
+        ensures len { length out.new ≡ length out.old }
+        ensures over { (i : ℕ) → i < length out.old → get_or out.new i 0
+            ≡ valued self.old.spans.items self.old.bytes.items (addr + i) (get_or out.old i 0) }
+        ensures spans { self.new.spans ≡ self.old.spans }
+        ensures bytes { self.new.bytes ≡ self.old.bytes }
+    {
+        let end = addr + out.len() as u64;
+        if self.free_from <= addr && end <= self.free_to {
+            return;
+        }
+        self.put_spans_over(addr, out);
+        let (from, to) = free_behind(&self.spans, end);
+        self.free_from = from;
+        self.free_to = to;
+    }
+
+    /// Puts each span over `out`, which has the bytes from `addr` on.
+    fn put_spans_over(&self, addr: u64, out: &mut [u8])
+        requires small { addr + length out.old ≤ 2 ^ 52 }
+        ensures len { length out.new ≡ length out.old }
+        ensures over { (i : ℕ) → i < length out.old → get_or out.new i 0
+            ≡ valued self.now.spans.items self.now.bytes.items (addr + i) (get_or out.old i 0) }
+    {
+        for span in &self.spans {
+            put_over(span, &self.bytes, addr, out);
+        }
+    }
+
+    /// Keeps bytes that were read from `addr` on, for which there is room.
+    pub(crate) fn keep(&mut self, addr: u64, out: &[u8])
+        requires small { addr + length out.now ≤ 2 ^ 52 }
+        requires room { Holds self.old 1 (length out.now) }
+        ensures kept { Keeps self.old.spans.items self.old.bytes.items addr out.now self.new.spans.items self.new.bytes.items }
+        ensures room { (reads bytes : ℕ) → Holds self.old (reads + 1) (bytes + length out.now) → Holds self.new reads bytes }
+    {
+        let span = Span {
+            addr,
+            start: self.bytes.len(),
+            len: out.len(),
+        };
+        self.free_from = self.free_from.max(addr + out.len() as u64);
+        let _ = self.bytes.extend_from_slice(out);
+        self.spans.push_reserved(span);
+    }
+}
