@@ -26,8 +26,8 @@ pub data Transition : Type 0 where
   Hold : PlainFetch → Transition
   UseBuffer : PlainFetch → Completion → Transition
   Break : ℕ → RingFault → Transition
-  -- Enter: the task may run, or is parked; its unit is full, or was refused memory; or saw a later ticket, which never
-  -- happens
+  -- Enter: the task may run, or is parked; its unit is full, or was refused memory; or isn't the one that is named, or saw
+  -- a later ticket, neither of which ever happens
   Run : PlainJob → Transition
   Park : PlainJob → Transition
   EnterFull : PlainJob → Transition

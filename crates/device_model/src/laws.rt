@@ -50,7 +50,17 @@ ghost use Rattle.device_model.specs.Standing.{
 };
 ghost use Rattle.device_model.specs.Applies.{Applies};
 ghost use Rattle.device_model.specs.Turns.{Turns, IsStep};
-ghost use Rattle.device_model.specs.Laws.{AreApart, IsUsedBy, NoneIsUsed, IsCountedBy, NoneIsCounted, memory_after, jobs_out, brings, ends};
+ghost use Rattle.device_model.specs.Laws.{
+  AreApart,
+  IsUsedBy,
+  NoneIsUsed,
+  IsCountedBy,
+  NoneIsCounted,
+  memory_after,
+  jobs_out,
+  brings,
+  ends,
+};
 
 /// A device that was just opened is reached by the empty trace. A run behind a reached trace is reached by both. So a
 /// law over all reached traces speaks of every moment of every run.

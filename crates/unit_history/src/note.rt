@@ -16,7 +16,7 @@ pub enum Cause {
     Busy,
     /// It needed no unit: its answer was decided when it was fetched.
     Direct,
-    /// A later ticket of its queue had come before, which never happens in one device.
+    /// It came to another unit than it names, or behind a later ticket of its queue. Neither ever happens in one device.
     Stale,
     /// No task of it could take the step, which never happens in one device.
     Unknown,

@@ -88,8 +88,9 @@ fn step_of_run(ticket: Ticket, ran: Result<RecordedReply, NoMemory>) -> Recorded
 
 impl UnitState {
     /// Serves a request to its end: its task enters, its command runs, its answer is written, and its task leaves.
-    /// Returns true then, and the caller uses the chain. It does so only where no task is alive, the request names
-    /// the unit, no replies are kept, the ticket is above the last of its queue, and room for its steps was made. Else nothing is changed.
+    /// Returns true then, and the caller uses the chain. It does so only where no task is alive, the request names the
+    /// unit, no replies are kept, the ticket is above the last of its queue, and room for its steps was made. Else
+    /// nothing is changed.
     #[inline(always)]
     pub fn serve_alone<A: Answering>(&mut self, arrival: &Arrival, answering: &mut A) -> bool
         requires may { A.may_answer answering.old arrival.now }

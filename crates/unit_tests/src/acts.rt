@@ -110,6 +110,8 @@ pub enum Ends {
 pub enum Act {
     /// A request is fetched and enters: the name of its job, and what it becomes.
     Enter(u64, Sent, Comes),
+    /// A request is fetched and enters at this unit.
+    EnterAt(usize, u64, Sent, Comes),
     /// So many requests enter and run, with jobs named from this number on.
     Fill(u64, u64),
     /// So many requests, one after another, enter, run and leave, with jobs named from this number on.

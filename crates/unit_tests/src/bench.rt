@@ -107,7 +107,8 @@ impl Bench {
     /// Returns true if an act goes as it says.
     fn makes(&mut self, act: Act) -> Result<bool, NoMemory> {
         match act {
-            Act::Enter(name, sent, comes) => self.enters(&sent, name, comes),
+            Act::Enter(name, sent, comes) => self.enters(sent.unit, &sent, name, comes),
+            Act::EnterAt(unit, name, sent, comes) => self.enters(unit, &sent, name, comes),
             Act::Fill(name, count) => self.fill(name, count),
             Act::Serve(name, count) => self.serve(name, count),
             Act::Commit(name, ends) => self.commits(0, name, ends),
@@ -150,12 +151,12 @@ impl Bench {
         }
     }
 
-    /// Has a request fetched and enter, and returns the name of its job, and what it becomes.
-    fn enter(&mut self, sent: &Sent) -> Result<Option<(u64, Comes)>, NoMemory> {
+    /// Has a request fetched and enter at a unit, and returns the name of its job, and what it becomes.
+    fn enter(&mut self, unit: usize, sent: &Sent) -> Result<Option<(u64, Comes)>, NoMemory> {
         let Some(arrival) = self.ports.arrive(sent)? else {
             return Ok(None);
         };
-        let Some(unit) = self.units.get_mut(sent.unit) else {
+        let Some(unit) = self.units.get_mut(unit) else {
             return Ok(None);
         };
         let name = name_of(arrival.ticket().number, sent.to_other);
@@ -189,16 +190,22 @@ impl Bench {
         }
     }
 
-    /// Returns true if a request enters so, with a job of this name.
-    fn enters(&mut self, sent: &Sent, name: u64, comes: Comes) -> Result<bool, NoMemory> {
-        let came = self.enter(sent)?;
+    /// Returns true if a request enters so at a unit, with a job of this name.
+    fn enters(
+        &mut self,
+        unit: usize,
+        sent: &Sent,
+        name: u64,
+        comes: Comes,
+    ) -> Result<bool, NoMemory> {
+        let came = self.enter(unit, sent)?;
         Ok(came == Some((name, comes)))
     }
 
     /// Has so many requests enter and run, with jobs named from this number on.
     fn fill(&mut self, name: u64, count: u64) -> Result<bool, NoMemory> {
         for number in 0..count {
-            let came = self.enter(&SIMPLE)?;
+            let came = self.enter(0, &SIMPLE)?;
             if came != Some((name.saturating_add(number), Comes::Run)) {
                 return Ok(false);
             }
@@ -208,7 +215,7 @@ impl Bench {
 
     /// Returns whether a request enters, runs and leaves, with a job of this name.
     fn serves_one(&mut self, name: u64) -> Result<bool, NoMemory> {
-        if !self.enters(&SIMPLE, name, Comes::Run)? {
+        if !self.enters(0, &SIMPLE, name, Comes::Run)? {
             return Ok(false);
         }
         let has_run = self.commits(0, name, Ends::Good(0))?;
@@ -316,9 +323,9 @@ impl Bench {
 
     /// Returns true if another task enters and runs. A ticket that the other queue's chains came up to is passed over.
     fn runs_another(&mut self) -> bool {
-        match self.enter(&SIMPLE) {
+        match self.enter(0, &SIMPLE) {
             Ok(Some((_, Comes::Run))) => true,
-            Ok(Some((_, Comes::Stale))) => match self.enter(&SIMPLE) {
+            Ok(Some((_, Comes::Stale))) => match self.enter(0, &SIMPLE) {
                 Ok(Some((_, comes))) => comes == Comes::Run,
                 _ => false,
             },

@@ -159,8 +159,9 @@ fn arrival_of(inventory: &Inventory, sent: &Sent, fetched: Fetched) -> Option<Ar
     }
     match decide(inventory, &mut bytes, &lengths) {
         Decision::Enter(place, request) => {
+            let address = *inventory.as_slice().get(place)?;
             if place == sent.unit % 2 {
-                Some(Arrival::new(sent.unit, chain, request))
+                Some(Arrival::new(sent.unit, address, chain, request))
             } else {
                 None
             }

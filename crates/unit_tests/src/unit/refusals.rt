@@ -38,7 +38,10 @@ const OTHER_ATTRIBUTE: Sent = Sent {
     ..HEAD
 };
 
-pub(crate) static ROWS: [Row; 3] = [
+/// A request to unit 0:1, over the other queue.
+const TO_SECOND: Sent = Sent { unit: 1, ..BESIDE };
+
+pub(crate) static ROWS: [Row; 4] = [
     Row {
         shows: "a task that can't leave",
         keeps_replies: false,
@@ -92,6 +95,22 @@ pub(crate) static ROWS: [Row; 3] = [
             Act::Enter(B, SIMPLE, Comes::Stale),
             Act::Enter(C, SIMPLE, Comes::Run),
             Act::Steps(0, 5),
+        ],
+    },
+    Row {
+        shows: "a request for another unit",
+        keeps_replies: false,
+        acts: &[
+            Act::EnterAt(1, A, SIMPLE, Comes::Stale),
+            Act::EnterAt(0, OTHER_A, TO_SECOND, Comes::Stale),
+            Act::EnterAt(2, OTHER_B, TO_SECOND, Comes::Stale),
+            Act::Steps(0, 0),
+            Act::Steps(1, 0),
+            Act::Steps(2, 0),
+            Act::Enter(B, SIMPLE, Comes::Run),
+            Act::Enter(OTHER_C, TO_SECOND, Comes::Run),
+            Act::Steps(0, 1),
+            Act::Steps(1, 1),
         ],
     },
 ];
