@@ -5,7 +5,7 @@ ghost use Rattle.guest_mem.specs.Memory.{bytes_at, with_bytes, LiesIn};
 
 use std::alloc::AllocError;
 
-/// Reads and writes a guest's memory in phases. A phase reads first, and then writes. No clause says what stands at an address
+/// Reads a guest's memory in phases. A phase reads first, and then writes. No clause says what stands at an address
 /// before it is read, since the guest may write there at any moment. All that a phase reads is of one list of bytes: what it read
 /// once stays so for it, whatever the guest writes meanwhile.
 pub trait Memory {
@@ -53,13 +53,16 @@ pub trait Memory {
         ensures read { OnOk result ((m : List ℕ) → may_be self.new m
             → out.new.items ≡ out.old.items ++ bytes_at m addr len) };
 
-    /// Writes `bytes` from `addr` on, and changes nothing else. Called for bytes that lie inside.
-    fn write(&mut self, addr: u64, bytes: &[u8])
-        requires inside { LiesIn (extent self.old) addr (length bytes.now) }
-        ensures size { extent self.new ≡ extent self.old }
-        ensures written { (m : List ℕ) → may_be self.new m
-            → (before : List ℕ) × may_be self.old before × (m ≡ with_bytes before addr bytes.now) };
-
     /// Proves that what the memory may be has its size.
     ghost sized: { (x : Self) (m : List ℕ) → may_be x m → length m ≡ extent x };
+}
+
+/// Writes a guest's memory too, behind what a phase reads.
+pub trait WritableMemory: Memory {
+    /// Writes `bytes` from `addr` on, and changes nothing else. Called for bytes that lie inside.
+    fn write(&mut self, addr: u64, bytes: &[u8])
+        requires inside { LiesIn (Self.extent self.old) addr (length bytes.now) }
+        ensures size { Self.extent self.new ≡ Self.extent self.old }
+        ensures written { (m : List ℕ) → Self.may_be self.new m
+            → (before : List ℕ) × Self.may_be self.old before × (m ≡ with_bytes before addr bytes.now) };
 }

@@ -5,6 +5,6 @@ mod access;
 mod laws;
 mod memory;
 
-pub use access::Memory;
+pub use access::{Memory, WritableMemory};
 pub use laws::{keeps_other_bytes, reads_what_was_written};
-pub use memory::{GuestMem, MemFault, PAGE_BYTES};
+pub use memory::{GuestMem, MemFault, PAGE_BYTES, StillMem};

@@ -4,7 +4,7 @@ ghost use Rattle.std.specs.Prelude.{◌≡◌, ◌+◌, ◌*◌, ◌≤◌, ◌<
 ghost use Rattle.guest_mem.specs.Memory.{bytes_at, with_bytes, LiesIn};
 ghost use Rattle.std.proofs.Common.{ap};
 
-use crate::access::Memory;
+use crate::access::{Memory, WritableMemory};
 use std::alloc::{AllocError, Global};
 use std::error::Error;
 use std::fmt;
@@ -163,8 +163,51 @@ impl Memory for GuestMem {
         out.extend_from_slice(self.range(addr, len))
     }
 
+    ghost sized = { λ x m e. ap length e };
+}
+
+impl WritableMemory for GuestMem {
     fn write(&mut self, addr: u64, bytes: &[u8]) {
         self.put(addr, bytes);
+    }
+}
+
+/// A memory that is lent to be read alone, and stands still meanwhile.
+#[derive(Drop)]
+pub struct StillMem<'a> {
+    memory: &'a GuestMem,
+}
+
+impl<'a> StillMem<'a> {
+    /// Lends a memory.
+    pub fn of(memory: &'a GuestMem) -> StillMem<'a>
+        ensures { result.memory.now ≡ memory.now }
+    {
+        StillMem { memory }
+    }
+}
+
+impl<'a> Memory for StillMem<'a> {
+    ghost may_be = { λ x m. m ≡ x.memory.now };
+
+    ghost extent = { λ x. length x.memory.now };
+
+    ghost is_open = { λ _. ⊤ };
+
+    ghost begins = { λ x y. y ≡ x };
+
+    fn begin(&mut self) {}
+
+    fn size(&self) -> u64 {
+        self.memory.size()
+    }
+
+    fn read(&mut self, addr: u64, out: &mut [u8]) {
+        out.copy_from_slice(self.memory.range(addr, out.len()));
+    }
+
+    fn append(&mut self, addr: u64, len: usize, out: &mut Vec<u8>) -> Result<(), AllocError> {
+        out.extend_from_slice(self.memory.range(addr, len))
     }
 
     ghost sized = { λ x m e. ap length e };

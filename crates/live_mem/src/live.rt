@@ -9,7 +9,7 @@ ghost use Rattle.live_mem.specs.Kept.{valued};
 use crate::bus::Bus;
 use crate::kept::Kept;
 use crate::recorded::RecordedBus;
-use guest_mem::Memory;
+use guest_mem::{Memory, WritableMemory};
 use std::alloc::{AllocError, Global};
 
 /// A memory that is read and written where it stands, while the guest runs. A phase reads no byte twice: it keeps what it
@@ -184,6 +184,12 @@ impl<B: Bus> Memory for LiveMem<B> {
         Ok(())
     }
 
+    ghost sized = { λ x m b. b.3 };
+}
+
+impl<B: Bus> WritableMemory for LiveMem<B> {
+    ghost use Rattle.live_mem.specs.Live.{MayBeLive};
+
     fn write(&mut self, addr: u64, bytes: &[u8])
         requires inside { LiesIn self.old.size addr (length bytes.now) }
         ensures size { self.new.size ≡ self.old.size }
@@ -193,6 +199,4 @@ impl<B: Bus> Memory for LiveMem<B> {
     {
         self.bus.store(addr, bytes);
     }
-
-    ghost sized = { λ x m b. b.3 };
 }

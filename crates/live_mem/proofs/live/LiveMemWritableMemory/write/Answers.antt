@@ -2,7 +2,7 @@ use Rattle.std.proofs.Common.{◌∙◌, ◌≤◌, arith, length}
 use Rattle.live_mem.specs.Access.{stored}
 use Rattle.live_mem.specs.Heard.{heard}
 use Rattle.live_mem.proofs.Storing.{before_store, length_with, bytes_with}
-use Rattle.live_mem.proofs.live.LiveMemMemory.write.Goals as goal
+use Rattle.live_mem.proofs.live.LiveMemWritableMemory.write.Goals as goal
 
 pub invariant_of-self-clause-faithful : goal.invariant_of-self-clause-faithful
 invariant_of-self-clause-faithful g c = λ p d. rw c.store.ensures (c.args.self.now.faithful p d)
