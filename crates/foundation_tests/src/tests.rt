@@ -1,6 +1,7 @@
 mod attentions;
 mod commands;
 mod controls;
+mod live;
 mod memory;
 mod named_blocks;
 mod opcodes;

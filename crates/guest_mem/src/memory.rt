@@ -173,6 +173,7 @@ impl WritableMemory for GuestMem {
 }
 
 /// A memory that is lent to be read alone, and stands still meanwhile.
+#[derive(Drop)]
 pub struct StillMem<'a> {
     memory: &'a GuestMem,
 }

@@ -24,7 +24,7 @@ right_places m l e =
     let b : l.driver + 4 ≤ m = grind (arith, common_steps, nat_tests) in
     (a, b)
 
-pub fresh : (queue : ℕ) (l : Layout) (features : Features) (m ids : ℕ) → ids ≡ 65536 → placement_fault m l ≡ None → m ≤ 2 ^ 28
+pub fresh : (queue : ℕ) (l : Layout) (features : Features) (m ids : ℕ) → ids ≡ 65536 → placement_fault m l ≡ None → m ≤ 2 ^ 52
     → IsPacked (opening Packed queue l features m ids)
 unfolding opening
 fresh queue l features m ids all fine small =

@@ -5,7 +5,7 @@ use crate::slots::{
     descriptor_at, flags_of_used, is_available, names_one, number_at, place_of, put_used, wrap_at,
 };
 use crate::walk::{Candidate, fault_without_room, walk};
-use guest_mem::GuestMem;
+use guest_mem::{Memory, WritableMemory};
 use ring_core::{
     Chain, Completion, Draft, FIRST_BYTES, Features, Fetched, Layout, LayoutFault, QueueLog, Ring,
     RingBase, RingFault, Ticket, gather,
@@ -42,7 +42,7 @@ impl Model for PackedRing {
 }
 
 impl PackedRing {
-    ghost use Rattle.std.specs.Prelude.{length, MatchResult};
+    ghost use Rattle.std.specs.Prelude.{MatchResult};
     ghost use Rattle.packed_ring.specs.Placement.{OpensPacked, IsMisplaced};
 
     /// Makes a queue with this number at this place, of which nothing was fetched yet. Called once for each queue,
@@ -54,16 +54,16 @@ impl PackedRing {
     /// - `Outside`: one of them that doesn't lie in memory.
     ///
     /// It takes no memory, so it is never `NoMemory`.
-    pub fn new(
+    pub fn new<M: Memory>(
         alloc: Global,
         queue: u16,
         layout: Layout,
         features: u64,
-        memory: &GuestMem,
+        memory: &M,
     ) -> Result<PackedRing, LayoutFault>
         ensures made { MatchResult result
-            (OpensPacked (length memory.now) queue layout features)
-            (IsMisplaced (length memory.now) layout) }
+            (OpensPacked (M.extent memory.now) queue layout features)
+            (IsMisplaced (M.extent memory.now) layout) }
     {
         let bytes = memory.size();
         check_layout(&layout, bytes)?;
@@ -74,16 +74,20 @@ impl PackedRing {
 }
 
 impl PackedRing {
-    ghost use Rattle.std.specs.Prelude.{◌≡◌, [], length, None, true};
+    ghost use Rattle.std.specs.Prelude.{◌≡◌, [], List, ℕ, None, true};
     ghost use Rattle.ring_core.specs.Packed.{is_available as is_available_in};
     ghost use Rattle.packed_ring.specs.Inner.{PackedFinds};
     ghost use Rattle.ring_core.specs.Offer.{PackedOffers, Found};
     ghost use Rattle.ring_core.specs.Fetch.{Fetches};
 
     /// Returns true if the next slot holds an available descriptor.
-    fn has_next(&self, memory: &GuestMem) -> bool
-        requires { length memory.now ≡ self.now.memory }
-        ensures { result ≡ is_available_in self.now memory.now }
+    fn has_next<M: Memory>(&self, memory: &mut M) -> bool
+        requires reading { M.is_open memory.old }
+        requires fits { M.extent memory.old ≡ self.now.memory }
+        ensures size { M.extent memory.new ≡ M.extent memory.old }
+        ensures stays { (m : List ℕ) → M.may_be memory.new m → M.may_be memory.old m }
+        ensures reading { M.is_open memory.new }
+        ensures next { (m : List ℕ) → M.may_be memory.new m → result ≡ is_available_in self.now m }
     {
         let layout = self.base.layout();
         let accepted = self.base.accepted_slots();
@@ -92,10 +96,14 @@ impl PackedRing {
     }
 
     /// Returns the next chain, where there is one.
-    fn next(&mut self, memory: &GuestMem) -> Result<Candidate, RingFault>
-        requires fits { length memory.now ≡ self.old.memory }
-        requires some { is_available_in self.old memory.now ≡ true }
-        ensures finds { PackedFinds self.old memory.now result }
+    fn next<M: Memory>(&mut self, memory: &mut M) -> Result<Candidate, RingFault>
+        requires reading { M.is_open memory.old }
+        requires fits { M.extent memory.old ≡ self.old.memory }
+        requires some { (m : List ℕ) → M.may_be memory.old m → is_available_in self.old m ≡ true }
+        ensures size { M.extent memory.new ≡ M.extent memory.old }
+        ensures stays { (m : List ℕ) → M.may_be memory.new m → M.may_be memory.old m }
+        ensures reading { M.is_open memory.new }
+        ensures finds { (m : List ℕ) → M.may_be memory.new m → PackedFinds self.old m result }
         ensures same { self.new ≡ self.old }
     {
         let layout = self.base.layout();
@@ -107,11 +115,15 @@ impl PackedRing {
     }
 
     /// Returns the next chain, where there is one, in this room.
-    fn find(&self, memory: &GuestMem, draft: Draft) -> Result<Candidate, RingFault>
-        requires fits { length memory.now ≡ self.now.memory }
-        requires some { is_available_in self.now memory.now ≡ true }
+    fn find<M: Memory>(&self, memory: &mut M, draft: Draft) -> Result<Candidate, RingFault>
+        requires reading { M.is_open memory.old }
+        requires fits { M.extent memory.old ≡ self.now.memory }
+        requires some { (m : List ℕ) → M.may_be memory.old m → is_available_in self.now m ≡ true }
         requires empty { draft ≡ [] }
-        ensures { PackedFinds self.now memory.now result }
+        ensures size { M.extent memory.new ≡ M.extent memory.old }
+        ensures stays { (m : List ℕ) → M.may_be memory.new m → M.may_be memory.old m }
+        ensures reading { M.is_open memory.new }
+        ensures finds { (m : List ℕ) → M.may_be memory.new m → PackedFinds self.now m result }
     {
         let layout = self.base.layout();
         let accepted = self.base.accepted_slots();
@@ -131,11 +143,15 @@ impl PackedRing {
     }
 
     /// Takes the next chain, where there is one: apart so that a look that finds none is put into its callers.
-    fn fetch_some(&mut self, memory: &GuestMem) -> Result<Option<Fetched>, RingFault>
-        requires fits { length memory.now ≡ self.old.memory }
+    fn fetch_some<M: Memory>(&mut self, memory: &mut M) -> Result<Option<Fetched>, RingFault>
+        requires reading { M.is_open memory.old }
+        requires fits { M.extent memory.old ≡ self.old.memory }
         requires unbroken { self.old.broken ≡ None }
-        requires some { is_available_in self.old memory.now ≡ true }
-        ensures { Fetches self.old memory.now result self.new }
+        requires some { (m : List ℕ) → M.may_be memory.old m → is_available_in self.old m ≡ true }
+        ensures size { M.extent memory.new ≡ M.extent memory.old }
+        ensures stays { (m : List ℕ) → M.may_be memory.new m → M.may_be memory.old m }
+        ensures reading { M.is_open memory.new }
+        ensures fetches { (m : List ℕ) → M.may_be memory.new m → Fetches self.old m result self.new }
     {
         match self.next(memory) {
             Ok(found) => self.take(memory, found),
@@ -148,17 +164,22 @@ impl PackedRing {
     }
 
     /// Accepts the chain that was found, and reads its first bytes.
-    fn take(
+    fn take<M: Memory>(
         &mut self,
-        memory: &GuestMem,
+        memory: &mut M,
         candidate: Candidate,
     ) -> Result<Option<Fetched>, RingFault>
-        requires fits { length memory.now ≡ self.old.memory }
+        requires reading { M.is_open memory.old }
+        requires fits { M.extent memory.old ≡ self.old.memory }
         requires unbroken { self.old.broken ≡ None }
-        requires found { PackedOffers self.old memory.now (Found candidate.id candidate.slots candidate.draft) }
-        ensures { Fetches self.old memory.now result self.new }
+        requires found { (m : List ℕ) → M.may_be memory.old m → PackedOffers self.old m (Found candidate.id candidate.slots candidate.draft) }
+        ensures size { M.extent memory.new ≡ M.extent memory.old }
+        ensures stays { (m : List ℕ) → M.may_be memory.new m → M.may_be memory.old m }
+        ensures reading { M.is_open memory.new }
+        ensures fetches { (m : List ℕ) → M.may_be memory.new m → Fetches self.old m result self.new }
     {
         let _ = &self.base;
+        let _bytes = memory.size();
         let Candidate {
             id,
             slots,
@@ -178,7 +199,7 @@ impl Ring for PackedRing {
     ghost state = { λ r. r };
 
     #[inline(always)]
-    fn fetch(&mut self, memory: &GuestMem) -> Result<Option<Fetched>, RingFault> {
+    fn fetch<M: Memory>(&mut self, memory: &mut M) -> Result<Option<Fetched>, RingFault> {
         if let Some(fault) = self.base.broken() {
             return Err(fault);
         }
@@ -189,13 +210,13 @@ impl Ring for PackedRing {
     }
 
     #[inline(always)]
-    fn is_idle(&self, memory: &GuestMem) -> bool {
+    fn is_idle<M: Memory>(&self, memory: &mut M) -> bool {
         !self.base.is_broken() && !self.has_next(memory)
     }
 
-    fn finish(
+    fn finish<M: WritableMemory>(
         &mut self,
-        memory: &mut GuestMem,
+        memory: &mut M,
         chain: Chain,
         len: u32,
         _leave: Completion,
@@ -209,7 +230,7 @@ impl Ring for PackedRing {
         self.base.release(chain)
     }
 
-    fn wants_notice(&self, memory: &GuestMem) -> bool {
+    fn wants_notice<M: Memory>(&self, memory: &mut M) -> bool {
         let layout = self.base.layout();
         let flags = number_at(memory, layout.driver + 2) % 4;
         if !self.base.features().event_index || flags != DESC {
@@ -237,7 +258,7 @@ impl Ring for PackedRing {
         self.base.broken()
     }
 
-    fn fits(&self, memory: &GuestMem) -> bool {
+    fn fits<M: Memory>(&self, memory: &M) -> bool {
         memory.size() == self.base.memory()
     }
 

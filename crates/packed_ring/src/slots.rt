@@ -1,12 +1,12 @@
 //! Reading and writing the slots of a packed queue.
 
-ghost use Rattle.std.specs.Prelude.{◌≡◌, ◌+◌, ◌*◌, ◌%◌, ◌<◌, ◌≤◌, ◌^◌, ◌++◌, ◌&&◌, not, cond, length};
+ghost use Rattle.std.specs.Prelude.{◌≡◌, ◌+◌, ◌*◌, ◌%◌, ◌<◌, ◌≤◌, ◌^◌, ◌++◌, ◌&&◌, not, cond, List, ℕ};
 ghost use Rattle.guest_mem.specs.Memory.{bytes_at, with_bytes};
 ghost use Rattle.byteorder.specs.Endian.{little_number, little_bytes};
 ghost use Rattle.ring_core.specs.Packed.{slot_at, packed_descriptor, names_one as names_one_of, wrap_counter, avail_bit, used_bit, used_flags};
 
 use byteorder::{ByteOrder, LittleEndian};
-use guest_mem::GuestMem;
+use guest_mem::{Memory, WritableMemory};
 use ring_core::{Descriptor, Layout};
 
 /// VIRTQ_DESC_F_WRITE in a used descriptor: something was written (VIRTIO 1.2, 2.8.3).
@@ -19,11 +19,18 @@ const AVAIL: u16 = 128;
 const USED: u16 = 32768;
 
 /// Returns the two bytes at an address, as a number.
-pub(crate) fn number_at(memory: &GuestMem, addr: u64) -> u16
-    requires { addr + 2 ≤ length memory.now }
-    ensures { result ≡ little_number 2 (bytes_at memory.now addr 2) }
+#[inline(always)]
+pub(crate) fn number_at<M: Memory>(memory: &mut M, addr: u64) -> u16
+    requires reading { M.is_open memory.old }
+    requires fits { addr + 2 ≤ M.extent memory.old }
+    ensures size { M.extent memory.new ≡ M.extent memory.old }
+    ensures stays { (m : List ℕ) → M.may_be memory.new m → M.may_be memory.old m }
+    ensures reading { M.is_open memory.new }
+    ensures number { (m : List ℕ) → M.may_be memory.new m → result ≡ little_number 2 (bytes_at m addr 2) }
 {
-    LittleEndian::read_u16(memory.range(addr, 2))
+    let mut bytes = [0; 2];
+    memory.read(addr, &mut bytes);
+    LittleEndian::read_u16(&bytes)
 }
 
 /// Returns the slot that is reached once so many slots were passed. Counts below 2^64 are divided as such, which is far
@@ -51,7 +58,7 @@ pub(crate) fn slot_behind(slot: u16, size: u16) -> u16
 /// Returns where the slot lies that is reached once so many slots were passed.
 pub(crate) fn place_of(layout: &Layout, passed: u128) -> u64
     requires some { 0 < layout.now.size }
-    requires small { layout.now.desc + 16 * layout.now.size ≤ 2 ^ 28 }
+    requires small { layout.now.desc + 16 * layout.now.size ≤ 2 ^ 52 }
     ensures place { result ≡ layout.now.desc + 16 * (passed % layout.now.size) }
     ensures inside { result + 16 ≤ layout.now.desc + 16 * layout.now.size }
 {
@@ -72,13 +79,18 @@ pub(crate) fn wrap_at(size: u16, passed: u128) -> bool
 
 /// Returns the descriptor at an address.
 #[inline(always)]
-fn read_descriptor(memory: &GuestMem, addr: u64) -> Descriptor
-    requires { addr + 16 ≤ length memory.now }
-    ensures { result ≡ packed_descriptor (bytes_at memory.now addr 16) }
+fn read_descriptor<M: Memory>(memory: &mut M, addr: u64) -> Descriptor
+    requires reading { M.is_open memory.old }
+    requires fits { addr + 16 ≤ M.extent memory.old }
+    ensures size { M.extent memory.new ≡ M.extent memory.old }
+    ensures stays { (m : List ℕ) → M.may_be memory.new m → M.may_be memory.old m }
+    ensures reading { M.is_open memory.new }
+    ensures descriptor { (m : List ℕ) → M.may_be memory.new m → result ≡ packed_descriptor (bytes_at m addr 16) }
 {
-    let bytes = memory.range(addr, 16);
+    let mut bytes = [0; 16];
+    memory.read(addr, &mut bytes);
     Descriptor {
-        addr: LittleEndian::read_u64(bytes),
+        addr: LittleEndian::read_u64(&bytes),
         len: LittleEndian::read_u32(&bytes[8..]),
         flags: LittleEndian::read_u16(&bytes[14..]),
         next_or_id: LittleEndian::read_u16(&bytes[12..]),
@@ -87,30 +99,42 @@ fn read_descriptor(memory: &GuestMem, addr: u64) -> Descriptor
 
 /// Returns the descriptor in a slot.
 #[inline(always)]
-pub(crate) fn in_slot(memory: &GuestMem, layout: &Layout, slot: u16) -> Descriptor
+pub(crate) fn in_slot<M: Memory>(memory: &mut M, layout: &Layout, slot: u16) -> Descriptor
+    requires reading { M.is_open memory.old }
     requires there { slot < layout.now.size }
-    requires inside { layout.now.desc + 16 * layout.now.size ≤ length memory.now }
-    requires small { length memory.now ≤ 2 ^ 28 }
-    ensures { result ≡ packed_descriptor (bytes_at memory.now (layout.now.desc + 16 * slot) 16) }
+    requires inside { layout.now.desc + 16 * layout.now.size ≤ M.extent memory.old }
+    requires small { M.extent memory.old ≤ 2 ^ 52 }
+    ensures size { M.extent memory.new ≡ M.extent memory.old }
+    ensures stays { (m : List ℕ) → M.may_be memory.new m → M.may_be memory.old m }
+    ensures reading { M.is_open memory.new }
+    ensures descriptor { (m : List ℕ) → M.may_be memory.new m → result ≡ packed_descriptor (bytes_at m (layout.now.desc + 16 * slot) 16) }
 {
     read_descriptor(memory, layout.desc + 16 * slot as u64)
 }
 
 /// Returns the descriptor in the slot that is reached once so many slots were passed.
-pub(crate) fn descriptor_at(memory: &GuestMem, layout: &Layout, passed: u128) -> Descriptor
+pub(crate) fn descriptor_at<M: Memory>(memory: &mut M, layout: &Layout, passed: u128) -> Descriptor
+    requires reading { M.is_open memory.old }
     requires some { 0 < layout.now.size }
-    requires inside { layout.now.desc + 16 * layout.now.size ≤ length memory.now }
-    requires small { length memory.now ≤ 2 ^ 28 }
-    ensures { result ≡ slot_at layout.now memory.now passed }
+    requires inside { layout.now.desc + 16 * layout.now.size ≤ M.extent memory.old }
+    requires small { M.extent memory.old ≤ 2 ^ 52 }
+    ensures size { M.extent memory.new ≡ M.extent memory.old }
+    ensures stays { (m : List ℕ) → M.may_be memory.new m → M.may_be memory.old m }
+    ensures reading { M.is_open memory.new }
+    ensures descriptor { (m : List ℕ) → M.may_be memory.new m → result ≡ slot_at layout.now m passed }
 {
     read_descriptor(memory, place_of(layout, passed))
 }
 
 /// Returns the entry at a place of the table at an address.
-pub(crate) fn entry_at(memory: &GuestMem, addr: u64, place: u32) -> Descriptor
-    requires inside { addr + 16 * place + 16 ≤ length memory.now }
-    requires small { length memory.now ≤ 2 ^ 28 }
-    ensures { result ≡ packed_descriptor (bytes_at memory.now (addr + 16 * place) 16) }
+pub(crate) fn entry_at<M: Memory>(memory: &mut M, addr: u64, place: u32) -> Descriptor
+    requires reading { M.is_open memory.old }
+    requires inside { addr + 16 * place + 16 ≤ M.extent memory.old }
+    requires small { M.extent memory.old ≤ 2 ^ 52 }
+    ensures size { M.extent memory.new ≡ M.extent memory.old }
+    ensures stays { (m : List ℕ) → M.may_be memory.new m → M.may_be memory.old m }
+    ensures reading { M.is_open memory.new }
+    ensures descriptor { (m : List ℕ) → M.may_be memory.new m → result ≡ packed_descriptor (bytes_at m (addr + 16 * place) 16) }
 {
     read_descriptor(memory, addr + 16 * place as u64)
 }
@@ -153,15 +177,15 @@ pub(crate) fn flags_of_used(wrap: bool, len: u32) -> u16
 }
 
 /// Puts len, id and flags of a used descriptor at an address.
-pub(crate) fn put_used(memory: &mut GuestMem, addr: u64, len: u32, id: u16, flags: u16)
-    requires { addr + 8 ≤ length memory.old }
-    ensures memory { memory.new
-        ≡ with_bytes memory.old addr (little_bytes 4 len ++ little_bytes 2 id ++ little_bytes 2 flags) }
-    ensures size { length memory.new ≡ length memory.old }
+pub(crate) fn put_used<M: WritableMemory>(memory: &mut M, addr: u64, len: u32, id: u16, flags: u16)
+    requires { addr + 8 ≤ M.extent memory.old }
+    ensures memory { (m : List ℕ) → M.may_be memory.new m → (m₀ : List ℕ) × M.may_be memory.old m₀
+        × (m ≡ with_bytes m₀ addr (little_bytes 4 len ++ little_bytes 2 id ++ little_bytes 2 flags)) }
+    ensures size { M.extent memory.new ≡ M.extent memory.old }
 {
     let mut bytes = [0; 8];
     LittleEndian::write_u32(&mut bytes, len);
     LittleEndian::write_u16(&mut bytes[4..], id);
     LittleEndian::write_u16(&mut bytes[6..], flags);
-    memory.put(addr, &bytes);
+    memory.write(addr, &bytes);
 }

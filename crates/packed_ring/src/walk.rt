@@ -1,13 +1,13 @@
 //! Walking along the descriptors of a chain: the slots of the ring, and the entries of a table that the last of them
 //! names.
 
-ghost use Rattle.std.specs.Prelude.{◌≡◌, ◌+◌, ◌*◌, ◌/◌, ◌<◌, ◌≤◌, ◌^◌, length, [], MatchResult, None, Some};
+ghost use Rattle.std.specs.Prelude.{◌≡◌, ◌+◌, ◌*◌, ◌/◌, ◌<◌, ◌≤◌, ◌^◌, List, ℕ, [], MatchResult, None, Some};
 ghost use Rattle.ring_core.specs.Walking.{RunFailsOrLacks};
 ghost use Rattle.ring_core.specs.Packed.{packed_wrong, packed_table};
 ghost use Rattle.packed_ring.specs.Inner.{EndsInTable, IsFound, PackedFailsOrLacks};
 
 use crate::slots::{descriptor_at, entry_at, in_slot, slot_after, slot_behind};
-use guest_mem::GuestMem;
+use guest_mem::Memory;
 use ring_core::{Before, Descriptor, Draft, Features, Layout, RingFault};
 
 /// A chain that was found and not accepted yet.
@@ -27,7 +27,7 @@ fn check_slot(
     features: &Features,
 ) -> Result<(), RingFault>
     requires bounded { before.now.total ≤ 2 ^ 32 }
-    requires small { memory ≤ 2 ^ 28 }
+    requires small { memory ≤ 2 ^ 52 }
     requires count { before.now.count < size }
     ensures { MatchResult result
         (λ _. packed_wrong features.now memory size before.now d.now ≡ None)
@@ -47,20 +47,25 @@ fn check_slot(
 /// Returns the fault where there is no room for the chain in the slots from there on: that of its first descriptor, and
 /// `NoMemory` where it has none.
 #[cold]
-pub(crate) fn fault_without_room(
-    memory: &GuestMem,
+pub(crate) fn fault_without_room<M: Memory>(
+    memory: &mut M,
     layout: &Layout,
     features: Features,
     passed: u128,
 ) -> RingFault
+    requires reading { M.is_open memory.old }
     requires some { 0 < layout.now.size }
-    requires inside { layout.now.desc + 16 * layout.now.size ≤ length memory.now }
-    requires small { length memory.now ≤ 2 ^ 28 }
-    ensures { PackedFailsOrLacks features memory.now layout.now passed result }
+    requires inside { layout.now.desc + 16 * layout.now.size ≤ M.extent memory.old }
+    requires small { M.extent memory.old ≤ 2 ^ 52 }
+    ensures size { M.extent memory.new ≡ M.extent memory.old }
+    ensures stays { (m : List ℕ) → M.may_be memory.new m → M.may_be memory.old m }
+    ensures reading { M.is_open memory.new }
+    ensures fails { (m : List ℕ) → M.may_be memory.new m → PackedFailsOrLacks features m layout.now passed result }
 {
     let before = Before::nothing();
+    let bytes = memory.size();
     let first = descriptor_at(memory, layout, passed);
-    match check_slot(&before, &first, memory.size(), layout.size, &features) {
+    match check_slot(&before, &first, bytes, layout.size, &features) {
         Ok(()) => RingFault::NoMemory,
         Err(fault) => fault,
     }
@@ -70,24 +75,28 @@ pub(crate) fn fault_without_room(
 /// with one of them, behind what stands before the table. It stands apart, so that a chain without a table doesn't pay
 /// for it.
 #[inline(never)]
-fn walk_table(
+fn walk_table<M: Memory>(
     mut draft: Draft,
-    memory: &GuestMem,
+    memory: &mut M,
     named: Descriptor,
     first: Before,
 ) -> Result<Draft, RingFault>
+    requires reading { M.is_open memory.old }
     requires some { 0 < named.len / 16 }
-    requires lies { named.addr + 16 * (named.len / 16) ≤ length memory.now }
-    requires small { length memory.now ≤ 2 ^ 28 }
+    requires lies { named.addr + 16 * (named.len / 16) ≤ M.extent memory.old }
+    requires small { M.extent memory.old ≤ 2 ^ 52 }
     requires total { first.total ≤ 2 ^ 32 }
-    ensures { MatchResult result
-        (λ parts. EndsInTable memory.now named first draft parts)
-        (λ fault. RunFailsOrLacks (packed_table memory.now named) first fault) }
+    ensures size { M.extent memory.new ≡ M.extent memory.old }
+    ensures stays { (m : List ℕ) → M.may_be memory.new m → M.may_be memory.old m }
+    ensures reading { M.is_open memory.new }
+    ensures walked { (m : List ℕ) → M.may_be memory.new m → MatchResult result
+        (λ parts. EndsInTable m named first draft parts)
+        (λ fault. RunFailsOrLacks (packed_table m named) first fault) }
 {
-    let bytes = memory.size();
     let entries = named.len / 16;
     let mut before = first.anew();
     'along: for place in 0..entries {
+        let bytes = memory.size();
         let d = entry_at(memory, named.addr, place);
         if let Err(fault) = before.check_buffer(&d, bytes) {
             return Err(fault);
@@ -100,29 +109,34 @@ fn walk_table(
         }
         before = before.with(&d);
     }
+    let _bytes = memory.size();
     unreachable!()
 }
 
 /// Returns the chain in the slots from there on, or the first thing wrong along it.
-pub(crate) fn walk(
+pub(crate) fn walk<M: Memory>(
     mut draft: Draft,
-    memory: &GuestMem,
+    memory: &mut M,
     layout: &Layout,
     features: Features,
     passed: u128,
 ) -> Result<Candidate, RingFault>
+    requires reading { M.is_open memory.old }
     requires some { 0 < layout.now.size }
-    requires inside { layout.now.desc + 16 * layout.now.size ≤ length memory.now }
-    requires small { length memory.now ≤ 2 ^ 28 }
+    requires inside { layout.now.desc + 16 * layout.now.size ≤ M.extent memory.old }
+    requires small { M.extent memory.old ≤ 2 ^ 52 }
     requires empty { draft ≡ [] }
-    ensures { MatchResult result
-        (λ found. IsFound features memory.now layout.now passed found)
-        (λ fault. PackedFailsOrLacks features memory.now layout.now passed fault) }
+    ensures size { M.extent memory.new ≡ M.extent memory.old }
+    ensures stays { (m : List ℕ) → M.may_be memory.new m → M.may_be memory.old m }
+    ensures reading { M.is_open memory.new }
+    ensures walked { (m : List ℕ) → M.may_be memory.new m → MatchResult result
+        (λ found. IsFound features m layout.now passed found)
+        (λ fault. PackedFailsOrLacks features m layout.now passed fault) }
 {
-    let bytes = memory.size();
     let mut before = Before::nothing();
     let mut slot = slot_after(passed, layout.size);
     'along: for step in 0..layout.size {
+        let bytes = memory.size();
         let d = in_slot(memory, layout, slot);
         if let Err(fault) = check_slot(&before, &d, bytes, layout.size, &features) {
             return Err(fault);
@@ -130,6 +144,7 @@ pub(crate) fn walk(
         let id = d.next_or_id;
         let slots = step + 1;
         if d.is_indirect() {
+            let _bytes = memory.size();
             return match walk_table(draft, memory, d, before) {
                 Ok(draft) => Ok(Candidate { id, slots, draft }),
                 Err(fault) => Err(fault),
@@ -144,5 +159,6 @@ pub(crate) fn walk(
         before = before.with(&d);
         slot = slot_behind(slot, layout.size);
     }
+    let _bytes = memory.size();
     unreachable!()
 }

@@ -1,6 +1,6 @@
 //! A virtqueue of either form.
 
-use guest_mem::GuestMem;
+use guest_mem::{Memory, WritableMemory};
 use packed_ring::PackedRing;
 use ring_core::{Chain, Completion, Fetched, QueueLog, Ring, RingFault, Ticket};
 use split_ring::SplitRing;
@@ -20,7 +20,7 @@ impl Ring for AnyRing {
     ghost state = { ring_state };
 
     #[inline(always)]
-    fn fetch(&mut self, memory: &GuestMem) -> Result<Option<Fetched>, RingFault> {
+    fn fetch<M: Memory>(&mut self, memory: &mut M) -> Result<Option<Fetched>, RingFault> {
         match self {
             AnyRing::Split(ring) => ring.fetch(memory),
             AnyRing::Packed(ring) => ring.fetch(memory),
@@ -28,16 +28,16 @@ impl Ring for AnyRing {
     }
 
     #[inline(always)]
-    fn is_idle(&self, memory: &GuestMem) -> bool {
+    fn is_idle<M: Memory>(&self, memory: &mut M) -> bool {
         match self {
             AnyRing::Split(ring) => ring.is_idle(memory),
             AnyRing::Packed(ring) => ring.is_idle(memory),
         }
     }
 
-    fn finish(
+    fn finish<M: WritableMemory>(
         &mut self,
-        memory: &mut GuestMem,
+        memory: &mut M,
         chain: Chain,
         len: u32,
         leave: Completion,
@@ -49,7 +49,7 @@ impl Ring for AnyRing {
     }
 
     #[inline(always)]
-    fn wants_notice(&self, memory: &GuestMem) -> bool {
+    fn wants_notice<M: Memory>(&self, memory: &mut M) -> bool {
         match self {
             AnyRing::Split(ring) => ring.wants_notice(memory),
             AnyRing::Packed(ring) => ring.wants_notice(memory),
@@ -77,7 +77,7 @@ impl Ring for AnyRing {
         }
     }
 
-    fn fits(&self, memory: &GuestMem) -> bool {
+    fn fits<M: Memory>(&self, memory: &M) -> bool {
         match self {
             AnyRing::Split(ring) => ring.fits(memory),
             AnyRing::Packed(ring) => ring.fits(memory),

@@ -1,13 +1,13 @@
 //! A virtqueue of the device: its ring, whether it is broken, and the notices that its driver wanted.
 
-ghost use Rattle.std.specs.Prelude.{◌≡◌, length, IfOk, None, is_none};
+ghost use Rattle.std.specs.Prelude.{◌≡◌, IfOk, None, is_none};
 ghost use Rattle.queues.specs.AnyRing.{ring_state};
 ghost use Rattle.queues.specs.Queue.{opening_ring, placement_of};
 ghost use Rattle.ring_core.specs.State.{features_of};
 
 use crate::any_ring::AnyRing;
 use block_store::NoMemory;
-use guest_mem::GuestMem;
+use guest_mem::{GuestMem, Memory, StillMem, WritableMemory};
 use packed_ring::PackedRing;
 use ring_core::{Answered, Chain, Fetched, Form, Layout, LayoutFault, QueueLog, Ring, RingFault};
 use split_ring::SplitRing;
@@ -36,15 +36,15 @@ pub fn is_placed(form: Form, memory: u64, layout: &Layout) -> bool
 }
 
 /// Makes a split ring.
-fn split_of(
+fn split_of<M: Memory>(
     alloc: Global,
     number: u16,
     layout: Layout,
     features: u64,
-    memory: &GuestMem,
+    memory: &M,
 ) -> Result<AnyRing, NoMemory>
-    requires { placement_of Form.Split (length memory.now) layout ≡ None }
-    ensures { IfOk result (λ ring. ring_state ring ≡ opening_ring Form.Split (length memory.now) number layout (features_of features)) }
+    requires { placement_of Form.Split (M.extent memory.now) layout ≡ None }
+    ensures { IfOk result (λ ring. ring_state ring ≡ opening_ring Form.Split (M.extent memory.now) number layout (features_of features)) }
 {
     match SplitRing::new(alloc, number, layout, features, memory) {
         Ok(ring) => Ok(AnyRing::Split(ring)),
@@ -54,15 +54,15 @@ fn split_of(
 }
 
 /// Makes a packed ring.
-fn packed_of(
+fn packed_of<M: Memory>(
     alloc: Global,
     number: u16,
     layout: Layout,
     features: u64,
-    memory: &GuestMem,
+    memory: &M,
 ) -> Result<AnyRing, NoMemory>
-    requires { placement_of Form.Packed (length memory.now) layout ≡ None }
-    ensures { IfOk result (λ ring. ring_state ring ≡ opening_ring Form.Packed (length memory.now) number layout (features_of features)) }
+    requires { placement_of Form.Packed (M.extent memory.now) layout ≡ None }
+    ensures { IfOk result (λ ring. ring_state ring ≡ opening_ring Form.Packed (M.extent memory.now) number layout (features_of features)) }
 {
     match PackedRing::new(alloc, number, layout, features, memory) {
         Ok(ring) => Ok(AnyRing::Packed(ring)),
@@ -72,16 +72,16 @@ fn packed_of(
 }
 
 /// Makes a ring of either form.
-fn ring_of(
+fn ring_of<M: Memory>(
     alloc: Global,
     form: Form,
     number: u16,
     layout: Layout,
     features: u64,
-    memory: &GuestMem,
+    memory: &M,
 ) -> Result<AnyRing, NoMemory>
-    requires { placement_of form (length memory.now) layout ≡ None }
-    ensures { IfOk result (λ ring. ring_state ring ≡ opening_ring form (length memory.now) number layout (features_of features)) }
+    requires { placement_of form (M.extent memory.now) layout ≡ None }
+    ensures { IfOk result (λ ring. ring_state ring ≡ opening_ring form (M.extent memory.now) number layout (features_of features)) }
 {
     match form {
         Form::Split => split_of(alloc, number, layout, features, memory),
@@ -124,27 +124,27 @@ impl Model for Queue {
 }
 
 impl Queue {
-    ghost use Rattle.std.specs.Prelude.{◌≡◌, ◌≤◌, ◌↔◌, length, is_some, IfOk, IsTrue};
+    ghost use Rattle.std.specs.Prelude.{◌≡◌, ◌≤◌, ◌↔◌, List, ℕ, length, is_some, IfOk, IsTrue};
     ghost use Rattle.std.specs.Prelude.{None};
     ghost use Rattle.queues.specs.Queue.{opening_queue, placement_of, completing, MayComplete};
     ghost use Rattle.ring_core.specs.State.{Owns, features_of};
     ghost use Rattle.ring_core.specs.Sound.{IsSound, IsLeastOutstanding, outstanding_count};
-    ghost use Rattle.ring_core.specs.Writes.{all_written};
+    ghost use Rattle.ring_core.specs.Writes.{Wrote, all_written};
     ghost use Rattle.ring_core.specs.Offer.{used_writes};
     ghost use Rattle.queues.specs.Looking.{IsIdle, Looks};
 
     /// Opens a queue with this number at a place that its ring takes, for a driver that agreed to these features. It
     /// looks only at those that concern rings. `NoMemory` where its ring was refused memory.
-    pub fn new(
+    pub fn new<M: Memory>(
         alloc: Global,
         form: Form,
         number: u16,
         layout: Layout,
         features: u64,
-        memory: &GuestMem,
+        memory: &M,
     ) -> Result<Queue, NoMemory>
-        requires { placement_of form (length memory.now) layout ≡ None }
-        ensures { IfOk result (λ queue. queue ≡ opening_queue form (length memory.now) number layout (features_of features)) }
+        requires { placement_of form (M.extent memory.now) layout ≡ None }
+        ensures { IfOk result (λ queue. queue ≡ opening_queue form (M.extent memory.now) number layout (features_of features)) }
     {
         let ring = ring_of(alloc, form, number, layout, features, memory)?;
         Ok(Queue {
@@ -163,8 +163,8 @@ impl Queue {
     }
 
     /// Returns true if the memory has the size that it was made with.
-    pub fn fits(&self, memory: &GuestMem) -> bool
-        ensures { IsTrue result ↔ (length memory.now ≡ self.now.ring.memory) }
+    pub fn fits<M: Memory>(&self, memory: &M) -> bool
+        ensures { IsTrue result ↔ (M.extent memory.now ≡ self.now.ring.memory) }
     {
         self.ring.fits(memory)
     }
@@ -179,9 +179,24 @@ impl Queue {
 
     /// Returns true if a fetch would find nothing to do: it is broken, or nothing is available. Called with a memory of
     /// the size that it was made with.
+    #[inline(always)]
     pub fn is_idle(&self, memory: &GuestMem) -> bool
         requires { length memory.now ≡ self.now.ring.memory }
         ensures { IsTrue result ↔ IsIdle self.now.ring memory.now }
+    {
+        let mut still = StillMem::of(memory);
+        self.is_idle_in(&mut still)
+    }
+
+    /// Returns true if a fetch from any memory would find nothing to do, as `is_idle` does. Called in a phase that wrote
+    /// nothing yet.
+    pub fn is_idle_in<M: Memory>(&self, memory: &mut M) -> bool
+        requires reading { M.is_open memory.old }
+        requires fits { M.extent memory.old ≡ self.now.ring.memory }
+        ensures size { M.extent memory.new ≡ M.extent memory.old }
+        ensures stays { (m : List ℕ) → M.may_be memory.new m → M.may_be memory.old m }
+        ensures reading { M.is_open memory.new }
+        ensures idle { (m : List ℕ) → M.may_be memory.new m → (IsTrue result ↔ IsIdle self.now.ring m) }
     {
         self.broken || self.ring.is_idle(memory)
     }
@@ -195,10 +210,26 @@ impl Queue {
         requires { length memory.now ≡ self.old.ring.memory }
         ensures { Looks self.old memory.now result self.new }
     {
+        let mut still = StillMem::of(memory);
+        self.fetch_in(&mut still)
+    }
+
+    /// Fetches the next chain from any memory, as `fetch` does. Called in a phase that wrote nothing yet.
+    #[inline(always)]
+    pub fn fetch_in<M: Memory>(&mut self, memory: &mut M) -> Result<Fetch, NoMemory>
+        requires reading { M.is_open memory.old }
+        requires fits { M.extent memory.old ≡ self.old.ring.memory }
+        ensures size { M.extent memory.new ≡ M.extent memory.old }
+        ensures stays { (m : List ℕ) → M.may_be memory.new m → M.may_be memory.old m }
+        ensures reading { M.is_open memory.new }
+        ensures looks { (m : List ℕ) → M.may_be memory.new m → Looks self.old m result self.new }
+    {
         if self.broken {
             return Ok(Fetch::Idle);
         }
-        match self.ring.fetch(memory) {
+        let fetched = self.ring.fetch(memory);
+        let _bytes = memory.size();
+        match fetched {
             Ok(None) => Ok(Fetch::Idle),
             Ok(Some(fetched)) => Ok(Fetch::Got(fetched)),
             Err(RingFault::NoMemory) => Err(NoMemory),
@@ -220,7 +251,29 @@ impl Queue {
         ensures size { length memory.new ≡ length memory.old }
         ensures queue { self.new ≡ completing memory.new chain self.old }
     {
+        self.complete_in(memory, chain, len)
+    }
+
+    /// Completes a chain in any memory, as `complete` does. It begins a phase behind its own writes, and by what it reads
+    /// there it decides whether the driver wants a notice.
+    #[inline(always)]
+    pub fn complete_in<M: WritableMemory>(
+        &mut self,
+        memory: &mut M,
+        chain: Chain,
+        len: u32,
+    ) -> Answered
+        requires fits { M.extent memory.old ≡ self.old.ring.memory }
+        requires owned { Owns self.old.ring chain }
+        ensures ticket { result ≡ chain.ticket }
+        ensures memory { (written : M) × Wrote (M.may_be memory.old) (M.may_be written) (used_writes self.old.ring chain.id len)
+            × ((after : M) × M.begins written after × ((m : List ℕ) → M.may_be memory.new m → M.may_be after m)) }
+        ensures size { M.extent memory.new ≡ M.extent memory.old }
+        ensures reading { M.is_open memory.new }
+        ensures queue { (m : List ℕ) → M.may_be memory.new m → self.new ≡ completing m chain self.old }
+    {
         let answered = self.ring.complete(memory, chain, len);
+        memory.begin();
         let _used = self.ring.log().used();
         if self.ring.wants_notice(memory) {
             self.notices += 1;

@@ -1,5 +1,5 @@
 -- Writes into memory, as a list: what a device leaves there is such a list applied in order.
-use Rattle.std.specs.Prelude.{ℕ, ◌+◌, ◌-◌, ◌&&◌, nat_lt, cond, List, [], ◌∷◌, length, take, drop}
+use Rattle.std.specs.Prelude.{ℕ, ◌≡◌, ◌+◌, ◌-◌, ◌&&◌, nat_lt, cond, List, [], ◌∷◌, length, take, drop}
 use Rattle.guest_mem.specs.Memory.{with_bytes}
 use Rattle.ring_core.specs.declared.descriptor.Part.{Part}
 
@@ -24,3 +24,7 @@ scatter_writes (p ∷ ps) at bs =
     (record { addr = p.addr + at; bytes = take (p.len - at) bs } ∷ further)
     further)
     (scatter_writes ps at bs)
+
+-- whatever the memory may be now, it is what it may have been before, with these writes
+abbrev pub Wrote : (List ℕ → Type 0) → (List ℕ → Type 0) → List Write → Type 0
+Wrote before after ws = (m : List ℕ) → after m → (m₀ : List ℕ) × before m₀ × (m ≡ all_written m₀ ws)

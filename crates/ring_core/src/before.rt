@@ -61,7 +61,7 @@ impl Before {
     /// Returns the first thing wrong with a descriptor's buffer, in a memory of this size.
     pub fn check_buffer(&self, d: &Descriptor, memory: u64) -> Result<(), RingFault>
         requires bounded { self.now.total ≤ 2 ^ 32 }
-        requires small { memory ≤ 2 ^ 28 }
+        requires small { memory ≤ 2 ^ 52 }
         ensures { MatchResult result
             (λ _. first_of (buffer_tests memory self.now d.now) ≡ None)
             (λ fault. first_of (buffer_tests memory self.now d.now) ≡ Some fault) }

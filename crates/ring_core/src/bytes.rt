@@ -1,13 +1,13 @@
 //! Reading and writing the bytes of a chain's parts.
 
-ghost use Rattle.std.specs.Prelude.{◌≡◌, ◌+◌, ◌≤◌, ◌<◌, ◌^◌, ◌-◌, ◌++◌, length, take, min, true, IfOk, OnOk};
+ghost use Rattle.std.specs.Prelude.{◌≡◌, ◌+◌, ◌≤◌, ◌<◌, ◌^◌, ◌-◌, ◌++◌, List, ℕ, length, take, min, true, IfOk, OnOk};
 ghost use Rattle.guest_mem.specs.Memory.{with_bytes};
 ghost use Rattle.ring_core.specs.Parts.{PartsFit, inside, readable_of, readable_bytes, writable_total};
-ghost use Rattle.ring_core.specs.Writes.{all_written, scatter_writes};
+ghost use Rattle.ring_core.specs.Writes.{Wrote, scatter_writes};
 
 use crate::chain::{Chain, Draft};
 use crate::descriptor::Part;
-use guest_mem::GuestMem;
+use guest_mem::{Memory, WritableMemory};
 use std::alloc::AllocError;
 
 /// The most of a chain's readable bytes that are read when it is fetched: a request's 51 bytes, and the 2,048 blocks of
@@ -15,32 +15,45 @@ use std::alloc::AllocError;
 pub const FIRST_BYTES: usize = 1_048_627;
 
 /// Appends the readable bytes of a part, as far as there is room below `most`.
-fn append_part(
-    memory: &GuestMem,
+fn append_part<M: Memory>(
+    memory: &mut M,
     part: &Part,
     bytes: &mut Vec<u8>,
     most: usize,
 ) -> Result<(), AllocError>
-    requires inside { inside (length memory.now) part.now ≡ true }
+    requires reading { M.is_open memory.old }
+    requires inside { inside (M.extent memory.old) part.now ≡ true }
     requires most { most < 2 ^ 32 }
     requires room { length bytes.old.items ≤ most }
-    ensures { OnOk result (
+    ensures size { M.extent memory.new ≡ M.extent memory.old }
+    ensures stays { (m : List ℕ) → M.may_be memory.new m → M.may_be memory.old m }
+    ensures reading { M.is_open memory.new }
+    ensures few { OnOk result (length bytes.new.items ≤ most) }
+    ensures read { OnOk result ((m : List ℕ) → M.may_be memory.new m →
         bytes.new.items
-        ≡ bytes.old.items ++ take (most - length bytes.old.items) (readable_of memory.now part.now)) }
+        ≡ bytes.old.items ++ take (most - length bytes.old.items) (readable_of m part.now)) }
 {
     if part.writable || part.len == 0 {
         return Ok(());
     }
     let len = (part.len as usize).min(most - bytes.len());
-    bytes.extend_from_slice(memory.range(part.addr, len))
+    memory.append(part.addr, len, bytes)
 }
 
 /// Returns the first readable bytes of a chain that was found, at most `most` of them. For rings.
 #[inline(always)]
-pub fn gather(memory: &GuestMem, draft: &mut Draft, most: usize) -> Result<Vec<u8>, AllocError>
-    requires fit { PartsFit (length memory.now) draft.old }
+pub fn gather<M: Memory>(
+    memory: &mut M,
+    draft: &mut Draft,
+    most: usize,
+) -> Result<Vec<u8>, AllocError>
+    requires reading { M.is_open memory.old }
+    requires fit { PartsFit (M.extent memory.old) draft.old }
     requires most { most < 2 ^ 32 }
-    ensures bytes { IfOk result (λ bytes. bytes.items ≡ take most (readable_bytes memory.now draft.old)) }
+    ensures size { M.extent memory.new ≡ M.extent memory.old }
+    ensures stays { (m : List ℕ) → M.may_be memory.new m → M.may_be memory.old m }
+    ensures reading { M.is_open memory.new }
+    ensures bytes { IfOk result (λ bytes. (m : List ℕ) → M.may_be memory.new m → bytes.items ≡ take most (readable_bytes m draft.old)) }
     ensures same { draft.new ≡ draft.old }
 {
     let total = draft.readable_len().min(most as u64);
@@ -54,16 +67,17 @@ pub fn gather(memory: &GuestMem, draft: &mut Draft, most: usize) -> Result<Vec<u
 }
 
 /// Writes into a writable part from its byte `skip` on, and answers how many bytes.
-fn fill_part(memory: &mut GuestMem, part: &Part, skip: u64, bytes: &[u8]) -> usize
-    requires inside { part.now.addr + part.now.len ≤ length memory.old }
+fn fill_part<M: WritableMemory>(memory: &mut M, part: &Part, skip: u64, bytes: &[u8]) -> usize
+    requires inside { part.now.addr + part.now.len ≤ M.extent memory.old }
     requires skip { skip < part.now.len }
     ensures written { result ≡ min (length bytes.now) (part.now.len - skip) }
-    ensures memory { memory.new ≡ with_bytes memory.old (part.now.addr + skip) (take (part.now.len - skip) bytes.now) }
-    ensures size { length memory.new ≡ length memory.old }
+    ensures memory { (m : List ℕ) → M.may_be memory.new m → (m₀ : List ℕ) × M.may_be memory.old m₀
+        × (m ≡ with_bytes m₀ (part.now.addr + skip) (take (part.now.len - skip) bytes.now)) }
+    ensures size { M.extent memory.new ≡ M.extent memory.old }
 {
     let _size = memory.size();
     let here = bytes.len().min((part.len as u64 - skip) as usize);
-    memory.put(part.addr + skip, &bytes[..here]);
+    memory.write(part.addr + skip, &bytes[..here]);
     here
 }
 
@@ -71,13 +85,13 @@ fn fill_part(memory: &mut GuestMem, part: &Part, skip: u64, bytes: &[u8]) -> usi
 /// were: all of them. Where parts overlap the later write wins. It takes no memory. Called before `Ring::complete`,
 /// with a memory of the size that the chain's had, and with `at` and the bytes within the writable parts and below
 /// 2^32.
-pub fn scatter(memory: &mut GuestMem, chain: &Chain, at: u32, bytes: &[u8]) -> u32
-    requires fits { length memory.old ≡ chain.now.memory }
+pub fn scatter<M: WritableMemory>(memory: &mut M, chain: &Chain, at: u32, bytes: &[u8]) -> u32
+    requires fits { M.extent memory.old ≡ chain.now.memory }
     requires room { at + length bytes.now ≤ writable_total chain.now.parts }
     requires small { at + length bytes.now < 2 ^ 32 }
     ensures written { result ≡ length bytes.now }
-    ensures memory { memory.new ≡ all_written memory.old (scatter_writes chain.now.parts at bytes.now) }
-    ensures size { length memory.new ≡ length memory.old }
+    ensures memory { Wrote (M.may_be memory.old) (M.may_be memory.new) (scatter_writes chain.now.parts at bytes.now) }
+    ensures size { M.extent memory.new ≡ M.extent memory.old }
 {
     let mut skip = at as u64;
     let mut rest = bytes;

@@ -1,9 +1,9 @@
 //! The contract of every virtqueue, in whatever form it lies in memory.
 
-ghost use Rattle.std.specs.Prelude.{◌≡◌, ◌↔◌, ◌<◌, ◌≤◌, length, IsTrue};
+ghost use Rattle.std.specs.Prelude.{◌≡◌, ◌↔◌, ◌<◌, ◌≤◌, List, ℕ, IsTrue};
 ghost use Rattle.ring_core.specs.State.{RingState, Owns, using};
 ghost use Rattle.ring_core.specs.Sound.{IsSound, IsLeastOutstanding, outstanding_count};
-ghost use Rattle.ring_core.specs.Writes.{all_written};
+ghost use Rattle.ring_core.specs.Writes.{Wrote};
 ghost use Rattle.ring_core.specs.Offer.{Offers, Nothing, used_writes, wants_notice};
 ghost use Rattle.ring_core.specs.Fetch.{Fetches};
 
@@ -11,7 +11,7 @@ use crate::answered::{Answered, Completion};
 use crate::chain::{Chain, Fetched};
 use crate::fault::RingFault;
 use crate::log::{QueueLog, Ticket};
-use guest_mem::GuestMem;
+use guest_mem::{Memory, WritableMemory};
 
 /// A virtqueue: the device's side of it.
 pub trait Ring {
@@ -19,47 +19,66 @@ pub trait Ring {
     ghost state: { Self → RingState };
 
     /// Takes the next available chain, if there is one, and reads its first 1,048,627 readable
-    /// bytes at once. Called with a memory that `fits`. A fault of the guest breaks the queue
+    /// bytes at once. Called with a memory that `fits`, in a phase that wrote nothing yet. A fault of the guest breaks the queue
     /// for good: later fetches answer the same fault, and chains accepted before can still be
     /// completed. `NoMemory`, where a growth is refused or the queue has accepted 2^64 - 1 chains,
     /// leaves the queue as it was.
-    fn fetch(&mut self, memory: &GuestMem) -> Result<Option<Fetched>, RingFault>
-        requires { length memory.now ≡ (state self.old).memory }
-        ensures { Fetches (state self.old) memory.now result (state self.new) };
+    fn fetch<M: Memory>(&mut self, memory: &mut M) -> Result<Option<Fetched>, RingFault>
+        requires reading { M.is_open memory.old }
+        requires fits { M.extent memory.old ≡ (state self.old).memory }
+        ensures size { M.extent memory.new ≡ M.extent memory.old }
+        ensures stays { (m : List ℕ) → M.may_be memory.new m → M.may_be memory.old m }
+        ensures reading { M.is_open memory.new }
+        ensures fetches { (m : List ℕ) → M.may_be memory.new m → Fetches (state self.old) m result (state self.new) };
 
     /// Returns true if a fetch would find nothing: the cheap test before one. A broken queue isn't idle. Called with a
-    /// memory that `fits`.
-    fn is_idle(&self, memory: &GuestMem) -> bool
-        requires { length memory.now ≡ (state self.now).memory }
-        ensures { IsTrue result ↔ Offers (state self.now) memory.now Nothing };
+    /// memory that `fits`, in a phase that wrote nothing yet.
+    fn is_idle<M: Memory>(&self, memory: &mut M) -> bool
+        requires reading { M.is_open memory.old }
+        requires fits { M.extent memory.old ≡ (state self.now).memory }
+        ensures size { M.extent memory.new ≡ M.extent memory.old }
+        ensures stays { (m : List ℕ) → M.may_be memory.new m → M.may_be memory.old m }
+        ensures reading { M.is_open memory.new }
+        ensures idle { (m : List ℕ) → M.may_be memory.new m → IsTrue result ↔ Offers (state self.now) m Nothing };
 
     /// Does the part of `complete` that is the queue's own; `complete` alone can call it.
-    fn finish(&mut self, memory: &mut GuestMem, chain: Chain, len: u32, leave: Completion) -> Ticket
-        requires fits { length memory.old ≡ (state self.old).memory }
+    fn finish<M: WritableMemory>(
+        &mut self,
+        memory: &mut M,
+        chain: Chain,
+        len: u32,
+        leave: Completion,
+    ) -> Ticket
+        requires fits { M.extent memory.old ≡ (state self.old).memory }
         requires owned { Owns (state self.old) chain }
         ensures ticket { result ≡ chain.ticket }
         ensures state { state self.new ≡ using (state self.old) chain }
-        ensures memory { memory.new ≡ all_written memory.old (used_writes (state self.old) chain.id len) }
-        ensures size { length memory.new ≡ length memory.old };
+        ensures memory { Wrote (M.may_be memory.old) (M.may_be memory.new) (used_writes (state self.old) chain.id len) }
+        ensures size { M.extent memory.new ≡ M.extent memory.old };
 
     /// Gives a chain back to the driver, into which `len` bytes were written: writes its used
     /// entry. Called once for each chain, with a memory that `fits` and a chain that the queue
     /// `owns`. It takes no memory.
-    final fn complete(&mut self, memory: &mut GuestMem, chain: Chain, len: u32) -> Answered
-        requires fits { length memory.old ≡ (state self.old).memory }
+    final fn complete<M: WritableMemory>(&mut self, memory: &mut M, chain: Chain, len: u32) -> Answered
+        requires fits { M.extent memory.old ≡ (state self.old).memory }
         requires owned { Owns (state self.old) chain }
         ensures ticket { result ≡ chain.ticket }
         ensures state { state self.new ≡ using (state self.old) chain }
-        ensures memory { memory.new ≡ all_written memory.old (used_writes (state self.old) chain.id len) }
-        ensures size { length memory.new ≡ length memory.old }
+        ensures memory { Wrote (M.may_be memory.old) (M.may_be memory.new) (used_writes (state self.old) chain.id len) }
+        ensures size { M.extent memory.new ≡ M.extent memory.old }
     {
         Answered::of(self.finish(memory, chain, len, Completion::begin()))
     }
 
-    /// Returns true if the driver asks for a notice of used chains. Called with a memory that `fits`.
-    fn wants_notice(&self, memory: &GuestMem) -> bool
-        requires { length memory.now ≡ (state self.now).memory }
-        ensures { result ≡ wants_notice (state self.now) memory.now };
+    /// Returns true if the driver asks for a notice of used chains. Called with a memory that `fits`, in a phase that
+    /// began behind the used entry's writes.
+    fn wants_notice<M: Memory>(&self, memory: &mut M) -> bool
+        requires reading { M.is_open memory.old }
+        requires fits { M.extent memory.old ≡ (state self.now).memory }
+        ensures size { M.extent memory.new ≡ M.extent memory.old }
+        ensures stays { (m : List ℕ) → M.may_be memory.new m → M.may_be memory.old m }
+        ensures reading { M.is_open memory.new }
+        ensures wants { (m : List ℕ) → M.may_be memory.new m → result ≡ wants_notice (state self.now) m };
 
     /// Returns which chains were accepted, and which were used. The queue's counts and its outstanding chains agree
     /// with it. No more chains are outstanding than the queue has descriptors (VIRTIO 1.2, 2.7 and 2.8).
@@ -78,8 +97,8 @@ pub trait Ring {
         ensures { result ≡ (state self.now).broken };
 
     /// Returns true if the memory has the size that the queue was made with.
-    fn fits(&self, memory: &GuestMem) -> bool
-        ensures { IsTrue result ↔ (length memory.now ≡ (state self.now).memory) };
+    fn fits<M: Memory>(&self, memory: &M) -> bool
+        ensures { IsTrue result ↔ (M.extent memory.now ≡ (state self.now).memory) };
 
     /// Returns true if the chain is outstanding here, and was fetched from a memory of that size.
     fn owns(&self, chain: &Chain) -> bool

@@ -133,7 +133,7 @@ impl<R: Ring> Bench<R> {
         if !self.ring.fits(&self.memory) {
             return Ok(None);
         }
-        self.ring.fetch(&self.memory)
+        self.ring.fetch(&mut self.memory)
     }
 
     /// Returns true if a fetch finds no chain.
@@ -207,7 +207,7 @@ impl<R: Ring> Bench<R> {
     }
 
     /// Returns true if the driver's wish is this.
-    fn wants_notice(&self, wanted: bool) -> bool {
-        self.ring.fits(&self.memory) && self.ring.wants_notice(&self.memory) == wanted
+    fn wants_notice(&mut self, wanted: bool) -> bool {
+        self.ring.fits(&self.memory) && self.ring.wants_notice(&mut self.memory) == wanted
     }
 }

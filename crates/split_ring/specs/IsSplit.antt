@@ -11,4 +11,4 @@ pub record IsSplit (s : RingState) : Type 0 where
   pub table : s.layout.desc + 16 * s.layout.size ≤ s.memory
   pub available : s.layout.driver + 6 + 2 * s.layout.size ≤ s.memory
   pub used : s.layout.device + 6 + 8 * s.layout.size ≤ s.memory
-  pub small : s.memory ≤ 2 ^ 28
+  pub small : s.memory ≤ 2 ^ 52

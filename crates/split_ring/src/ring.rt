@@ -3,7 +3,7 @@
 use crate::areas::{number_at, put_element, put_number};
 use crate::placement::check_layout;
 use crate::walk::{fault_without_room, walk};
-use guest_mem::GuestMem;
+use guest_mem::{Memory, WritableMemory};
 use ring_core::{
     Chain, Completion, Draft, FIRST_BYTES, Features, Fetched, Layout, LayoutFault, QueueLog, Ring,
     RingBase, RingFault, Ticket, gather,
@@ -40,7 +40,7 @@ impl Model for SplitRing {
 }
 
 impl SplitRing {
-    ghost use Rattle.std.specs.Prelude.{length, MatchResult};
+    ghost use Rattle.std.specs.Prelude.{MatchResult};
     ghost use Rattle.split_ring.specs.Placement.{OpensSplit, LayoutRefusedAs};
 
     /// Makes a queue with this number at this place, of which nothing was fetched yet. Called once for each queue,
@@ -52,16 +52,16 @@ impl SplitRing {
     /// - `Outside`: one of them that doesn't lie in memory;
     /// - `NoMemory`: want of memory.
     #[tactic(auto, unfolding(ring_core::specs::State::opening))]
-    pub fn new(
+    pub fn new<M: Memory>(
         alloc: Global,
         queue: u16,
         layout: Layout,
         features: u64,
-        memory: &GuestMem,
+        memory: &M,
     ) -> Result<SplitRing, LayoutFault>
         ensures made { MatchResult result
-            (OpensSplit (length memory.now) queue layout features)
-            (LayoutRefusedAs (length memory.now) layout) }
+            (OpensSplit (M.extent memory.now) queue layout features)
+            (LayoutRefusedAs (M.extent memory.now) layout) }
     {
         check_layout(&layout, memory.size())?;
         let features = Features::of(features);
@@ -73,7 +73,7 @@ impl SplitRing {
 }
 
 impl SplitRing {
-    ghost use Rattle.std.specs.Prelude.{◌≡◌, ◌≢◌, ◌%◌, length, MatchResult, None, Some};
+    ghost use Rattle.std.specs.Prelude.{◌≡◌, ◌≢◌, ◌%◌, ◌<◌, List, ℕ, length, MatchResult, IfOk, None, Some};
     ghost use Rattle.ring_core.specs.Split.{ahead as ahead_of, entry_wrong, next_head};
     ghost use Rattle.split_ring.specs.Inner.{SplitFinds};
 
@@ -85,21 +85,31 @@ impl SplitRing {
     }
 
     /// Returns how many entries of the available ring weren't accepted yet.
-    fn ahead(&self, memory: &GuestMem) -> u16
-        requires { length memory.now ≡ self.now.memory }
-        ensures { result ≡ ahead_of self.now memory.now }
+    #[inline(always)]
+    fn ahead<M: Memory>(&self, memory: &mut M) -> u16
+        requires reading { M.is_open memory.old }
+        requires fits { M.extent memory.old ≡ self.now.memory }
+        ensures size { M.extent memory.new ≡ M.extent memory.old }
+        ensures stays { (m : List ℕ) → M.may_be memory.new m → M.may_be memory.old m }
+        ensures reading { M.is_open memory.new }
+        ensures ahead { (m : List ℕ) → M.may_be memory.new m → result ≡ ahead_of self.now m }
     {
         let accepted = self.accepted();
         number_at(memory, self.base.layout().driver + 2).wrapping_sub(accepted)
     }
 
     /// Returns the head that the next entry of the available ring names, where so many weren't accepted yet.
-    fn entry(&self, memory: &GuestMem, ahead: u16) -> Result<u16, RingFault>
-        requires fits { length memory.now ≡ self.now.memory }
-        requires some { ahead ≡ ahead_of self.now memory.now }
-        ensures { MatchResult result
-            (λ head. (entry_wrong self.now memory.now ≡ None) × (head ≡ next_head self.now memory.now))
-            (λ fault. entry_wrong self.now memory.now ≡ Some fault) }
+    fn entry<M: Memory>(&self, memory: &mut M, ahead: u16) -> Result<u16, RingFault>
+        requires reading { M.is_open memory.old }
+        requires fits { M.extent memory.old ≡ self.now.memory }
+        requires some { (m : List ℕ) → M.may_be memory.old m → ahead ≡ ahead_of self.now m }
+        ensures size { M.extent memory.new ≡ M.extent memory.old }
+        ensures stays { (m : List ℕ) → M.may_be memory.new m → M.may_be memory.old m }
+        ensures reading { M.is_open memory.new }
+        ensures entry { (m : List ℕ) → M.may_be memory.new m → MatchResult result
+            (λ head. (entry_wrong self.now m ≡ None) × (head ≡ next_head self.now m))
+            (λ fault. entry_wrong self.now m ≡ Some fault) }
+        ensures range { IfOk result (λ head. head < self.now.layout.size) }
     {
         let layout = self.base.layout();
         if ahead > layout.size {
@@ -118,11 +128,15 @@ impl SplitRing {
     }
 
     /// Returns the next chain, where so many weren't accepted yet.
-    fn next(&mut self, memory: &GuestMem, ahead: u16) -> Result<Candidate, RingFault>
-        requires fits { length memory.now ≡ self.old.memory }
-        requires is { ahead ≡ ahead_of self.old memory.now }
+    fn next<M: Memory>(&mut self, memory: &mut M, ahead: u16) -> Result<Candidate, RingFault>
+        requires reading { M.is_open memory.old }
+        requires fits { M.extent memory.old ≡ self.old.memory }
+        requires is { (m : List ℕ) → M.may_be memory.old m → ahead ≡ ahead_of self.old m }
         requires some { ahead ≢ 0 }
-        ensures finds { SplitFinds self.old memory.now result }
+        ensures size { M.extent memory.new ≡ M.extent memory.old }
+        ensures stays { (m : List ℕ) → M.may_be memory.new m → M.may_be memory.old m }
+        ensures reading { M.is_open memory.new }
+        ensures finds { (m : List ℕ) → M.may_be memory.new m → SplitFinds self.old m result }
         ensures same { self.new ≡ self.old }
     {
         let head = self.entry(memory, ahead)?;
@@ -139,7 +153,7 @@ impl SplitRing {
 }
 
 impl SplitRing {
-    ghost use Rattle.std.specs.Prelude.{◌≡◌, length, None};
+    ghost use Rattle.std.specs.Prelude.{◌≡◌, List, ℕ, None};
     ghost use Rattle.std.specs.Prelude.{◌≢◌};
     ghost use Rattle.ring_core.specs.Split.{ahead as ahead_of};
     ghost use Rattle.ring_core.specs.Offer.{SplitOffers, Found};
@@ -147,12 +161,20 @@ impl SplitRing {
 
     /// Takes the next chain, where so many weren't accepted yet: apart so that a look that finds none is put into its
     /// callers.
-    fn fetch_some(&mut self, memory: &GuestMem, ahead: u16) -> Result<Option<Fetched>, RingFault>
-        requires fits { length memory.now ≡ self.old.memory }
+    fn fetch_some<M: Memory>(
+        &mut self,
+        memory: &mut M,
+        ahead: u16,
+    ) -> Result<Option<Fetched>, RingFault>
+        requires reading { M.is_open memory.old }
+        requires fits { M.extent memory.old ≡ self.old.memory }
         requires unbroken { self.old.broken ≡ None }
-        requires is { ahead ≡ ahead_of self.old memory.now }
+        requires is { (m : List ℕ) → M.may_be memory.old m → ahead ≡ ahead_of self.old m }
         requires some { ahead ≢ 0 }
-        ensures { Fetches self.old memory.now result self.new }
+        ensures size { M.extent memory.new ≡ M.extent memory.old }
+        ensures stays { (m : List ℕ) → M.may_be memory.new m → M.may_be memory.old m }
+        ensures reading { M.is_open memory.new }
+        ensures fetches { (m : List ℕ) → M.may_be memory.new m → Fetches self.old m result self.new }
     {
         match self.next(memory, ahead) {
             Ok(candidate) => self.take(memory, candidate),
@@ -165,17 +187,22 @@ impl SplitRing {
     }
 
     /// Accepts the chain that was found, and reads its first bytes.
-    fn take(
+    fn take<M: Memory>(
         &mut self,
-        memory: &GuestMem,
+        memory: &mut M,
         candidate: Candidate,
     ) -> Result<Option<Fetched>, RingFault>
-        requires fits { length memory.now ≡ self.old.memory }
+        requires reading { M.is_open memory.old }
+        requires fits { M.extent memory.old ≡ self.old.memory }
         requires unbroken { self.old.broken ≡ None }
-        requires found { SplitOffers self.old memory.now (Found candidate.head 1 candidate.draft) }
-        ensures { Fetches self.old memory.now result self.new }
+        requires found { (m : List ℕ) → M.may_be memory.old m → SplitOffers self.old m (Found candidate.head 1 candidate.draft) }
+        ensures size { M.extent memory.new ≡ M.extent memory.old }
+        ensures stays { (m : List ℕ) → M.may_be memory.new m → M.may_be memory.old m }
+        ensures reading { M.is_open memory.new }
+        ensures fetches { (m : List ℕ) → M.may_be memory.new m → Fetches self.old m result self.new }
     {
         let _ = &self.base;
+        let _bytes = memory.size();
         let Candidate { head, mut draft } = candidate;
         let Ok(bytes) = gather(memory, &mut draft, FIRST_BYTES) else {
             return Err(RingFault::NoMemory);
@@ -191,7 +218,7 @@ impl Ring for SplitRing {
     ghost state = { λ r. r };
 
     #[inline(always)]
-    fn fetch(&mut self, memory: &GuestMem) -> Result<Option<Fetched>, RingFault> {
+    fn fetch<M: Memory>(&mut self, memory: &mut M) -> Result<Option<Fetched>, RingFault> {
         if let Some(fault) = self.base.broken() {
             return Err(fault);
         }
@@ -203,13 +230,13 @@ impl Ring for SplitRing {
     }
 
     #[inline(always)]
-    fn is_idle(&self, memory: &GuestMem) -> bool {
+    fn is_idle<M: Memory>(&self, memory: &mut M) -> bool {
         !self.base.is_broken() && self.ahead(memory) == 0
     }
 
-    fn finish(
+    fn finish<M: WritableMemory>(
         &mut self,
-        memory: &mut GuestMem,
+        memory: &mut M,
         chain: Chain,
         len: u32,
         _leave: Completion,
@@ -223,7 +250,7 @@ impl Ring for SplitRing {
         self.base.release(chain)
     }
 
-    fn wants_notice(&self, memory: &GuestMem) -> bool {
+    fn wants_notice<M: Memory>(&self, memory: &mut M) -> bool {
         let layout = self.base.layout();
         if !self.base.features().event_index {
             return number_at(memory, layout.driver) & NO_INTERRUPT == 0;
@@ -245,7 +272,7 @@ impl Ring for SplitRing {
         self.base.broken()
     }
 
-    fn fits(&self, memory: &GuestMem) -> bool {
+    fn fits<M: Memory>(&self, memory: &M) -> bool {
         memory.size() == self.base.memory()
     }
 

@@ -1,13 +1,13 @@
 //! Walking along a chain of descriptors: those of the queue's table, and of one that the last of them names.
 
-ghost use Rattle.std.specs.Prelude.{◌≡◌, ◌+◌, ◌*◌, ◌/◌, ◌<◌, ◌≤◌, ◌^◌, length, [], MatchResult, None, Some};
+ghost use Rattle.std.specs.Prelude.{◌≡◌, ◌+◌, ◌*◌, ◌/◌, ◌<◌, ◌≤◌, ◌^◌, List, ℕ, [], MatchResult, None, Some};
 ghost use Rattle.ring_core.specs.State.{no_features};
 ghost use Rattle.ring_core.specs.Walking.{Walks, RunFailsOrLacks};
 ghost use Rattle.ring_core.specs.Split.{split_wrong, SplitChain};
 ghost use Rattle.split_ring.specs.Inner.{path_of, SplitFailsOrLacks};
 
 use crate::areas::descriptor_at;
-use guest_mem::GuestMem;
+use guest_mem::Memory;
 use ring_core::{Before, Descriptor, Draft, Features, Layout, RingFault, Run};
 
 /// A table of descriptors, and which features its descriptors may use.
@@ -45,7 +45,7 @@ impl Table {
 /// Returns the first thing wrong with a descriptor, in a memory and a table of these sizes.
 fn check(before: &Before, d: &Descriptor, memory: u64, table: &Table) -> Result<(), RingFault>
     requires bounded { before.now.total ≤ 2 ^ 32 }
-    requires small { memory ≤ 2 ^ 28 }
+    requires small { memory ≤ 2 ^ 52 }
     requires count { before.now.count < table.now.entries }
     ensures { MatchResult result
         (λ _. split_wrong table.now.features memory table.now.entries before.now d.now ≡ None)
@@ -70,21 +70,26 @@ fn check(before: &Before, d: &Descriptor, memory: u64, table: &Table) -> Result<
 /// Returns the fault where there is no room for the chain at a head: that of its first descriptor, and `NoMemory` where
 /// it has none.
 #[cold]
-pub(crate) fn fault_without_room(
-    memory: &GuestMem,
+pub(crate) fn fault_without_room<M: Memory>(
+    memory: &mut M,
     layout: &Layout,
     features: Features,
     head: u16,
 ) -> RingFault
-    requires inside { layout.now.desc + 16 * layout.now.size ≤ length memory.now }
-    requires small { length memory.now ≤ 2 ^ 28 }
+    requires reading { M.is_open memory.old }
+    requires inside { layout.now.desc + 16 * layout.now.size ≤ M.extent memory.old }
+    requires small { M.extent memory.old ≤ 2 ^ 52 }
     requires head { head < layout.now.size }
-    ensures { SplitFailsOrLacks features memory.now layout.now head result }
+    ensures size { M.extent memory.new ≡ M.extent memory.old }
+    ensures stays { (m : List ℕ) → M.may_be memory.new m → M.may_be memory.old m }
+    ensures reading { M.is_open memory.new }
+    ensures fails { (m : List ℕ) → M.may_be memory.new m → SplitFailsOrLacks features m layout.now head result }
 {
     let table = Table::of_queue(layout, features);
     let before = Before::nothing();
+    let bytes = memory.size();
     let first = descriptor_at(memory, table.addr, head);
-    match check(&before, &first, memory.size(), &table) {
+    match check(&before, &first, bytes, &table) {
         Ok(()) => RingFault::NoMemory,
         Err(fault) => fault,
     }
@@ -93,25 +98,29 @@ pub(crate) fn fault_without_room(
 /// Returns the run from a head of a table, behind what stands before it, or the first thing wrong along it. Its parts
 /// are put behind those in the draft.
 #[inline(always)]
-fn walk_run(
+fn walk_run<M: Memory>(
     mut draft: Draft,
-    memory: &GuestMem,
+    memory: &mut M,
     table: &Table,
     head: u16,
     first: Before,
 ) -> Result<Run, RingFault>
-    requires inside { table.now.addr + 16 * table.now.entries ≤ length memory.now }
-    requires small { length memory.now ≤ 2 ^ 28 }
+    requires reading { M.is_open memory.old }
+    requires inside { table.now.addr + 16 * table.now.entries ≤ M.extent memory.old }
+    requires small { M.extent memory.old ≤ 2 ^ 52 }
     requires head { head < table.now.entries }
     requires total { first.total ≤ 2 ^ 32 }
-    ensures { MatchResult result
-        (λ run. Walks (path_of memory.now table.now head) table.now.entries first draft run)
-        (λ fault. RunFailsOrLacks (path_of memory.now table.now head) first fault) }
+    ensures size { M.extent memory.new ≡ M.extent memory.old }
+    ensures stays { (m : List ℕ) → M.may_be memory.new m → M.may_be memory.old m }
+    ensures reading { M.is_open memory.new }
+    ensures walked { (m : List ℕ) → M.may_be memory.new m → MatchResult result
+        (λ run. Walks (path_of m table.now head) table.now.entries first draft run)
+        (λ fault. RunFailsOrLacks (path_of m table.now head) first fault) }
 {
-    let bytes = memory.size();
     let mut before = first.anew();
     let mut number = head;
     'along: for _step in 0..table.entries {
+        let bytes = memory.size();
         let d = descriptor_at(memory, table.addr, number);
         if let Err(fault) = check(&before, &d, bytes, table) {
             return Err(fault);
@@ -129,25 +138,30 @@ fn walk_run(
         before = before.with(&d);
         number = d.next_or_id;
     }
+    let _bytes = memory.size();
     unreachable!()
 }
 
 /// Returns the parts of the chain at a head of the queue's table, for which there is room, or the first thing wrong
 /// along it.
-pub(crate) fn walk(
+pub(crate) fn walk<M: Memory>(
     draft: Draft,
-    memory: &GuestMem,
+    memory: &mut M,
     layout: &Layout,
     features: Features,
     head: u16,
 ) -> Result<Draft, RingFault>
-    requires inside { layout.now.desc + 16 * layout.now.size ≤ length memory.now }
-    requires small { length memory.now ≤ 2 ^ 28 }
+    requires reading { M.is_open memory.old }
+    requires inside { layout.now.desc + 16 * layout.now.size ≤ M.extent memory.old }
+    requires small { M.extent memory.old ≤ 2 ^ 52 }
     requires head { head < layout.now.size }
     requires empty { draft ≡ [] }
-    ensures { MatchResult result
-        (λ draft. SplitChain features memory.now layout.now.desc layout.now.size head draft)
-        (λ fault. SplitFailsOrLacks features memory.now layout.now head fault) }
+    ensures size { M.extent memory.new ≡ M.extent memory.old }
+    ensures stays { (m : List ℕ) → M.may_be memory.new m → M.may_be memory.old m }
+    ensures reading { M.is_open memory.new }
+    ensures walked { (m : List ℕ) → M.may_be memory.new m → MatchResult result
+        (λ draft. SplitChain features m layout.now.desc layout.now.size head draft)
+        (λ fault. SplitFailsOrLacks features m layout.now head fault) }
 {
     let table = Table::of_queue(layout, features);
     let run = match walk_run(draft, memory, &table, head, Before::nothing()) {
@@ -163,6 +177,7 @@ pub(crate) fn walk(
         draft,
     } = run;
     let named = Table::named_by(&last);
+    let _bytes = memory.size();
     match walk_run(draft, memory, &named, 0, before) {
         Ok(further) => further.into_parts(),
         Err(fault) => Err(fault),

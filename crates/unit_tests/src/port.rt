@@ -120,7 +120,7 @@ impl Port {
         if !self.ring.fits(&self.memory) {
             return Err(RingFault::BufferOutside);
         }
-        self.ring.fetch(&self.memory)
+        self.ring.fetch(&mut self.memory)
     }
 
     /// Puts a request into the queue, and fetches it.

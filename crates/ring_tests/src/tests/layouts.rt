@@ -2,7 +2,7 @@
 
 use super::split::PLACE;
 use super::{Made, none_is};
-use guest_mem::GuestMem;
+use guest_mem::{GuestMem, StillMem};
 use packed_ring::PackedRing;
 use ring_core::{Fetched, Layout, LayoutFault};
 use split_ring::SplitRing;
@@ -86,7 +86,8 @@ fn is_owned_there<R: Made>(ring: &mut R, other: &R, memory: &GuestMem) -> bool {
     if !ring.fits(memory) {
         return false;
     }
-    match ring.fetch(memory) {
+    let mut still = StillMem::of(memory);
+    match ring.fetch(&mut still) {
         Ok(Some(Fetched { chain, .. })) => ring.owns(&chain) && !other.owns(&chain),
         _ => false,
     }

@@ -1,10 +1,15 @@
-use Rattle.std.specs.Prelude.{◌≡◌, ◌+◌, ◌%◌, []}
+use Rattle.std.proofs.Common.{◌≡◌, ℕ, List, ◌+◌, ◌%◌, []}
 use Rattle.ring_core.specs.Walk.{nothing_before}
 use Rattle.ring_core.specs.Packed.{packed_slots}
 use Rattle.ring_core.proofs.Walking.{Walked}
 use Rattle.packed_ring.proofs.walk.walk.Given as goal
 
 abbrev pub invariant-along : goal.invariant-along
-invariant-along l =
-    Walked (packed_slots l.features l.memory l.layout l.passed) l.layout.size nothing_before [] l.step l.before l.draft
-    × (l.slot ≡ (l.passed + l.step) % l.layout.size)
+invariant-along g l =
+    record {
+      size : g.M.Memory.extent l.memory ≡ g.M.Memory.extent l.fn.memory;
+      stays : (m : List ℕ) → g.M.Memory.may_be l.memory m → g.M.Memory.may_be l.fn.memory m;
+      reading : g.M.Memory.is_open l.memory;
+      on : (m : List ℕ) → g.M.Memory.may_be l.memory m → Walked (packed_slots l.features m l.layout l.passed) l.layout.size nothing_before [] l.step l.before l.draft;
+      slot : l.slot ≡ (l.passed + l.step) % l.layout.size;
+    }

@@ -1,4 +1,4 @@
-use Rattle.std.proofs.Common.{◌≡◌, ◌/◌, ◌++◌, ◌∷◌, [], refl, arith, rules}
+use Rattle.std.proofs.Common.{◌≡◌, ◌/◌, ◌++◌, ◌∷◌, ◌∙◌, [], refl, arith, rules}
 use Rattle.std.proofs.lemmas.Bool.Decides.{nat_tests}
 use Rattle.ring_core.specs.Walk.{part_of}
 use Rattle.ring_core.specs.Packed.{packed_table}
@@ -7,33 +7,65 @@ use Rattle.ring_core.proofs.Walking.{entries_walk, walked_start, walked_more, wa
 use Rattle.packed_ring.proofs.walk.walk_table.Goals as goal
 
 pub along-init : goal.along-init
-along-init c =
-    rw c.anew-before.ensures
-    (walked_start (packed_table c.args.memory.now c.args.named) (c.args.named.len / 16) (entries_walk c.args.memory.now c.args.named) c.args.first c.args.draft c.requires.some c.requires.total)
+along-init g c =
+    record {
+      size = refl;
+      stays = λ m s. s;
+      reading = c.requires.reading;
+      on = λ m s. rw c.anew-before.ensures
+          (walked_start (packed_table m c.args.named) (c.args.named.len / 16) (entries_walk m c.args.named) c.args.first c.args.draft c.requires.some c.requires.total);
+    }
 
-pub returns-in-Err : goal.returns-in-Err
-returns-in-Err c =
-    walked_wrong (packed_table c.args.memory.now c.args.named) (c.args.named.len / 16) (entries_walk c.args.memory.now c.args.named) c.args.first c.args.draft c.along.place c.along.before c.along.draft c.entry_at-d.result
-    c.along.invariant c.entry_at-d.ensures c.in-Err.fault (rw c.size-bytes.ensures.size at c.in-Err.ensures)
+pub returns-in-Err-clause-walked : goal.returns-in-Err-clause-walked
+returns-in-Err-clause-walked g c = λ m s.
+    let s₀ = c.entry_at-d.ensures.stays m s in
+    let sized = g.met.M.Memory.sized c.along.memory m s₀ in
+    let on = c.along.invariant.on m s₀ in
+    let is = c.entry_at-d.ensures.descriptor m s in
+    walked_wrong (packed_table m c.args.named) (c.args.named.len / 16) (entries_walk m c.args.named) c.args.first c.args.draft c.along.place c.along.before c.along.draft c.entry_at-d.result
+    on is c.in-Err.fault (rw (c.size-bytes.ensures.size, ← sized) at c.in-Err.ensures)
 
-pub returns-then-is_err : goal.returns-then-is_err
-returns-then-is_err c =
-    walked_first (packed_table c.args.memory.now c.args.named) (c.args.named.len / 16) (entries_walk c.args.memory.now c.args.named) c.args.first c.args.draft c.along.place c.along.before c.along.draft c.entry_at-d.result
-    c.along.invariant c.entry_at-d.ensures (rw c.size-bytes.ensures.size at c.in_default.ensures)
+pub returns-then-is_err-clause-walked : goal.returns-then-is_err-clause-walked
+returns-then-is_err-clause-walked g c = λ m s.
+    let s₀ = c.entry_at-d.ensures.stays m s in
+    let sized = g.met.M.Memory.sized c.along.memory m s₀ in
+    let on = c.along.invariant.on m s₀ in
+    let is = c.entry_at-d.ensures.descriptor m s in
+    walked_first (packed_table m c.args.named) (c.args.named.len / 16) (entries_walk m c.args.named) c.args.first c.args.draft c.along.place c.along.before c.along.draft c.entry_at-d.result
+    on is (rw (c.size-bytes.ensures.size, ← sized) at c.in_default.ensures)
 
-pub returns-then-before-entries : goal.returns-then-before-entries
-returns-then-before-entries c =
+pub returns-then-before-entries-clause-walked : goal.returns-then-before-entries-clause-walked
+returns-then-before-entries-clause-walked g c = λ m s.
+    let s₀ = c.entry_at-d.ensures.stays m s in
+    let sized = g.met.M.Memory.sized c.along.memory m s₀ in
+    let on = c.along.invariant.on m s₀ in
+    let is = c.entry_at-d.ensures.descriptor m s in
     let pushed : c.push.new.self ≡ c.along.draft ++ part_of c.entry_at-d.result ∷ [] = search rules in
     let run : Run = record { last = c.entry_at-d.result; before = c.along.before; draft = c.along.draft } in (
       run,
-      walked_end (packed_table c.args.memory.now c.args.named) (c.args.named.len / 16) (entries_walk c.args.memory.now c.args.named) c.args.first c.args.draft c.along.place c.along.before c.along.draft c.entry_at-d.result
-          c.along.invariant c.entry_at-d.ensures run refl refl refl (rw c.size-bytes.ensures.size at c.in_default.ensures) (grind (arith, nat_tests)),
+      walked_end (packed_table m c.args.named) (c.args.named.len / 16) (entries_walk m c.args.named) c.args.first c.args.draft c.along.place c.along.before c.along.draft c.entry_at-d.result
+          on is run refl refl refl (rw (c.size-bytes.ensures.size, ← sized) at c.in_default.ensures) (grind (arith, nat_tests)),
       pushed,
     )
 
 pub along-preserved : goal.along-preserved
-along-preserved c =
+along-preserved g c =
     let pushed : c.push.new.self ≡ c.along.draft ++ part_of c.entry_at-d.result ∷ [] = search rules in
-    rw (pushed, c.with-before.ensures)
-    (walked_more (packed_table c.args.memory.now c.args.named) (c.args.named.len / 16) (entries_walk c.args.memory.now c.args.named) c.args.first c.args.draft c.along.place c.along.before c.along.draft c.entry_at-d.result
-    c.along.invariant c.entry_at-d.ensures (rw c.size-bytes.ensures.size at c.in_default.ensures) (grind (arith, nat_tests)))
+    record {
+      size = c.entry_at-d.ensures.size ∙ c.along.invariant.size;
+      stays = λ m s. c.along.invariant.stays m (c.entry_at-d.ensures.stays m s);
+      reading = c.entry_at-d.ensures.reading;
+      on = λ m s.
+          let s₀ = c.entry_at-d.ensures.stays m s in
+          let sized = g.met.M.Memory.sized c.along.memory m s₀ in
+          let on = c.along.invariant.on m s₀ in
+          let is = c.entry_at-d.ensures.descriptor m s in
+          rw (pushed, c.with-before.ensures)
+          (walked_more (packed_table m c.args.named) (c.args.named.len / 16) (entries_walk m c.args.named) c.args.first c.args.draft c.along.place c.along.before c.along.draft c.entry_at-d.result
+          on is (rw (c.size-bytes.ensures.size, ← sized) at c.in_default.ensures) (grind (arith, nat_tests)));
+    }
+
+pub unreachable-requires : goal.unreachable-requires
+unreachable-requires g c =
+    let on = c.along.invariant.on c.size-bytes-2.ensures.some.0 c.size-bytes-2.ensures.some.1 in
+    omega (arith, on.left, c.along-test.false)

@@ -1,4 +1,4 @@
-use Rattle.std.proofs.Common.{rules, ◌∙◌, false}
+use Rattle.std.proofs.Common.{[], rules, ◌∙◌, false}
 use Rattle.ring_core.proofs.Scattering.{step_over, step_past, step_into, writable_rest}
 use Rattle.ring_core.specs.declared.descriptor.Part.{Part}
 use Rattle.ring_core.proofs.bytes.scatter.Goals.{then-part+then-skip-len, then-part+else-skip-len, else-part}
@@ -8,24 +8,39 @@ abbrev none : Part
 none = record { addr = 0; len = 0; writable = false }
 
 pub loop-part-preserved : goal.loop-part-preserved
-loop-part-preserved c =
+loop-part-preserved g c =
     elim c.if-part.branch [
       | then-part+then-skip-len w ↦
-          let room = writable_rest c.loop-part.memory c.parts-part-items.result.now c.loop-part.part-index c.loop-part.skip c.loop-part.rest.now none c.loop-part-test.true in
-          let step =
-          step_into c.loop-part.memory c.parts-part-items.result.now c.loop-part.part-index c.loop-part.skip c.loop-part.rest.now none c.loop-part-test.true
-          w.fill_part-here.new.memory w.fill_part-here.result w.if-part.true w.if-skip-len.true w.fill_part-here.ensures.memory w.fill_part-here.ensures.written in
+          let room = writable_rest [] c.parts-part-items.result.now c.loop-part.part-index c.loop-part.skip c.loop-part.rest.now none c.loop-part-test.true in
           record {
-            done = rw (w.memory-is, w.skip-is, w.rest-is) (step ∙ c.loop-part.invariant.done);
+            done = rw (w.memory-is, w.skip-is, w.rest-is) (λ m s.
+                let f = w.fill_part-here.ensures.memory m s in
+                let step =
+                step_into f.0 c.parts-part-items.result.now c.loop-part.part-index c.loop-part.skip c.loop-part.rest.now none c.loop-part-test.true
+                m w.fill_part-here.result w.if-part.true w.if-skip-len.true f.2 w.fill_part-here.ensures.written in
+                let d = c.loop-part.invariant.done f.0 f.1 in
+                (d.0, d.1, step ∙ d.2));
             room = search rules;
             size = search rules;
           }
       | then-part+else-skip-len w ↦
-          let room = writable_rest c.loop-part.memory c.parts-part-items.result.now c.loop-part.part-index c.loop-part.skip c.loop-part.rest.now none c.loop-part-test.true in
-          let step = step_past c.loop-part.memory c.parts-part-items.result.now c.loop-part.part-index c.loop-part.skip c.loop-part.rest.now none c.loop-part-test.true w.if-part.true w.if-skip-len.false in
-          record { done = rw (w.memory-is, w.skip-is, w.rest-is) (step ∙ c.loop-part.invariant.done); room = search rules; size = search rules }
+          let room = writable_rest [] c.parts-part-items.result.now c.loop-part.part-index c.loop-part.skip c.loop-part.rest.now none c.loop-part-test.true in
+          record {
+            done = rw (w.memory-is, w.skip-is, w.rest-is) (λ m s.
+                let step = step_past m c.parts-part-items.result.now c.loop-part.part-index c.loop-part.skip c.loop-part.rest.now none c.loop-part-test.true w.if-part.true w.if-skip-len.false in
+                let d = c.loop-part.invariant.done m s in
+                (d.0, d.1, step ∙ d.2));
+            room = search rules;
+            size = search rules;
+          }
       | else-part w ↦
-          let room = writable_rest c.loop-part.memory c.parts-part-items.result.now c.loop-part.part-index c.loop-part.skip c.loop-part.rest.now none c.loop-part-test.true in
-          let step = step_over c.loop-part.memory c.parts-part-items.result.now c.loop-part.part-index c.loop-part.skip c.loop-part.rest.now none c.loop-part-test.true w.if-part.false in
-          record { done = rw (w.memory-is, w.skip-is, w.rest-is) (step ∙ c.loop-part.invariant.done); room = search rules; size = search rules }
+          let room = writable_rest [] c.parts-part-items.result.now c.loop-part.part-index c.loop-part.skip c.loop-part.rest.now none c.loop-part-test.true in
+          record {
+            done = rw (w.memory-is, w.skip-is, w.rest-is) (λ m s.
+                let step = step_over m c.parts-part-items.result.now c.loop-part.part-index c.loop-part.skip c.loop-part.rest.now none c.loop-part-test.true w.if-part.false in
+                let d = c.loop-part.invariant.done m s in
+                (d.0, d.1, step ∙ d.2));
+            room = search rules;
+            size = search rules;
+          }
     ]

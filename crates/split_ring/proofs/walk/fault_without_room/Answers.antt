@@ -9,19 +9,23 @@ use Rattle.split_ring.proofs.Chains.{as_split}
 use Rattle.split_ring.proofs.Path.{path_start, path_first, path_wrong}
 use Rattle.split_ring.proofs.walk.fault_without_room.Goals as goal
 
-pub returns-in-Ok : goal.returns-in-Ok
-returns-in-Ok c =
+pub returns-in-Ok-clause-fails : goal.returns-in-Ok-clause-fails
+returns-in-Ok-clause-fails g c = λ m s.
     let table : Table = record { addr = c.args.layout.now.desc; entries = c.args.layout.now.size; features = c.args.features } in
-    as_split c.args.features c.args.memory.now c.args.layout.now c.args.head NoMemory (path_first c.args.memory.now table c.args.head nothing_before [] 0 nothing_before c.args.head [] c.descriptor_at-first.result
-    (path_start c.args.memory.now table c.args.head nothing_before [] c.requires.head (omega arith))
-    (rw c.of_queue-table.ensures at c.descriptor_at-first.ensures)
-    (rw (c.size.ensures.size, c.nothing-before.ensures, c.of_queue-table.ensures) at c.in-Ok.ensures))
+    let sized = g.met.M.Memory.sized c.args.memory.now m (c.descriptor_at-first.ensures.stays m s) in
+    let is = c.descriptor_at-first.ensures.descriptor m s in
+    as_split c.args.features m c.args.layout.now c.args.head NoMemory (path_first m table c.args.head nothing_before [] 0 nothing_before c.args.head [] c.descriptor_at-first.result
+    (path_start m table c.args.head nothing_before [] c.requires.head (omega arith))
+    (rw c.of_queue-table.ensures at is)
+    (rw (c.size-bytes.ensures.size, ← sized, c.nothing-before.ensures, c.of_queue-table.ensures) at c.in-Ok.ensures))
 
-pub returns-in-Err : goal.returns-in-Err
-returns-in-Err c =
+pub returns-in-Err-clause-fails : goal.returns-in-Err-clause-fails
+returns-in-Err-clause-fails g c = λ m s.
     let table : Table = record { addr = c.args.layout.now.desc; entries = c.args.layout.now.size; features = c.args.features } in
-    as_split c.args.features c.args.memory.now c.args.layout.now c.args.head c.in-Err.fault (ring_fails (queue_path c.args.features c.args.memory.now c.args.layout.now c.args.head) (split_table c.args.memory.now) c.in-Err.fault
-    (path_wrong c.args.memory.now table c.args.head nothing_before [] 0 nothing_before c.args.head [] c.descriptor_at-first.result
-    (path_start c.args.memory.now table c.args.head nothing_before [] c.requires.head (omega arith))
-    (rw c.of_queue-table.ensures at c.descriptor_at-first.ensures) c.in-Err.fault
-    (rw (c.size.ensures.size, c.nothing-before.ensures, c.of_queue-table.ensures) at c.in-Err.ensures)))
+    let sized = g.met.M.Memory.sized c.args.memory.now m (c.descriptor_at-first.ensures.stays m s) in
+    let is = c.descriptor_at-first.ensures.descriptor m s in
+    as_split c.args.features m c.args.layout.now c.args.head c.in-Err.fault (ring_fails (queue_path c.args.features m c.args.layout.now c.args.head) (split_table m) c.in-Err.fault
+    (path_wrong m table c.args.head nothing_before [] 0 nothing_before c.args.head [] c.descriptor_at-first.result
+    (path_start m table c.args.head nothing_before [] c.requires.head (omega arith))
+    (rw c.of_queue-table.ensures at is) c.in-Err.fault
+    (rw (c.size-bytes.ensures.size, ← sized, c.nothing-before.ensures, c.of_queue-table.ensures) at c.in-Err.ensures)))

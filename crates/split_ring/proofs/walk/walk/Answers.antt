@@ -7,38 +7,48 @@ use Rattle.split_ring.specs.Inner.{queue_path}
 use Rattle.split_ring.proofs.Chains.{as_split, alone, table_lies, fails, ended}
 use Rattle.split_ring.proofs.walk.walk.Goals as goal
 
-pub returns-then-not-is_indirect : goal.returns-then-not-is_indirect
-returns-then-not-is_indirect c =
-    let w : Walks (queue_path c.args.features c.args.memory.now c.args.layout.now c.args.head) c.args.layout.now.size nothing_before [] c.in-Ok.run' =
-    rw (c.of_queue-table.ensures, c.nothing.ensures, c.requires.empty) at c.in-Ok.ensures in
-    alone c.args.features c.args.memory.now c.args.layout.now c.args.head c.in-Ok.run' w (rw c.is_indirect.ensures at c.if-not-is_indirect.true) c.into_parts.result c.into_parts.ensures
+pub returns-in-Err-clause-walked : goal.returns-in-Err-clause-walked
+returns-in-Err-clause-walked g c = λ m s.
+    let f = c.in-Err.ensures.walked m s in
+    as_split c.args.features m c.args.layout.now c.args.head c.in-Err.fault
+    (ring_fails (queue_path c.args.features m c.args.layout.now c.args.head) (split_table m) c.in-Err.fault (rw (c.of_queue-table.ensures, c.nothing.ensures) at f))
+
+pub returns-then-not-is_indirect-clause-walked : goal.returns-then-not-is_indirect-clause-walked
+returns-then-not-is_indirect-clause-walked g c = λ m s₁.
+    let w : Walks (queue_path c.args.features m c.args.layout.now c.args.head) c.args.layout.now.size nothing_before [] c.in-Ok.run' =
+    rw (c.of_queue-table.ensures, c.nothing.ensures, c.requires.empty) at (c.in-Ok.ensures.walked m s₁) in
+    alone c.args.features m c.args.layout.now c.args.head c.in-Ok.run' w (rw c.is_indirect.ensures at c.if-not-is_indirect.true) c.into_parts.result c.into_parts.ensures
 
 pub walk_run-requires-2-clause-inside : goal.walk_run-requires-2-clause-inside
-walk_run-requires-2-clause-inside c =
-    let w : Walks (queue_path c.args.features c.args.memory.now c.args.layout.now c.args.head) c.args.layout.now.size nothing_before [] c.in-Ok.run' =
-    rw (c.of_queue-table.ensures, c.nothing.ensures, c.requires.empty) at c.in-Ok.ensures in
-    rw c.named_by-named.ensures (table_lies c.args.features c.args.memory.now c.args.layout.now c.args.head c.in-Ok.run' w (rw c.is_indirect.ensures at c.if-not-is_indirect.false)).0
+walk_run-requires-2-clause-inside g c =
+    let m = c.size-bytes.ensures.some.0 in
+    let s₁ = c.size-bytes.ensures.some.1 in
+    let sized = g.met.M.Memory.sized c.walk_run.new.memory m s₁ in
+    let w : Walks (queue_path c.args.features m c.args.layout.now c.args.head) c.args.layout.now.size nothing_before [] c.in-Ok.run' =
+    rw (c.of_queue-table.ensures, c.nothing.ensures, c.requires.empty) at (c.in-Ok.ensures.walked m s₁) in
+    rw (c.named_by-named.ensures, ← sized) (table_lies c.args.features m c.args.layout.now c.args.head c.in-Ok.run' w (rw c.is_indirect.ensures at c.if-not-is_indirect.false)).0
 
 pub walk_run-requires-2-clause-head : goal.walk_run-requires-2-clause-head
-walk_run-requires-2-clause-head c =
-    let w : Walks (queue_path c.args.features c.args.memory.now c.args.layout.now c.args.head) c.args.layout.now.size nothing_before [] c.in-Ok.run' =
-    rw (c.of_queue-table.ensures, c.nothing.ensures, c.requires.empty) at c.in-Ok.ensures in
-    rw c.named_by-named.ensures (table_lies c.args.features c.args.memory.now c.args.layout.now c.args.head c.in-Ok.run' w (rw c.is_indirect.ensures at c.if-not-is_indirect.false)).1
+walk_run-requires-2-clause-head g c =
+    let m = c.size-bytes.ensures.some.0 in
+    let s₁ = c.size-bytes.ensures.some.1 in
+    let w : Walks (queue_path c.args.features m c.args.layout.now c.args.head) c.args.layout.now.size nothing_before [] c.in-Ok.run' =
+    rw (c.of_queue-table.ensures, c.nothing.ensures, c.requires.empty) at (c.in-Ok.ensures.walked m s₁) in
+    rw c.named_by-named.ensures (table_lies c.args.features m c.args.layout.now c.args.head c.in-Ok.run' w (rw c.is_indirect.ensures at c.if-not-is_indirect.false)).1
 
-pub returns-in-Err-walk_run : goal.returns-in-Err-walk_run
-returns-in-Err-walk_run c =
-    let w : Walks (queue_path c.args.features c.args.memory.now c.args.layout.now c.args.head) c.args.layout.now.size nothing_before [] c.in-Ok.run' =
-    rw (c.of_queue-table.ensures, c.nothing.ensures, c.requires.empty) at c.in-Ok.ensures in
-    fails c.args.features c.args.memory.now c.args.layout.now c.args.head c.in-Ok.run' w (rw c.is_indirect.ensures at c.if-not-is_indirect.false) c.in-Err-walk_run.fault (rw c.named_by-named.ensures at c.in-Err-walk_run.ensures)
+pub returns-in-Err-walk_run-clause-walked : goal.returns-in-Err-walk_run-clause-walked
+returns-in-Err-walk_run-clause-walked g c = λ m s.
+    let s₁ = c.walk_run-2.ensures.stays m s in
+    let w : Walks (queue_path c.args.features m c.args.layout.now c.args.head) c.args.layout.now.size nothing_before [] c.in-Ok.run' =
+    rw (c.of_queue-table.ensures, c.nothing.ensures, c.requires.empty) at (c.in-Ok.ensures.walked m s₁) in
+    let f = c.in-Err-walk_run.ensures.walked m s in
+    fails c.args.features m c.args.layout.now c.args.head c.in-Ok.run' w (rw c.is_indirect.ensures at c.if-not-is_indirect.false) c.in-Err-walk_run.fault (rw c.named_by-named.ensures at f)
 
-pub returns-in-Ok-walk_run : goal.returns-in-Ok-walk_run
-returns-in-Ok-walk_run c =
-    let w : Walks (queue_path c.args.features c.args.memory.now c.args.layout.now c.args.head) c.args.layout.now.size nothing_before [] c.in-Ok.run' =
-    rw (c.of_queue-table.ensures, c.nothing.ensures, c.requires.empty) at c.in-Ok.ensures in
-    ended c.args.features c.args.memory.now c.args.layout.now c.args.head c.in-Ok.run' w (rw c.is_indirect.ensures at c.if-not-is_indirect.false) c.in-Ok-walk_run.further (rw c.named_by-named.ensures at c.in-Ok-walk_run.ensures)
+pub returns-in-Ok-walk_run-clause-walked : goal.returns-in-Ok-walk_run-clause-walked
+returns-in-Ok-walk_run-clause-walked g c = λ m s.
+    let s₁ = c.walk_run-2.ensures.stays m s in
+    let w : Walks (queue_path c.args.features m c.args.layout.now c.args.head) c.args.layout.now.size nothing_before [] c.in-Ok.run' =
+    rw (c.of_queue-table.ensures, c.nothing.ensures, c.requires.empty) at (c.in-Ok.ensures.walked m s₁) in
+    let f = c.in-Ok-walk_run.ensures.walked m s in
+    ended c.args.features m c.args.layout.now c.args.head c.in-Ok.run' w (rw c.is_indirect.ensures at c.if-not-is_indirect.false) c.in-Ok-walk_run.further (rw c.named_by-named.ensures at f)
     c.into_parts-in-Ok-walk_run.result c.into_parts-in-Ok-walk_run.ensures
-
-pub returns-in-Err : goal.returns-in-Err
-returns-in-Err c =
-    as_split c.args.features c.args.memory.now c.args.layout.now c.args.head c.in-Err.fault
-    (ring_fails (queue_path c.args.features c.args.memory.now c.args.layout.now c.args.head) (split_table c.args.memory.now) c.in-Err.fault (rw (c.of_queue-table.ensures, c.nothing.ensures) at c.in-Err.ensures))

@@ -4,20 +4,26 @@ use Rattle.ring_core.specs.declared.fault.RingFault.TheVariants.{AlreadyOutstand
 use Rattle.packed_ring.proofs.Fit.{fault_found}
 use Rattle.packed_ring.proofs.ring.PackedRing.find.Goals as goal
 
-pub returns-then-is_outstanding : goal.returns-then-is_outstanding
-returns-then-is_outstanding c =
-    let some : is_available c.args.self.now c.args.memory.now ≡ true = search rules in
-    let chain : PackedChain c.args.self.now.features c.args.memory.now c.args.self.now.layout c.args.self.now.accepted_slots c.in-Ok.found.id c.in-Ok.found.slots c.in-Ok.found.draft = search rules in
+pub returns-then-is_outstanding-clause-finds : goal.returns-then-is_outstanding-clause-finds
+returns-then-is_outstanding-clause-finds g c = λ m s.
+    let asked = c.requires.some m (c.walk.ensures.stays m s) in
+    let f = c.in-Ok.ensures.walked m s in
+    let some : is_available c.args.self.now m ≡ true = asked in
+    let chain : PackedChain c.args.self.now.features m c.args.self.now.layout c.args.self.now.accepted_slots c.in-Ok.found.id c.in-Ok.found.slots c.in-Ok.found.draft = search rules in
     let bad : whole_wrong c.args.self.now c.in-Ok.found.id c.in-Ok.found.slots ≡ Some AlreadyOutstanding = search rules in
     (some, inr (c.in-Ok.found.id, c.in-Ok.found.slots, c.in-Ok.found.draft, chain, bad))
 
-pub returns-then-outstanding-found : goal.returns-then-outstanding-found
-returns-then-outstanding-found c =
-    let some : is_available c.args.self.now c.args.memory.now ≡ true = search rules in
-    let chain : PackedChain c.args.self.now.features c.args.memory.now c.args.self.now.layout c.args.self.now.accepted_slots c.in-Ok.found.id c.in-Ok.found.slots c.in-Ok.found.draft = search rules in
+pub returns-then-outstanding-found-clause-finds : goal.returns-then-outstanding-found-clause-finds
+returns-then-outstanding-found-clause-finds g c = λ m s.
+    let asked = c.requires.some m (c.walk.ensures.stays m s) in
+    let f = c.in-Ok.ensures.walked m s in
+    let some : is_available c.args.self.now m ≡ true = asked in
+    let chain : PackedChain c.args.self.now.features m c.args.self.now.layout c.args.self.now.accepted_slots c.in-Ok.found.id c.in-Ok.found.slots c.in-Ok.found.draft = search rules in
     let bad : whole_wrong c.args.self.now c.in-Ok.found.id c.in-Ok.found.slots ≡ Some RingOverrun = search rules in
     (some, inr (c.in-Ok.found.id, c.in-Ok.found.slots, c.in-Ok.found.draft, chain, bad))
 
-pub returns-in-Err : goal.returns-in-Err
-returns-in-Err c =
-    fault_found c.args.self.now c.args.memory.now c.in-Err.fault c.requires.some (rw (c.layout-layout.ensures, c.accepted_slots-accepted.ensures.slots, c.features.ensures, c.self.view_is) at c.in-Err.ensures)
+pub returns-in-Err-clause-finds : goal.returns-in-Err-clause-finds
+returns-in-Err-clause-finds g c = λ m s.
+    let asked = c.requires.some m (c.walk.ensures.stays m s) in
+    let f = c.in-Err.ensures.walked m s in
+    fault_found c.args.self.now m c.in-Err.fault asked (rw (c.layout-layout.ensures, c.accepted_slots-accepted.ensures.slots, c.features.ensures, c.self.view_is) at f)

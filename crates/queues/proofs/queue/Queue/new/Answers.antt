@@ -6,7 +6,7 @@ use Rattle.queues.proofs.Opening.{opens_whole, opens_numbered}
 use Rattle.queues.proofs.queue.Queue.new.Goals as goal
 
 pub invariant_of-result : goal.invariant_of-result
-invariant_of-result c =
+invariant_of-result g c =
     let form = c.args.form in
     let number = c.args.number in
     let layout = c.args.layout in

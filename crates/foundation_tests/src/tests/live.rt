@@ -1,0 +1,105 @@
+//! Memory of a guest that runs.
+
+use super::none_is;
+use guest_mem::{GuestMem, Memory, WritableMemory};
+use live_mem::{Bus, LiveMem};
+use std::test::Fail;
+
+/// A bus to bytes that change: the first byte that a load gives is one more for the next.
+#[derive(Drop)]
+struct RestlessBus {
+    bytes: GuestMem,
+}
+
+impl Bus for RestlessBus {
+    fn begin(&mut self) {}
+
+    fn load(&mut self, addr: u64, out: &mut [u8]) {
+        let _ = self.bytes.read(addr, out);
+        if let Some(first) = out.first() {
+            let next = [first.wrapping_add(1)];
+            let _ = self.bytes.write(addr, &next);
+        }
+    }
+
+    fn store(&mut self, addr: u64, bytes: &[u8]) {
+        let _ = self.bytes.write(addr, bytes);
+    }
+}
+
+/// Two reads of four bytes in a phase of its own: where, and what each gives.
+struct Phase {
+    addr: u64,
+    gives: [u8; 4],
+    then: u64,
+    gives_then: [u8; 4],
+}
+
+/// Phases of a new memory. A byte that was read in the phase stays as it was. In the next phase it may have changed.
+static PHASES: [Phase; 3] = [
+    Phase {
+        addr: 8,
+        gives: [0, 0, 0, 0],
+        then: 7,
+        gives_then: [0, 0, 0, 0],
+    },
+    Phase {
+        addr: 7,
+        gives: [1, 1, 0, 0],
+        then: 7,
+        gives_then: [1, 1, 0, 0],
+    },
+    Phase {
+        addr: 40,
+        gives: [0, 0, 0, 0],
+        then: 7,
+        gives_then: [3, 1, 0, 0],
+    },
+];
+
+/// Reads twice in a phase. Returns true if both reads give what they should.
+fn reads(memory: &mut LiveMem<RestlessBus>, phase: &Phase) -> bool {
+    if memory.size() < 64 || phase.addr > 40 || phase.then > 40 {
+        return false;
+    }
+    let mut out = [7; 4];
+    let mut again = [7; 4];
+    memory.begin();
+    memory.read(phase.addr, &mut out);
+    memory.read(phase.then, &mut again);
+    out == phase.gives && again == phase.gives_then && !memory.is_blind()
+}
+
+/// Returns true if what is written is read in the next phase.
+fn writes(memory: &mut LiveMem<RestlessBus>) -> bool {
+    if memory.size() < 64 {
+        return false;
+    }
+    let mut out = [7; 4];
+    memory.write(20, &[9, 8, 7, 6]);
+    memory.begin();
+    memory.read(20, &mut out);
+    out == [9, 8, 7, 6]
+}
+
+/// Returns the number of the first phase that reads what it shouldn't, from 0; behind them that of the write.
+fn first_wrong(memory: &mut LiveMem<RestlessBus>) -> Option<usize> {
+    for number in 0..PHASES.len() {
+        if !reads(memory, &PHASES[number]) {
+            return Some(number);
+        }
+    }
+    if writes(memory) {
+        None
+    } else {
+        Some(PHASES.len())
+    }
+}
+
+#[test]
+fn live_memory(rt: HostRuntime) -> Result<(), Fail> {
+    let bytes = GuestMem::new(rt.alloc(), 1)?;
+    let mut memory = LiveMem::new(rt.alloc(), RestlessBus { bytes }, 4096, 2, 8)?;
+    none_is(&rt, first_wrong(&mut memory));
+    Ok(())
+}
