@@ -29,9 +29,11 @@ fn move_first(parts: &mut [Part], most: u32) -> usize
     kept
 }
 
-/// Keeps the first `most` writable bytes of a list of parts, and gives back the memory that it needs no more.
+/// Keeps the first `most` writable bytes of a list of parts, and gives back the memory that it needs no more: where the
+/// parts that are left stand in the chain itself, all of it.
 fn keep_first(parts: &mut SmallVec<Part, FEW_PARTS>, most: u32)
-    ensures { parts.new.items ≡ first_writable most parts.old.items }
+    ensures first { parts.new.items ≡ first_writable most parts.old.items }
+    ensures memory { length parts.new.items ≤ FEW_PARTS → parts.new.capacity ≡ FEW_PARTS }
 {
     let kept = move_first(parts.as_mut_slice(), most);
     parts.truncate(kept);
@@ -41,7 +43,7 @@ fn keep_first(parts: &mut SmallVec<Part, FEW_PARTS>, most: u32)
 impl Chain {
     /// Returns the chain with its first `most` writable bytes alone. It has at most one part for each of them. Readable
     /// parts and empty ones are left out, and their memory is given back. A device calls it on a chain that it holds for
-    /// long. It takes no memory. The chain is completed as before, and at most `most` bytes are written into it.
+    /// long. The chain is completed as before, and at most `most` bytes are written into it.
     pub fn narrowed(self, most: u32) -> Chain
         ensures chain { result ≡ narrowed most self }
         ensures few { length result.parts ≤ most }
