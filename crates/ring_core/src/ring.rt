@@ -59,7 +59,12 @@ pub trait Ring {
     /// Gives a chain back to the driver, into which `len` bytes were written: writes its used
     /// entry. Called once for each chain, with a memory that `fits` and a chain that the queue
     /// `owns`. It takes no memory.
-    final fn complete<M: WritableMemory>(&mut self, memory: &mut M, chain: Chain, len: u32) -> Answered
+    final fn complete<M: WritableMemory>(
+        &mut self,
+        memory: &mut M,
+        chain: Chain,
+        len: u32,
+    ) -> Answered
         requires fits { M.extent memory.old ≡ (state self.old).memory }
         requires owned { Owns (state self.old) chain }
         ensures ticket { result ≡ chain.ticket }
