@@ -21,44 +21,66 @@ struct backend_queue {
   struct ring ring;
   bool ready;            // its areas are found: the driver set it up
   uint64_t taken, used;  // chains of the device that stands
+  uint16_t due;          // of shadow mode: what has to be fetched before the control queue, as ring_ahead counts it
 };
+
+// A round: chains are fetched, the device runs them, what they changed is written to the files, and their answers are shown to the
+// guest. This says what comes next.
+enum phase { FETCHING, RUNNING, WRITING };
 
 struct backend {
   struct memory memory;
   struct disks *disks;
   struct device device;
-  uint64_t places[DEVICE_MOST_UNITS];  // of each unit's history: what stands on its file
+  uint64_t places[DEVICE_MOST_UNITS];  // of each unit's history: what is noted in its disk's backlog
   struct backend_queue queues[MOST_QUEUES];
   unsigned count;
   bool only_shadow, shadow, packed, event_index, indirect;
-  bool held[SLOTS];  // of shadow mode: event buffers
+  enum phase phase;
+  unsigned heaviest;      // the most ranges that one command of the round changes
+  unsigned pause;         // milliseconds until a round that can't go on is tried again, and the time of that
+  uint64_t due;
+  bool starved;           // a chain wasn't fetched for want of memory
+  unsigned turn;          // of shadow mode: which request queue comes first
+  bool control_waits;     // of shadow mode: `due` of each queue holds for the chains that the control queue had then
+  bool held[SLOTS];       // of shadow mode: event buffers
 };
 
-enum served { SERVED, MORE, FAILED };
+// What came of a call. MORE: another call is wanted. BUSY: the same, and the round's answers wait for files that are being written.
+// LATER: another call is wanted at `due`. FAILED: `why` says what ended this; nothing that the disks don't have was shown to the
+// guest.
+enum served { SERVED, MORE, BUSY, LATER, FAILED };
 
 // Makes the device for the queues that are ready. Returns false, and says why, where it couldn't.
 bool backend_begin(struct backend *backend, char *why, size_t room);
 
-// Lets go of the device, and takes its disks back. The rings stand where their oldest chain was fetched.
+// Lets go of the device, and takes its disks back. The rings stand where their oldest chain was fetched. A round that isn't
+// answered is forgotten, but what it changed stays in the backlogs of the disks.
 void backend_end(struct backend *backend);
 
 // Returns whether a driver made something available on one of these queues.
 bool backend_has(const struct backend *backend, uint32_t queues);
 
-// Serves these queues. Sets the bits of those whose driver wants to be notified. MORE: another call is wanted. FAILED: `why` says
-// what ended this; nothing that the disks don't have was shown to the guest.
+// Serves these queues, for a round or a part of one. Sets the bits of those whose driver wants to be notified.
 enum served backend_serve(struct backend *backend, uint32_t queues, uint32_t *owed, char *why, size_t room);
 
-// Of direct.c and shadow.c.
+// Of direct.c and shadow.c: makes the device; fetches the chains of a round; and takes their answers out of the device. The last
+// two return false, and say why, where the session has to end.
 bool direct_fits(const struct backend *backend);
 bool direct_begin(struct backend *backend, char *why, size_t room);
-enum served direct_serve(struct backend *backend, uint32_t queues, uint32_t *owed, char *why, size_t room);
+bool direct_fetch(struct backend *backend, uint32_t queues, char *why, size_t room);
+bool direct_complete(struct backend *backend, char *why, size_t room);
 bool shadow_begin(struct backend *backend, char *why, size_t room);
-enum served shadow_serve(struct backend *backend, uint32_t queues, uint32_t *owed, char *why, size_t room);
+bool shadow_fetch(struct backend *backend, uint32_t queues, char *why, size_t room);
+bool shadow_complete(struct backend *backend, char *why, size_t room);
 
-// Of both: makes the device of these queues, over the disks; keeps what it changed of them; and makes visible what was used.
+// The most bytes of a request that the daemon looks at itself: the head, and the list of an UNMAP of 16 descriptors.
+enum { MOST_LOOKED_AT = HEAD + 8 + 16 * 16 };
+
+// Of both: makes the device of these queues, over the disks; and learns from a request, as it lies in the device's memory, how many
+// ranges of blocks its command changes at the most, and which it unmaps. `length` is that of the request, where it isn't longer than
+// MOST_LOOKED_AT, or HEAD.
 bool backend_make(struct backend *backend, const struct vscsi_queue *queues, uint32_t pages, uint64_t features, char *why, size_t room);
-bool backend_keep(struct backend *backend, char *why, size_t room);
-void backend_publish(struct backend *backend, uint32_t *owed);
+void backend_weigh(struct backend *backend, const uint8_t *request, size_t length);
 
 #endif

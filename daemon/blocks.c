@@ -1,10 +1,15 @@
 #include "blocks.h"
 
+#include <errno.h>
 #include <stdio.h>
+#include <stdlib.h>
 #include <string.h>
 
-// How many blocks are moved at once.
-enum { CHUNK = 128 };
+#include "clock.h"
+
+// How many blocks are moved at once; the ranges that a backlog has room for at first, and at the most; and milliseconds, of
+// blocks_keep and of blocks_finish.
+enum { CHUNK = 128, FEW_RANGES = 64, MOST_RANGES = 1 << 16, PORTION = 20, LAST_PORTIONS = 1000 };
 
 static bool load_chunk(struct vscsi_disk *store, const struct disk *disk, uint64_t first, uint32_t count) {
   uint8_t bytes[CHUNK * DEVICE_BLOCK];
@@ -38,35 +43,138 @@ bool blocks_load(struct disks *disks, char *why, size_t room) {
   return true;
 }
 
-// Writes blocks of the device to the file of a disk.
-static bool keep_range(struct device *device, struct disk *disk, uint64_t first, uint64_t count) {
-  uint8_t bytes[CHUNK * DEVICE_BLOCK];
-  for (uint64_t done = 0; done < count; done += CHUNK) {
-    uint32_t here = count - done < CHUNK ? (uint32_t)(count - done) : CHUNK;
-    if (!device_blocks(device, disk->target, disk->lun, first + done, here, bytes)) return false;
-    if (!disk_write(disk, first + done, here, bytes)) return false;
+static bool is_kept(const struct disk *disk) { return disk->file >= 0 && !disk->read_only; }
+
+bool blocks_are_kept(const struct disks *disks) {
+  for (size_t i = 0; i < disks->count; i++)
+    if (is_kept(&disks->disks[i])) return true;
+  return false;
+}
+
+static void note_all(struct backlog *backlog) {
+  backlog->all = true;
+  backlog->count = 1;
+  backlog->written = backlog->synced = (struct mark){0};
+}
+
+// Notes a range of blocks. Where there is no room for one more, the backlog becomes the whole disk.
+static void note(struct backlog *backlog, struct vscsi_range range) {
+  if (!backlog->all && backlog->count == backlog->room) {
+    size_t more = backlog->room ? 2 * backlog->room : FEW_RANGES;
+    struct vscsi_range *ranges = more <= MOST_RANGES ? realloc(backlog->ranges, more * sizeof *ranges) : NULL;
+    if (ranges) {
+      backlog->ranges = ranges;
+      backlog->room = more;
+    }
   }
+  if (backlog->all || backlog->count == backlog->room) note_all(backlog);
+  else backlog->ranges[backlog->count++] = range;
+}
+
+void blocks_note(struct device *device, struct disks *disks, uint64_t *places) {
+  for (size_t i = 0; i < disks->count; i++) {
+    struct disk *disk = &disks->disks[i];
+    struct vscsi_range ranges[VSCSI_MOST_RANGES];
+    size_t count = 0;
+    bool all = true;
+    if (!is_kept(disk)) continue;
+    if (!device_changed(device, disk->target, disk->lun, &places[i], ranges, &count, &all) || all) note_all(&disk->backlog);
+    for (size_t r = 0; !all && r < count; r++) note(&disk->backlog, ranges[r]);
+  }
+}
+
+void blocks_unmap(struct disks *disks, uint8_t target, uint16_t lun, struct vscsi_range range) {
+  for (size_t i = 0; i < disks->count; i++) {
+    struct disk *disk = &disks->disks[i];
+    struct backlog *backlog = &disk->backlog;
+    struct vscsi_range *last = backlog->unmapped + backlog->unmapped_count;
+    if (disk->target != target || disk->lun != lun || !is_kept(disk)) continue;
+    if (backlog->unmapped_count && last[-1].first + last[-1].count == range.first) last[-1].count += range.count;
+    else if (backlog->unmapped_count < MOST_UNMAPPED) backlog->unmapped[backlog->unmapped_count++] = range;
+  }
+}
+
+static bool is_unmapped(const struct backlog *backlog, uint64_t first, uint32_t count) {
+  for (size_t i = 0; i < backlog->unmapped_count; i++) {
+    struct vscsi_range it = backlog->unmapped[i];
+    if (first >= it.first && first - it.first <= it.count && it.count - (first - it.first) >= count) return true;
+  }
+  return false;
+}
+
+// Copies blocks out of the device, or out of the disk's own value where no device has it.
+static bool copy_out(struct device *device, const struct disks *disks, size_t which, uint64_t first, uint32_t count, uint8_t *into) {
+  const struct disk *disk = &disks->disks[which];
+  bool copied = device->live ? device_blocks(device, disk->target, disk->lun, first, count, into)
+                             : store_save(&disks->stores[which], first, count, into);
+  if (!copied) errno = ENOMEM;
+  return copied;
+}
+
+// Writes the next blocks of a disk's backlog to its file.
+static bool write_chunk(struct device *device, struct disks *disks, size_t which) {
+  uint8_t bytes[CHUNK * DEVICE_BLOCK];
+  struct disk *disk = &disks->disks[which];
+  struct mark *mark = &disk->backlog.written;
+  struct vscsi_range range = disk->backlog.all ? (struct vscsi_range){0, disk->blocks} : disk->backlog.ranges[mark->range];
+  uint64_t first = range.first + mark->done, left = range.count - mark->done;
+  uint32_t count = left < CHUNK ? (uint32_t)left : CHUNK;
+  bool unmapped = is_unmapped(&disk->backlog, first, count);
+  if (count && !(copy_out(device, disks, which, first, count, bytes) && disk_write(disk, first, count, bytes, unmapped))) return false;
+  mark->done += count;
+  if (mark->done == range.count) *mark = (struct mark){.range = mark->range + 1};
   return true;
 }
 
-static bool keep(struct device *device, struct disk *disk, uint64_t *place) {
-  struct vscsi_range ranges[VSCSI_MOST_RANGES];
-  size_t count;
-  bool all;
-  if (!device_changed(device, disk->target, disk->lun, place, ranges, &count, &all)) return false;
-  bool whole = all || disk->behind, kept = true;
-  disk->behind = true;
-  if (whole) kept = keep_range(device, disk, 0, disk->blocks);
-  for (size_t i = 0; !whole && kept && i < count; i++) kept = keep_range(device, disk, ranges[i].first, ranges[i].count);
-  disk->behind = !kept;
+// Writes a disk's backlog until this time, and waits until that stands on the file.
+static enum kept keep(struct device *device, struct disks *disks, size_t which, uint64_t until) {
+  struct disk *disk = &disks->disks[which];
+  struct backlog *backlog = &disk->backlog;
+  do {
+    if (backlog->written.range == backlog->count) break;
+    if (!write_chunk(device, disks, which)) return disk->error = errno, STUCK;
+  } while (clock_now() < until);
+  if (!disk_sync(disk)) {
+    // The system may have forgotten all that was written since it last stood there for sure, and won't say so again.
+    disk->error = errno;
+    backlog->written = backlog->synced;
+    return STUCK;
+  }
+  disk->error = 0;
+  backlog->synced = backlog->written;
+  if (backlog->written.range < backlog->count) return KEEPING;
+  backlog->count = backlog->unmapped_count = 0;
+  backlog->all = false;
+  backlog->written = backlog->synced = (struct mark){0};
+  return KEPT;
+}
+
+enum kept blocks_keep(struct device *device, struct disks *disks) {
+  uint64_t until = 0;
+  enum kept kept = KEPT;
+  for (size_t i = 0; i < disks->count; i++) {
+    struct backlog *backlog = &disks->disks[i].backlog;
+    if (!backlog->count) backlog->unmapped_count = 0;
+    if (!backlog->count) continue;
+    if (!until) until = clock_now() + PORTION;
+    enum kept its = keep(device, disks, i, until);
+    if (its > kept) kept = its;
+  }
   return kept;
 }
 
-bool blocks_keep(struct device *device, struct disks *disks, uint64_t *places) {
-  bool kept = true;
-  for (size_t i = 0; i < disks->count; i++) {
-    struct disk *disk = &disks->disks[i];
-    if (disk->file >= 0 && !disk->read_only && !keep(device, disk, &places[i])) kept = false;
+bool blocks_finish(struct disks *disks, char *why, size_t room) {
+  struct device none = {0};
+  uint64_t until = clock_now() + LAST_PORTIONS;
+  enum kept kept;
+  do kept = blocks_keep(&none, disks);
+  while (kept == KEEPING && clock_now() < until);
+  for (size_t i = 0; kept != KEPT && i < disks->count; i++) {
+    const struct disk *disk = &disks->disks[i];
+    const char *cause = disk->error ? strerror(disk->error) : "there was no time for it";
+    if (!disk->backlog.count) continue;
+    snprintf(why, room, "disk %u:%u: %s: requests that weren't answered aren't kept: %s", disk->target, disk->lun, disk->path, cause);
+    return false;
   }
-  return disks_sync(disks) && kept;
+  return true;
 }

@@ -1,5 +1,8 @@
 // The blocks of disks, between their files and the device: loaded when a device is to be made, and written through to the
 // files as the device changes them.
+//
+// Blocks that changed are noted in the backlog of their disk, and stay there until they stand on the file for sure. A backlog
+// outlives its device: its blocks are then those of the disk's own value.
 #ifndef DAEMON_BLOCKS_H
 #define DAEMON_BLOCKS_H
 
@@ -9,8 +12,25 @@
 // Makes the blocks of each disk that has none in memory, from its file. Returns false, and says why, where it couldn't.
 bool blocks_load(struct disks *disks, char *why, size_t room);
 
-// Writes to the files what the device changed since the last call for it, and waits until it stands there. `places` has a place for
-// each disk, 0 at first. Returns false where a file couldn't be written: then the next call writes the whole disk.
-bool blocks_keep(struct device *device, struct disks *disks, uint64_t *places);
+// Returns whether a disk has a file that is written.
+bool blocks_are_kept(const struct disks *disks);
+
+// Notes the blocks that the device changed since the last call for it. `places` has a place for each disk, 0 at first.
+void blocks_note(struct device *device, struct disks *disks, uint64_t *places);
+
+// Notes that the guest wants blocks of a disk unmapped: where they are zeros when they are written, they become a hole of the file.
+void blocks_unmap(struct disks *disks, uint8_t target, uint16_t lun, struct vscsi_range range);
+
+// What came of blocks_keep: all that was noted stands on the files; or more is to be written; or a file can't be written, as
+// its disk's `error` says, and the others stand.
+enum kept { KEPT, KEEPING, STUCK };
+
+// Writes what was noted to the files, for some 20 milliseconds, and waits until that stands there. It is called again until it
+// says KEPT. No block of a backlog is left out in between, also where fdatasync fails.
+enum kept blocks_keep(struct device *device, struct disks *disks);
+
+// Writes what was noted, for a second at most, as the daemon ends. Returns false, and names a disk and why, where a file lacks
+// some.
+bool blocks_finish(struct disks *disks, char *why, size_t room);
 
 #endif

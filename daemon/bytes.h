@@ -2,17 +2,20 @@
 #ifndef DAEMON_BYTES_H
 #define DAEMON_BYTES_H
 
+#include <endian.h>
 #include <stddef.h>
 #include <stdint.h>
+#include <string.h>
 
 static inline uint64_t little_get(const uint8_t *from, size_t bytes) {
   uint64_t number = 0;
-  for (size_t i = bytes; i-- > 0;) number = number << 8 | from[i];
-  return number;
+  memcpy(&number, from, bytes);
+  return le64toh(number);
 }
 
 static inline void little_put(uint8_t *into, uint64_t number, size_t bytes) {
-  for (size_t i = 0; i < bytes; i++) into[i] = (uint8_t)(number >> 8 * i);
+  number = htole64(number);
+  memcpy(into, &number, bytes);
 }
 
 static inline uint64_t big_get(const uint8_t *from, size_t bytes) {

@@ -1,17 +1,21 @@
 #include "chain.h"
 
 #include <stdlib.h>
+#include <string.h>
 
 #include "bytes.h"
 #include "moves.h"
 
-bool source_load(const struct source *source, uint64_t addr, void *into, size_t count) {
-  return source->device ? device_peek(source->device, addr, into, count) : memory_load(source->memory, addr, into, count);
+bool source_load(const struct source *source, uint64_t addr, const uint8_t *at, void *into, size_t count) {
+  if (source->device) return device_peek(source->device, addr, into, count);
+  if (!at) return memory_load(source->memory, addr, into, count);
+  memcpy(into, at, count);
+  return true;
 }
 
-bool source_descriptor(const struct source *source, uint64_t addr, struct descriptor *descriptor) {
+bool source_descriptor(const struct source *source, uint64_t addr, const uint8_t *at, struct descriptor *descriptor) {
   uint8_t bytes[DESCRIPTOR];
-  if (!source_load(source, addr, bytes, sizeof bytes)) return false;
+  if (!source_load(source, addr, at, bytes, sizeof bytes)) return false;
   *descriptor = (struct descriptor){.addr = little_get(bytes, 8),
                                     .length = (uint32_t)little_get(bytes + 8, 4),
                                     .third = (uint16_t)little_get(bytes + 12, 2),
@@ -41,7 +45,7 @@ enum fetched chain_add(struct chain *chain, uint64_t addr, uint32_t length, bool
 // In shadow mode the guest's memory may be far larger.
 static bool is_bounded(const struct source *source, uint64_t addr, uint32_t length) {
   struct descriptor last;
-  return source->device ? source_descriptor(source, addr + length - DESCRIPTOR, &last) : length / DESCRIPTOR <= MOST_ENTRIES;
+  return source->device ? source_descriptor(source, addr + length - DESCRIPTOR, NULL, &last) : length / DESCRIPTOR <= MOST_ENTRIES;
 }
 
 enum fetched chain_add_table(struct chain *chain, const struct source *source, uint64_t addr, uint32_t length, bool packed) {
@@ -50,9 +54,11 @@ enum fetched chain_add_table(struct chain *chain, const struct source *source, u
   chain->table = length;
   // The device's copy has a table only once it is brought there.
   if (source->device && !move_in(source->memory, addr, source->device, addr, length)) return BROKEN;
+  const uint8_t *table = source->device ? NULL : memory_at(source->memory, addr, length);
   for (uint32_t at = 0, seen = 0; seen < entries; seen++) {
     struct descriptor it;
-    if (!source_descriptor(source, addr + (uint64_t)at * DESCRIPTOR, &it)) return BROKEN;
+    const uint8_t *here = table ? table + (size_t)at * DESCRIPTOR : NULL;
+    if (!source_descriptor(source, addr + (uint64_t)at * DESCRIPTOR, here, &it)) return BROKEN;
     uint16_t flags = packed ? it.fourth : it.third;
     if (!packed && flags & FLAG_INDIRECT) return BROKEN;
     enum fetched added = chain_add(chain, it.addr, it.length, flags & FLAG_WRITE);
@@ -64,9 +70,4 @@ enum fetched chain_add_table(struct chain *chain, const struct source *source, u
     if (at >= entries) return BROKEN;
   }
   return BROKEN;
-}
-
-void chain_free(struct chain *chain) {
-  if (chain) free(chain->segments);
-  free(chain);
 }

@@ -14,8 +14,10 @@ struct descriptor {
   uint16_t third, fourth;
 };
 
-bool source_load(const struct source *source, uint64_t addr, void *into, size_t count);
-bool source_descriptor(const struct source *source, uint64_t addr, struct descriptor *descriptor);
+// Loads bytes, or a descriptor, from an address of the guest's. `at` is where these stand in the guest's memory here, or NULL where that
+// isn't known.
+bool source_load(const struct source *source, uint64_t addr, const uint8_t *at, void *into, size_t count);
+bool source_descriptor(const struct source *source, uint64_t addr, const uint8_t *at, struct descriptor *descriptor);
 
 // Adds a part to a chain. A readable part behind a writable one breaks the ring.
 enum fetched chain_add(struct chain *chain, uint64_t addr, uint32_t length, bool writable);

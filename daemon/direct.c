@@ -1,4 +1,5 @@
 #include <stdio.h>
+#include <string.h>
 
 #include "backend.h"
 #include "bytes.h"
@@ -12,7 +13,7 @@ static uint64_t zeros_at(const struct backend *backend) {
 }
 
 bool direct_fits(const struct backend *backend) {
-  if (zeros_at(backend) + DEVICE_PAGE > (uint64_t)DEVICE_MOST_PAGES * DEVICE_PAGE) return false;
+  if (memory_end(&backend->memory) > (uint64_t)(DEVICE_MOST_PAGES - 1) * DEVICE_PAGE) return false;
   for (unsigned q = 0; q < backend->count; q++) {
     const struct ring *ring = &backend->queues[q].ring;
     bool begins = ring->next == 0 && ring->used == 0 && (!ring->packed || (ring->next_wrap && ring->used_wrap));
@@ -67,19 +68,35 @@ static bool has_long_tables(const struct backend *backend) {
   return bytes > zeros_at(backend) + DEVICE_PAGE;
 }
 
+// Learns what command a request has, once its bytes are in the device's memory.
+static bool weigh(struct backend *backend, const struct chain *chain) {
+  uint8_t request[MOST_LOOKED_AT];
+  memset(request, 0, HEAD);
+  size_t wanted = chain->in <= sizeof request ? (size_t)chain->in : HEAD, done = 0;
+  for (size_t i = 0; i < chain->count && done < wanted; i++) {
+    const struct segment *it = &chain->segments[i];
+    size_t here = least(it->length, wanted - done);
+    if (here && !device_peek(&backend->device, it->addr, request + done, here)) return false;
+    done += here;
+  }
+  backend_weigh(backend, request, wanted);
+  return true;
+}
+
 static bool fetch(struct backend *backend, unsigned q, char *why, size_t room) {
   const struct source source = {.memory = &backend->memory, .device = &backend->device};
   struct backend_queue *queue = &backend->queues[q];
   struct chain *chain;
-  snprintf(why, room, "queue %u: no memory", q);
-  if (!ring_copy(&queue->ring, &backend->device)) return false;
+  if (!ring_copy(&queue->ring, &backend->device)) return snprintf(why, room, "queue %u: the ring isn't in the device's memory", q), false;
   for (;;) {
     enum fetched fetched = ring_fetch(&queue->ring, &source, &chain);
-    if (fetched != FETCHED) return fetched != NO_ROOM;
+    // What wasn't fetched the device may know already, so the round waits.
+    if (fetched == NO_ROOM) backend->starved = true;
+    if (fetched != FETCHED) return true;
     queue->taken++;
     if (has_long_tables(backend)) return snprintf(why, room, "queue %u: tables that are longer together than the guest's memory", q), false;
     if (is_in_zeros(backend, chain)) return snprintf(why, room, "queue %u: a buffer behind the guest's memory", q), false;
-    if (!bring(backend, chain)) {
+    if (!bring(backend, chain) || (q >= FIXED_QUEUES && !weigh(backend, chain))) {
       // A part that isn't in the device's memory: there the device breaks the queue.
       queue->ring.broken = true;
       return true;
@@ -113,7 +130,7 @@ static bool answer(struct backend *backend, struct backend_queue *queue, uint64_
     left -= here;
   }
   ring_use(&queue->ring, chain, length);
-  chain_free(chain);
+  ring_free(&queue->ring, chain);
   return true;
 }
 
@@ -132,16 +149,16 @@ static bool complete(struct backend *backend, unsigned q, char *why, size_t room
   return true;
 }
 
-enum served direct_serve(struct backend *backend, uint32_t queues, uint32_t *owed, char *why, size_t room) {
+bool direct_fetch(struct backend *backend, uint32_t queues, char *why, size_t room) {
   for (unsigned q = 0; q < backend->count; q++) {
     struct backend_queue *queue = &backend->queues[q];
-    if (queues >> q & 1 && queue->ready && !queue->ring.broken && !fetch(backend, q, why, room)) return FAILED;
+    if (queues >> q & 1 && queue->ready && !queue->ring.broken && !fetch(backend, q, why, room)) return false;
   }
-  bool served = device_serve(&backend->device);
-  if (!backend_keep(backend, why, room)) return FAILED;
+  return true;
+}
+
+bool direct_complete(struct backend *backend, char *why, size_t room) {
   for (unsigned q = 0; q < backend->count; q++)
-    if (backend->queues[q].ready && !complete(backend, q, why, room)) return FAILED;
-  backend_publish(backend, owed);
-  if (!served) return snprintf(why, room, "no memory"), FAILED;
-  return SERVED;
+    if (backend->queues[q].ready && !complete(backend, q, why, room)) return false;
+  return true;
 }

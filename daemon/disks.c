@@ -60,14 +60,16 @@ static char *take_path(const char **at) {
 
 // Takes one word of a disk up to its end or to a comma. Returns false where there is no such word, or it is there already.
 static bool take_word(const char **at, struct disk *disk) {
-  static const char file[] = "file=";
+  static const char file[] = "file=", punching[] = "detect-zeroes=unmap";
   size_t length = strcspn(*at, ",");
   if (!strncmp(*at, file, sizeof file - 1)) {
     *at += sizeof file - 1;
     return !disk->path && (disk->path = take_path(at));
   }
   bool is_grow = length == 4 && !strncmp(*at, "grow", length), is_snapshot = length == 8 && !strncmp(*at, "snapshot", length);
-  if (!is_grow && !is_snapshot) return false;
+  bool is_punching = length == sizeof punching - 1 && !strncmp(*at, punching, length);
+  if (!is_grow && !is_snapshot && !is_punching) return false;
+  disk->punches = disk->punches || is_punching;
   disk->grows = disk->grows || is_grow;
   disk->read_only = disk->read_only || is_snapshot;
   *at += length;
@@ -79,7 +81,7 @@ static const char no_read_only[] = "ro: no command is answered DATA PROTECT yet.
 // Takes all words of a disk.
 static bool take_disk(struct disk *disk, const char *at, char *why, size_t room) {
   uint64_t target, lun;
-  snprintf(why, room, "%s: not T:L=SIZE[,file=PATH][,grow][,snapshot], or T:L=file=PATH[,snapshot]", at);
+  snprintf(why, room, "%s: not T:L=SIZE[,file=PATH][,grow][,snapshot][,detect-zeroes=unmap], or T:L=file=PATH[,..]", at);
   if (!number(&at, 255, ':', &target) || !number(&at, 16383, '=', &lun)) return false;
   disk->target = (uint8_t)target;
   disk->lun = (uint16_t)lun;
@@ -121,6 +123,7 @@ bool disks_are_whole(const struct disks *disks) {
 void disks_close(struct disks *disks) {
   for (size_t i = 0; i < disks->count; i++) {
     if (disks->disks[i].file >= 0) close(disks->disks[i].file);
+    free(disks->disks[i].backlog.ranges);
     store_drop(&disks->stores[i]);
     free(disks->disks[i].path);
   }
@@ -141,14 +144,24 @@ bool disk_read(const struct disk *disk, uint64_t first, uint32_t count, uint8_t 
 
 static bool is_zeros(const uint8_t *bytes, size_t count) { return !count || (!bytes[0] && !memcmp(bytes, bytes + 1, count - 1)); }
 
-bool disk_write(struct disk *disk, uint64_t first, uint32_t count, const uint8_t *bytes) {
+// Returns whether the file reads as zeros there, with nothing written.
+static bool is_hole(const struct disk *disk, off_t at, off_t count) {
+  off_t data = lseek(disk->file, at, SEEK_DATA);
+  return data < 0 ? errno == ENXIO : data - at >= count;
+}
+
+bool disk_write(struct disk *disk, uint64_t first, uint32_t count, const uint8_t *bytes, bool unmapped) {
   size_t wanted = (size_t)count * DEVICE_BLOCK;
   off_t at = (off_t)(first * DEVICE_BLOCK);
+  bool zeros = is_zeros(bytes, wanted);
+  if (zeros && is_hole(disk, at, (off_t)wanted)) return true;
   disk->dirty = true;
-  if (is_zeros(bytes, wanted) && !fallocate(disk->file, FALLOC_FL_PUNCH_HOLE | FALLOC_FL_KEEP_SIZE, at, (off_t)wanted)) return true;
+  bool punches = zeros && (unmapped || disk->punches);
+  if (punches && !fallocate(disk->file, FALLOC_FL_PUNCH_HOLE | FALLOC_FL_KEEP_SIZE, at, (off_t)wanted)) return true;
   for (size_t done = 0; done < wanted;) {
     ssize_t here = pwrite(disk->file, bytes + done, wanted - done, at + (off_t)done);
-    if (here < 0 && errno != EINTR) return false;
+    if (here == 0) errno = ENOSPC;
+    if (here == 0 || (here < 0 && errno != EINTR)) return false;
     if (here > 0) done += (size_t)here;
   }
   return true;
@@ -169,15 +182,8 @@ bool disk_next(const struct disk *disk, uint64_t *first, uint64_t *end) {
   return true;
 }
 
-bool disks_sync(struct disks *disks) {
-  bool synced = true;
-  for (size_t i = 0; i < disks->count; i++) {
-    struct disk *disk = &disks->disks[i];
-    if (disk->dirty && fdatasync(disk->file)) {
-      synced = false;
-      disk->behind = true;
-    }
-    disk->dirty = false;
-  }
-  return synced;
+bool disk_sync(struct disk *disk) {
+  if (disk->dirty && fdatasync(disk->file)) return false;
+  disk->dirty = false;
+  return true;
 }

@@ -5,6 +5,25 @@
 
 #include "library.h"
 
+enum { MOST_UNMAPPED = 64 };
+
+// A place among the ranges of a backlog: so many blocks of this range are done, and all of those before it.
+struct mark {
+  size_t range;
+  uint64_t done;
+};
+
+// Blocks that a disk's file may lack (blocks.h), as ranges that may overlap; where `all` is true, one range of the whole disk. Those
+// before `written` were written since, and those before `synced` stand there for sure.
+struct backlog {
+  struct vscsi_range *ranges;
+  size_t count, room;
+  bool all;
+  struct mark written, synced;
+  struct vscsi_range unmapped[MOST_UNMAPPED];  // which of these blocks the guest unmapped, as far as there is room
+  size_t unmapped_count;
+};
+
 struct disk {
   uint8_t target;
   uint16_t lun;
@@ -14,9 +33,11 @@ struct disk {
   bool read_only;   // never written to that image
   bool grows;       // a shorter image is made as long as the disk
   bool made;        // there was no image
+  bool punches;     // a WRITE of zeros may make a hole of the image
   uint64_t length;  // of the image when it was opened, in bytes
-  bool dirty;       // written since disks_sync
-  bool behind;      // the file couldn't be written, or not for sure: it wants the whole disk
+  bool dirty;       // written since disk_sync
+  int error;        // the error number by which the image can't be written now, or 0
+  struct backlog backlog;
 };
 
 struct disks {
@@ -26,8 +47,8 @@ struct disks {
   bool lost;  // a device couldn't give its disks back
 };
 
-// Adds the disk of words T:L=SIZE[,file=PATH][,grow][,snapshot] or T:L=file=PATH[,snapshot], in its place of the order. A comma of the
-// path stands there twice. Opens nothing: images_open does that. Returns false, and says why, where the words name no disk.
+// Adds the disk of words T:L=SIZE[,file=PATH][,grow][,snapshot][,detect-zeroes=unmap] or T:L=file=PATH[,..], in its place of the order. A
+// comma of the path stands there twice. Opens nothing: images_open does that. Returns false, and says why, where the words name no disk.
 bool disks_add(struct disks *disks, const char *words, char *why, size_t room);
 
 // Returns whether each target has a LUN 0, which the device asks for, and there is a disk.
@@ -36,15 +57,17 @@ bool disks_are_whole(const struct disks *disks);
 // Closes all images, and lets go of the blocks.
 void disks_close(struct disks *disks);
 
-// Reads whole blocks of a disk's file, or keeps them there. Blocks of zeros become a hole of the file, where it can have some. No reading
-// begins once a signal that ends the daemon has come.
+// Reads whole blocks of a disk's file, or writes them there. No reading begins once a signal that ends the daemon has come. Zeros are left
+// out where the file has a hole or room that was reserved and never written; elsewhere zeros become a hole only where `unmapped` is true
+// or the disk punches. Each returns false where the system refused it, and errno says why.
 bool disk_read(const struct disk *disk, uint64_t first, uint32_t count, uint8_t *into);
-bool disk_write(struct disk *disk, uint64_t first, uint32_t count, const uint8_t *bytes);
+bool disk_write(struct disk *disk, uint64_t first, uint32_t count, const uint8_t *bytes, bool unmapped);
 
 // Finds the first blocks from this one on that the file doesn't have as a hole. Returns false behind the last ones.
 bool disk_next(const struct disk *disk, uint64_t *first, uint64_t *end);
 
-// Waits until what was written stands on the files (fdatasync).
-bool disks_sync(struct disks *disks);
+// Waits until what was written stands on the disk's file (fdatasync). Returns false, with errno, where that isn't sure: then all
+// that was written since the last call that returned true has to be written again.
+bool disk_sync(struct disk *disk);
 
 #endif

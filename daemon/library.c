@@ -2,14 +2,14 @@
 
 #include <stdio.h>
 
-// The queues that a call serves, the steps of one call, and the calls behind one notification.
-enum { MOST_STEPS = 65536, MOST_TURNS = 64 };
-static const uint32_t ALL_QUEUES = UINT32_MAX;
-
 bool store_make(struct vscsi_disk *store, uint64_t blocks) { return vscsi_disk_create(store, blocks) == VSCSI_DONE; }
 
 bool store_load(struct vscsi_disk *store, uint64_t first, uint32_t count, const void *bytes) {
   return vscsi_disk_load(store, first, count, bytes, (size_t)count * DEVICE_BLOCK) == VSCSI_DONE;
+}
+
+bool store_save(const struct vscsi_disk *store, uint64_t first, uint32_t count, void *into) {
+  return vscsi_disk_save(store, first, count, into, (size_t)count * DEVICE_BLOCK) == VSCSI_DONE;
 }
 
 void store_drop(struct vscsi_disk *store) { vscsi_disk_destroy(store); }
@@ -35,15 +35,12 @@ bool device_end(struct device *device, struct vscsi_disk *stores, size_t count) 
   return ended;
 }
 
-bool device_serve(struct device *device) {
+bool device_serve(struct device *device, uint32_t queues, uint64_t most, bool *more) {
   uint32_t owed = 0;
-  bool more = true;
-  // A guest whose requests make chains available would keep one call busy for ever. No other comes near this bound.
-  for (int turn = 0; turn < MOST_TURNS && more; turn++)
-    if (vscsi_serve(&device->vscsi, ALL_QUEUES, MOST_STEPS, NULL, &more) != VSCSI_DONE) return false;
+  enum vscsi_answer answer = vscsi_serve(&device->vscsi, queues, most, NULL, more);
   // The daemon decides by the guest's own flags whom it notifies; this only takes back what the device would have said.
   vscsi_owed(&device->vscsi, &owed);
-  return true;
+  return answer == VSCSI_DONE;
 }
 
 bool device_poke(struct device *device, uint64_t addr, const void *bytes, size_t count) {

@@ -15,9 +15,10 @@ struct device {
   bool live;
 };
 
-// Makes a disk of zeros, puts blocks over some of its own, lets go of it, and tells whether there is one.
+// Makes a disk of zeros, puts blocks over some of its own, copies some out, lets go of it, and tells whether there is one.
 bool store_make(struct vscsi_disk *store, uint64_t blocks);
 bool store_load(struct vscsi_disk *store, uint64_t first, uint32_t count, const void *bytes);
+bool store_save(const struct vscsi_disk *store, uint64_t first, uint32_t count, void *into);
 void store_drop(struct vscsi_disk *store);
 bool store_stands(const struct vscsi_disk *store);
 
@@ -27,8 +28,9 @@ bool device_create(struct device *device, const struct vscsi_config *config, str
 // Ends a device, if there is one, and takes its disks back. Returns false where memory was refused: they are lost.
 bool device_end(struct device *device, struct vscsi_disk *stores, size_t count);
 
-// Serves what is available on all queues. Returns false where memory was refused: what was served before stands.
-bool device_serve(struct device *device);
+// Serves what is available on these queues (bit 0 is queue 0), and what was begun before, by at most so many steps. `more` tells
+// whether a step is left. Returns false where memory was refused: what was served before stands, and a later call goes on.
+bool device_serve(struct device *device, uint32_t queues, uint64_t most, bool *more);
 
 // Copies bytes into the device's memory, or out of it. Returns false where a byte lies outside.
 bool device_poke(struct device *device, uint64_t addr, const void *bytes, size_t count);

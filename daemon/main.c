@@ -179,7 +179,8 @@ static int run(struct daemon *daemon) {
   }
   bool served = serve(daemon);
   if (daemon->connected) end_session(daemon, "the daemon ends");
-  return served && disks_sync(&daemon->disks) ? 0 : REFUSED;
+  if (!blocks_finish(&daemon->disks, why, sizeof why)) return refuse(why);
+  return served ? 0 : REFUSED;
 }
 
 // Has something stand at the standard descriptors, so none of the daemon's own files is taken for one of them.

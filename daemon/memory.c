@@ -1,29 +1,89 @@
 #include "memory.h"
 
+#include <fcntl.h>
+#include <linux/magic.h>
 #include <string.h>
 #include <sys/mman.h>
 #include <sys/stat.h>
+#include <sys/vfs.h>
+
+enum { PAGE = 4096 };
 
 static bool overlap(uint64_t a, uint64_t b, uint64_t a_size, uint64_t b_size) { return a < b + b_size && b < a + a_size; }
 
-// A region past the end of its file would end the daemon by SIGBUS when it is looked at.
+// Asks that a file isn't made shorter. Not every file can be asked; then a byte that is gone is found as it is looked at (guard.h).
+static void seal(int descriptor) {
+  int seals = fcntl(descriptor, F_GET_SEALS);
+  if (seals >= 0 && !(seals & F_SEAL_SHRINK)) fcntl(descriptor, F_ADD_SEALS, F_SEAL_SHRINK);
+}
+
+// A region past the end of its file couldn't be looked at.
 static bool is_in_file(int descriptor, uint64_t end) {
   struct stat stat;
   return fstat(descriptor, &stat) == 0 && S_ISREG(stat.st_mode) && stat.st_size >= 0 && end <= (uint64_t)stat.st_size;
 }
 
+// Returns the bytes of a page of a file, which are more where its pages are huge.
+static uint64_t page_of(int descriptor) {
+  struct statfs stat;
+  bool is_huge = fstatfs(descriptor, &stat) == 0 && stat.f_type == HUGETLBFS_MAGIC && stat.f_bsize > PAGE;
+  return is_huge ? (uint64_t)stat.f_bsize : PAGE;
+}
+
+// Maps the whole pages that have a region.
+static bool map(struct region *region, uint64_t offset, int descriptor) {
+  uint64_t page = page_of(descriptor), before = offset % page, length = (before + region->size + page - 1) / page * page;
+  void *at = mmap(NULL, (size_t)length, PROT_READ | PROT_WRITE, MAP_SHARED | MAP_NORESERVE, descriptor, (off_t)(offset - before));
+  if (at == MAP_FAILED) return false;
+  region->map = at;
+  region->mapped = (size_t)length;
+  region->at = (uint8_t *)at + before;
+  return true;
+}
+
+// Returns the place of the first region that ends behind an address of the guest's. Looks first where the last one was.
+static size_t place_of(const struct memory *memory, uint64_t guest) {
+  static size_t last;
+  const struct region *hint = memory->regions + last;
+  if (last < memory->count && guest >= hint->guest && guest - hint->guest < hint->size) return last;
+  size_t low = 0, high = memory->count;
+  while (low < high) {
+    size_t middle = (low + high) / 2;
+    const struct region *region = &memory->regions[middle];
+    if (guest >= region->guest && guest - region->guest >= region->size) low = middle + 1;
+    else high = middle;
+  }
+  last = low;
+  return low;
+}
+
 bool memory_add(struct memory *memory, uint64_t guest, uint64_t size, uint64_t user, uint64_t offset, int descriptor) {
+  struct region region = {.guest = guest, .size = size, .user = user};
   uint64_t end;
-  if (memory->count == MOST_REGIONS || size == 0 || size > PTRDIFF_MAX || offset % 4096 || descriptor < 0) return false;
+  if (memory->count == MOST_REGIONS || size == 0 || size > PTRDIFF_MAX / 2 || descriptor < 0) return false;
+  if (guest % PAGE || user % PAGE || offset % PAGE) return false;
   if (guest > UINT64_MAX - size || user > UINT64_MAX - size || __builtin_add_overflow(offset, size, &end) || end > INT64_MAX) return false;
+  seal(descriptor);
   if (!is_in_file(descriptor, end)) return false;
   for (size_t i = 0; i < memory->count; i++) {
     const struct region *other = &memory->regions[i];
     if (overlap(guest, other->guest, size, other->size) || overlap(user, other->user, size, other->size)) return false;
   }
-  void *map = mmap(NULL, (size_t)size, PROT_READ | PROT_WRITE, MAP_SHARED | MAP_NORESERVE, descriptor, (off_t)offset);
-  if (map == MAP_FAILED) return false;
-  memory->regions[memory->count++] = (struct region){.guest = guest, .size = size, .user = user, .at = map, .map = map, .mapped = (size_t)size};
+  if (!map(&region, offset, descriptor)) return false;
+  size_t place = place_of(memory, guest);
+  memmove(memory->regions + place + 1, memory->regions + place, (memory->count - place) * sizeof region);
+  memory->regions[place] = region;
+  memory->count++;
+  return true;
+}
+
+bool memory_remove(struct memory *memory, uint64_t guest, uint64_t size, uint64_t user) {
+  size_t place = place_of(memory, guest);
+  struct region *region = memory->regions + place;
+  if (place == memory->count || region->guest != guest || region->size != size || region->user != user) return false;
+  munmap(region->map, region->mapped);
+  memory->count--;
+  memmove(region, region + 1, (memory->count - place) * sizeof *region);
   return true;
 }
 
@@ -32,18 +92,26 @@ void memory_clear(struct memory *memory) {
   memory->count = 0;
 }
 
-static const struct region *region_of(const struct memory *memory, uint64_t guest) {
+bool memory_is_same(const struct memory *memory, const struct memory *other) {
+  if (memory->count != other->count) return false;
   for (size_t i = 0; i < memory->count; i++) {
-    const struct region *region = &memory->regions[i];
-    if (guest >= region->guest && guest - region->guest < region->size) return region;
+    const struct region *a = &memory->regions[i], *b = &other->regions[i];
+    if (a->guest != b->guest || a->size != b->size || a->user != b->user) return false;
   }
-  return NULL;
+  return true;
+}
+
+uint64_t memory_run(const struct memory *memory, uint64_t guest, uint64_t count, uint8_t **at) {
+  const struct region *region = memory->regions + place_of(memory, guest);
+  bool is_last = region == memory->regions + memory->count, is_in = !is_last && guest >= region->guest;
+  uint64_t run = is_last ? count : is_in ? region->size - (guest - region->guest) : region->guest - guest;
+  *at = is_in ? region->at + (guest - region->guest) : NULL;
+  return run < count ? run : count;
 }
 
 uint8_t *memory_at(const struct memory *memory, uint64_t guest, uint64_t count) {
-  const struct region *region = region_of(memory, guest);
-  if (!region || count > region->size - (guest - region->guest)) return NULL;
-  return region->at + (guest - region->guest);
+  uint8_t *at;
+  return memory_run(memory, guest, count, &at) == count ? at : NULL;
 }
 
 bool memory_guest(const struct memory *memory, uint64_t user, uint64_t *guest) {
@@ -58,10 +126,9 @@ bool memory_guest(const struct memory *memory, uint64_t user, uint64_t *guest) {
 
 bool memory_has(const struct memory *memory, uint64_t guest, uint64_t count) {
   while (count) {
-    const struct region *region = region_of(memory, guest);
-    if (!region) return false;
-    uint64_t here = region->size - (guest - region->guest);
-    if (here >= count) return true;
+    uint8_t *at;
+    uint64_t here = memory_run(memory, guest, count, &at);
+    if (!at) return false;
     guest += here;
     count -= here;
   }
@@ -69,27 +136,12 @@ bool memory_has(const struct memory *memory, uint64_t guest, uint64_t count) {
 }
 
 bool memory_load(const struct memory *memory, uint64_t guest, void *into, size_t count) {
-  for (uint8_t *at = into; count;) {
-    const struct region *region = region_of(memory, guest);
-    if (!region) return false;
-    uint64_t place = guest - region->guest, left = region->size - place;
-    size_t here = left < count ? (size_t)left : count;
-    memcpy(at, region->at + place, here);
-    at += here;
-    guest += here;
-    count -= here;
-  }
-  return true;
-}
-
-bool memory_store(const struct memory *memory, uint64_t guest, const void *bytes, size_t count) {
-  for (const uint8_t *at = bytes; count;) {
-    const struct region *region = region_of(memory, guest);
-    if (!region) return false;
-    uint64_t place = guest - region->guest, left = region->size - place;
-    size_t here = left < count ? (size_t)left : count;
-    memcpy(region->at + place, at, here);
-    at += here;
+  for (uint8_t *to = into; count;) {
+    uint8_t *at;
+    size_t here = (size_t)memory_run(memory, guest, count, &at);
+    if (!at) return false;
+    memcpy(to, at, here);
+    to += here;
     guest += here;
     count -= here;
   }
@@ -97,10 +149,7 @@ bool memory_store(const struct memory *memory, uint64_t guest, const void *bytes
 }
 
 uint64_t memory_end(const struct memory *memory) {
-  uint64_t end = 0;
-  for (size_t i = 0; i < memory->count; i++) {
-    uint64_t its = memory->regions[i].guest + memory->regions[i].size;
-    if (its > end) end = its;
-  }
-  return end;
+  if (!memory->count) return 0;
+  const struct region *last = &memory->regions[memory->count - 1];
+  return last->guest + last->size;
 }

@@ -18,7 +18,7 @@
 #endif
 
 static const char usage[] =
-    "vscsi-vhost-user --socket PATH|--fd N --disk T:L=SIZE[,file=PATH][,grow][,snapshot] ..\n"
+    "vscsi-vhost-user --socket PATH|--fd N --disk T:L=SIZE[,file=PATH][,grow][,snapshot][,detect-zeroes=unmap] ..\n"
     "A virtio SCSI device for a vhost-user front end.\n"
     "\n"
     "  --socket PATH        listen there (also --socket-path)\n"
@@ -29,6 +29,7 @@ static const char usage[] =
     "      file=PATH        keep it on this file or block device; a comma of the path is written twice\n"
     "      grow             make a shorter file as long as SIZE\n"
     "      snapshot         never write the file; what the guest writes is lost at the end\n"
+    "      detect-zeroes=unmap  zeros that the guest writes become holes of the file\n"
     "  --queues N           at most N request queues, 1 to 16\n"
     "  --shadow             take shadow mode for every guest\n"
     "  --user NAME          run as this user once all is open\n"

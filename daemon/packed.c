@@ -19,11 +19,20 @@ bool packed_has(const struct ring *ring) {
   return is_available(__atomic_load_n(flags_at(ring, ring->next), __ATOMIC_ACQUIRE), ring->next_wrap);
 }
 
+uint16_t packed_ahead(const struct ring *ring) {
+  uint16_t place = ring->next, ahead = 0;
+  bool wrap = ring->next_wrap;
+  while (ahead < ring->size - ring->slots && is_available(__atomic_load_n(flags_at(ring, place), __ATOMIC_ACQUIRE), wrap)) {
+    ahead++;
+    step(ring->size, &place, &wrap);
+  }
+  return ahead;
+}
+
 // Copies descriptors from the next one on, up to one that isn't available and doesn't go on a chain, each flags first.
 bool packed_copy(const struct ring *ring, struct device *device) {
   uint16_t place = ring->next;
   bool wrap = ring->next_wrap, inside = false;
-  if (!device_poke(device, ring->driver, ring->driver_at, 4)) return false;
   for (unsigned i = 0; i < ring->size; i++) {
     uint8_t bytes[DESCRIPTOR];
     uint16_t flags = __atomic_load_n(flags_at(ring, place), __ATOMIC_ACQUIRE);
@@ -39,12 +48,11 @@ bool packed_copy(const struct ring *ring, struct device *device) {
 
 enum fetched packed_fetch(struct ring *ring, const struct source *source, struct chain *chain) {
   if (!source->device && !packed_has(ring)) return NOTHING;
-  size_t taken = 0;
-  for (const struct chain *other = ring->first; other; other = other->next) taken += other->slots;
   for (bool first = true;; first = false) {
     struct descriptor it;
-    if (chain->slots + taken >= ring->size) return first ? NOTHING : BROKEN;
-    if (!source_descriptor(source, ring->desc + (uint64_t)ring->next * DESCRIPTOR, &it)) return BROKEN;
+    if (chain->slots + ring->slots >= ring->size) return first ? NOTHING : BROKEN;
+    size_t at = (size_t)ring->next * DESCRIPTOR;
+    if (!source_descriptor(source, ring->desc + at, ring->desc_at + at, &it)) return BROKEN;
     if (first && !is_available(it.fourth, ring->next_wrap)) return NOTHING;
     chain->slots++;
     step(ring->size, &ring->next, &ring->next_wrap);

@@ -30,7 +30,10 @@ enum request {
   SET_VRING_ENABLE = 18,
   GET_CONFIG = 24,
   SET_CONFIG = 25,
-  RESET_DEVICE = 34
+  RESET_DEVICE = 34,
+  GET_MAX_MEM_SLOTS = 36,
+  ADD_MEM_REG = 37,
+  REM_MEM_REG = 38
 };
 
 #define F_PROTOCOL_FEATURES (UINT64_C(1) << 30)
@@ -38,6 +41,7 @@ enum request {
 #define P_REPLY_ACK (UINT64_C(1) << 3)
 #define P_CONFIG (UINT64_C(1) << 9)
 #define P_RESET_DEVICE (UINT64_C(1) << 13)
+#define P_CONFIGURE_MEM_SLOTS (UINT64_C(1) << 15)
 
 struct message {
   uint32_t request, flags, size;

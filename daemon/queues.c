@@ -29,12 +29,21 @@ void queues_begin(struct session *session) {
 }
 
 void queues_end(struct session *session) {
+  queues_reset(session);
   for (unsigned q = 0; q < session->backend.count; q++) {
-    unwatch(session, &session->queues[q]);
     forget(&session->queues[q].call);
     forget(&session->queues[q].err);
+  }
+}
+
+void queues_reset(struct session *session) {
+  for (unsigned q = 0; q < session->backend.count; q++) {
+    int call = session->queues[q].call, err = session->queues[q].err;
+    unwatch(session, &session->queues[q]);
     ring_drop(&session->backend.queues[q].ring);
     begin(session, q);
+    session->queues[q].call = call;
+    session->queues[q].err = err;
   }
 }
 
@@ -53,7 +62,7 @@ static bool find(struct session *session, unsigned q) {
   struct ring *ring = &backend->queues[q].ring;
   backend->queues[q].ready = false;
   if (!queue->addressed || !queue->started) return false;
-  ring->packed = session->features & VSCSI_F_RING_PACKED || queue->base > UINT16_MAX;
+  ring->packed = session->features & VSCSI_F_RING_PACKED;
   ring->event_index = session->features & VSCSI_F_EVENT_IDX;
   ring->indirect = session->features & VSCSI_F_INDIRECT_DESC;
   ring->size = queue->size;
@@ -64,9 +73,9 @@ static bool find(struct session *session, unsigned q) {
   return backend->queues[q].ready;
 }
 
-void queues_find(struct session *session) {
+void queues_find(struct session *session, bool breaks) {
   for (unsigned q = 0; q < session->backend.count; q++)
-    if (session->queues[q].started && !find(session, q)) session->backend.queues[q].ring.broken = true;
+    if (session->queues[q].started && !find(session, q) && breaks) session->backend.queues[q].ring.broken = true;
 }
 
 // Begins a ring where its base says.
@@ -80,6 +89,8 @@ static bool start(struct session *session, unsigned q) {
   queue->started = true;
   queue->told = false;
   if (!find(session, q)) return queue->started = false;
+  // Above 65,535 stand the wrap counters of a packed ring.
+  if (!ring->packed && queue->base > UINT16_MAX) return backend->queues[q].ready = queue->started = false;
   ring_set_base(ring, queue->base);
   if (ring->packed && (ring->next >= ring->size || ring->used >= ring->size)) return backend->queues[q].ready = queue->started = false;
   if (!ring->packed) ring->used = ring->told = (uint16_t)little_get(ring->device_at + 2, 2);
@@ -152,6 +163,8 @@ bool queue_set_kick(struct session *session, struct message *message) {
     return false;
   }
   queue->kick = fd;
+  // Where there is no kick, the ring is looked at from now on.
+  session->more = true;
   if (!(session->features & F_PROTOCOL_FEATURES)) queue->enabled = true;
   return queue->started || start(session, q);
 }

@@ -2,6 +2,9 @@
 
 #include <stdlib.h>
 
+// The parts of a chain whose room is kept for another.
+enum { MOST_KEPT = 256 };
+
 void ring_begin(struct ring *ring) {
   *ring = (struct ring){.next_wrap = true, .used_wrap = true};
   ring->last = &ring->first;
@@ -20,22 +23,41 @@ bool ring_find(struct ring *ring, const struct memory *memory) {
   return ring->desc_at && ring->driver_at && ring->device_at;
 }
 
-bool ring_has(const struct ring *ring) { return !ring->broken && (ring->packed ? packed_has(ring) : split_has(ring)); }
+bool ring_has(const struct ring *ring) {
+  if (ring->broken) return false;
+  // A driver has no more chains outstanding than descriptors, and a stale descriptor of a packed ring isn't a chain.
+  return ring->packed ? ring->slots < ring->size && packed_has(ring) : ring->outstanding < ring->size && split_has(ring);
+}
+
+uint16_t ring_ahead(const struct ring *ring) { return !ring_has(ring) ? 0 : ring->packed ? packed_ahead(ring) : split_ahead(ring); }
+uint16_t ring_step(const struct ring *ring, const struct chain *chain) { return ring->packed ? chain->slots : 1; }
 
 bool ring_copy(const struct ring *ring, struct device *device) { return ring->packed ? packed_copy(ring, device) : split_copy(ring, device); }
+
+// Returns a chain of no parts, which is spare until it is fetched, or NULL where there is no memory.
+static struct chain *blank(struct ring *ring) {
+  if (!ring->spare) ring->spare = calloc(1, sizeof *ring->spare);
+  struct chain *chain = ring->spare;
+  if (!chain) return NULL;
+  *chain = (struct chain){.next = chain->next, .segments = chain->segments, .room = chain->room};
+  chain->next_before = ring->next;
+  chain->wrap_before = ring->next_wrap;
+  return chain;
+}
 
 enum fetched ring_fetch(struct ring *ring, const struct source *source, struct chain **chain) {
   if (ring->broken) return BROKEN;
   if (ring->outstanding == ring->size) return NOTHING;
-  struct chain *its = calloc(1, sizeof *its);
+  struct chain *its = blank(ring);
   if (!its) return NO_ROOM;
-  its->next_before = ring->next;
-  its->wrap_before = ring->next_wrap;
   enum fetched fetched = ring->packed ? packed_fetch(ring, source, its) : split_fetch(ring, source, its);
   if (fetched == FETCHED) {
+    ring->spare = its->next;
+    its->next = NULL;
     *ring->last = its;
     ring->last = &its->next;
     ring->outstanding++;
+    ring->slots += its->slots;
     ring->tables += its->table;
     *chain = its;
     return FETCHED;
@@ -43,8 +65,18 @@ enum fetched ring_fetch(struct ring *ring, const struct source *source, struct c
   ring->next = its->next_before;
   ring->next_wrap = its->wrap_before;
   ring->broken = fetched == BROKEN;
-  chain_free(its);
   return fetched;
+}
+
+void ring_free(struct ring *ring, struct chain *chain) {
+  // Room for a long table isn't kept.
+  if (chain->room > MOST_KEPT) {
+    free(chain->segments);
+    chain->segments = NULL;
+    chain->room = 0;
+  }
+  chain->next = ring->spare;
+  ring->spare = chain;
 }
 
 struct chain *ring_take(struct ring *ring, uint16_t id) {
@@ -54,6 +86,7 @@ struct chain *ring_take(struct ring *ring, uint16_t id) {
     *at = chain->next;
     if (!chain->next) ring->last = at;
     ring->outstanding--;
+    ring->slots -= chain->slots;
     ring->tables -= chain->table;
     return chain;
   }
@@ -68,10 +101,11 @@ void ring_unfetch(struct ring *ring, struct chain *chain) {
     *at = NULL;
     ring->last = at;
     ring->outstanding--;
+    ring->slots -= chain->slots;
     ring->tables -= chain->table;
     break;
   }
-  chain_free(chain);
+  ring_free(ring, chain);
 }
 
 void ring_use(struct ring *ring, const struct chain *chain, uint32_t length) {
@@ -91,7 +125,7 @@ bool ring_ask(struct ring *ring) {
     __atomic_store_n(event, ring->next, __ATOMIC_RELAXED);
   }
   __atomic_thread_fence(__ATOMIC_SEQ_CST);
-  return ring->outstanding < ring->size && ring_has(ring);
+  return ring_has(ring);
 }
 
 uint32_t ring_base(const struct ring *ring) {
@@ -112,5 +146,11 @@ void ring_drop(struct ring *ring) {
     ring->next = ring->first->next_before;
     ring->next_wrap = ring->first->wrap_before;
   }
-  while (ring->first) chain_free(ring_take(ring, ring->first->id));
+  while (ring->first) ring_free(ring, ring_take(ring, ring->first->id));
+  while (ring->spare) {
+    struct chain *chain = ring->spare;
+    ring->spare = chain->next;
+    free(chain->segments);
+    free(chain);
+  }
 }

@@ -48,7 +48,8 @@ struct ring {
   uint16_t held_at;
   bool broken;
   struct chain *first, **last;                 // the chains that aren't given back, the oldest first
-  size_t outstanding;                          // how many these are
+  struct chain *spare;                         // chains to be used again
+  size_t outstanding, slots;                   // how many these are, and how many descriptors of the ring they take
   uint64_t tables;                             // and the bytes of their tables
 };
 
@@ -70,8 +71,13 @@ uint64_t ring_desc_bytes(const struct ring *ring);
 uint64_t ring_driver_bytes(const struct ring *ring);
 uint64_t ring_device_bytes(const struct ring *ring);
 
-// Returns whether the guest made a chain available.
+// Returns whether the guest made a chain available that the ring has room for.
 bool ring_has(const struct ring *ring);
+
+// Counts what the guest made available and wasn't fetched: chains of a split ring, descriptors of a packed one. ring_step is how
+// many of these a chain is.
+uint16_t ring_ahead(const struct ring *ring);
+uint16_t ring_step(const struct ring *ring, const struct chain *chain);
 
 // Copies what is new in the ring from the guest into the device's memory.
 bool ring_copy(const struct ring *ring, struct device *device);
@@ -85,7 +91,8 @@ void ring_unfetch(struct ring *ring, struct chain *chain);
 // Takes the outstanding chain with this id off the ring, if there is one.
 struct chain *ring_take(struct ring *ring, uint16_t id);
 
-void chain_free(struct chain *chain);
+// Lets go of a chain that was taken off its ring.
+void ring_free(struct ring *ring, struct chain *chain);
 
 // Writes that a chain was used, with so many bytes written; ring_publish makes all of these visible, and returns whether the
 // driver wants to be notified.
@@ -99,16 +106,18 @@ bool ring_ask(struct ring *ring);
 uint32_t ring_base(const struct ring *ring);
 void ring_set_base(struct ring *ring, uint32_t base);
 
-// Lets go of the outstanding chains. The ring stands where its oldest one was fetched.
+// Lets go of all chains. The ring stands where the oldest outstanding one was fetched.
 void ring_drop(struct ring *ring);
 
 // Of split.c and packed.c, behind what stands above.
 bool split_has(const struct ring *ring);
+uint16_t split_ahead(const struct ring *ring);
 bool split_copy(const struct ring *ring, struct device *device);
 enum fetched split_fetch(struct ring *ring, const struct source *source, struct chain *chain);
 void split_use(struct ring *ring, const struct chain *chain, uint32_t length);
 bool split_publish(struct ring *ring);
 bool packed_has(const struct ring *ring);
+uint16_t packed_ahead(const struct ring *ring);
 bool packed_copy(const struct ring *ring, struct device *device);
 enum fetched packed_fetch(struct ring *ring, const struct source *source, struct chain *chain);
 void packed_use(struct ring *ring, const struct chain *chain, uint32_t length);

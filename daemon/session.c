@@ -1,28 +1,39 @@
 #include "session.h"
 
+#include <errno.h>
 #include <stdio.h>
 #include <string.h>
 #include <sys/epoll.h>
+#include <sys/timerfd.h>
 #include <unistd.h>
 
 #include "bytes.h"
+#include "clock.h"
+#include "guard.h"
 #include "log.h"
 #include "space.h"
 
 #define OFFERED ((VSCSI_ACCEPTED_FEATURES & ~VSCSI_F_CHANGE) | F_PROTOCOL_FEATURES)
 // What QEMU has a driver agree to by itself: events of disks that come, go or change (VIRTIO 1.2, 5.6.3). The device tells none of these.
 #define IGNORED (UINT64_C(1) << 1 | UINT64_C(1) << 2)
-#define OFFERED_PROTOCOL (P_MQ | P_REPLY_ACK | P_CONFIG | P_RESET_DEVICE)
+#define OFFERED_PROTOCOL (P_MQ | P_REPLY_ACK | P_CONFIG | P_RESET_DEVICE | P_CONFIGURE_MEM_SLOTS)
 
 // How often a session is served before others of the daemon's descriptors are looked at.
 enum { MOST_ROUNDS = 64, WHY = 200, REGION_BYTES = 32, SPACE_HEAD = 12, MOST_SPACE = 256 };
+
+// How often it is said that a file can't be written, and how often a ring is looked at that has no kick: milliseconds.
+enum { COMPLAINT = 60000, POLL = 1 };
 
 static void say(const struct session *session, const char *what, const char *why) {
   if (!session->quiet) log_say(LOG_NOTE, NULL, "%s: %s", what, why);
 }
 
+static bool watch(int epoll, int fd, uint32_t what) {
+  struct epoll_event event = {.events = EPOLLIN, .data.u32 = what};
+  return fd >= 0 && !epoll_ctl(epoll, EPOLL_CTL_ADD, fd, &event);
+}
+
 bool session_begin(struct session *session, int socket, int epoll, struct disks *disks, unsigned request_queues, bool only_shadow, bool quiet) {
-  struct epoll_event event = {.events = EPOLLIN, .data.u32 = EVENT_SOCKET};
   memset(session, 0, sizeof *session);
   session->socket = socket;
   session->epoll = epoll;
@@ -33,9 +44,11 @@ bool session_begin(struct session *session, int socket, int epoll, struct disks 
   session->backend.only_shadow = only_shadow;
   reader_begin(&session->reader);
   queues_begin(session);
-  if (!epoll_ctl(epoll, EPOLL_CTL_ADD, socket, &event)) return true;
+  session->timer = timerfd_create(CLOCK_MONOTONIC, TFD_CLOEXEC | TFD_NONBLOCK);
+  if (watch(epoll, session->timer, EVENT_TIMER) && watch(epoll, socket, EVENT_SOCKET)) return true;
+  if (session->timer >= 0) close(session->timer);
   close(socket);
-  session->socket = -1;
+  session->socket = session->timer = -1;
   return false;
 }
 
@@ -44,11 +57,15 @@ void session_end(struct session *session) {
   queues_end(session);
   memory_clear(&session->backend.memory);
   reader_end(&session->reader);
+  if (session->is_waiting) message_close(&session->waiting);
+  session->is_waiting = false;
   if (session->socket >= 0) {
     epoll_ctl(session->epoll, EPOLL_CTL_DEL, session->socket, NULL);
     close(session->socket);
   }
-  session->socket = -1;
+  // Nobody else has a descriptor of the timer's, so epoll forgets it.
+  if (session->timer >= 0) close(session->timer);
+  session->socket = session->timer = -1;
 }
 
 static bool reply_number(const struct session *session, const struct message *message, uint64_t number) {
@@ -74,30 +91,55 @@ static bool set_protocol(struct session *session, const struct message *message)
   return true;
 }
 
+// Adds the region that a message describes from here on.
+static bool add_region(struct memory *memory, const uint8_t *at, int fd) {
+  return memory_add(memory, little_get(at, 8), little_get(at + 8, 8), little_get(at + 16, 8), little_get(at + 24, 8), fd);
+}
+
+// Goes on with memory that changed. The device of direct mode has the guest's memory and rings as they were; and chains whose answers
+// aren't shown yet lie where they lay. Both become available once more.
+static void find_rings(struct session *session, bool is_same, bool breaks) {
+  struct backend *backend = &session->backend;
+  if (backend->device.live && ((!backend->shadow && !is_same) || backend->phase != FETCHING)) backend_end(backend);
+  queues_find(session, breaks);
+  session->more = true;
+}
+
 static bool set_memory(struct session *session, const struct message *message) {
   struct memory memory = {0};
+  struct backend *backend = &session->backend;
   if (message->size < 8) return false;
   uint64_t count = little_get(message->payload, 4);
-  if (count > MOST_REGIONS || message->fd_count != count || message->size < 8 + REGION_BYTES * count) return false;
+  if (count > MOST_FDS || message->fd_count != count || message->size < 8 + REGION_BYTES * count) return false;
   for (size_t i = 0; i < count; i++) {
-    const uint8_t *at = message->payload + 8 + REGION_BYTES * i;
-    if (memory_add(&memory, little_get(at, 8), little_get(at + 8, 8), little_get(at + 16, 8), little_get(at + 24, 8), message->fds[i])) continue;
+    if (add_region(&memory, message->payload + 8 + REGION_BYTES * i, message->fds[i])) continue;
     memory_clear(&memory);
     return false;
   }
-  struct backend *backend = &session->backend;
-  // The device of direct mode has as much memory as the guest had.
-  if (backend->device.live && !backend->shadow && memory_end(&memory) != memory_end(&backend->memory)) backend_end(backend);
+  bool is_same = memory_is_same(&memory, &backend->memory);
   memory_clear(&backend->memory);
   backend->memory = memory;
-  queues_find(session);
-  session->more = true;
+  find_rings(session, is_same, true);
+  return true;
+}
+
+static bool change_memory(struct session *session, const struct message *message) {
+  const uint8_t *at = message->payload + 8;
+  struct backend *backend = &session->backend;
+  if (message->size != 8 + REGION_BYTES) return false;
+  if (message->request == ADD_MEM_REG) {
+    if (message->fd_count != 1 || !add_region(&backend->memory, at, message->fds[0])) return false;
+  } else if (!memory_remove(&backend->memory, little_get(at, 8), little_get(at + 8, 8), little_get(at + 16, 8))) {
+    return false;
+  }
+  // A ring whose region is taken away may come with the next one.
+  find_rings(session, false, false);
   return true;
 }
 
 static bool reset(struct session *session) {
   backend_end(&session->backend);
-  queues_end(session);
+  queues_reset(session);
   return true;
 }
 
@@ -114,7 +156,8 @@ static bool get_config(const struct session *session, const struct message *mess
 
 // Whether the daemon knows this message, and whether it answers it itself: then there is no acknowledgement.
 static bool is_answered(uint32_t request) {
-  return request == GET_FEATURES || request == GET_PROTOCOL_FEATURES || request == GET_QUEUE_NUM || request == GET_VRING_BASE || request == GET_CONFIG;
+  return request == GET_FEATURES || request == GET_PROTOCOL_FEATURES || request == GET_QUEUE_NUM || request == GET_VRING_BASE ||
+         request == GET_CONFIG || request == GET_MAX_MEM_SLOTS;
 }
 
 static bool take(struct session *session, struct message *message) {
@@ -125,6 +168,9 @@ static bool take(struct session *session, struct message *message) {
     case RESET_OWNER:
     case RESET_DEVICE: return reset(session);
     case SET_MEM_TABLE: return set_memory(session, message);
+    case GET_MAX_MEM_SLOTS: return reply_number(session, message, MOST_REGIONS);
+    case ADD_MEM_REG:
+    case REM_MEM_REG: return change_memory(session, message);
     case SET_VRING_NUM: return queue_set_size(session, message);
     case SET_VRING_ADDR: return queue_set_addresses(session, message);
     case SET_VRING_BASE: return queue_set_base(session, message);
@@ -142,40 +188,77 @@ static bool take(struct session *session, struct message *message) {
   }
 }
 
+// Does what a message says, and acknowledges it. Returns false where the connection is over.
+static bool finish(struct session *session, struct message *message) {
+  bool taken = take(session, message), stands = taken;
+  message_close(message);
+  bool is_acknowledged = session->protocol & P_REPLY_ACK && message->flags & NEEDS_REPLY && !is_answered(message->request);
+  if (is_acknowledged) stands = reply_number(session, message, !taken);
+  if (!taken) {
+    char why[WHY];
+    unsigned long long first = (unsigned long long)little_get(message->payload, 8);
+    snprintf(why, sizeof why, "%u of %u bytes, %llx, isn't taken", message->request, message->size, first);
+    say(session, "a message", why);
+  }
+  return stands;
+}
+
+// Returns whether a message may end the device, or take away what a round's chains lie in.
+static bool is_final(uint32_t request) {
+  return request == GET_VRING_BASE || request == SET_VRING_KICK || request == RESET_DEVICE || request == RESET_OWNER ||
+         request == SET_MEM_TABLE || request == ADD_MEM_REG || request == REM_MEM_REG;
+}
+
+// Returns whether the round's answers are about to be shown: they wait for a file that is being written, and not for one that can't
+// be.
+static bool is_busy(const struct session *session) {
+  const struct backend *backend = &session->backend;
+  return backend->device.live && backend->phase != FETCHING && !backend->pause;
+}
+
 bool session_is_owed(const struct session *session) { return !session->messages || session->reader.have; }
 
-bool session_read(struct session *session) {
+static bool read_on(void *with) {
+  struct session *session = with;
   // A front end that sends on and on has its rings served in between.
-  for (unsigned i = 0; i < MOST_ROUNDS; i++) {
+  for (unsigned i = 0; i < MOST_ROUNDS && !session->is_waiting; i++) {
     struct message message = {0};
     enum read_answer answer = reader_next(&session->reader, session->socket, &message);
     if (answer != READ_MESSAGE) return answer == READ_WAITS;
     session->messages++;
-    bool taken = take(session, &message), stands = taken;
-    message_close(&message);
-    if (session->protocol & P_REPLY_ACK && message.flags & NEEDS_REPLY && !is_answered(message.request)) stands = reply_number(session, &message, !taken);
-    if (!taken) {
-      char why[WHY];
-      unsigned long long first = (unsigned long long)little_get(message.payload, 8);
-      snprintf(why, sizeof why, "%u of %u bytes, %llx, isn't taken", message.request, message.size, first);
-      say(session, "a message", why);
+    if (is_final(message.request) && is_busy(session)) {
+      session->waiting = message;
+      session->is_waiting = true;
+    } else if (!finish(session, &message)) {
+      return false;
     }
-    if (!stands) return false;
   }
   return true;
 }
+
+// Makes a call that may look at the guest's memory. Where a front end took some of it away, its session ends.
+static bool guarded(struct session *session, bool (*call)(void *session)) {
+  bool stands = false;
+  if (!guard_run(call, session, &stands)) log_say(LOG_ERROR, NULL, "the session ends: the guest's memory became shorter");
+  return stands;
+}
+
+bool session_read(struct session *session) { return guarded(session, read_on); }
 
 static void signal_fd(int fd) {
   const uint64_t one = 1;
   if (fd >= 0 && write(fd, &one, sizeof one) < 0) return;  // its count is full: the front end hasn't looked yet
 }
 
-void session_kicked(struct session *session, unsigned q) {
+void session_kicked(struct session *session, unsigned what) {
   uint64_t count;
-  if (q >= session->backend.count || session->queues[q].kick < 0) return;
-  ssize_t got = read(session->queues[q].kick, &count, sizeof count);
-  if (got == 0) epoll_ctl(session->epoll, EPOLL_CTL_DEL, session->queues[q].kick, NULL);  // no eventfd, and at its end
   session->more = true;
+  if (what == EVENT_TIMER && read(session->timer, &count, sizeof count) < 0) return;  // it was set anew meanwhile
+  if (what >= session->backend.count || session->queues[what].kick < 0) return;
+  int kick = session->queues[what].kick;
+  ssize_t got = read(kick, &count, sizeof count);
+  // No eventfd, and at its end, or nothing that can be read.
+  if (got == 0 || (got < 0 && errno != EAGAIN && errno != EINTR)) epoll_ctl(session->epoll, EPOLL_CTL_DEL, kick, NULL);
 }
 
 static void notify(struct session *session, uint32_t owed) {
@@ -191,28 +274,80 @@ static void notify(struct session *session, uint32_t owed) {
   }
 }
 
-bool session_serve(struct session *session) {
+// Says once a minute which file can't be written and why, and says when all can be again.
+static void tell_files(struct session *session) {
+  const struct disks *disks = session->backend.disks;
+  bool is_due = !session->complained || clock_now() - session->complained >= COMPLAINT, fails = false;
+  for (size_t i = 0; i < disks->count; i++) {
+    const struct disk *disk = &disks->disks[i];
+    if (!disk->error) continue;
+    fails = true;
+    if (is_due) log_say(LOG_ERROR, disk, "can't be written, and is tried again: %s", strerror(disk->error));
+  }
+  if (fails && is_due) session->complained = clock_now();
+  if (!fails && session->complained) {
+    log_say(LOG_ERROR, NULL, "every disk's file can be written again");
+    session->complained = 0;
+  }
+}
+
+// Sets the timer to so many milliseconds from now.
+static void set_timer(const struct session *session, uint64_t left) {
+  const struct itimerspec when = {.it_value = {.tv_sec = (time_t)(left / 1000), .tv_nsec = (long)(left % 1000) * 1000000}};
+  timerfd_settime(session->timer, 0, &when, NULL);
+}
+
+// Returns whether a queue that is to be served has no kick, so that its driver's ring has to be looked at.
+static bool is_polled(const struct session *session) {
+  for (unsigned q = 0; q < session->backend.count; q++) {
+    const struct session_queue *queue = &session->queues[q];
+    if (queue->started && queue->enabled && queue->kick < 0) return true;
+  }
+  return false;
+}
+
+// Sets the timer to when the session is to be served again with no other cause, if it is.
+static void set_next(const struct session *session, enum served served) {
+  if (served == LATER) {
+    uint64_t now = clock_now(), due = session->backend.due;
+    set_timer(session, due > now ? due - now : 1);
+  } else if (!session->more && is_polled(session)) {
+    set_timer(session, POLL);
+  }
+}
+
+// Makes the device where something is available for it. Returns false where it can't be.
+static bool make_device(struct session *session, uint32_t queues) {
+  char why[WHY] = "";
+  struct backend *backend = &session->backend;
+  if (!backend_has(backend, queues)) return true;
+  if (!backend_begin(backend, why, sizeof why)) return log_say(LOG_ERROR, NULL, "no device: %s", why), false;
+  say(session, "a device", backend->shadow ? "shadow mode" : "direct mode");
+  return true;
+}
+
+static bool serve(void *with) {
+  struct session *session = with;
   struct backend *backend = &session->backend;
   char why[WHY] = "";
   uint32_t queues = 0, owed = 0;
   for (unsigned q = 0; q < backend->count; q++)
     if (session->queues[q].started && session->queues[q].enabled) queues |= UINT32_C(1) << q;
   session->more = false;
-  if (!backend->device.live) {
-    if (!backend_has(backend, queues)) return true;
-    if (!backend_begin(backend, why, sizeof why)) {
-      log_say(LOG_ERROR, NULL, "no device: %s", why);
-      return false;
-    }
-    say(session, "a device", backend->shadow ? "shadow mode" : "direct mode");
-  }
-  enum served served = MORE;
+  if (!backend->device.live && !make_device(session, queues)) return false;
+  enum served served = backend->device.live ? MORE : SERVED;
   for (unsigned i = 0; served == MORE && i < MOST_ROUNDS; i++) {
     owed = 0;
     served = backend_serve(backend, queues, &owed, why, sizeof why);
     notify(session, owed);
   }
-  session->more = served == MORE;
-  if (served == FAILED) log_say(LOG_ERROR, NULL, "the session ends: %s", why);
-  return served != FAILED;
+  tell_files(session);
+  if (served == FAILED) return log_say(LOG_ERROR, NULL, "the session ends: %s", why), false;
+  session->more = served == MORE || served == BUSY;
+  set_next(session, served);
+  if (!session->is_waiting || is_busy(session)) return true;
+  session->is_waiting = false;
+  return finish(session, &session->waiting) && read_on(session);
 }
+
+bool session_serve(struct session *session) { return guarded(session, serve); }

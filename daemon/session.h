@@ -23,10 +23,14 @@ struct session {
   uint64_t features, protocol;
   uint64_t messages;  // that came
   bool more, quiet;
+  int timer;               // by which a round that has to wait is tried again
+  struct message waiting;  // a message that ends the device, until a round's answers are shown
+  bool is_waiting;
+  uint64_t complained;     // when it was last said that a file can't be written, or 0 where all can
 };
 
-// What an epoll event of this session's is about: its socket, or a queue's kick.
-enum { EVENT_SOCKET = 1000 };
+// What an epoll event of this session's is about: its socket, its timer, or a queue's kick.
+enum { EVENT_SOCKET = 1000, EVENT_TIMER = 1001 };
 
 // Begins over a connected socket, which is the session's from then on. Returns false, without it, where epoll doesn't take it.
 bool session_begin(struct session *session, int socket, int epoll, struct disks *disks, unsigned request_queues, bool only_shadow, bool quiet);
@@ -40,8 +44,8 @@ bool session_read(struct session *session);
 // Returns whether the front end owes a message: it has sent none yet, or a part of one.
 bool session_is_owed(const struct session *session);
 
-// Takes a queue's kick.
-void session_kicked(struct session *session, unsigned q);
+// Takes a queue's kick, or the timer's.
+void session_kicked(struct session *session, unsigned what);
 
 // Serves what the driver made available. Returns false where the connection has to end. Sets `more` where another call is wanted.
 bool session_serve(struct session *session);
@@ -56,9 +60,13 @@ bool queue_set_call(struct session *session, struct message *message);
 bool queue_set_err(struct session *session, struct message *message);
 bool queue_get_base(struct session *session, const struct message *message);
 
-// Looks for the areas of all started rings in the guest's memory, after it changed.
-void queues_find(struct session *session);
+// Looks for the areas of all started rings in the guest's memory, after it changed. Where one isn't there the ring breaks, or, where
+// `breaks` is false, isn't served until it is there again.
+void queues_find(struct session *session, bool breaks);
 void queues_begin(struct session *session);
 void queues_end(struct session *session);
+
+// Makes all queues what they were at first, but for the descriptors by which the front end is told of answers and of broken rings.
+void queues_reset(struct session *session);
 
 #endif

@@ -1,4 +1,6 @@
+#include <limits.h>
 #include <stdio.h>
+#include <string.h>
 
 #include "backend.h"
 #include "bytes.h"
@@ -16,7 +18,6 @@ static uint64_t area(unsigned q) { return (uint64_t)q * AREA; }
 struct round {
   unsigned count;
   uint64_t at;
-  bool full;
 };
 
 bool shadow_begin(struct backend *backend, char *why, size_t room) {
@@ -109,27 +110,95 @@ static bool place_request(struct chain *chain, struct round *round) {
   return true;
 }
 
-// Takes what a queue has into the round. Returns false where memory is wanted.
-static bool fetch(struct backend *backend, unsigned q, struct round *round) {
+// Learns what command a request has.
+static bool weigh(struct backend *backend, const struct chain *chain) {
+  uint8_t request[MOST_LOOKED_AT];
+  size_t length = chain->in <= sizeof request ? (size_t)chain->in : HEAD;
+  if (length < HEAD) memset(request, 0, HEAD);
+  if (!device_peek(&backend->device, chain->in_at, request, length)) return false;
+  backend_weigh(backend, request, length);
+  return true;
+}
+
+// Brings a chain that was fetched to the device. Returns false where the device doesn't take it.
+static bool give(struct backend *backend, unsigned q, const struct chain *chain) {
+  struct backend_queue *queue = &backend->queues[q];
+  uint16_t step = ring_step(&queue->ring, chain);
+  queue->due = (uint16_t)(queue->due > step ? queue->due - step : 0);
+  if (!bring(backend, chain) || !put_descriptors(backend, q, chain) || !offer(backend, q, chain)) return false;
+  return q < FIXED_QUEUES || weigh(backend, chain);
+}
+
+// Takes chains of a queue into the round, at most so many. Returns false where the device doesn't take one.
+static bool fetch(struct backend *backend, unsigned q, struct round *round, unsigned most) {
   const struct source source = {.memory = &backend->memory};
   struct ring *ring = &backend->queues[q].ring;
   struct chain *chain;
-  while (!ring->broken) {
+  for (; most; most--) {
     enum fetched fetched = ring_fetch(ring, &source, &chain);
-    if (fetched != FETCHED) return fetched != NO_ROOM;
+    backend->starved = backend->starved || fetched == NO_ROOM;
+    if (fetched != FETCHED) break;
     if (!is_sound(backend, chain)) {
       ring_unfetch(ring, chain);
       ring->broken = true;
-      return true;
+      break;
     }
     if (!(q == EVENT_QUEUE ? place_event(backend, chain) : place_request(chain, round))) {
-      round->full = round->full || q != EVENT_QUEUE;
       ring_unfetch(ring, chain);
-      return true;
+      break;
     }
-    if (!bring(backend, chain) || !put_descriptors(backend, q, chain) || !offer(backend, q, chain)) return false;
+    if (!give(backend, q, chain)) return false;
   }
   return true;
+}
+
+static bool is_served(const struct backend *backend, uint32_t queues, unsigned q) {
+  return queues >> q & 1 && backend->queues[q].ready && !backend->queues[q].ring.broken;
+}
+
+// Takes chains of the request queues: of each its share, and then what there is room for. Another queue is first in each round.
+static bool fetch_requests(struct backend *backend, uint32_t queues, struct round *round) {
+  unsigned requests = backend->count - FIXED_QUEUES, having = 0;
+  for (unsigned q = FIXED_QUEUES; q < backend->count; q++) having += is_served(backend, queues, q) && ring_has(&backend->queues[q].ring);
+  for (unsigned i = 0; having && i < 2 * requests; i++) {
+    unsigned q = FIXED_QUEUES + (backend->turn + i) % requests, most = i < requests ? SLOTS / having : SLOTS;
+    if (is_served(backend, queues, q) && !fetch(backend, q, round, most)) return false;
+  }
+  backend->turn = (backend->turn + 1) % requests;
+  return true;
+}
+
+// Returns whether something that was available before the control queue's chains wasn't fetched. As they are first seen, it counts
+// what is available on each queue: a request that comes later isn't waited for.
+static bool is_early(struct backend *backend, uint32_t queues) {
+  bool early = false;
+  if (!backend->control_waits) {
+    backend->queues[0].due = ring_ahead(&backend->queues[0].ring);
+    for (unsigned q = FIXED_QUEUES; q < backend->count; q++)
+      backend->queues[q].due = is_served(backend, queues, q) ? ring_ahead(&backend->queues[q].ring) : 0;
+    backend->control_waits = true;
+  }
+  for (unsigned q = FIXED_QUEUES; q < backend->count; q++) early = early || (is_served(backend, queues, q) && backend->queues[q].due);
+  return early;
+}
+
+// Takes the control queue's chains, as soon as nothing has to be fetched before them.
+static bool fetch_control(struct backend *backend, uint32_t queues, struct round *round) {
+  struct backend_queue *control = &backend->queues[0];
+  bool has_some = is_served(backend, queues, 0) && ring_has(&control->ring);
+  if (has_some && !is_early(backend, queues) && !fetch(backend, 0, round, control->due)) return false;
+  if (!has_some || !control->due) backend->control_waits = false;
+  return true;
+}
+
+bool shadow_fetch(struct backend *backend, uint32_t queues, char *why, size_t room) {
+  struct round round = {.at = ROOM_AT};
+  bool fetched = !is_served(backend, queues, EVENT_QUEUE) || fetch(backend, EVENT_QUEUE, &round, UINT_MAX);
+  // Before the requests, which may take all room; and behind them, where they were what had to come first.
+  fetched = fetched && fetch_control(backend, queues, &round) && fetch_requests(backend, queues, &round);
+  fetched = fetched && fetch_control(backend, queues, &round);
+  if (!fetched) snprintf(why, room, "the device doesn't take a request");
+  return fetched;
 }
 
 static struct chain *take(struct ring *ring, uint64_t place) {
@@ -154,13 +223,15 @@ static bool answer(struct backend *backend, unsigned q, uint64_t number) {
   }
   if (q == EVENT_QUEUE) backend->held[chain->place] = false;
   ring_use(ring, chain, (uint32_t)length);
-  chain_free(chain);
+  ring_free(ring, chain);
   return true;
 }
 
 static bool complete(struct backend *backend, unsigned q) {
   struct backend_queue *queue = &backend->queues[q];
   uint64_t taken, used;
+  // Events wait where their ring's memory isn't there.
+  if (!queue->ready) return true;
   if (!device_progress(&backend->device, q, &taken, &used)) return false;
   for (; queue->used < used; queue->used++)
     if (!answer(backend, q, queue->used)) return false;
@@ -168,16 +239,8 @@ static bool complete(struct backend *backend, unsigned q) {
   return taken == queue->taken && (q == EVENT_QUEUE || used == taken);
 }
 
-enum served shadow_serve(struct backend *backend, uint32_t queues, uint32_t *owed, char *why, size_t room) {
-  struct round round = {.at = ROOM_AT};
-  for (unsigned q = 0; q < backend->count; q++) {
-    struct backend_queue *queue = &backend->queues[q];
-    if (queues >> q & 1 && queue->ready && !fetch(backend, q, &round)) return snprintf(why, room, "queue %u: no memory", q), FAILED;
-  }
-  if (!device_serve(&backend->device)) return snprintf(why, room, "no memory"), FAILED;
-  if (!backend_keep(backend, why, room)) return FAILED;
+bool shadow_complete(struct backend *backend, char *why, size_t room) {
   for (unsigned q = 0; q < backend->count; q++)
-    if (!complete(backend, q)) return snprintf(why, room, "queue %u: an answer to no request", q), FAILED;
-  backend_publish(backend, owed);
-  return round.full ? MORE : SERVED;
+    if (!complete(backend, q)) return snprintf(why, room, "queue %u: an answer to no request", q), false;
+  return true;
 }

@@ -12,7 +12,7 @@
 #include "../bytes.h"
 #include "../chain.h"
 
-enum { AREA = 0x10000, DATA = 0x200000, TABLES = 0x180000, PACKED_BASE_BITS = 0x8000 };
+enum { AREA = 0x10000, DATA = 0x200000, TABLES = 0x180000, MOST_EVENTS = 32 };
 
 void fail(const char *file, int line, const char *what) {
   fprintf(stderr, "%s:%d: not so: %s\n", file, line, what);
@@ -25,17 +25,23 @@ struct way way_of(unsigned number) {
 
 uint64_t place_of(unsigned q, unsigned part) { return (uint64_t)AREA * (q + 1) + (uint64_t)0x4000 * part; }
 
-uint64_t guest_of(const struct front *front, uint64_t place) { return front->way.far && place >= HALF ? place - HALF + (UINT64_C(1) << 32) : place; }
+uint64_t guest_of(const struct front *front, uint64_t place) {
+  if (front->swapped) place ^= HALF;
+  return front->way.far && place >= HALF ? place - HALF + (UINT64_C(1) << 32) : place;
+}
 
-void front_begin(struct front *front, struct disks *disks, struct way way) {
+void front_begin(struct front *front, struct disks *disks, struct way way) { front_begin_sized(front, disks, way, SIZE); }
+
+void front_begin_sized(struct front *front, struct disks *disks, struct way way, uint16_t size) {
   int pair[2];
   memset(front, 0, sizeof *front);
+  front->size = size;
   front->way = way;
   front->disks = disks;
   MUST(!socketpair(AF_UNIX, SOCK_STREAM | SOCK_CLOEXEC, 0, pair));
   front->socket = pair[0];
   front->epoll = epoll_create1(EPOLL_CLOEXEC);
-  front->memory_fd = memfd_create("guest", MFD_CLOEXEC);
+  front->memory_fd = memfd_create("guest", MFD_CLOEXEC | MFD_ALLOW_SEALING);
   MUST(!ftruncate(front->memory_fd, GUEST_BYTES));
   front->memory = mmap(NULL, GUEST_BYTES, PROT_READ | PROT_WRITE, MAP_SHARED, front->memory_fd, 0);
   MUST(front->memory != MAP_FAILED);
@@ -63,25 +69,36 @@ void front_end(struct front *front) {
   close(front->epoll);
 }
 
+static int look(struct front *front, struct epoll_event *events) { return epoll_wait(front->epoll, events, MOST_EVENTS, 0); }
+
+static void take_events(struct front *front, const struct epoll_event *events, int count) {
+  for (int i = 0; i < count && front->alive; i++) {
+    if (events[i].data.u32 == EVENT_SOCKET) front->alive = session_read(&front->session);
+    else session_kicked(&front->session, events[i].data.u32);
+  }
+  if (front->alive && front->session.more) front->alive = session_serve(&front->session);
+  if (!front->alive) session_end(&front->session);
+}
+
+void turn(struct front *front) {
+  struct epoll_event events[MOST_EVENTS];
+  if (front->alive) take_events(front, events, look(front, events));
+}
+
 void pump(struct front *front) {
   for (unsigned turns = 0; front->alive; turns++) {
-    struct epoll_event events[32];
-    int count = epoll_wait(front->epoll, events, 32, 0);
+    struct epoll_event events[MOST_EVENTS];
+    int count = look(front, events);
     MUST(turns < 100000);
     if (count <= 0 && !front->session.more) return;
-    for (int i = 0; i < count && front->alive; i++) {
-      if (events[i].data.u32 == EVENT_SOCKET) front->alive = session_read(&front->session);
-      else session_kicked(&front->session, events[i].data.u32);
-    }
-    if (front->alive && front->session.more) front->alive = session_serve(&front->session);
-    if (!front->alive) session_end(&front->session);
+    take_events(front, events, count);
   }
 }
 
 bool front_send(const struct front *front, const struct sent *sent, size_t from, size_t to) {
   union {
     struct cmsghdr header;
-    char room[CMSG_SPACE(2 * sizeof(int))];
+    char room[CMSG_SPACE(MOST_FDS * sizeof(int))];
   } control = {0};
   struct iovec part = {.iov_base = (uint8_t *)(uintptr_t)sent->bytes + from, .iov_len = to - from};
   struct msghdr header = {.msg_iov = &part, .msg_iovlen = 1};
@@ -108,27 +125,58 @@ static struct sent *message(struct sent *sent, uint32_t request, size_t length) 
 
 static void one(struct sent *sent, uint32_t request, uint64_t number) { little_put(message(sent, request, 8)->bytes + HEADER, number, 8); }
 
-static void with_fd(struct sent *sent, uint32_t request, unsigned q, int fd) {
-  one(sent, request, q);
+void front_say(const struct front *front, uint32_t request, uint64_t number) {
+  struct sent sent;
+  one(&sent, request, number);
+  MUST(front_send(front, &sent, 0, sent.length));
+}
+
+void front_descriptor(struct sent *sent, uint32_t request, unsigned q, int fd) {
+  one(sent, request, q | (fd < 0 ? 0x100 : 0));
   sent->fds[0] = fd;
-  sent->fd_count = 1;
+  sent->fd_count = fd >= 0;
+}
+
+bool front_ask(struct front *front, const struct sent *sent) {
+  uint8_t payload[8];
+  MUST(front_send(front, sent, 0, sent->length));
+  pump(front);
+  return front->alive && front_reply(front, payload, sizeof payload) == 8 && little_get(payload, 8) == 0;
 }
 
 static uint64_t user_of(const struct front *front, uint64_t place) { return front->way.far && place >= HALF ? place - HALF + FAR_USER : place + USER; }
 
-static void memory_table(const struct front *front, struct sent *sent) {
-  uint8_t *at = message(sent, SET_MEM_TABLE, 8 + 64)->bytes + HEADER;
-  little_put(at, 2, 4);
-  for (unsigned i = 0; i < 2; i++) {
-    uint8_t *region = at + 8 + 32 * i;
-    uint64_t place = (uint64_t)HALF * i;
-    little_put(region, guest_of(front, place), 8);
-    little_put(region + 8, HALF, 8);
-    little_put(region + 16, user_of(front, place), 8);
-    little_put(region + 24, place, 8);
+static void put_area(uint8_t *at, struct area area) {
+  little_put(at, area.guest, 8);
+  little_put(at + 8, area.size, 8);
+  little_put(at + 16, area.user, 8);
+  little_put(at + 24, area.place, 8);
+}
+
+void front_region(const struct front *front, struct sent *sent, uint32_t request, struct area area) {
+  put_area(message(sent, request, 40)->bytes + HEADER + 8, area);
+  sent->fds[0] = front->memory_fd;
+  sent->fd_count = request == ADD_MEM_REG;
+}
+
+void front_table(const struct front *front, struct sent *sent, const struct area *areas, unsigned count) {
+  uint8_t *at = message(sent, SET_MEM_TABLE, 8 + 32 * (size_t)count)->bytes + HEADER;
+  little_put(at, count, 4);
+  for (unsigned i = 0; i < count; i++) {
+    put_area(at + 8 + 32 * (size_t)i, areas[i]);
     sent->fds[i] = front->memory_fd;
   }
-  sent->fd_count = 2;
+  sent->fd_count = count;
+}
+
+struct area front_half(const struct front *front, unsigned half) {
+  uint64_t place = (uint64_t)HALF * half;
+  return (struct area){guest_of(front, place), HALF, user_of(front, place), place};
+}
+
+static void memory_table(const struct front *front, struct sent *sent) {
+  const struct area halves[] = {front_half(front, 0), front_half(front, 1)};
+  front_table(front, sent, halves, 2);
 }
 
 size_t front_set_up(const struct front *front, struct sent *sent, uint32_t base) {
@@ -145,16 +193,16 @@ size_t front_set_up(const struct front *front, struct sent *sent, uint32_t base)
   little_put(message(&sent[n++], GET_CONFIG, 12 + 36)->bytes + HEADER + 4, 36, 4);
   memory_table(front, &sent[n++]);
   for (unsigned q = 0; q < QUEUES; q++) {
-    one(&sent[n++], SET_VRING_NUM, q | (uint64_t)SIZE << 32);
+    one(&sent[n++], SET_VRING_NUM, q | (uint64_t)front->size << 32);
     one(&sent[n++], SET_VRING_BASE, q | (uint64_t)(way->packed && !base ? 0x80008000 : base) << 32);
     uint8_t *at = message(&sent[n++], SET_VRING_ADDR, 40)->bytes + HEADER;
     little_put(at, q, 4);
     little_put(at + 8, user_of(front, place_of(q, 0)), 8);
     little_put(at + 16, user_of(front, place_of(q, 2)), 8);
     little_put(at + 24, user_of(front, place_of(q, 1)), 8);
-    with_fd(&sent[n++], SET_VRING_KICK, q, front->kick[q]);
-    with_fd(&sent[n++], SET_VRING_CALL, q, front->call[q]);
-    with_fd(&sent[n++], SET_VRING_ERR, q, front->err[q]);
+    front_descriptor(&sent[n++], SET_VRING_KICK, q, front->kick[q]);
+    front_descriptor(&sent[n++], SET_VRING_CALL, q, front->call[q]);
+    front_descriptor(&sent[n++], SET_VRING_ERR, q, front->err[q]);
   }
   for (unsigned q = 0; q < QUEUES; q++) one(&sent[n++], SET_VRING_ENABLE, q | UINT64_C(1) << 32);
   return n;
@@ -211,26 +259,26 @@ static void put_packed(struct front *front, unsigned q, const struct part *parts
   for (unsigned i = 0; i < count; i++) {
     uint16_t flags = (uint16_t)((queue->next_wrap ? FLAG_AVAILABLE : FLAG_USED) | (i + 1 < count ? FLAG_NEXT : 0) | (parts[i].writable ? FLAG_WRITE : 0) |
                                 (table ? FLAG_INDIRECT : 0));
-    descriptor(front->memory + place_of(q, 0) + 16 * queue->next, guest_of(front, parts[i].place), parts[i].length, (uint16_t)(queue->free & 7), flags);
-    if (++queue->next == SIZE) {
+    descriptor(front->memory + place_of(q, 0) + 16 * queue->next, guest_of(front, parts[i].place), parts[i].length, (uint16_t)(queue->free & (front->size / 2 - 1)), flags);
+    if (++queue->next == front->size) {
       queue->next = 0;
       queue->next_wrap = !queue->next_wrap;
     }
   }
-  // An id is used again only behind seven others.
+  // An id is used again only behind as many others as half the ring's size less one.
   queue->free++;
 }
 
 static void put_split(struct front *front, unsigned q, const struct part *parts, unsigned count, bool table) {
   struct driver_queue *queue = &front->queues[q];
-  uint16_t head = (uint16_t)(queue->free % SIZE);
+  uint16_t head = (uint16_t)(queue->free % front->size);
   for (unsigned i = 0; i < count; i++) {
-    uint16_t at = (uint16_t)(queue->free++ % SIZE);
+    uint16_t at = (uint16_t)(queue->free++ % front->size);
     uint16_t flags = (uint16_t)((i + 1 < count ? FLAG_NEXT : 0) | (parts[i].writable ? FLAG_WRITE : 0) | (table ? FLAG_INDIRECT : 0));
-    descriptor(front->memory + place_of(q, 0) + 16 * at, guest_of(front, parts[i].place), parts[i].length, flags, (uint16_t)(queue->free % SIZE));
+    descriptor(front->memory + place_of(q, 0) + 16 * at, guest_of(front, parts[i].place), parts[i].length, flags, (uint16_t)(queue->free % front->size));
   }
   uint8_t *ring = front->memory + place_of(q, 1);
-  little_put(ring + 4 + 2 * (queue->next % SIZE), head, 2);
+  little_put(ring + 4 + 2 * (queue->next % front->size), head, 2);
   queue->next++;
   __atomic_store_n((uint16_t *)(void *)(ring + 2), queue->next, __ATOMIC_RELEASE);
 }
@@ -243,7 +291,7 @@ static void put(struct front *front, unsigned q, const struct part *parts, unsig
 void driver_put_table(struct front *front, unsigned q, struct part table) { put(front, q, &table, 1, true); }
 
 void driver_put(struct front *front, unsigned q, const struct part *parts, unsigned count) {
-  struct part whole = {.place = TABLES + 0x10000 * (uint64_t)q + 0x100 * (uint64_t)(front->queues[q].free % 16), .length = 16 * count};
+  struct part whole = {.place = TABLES + 0x10000 * (uint64_t)q + 0x100 * (uint64_t)(front->queues[q].free % 256), .length = 16 * count};
   for (unsigned i = 0; front->way.indirect && i < count; i++) {
     uint16_t flags = (uint16_t)((parts[i].writable ? FLAG_WRITE : 0) | (i + 1 < count && !front->way.packed ? FLAG_NEXT : 0));
     uint8_t *at = front->memory + whole.place + 16 * i;
@@ -259,8 +307,8 @@ void driver_kick(struct front *front, unsigned q) {
   const struct driver_queue *queue = &front->queues[q];
   // A driver with event indices notifies only of the chain that the device names.
   if (front->way.event_index && !front->way.packed) {
-    uint16_t event = (uint16_t)little_get(front->memory + place_of(q, 2) + 4 + 8 * SIZE, 2);
-    if ((uint16_t)(queue->next - event - 1) >= SIZE) return;
+    uint16_t event = (uint16_t)little_get(front->memory + place_of(q, 2) + 4 + 8 * (uint64_t)front->size, 2);
+    if ((uint16_t)(queue->next - event - 1) >= front->size) return;
   }
   MUST(write(front->kick[q], &once, sizeof once) == sizeof once);
 }
@@ -270,9 +318,9 @@ bool driver_take(struct front *front, unsigned q, uint32_t *length) {
   if (!front->way.packed) {
     const uint8_t *used = front->memory + place_of(q, 2);
     if (little_get(used + 2, 2) == queue->seen) return false;
-    *length = (uint32_t)little_get(used + 4 + 8 * (queue->seen % SIZE) + 4, 4);
+    *length = (uint32_t)little_get(used + 4 + 8 * (queue->seen % front->size) + 4, 4);
     queue->seen++;
-    if (front->way.event_index) little_put(front->memory + place_of(q, 1) + 4 + 2 * SIZE, queue->seen, 2);
+    if (front->way.event_index) little_put(front->memory + place_of(q, 1) + 4 + 2 * (uint64_t)front->size, queue->seen, 2);
     return true;
   }
   const uint8_t *at = front->memory + place_of(q, 0) + 16 * queue->seen;
@@ -282,19 +330,23 @@ bool driver_take(struct front *front, unsigned q, uint32_t *length) {
   return true;
 }
 
-bool driver_run(struct front *front, unsigned q, const struct part *parts, unsigned count, uint32_t *length) {
+bool driver_next(struct front *front, unsigned q, unsigned count, uint32_t *length) {
   struct driver_queue *queue = &front->queues[q];
   unsigned slots = front->way.indirect ? 1 : count;
-  driver_put(front, q, parts, count);
-  driver_kick(front, q);
-  pump(front);
   if (!driver_take(front, q, length)) return false;
   for (unsigned i = 0; front->way.packed && i < slots; i++) {
-    if (++queue->seen < SIZE) continue;
+    if (++queue->seen < front->size) continue;
     queue->seen = 0;
     queue->seen_wrap = !queue->seen_wrap;
   }
   return true;
+}
+
+bool driver_run(struct front *front, unsigned q, const struct part *parts, unsigned count, uint32_t *length) {
+  driver_put(front, q, parts, count);
+  driver_kick(front, q);
+  pump(front);
+  return driver_next(front, q, count, length);
 }
 
 void put_request(struct front *front, uint64_t place, const uint8_t *block, size_t length) {

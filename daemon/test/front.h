@@ -24,6 +24,8 @@ struct front {
   struct session session;
   struct disks *disks;
   int socket, epoll, memory_fd;
+  uint16_t size;  // of each ring
+  bool swapped;   // the halves of memory changed their places in the guest's addresses
   uint8_t *memory;
   bool alive;
   int kick[QUEUES], call[QUEUES], err[QUEUES];
@@ -34,7 +36,7 @@ struct front {
 struct sent {
   uint8_t bytes[HEADER + MOST_PAYLOAD];
   size_t length;
-  int fds[2];
+  int fds[MOST_FDS];
   size_t fd_count;
 };
 
@@ -42,16 +44,39 @@ struct sent {
 #define MUST(is_so) ((is_so) ? (void)0 : fail(__FILE__, __LINE__, #is_so))
 _Noreturn void fail(const char *file, int line, const char *what);
 
+// Begins a session whose rings have SIZE descriptors, or another power of two up to 1,024.
 void front_begin(struct front *front, struct disks *disks, struct way way);
+void front_begin_sized(struct front *front, struct disks *disks, struct way way, uint16_t size);
 void front_end(struct front *front);
 
-// Runs the daemon's session until it has nothing to do.
+// Runs the daemon's session until it has nothing to do, or has its event loop turn once, without waiting.
 void pump(struct front *front);
+void turn(struct front *front);
 
 bool front_send(const struct front *front, const struct sent *sent, size_t from, size_t to);
 
+// Sends a message whose payload is one number.
+void front_say(const struct front *front, uint32_t request, uint64_t number);
+
 // Fills the messages that set all queues up, from `base` on, and returns how many there are.
 size_t front_set_up(const struct front *front, struct sent *sent, uint32_t base);
+
+// Fills a message that adds or removes a region, or a table of regions that get their descriptors one after the other. A region is
+// (guest's address, size, front end's address, place).
+struct area {
+  uint64_t guest, size, user, place;
+};
+void front_region(const struct front *front, struct sent *sent, uint32_t request, struct area area);
+void front_table(const struct front *front, struct sent *sent, const struct area *areas, unsigned count);
+
+// Returns where half 0 or 1 of the memory lies.
+struct area front_half(const struct front *front, unsigned half);
+
+// Fills a message of a queue that gives a descriptor, or none where it is below 0.
+void front_descriptor(struct sent *sent, uint32_t request, unsigned q, int fd);
+
+// Sends a message that is acknowledged. Returns whether it was taken.
+bool front_ask(struct front *front, const struct sent *sent);
 
 // Sends these messages, and expects each acknowledgement.
 void front_agree(struct front *front);
@@ -78,8 +103,10 @@ void driver_kick(struct front *front, unsigned q);
 // Makes a chain available whose one descriptor names the table in this part.
 void driver_put_table(struct front *front, unsigned q, struct part table);
 
-// Takes the next used element, if there is one.
+// Looks at the next used element, if there is one; of a split ring it also goes on behind it. driver_next does so of either, for a
+// chain of so many parts.
 bool driver_take(struct front *front, unsigned q, uint32_t *length);
+bool driver_next(struct front *front, unsigned q, unsigned count, uint32_t *length);
 
 // Makes a chain available, kicks, lets the daemon serve, and takes the used element. Returns false where there was none.
 bool driver_run(struct front *front, unsigned q, const struct part *parts, unsigned count, uint32_t *length);

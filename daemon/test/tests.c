@@ -11,6 +11,8 @@
 #include "../images.h"
 #include "chains.h"
 #include "front.h"
+#include "rounds.h"
+#include "sessions.h"
 
 static const uint8_t write_10[] = {0x2a, 0, 0, 0, 0, 3, 0, 0, 16, 0}, read_10[] = {0x28, 0, 0, 0, 0, 3, 0, 0, 16, 0};
 static const uint8_t inquiry[] = {0x12, 0, 0, 0, 36, 0}, same_10[] = {0x41, 0, 0, 0, 0, 40, 0, 0, 5, 0}, ready[] = {0, 0, 0, 0, 0, 0};
@@ -293,16 +295,22 @@ static void test_words(void) {
   disks_close(&disks);
 }
 
-int main(void) {
+// Runs all tests, or the one that is named.
+int main(int count, char **words) {
   static const struct {
     const char *name;
     void (*run)(void);
-  } tests[] = {{"words", test_words},   {"ways", test_ways},     {"bases", test_bases},   {"files", test_files},
-               {"events", test_events}, {"totals", test_totals}, {"empty", test_empty},   {"order", test_order},
-               {"tables", test_tables}, {"shared", test_shared}, {"cuts", test_cuts},     {"fields", test_fields},
-               {"rings", test_rings}};
+  } tests[] = {{"words", test_words}, {"ways", test_ways}, {"bases", test_bases}, {"files", test_files}, {"events", test_events},
+               {"totals", test_totals}, {"empty", test_empty}, {"order", test_order}, {"tables", test_tables},
+               {"shared", test_shared}, {"cuts", test_cuts}, {"fields", test_fields}, {"rings", test_rings},
+               {"scattered", test_scattered}, {"whole", test_whole}, {"full", test_full}, {"forgetful", test_forgetful},
+               {"abandoned", test_abandoned}, {"zeros", test_zeros}, {"turns", test_turns}, {"order of control", test_order_of_control},
+               {"moved", test_moved}, {"slots", test_slots}, {"regions", test_regions}, {"short", test_short},
+               {"forms", test_forms}, {"stale", test_stale}, {"kicks", test_kicks}, {"reset", test_reset},
+               {"refused", test_refused}};
   unsigned files = open_files();
   for (size_t i = 0; i < sizeof tests / sizeof *tests; i++) {
+    if (count > 1 && strcmp(words[1], tests[i].name)) continue;
     tests[i].run();
     MUST(open_files() == files);
     printf("%s: passed\n", tests[i].name);

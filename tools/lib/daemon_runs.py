@@ -10,6 +10,7 @@ import fcntl
 import json
 import os
 import re
+import resource
 import shutil
 import signal
 import socket
@@ -18,6 +19,8 @@ import struct
 import subprocess
 import time
 from pathlib import Path
+
+from front_end import FrontEnd
 
 DOCS = Path(__file__).resolve().parent.parent.parent / "docs"
 MIB = 1 << 20
@@ -595,6 +598,52 @@ def test_silence(room):
             with connected(room.socket) as refused:
                 assert is_over(refused, 3)
             assert is_served(front)
+
+
+# Files that can't be written for a time.
+
+
+@contextlib.contextmanager
+def driven(room, *words, ends):
+    """A daemon with a driver of one request queue, and its log. It is ended by SIGTERM, with this status."""
+    log = room.folder / "log"
+    with room.runs("--log", log, *words, ends=ends) as run, FrontEnd(connected(room.socket)) as front:
+        yield run, front, log
+
+
+def limit_files(run, most):
+    """Lets a process write files up to this length."""
+    resource.prlimit(run.pid, resource.RLIMIT_FSIZE, (most, resource.RLIM_INFINITY))
+
+
+def test_held(room):
+    """A request whose file can't be written waits; messages and signals don't; and it goes on once the file can be written."""
+    for goes_on in (True, False):
+        image = room.folder / f"image{goes_on}"
+        with driven(room, "--disk", f"0:0=16M,file={image}", ends=0 if goes_on else 1) as (run, front, log):
+            front.write(0, b"a" * 4096)
+            wait_for(lambda: front.answered() == 1, "the first WRITE")
+            limit_files(run, MIB)
+            front.write(8192, b"b" * 4096)
+            wait_for(lambda: str(image) in log.read_text(), "a line that names the file")
+            assert front.asks() and front.answered() == 1 and run.poll() is None
+            if goes_on:
+                limit_files(run, resource.RLIM_INFINITY)
+                wait_for(lambda: front.answered() == 2, "the second WRITE")
+        text, kept = log.read_text(), image.read_bytes()
+        assert os.strerror(errno.EFBIG) in text and ("aren't kept" in text) == (not goes_on)
+        assert kept[:4096] == b"a" * 4096 and (not goes_on or kept[4 * MIB :][:4096] == b"b" * 4096)
+        log.unlink()
+
+
+def test_written_whole(room):
+    """While a disk is written from its first block to its last, messages are answered, and the daemon ends by a signal."""
+    with driven(room, "--disk", f"0:0=8T,file={room.folder / 'image'}", ends=1) as (_, front, log):
+        front.refused_unmap()
+        for _ in range(5):
+            time.sleep(0.1)
+            assert front.asks() and front.answered() == 0
+    assert "aren't kept" in log.read_text()
 
 
 # Isolation.

@@ -1,0 +1,29 @@
+// Tests of rounds: many requests at once, queues that take turns, and files that can't be written.
+#ifndef DAEMON_TEST_ROUNDS_H
+#define DAEMON_TEST_ROUNDS_H
+
+// 120 WRITEs at once to places far apart, and UNMAPs of many descriptors: each writes what it names, and not the whole disk.
+void test_scattered(void);
+
+// A round that has the whole disk written: messages are answered meanwhile, and those that end the device wait.
+void test_whole(void);
+
+// A file that can't be written for a time: nothing is answered, and nothing is lost.
+void test_full(void);
+
+// A file whose fdatasync fails, and which then hasn't got what was written.
+void test_forgetful(void);
+
+// A front end that goes away while the file can't be written: the next one finds everything on the file.
+void test_abandoned(void);
+
+// Zeros that are written, and blocks that are unmapped, on files that have the word detect-zeroes=unmap or not.
+void test_zeros(void);
+
+// A queue that is refilled whenever it is served, beside one with a request.
+void test_turns(void);
+
+// Task management behind WRITEs that weren't fetched.
+void test_order_of_control(void);
+
+#endif

@@ -1,0 +1,318 @@
+#include "sessions.h"
+
+#include <fcntl.h>
+#include <string.h>
+#include <sys/epoll.h>
+#include <sys/mman.h>
+#include <unistd.h>
+
+#include "../bytes.h"
+#include "../chain.h"
+#include "../clock.h"
+#include "faults.h"
+#include "front.h"
+
+static const uint8_t ready[6] = {0}, write_10[] = {0x2a, 0, 0, 0, 0, 3, 0, 0, 1, 0}, read_10[] = {0x28, 0, 0, 0, 0, 3, 0, 0, 1, 0};
+
+enum { WAYS = 32, PAGE = 4096, MOST_SENT = 64, PATIENCE = 10000, FIRST_OF_RINGS = 8 };
+
+static void begin(struct front *front, struct disks *disks, unsigned number) {
+  char why[200];
+  memset(disks, 0, sizeof *disks);
+  MUST(disks_add(disks, "0:0=1M", why, sizeof why));
+  front_begin(front, disks, way_of(number));
+}
+
+static void end(struct front *front, struct disks *disks) {
+  front_end(front);
+  disks_close(disks);
+}
+
+static bool is_ready(struct front *front, unsigned q) { return command(front, q, ready, sizeof ready, NULL, 0, NULL, 0) == 0; }
+
+// Writes a block, or looks whether it is there.
+static bool write_block(struct front *front) {
+  uint8_t data[512];
+  memset(data, 0x5a, sizeof data);
+  return command(front, 2, write_10, sizeof write_10, data, sizeof data, NULL, 0) == 0;
+}
+
+static bool has_block(struct front *front) {
+  uint8_t data[512] = {0};
+  return command(front, 3, read_10, sizeof read_10, NULL, 0, data, sizeof data) == 0 && data[0] == 0x5a && data[511] == 0x5a;
+}
+
+void test_moved(void) {
+  for (unsigned number = 0; number < WAYS; number++) {
+    struct disks disks;
+    struct front front;
+    struct sent sent;
+    begin(&front, &disks, number);
+    if (front.way.far) {
+      end(&front, &disks);
+      continue;
+    }
+    front_agree(&front);
+    MUST(write_block(&front) && front.session.backend.shadow == front.way.shadow);
+    // The same regions once more change nothing.
+    front_table(&front, &sent, (struct area[]){front_half(&front, 1), front_half(&front, 0)}, 2);
+    MUST(front_ask(&front, &sent) && is_ready(&front, 2) && front.session.backend.shadow == front.way.shadow);
+    front.swapped = true;
+    front_table(&front, &sent, (struct area[]){front_half(&front, 0), front_half(&front, 1)}, 2);
+    MUST(front_ask(&front, &sent));
+    MUST(has_block(&front) && is_ready(&front, 2) && is_ready(&front, 4));
+    end(&front, &disks);
+  }
+}
+
+// Sets the session up with regions that are added one by one.
+static void agree(struct front *front) {
+  static struct sent sent[MOST_SENT];
+  struct sent one;
+  uint8_t payload[64];
+  size_t count = front_set_up(front, sent, 0);
+  little_put(sent[2].bytes + HEADER, P_MQ | P_REPLY_ACK | P_CONFIG | P_CONFIGURE_MEM_SLOTS, 8);
+  for (size_t i = 0; i < FIRST_OF_RINGS - 1; i++) {
+    MUST(front_send(front, &sent[i], 0, sent[i].length));
+    pump(front);
+    while (front_reply(front, payload, sizeof payload)) continue;
+  }
+  front_say(front, GET_MAX_MEM_SLOTS, 0);
+  pump(front);
+  MUST(front_reply(front, payload, sizeof payload) == 8 && little_get(payload, 8) == MOST_REGIONS);
+  for (unsigned half = 2; half-- > 0;) {
+    front_region(front, &one, ADD_MEM_REG, front_half(front, half));
+    MUST(front_ask(front, &one));
+  }
+  for (size_t i = FIRST_OF_RINGS; i < count; i++) MUST(front_ask(front, &sent[i]));
+}
+
+// Returns a region of one page, far from the others.
+static struct area page_of(unsigned i) {
+  uint64_t at = (UINT64_C(1) << 40) + 2 * PAGE * (uint64_t)i;
+  return (struct area){at, PAGE, at, PAGE * (uint64_t)(i % 16)};
+}
+
+void test_slots(void) {
+  for (unsigned number = 0; number < WAYS; number += 3) {
+    struct disks disks;
+    struct front front;
+    struct sent sent;
+    begin(&front, &disks, number);
+    agree(&front);
+    MUST(write_block(&front) && has_block(&front));
+    for (unsigned i = 0; i < MOST_REGIONS - 2; i++) {
+      // In an order that isn't that of the addresses.
+      front_region(&front, &sent, ADD_MEM_REG, page_of(i * 100 % (MOST_REGIONS - 2)));
+      MUST(front_ask(&front, &sent));
+    }
+    front_region(&front, &sent, ADD_MEM_REG, page_of(MOST_REGIONS));
+    MUST(!front_ask(&front, &sent) && is_ready(&front, 2));
+    front_region(&front, &sent, REM_MEM_REG, page_of(MOST_REGIONS));
+    MUST(!front_ask(&front, &sent));
+    for (unsigned i = 0; i < MOST_REGIONS - 2; i += 2) {
+      front_region(&front, &sent, REM_MEM_REG, page_of(i));
+      MUST(front_ask(&front, &sent));
+    }
+    MUST(has_block(&front) && front.session.backend.memory.count == 2 + (MOST_REGIONS - 2) / 2);
+    // The rings are gone for a time.
+    for (unsigned i = 0; i < 2; i++) {
+      front_region(&front, &sent, i ? ADD_MEM_REG : REM_MEM_REG, front_half(&front, 0));
+      MUST(front_ask(&front, &sent));
+    }
+    MUST(has_block(&front) && is_ready(&front, 4));
+    end(&front, &disks);
+  }
+}
+
+void test_regions(void) {
+  // What is added to the first page's addresses, its size and its place, and whether it is taken then.
+  static const struct {
+    struct area more;
+    bool taken;
+  } tries[] = {{{0, 0, 0, 0}, true},          {{2048, 0, 0, 0}, false}, {{0, 0, 8, 0}, false},       {{0, 0, 0, 512}, false},
+               {{0, UINT64_MAX, 0, 0}, true}, {{0, 1, 0, 0}, true},     {{0, 0, 0, 1 << 23}, false}, {{0, 0 - (uint64_t)PAGE, 0, 0}, false}};
+  for (unsigned number = 0; number < WAYS; number += 3) {
+    struct disks disks;
+    struct front front;
+    struct sent sent;
+    struct area it;
+    begin(&front, &disks, number);
+    agree(&front);
+    for (unsigned i = 0; i < sizeof tries / sizeof *tries; i++) {
+      const struct area *more = &tries[i].more;
+      it = page_of(i);
+      it = (struct area){it.guest + more->guest, it.size + more->size, it.user + more->user, it.place + more->place};
+      front_region(&front, &sent, ADD_MEM_REG, it);
+      MUST(front_ask(&front, &sent) == tries[i].taken);
+    }
+    it = (struct area){UINT64_C(0) - 2 * PAGE, PAGE, UINT64_C(1) << 62, 0};
+    front_region(&front, &sent, ADD_MEM_REG, it);
+    MUST(front_ask(&front, &sent) && write_block(&front) && has_block(&front));
+    MUST(front.session.backend.shadow);
+    end(&front, &disks);
+  }
+}
+
+void test_short(void) {
+  // Where the memory then ends: before a request, and before the rings.
+  static const off_t ends[] = {0x100000, 0};
+  for (unsigned number = 0; number < 2 * WAYS; number++) {
+    struct disks disks;
+    struct front front;
+    uint32_t length;
+    begin(&front, &disks, number % WAYS);
+    MUST(!fcntl(front.memory_fd, F_ADD_SEALS, F_SEAL_SEAL));
+    front_agree(&front);
+    MUST(write_block(&front));
+    const struct part parts[] = {{0x200000, 51, false}, {0x201000, 108, true}};
+    driver_put(&front, 2, parts, 2);
+    MUST(!ftruncate(front.memory_fd, ends[number / WAYS]) && write(front.kick[2], &(uint64_t){1}, 8) == 8);
+    pump(&front);
+    MUST(!front.alive);
+    // As long as before, so that the test itself may look at it.
+    MUST(!ftruncate(front.memory_fd, GUEST_BYTES) && (number < WAYS || !driver_take(&front, 3, &length)));
+    front_end(&front);
+    front_begin(&front, &disks, way_of(number % WAYS));
+    front_agree(&front);
+    MUST(has_block(&front));
+    // This memory the daemon keeps from that.
+    MUST(ftruncate(front.memory_fd, HALF) && is_ready(&front, 2));
+    end(&front, &disks);
+  }
+}
+
+void test_forms(void) {
+  static struct sent sent[MOST_SENT];
+  static const uint32_t bases[] = {0x80008000, 0x00010000, 0x7fff8000};
+  for (unsigned i = 0; i < sizeof bases / sizeof *bases; i++) {
+    struct disks disks;
+    struct front front;
+    begin(&front, &disks, 8 * (i % 2));
+    size_t count = front_set_up(&front, sent, bases[i]);
+    for (size_t n = 2; n < count; n++) {
+      if (n == 3 || n == 6) continue;  // these have replies of their own
+      bool is_kick = little_get(sent[n].bytes, 4) == SET_VRING_KICK;
+      MUST(front_ask(&front, &sent[n]) == !is_kick && front.alive);
+    }
+    end(&front, &disks);
+  }
+}
+
+void test_stale(void) {
+  static const struct part parts[] = {{0x300000, 16, true}, {0x300010, 16, true}, {0x300020, 16, true}};
+  for (unsigned number = 1; number < WAYS; number += 2) {
+    struct disks disks;
+    struct front front;
+    struct driver_queue *queue = &front.queues[EVENT_QUEUE];
+    if (way_of(number).indirect) continue;
+    begin(&front, &disks, number);
+    front_agree(&front);
+    MUST(is_ready(&front, 2));
+    // All descriptors of the ring are taken, by six chains.
+    for (unsigned i = 0; i < 6; i++) driver_put(&front, EVENT_QUEUE, parts, i < 5 ? 3 : 1);
+    driver_kick(&front, EVENT_QUEUE);
+    pump(&front);
+    MUST(queue->next == 0 && !queue->next_wrap);
+    // The first one is made available once more, though the device has it.
+    little_put(front.memory + place_of(EVENT_QUEUE, 0) + 14, FLAG_USED | FLAG_WRITE, 2);
+    driver_kick(&front, EVENT_QUEUE);
+    pump(&front);
+    MUST(front.alive && is_ready(&front, 2));
+    end(&front, &disks);
+  }
+}
+
+void test_kicks(void) {
+  for (unsigned number = 0; number < WAYS; number++) {
+    struct disks disks;
+    struct front front;
+    struct sent sent;
+    struct epoll_event event = {.events = EPOLLIN};
+    uint32_t length;
+    begin(&front, &disks, number);
+    front_agree(&front);
+    MUST(is_ready(&front, 2));
+    // An epoll descriptor is never read, and has something to say for ever.
+    int other = epoll_create1(EPOLL_CLOEXEC);
+    MUST(!epoll_ctl(other, EPOLL_CTL_ADD, front.call[0], &event) && write(front.call[0], &(uint64_t){1}, 8) == 8);
+    front_descriptor(&sent, SET_VRING_KICK, 2, other);
+    MUST(front_ask(&front, &sent));
+    for (unsigned i = 0; i < 4; i++) turn(&front);
+    MUST(epoll_wait(front.epoll, &event, 1, 0) == 0 && !front.session.more);
+    close(other);
+    // Without a kick the daemon looks by itself.
+    front_descriptor(&sent, SET_VRING_KICK, 3, -1);
+    MUST(front_ask(&front, &sent));
+    put_request(&front, 0x200000, ready, sizeof ready);
+    const struct part parts[] = {{0x200000, 51, false}, {0x201000, 108, true}};
+    driver_put(&front, 3, parts, 2);
+    bool answered = false;
+    for (uint64_t begun = clock_now(); !answered && clock_now() - begun < PATIENCE; usleep(200)) {
+      turn(&front);
+      answered = driver_next(&front, 3, 2, &length);
+    }
+    MUST(answered && front.memory[0x201000 + 10] == 0);
+    // Once in a millisecond at most.
+    unsigned looks = 0;
+    uint64_t begun = clock_now();
+    while (clock_now() - begun < 50) looks += epoll_wait(front.epoll, &event, 1, 0) > 0 ? (turn(&front), 1u) : 0u;
+    MUST(looks > 2 && looks <= 51);
+    end(&front, &disks);
+  }
+}
+
+void test_reset(void) {
+  for (unsigned number = 0; number < WAYS; number++) {
+    static struct sent sent[MOST_SENT];
+    struct disks disks;
+    struct front front;
+    uint64_t told;
+    begin(&front, &disks, number);
+    front_agree(&front);
+    MUST(write_block(&front));
+    front_say(&front, RESET_DEVICE, 0);
+    pump(&front);
+    memset(front.memory, 0, GUEST_BYTES);
+    for (unsigned q = 0; q < QUEUES; q++) front.queues[q] = (struct driver_queue){.next_wrap = true, .seen_wrap = true};
+    uint8_t payload[8];
+    MUST(front_reply(&front, payload, sizeof payload) == 8 && little_get(payload, 8) == 0);
+    size_t count = front_set_up(&front, sent, 0);
+    for (size_t i = FIRST_OF_RINGS - 1; i < count; i++) {
+      uint64_t request = little_get(sent[i].bytes, 4);
+      MUST(request == SET_VRING_CALL || request == SET_VRING_ERR || front_ask(&front, &sent[i]));
+    }
+    MUST(has_block(&front));
+    // A chain with a readable part behind a writable one.
+    const struct part parts[] = {{0x200000, 51, true}, {0x201000, 108, false}};
+    driver_put(&front, 4, parts, 2);
+    driver_kick(&front, 4);
+    pump(&front);
+    MUST(front.alive && read(front.err[4], &told, sizeof told) == sizeof told);
+    end(&front, &disks);
+  }
+}
+
+void test_refused(void) {
+  for (unsigned number = 0; number < WAYS; number++) {
+    struct disks disks;
+    struct front front;
+    uint32_t length;
+    begin(&front, &disks, number);
+    front_agree(&front);
+    MUST(write_block(&front));
+    put_request(&front, 0x200000, ready, sizeof ready);
+    const struct part parts[] = {{0x200000, 51, false}, {0x201000, 108, true}};
+    driver_put(&front, 3, parts, 2);
+    driver_kick(&front, 3);
+    faults.refusals = 2;
+    bool answered = false;
+    for (uint64_t begun = clock_now(); !answered && clock_now() - begun < PATIENCE; usleep(200)) {
+      turn(&front);
+      answered = driver_next(&front, 3, 2, &length);
+    }
+    MUST(answered && front.alive && !faults.refusals && front.memory[0x201000 + 10] == 0);
+    MUST(has_block(&front));
+    end(&front, &disks);
+  }
+}

@@ -1,0 +1,32 @@
+// Tests of what a front end does beside requests: it changes its memory, starts and stops queues, and gives descriptors.
+#ifndef DAEMON_TEST_SESSIONS_H
+#define DAEMON_TEST_SESSIONS_H
+
+// Memory whose regions change their places under a device that stands.
+void test_moved(void);
+
+// Regions that are added and removed one by one, up to the most there may be.
+void test_slots(void);
+
+// Regions that aren't aligned, and one at the end of all addresses.
+void test_regions(void);
+
+// Memory that becomes shorter while it is in use, and memory that can be kept from that.
+void test_short(void);
+
+// Bases of the other form than was agreed on.
+void test_forms(void);
+
+// Descriptors that are stale, behind a packed queue that is full.
+void test_stale(void);
+
+// Kicks that can't be read, and queues that have none.
+void test_kicks(void);
+
+// A reset, behind which the front end gives some descriptors no more.
+void test_reset(void);
+
+// A device that is refused memory for a time.
+void test_refused(void);
+
+#endif
