@@ -103,7 +103,7 @@ static bool is_unmapped(const struct backlog *backlog, uint64_t first, uint32_t 
 }
 
 // Copies blocks out of the device, or out of the disk's own value where no device has it.
-static bool copy_out(struct device *device, const struct disks *disks, size_t which, uint64_t first, uint32_t count, uint8_t *into) {
+static bool copy_out(struct device *device, struct disks *disks, size_t which, uint64_t first, uint32_t count, uint8_t *into) {
   const struct disk *disk = &disks->disks[which];
   bool copied = device->live ? device_blocks(device, disk->target, disk->lun, first, count, into)
                              : store_save(&disks->stores[which], first, count, into);

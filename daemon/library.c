@@ -8,7 +8,7 @@ bool store_load(struct vscsi_disk *store, uint64_t first, uint32_t count, const 
   return vscsi_disk_load(store, first, count, bytes, (size_t)count * DEVICE_BLOCK) == VSCSI_DONE;
 }
 
-bool store_save(const struct vscsi_disk *store, uint64_t first, uint32_t count, void *into) {
+bool store_save(struct vscsi_disk *store, uint64_t first, uint32_t count, void *into) {
   return vscsi_disk_save(store, first, count, into, (size_t)count * DEVICE_BLOCK) == VSCSI_DONE;
 }
 

@@ -18,7 +18,7 @@ struct device {
 // Makes a disk of zeros, puts blocks over some of its own, copies some out, lets go of it, and tells whether there is one.
 bool store_make(struct vscsi_disk *store, uint64_t blocks);
 bool store_load(struct vscsi_disk *store, uint64_t first, uint32_t count, const void *bytes);
-bool store_save(const struct vscsi_disk *store, uint64_t first, uint32_t count, void *into);
+bool store_save(struct vscsi_disk *store, uint64_t first, uint32_t count, void *into);
 void store_drop(struct vscsi_disk *store);
 bool store_stands(const struct vscsi_disk *store);
 
