@@ -103,11 +103,14 @@ static bool run_queues(struct backend *backend, uint32_t queues) {
   return true;
 }
 
-// Control requests come last: a driver made them available behind the requests that they are about.
-static bool run(struct backend *backend) { return run_queues(backend, ALL_QUEUES & ~CONTROL) && run_queues(backend, ALL_QUEUES); }
+// Has the device run the round. Control requests come last: a driver made them available behind the requests that they are about.
+static bool run(struct backend *backend) {
+  bool has_control = backend->queues[0].ring.outstanding;
+  return run_queues(backend, ALL_QUEUES & ~CONTROL) && (!has_control || run_queues(backend, ALL_QUEUES));
+}
 
-// Has the round wait, each time for twice as long.
-static enum served wait(struct backend *backend) {
+// Puts the round off, each time for twice as long.
+static enum served put_off(struct backend *backend) {
   backend->pause = !backend->pause ? LEAST_PAUSE : backend->pause > MOST_PAUSE / 2 ? MOST_PAUSE : 2 * backend->pause;
   backend->due = clock_now() + backend->pause;
   return LATER;
@@ -116,11 +119,11 @@ static enum served wait(struct backend *backend) {
 // Runs the round on, until its answers may be shown. Returns SERVED then.
 static enum served go_on(struct backend *backend) {
   if (backend->phase == RUNNING) {
-    if (!run(backend)) return wait(backend);
+    if (!run(backend)) return put_off(backend);
     backend->phase = WRITING;
   }
   enum kept kept = blocks_keep(&backend->device, backend->disks);
-  if (kept == STUCK) return wait(backend);
+  if (kept == STUCK) return put_off(backend);
   backend->pause = 0;
   if (kept == KEEPING) return BUSY;
   backend->phase = FETCHING;
@@ -150,7 +153,7 @@ enum served backend_serve(struct backend *backend, uint32_t queues, uint32_t *ow
   if (backend->phase == FETCHING) {
     backend->starved = false;
     if (!(backend->shadow ? shadow_fetch : direct_fetch)(backend, queues, why, room)) return FAILED;
-    if (backend->starved && !backend->shadow) return wait(backend);
+    if (backend->starved && !backend->shadow) return put_off(backend);
     backend->phase = RUNNING;
   }
   enum served served = go_on(backend);
@@ -158,5 +161,5 @@ enum served backend_serve(struct backend *backend, uint32_t queues, uint32_t *ow
   if (!(backend->shadow ? shadow_complete : direct_complete)(backend, why, room)) return FAILED;
   publish(backend, owed);
   bool more = ask(backend, queues);
-  return backend->starved ? wait(backend) : more ? MORE : SERVED;
+  return backend->starved ? put_off(backend) : more ? MORE : SERVED;
 }

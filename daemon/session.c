@@ -307,7 +307,7 @@ static bool is_polled(const struct session *session) {
 }
 
 // Sets the timer to when the session is to be served again with no other cause, if it is.
-static void wait(const struct session *session, enum served served) {
+static void set_next(const struct session *session, enum served served) {
   if (served == LATER) {
     uint64_t now = clock_now(), due = session->backend.due;
     set_timer(session, due > now ? due - now : 1);
@@ -344,7 +344,7 @@ static bool serve(void *with) {
   tell_files(session);
   if (served == FAILED) return log_say(LOG_ERROR, NULL, "the session ends: %s", why), false;
   session->more = served == MORE || served == BUSY;
-  wait(session, served);
+  set_next(session, served);
   if (!session->is_waiting || is_busy(session)) return true;
   session->is_waiting = false;
   return finish(session, &session->waiting) && read_on(session);
