@@ -13,19 +13,19 @@ FOLDER = ROOT / "out/c"
 HEADER = ROOT / "crates/vscsi_c/include"
 
 
-def compiled(folder, name, *words):
-    """A program, built anew."""
+def compiled(folder, name, *words, guest="bench"):
+    """A program of a guest of examples/c, built anew."""
     program = folder / name
-    subprocess.run(["cc", "-std=c11", "-O2", f"-I{folder}", ROOT / "examples/c/bench.c", *words, "-o", program], check=True)
+    subprocess.run(["cc", "-std=c11", "-O2", f"-I{folder}", ROOT / f"examples/c/{guest}.c", *words, "-o", program], check=True)
     return program
 
 
-def built(folder=FOLDER):
-    """The benchmark over the library."""
+def built(folder=FOLDER, guest="bench"):
+    """The benchmark, or another guest, over the library."""
     archive = folder / "libvscsi.a"
     if not archive.exists():
         sys.exit(f"there is no {archive}: tools/c_library builds it")
-    return compiled(folder, "bench", archive)
+    return compiled(folder, guest, archive, guest=guest)
 
 
 def floors(folder=FOLDER):

@@ -1,5 +1,6 @@
 //! The buffers of the event queue that the device holds.
 
+use crate::buffer::EventBuffer;
 use ring_core::Chain;
 use scsi_codec::{EVENT_BYTES, EVENTS_MISSED, Event, write_event};
 use std::alloc::{AllocError, Global};
@@ -9,23 +10,21 @@ use std::marker::Model;
 /// The buffers of the event queue that the device holds, oldest first, and whether an event was missed since one came.
 #[derive(Drop)]
 pub struct EventPort {
-    buffers: VecDeque<Chain>,
+    buffers: VecDeque<EventBuffer>,
     missed: bool,
     limit: usize,
 }
 
 impl Model for EventPort {
     ghost use Rattle.std.specs.Prelude.{◌≤◌};
-    ghost use Rattle.std.specs.List.{All};
     ghost use Rattle.std.specs.VecDeque.{deque_capacity, deque_len};
-    ghost use Rattle.event_queue.specs.Port.{PlainPort, HoldsEvent};
+    ghost use Rattle.event_queue.specs.Port.{PlainPort};
 
     ghost Value = { PlainPort };
 
     ghost view = { λ p. record { buffers = p.buffers.items; missed = p.missed; limit = p.limit } };
 
-    ghost invariant = { λ p. (deque_len p.buffers ≤ p.limit) × (p.limit ≤ deque_capacity p.buffers)
-        × All (λ c. HoldsEvent c) p.buffers.items };
+    ghost invariant = { λ p. (deque_len p.buffers ≤ p.limit) × (p.limit ≤ deque_capacity p.buffers) };
 }
 
 ghost use Rattle.std.specs.Prelude.{◌≡◌};
@@ -80,24 +79,22 @@ impl EventPort {
         self.missed
     }
 
-    /// Returns the oldest buffer that it holds; `None` where it holds none. An event fits into it.
-    pub fn oldest(&self) -> Option<&Chain>
+    /// Returns the oldest buffer that it holds; `None` where it holds none.
+    pub fn oldest(&self) -> Option<&EventBuffer>
         ensures some { IfSome result (λ c. slice_get self.now.buffers 0 ≡ Some c.now) }
         ensures none { result ≡ None → self.now.buffers ≡ [] }
-        ensures room { IfSome result (λ c. HoldsEvent c.now) }
     {
         self.buffers.front()
     }
 
     /// Raises an event: the oldest buffer goes back with its bytes, or the event is missed, where none is held.
-    pub fn raise(&mut self, event: &Event) -> Option<(Chain, [u8; EVENT_BYTES])>
+    pub fn raise(&mut self, event: &Event) -> Option<(EventBuffer, [u8; EVENT_BYTES])>
         requires { ForSome event.now.address (λ a. a.lun < 16384) }
         ensures gives { result ≡ gives (Happening.Raised event.now) self.old }
         ensures port { self.new ≡ after (Happening.Raised event.now) self.old }
-        ensures room { IfSome result (λ given. HoldsEvent given.0) }
     {
         match self.buffers.pop_front() {
-            Some(chain) => Some((chain, write_event(event))),
+            Some(buffer) => Some((buffer, write_event(event))),
             None => {
                 self.missed = true;
                 None
@@ -106,7 +103,7 @@ impl EventPort {
     }
 
     /// Takes a buffer, into which an event fits. If an event was missed since a buffer last came, the buffer goes back
-    /// at once and tells so. Else it is held. The caller sees to it that there is room.
+    /// at once and tells so. Else it is held, as an `EventBuffer`. The caller sees to it that there is room.
     pub fn buffer(&mut self, chain: Chain) -> Option<(Chain, [u8; EVENT_BYTES])>
         requires room { length self.old.buffers < self.old.limit }
         requires fits { HoldsEvent chain }
@@ -117,7 +114,7 @@ impl EventPort {
             self.missed = false;
             return Some((chain, missed_bytes()));
         }
-        match self.buffers.push_back(chain) {
+        match self.buffers.push_back(EventBuffer::of(chain)) {
             Ok(()) => None,
             Err(_) => unreachable!(),
         }

@@ -9,7 +9,7 @@ ghost use Rattle.phases.specs.EventQueue.{FetchesEvent, RaisesNext, MayHold, Use
 
 use crate::slot::Slot;
 use block_store::NoMemory;
-use event_queue::{EventPort, WaitingEvents};
+use event_queue::{EventBuffer, EventPort, WaitingEvents};
 use guest_mem::GuestMem;
 use queues::{Fetch, Queue};
 use ring_core::{Chain, scatter};
@@ -26,6 +26,21 @@ fn use_with(queue: &mut Queue, memory: &mut GuestMem, chain: Chain, bytes: &[u8]
 {
     let len = scatter(memory, &chain, 0, bytes);
     let _answered = queue.complete(memory, chain, len);
+}
+
+/// Uses a buffer that was held with an event.
+fn use_held(
+    queue: &mut Queue,
+    memory: &mut GuestMem,
+    buffer: EventBuffer,
+    event: &[u8; EVENT_BYTES],
+)
+    requires fits { length memory.old ≡ queue.old.ring.memory }
+    requires owned { Owns queue.old.ring buffer }
+    ensures uses { UsesWith buffer event.now queue.old memory.old queue.new memory.new }
+    ensures size { length memory.new ≡ length memory.old }
+{
+    use_with(queue, memory, buffer.into_chain(), event);
 }
 
 /// Holds a chain of the event queue, or uses it at once: a short one with no byte, another where an event was missed.
@@ -87,7 +102,7 @@ fn may_raise(queue: &Queue, memory: &GuestMem, port: &EventPort) -> bool
     ensures { IsTrue result ↔ MayRaise port.now.buffers queue.now memory.now }
 {
     match port.oldest() {
-        Some(chain) => queue.may_complete(memory, chain),
+        Some(buffer) => queue.may_complete(memory, buffer.chain()),
         None => true,
     }
 }
@@ -114,8 +129,8 @@ pub fn phase_raise(
     waiting.pop();
     match port.raise(&event) {
         Some(given) => {
-            let (chain, bytes) = given;
-            use_with(queue, memory, chain, &bytes);
+            let (buffer, bytes) = given;
+            use_held(queue, memory, buffer, &bytes);
             true
         }
         None => true,

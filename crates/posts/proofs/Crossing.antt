@@ -24,7 +24,7 @@ use Rattle.bays.proofs.Crossing.{counted_unit_sends, books_sends, part_sends, qu
 use Rattle.guest_mem.proofs.memory.GuestMem.TheSendSync as memory
 use Rattle.posts.proofs.bell.Bell.TheSendSync as bell
 use Rattle.crossbeam_utils.proofs.cache_padded.CachePadded.TheSendSync as padded
-use Rattle.event_queue.proofs.port.EventPort.TheSendSync as port
+use Rattle.event_queue.proofs.Crossing.{port_sends}
 use Rattle.decisions.proofs.inventory.Inventory.TheSendSync as inventory
 use Rattle.std.proofs.option.Option.TheSendSync as option
 use Rattle.crossbeam_queue.proofs.array_queue.Slotted.TheSendSync as slotted
@@ -102,7 +102,7 @@ shared_syncs G C W c w gate = declared_sync (shared_type G C W c w) (
     (
       search (crosses, queue_sends),
       (
-        search (crosses, port.the_send),
+        search (crosses, port_sends),
         (
           inventory.the_sync,
           (
@@ -139,7 +139,7 @@ shared_sends G C W c w gate = declared_send (shared_type G C W c w) (
     (
       search (crosses, queue_sends),
       (
-        search (crosses, port.the_send),
+        search (crosses, port_sends),
         (
           inventory.the_send,
           (

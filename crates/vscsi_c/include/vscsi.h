@@ -229,7 +229,8 @@ enum vscsi_answer vscsi_destroy(struct vscsi *device);
 
 /* Serves all that the guest made available on all queues, until nothing is left to do, and counts the steps. Called when a
  * driver notified a queue, or whenever; where there is nothing to do it costs a look at each queue. The control and the
- * request queues then have no chain outstanding; event buffers are held until an event wants them. `steps` is optional.
+ * request queues then have no chain outstanding. Event buffers are held until an event wants them, at most as many as the
+ * event queue has descriptors; one takes at most 600 bytes, however long its chain is. `steps` is optional.
  *
  * A guest can keep this call busy for ever: its own requests may make chains available, as a READ whose data the guest has
  * written into a ring. A host whose guests aren't trusted, or that wants its thread back, uses vscsi_serve.
