@@ -149,16 +149,20 @@ impl Memory for GuestMem {
 
     ghost begins = { λ x y. y ≡ x };
 
+    #[inline(always)]
     fn begin(&mut self) {}
 
+    #[inline(always)]
     fn size(&self) -> u64 {
         GuestMem::size(self)
     }
 
+    #[inline(always)]
     fn read(&mut self, addr: u64, out: &mut [u8]) {
         out.copy_from_slice(self.range(addr, out.len()));
     }
 
+    #[inline(always)]
     fn append(&mut self, addr: u64, len: usize, out: &mut Vec<u8>) -> Result<(), AllocError> {
         out.extend_from_slice(self.range(addr, len))
     }
@@ -167,6 +171,7 @@ impl Memory for GuestMem {
 }
 
 impl WritableMemory for GuestMem {
+    #[inline(always)]
     fn write(&mut self, addr: u64, bytes: &[u8]) {
         self.put(addr, bytes);
     }
@@ -180,6 +185,7 @@ pub struct StillMem<'a> {
 
 impl<'a> StillMem<'a> {
     /// Lends a memory.
+    #[inline(always)]
     pub fn of(memory: &'a GuestMem) -> StillMem<'a>
         ensures { result.memory.now ≡ memory.now }
     {
@@ -196,16 +202,20 @@ impl<'a> Memory for StillMem<'a> {
 
     ghost begins = { λ x y. y ≡ x };
 
+    #[inline(always)]
     fn begin(&mut self) {}
 
+    #[inline(always)]
     fn size(&self) -> u64 {
         self.memory.size()
     }
 
+    #[inline(always)]
     fn read(&mut self, addr: u64, out: &mut [u8]) {
         out.copy_from_slice(self.memory.range(addr, out.len()));
     }
 
+    #[inline(always)]
     fn append(&mut self, addr: u64, len: usize, out: &mut Vec<u8>) -> Result<(), AllocError> {
         out.extend_from_slice(self.memory.range(addr, len))
     }

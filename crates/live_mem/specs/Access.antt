@@ -59,3 +59,7 @@ pub record LoadsThere (log new_log : List Access) (addr : ℕ) (out : List ℕ) 
   pub long : length fresh ≡ length out
   pub asked : new_log ≡ Loads addr fresh ∷ log
   pub are : (i : ℕ) → i < length out → get_or out i 0 ≡ loaded log (addr + i) (get_or fresh i 0)
+
+-- no load of the phase has the address
+abbrev pub WasNotRead : List Access → ℕ → Type 0
+WasNotRead log p = (d : ℕ) → loaded log p d ≡ d

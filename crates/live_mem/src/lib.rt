@@ -3,10 +3,12 @@
 
 mod bus;
 mod kept;
+mod laws;
 mod live;
 mod recorded;
 mod span;
 
 pub use bus::Bus;
+pub use laws::reads_what_the_bus_gave;
 pub use live::LiveMem;
 pub use recorded::RecordedBus;
