@@ -18,11 +18,12 @@
 #define IGNORED (UINT64_C(1) << 1 | UINT64_C(1) << 2)
 #define OFFERED_PROTOCOL (P_MQ | P_REPLY_ACK | P_CONFIG | P_RESET_DEVICE | P_CONFIGURE_MEM_SLOTS)
 
-// How often a session is served before others of the daemon's descriptors are looked at.
-enum { MOST_ROUNDS = 64, WHY = 200, REGION_BYTES = 32, SPACE_HEAD = 12, MOST_SPACE = 256 };
+// How many messages of a session are taken before others of the daemon's descriptors are looked at.
+enum { MOST_MESSAGES = 64, WHY = 200, REGION_BYTES = 32, SPACE_HEAD = 12, MOST_SPACE = 256 };
 
-// How often it is said that a file can't be written, and how often a ring is looked at that has no kick: milliseconds.
-enum { COMPLAINT = 60000, POLL = 1 };
+// Milliseconds: how often it is said that a file can't be written, and a ring is looked at that has no kick; and how long a session is
+// served before others of the daemon's descriptors are looked at, but for one round.
+enum { COMPLAINT = 60000, POLL = 1, LONGEST = 20 };
 
 static void say(const struct session *session, const char *what, const char *why) {
   if (!session->quiet) log_say(LOG_NOTE, NULL, "%s: %s", what, why);
@@ -221,7 +222,7 @@ bool session_is_owed(const struct session *session) { return !session->messages 
 static bool read_on(void *with) {
   struct session *session = with;
   // A front end that sends on and on has its rings served in between.
-  for (unsigned i = 0; i < MOST_ROUNDS && !session->is_waiting; i++) {
+  for (unsigned i = 0; i < MOST_MESSAGES && !session->is_waiting; i++) {
     struct message message = {0};
     enum read_answer answer = reader_next(&session->reader, session->socket, &message);
     if (answer != READ_MESSAGE) return answer == READ_WAITS;
@@ -336,7 +337,8 @@ static bool serve(void *with) {
   session->more = false;
   if (!backend->device.live && !make_device(session, queues)) return false;
   enum served served = backend->device.live ? MORE : SERVED;
-  for (unsigned i = 0; served == MORE && i < MOST_ROUNDS; i++) {
+  uint64_t until = clock_now() + LONGEST;
+  for (unsigned i = 0; served == MORE && (!i || clock_now() < until); i++) {
     owed = 0;
     served = backend_serve(backend, queues, &owed, why, sizeof why);
     notify(session, owed);
