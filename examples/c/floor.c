@@ -248,7 +248,7 @@ enum vscsi_answer vscsi_poke(struct vscsi *device, uint64_t addr, const void *by
   return VSCSI_DONE;
 }
 
-enum vscsi_answer vscsi_peek(const struct vscsi *device, uint64_t addr, void *into, size_t count) {
+enum vscsi_answer vscsi_peek(struct vscsi *device, uint64_t addr, void *into, size_t count) {
   if (!device->live) return VSCSI_NO_DEVICE;
   memcpy(into, area(addr, count), count);
   return VSCSI_DONE;

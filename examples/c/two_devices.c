@@ -73,7 +73,7 @@ static void send(struct host *host, unsigned number) {
 }
 
 // How many blocks are the guest's byte.
-static unsigned own(const struct host *host) {
+static unsigned own(struct host *host) {
   uint8_t bytes[BLOCKS * VSCSI_BLOCK];
   unsigned count = 0;
   must(vscsi_blocks(&host->device, 0, 0, 0, BLOCKS, bytes, sizeof bytes));

@@ -58,6 +58,8 @@ def step_of(words, place):
     if not words[0].endswith("/rattle") or "--crate-name" not in words:
         return None
     name = words[words.index("--crate-name") + 1]
+    if "/vscsi-edit-" in place:
+        return "picked", "edits"
     if "/rt-edit-" in place:
         return name, "edits"
     return name, "tests" if "--test" in words else "proof"

@@ -8,9 +8,13 @@
  * this library looks at its fields. What the device needs is taken from malloc by vscsi_create, and goes back by
  * vscsi_destroy, once, or never. Whatever else is passed to a call is looked at during that call alone.
  *
- * Which calls may run side by side. On one device none, not even those that only look (`const struct vscsi *`): the
- * caller orders them, and hands a device to another thread as it would hand over any memory. Devices have nothing in
- * common. No call is made from a signal handler, or by the child of a fork of a process with threads.
+ * `struct vscsi_disk` is the caller's, too. It may be moved by assignment: of its copies one alone is used from then on, and
+ * the others are let go unread. A disk that is destroyed, or that a device has, is none.
+ *
+ * Which calls may run side by side. On one device, and on one disk, none, not even those that only look
+ * (vscsi_peek, vscsi_disk_save): the caller orders them, and hands a device or a disk to another thread as it would hand over
+ * any memory. Devices and disks have nothing in common. No call is made from a signal handler, or by the child of a fork of a
+ * process with threads.
  *
  * What a call answers. One of `enum vscsi_answer`. Each call says below what else but VSCSI_DONE it may answer; then it
  * changed nothing, the room that it would write included, but for what is said of vscsi_settle, vscsi_serve and of the
@@ -18,9 +22,9 @@
  * run of no bytes, queues or units may be, and what is called optional below), and VSCSI_BAD_LENGTH where a length is
  * more than memory can have.
  *
- * What can't be checked, and is the caller's: a `struct vscsi` that isn't zeros and that no call left; a pointer to room
- * that is shorter than was said, or that another argument points into; two calls on one device at a time. Then anything
- * may happen.
+ * What can't be checked, and is the caller's: a `struct vscsi` or `struct vscsi_disk` that isn't zeros and that no call left;
+ * a copy of a disk that is used beside another; a pointer to room that is shorter than was said, or that another argument
+ * points into; two calls on one device or one disk at a time. Then anything may happen.
  *
  * Guest memory is one run of bytes that begins at guest address 0. The device has its own: what a guest wrote is copied
  * in by vscsi_poke, what the device wrote is copied out by vscsi_peek. docs/EMBEDDING.md says which bytes, and when.
@@ -164,13 +168,14 @@ struct vscsi_fault {
   uint32_t detail;
 };
 
-/* How much a unit did since its device was made. A number that passes 2^64 - 1 begins again at 0. Since 1.3. */
+/* How much a unit did since its device was made. A number that passes 2^64 - 1 begins again at 0. A command counts when it
+ * ran, and between two portions of vscsi_serve its answer may still be to come. Since 1.3. */
 struct vscsi_counts {
   uint64_t left;             /* requests that came to the unit, were answered and left it, whatever became of them */
   uint64_t full;             /* requests that were refused with TASK SET FULL (SAM-5, 5.3.1) */
-  uint64_t good;             /* commands that ran and were answered GOOD */
-  uint64_t check_conditions; /* commands that ran and were answered CHECK CONDITION */
-  uint64_t busy;             /* commands that were refused memory and answered BUSY */
+  uint64_t good;             /* commands that ran with status GOOD */
+  uint64_t check_conditions; /* commands that ran with status CHECK CONDITION */
+  uint64_t busy;             /* commands that were refused memory, with status BUSY */
   uint64_t data_out;         /* bytes that commands took from the driver */
   uint64_t data_in;          /* bytes that commands gave to the driver */
 };
@@ -249,37 +254,38 @@ enum vscsi_answer vscsi_settle(struct vscsi *device, uint64_t *steps);
 enum vscsi_answer vscsi_serve(struct vscsi *device, uint32_t queues, uint64_t most, uint64_t *steps, bool *more);
 
 /* Copies bytes into guest memory at an address.
- * VSCSI_NO_DEVICE; VSCSI_OUTSIDE where one would lie outside. */
+ * VSCSI_NO_DEVICE; VSCSI_OUTSIDE where one would lie outside, and of 0 bytes where the address lies behind the end. */
 enum vscsi_answer vscsi_poke(struct vscsi *device, uint64_t addr, const void *bytes, size_t count);
 
 /* Copies bytes of guest memory out.
- * VSCSI_NO_DEVICE; VSCSI_OUTSIDE where one lies outside. */
-enum vscsi_answer vscsi_peek(const struct vscsi *device, uint64_t addr, void *into, size_t count);
+ * VSCSI_NO_DEVICE; VSCSI_OUTSIDE where one lies outside, and of 0 bytes where the address lies behind the end. */
+enum vscsi_answer vscsi_peek(struct vscsi *device, uint64_t addr, void *into, size_t count);
 
 /* Whose drivers are owed a notification since this was last asked: bit 0 is queue 0. Asked after each vscsi_settle and
  * vscsi_serve, also after one that answered VSCSI_NO_MEMORY; the host then notifies the driver of each of these queues
  * (VIRTIO 1.2, 2.3).
  *
- * The device decides by the driver's flag as its own copy has it. A host that copies memory therefore looks at the flag
- * in the guest's memory once more, after it copied the used ring out there, and notifies where the driver has asked in
- * the meantime; or it notifies of every queue whose count of used chains rose (vscsi_progress), which is always right.
+ * The device decides by the driver's flag as its own copy has it, and with VSCSI_F_EVENT_IDX by `used_event` (a packed
+ * queue's event area) in its place. A host that copies memory therefore looks at that once more in the guest's memory, after
+ * it copied the used ring out there, and notifies where the driver has asked in the meantime (VIRTIO 1.2, 2.7.7.2, 2.8.10);
+ * or it notifies of every queue whose count of used chains rose (vscsi_progress), which is always right.
  * VSCSI_NO_DEVICE. */
 enum vscsi_answer vscsi_owed(struct vscsi *device, uint32_t *queues);
 
 /* The device's status: 64, DEVICE_NEEDS_RESET (VIRTIO 1.2, 2.1), where a guest broke a queue, else 0. The host sets that
  * bit in the status that the driver sees, and tells it by a configuration change notification.
  * VSCSI_NO_DEVICE. */
-enum vscsi_answer vscsi_status(const struct vscsi *device, uint8_t *status);
+enum vscsi_answer vscsi_status(struct vscsi *device, uint8_t *status);
 
 /* What broke a queue: an `enum vscsi_broken`. A broken queue takes no more chains; other queues go on. Nothing mends it
  * but a reset by the driver, for which the host destroys the device and makes another.
  * VSCSI_NO_DEVICE; VSCSI_NO_QUEUE. */
-enum vscsi_answer vscsi_broken(const struct vscsi *device, uint16_t queue, uint32_t *fault);
+enum vscsi_answer vscsi_broken(struct vscsi *device, uint16_t queue, uint32_t *fault);
 
 /* How many chains a queue took, and how many of them it gave back; both are optional. Modulo 2^16 these are a split queue's
  * position in the available ring and its used index.
  * VSCSI_NO_DEVICE; VSCSI_NO_QUEUE. */
-enum vscsi_answer vscsi_progress(const struct vscsi *device, uint16_t queue, uint64_t *accepted, uint64_t *used);
+enum vscsi_answer vscsi_progress(struct vscsi *device, uint16_t queue, uint64_t *accepted, uint64_t *used);
 
 /* The operator's hard reset of a unit: its tasks that haven't run end with response RESET, its next command is told
  * (29/00), and an event goes to the event queue. vscsi_settle or vscsi_serve does what follows.
@@ -296,16 +302,16 @@ enum vscsi_answer vscsi_resize(struct vscsi *device, uint8_t target, uint16_t lu
  * of the unit is counted nowhere: requests whose unit isn't there or that were malformed, and those that were answered BUSY since
  * memory was refused as they came to the unit. `size` is that of the structure. Takes no memory. Since 1.3.
  * The first of these, in this order, that is so: VSCSI_BAD_LENGTH where the size is another; VSCSI_NO_DEVICE; VSCSI_NO_UNIT. */
-enum vscsi_answer vscsi_counts(const struct vscsi *device, uint8_t target, uint16_t lun, struct vscsi_counts *counts, size_t size);
+enum vscsi_answer vscsi_counts(struct vscsi *device, uint8_t target, uint16_t lun, struct vscsi_counts *counts, size_t size);
 
 /* How many blocks a unit has.
  * VSCSI_NO_DEVICE; VSCSI_NO_UNIT. */
-enum vscsi_answer vscsi_capacity(const struct vscsi *device, uint8_t target, uint16_t lun, uint64_t *blocks);
+enum vscsi_answer vscsi_capacity(struct vscsi *device, uint8_t target, uint16_t lun, uint64_t *blocks);
 
 /* Copies blocks of a unit out, as its commands left them; `length` is `count` times 512.
  * The first of these, in this order, that is so: VSCSI_NO_DEVICE; VSCSI_BAD_LENGTH; VSCSI_NO_UNIT; VSCSI_OUTSIDE;
  * VSCSI_NO_MEMORY, never where `count` is 0. */
-enum vscsi_answer vscsi_blocks(const struct vscsi *device, uint8_t target, uint16_t lun, uint64_t first, uint32_t count, void *into,
+enum vscsi_answer vscsi_blocks(struct vscsi *device, uint8_t target, uint16_t lun, uint64_t first, uint32_t count, void *into,
                                size_t length);
 
 /* Tells which blocks of a unit may have changed, for a host that writes a disk through to a file: vscsi_serve, then this, then
@@ -345,7 +351,7 @@ enum vscsi_answer vscsi_disk_load(struct vscsi_disk *disk, uint64_t first, uint3
 /* Copies blocks of a disk out; `length` is `count` times 512. Since 1.2.
  * The first of these, in this order, that is so: VSCSI_NO_DISK; VSCSI_BAD_LENGTH; VSCSI_OUTSIDE; VSCSI_NO_MEMORY, never where
  * `count` is 0. */
-enum vscsi_answer vscsi_disk_save(const struct vscsi_disk *disk, uint64_t first, uint32_t count, void *into, size_t length);
+enum vscsi_answer vscsi_disk_save(struct vscsi_disk *disk, uint64_t first, uint32_t count, void *into, size_t length);
 
 /* The version of the library, as VSCSI_VERSION tells that of the header. */
 uint32_t vscsi_version(void);

@@ -40,10 +40,6 @@ uint32_t vscsi_raw_disk_save(struct vscsi_disk *disk, uint64_t first, uint32_t c
 /* Returns true if so many items of a size are more than memory has room for. */
 static bool is_long(size_t count, size_t size) { return count > PTRDIFF_MAX / size; }
 
-/* Returns the device of a call that only looks. An export takes the device out of where it stands and puts it back, so it
- * writes there; afterwards all is as it was. */
-static struct vscsi *looked_at(const struct vscsi *device) { return (struct vscsi *)(uintptr_t)device; }
-
 static const struct vscsi_queue no_queue = {0, 0, 0, 0};
 static const struct vscsi_unit no_unit = {0, 0, 0, 0};
 
@@ -109,29 +105,29 @@ enum vscsi_answer vscsi_poke(struct vscsi *device, uint64_t addr, const void *by
   return (enum vscsi_answer)vscsi_raw_poke(device, addr, bytes ? (const uint8_t *)bytes : &nothing, count);
 }
 
-enum vscsi_answer vscsi_peek(const struct vscsi *device, uint64_t addr, void *into, size_t count) {
+enum vscsi_answer vscsi_peek(struct vscsi *device, uint64_t addr, void *into, size_t count) {
   uint8_t nothing = 0;
   if (!device || (!into && count)) return VSCSI_NULL;
   if (is_long(count, 1)) return VSCSI_BAD_LENGTH;
-  return (enum vscsi_answer)vscsi_raw_peek(looked_at(device), addr, into ? (uint8_t *)into : &nothing, count);
+  return (enum vscsi_answer)vscsi_raw_peek(device, addr, into ? (uint8_t *)into : &nothing, count);
 }
 
 enum vscsi_answer vscsi_owed(struct vscsi *device, uint32_t *queues) {
   return device && queues ? (enum vscsi_answer)vscsi_raw_owed(device, queues) : VSCSI_NULL;
 }
 
-enum vscsi_answer vscsi_status(const struct vscsi *device, uint8_t *status) {
-  return device && status ? (enum vscsi_answer)vscsi_raw_status(looked_at(device), status) : VSCSI_NULL;
+enum vscsi_answer vscsi_status(struct vscsi *device, uint8_t *status) {
+  return device && status ? (enum vscsi_answer)vscsi_raw_status(device, status) : VSCSI_NULL;
 }
 
-enum vscsi_answer vscsi_broken(const struct vscsi *device, uint16_t queue, uint32_t *fault) {
-  return device && fault ? (enum vscsi_answer)vscsi_raw_broken(looked_at(device), queue, fault) : VSCSI_NULL;
+enum vscsi_answer vscsi_broken(struct vscsi *device, uint16_t queue, uint32_t *fault) {
+  return device && fault ? (enum vscsi_answer)vscsi_raw_broken(device, queue, fault) : VSCSI_NULL;
 }
 
-enum vscsi_answer vscsi_progress(const struct vscsi *device, uint16_t queue, uint64_t *accepted, uint64_t *used) {
+enum vscsi_answer vscsi_progress(struct vscsi *device, uint16_t queue, uint64_t *accepted, uint64_t *used) {
   uint64_t unread[2] = {0, 0};
   if (!device) return VSCSI_NULL;
-  return (enum vscsi_answer)vscsi_raw_progress(looked_at(device), queue, accepted ? accepted : &unread[0], used ? used : &unread[1]);
+  return (enum vscsi_answer)vscsi_raw_progress(device, queue, accepted ? accepted : &unread[0], used ? used : &unread[1]);
 }
 
 enum vscsi_answer vscsi_reset(struct vscsi *device, uint8_t target, uint16_t lun) {
@@ -142,21 +138,21 @@ enum vscsi_answer vscsi_resize(struct vscsi *device, uint8_t target, uint16_t lu
   return device ? (enum vscsi_answer)vscsi_raw_resize(device, target, lun, blocks) : VSCSI_NULL;
 }
 
-enum vscsi_answer vscsi_counts(const struct vscsi *device, uint8_t target, uint16_t lun, struct vscsi_counts *counts, size_t size) {
+enum vscsi_answer vscsi_counts(struct vscsi *device, uint8_t target, uint16_t lun, struct vscsi_counts *counts, size_t size) {
   if (!device || !counts) return VSCSI_NULL;
   if (size != sizeof *counts) return VSCSI_BAD_LENGTH;
-  return (enum vscsi_answer)vscsi_raw_counts(looked_at(device), target, lun, counts);
+  return (enum vscsi_answer)vscsi_raw_counts(device, target, lun, counts);
 }
 
-enum vscsi_answer vscsi_capacity(const struct vscsi *device, uint8_t target, uint16_t lun, uint64_t *blocks) {
-  return device && blocks ? (enum vscsi_answer)vscsi_raw_capacity(looked_at(device), target, lun, blocks) : VSCSI_NULL;
+enum vscsi_answer vscsi_capacity(struct vscsi *device, uint8_t target, uint16_t lun, uint64_t *blocks) {
+  return device && blocks ? (enum vscsi_answer)vscsi_raw_capacity(device, target, lun, blocks) : VSCSI_NULL;
 }
 
-enum vscsi_answer vscsi_blocks(const struct vscsi *device, uint8_t target, uint16_t lun, uint64_t first, uint32_t count, void *into, size_t length) {
+enum vscsi_answer vscsi_blocks(struct vscsi *device, uint8_t target, uint16_t lun, uint64_t first, uint32_t count, void *into, size_t length) {
   uint8_t nothing = 0;
   if (!device || (!into && length)) return VSCSI_NULL;
   if (is_long(length, 1)) return VSCSI_BAD_LENGTH;
-  return (enum vscsi_answer)vscsi_raw_blocks(looked_at(device), target, lun, first, count, into ? (uint8_t *)into : &nothing, length);
+  return (enum vscsi_answer)vscsi_raw_blocks(device, target, lun, first, count, into ? (uint8_t *)into : &nothing, length);
 }
 
 enum vscsi_answer vscsi_changed(struct vscsi *device, uint8_t target, uint16_t lun, uint64_t *place, struct vscsi_range *ranges, size_t room,
@@ -189,12 +185,11 @@ enum vscsi_answer vscsi_disk_load(struct vscsi_disk *disk, uint64_t first, uint3
   return (enum vscsi_answer)vscsi_raw_disk_load(disk, first, count, bytes ? (const uint8_t *)bytes : &nothing, length);
 }
 
-enum vscsi_answer vscsi_disk_save(const struct vscsi_disk *disk, uint64_t first, uint32_t count, void *into, size_t length) {
+enum vscsi_answer vscsi_disk_save(struct vscsi_disk *disk, uint64_t first, uint32_t count, void *into, size_t length) {
   uint8_t nothing = 0;
   if (!disk || (!into && length)) return VSCSI_NULL;
   if (is_long(length, 1)) return VSCSI_BAD_LENGTH;
-  struct vscsi_disk *looked = (struct vscsi_disk *)(uintptr_t)disk;
-  return (enum vscsi_answer)vscsi_raw_disk_save(looked, first, count, into ? (uint8_t *)into : &nothing, length);
+  return (enum vscsi_answer)vscsi_raw_disk_save(disk, first, count, into ? (uint8_t *)into : &nothing, length);
 }
 
 uint32_t vscsi_version(void) { return VSCSI_VERSION; }
