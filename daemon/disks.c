@@ -74,6 +74,8 @@ static bool take_word(const char **at, struct disk *disk) {
   return true;
 }
 
+static const char no_read_only[] = "ro: no command is answered DATA PROTECT yet. snapshot leaves the file alone, and loses what is written";
+
 // Takes all words of a disk.
 static bool take_disk(struct disk *disk, const char *at, char *why, size_t room) {
   uint64_t target, lun;
@@ -84,8 +86,7 @@ static bool take_disk(struct disk *disk, const char *at, char *why, size_t room)
   bool has_size = *at >= '0' && *at <= '9', stands = has_size ? size(&at, &disk->blocks) : take_word(&at, disk);
   while (stands && *at == ',') {
     at++;
-    if (!strcmp(at, "ro") || !strncmp(at, "ro,", 3))
-      return snprintf(why, room, "ro: no command is answered DATA PROTECT yet. snapshot leaves the file alone, and loses what is written"), false;
+    if (!strcmp(at, "ro") || !strncmp(at, "ro,", 3)) return snprintf(why, room, "%s", no_read_only), false;
     stands = take_word(&at, disk);
   }
   if (!stands || *at) return false;

@@ -36,7 +36,8 @@ bool disks_are_whole(const struct disks *disks);
 // Closes all images, and lets go of the blocks.
 void disks_close(struct disks *disks);
 
-// Reads whole blocks of a disk's file, or keeps them there. No reading begins once a signal that ends the daemon has come. Blocks of zeros become a hole of the file, where it can have some.
+// Reads whole blocks of a disk's file, or keeps them there. Blocks of zeros become a hole of the file, where it can have some. No reading
+// begins once a signal that ends the daemon has come.
 bool disk_read(const struct disk *disk, uint64_t first, uint32_t count, uint8_t *into);
 bool disk_write(struct disk *disk, uint64_t first, uint32_t count, const uint8_t *bytes);
 

@@ -4,12 +4,13 @@
 #include <fcntl.h>
 #include <linux/fs.h>
 #include <stdio.h>
-#include <stdlib.h>
 #include <string.h>
 #include <sys/file.h>
 #include <sys/ioctl.h>
 #include <sys/stat.h>
 #include <unistd.h>
+
+#include "folders.h"
 
 // Where QEMU's locks are (block/file-posix.c): who uses a permission has a byte of the first run locked for reading, and who doesn't
 // share it one of the second. WRITE_UNCHANGED (2) is shared by all.
@@ -35,15 +36,15 @@ static bool is_locked(int file, off_t at) {
 // Locks an image. Its blocks are read, and written where it isn't read only; others may read them, and mustn't write or resize it.
 static bool lock(const struct disk *disk, char *why, size_t room) {
   unsigned uses = 1u << CONSISTENT_READ | (disk->read_only ? 0 : 1u << WRITE | 1u << RESIZE), unshared = 1u << WRITE | 1u << RESIZE;
-  if (flock(disk->file, (disk->read_only ? LOCK_SH : LOCK_EX) | LOCK_NB)) return refuse(disk, errno == EWOULDBLOCK ? "in use" : NULL, why, room);
+  if (flock(disk->file, (disk->read_only ? LOCK_SH : LOCK_EX) | LOCK_NB)) return refuse(disk, errno == EAGAIN ? "in use" : NULL, why, room);
   for (unsigned i = 0; i < PERMISSIONS; i++) {
     if (uses >> i & 1 && !lock_byte(disk->file, USED + i)) return refuse(disk, NULL, why, room);
     if (unshared >> i & 1 && !lock_byte(disk->file, UNSHARED + i)) return refuse(disk, NULL, why, room);
   }
   // Both sides lock before they look, so of two at least one sees the other.
   for (unsigned i = 0; i < PERMISSIONS; i++) {
-    bool is_used = uses >> i & 1 && is_locked(disk->file, UNSHARED + i);
-    if (is_used || (unshared >> i & 1 && is_locked(disk->file, USED + i))) return refuse(disk, "in use, locked as QEMU's tools do", why, room);
+    bool is_denied = uses >> i & 1 && is_locked(disk->file, UNSHARED + i), is_used = unshared >> i & 1 && is_locked(disk->file, USED + i);
+    if (is_denied || is_used) return refuse(disk, "in use, locked as QEMU's tools do", why, room);
   }
   return true;
 }
@@ -89,12 +90,9 @@ bool images_open(struct disks *disks, char *why, size_t room) {
 
 // Waits until the entry of a new file stands in its folder.
 static bool sync_folder(const char *path) {
-  const char *slash = strrchr(path, '/');
-  char *folder = slash ? strndup(path, (size_t)(slash - path) + 1) : strdup(".");
-  int file = folder ? open(folder, O_RDONLY | O_DIRECTORY | O_CLOEXEC) : -1;
-  bool synced = file >= 0 && !fsync(file);
-  if (file >= 0) close(file);
-  free(folder);
+  int folder = folder_open(path, O_RDONLY);
+  bool synced = folder >= 0 && !fsync(folder);
+  if (folder >= 0) close(folder);
   return synced;
 }
 
@@ -113,7 +111,8 @@ bool images_make(struct disks *disks, uid_t user, gid_t group, char *why, size_t
     off_t wanted = (off_t)(disk->blocks * DEVICE_BLOCK);
     if (!disk->path || (disk->file >= 0 && disk->length == (uint64_t)wanted)) continue;
     if (disk->file < 0 && !make(disk, user, group, why, room)) return false;
-    if (ftruncate(disk->file, wanted) || fsync(disk->file) || (disk->made && !sync_folder(disk->path))) return refuse(disk, NULL, why, room);
+    bool stands = !ftruncate(disk->file, wanted) && !fsync(disk->file) && (!disk->made || sync_folder(disk->path));
+    if (!stands) return refuse(disk, NULL, why, room);
   }
   return true;
 }

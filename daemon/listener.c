@@ -3,7 +3,6 @@
 #include <errno.h>
 #include <fcntl.h>
 #include <stdio.h>
-#include <stdlib.h>
 #include <string.h>
 #include <sys/file.h>
 #include <sys/socket.h>
@@ -11,6 +10,8 @@
 #include <sys/un.h>
 #include <time.h>
 #include <unistd.h>
+
+#include "folders.h"
 
 // How often a folder's lock is tried, 50 ms apart, and how many connections wait to be looked at.
 enum { TRIES = 20, BACKLOG = 16 };
@@ -50,17 +51,14 @@ static bool is_free(const struct sockaddr_un *address, bool *stale, char *why, s
   return true;
 }
 
-// Opens the folder of a path, or answers -1 with errno.
+// Opens the folder of a path, which has to be writable. Returns -1, with errno, where it can't be.
 static int open_folder(const char *path) {
-  const char *slash = strrchr(path, '/');
-  char *folder = slash ? strndup(path, (size_t)(slash - path) + 1) : strdup(".");
-  int fd = folder ? open(folder, O_RDONLY | O_DIRECTORY | O_CLOEXEC) : -1;
-  if (fd >= 0 && faccessat(fd, ".", W_OK | X_OK, AT_EACCESS)) {
-    close(fd);
-    fd = -1;
-  }
-  free(folder);
-  return fd;
+  int fd = folder_open(path, O_RDONLY);
+  if (fd < 0 || !faccessat(fd, ".", W_OK | X_OK, AT_EACCESS)) return fd;
+  int error = errno;
+  close(fd);
+  errno = error;
+  return -1;
 }
 
 bool listener_can_bind(const char *path, char *why, size_t room) {
@@ -83,7 +81,8 @@ static bool lock_folder(int folder) {
 }
 
 // Binds under the folder's lock. The socket never has more of a mode than it is to have.
-static bool bind_locked(struct listener *listener, const struct sockaddr_un *address, int mode, uid_t user, gid_t group, char *why, size_t room) {
+static bool bind_locked(struct listener *listener, const struct sockaddr_un *address, int mode, uid_t user, gid_t group, char *why,
+                        size_t room) {
   bool stale;
   struct stat stat;
   const char *path = address->sun_path;
@@ -124,7 +123,8 @@ bool listener_take(struct listener *listener, int fd, char *why, size_t room) {
   struct sockaddr_un address;
   socklen_t room_there = sizeof address;
   listener->connected = !listens;
-  if (!listens && getpeername(fd, (struct sockaddr *)&address, &room_there)) return snprintf(why, room, "descriptor %d: no connection", fd), false;
+  bool is_loose = !listens && getpeername(fd, (struct sockaddr *)&address, &room_there);
+  if (is_loose) return snprintf(why, room, "descriptor %d: a socket that neither listens nor is connected", fd), false;
   int flags = fcntl(fd, F_GETFL);
   bool set = flags >= 0 && !fcntl(fd, F_SETFL, flags | O_NONBLOCK) && !fcntl(fd, F_SETFD, FD_CLOEXEC);
   return set || (snprintf(why, room, "descriptor %d: %s", fd, strerror(errno)), false);
@@ -133,8 +133,8 @@ bool listener_take(struct listener *listener, int fd, char *why, size_t room) {
 bool listener_close(struct listener *listener) {
   struct stat stat;
   bool gone = true;
-  if (listener->path && !lstat(listener->path, &stat) && S_ISSOCK(stat.st_mode) && stat.st_dev == listener->device && stat.st_ino == listener->inode)
-    gone = !unlinkat(AT_FDCWD, listener->path, 0);
+  bool is_there = listener->path && !lstat(listener->path, &stat) && S_ISSOCK(stat.st_mode);
+  if (is_there && stat.st_dev == listener->device && stat.st_ino == listener->inode) gone = !unlinkat(AT_FDCWD, listener->path, 0);
   int error = errno;
   if (listener->fd >= 0) close(listener->fd);
   *listener = (struct listener){.fd = -1};

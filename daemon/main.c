@@ -74,6 +74,8 @@ static void take_front_end(struct daemon *daemon) {
   // What a front end sent before it went is read first; the next one waits that long.
   if (daemon->connected && is_gone(session->socket)) return;
   int fd = accept4(daemon->listener.fd, NULL, NULL, SOCK_CLOEXEC | SOCK_NONBLOCK);
+  // Where the system has no descriptor left the connection waits, and so does the daemon.
+  if (fd < 0 && errno != EAGAIN && errno != EINTR) poll(NULL, 0, 10);
   if (fd < 0) return;
   bool is_silent = daemon->connected && !session->messages && daemon->owed_since && now() - daemon->owed_since >= PATIENCE;
   if (is_silent) end_session(daemon, "it said nothing, and another front end came");
@@ -112,7 +114,7 @@ static bool take_events(struct daemon *daemon, const struct epoll_event *events,
     if (came == SIGNAL_LOG) log_reopen();
     else if (what == EVENT_LISTENER) comes = true;
     else if (daemon->connected && what == EVENT_SOCKET) stands = session_read(&daemon->session) && stands;
-    else if (daemon->connected && what < EVENT_SOCKET) session_kicked(&daemon->session, what);
+    else if (daemon->connected && what < EVENT_SIGNAL) session_kicked(&daemon->session, what);
   }
   if (daemon->connected && stands && daemon->session.more) stands = session_serve(&daemon->session);
   if (daemon->connected && !stands) end_session(daemon, "the session is over");
@@ -147,9 +149,14 @@ static bool open_all(struct daemon *daemon, char *why, size_t room) {
   if (!images_open(&daemon->disks, why, room)) return false;
   bool stands = images_make(&daemon->disks, owner.user, owner.group, why, room) && blocks_load(&daemon->disks, why, room) &&
                 (!has_path || listener_bind(&daemon->listener, options->path, options->mode, owner.user, owner.group, why, room)) &&
-                sandbox_become(&owner, why, room) && (!options->seccomp || sandbox_limit_calls(has_path, options->log, why, room));
+                sandbox_become(&owner, why, room) && (!options->limits || sandbox_limit(options->path, options->log, why, room));
   if (!stands) images_undo(&daemon->disks);
   return stands;
+}
+
+static int refuse(const char *why) {
+  log_say(LOG_ERROR, NULL, "%s", why);
+  return REFUSED;
 }
 
 // Opens all and serves. Returns the status to end with.
@@ -157,18 +164,18 @@ static int run(struct daemon *daemon) {
   char why[WHY];
   daemon->signals = signals_begin();
   daemon->epoll = epoll_create1(EPOLL_CLOEXEC);
-  if (!sandbox_begin() || !watch(daemon->epoll, daemon->signals, EVENT_SIGNAL)) return log_say(LOG_ERROR, NULL, "%s", strerror(errno)), REFUSED;
+  if (!sandbox_begin() || !watch(daemon->epoll, daemon->signals, EVENT_SIGNAL)) return refuse(strerror(errno));
   if (!open_all(daemon, why, sizeof why)) {
     if (signals_end_waits()) return log_say(LOG_NOTE, NULL, "ended before it served"), 0;
-    return log_say(LOG_ERROR, NULL, "%s", why), REFUSED;
+    return refuse(why);
   }
-  const char *limited = daemon->options.seccomp ? "system calls are limited" : "system calls aren't limited";
-  log_say(LOG_NOTE, NULL, "serves %zu disks; %s", daemon->disks.count, limited);
+  const char *place = daemon->options.path ? daemon->options.path : "a descriptor";
+  log_say(LOG_NOTE, NULL, "serves %zu disks at %s; %s", daemon->disks.count, place, sandbox_limits());
   if (daemon->listener.connected) {
     begin_session(daemon, daemon->listener.fd);
     daemon->listener.fd = -1;
   } else if (!watch(daemon->epoll, daemon->listener.fd, EVENT_LISTENER)) {
-    return log_say(LOG_ERROR, NULL, "%s", strerror(errno)), REFUSED;
+    return refuse(strerror(errno));
   }
   bool served = serve(daemon);
   if (daemon->connected) end_session(daemon, "the daemon ends");

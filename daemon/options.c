@@ -33,7 +33,7 @@ static const char usage[] =
     "  --shadow             take shadow mode for every guest\n"
     "  --user NAME          run as this user once all is open\n"
     "  --group NAME         run as this group\n"
-    "  --seccomp on|off     limit system calls, where that is built in\n"
+    "  --seccomp on|off     limit what the process may do; on is the default\n"
     "  --log PATH           add lines to this file, in place of standard error\n"
     "  --quiet              say errors alone\n"
     "  --help, --version, --print-capabilities\n";
@@ -62,15 +62,16 @@ static bool number(const char *word, int base, long least, long most, const char
   char *end;
   errno = 0;
   long value = strtol(word, &end, base);
-  if (*word < '0' || *word > '9' || *end || errno || value < least || value > most) return fprintf(stderr, "%s, not %s\n", wanted, word), false;
+  bool is_number = *word >= '0' && *word <= '9' && !*end && !errno;
+  if (!is_number || value < least || value > most) return fprintf(stderr, "%s, not %s\n", wanted, word), false;
   *found = (int)value;
   return true;
 }
 
 static bool seccomp(struct options *options, const char *word) {
-  options->seccomp = !strcmp(word, "on");
-  if (!options->seccomp && strcmp(word, "off")) return fprintf(stderr, "--seccomp is on or off, not %s\n", word), false;
-  if (options->seccomp && !sandbox_has_seccomp()) return fputs("--seccomp on: this daemon is built without it\n", stderr), false;
+  options->limits = !strcmp(word, "on");
+  if (!options->limits && strcmp(word, "off")) return fprintf(stderr, "--seccomp is on or off, not %s\n", word), false;
+  if (options->limits && !sandbox_has_seccomp()) return fputs("--seccomp on: this daemon is built without it\n", stderr), false;
   return true;
 }
 
@@ -108,6 +109,10 @@ static bool is_whole(const struct options *options, const struct disks *disks) {
   if (!options->path == (options->fd < 0)) return fputs("say one of --socket PATH and --fd N\n", stderr), false;
   if (options->mode >= 0 && !options->path) return fputs("--mode is of the socket that --socket makes\n", stderr), false;
   if (!disks_are_whole(disks)) return fputs("there is no disk, or a target without LUN 0\n", stderr), false;
+  for (size_t i = 0; options->log && i < disks->count; i++) {
+    const char *image = disks->disks[i].path;
+    if (image && !strcmp(image, options->log)) return fprintf(stderr, "--log %s: a disk is kept there\n", image), false;
+  }
   return true;
 }
 
@@ -115,7 +120,7 @@ static bool print(const char *text) { return fputs(text, stdout) >= 0 && !fflush
 
 enum wanted options_read(struct options *options, struct disks *disks, int count, char **words) {
   int word;
-  *options = (struct options){.fd = -1, .mode = -1, .queues = MOST_REQUEST_QUEUES, .seccomp = sandbox_has_seccomp()};
+  *options = (struct options){.fd = -1, .mode = -1, .queues = MOST_REQUEST_QUEUES, .limits = true};
   while ((word = getopt_long(count, words, "", known, NULL)) != -1) {
     if (word == HELP) return print(usage) ? WANTED_NOTHING : WANTED_WRONG;
     if (word == CAPABILITIES) return print("{\"type\": \"scsi\", \"features\": []}\n") ? WANTED_NOTHING : WANTED_WRONG;

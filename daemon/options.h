@@ -10,7 +10,8 @@ struct options {
   int mode;          // of the socket at `path`, or below 0: as the umask leaves it
   const char *user, *group, *log;
   unsigned queues;
-  bool shadow, quiet, seccomp;
+  bool shadow, quiet;
+  bool limits;  // what the process may do
 };
 
 // What the command line wants: that the daemon runs; nothing more than what was printed; or it is wrong, and that was said.

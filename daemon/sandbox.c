@@ -9,13 +9,15 @@
 #include <string.h>
 #include <sys/prctl.h>
 #include <sys/resource.h>
+#include <sys/syscall.h>
 #include <unistd.h>
+
+#include "folders.h"
+#include "log.h"
 
 #ifdef DAEMON_SECCOMP
 #include <seccomp.h>
 #include <sys/mman.h>
-
-#include "log.h"
 #endif
 
 // Open files: each disk's, three a queue, a region of memory's each, and what came with a message.
@@ -66,49 +68,110 @@ bool sandbox_become(const struct owner *owner, char *why, size_t room) {
   return became;
 }
 
+// Which limits are set.
+static bool files_are_limited, calls_are_limited;
+
+const char *sandbox_limits(void) {
+  if (files_are_limited) return calls_are_limited ? "files and system calls are limited" : "files are limited, system calls aren't";
+  return calls_are_limited ? "system calls are limited, files aren't" : "neither files nor system calls are limited";
+}
+
+// Programs with sanitizers read files as they end.
+#if defined(SYS_landlock_create_ruleset) && !defined(__SANITIZE_ADDRESS__)
+#include <linux/landlock.h>
+
+// All that Linux 5.13 knows to be refused: what is done to files by their paths.
+#define HANDLED ((__u64)LANDLOCK_ACCESS_FS_MAKE_SYM * 2 - 1)
+
+// Allows something in the folder of a path.
+static bool allow_in(int rules, const char *path, __u64 access) {
+  if (!path) return true;
+  struct landlock_path_beneath_attr folder = {.allowed_access = access, .parent_fd = folder_open(path, O_PATH)};
+  if (folder.parent_fd < 0) return false;
+  bool allowed = !syscall(SYS_landlock_add_rule, rules, LANDLOCK_RULE_PATH_BENEATH, &folder, 0);
+  close(folder.parent_fd);
+  return allowed;
+}
+
+static bool limit_files(const char *socket, const char *log) {
+  const struct landlock_ruleset_attr handled = {.handled_access_fs = HANDLED};
+  // A kernel without Landlock, or where it is switched off.
+  if (syscall(SYS_landlock_create_ruleset, NULL, 0, LANDLOCK_CREATE_RULESET_VERSION) < 1) return true;
+  int rules = (int)syscall(SYS_landlock_create_ruleset, &handled, sizeof handled, 0);
+  files_are_limited = rules >= 0 && allow_in(rules, socket, LANDLOCK_ACCESS_FS_REMOVE_FILE) &&
+                      allow_in(rules, log, LANDLOCK_ACCESS_FS_WRITE_FILE | LANDLOCK_ACCESS_FS_MAKE_REG) &&
+                      !syscall(SYS_landlock_restrict_self, rules, 0);
+  int error = errno;
+  if (rules >= 0) close(rules);
+  errno = error;
+  return files_are_limited;
+}
+#else
+static bool limit_files(const char *socket, const char *log) {
+  (void)socket;
+  (void)log;
+  return true;
+}
+#endif
+
 #ifdef DAEMON_SECCOMP
 bool sandbox_has_seccomp(void) { return true; }
 
-// What serving takes: memory, time, the event loop, the socket and what front ends send by it, and the images, which are open.
+// What serving takes: memory and time, the event loop, the socket and what front ends send by it, the images, which are open, signals,
+// and the C library's own end of a process that is broken.
 static const int calls[] = {
     SCMP_SYS(brk), SCMP_SYS(munmap), SCMP_SYS(mremap), SCMP_SYS(madvise), SCMP_SYS(futex), SCMP_SYS(getrandom),
-    SCMP_SYS(clock_gettime), SCMP_SYS(gettimeofday), SCMP_SYS(clock_nanosleep), SCMP_SYS(nanosleep),
-    SCMP_SYS(timerfd_create), SCMP_SYS(timerfd_settime), SCMP_SYS(restart_syscall),
-    SCMP_SYS(epoll_ctl), SCMP_SYS(epoll_wait), SCMP_SYS(epoll_pwait), SCMP_SYS(poll), SCMP_SYS(ppoll),
-    SCMP_SYS(accept4), SCMP_SYS(recvmsg), SCMP_SYS(sendto), SCMP_SYS(sendmsg), SCMP_SYS(shutdown), SCMP_SYS(close),
-    SCMP_SYS(read), SCMP_SYS(write), SCMP_SYS(readv), SCMP_SYS(writev), SCMP_SYS(pread64), SCMP_SYS(pwrite64), SCMP_SYS(preadv), SCMP_SYS(pwritev),
-    SCMP_SYS(lseek), SCMP_SYS(fcntl), SCMP_SYS(fstat), SCMP_SYS(newfstatat), SCMP_SYS(fallocate), SCMP_SYS(ftruncate), SCMP_SYS(fsync),
-    SCMP_SYS(fdatasync), SCMP_SYS(rt_sigaction), SCMP_SYS(rt_sigprocmask), SCMP_SYS(rt_sigpending), SCMP_SYS(rt_sigreturn),
-    SCMP_SYS(getpid), SCMP_SYS(gettid), SCMP_SYS(exit), SCMP_SYS(exit_group)};
+    SCMP_SYS(clock_gettime), SCMP_SYS(gettimeofday), SCMP_SYS(clock_nanosleep), SCMP_SYS(timerfd_create), SCMP_SYS(timerfd_settime),
+    SCMP_SYS(epoll_ctl), SCMP_SYS(epoll_wait), SCMP_SYS(epoll_pwait), SCMP_SYS(poll), SCMP_SYS(ppoll), SCMP_SYS(restart_syscall),
+    SCMP_SYS(accept4), SCMP_SYS(recvmsg), SCMP_SYS(sendto), SCMP_SYS(close), SCMP_SYS(read), SCMP_SYS(write), SCMP_SYS(writev),
+    SCMP_SYS(pread64), SCMP_SYS(pwrite64), SCMP_SYS(lseek), SCMP_SYS(fcntl), SCMP_SYS(fstat), SCMP_SYS(newfstatat),
+    SCMP_SYS(fallocate), SCMP_SYS(fdatasync), SCMP_SYS(rt_sigaction), SCMP_SYS(rt_sigprocmask), SCMP_SYS(rt_sigpending),
+    SCMP_SYS(rt_sigreturn), SCMP_SYS(getpid), SCMP_SYS(gettid), SCMP_SYS(exit), SCMP_SYS(exit_group)};
 
-// Allows what depends on its arguments: memory that isn't run, the log's file opened as the log does, signals to itself.
+// Allows one call where an argument has these bits, of those of a mask.
+static int allow(scmp_filter_ctx filter, int call, unsigned argument, scmp_datum_t mask, scmp_datum_t bits) {
+  return seccomp_rule_add(filter, SCMP_ACT_ALLOW, call, 1, SCMP_CMP(argument, SCMP_CMP_MASKED_EQ, mask, bits));
+}
+
+// Allows what depends on arguments: memory that isn't run, signals to itself, and the log's file opened as the log does.
 static int allow_some(scmp_filter_ctx filter, bool unlinks, bool opens) {
-  int failed = seccomp_rule_add(filter, SCMP_ACT_ALLOW, SCMP_SYS(mmap), 1, SCMP_A2(SCMP_CMP_MASKED_EQ, PROT_EXEC, 0));
-  failed = failed ? failed : seccomp_rule_add(filter, SCMP_ACT_ALLOW, SCMP_SYS(mprotect), 1, SCMP_A2(SCMP_CMP_MASKED_EQ, PROT_EXEC, 0));
-  failed = failed ? failed : seccomp_rule_add(filter, SCMP_ACT_ALLOW, SCMP_SYS(tgkill), 1, SCMP_A0(SCMP_CMP_EQ, (scmp_datum_t)getpid()));
-  if (!failed && opens)
-    failed = seccomp_rule_add(filter, SCMP_ACT_ALLOW, SCMP_SYS(openat), 1, SCMP_A2(SCMP_CMP_MASKED_EQ, UINT32_MAX & ~(uint32_t)O_LARGEFILE, LOG_FLAGS));
+  const scmp_datum_t all = UINT32_MAX, flags = all & ~(scmp_datum_t)O_LARGEFILE;
+  int failed = allow(filter, SCMP_SYS(mmap), 2, PROT_EXEC, 0);
+  if (!failed) failed = allow(filter, SCMP_SYS(mprotect), 2, PROT_EXEC, 0);
+  if (!failed) failed = allow(filter, SCMP_SYS(tgkill), 0, all, (scmp_datum_t)getpid());
+  if (!failed && opens) failed = allow(filter, SCMP_SYS(openat), 2, flags, LOG_FLAGS);
   if (!failed && unlinks) failed = seccomp_rule_add(filter, SCMP_ACT_ALLOW, SCMP_SYS(unlinkat), 0);
   return failed;
 }
 
-bool sandbox_limit_calls(bool unlinks, bool opens, char *why, size_t room) {
+// Returns 0, or an error number below 0.
+static int limit_calls(bool unlinks, bool opens) {
   scmp_filter_ctx filter = seccomp_init(SCMP_ACT_KILL_PROCESS);
   int failed = filter ? 0 : -ENOMEM;
   for (size_t i = 0; !failed && i < sizeof calls / sizeof *calls; i++) failed = seccomp_rule_add(filter, SCMP_ACT_ALLOW, calls[i], 0);
-  failed = failed ? failed : allow_some(filter, unlinks, opens);
-  failed = failed ? failed : seccomp_load(filter);
+  if (!failed) failed = allow_some(filter, unlinks, opens);
+  if (!failed) failed = seccomp_load(filter);
   if (filter) seccomp_release(filter);
-  if (failed) snprintf(why, room, "system calls can't be limited: %s; --seccomp off leaves that out", strerror(-failed));
-  return !failed;
+  calls_are_limited = !failed;
+  return failed;
 }
 #else
 bool sandbox_has_seccomp(void) { return false; }
 
-bool sandbox_limit_calls(bool unlinks, bool opens, char *why, size_t room) {
+static int limit_calls(bool unlinks, bool opens) {
   (void)unlinks;
   (void)opens;
-  snprintf(why, room, "this daemon is built without seccomp");
-  return false;
+  return 0;
 }
 #endif
+
+bool sandbox_limit(const char *socket, const char *log, char *why, size_t room) {
+  const char *what = "files";
+  int failed = limit_files(socket, log) ? 0 : -errno;
+  if (!failed) {
+    what = "system calls";
+    failed = limit_calls(socket, log);
+  }
+  if (failed) snprintf(why, room, "%s can't be limited: %s; --seccomp off leaves that out", what, strerror(-failed));
+  return !failed;
+}
