@@ -28,6 +28,11 @@ def installed():
     return sorted(line.split()[0] for line in said.splitlines() if line.split()[1:] == ["ii"])
 
 
+def has_user():
+    """Says whether the daemon's user is there."""
+    return subprocess.run(["getent", "passwd", "vscsi"], capture_output=True).returncode == 0
+
+
 def judged(packages):
     """Has lintian look at the packages, where it is there, and compares the shared library's names with the symbols file."""
     if shutil.which("lintian"):
@@ -91,6 +96,7 @@ def run_all(packages):
     judged(packages)
     lines = [line for it in packages for line in done("dpkg-deb", "-c", it).splitlines()]
     files = {line.split(None, 5)[5] for line in lines if line.startswith("-")}
+    had_user = has_user()
     try:
         done("dpkg", "--install", *packages)
         if installed() != sorted(NAMES):
@@ -99,6 +105,9 @@ def run_all(packages):
         serves()
     finally:
         done("dpkg", "--purge", *NAMES)
+        # A package leaves its user, since files may be that user's. A trial has none.
+        if has_user() and not had_user:
+            done("userdel", "vscsi")
     left = [file for file in files if Path("/", file).exists()]
     if left or installed():
         trial.fail(f"left behind: {left} {installed()}")

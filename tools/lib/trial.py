@@ -83,15 +83,24 @@ def links(folder, room):
     print("examples/c/write_read over the shared and over the static library: as it should be")
 
 
-def answers(folder, room):
-    """Asks the daemon for its version, starts it, asks for its features, and ends it."""
-    printed, said, status = run(folder / "bin/vscsi-vhost-user", "--version")
+def tells(folder, room):
+    """Asks the daemon for its version and its words, which its manual page has, and gives it a user whom no service knows."""
+    program, page = folder / "bin/vscsi-vhost-user", folder / "share/man/man1/vscsi-vhost-user.1"
+    printed, said, status = run(program, "--version")
     if status or said or printed.split("\n")[0] != f"vscsi-vhost-user {versions.version()}":
         fail(f"bin/vscsi-vhost-user --version: status {status}, {printed}{said}")
-    known, page = run(folder / "bin/vscsi-vhost-user", "--help")[0], (folder / "share/man/man1/vscsi-vhost-user.1").read_text()
-    lacking = set(re.findall(r"--[a-z-]+", known)) - set(re.findall(r"--[a-z-]+", page.replace("\\-", "-")))
+    known = run(program, "--help")[0]
+    lacking = set(re.findall(r"--[a-z-]+", known)) - set(re.findall(r"--[a-z-]+", page.read_text().replace("\\-", "-")))
     if "--disk" not in known or lacking:
         fail(f"vscsi-vhost-user.1 lacks {sorted(lacking)}")
+    # A static program that asks the system's name services ends by a signal here.
+    printed, said, status = run(program, "--socket", room / "none", "--disk", "0:0=1M", "--user", "no-such-user")
+    if status != 1 or "no-such-user" not in said:
+        fail(f"bin/vscsi-vhost-user --user no-such-user: status {status}, {said}")
+
+
+def answers(folder, room):
+    """Starts the daemon, asks for its features, and ends it."""
     path = room / "socket"
     daemon = subprocess.Popen([folder / "bin/vscsi-vhost-user", "--socket", path, "--disk", "0:0=1M"], env=BARE, stderr=subprocess.PIPE)
     deadline = time.monotonic() + 20
@@ -187,6 +196,7 @@ def run_all(make):
         folder = unpacked(made, bare)
         plays(folder)
         links(folder, room)
+        tells(folder, room)
         answers(folder, room)
         needs(folder)
         formats(folder)
