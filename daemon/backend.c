@@ -5,10 +5,10 @@
 #include "bytes.h"
 #include "clock.h"
 
-// The most steps of one call of the library's, and of a round.
-enum { MOST_STEPS = 65536, MOST_ROUND_STEPS = 64 * MOST_STEPS };
-// How long a round waits that can't go on: milliseconds.
-enum { LEAST_PAUSE = 50, MOST_PAUSE = 5000 };
+// The most steps of one call of the library's, and of a round: twice what all queues' requests take where each ring is full.
+enum { MOST_STEPS = 512, MOST_ROUND_STEPS = 1 << 19 };
+// Milliseconds: how long a round runs before others of the daemon's descriptors are looked at, and how long it waits that can't go on.
+enum { PORTION = 20, LEAST_PAUSE = 50, MOST_PAUSE = 5000 };
 static const uint32_t ALL_QUEUES = UINT32_MAX, CONTROL = 1;
 
 bool backend_make(struct backend *backend, const struct vscsi_queue *queues, uint32_t pages, uint64_t features, char *why, size_t room) {
@@ -89,24 +89,30 @@ void backend_weigh(struct backend *backend, const uint8_t *request, size_t lengt
   if (weight > backend->heaviest) backend->heaviest = weight;
 }
 
-// Has the device serve these queues until nothing is left, and notes what that changed. Returns false where memory was refused.
-static bool run_queues(struct backend *backend, uint32_t queues) {
+// What came of running a round: nothing is left, something is, or memory was refused.
+enum ran { RAN, RUNS, REFUSED };
+
+// Has the device serve these queues until nothing is left or this time has come, and notes what that changed.
+static enum ran run_queues(struct backend *backend, uint32_t queues, uint64_t until) {
   bool kept = blocks_are_kept(backend->disks), more = true;
   // A step ends one command at the most. So the ranges of a call are never more than the library tells apart.
   uint64_t most = kept && backend->heaviest ? VSCSI_MOST_RANGES / backend->heaviest : MOST_STEPS;
   // A guest whose requests make chains available would keep this busy for ever. No other comes near the bound.
-  for (uint64_t steps = 0; more && steps < MOST_ROUND_STEPS; steps += most) {
+  while (more && backend->steps < MOST_ROUND_STEPS) {
     bool served = device_serve(&backend->device, queues, most, &more);
+    backend->steps += most;
     if (kept) blocks_note(&backend->device, backend->disks, backend->places);
-    if (!served) return false;
+    if (!served) return REFUSED;
+    if (more && clock_now() >= until) return RUNS;
   }
-  return true;
+  return RAN;
 }
 
 // Has the device run the round. Control requests come last: a driver made them available behind the requests that they are about.
-static bool run(struct backend *backend) {
-  bool has_control = backend->queues[0].ring.outstanding;
-  return run_queues(backend, ALL_QUEUES & ~CONTROL) && (!has_control || run_queues(backend, ALL_QUEUES));
+static enum ran run(struct backend *backend) {
+  uint64_t until = clock_now() + PORTION;
+  enum ran ran = run_queues(backend, ALL_QUEUES & ~CONTROL, until);
+  return ran == RAN && backend->queues[0].ring.outstanding ? run_queues(backend, ALL_QUEUES, until) : ran;
 }
 
 // Puts the round off, each time for twice as long.
@@ -119,7 +125,10 @@ static enum served put_off(struct backend *backend) {
 // Runs the round on, until its answers may be shown. Returns SERVED then.
 static enum served go_on(struct backend *backend) {
   if (backend->phase == RUNNING) {
-    if (!run(backend)) return put_off(backend);
+    enum ran ran = run(backend);
+    if (ran == REFUSED) return put_off(backend);
+    backend->pause = 0;
+    if (ran == RUNS) return BUSY;
     backend->phase = WRITING;
   }
   enum kept kept = blocks_keep(&backend->device, backend->disks);
@@ -155,6 +164,7 @@ enum served backend_serve(struct backend *backend, uint32_t queues, uint32_t *ow
     if (!(backend->shadow ? shadow_fetch : direct_fetch)(backend, queues, why, room)) return FAILED;
     if (backend->starved && !backend->shadow) return put_off(backend);
     backend->phase = RUNNING;
+    backend->steps = 0;
   }
   enum served served = go_on(backend);
   if (served != SERVED) return served;

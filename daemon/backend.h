@@ -37,6 +37,7 @@ struct backend {
   unsigned count;
   bool only_shadow, shadow, packed, event_index, indirect;
   enum phase phase;
+  uint64_t steps;         // that the device may have taken in the round
   unsigned heaviest;      // the most ranges that one command of the round changes
   unsigned pause;         // milliseconds until a round that can't go on is tried again, and the time of that
   uint64_t due;
@@ -46,7 +47,7 @@ struct backend {
   bool held[SLOTS];       // of shadow mode: event buffers
 };
 
-// What came of a call. MORE: another call is wanted. BUSY: the same, and the round's answers wait for files that are being written.
+// What came of a call. MORE: another call is wanted. BUSY: the same, and the round's answers wait, as the device runs or files are written.
 // LATER: another call is wanted at `due`. FAILED: `why` says what ended this; nothing that the disks don't have was shown to the
 // guest.
 enum served { SERVED, MORE, BUSY, LATER, FAILED };

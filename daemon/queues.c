@@ -1,5 +1,6 @@
 #include <fcntl.h>
 #include <sys/epoll.h>
+#include <sys/stat.h>
 #include <unistd.h>
 
 #include "bytes.h"
@@ -145,6 +146,9 @@ static bool with_descriptor(struct session *session, struct message *message, un
   bool none = number & NO_DESCRIPTOR;
   *q = (unsigned)(number & 0xff);
   if (number & ~UINT64_C(0x1ff) || *q >= session->backend.count || message->fd_count != !none) return false;
+  // A front end's own end of the connection would keep that open when the front end is gone.
+  struct stat stat;
+  if (!none && (fstat(message->fds[0], &stat) || S_ISSOCK(stat.st_mode))) return false;
   *fd = message_take(message, 0);
   // The daemon waits for nothing of a front end's.
   if (*fd >= 0) fcntl(*fd, F_SETFL, O_NONBLOCK | fcntl(*fd, F_GETFL));

@@ -51,7 +51,9 @@ enum vscsi_answer __real_vscsi_serve(struct vscsi *device, uint32_t queues, uint
 enum vscsi_answer __wrap_vscsi_serve(struct vscsi *device, uint32_t queues, uint64_t most, uint64_t *steps, bool *more);
 
 enum vscsi_answer __wrap_vscsi_serve(struct vscsi *device, uint32_t queues, uint64_t most, uint64_t *steps, bool *more) {
-  if (!faults.refusals) return __real_vscsi_serve(device, queues, most, steps, more);
-  faults.refusals--;
-  return VSCSI_NO_MEMORY;
+  if (faults.refusals) return faults.refusals--, VSCSI_NO_MEMORY;
+  enum vscsi_answer answer = __real_vscsi_serve(device, queues, most, steps, more);
+  *more = *more || faults.endless;
+  if (faults.endless) usleep(100);
+  return answer;
 }

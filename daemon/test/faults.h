@@ -11,6 +11,7 @@ struct faults {
   int sync_error;       // by which fdatasync fails, or 0; then what was written since it last went well is garbage
   unsigned bad_syncs;   // how many fail
   unsigned refusals;    // how many calls of vscsi_serve are refused memory
+  bool endless;         // vscsi_serve says that something is left
 };
 
 extern struct faults faults;

@@ -143,7 +143,7 @@ void test_whole(void) {
     struct disks disks;
     struct front front;
     uint8_t payload[8];
-    make_disk(&disks, "1G");
+    make_disk(&disks, "512M");
     begin(&front, &disks, number);
     put_write(&front, Q, 1, APART);
     // An UNMAP with more descriptors than are taken: any block may have changed.

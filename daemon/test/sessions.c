@@ -239,6 +239,10 @@ void test_kicks(void) {
     front_descriptor(&sent, SET_VRING_KICK, 2, other);
     MUST(front_ask(&front, &sent));
     for (unsigned i = 0; i < 4; i++) turn(&front);
+    // The front end's own end of the connection would keep that open.
+    struct sent wrong;
+    front_descriptor(&wrong, SET_VRING_CALL, 2, front.socket);
+    MUST(!front_ask(&front, &wrong) && front.alive);
     MUST(epoll_wait(front.epoll, &event, 1, 0) == 0 && !front.session.more);
     close(other);
     // Without a kick the daemon looks by itself.
@@ -257,7 +261,7 @@ void test_kicks(void) {
     unsigned looks = 0;
     uint64_t begun = clock_now();
     while (clock_now() - begun < 50) looks += epoll_wait(front.epoll, &event, 1, 0) > 0 ? (turn(&front), 1u) : 0u;
-    MUST(looks > 2 && looks <= 51);
+    MUST(looks && looks <= clock_now() - begun + 1);
     end(&front, &disks);
   }
 }
@@ -313,6 +317,35 @@ void test_refused(void) {
     }
     MUST(answered && front.alive && !faults.refusals && front.memory[0x201000 + 10] == 0);
     MUST(has_block(&front));
+    end(&front, &disks);
+  }
+}
+
+void test_endless(void) {
+  for (unsigned number = 0; number < WAYS; number += 5) {
+    struct disks disks;
+    struct front front;
+    uint32_t length;
+    uint8_t payload[8];
+    begin(&front, &disks, number);
+    front_agree(&front);
+    MUST(write_block(&front));
+    put_request(&front, 0x200000, ready, sizeof ready);
+    const struct part parts[] = {{0x200000, 51, false}, {0x201000, 108, true}};
+    driver_put(&front, 3, parts, 2);
+    driver_kick(&front, 3);
+    faults.endless = true;
+    turn(&front);
+    front_say(&front, GET_FEATURES, 0);
+    front_say(&front, GET_VRING_BASE, 4);
+    turn(&front);
+    MUST(front.alive && front.session.more && front_reply(&front, payload, sizeof payload) == 8 && !driver_next(&front, 3, 2, &length));
+    MUST(!front_reply(&front, payload, sizeof payload));
+    faults.endless = false;
+    pump(&front);
+    // The queue is stopped once the round's answers are shown.
+    MUST(driver_next(&front, 3, 2, &length) && front.memory[0x201000 + 10] == 0);
+    MUST(front_reply(&front, payload, sizeof payload) == 8 && little_get(payload, 4) == 4);
     end(&front, &disks);
   }
 }

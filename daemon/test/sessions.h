@@ -26,7 +26,8 @@ void test_kicks(void);
 // A reset, behind which the front end gives some descriptors no more.
 void test_reset(void);
 
-// A device that is refused memory for a time.
+// A device that is refused memory for a time, and one that always has something left to do.
 void test_refused(void);
+void test_endless(void);
 
 #endif
