@@ -1,3 +1,3 @@
 pub mod FirstPart
 pub mod Opening
-mod Own
+pub mod Own
