@@ -776,7 +776,7 @@ GUEST_BYTES, USER = 64 * MIB, 0x7F0000000000
 DESCRIPTORS, AVAILABLE, USED, REQUEST, ANSWER = 0x300000, 0x301000, 0x302000, 0x400000, 0x500000
 
 
-def set_up(front, memory, features=1 << 32 | 1 << 30):
+def set_up(front, memory):
     """Gives the daemon a guest's memory and three queues, of 1 MiB each from 1 MiB on. Gives the descriptor that kicks them all."""
     def say(request, *numbers, fd=None):
         there = [(socket.SOL_SOCKET, socket.SCM_RIGHTS, struct.pack("i", fd))] if fd is not None else []
@@ -784,7 +784,7 @@ def set_up(front, memory, features=1 << 32 | 1 << 30):
 
     kick = os.eventfd(0)
     say(SET_OWNER)
-    say(SET_FEATURES, features)
+    say(SET_FEATURES, 1 << 32 | 1 << 30)  # VERSION_1, and queues begin disabled
     say(SET_MEM_TABLE, 1, 0, GUEST_BYTES, USER, 0, fd=memory)
     for q in range(3):
         base = USER + MIB * (q + 1)
