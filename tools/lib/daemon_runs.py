@@ -197,7 +197,8 @@ def test_words(room):
              [*named, *disk, "--queues", "17"], [*named, *disk, "--queues", ""], [*named, *disk, "x"], [*named, *disk, "--x"],
              [*named, *disk, "--mode", "888"], [*named, *disk, "--mode", "1777"], [*named, *disk, "--fd", "3"], [*disk, "--fd", "1"],
              [*disk, "--fd", "3", "--mode", "600"], [*named, *disk, "--seccomp", "maybe"], [*named, "--disk", "0:0=1M,snapshot"],
-             [*named, "--disk", "0:0=1M,grow"], [*named, "--disk", "0:0=1M,file=x", "--log", "x"], [*named, "--disk", "0:0=file="], [*named, "--disk", "0:0=file=x,grow"]]
+             [*named, "--disk", "0:0=1M,grow"], [*named, "--disk", "0:0=1M,file=x", "--log", "x"],
+             [*named, "--disk", "0:0=file="], [*named, "--disk", "0:0=file=x,grow"]]
     for words in wrong:
         assert room.ends(*words, status=2) == ""
     usage = room.ends("--help", status=0)
@@ -767,6 +768,54 @@ def test_files_are_limited(room):
     assert tries("REMOVE", sockets / "file") == 100 and not (sockets / "file").exists()
     assert tries("ADD", other / "file", "--seccomp", "off") == 100
     return None
+
+
+SET_FEATURES, SET_MEM_TABLE = 2, 5
+SET_VRING_NUM, SET_VRING_ADDR, SET_VRING_BASE, SET_VRING_KICK, SET_VRING_ENABLE = 8, 9, 10, 12, 18
+GUEST_BYTES, USER = 64 * MIB, 0x7F0000000000
+DESCRIPTORS, AVAILABLE, USED, REQUEST, ANSWER = 0x300000, 0x301000, 0x302000, 0x400000, 0x500000
+
+
+def set_up(front, memory):
+    """Gives the daemon a guest's memory and three queues, of 1 MiB each from 1 MiB on. Gives the descriptor that kicks them all."""
+    def say(request, *numbers, fd=None):
+        there = [(socket.SOL_SOCKET, socket.SCM_RIGHTS, struct.pack("i", fd))] if fd is not None else []
+        front.sendmsg([message(request, struct.pack(f"<{len(numbers)}Q", *numbers))], there)
+
+    kick = os.eventfd(0)
+    say(SET_OWNER)
+    say(SET_FEATURES, 1 << 32 | 1 << 30)  # VERSION_1, and queues begin disabled
+    say(SET_MEM_TABLE, 1, 0, GUEST_BYTES, USER, 0, fd=memory)
+    for q in range(3):
+        base = USER + MIB * (q + 1)
+        say(SET_VRING_NUM, q | 16 << 32)
+        say(SET_VRING_BASE, q)
+        say(SET_VRING_ADDR, q, base, base + 0x2000, base + 0x1000, 0)
+        say(SET_VRING_KICK, q, fd=kick)
+        say(SET_VRING_ENABLE, q | 1 << 32)
+    return kick
+
+
+def test_serves_within_its_limits(room):
+    """A guest's request is answered with all limits on; a guest whose memory goes away under the daemon ends its own session alone."""
+    for words in ([], ["--shadow"]):
+        memory = os.memfd_create("guest")
+        os.ftruncate(memory, GUEST_BYTES)
+        with room.runs("--disk", f"0:0=1M,file={room.folder / 'disk.img'}", *words):
+            with connected(room.socket) as front:
+                kick = set_up(front, memory)
+                os.pwrite(memory, struct.pack("<QIHHQIHH", REQUEST, 51, 1, 1, ANSWER, 108, 2, 0), DESCRIPTORS)
+                os.pwrite(memory, struct.pack("<B7x", 1), REQUEST)  # LUN 0 of target 0: TEST UNIT READY
+                os.pwrite(memory, struct.pack("<HHH", 0, 1, 0), AVAILABLE)
+                os.eventfd_write(kick, 1)
+                wait_for(lambda: os.pread(memory, 4, USED) == b"\0\0\1\0", "the answer")
+                assert os.pread(memory, 12, ANSWER)[10:] == b"\0\0"  # GOOD, and response OK
+                os.ftruncate(memory, 0)
+                os.eventfd_write(kick, 1)
+                assert is_over(front, 10)
+            assert serves(room.socket)
+        os.close(memory)
+        os.close(kick)
 
 
 def test_hardened(room):
