@@ -85,6 +85,14 @@ static unsigned await(struct front *front, unsigned q, unsigned count, uint64_t 
   return seen;
 }
 
+// Has the session go on until a file was found not to be written: then the round's requests ran, and none was answered.
+static bool await_error(struct front *front, unsigned q) {
+  uint64_t until = clock_now() + PATIENCE;
+  uint32_t length;
+  for (; !front->disks->disks[0].error && clock_now() < until; usleep(200)) turn(front);
+  return front->alive && front->disks->disks[0].error && !driver_next(front, q, 3, &length);
+}
+
 static bool is_good(const struct front *front, unsigned i) { return answer_of(front, i)[10] == 0 && answer_of(front, i)[11] == 0; }
 
 // Looks whether the file has what WRITE i wrote, or zeros.
@@ -176,7 +184,7 @@ void test_full(void) {
     faults.write_error = number % 2 ? ENOSPC : EIO;
     faults.writes = 3 * number;
     put_writes(&front, MANY);
-    MUST(await(&front, Q, MANY, 100) == 0 && front.alive);
+    MUST(await_error(&front, Q));
     front_say(&front, GET_FEATURES, 0);
     turn(&front);
     MUST(front_reply(&front, payload, sizeof payload) == 8 && front.alive && disks.disks[0].error == faults.write_error);
@@ -212,7 +220,7 @@ void test_abandoned(void) {
     begin(&front, &disks, number);
     faults.write_error = ENOSPC;
     put_writes(&front, MANY);
-    MUST(await(&front, Q, MANY, 60) == 0 && front.alive);
+    MUST(await_error(&front, Q));
     // Stopping the queue isn't held up. Its requests weren't answered, so they are the driver's again.
     MUST(number % 2 || (front_stop(&front, Q) & 0xffff) == 0);
     front_end(&front);
