@@ -5,8 +5,9 @@ use ring_core::{Chain, Part};
 use scsi_codec::EVENT_BYTES;
 use std::marker::Model;
 
-/// A buffer that is held until an event is raised. Clauses see the whole chain that the guest gave. The device keeps its
-/// first 16 writable bytes alone, which an event takes, in at most 16 parts. So a guest can't make it keep a long chain.
+/// A buffer that is held until an event is raised. Clauses see the chain that the guest gave. In memory stands of it
+/// what an event needs: its first 16 writable bytes, in at most 16 parts. So a guest can't make the device keep a long
+/// chain for as long as it likes.
 #[derive(Drop)]
 pub struct EventBuffer {
     held: Chain,
