@@ -120,7 +120,7 @@ void connection_begin(struct connection *connection, struct way way) {
 // Has the disk's file written, once its session ended, as the daemon does at its end, and compares it with the disk.
 static void look_at_file(struct connection *connection) {
   static uint8_t store[FILE_BYTES], file[FILE_BYTES];
-  const struct vscsi_disk *disk = &connection->disks.stores[0];
+  struct vscsi_disk *disk = &connection->disks.stores[0];
   char why[300];
   must(blocks_finish(&connection->disks, why, sizeof why), why);
   if (connection->file < 0 || !store_stands(disk)) return;
