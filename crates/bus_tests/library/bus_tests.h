@@ -1,0 +1,37 @@
+/* What the tests of the bus share: the exports of bus_tests, random numbers, and how a test fails. */
+#ifndef BUS_TESTS_H
+#define BUS_TESTS_H
+
+#include "bus.h"
+
+#include <stdbool.h>
+#include <stdio.h>
+#include <stdlib.h>
+
+struct echoed {
+	uint64_t chains;
+	uint64_t notices;
+	uint64_t faults;
+};
+
+void bus_load(uint64_t map, uint64_t addr, uint64_t times, uint8_t *out, size_t len);
+void bus_store(uint64_t map, uint64_t addr, uint64_t times, const uint8_t *bytes, size_t len);
+void bus_echo(uint64_t map, bool packed, uint64_t chains, uint64_t looks, struct echoed *echoed);
+
+/* Says what is wrong, and ends the test. */
+#define FAIL(...) (fprintf(stderr, __VA_ARGS__), fputc('\n', stderr), exit(1))
+
+static inline uint64_t handle(const struct bus_map *map)
+{
+	return (uint64_t)(uintptr_t)map;
+}
+
+/* The next of a row of random numbers (xorshift64). */
+static inline uint64_t next(uint64_t *state)
+{
+	*state ^= *state << 13;
+	*state ^= *state >> 7;
+	return *state ^= *state << 17;
+}
+
+#endif

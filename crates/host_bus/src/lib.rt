@@ -1,0 +1,85 @@
+//! The bus of a host in C: an access of the guest's memory is a call of `read` or of `write`, which the library for C renames to
+//! two functions of its own.
+#![tactic(auto)]
+
+use live_mem::Bus;
+
+/// The operation that says where the bytes of the next one stand: what was mapped, and an address.
+const PLACE: i32 = 1 << 30;
+
+/// The operation that reads or writes bytes at the place that was said last.
+const BYTES: i32 = PLACE + 1;
+
+/// The operation that reads 16 bytes or more, from the place that stands in the first 16 of the room for them.
+const LONG: i32 = PLACE + 2;
+
+/// The operation that writes a place, and behind it the bytes that go there.
+const PUT: i32 = PLACE + 3;
+
+/// The operation that reads so many bytes more than none, fewer than 16, from the place that stands in the room.
+const SHORT: i32 = PLACE + 16;
+
+/// The bytes of a place.
+const PLACE_BYTES: usize = 16;
+
+/// A bus over the memory that a host in C mapped.
+#[derive(Drop)]
+pub struct HostBus {
+    // What C made of the regions, as an address of its own. Only C looks at it.
+    map: u64,
+}
+
+/// Returns the bytes of a place.
+#[inline(always)]
+fn place(map: u64, addr: u64) -> [u8; PLACE_BYTES] {
+    let mut bytes = [0; PLACE_BYTES];
+    bytes[..8].copy_from_slice(&map.to_le_bytes());
+    bytes[8..].copy_from_slice(&addr.to_le_bytes());
+    bytes
+}
+
+impl HostBus {
+    /// Makes the bus over what was mapped, by the number that C gave it. The library for C calls it once for each map.
+    pub fn new(map: u64) -> HostBus {
+        HostBus { map }
+    }
+}
+
+impl Bus for HostBus {
+    // Each store of 2 or of 8 bytes ends with a full barrier.
+    #[inline(always)]
+    fn begin(&mut self) {}
+
+    #[inline(always)]
+    fn load(&mut self, addr: u64, out: &mut [u8]) {
+        let len = out.len();
+        if len >= PLACE_BYTES {
+            out[..PLACE_BYTES].copy_from_slice(&place(self.map, addr));
+            io::read_full(LONG, out);
+        } else {
+            let mut room = place(self.map, addr);
+            io::read_full(SHORT + len as i32, &mut room);
+            out.copy_from_slice(&room[..len]);
+        }
+    }
+
+    #[inline(always)]
+    fn store(&mut self, addr: u64, bytes: &[u8]) {
+        if bytes.len() == 2 {
+            let mut room = [0; 18];
+            room[..8].copy_from_slice(&self.map.to_le_bytes());
+            room[8..16].copy_from_slice(&addr.to_le_bytes());
+            room[16..].copy_from_slice(bytes);
+            io::write_all(PUT, &room);
+        } else if bytes.len() == 8 {
+            let mut room = [0; 24];
+            room[..8].copy_from_slice(&self.map.to_le_bytes());
+            room[8..16].copy_from_slice(&addr.to_le_bytes());
+            room[16..].copy_from_slice(bytes);
+            io::write_all(PUT, &room);
+        } else {
+            io::write_all(PLACE, &place(self.map, addr));
+            io::write_all(BYTES, bytes);
+        }
+    }
+}
