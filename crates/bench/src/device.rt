@@ -210,23 +210,13 @@ fn share(alloc: Global) -> Result<Arc<Answered>, Failure> {
 /// Returns the layout of a queue with so many descriptors, whose areas begin here.
 fn small_queue(at: u32) -> Layout {
     let desc = u64::from(at);
-    Layout {
-        size: 2,
-        desc,
-        driver: desc + 0x400,
-        device: desc + 0x800,
-    }
+    Layout::fresh(2, desc, desc + 0x400, desc + 0x800)
 }
 
 /// Returns the layout of the queue of a unit's requests.
 fn request_queue(work: &Work, lun: u8) -> Layout {
     let desc = QUEUE * u64::from(lun);
-    Layout {
-        size: work.slots(),
-        desc,
-        driver: desc + DRIVER,
-        device: desc + DEVICE,
-    }
+    Layout::fresh(work.slots(), desc, desc + DRIVER, desc + DEVICE)
 }
 
 /// Makes a configuration of two calm units, each with a request queue.

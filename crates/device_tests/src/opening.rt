@@ -31,12 +31,7 @@ pub const NUMBERS: Numbers = Numbers {
 fn layouts(alloc: Global, slots: u16) -> Result<Vec<Layout>, NoMemory> {
     let mut queues = Vec::new(alloc);
     for area in AREAS {
-        let layout = Layout {
-            size: slots,
-            desc: area,
-            driver: area + 1024,
-            device: area + 2048,
-        };
+        let layout = Layout::fresh(slots, area, area + 1024, area + 2048);
         if queues.push(layout).is_err() {
             return Err(NoMemory);
         }

@@ -1,6 +1,7 @@
 //! The areas where a script's guest puts its queues.
 
 ghost use Rattle.std.specs.Prelude.{◌≡◌, ◌+◌, ◌*◌};
+ghost use Rattle.ring_core.specs.State.{first_index};
 
 use ring_core::Layout;
 
@@ -20,12 +21,8 @@ pub fn layout_of(queue: u16, size: u16) -> Layout
     ensures desc { result.desc ≡ queue * 16384 }
     ensures driver { result.driver ≡ queue * 16384 + 4096 }
     ensures device { result.device ≡ queue * 16384 + 8192 }
+    ensures fresh { (result.first_available ≡ first_index) × (result.first_used ≡ first_index) }
 {
     let desc = u64::from(queue) * QUEUE_STRIDE;
-    Layout {
-        size,
-        desc,
-        driver: desc + DRIVER_OFFSET,
-        device: desc + DEVICE_OFFSET,
-    }
+    Layout::fresh(size, desc, desc + DRIVER_OFFSET, desc + DEVICE_OFFSET)
 }

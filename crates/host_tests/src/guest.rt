@@ -52,12 +52,7 @@ pub(crate) fn layouts(alloc: Global) -> Option<Vec<Layout>> {
     let mut layouts = Vec::new(alloc);
     for number in 0..QUEUES {
         let page = PAGE * u64::from(number);
-        let layout = Layout {
-            size: 8,
-            desc: page,
-            driver: page + 1024,
-            device: page + 2048,
-        };
+        let layout = Layout::fresh(8, page, page + 1024, page + 2048);
         layouts.push(layout).ok()?;
     }
     Some(layouts)

@@ -31,6 +31,10 @@ pub fn check_layout(layout: &Layout, memory: u64) -> Result<(), LayoutFault>
         || !lies_in(memory, layout.device, 4)
     {
         Err(LayoutFault::Outside)
+    } else if layout.first_available.index >= layout.size
+        || layout.first_used.index >= layout.size
+    {
+        Err(LayoutFault::BadStart)
     } else {
         Ok(())
     }

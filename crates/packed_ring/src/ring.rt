@@ -2,7 +2,8 @@
 
 use crate::placement::check_layout;
 use crate::slots::{
-    descriptor_at, flags_of_used, is_available, names_one, number_at, place_of, put_used, wrap_at,
+    descriptor_at, flags_of_used, is_available, names_one, number_at, passed_at, place_of,
+    put_used, wrap_at,
 };
 use crate::walk::{Candidate, fault_without_room, walk};
 use guest_mem::{Memory, WritableMemory};
@@ -51,7 +52,8 @@ impl PackedRing {
     ///
     /// - `BadSize`: a size of 0 or above 32,768;
     /// - `BadAlignment`: a descriptor ring not aligned to 16, or an event suppression area not to 4;
-    /// - `Outside`: one of them that doesn't lie in memory.
+    /// - `Outside`: one of them that doesn't lie in memory;
+    /// - `BadStart`: a first index that isn't the number of a slot.
     ///
     /// It takes no memory, so it is never `NoMemory`.
     pub fn new<M: Memory>(
@@ -74,11 +76,31 @@ impl PackedRing {
 }
 
 impl PackedRing {
-    ghost use Rattle.std.specs.Prelude.{◌≡◌, [], List, ℕ, None, true};
-    ghost use Rattle.ring_core.specs.Packed.{is_available as is_available_in};
+    ghost use Rattle.std.specs.Prelude.{◌≡◌, ◌≤◌, [], List, ℕ, None, true};
+    ghost use Rattle.ring_core.specs.Packed.{available_place, used_place, is_available as is_available_in};
     ghost use Rattle.packed_ring.specs.Inner.{PackedFinds};
     ghost use Rattle.ring_core.specs.Offer.{PackedOffers, Found};
     ghost use Rattle.ring_core.specs.Fetch.{Fetches};
+
+    /// Returns how many slots were passed before the next available one.
+    #[inline(always)]
+    fn available_place(&self) -> u128
+        ensures { result ≡ available_place self.now }
+    {
+        let layout = self.base.layout();
+        self.base.accepted_slots() + passed_at(layout.size, layout.first_available) as u128
+    }
+
+    /// Returns how many slots were passed before the next used one.
+    #[inline(always)]
+    fn used_place(&self) -> u128
+        ensures place { result ≡ used_place self.now }
+        ensures behind { self.now.used_slots ≤ result }
+    {
+        let layout = self.base.layout();
+        let _accepted = self.base.accepted_slots();
+        self.base.used_slots() + passed_at(layout.size, layout.first_used) as u128
+    }
 
     /// Returns true if the next slot holds an available descriptor.
     fn has_next<M: Memory>(&self, memory: &mut M) -> bool
@@ -90,9 +112,9 @@ impl PackedRing {
         ensures next { (m : List ℕ) → M.may_be memory.new m → result ≡ is_available_in self.now m }
     {
         let layout = self.base.layout();
-        let accepted = self.base.accepted_slots();
-        let first = descriptor_at(memory, &layout, accepted);
-        is_available(&first, wrap_at(layout.size, accepted))
+        let place = self.available_place();
+        let first = descriptor_at(memory, &layout, place);
+        is_available(&first, wrap_at(layout.size, place))
     }
 
     /// Returns the next chain, where there is one.
@@ -107,9 +129,9 @@ impl PackedRing {
         ensures same { self.new ≡ self.old }
     {
         let layout = self.base.layout();
-        let accepted = self.base.accepted_slots();
+        let place = self.available_place();
         let Ok(draft) = self.base.draft() else {
-            return Err(fault_without_room(memory, &layout, self.base.features(), accepted));
+            return Err(fault_without_room(memory, &layout, self.base.features(), place));
         };
         self.find(memory, draft)
     }
@@ -126,10 +148,10 @@ impl PackedRing {
         ensures finds { (m : List ℕ) → M.may_be memory.new m → PackedFinds self.now m result }
     {
         let layout = self.base.layout();
-        let accepted = self.base.accepted_slots();
-        match walk(draft, memory, &layout, self.base.features(), accepted) {
+        let place = self.available_place();
+        match walk(draft, memory, &layout, self.base.features(), place) {
             Ok(found) => {
-                let outstanding = accepted - self.base.used_slots();
+                let outstanding = self.base.accepted_slots() - self.base.used_slots();
                 if self.base.is_outstanding(found.id) {
                     Err(RingFault::AlreadyOutstanding)
                 } else if outstanding + found.slots as u128 > layout.size as u128 {
@@ -224,7 +246,7 @@ impl Ring for PackedRing {
         let _size = memory.size();
         let _log = self.base.log();
         let layout = self.base.layout();
-        let used = self.base.used_slots();
+        let used = self.used_place();
         let flags = flags_of_used(wrap_at(layout.size, used), len);
         put_used(memory, place_of(&layout, used) + 8, len, chain.id(), flags);
         self.base.release(chain)
@@ -241,7 +263,7 @@ impl Ring for PackedRing {
         names_one(
             layout.size,
             place,
-            self.base.used_slots() - latest as u128,
+            self.used_place() - latest as u128,
             latest,
         )
     }

@@ -3,11 +3,11 @@
 ghost use Rattle.std.specs.Prelude.{◌≡◌, ◌+◌, ◌*◌, ◌%◌, ◌<◌, ◌≤◌, ◌^◌, ◌++◌, ◌&&◌, not, cond, List, ℕ};
 ghost use Rattle.guest_mem.specs.Memory.{bytes_at, with_bytes};
 ghost use Rattle.byteorder.specs.Endian.{little_number, little_bytes};
-ghost use Rattle.ring_core.specs.Packed.{slot_at, packed_descriptor, names_one as names_one_of, wrap_counter, avail_bit, used_bit, used_flags};
+ghost use Rattle.ring_core.specs.Packed.{slot_at, packed_descriptor, passed_at as passed_at_index, names_one as names_one_of, wrap_counter, avail_bit, used_bit, used_flags};
 
 use byteorder::{ByteOrder, LittleEndian};
 use guest_mem::{Memory, WritableMemory};
-use ring_core::{Descriptor, Layout};
+use ring_core::{Descriptor, Layout, RingIndex};
 
 /// VIRTQ_DESC_F_WRITE in a used descriptor: something was written (VIRTIO 1.2, 2.8.3).
 const WRITE: u16 = 2;
@@ -31,6 +31,18 @@ pub(crate) fn number_at<M: Memory>(memory: &mut M, addr: u64) -> u16
     let mut bytes = [0; 2];
     memory.read(addr, &mut bytes);
     LittleEndian::read_u16(&bytes)
+}
+
+/// Returns how many slots were passed at an index, since a round began with wrap counter 1.
+#[inline(always)]
+pub(crate) fn passed_at(size: u16, at: RingIndex) -> u32
+    ensures { result ≡ passed_at_index size at }
+{
+    if at.wrap {
+        at.index as u32
+    } else {
+        at.index as u32 + size as u32
+    }
 }
 
 /// Returns the slot that is reached once so many slots were passed. Counts below 2^64 are divided as such, which is far

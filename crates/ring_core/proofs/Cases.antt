@@ -1,14 +1,15 @@
 -- Small cases of queues.
-use Rattle.std.proofs.Common.{◌≡◌, ℕ, zero, suc, ◌+◌, ◌-◌, ◌%◌, ◌^◌, ◌<◌, ◌≤◌, List, [], ◌∷◌, ◌++◌, length, nat_lt, ◌==◌, ◌&&◌, true, false, Option, Some, None, refl, sym, ap, ◌∙◌, arith, add-one, inl}
+use Rattle.std.proofs.Common.{◌≡◌, ℕ, zero, suc, ◌+◌, ◌-◌, ◌*◌, ◌/◌, ◌%◌, Bool, cond, mod-lt, ◌^◌, ◌<◌, ◌≤◌, List, [], ◌∷◌, ◌++◌, length, nat_lt, ◌==◌, ◌&&◌, true, false, Option, Some, None, refl, sym, ap, ◌∙◌, arith, add-one, inl}
 use Rattle.std.proofs.lemmas.Bool.Decides.{nat_tests}
 use Rattle.std.proofs.lemmas.Grind.{common_steps}
+use Rattle.std.proofs.lemmas.Nat.{div-mul-add, mod-mul-add}
 use Rattle.byteorder.specs.Endian.{little_number, little_bytes}
 use Rattle.byteorder.specs.Numbers.{little_number-reads_back}
 use Rattle.guest_mem.specs.Memory.{bytes_at}
-use Rattle.ring_core.specs.State.{RingState}
+use Rattle.ring_core.specs.State.{RingState, first_index}
 use Rattle.ring_core.specs.Walk.{nothing_before, goes_on, is_indirect, part_of, front, Sequence}
-use Rattle.ring_core.specs.Split.{split_descriptor, in_table, number_on, path, split_path, split_table, split_wrong, SplitChain, SplitFails, ahead, entry_wrong, used_event, split_wants_notice}
-use Rattle.ring_core.specs.Packed.{packed_descriptor, names_one}
+use Rattle.ring_core.specs.Split.{split_descriptor, in_table, number_on, path, split_path, split_table, split_wrong, SplitChain, SplitFails, available_index, ahead, entry_wrong, used_event, used_index_after, split_wants_notice}
+use Rattle.ring_core.specs.Packed.{packed_descriptor, wrap_counter, passed_at, index_at, available_place, used_place, names_one}
 use Rattle.ring_core.specs.declared.layout.Features.{Features}
 use Rattle.ring_core.specs.declared.descriptor.Part.{Part}
 use Rattle.ring_core.specs.declared.descriptor.Descriptor.{Descriptor}
@@ -19,14 +20,14 @@ use Rattle.ring_core.proofs.Along.{Along, along_start, along_more, along_end, al
 use Rattle.ring_core.proofs.Walking.{chain_direct}
 
 -- The available index:
-pub ahead_some : (s : RingState) (m : List ℕ) (k : ℕ) → k < 65536 → little_number 2 (bytes_at m (s.layout.driver + 2) 2) ≡ (length s.log.accepted + k) % 65536 → ahead s m ≡ k
-ahead_some s m k small e = counted _ (length s.log.accepted) k small e
+pub ahead_some : (s : RingState) (m : List ℕ) (k : ℕ) → k < 65536 → little_number 2 (bytes_at m (s.layout.driver + 2) 2) ≡ (s.layout.first_available.index + length s.log.accepted + k) % 65536 → ahead s m ≡ k
+ahead_some s m k small e = counted _ (s.layout.first_available.index + length s.log.accepted) k small e
   where
     counted : (idx n k : ℕ) → k < 65536 → idx ≡ (n + k) % 65536 → (idx + 65536 - n % 65536) % 65536 ≡ k
     counted idx n k small e = omega arith
 
-pub ahead_none : (s : RingState) (m : List ℕ) → little_number 2 (bytes_at m (s.layout.driver + 2) 2) ≡ length s.log.accepted % 65536 → ahead s m ≡ 0
-ahead_none s m e = let same : length s.log.accepted + 0 ≡ length s.log.accepted = omega arith in ahead_some s m 0 (omega arith) (rw same e)
+pub ahead_none : (s : RingState) (m : List ℕ) → little_number 2 (bytes_at m (s.layout.driver + 2) 2) ≡ (s.layout.first_available.index + length s.log.accepted) % 65536 → ahead s m ≡ 0
+ahead_none s m e = let same : s.layout.first_available.index + length s.log.accepted + 0 ≡ s.layout.first_available.index + length s.log.accepted = omega arith in ahead_some s m 0 (omega arith) (rw same e)
 
 pub jump_above : (s : RingState) (m : List ℕ) → s.layout.size < ahead s m → entry_wrong s m ≡ Some IndexJump
 jump_above s m lt = grind (arith, common_steps, nat_tests)
@@ -138,11 +139,45 @@ module _ (addr len flags last : ℕ) (a : addr < 2 ^ 64) (n : len < 2 ^ 32) (f :
       cc
 
 -- Notices:
-pub notice_once : (s : RingState) (m : List ℕ) → s.features.event_index ≡ true → length s.log.used ≤ 65536 → used_event s m < 65536 → split_wants_notice s m ≡ (length s.log.used == used_event s m + 1)
-notice_once s m agreed few small = rw agreed (once (length s.log.used) (used_event s m) few small)
+pub notice_once : (s : RingState) (m : List ℕ) (k : ℕ) → s.features.event_index ≡ true → length s.log.used ≤ 65536 → k < 65536 → used_event s m ≡ (s.layout.first_used.index + k) % 65536 → split_wants_notice s m ≡ (length s.log.used == k + 1)
+notice_once s m k agreed few small is = rw (agreed, is) (once s.layout.first_used.index (length s.log.used) k few small)
   where
-    once : (n e : ℕ) → n ≤ 65536 → e < 65536 → nat_lt 0 n && (e == (n - 1) % 65536) ≡ (n == e + 1)
-    once n e few small = grind (arith, common_steps, nat_tests)
+    same_index : (b n k : ℕ) → n < 65536 → k < 65536 → (b + k) % 65536 ≡ (b + n) % 65536 → k ≡ n
+    same_index b n k ln lk e = omega (arith, e)
+
+    once : (b n k : ℕ) → n ≤ 65536 → k < 65536 → nat_lt 0 n && ((b + k) % 65536 == (b + (n - 1)) % 65536) ≡ (n == k + 1)
+    once b zero k few small = grind (arith, common_steps, nat_tests)
+    once b (suc n) k few small =
+        let same = same_index b n k (omega (arith, few)) small in
+        grind (arith, common_steps, nat_tests)
+
+-- Where a ring begins:
+pub first_available_index : (s : RingState) → s.layout.first_available ≡ first_index → available_index s ≡ length s.log.accepted % 65536
+first_available_index s is = rw is (ap (λ (n : ℕ). n % 65536) (let e : 0 + length s.log.accepted ≡ length s.log.accepted = omega arith in e))
+
+pub first_used_index : (s : RingState) (n : ℕ) → s.layout.first_used ≡ first_index → used_index_after s n ≡ n % 65536
+first_used_index s n is = rw is (ap (λ (n : ℕ). n % 65536) (let e : 0 + n ≡ n = omega arith in e))
+
+pub first_available_place : (s : RingState) → s.layout.first_available ≡ first_index → available_place s ≡ s.accepted_slots
+first_available_place s is = rw is (let e : s.accepted_slots + 0 ≡ s.accepted_slots = omega arith in e)
+
+pub first_used_place : (s : RingState) → s.layout.first_used ≡ first_index → used_place s ≡ s.used_slots
+first_used_place s is = rw is (let e : s.used_slots + 0 ≡ s.used_slots = omega arith in e)
+
+-- an index below the size, in a round with wrap counter 1 or in the next
+slot_of_index : (w : Bool) (size x : ℕ) → x < size → (x + cond w 0 size) % size ≡ x
+slot_of_index true size x lt = ap (λ (n : ℕ). n % size) (let e : x + 0 ≡ 0 * size + x = omega arith in e) ∙ mod-mul-add 0 size x lt
+slot_of_index false size x lt = ap (λ (n : ℕ). n % size) (let e : x + size ≡ 1 * size + x = omega arith in e) ∙ mod-mul-add 1 size x lt
+
+wrap_of_index : (w : Bool) (size x : ℕ) → x < size → wrap_counter size (x + cond w 0 size) ≡ w
+wrap_of_index true size x lt = ap (λ (n : ℕ). n % 2 == 0) (ap (λ (n : ℕ). n / size) (let e : x + 0 ≡ 0 * size + x = omega arith in e) ∙ div-mul-add 0 size x lt)
+wrap_of_index false size x lt = ap (λ (n : ℕ). n % 2 == 0) (ap (λ (n : ℕ). n / size) (let e : x + size ≡ 1 * size + x = omega arith in e) ∙ div-mul-add 1 size x lt)
+
+pub goes_on_slot : (size t : ℕ) → 0 < size → passed_at size (index_at size t) % size ≡ t % size
+goes_on_slot size t some = slot_of_index (wrap_counter size t) size (t % size) (mod-lt t some)
+
+pub goes_on_wrap : (size t : ℕ) → 0 < size → wrap_counter size (passed_at size (index_at size t)) ≡ wrap_counter size t
+goes_on_wrap size t some = wrap_of_index (wrap_counter size t) size (t % size) (mod-lt t some)
 
 pub four_named : (names_one 7 32772 0 3 ≡ false) × (names_one 7 32772 3 3 ≡ true) × (names_one 7 32772 6 3 ≡ false) × (names_one 7 32772 9 3 ≡ false)
 unfolding names_one

@@ -4,7 +4,7 @@ use Rattle.std.proofs.lemmas.Option.{none-some, same_Some}
 use Rattle.ring_core.specs.State.{RingState}
 use Rattle.ring_core.specs.Walk.{nothing_before, is_indirect, part_of, amount, front, Sequence, LeadsTo, IsRun, IsFault, EndsIn, IsChain, ChainFails}
 use Rattle.ring_core.specs.Split.{split_path, split_table, next_head, SplitChain, SplitFails}
-use Rattle.ring_core.specs.Packed.{packed_slots, packed_table, whole_wrong, PackedChain, PackedFails}
+use Rattle.ring_core.specs.Packed.{packed_slots, packed_table, available_place, whole_wrong, PackedChain, PackedFails}
 use Rattle.ring_core.specs.Offer.{Offer, Nothing, Found, Refused, Offers, SplitOffers, PackedOffers, OffersInForm, OffersUnless}
 use Rattle.ring_core.specs.declared.layout.Form.{Form}
 use Rattle.ring_core.specs.declared.layout.Form.TheVariants.{Split, Packed}
@@ -139,9 +139,9 @@ module _ (s : RingState) (m : List ℕ) where
 
 module _ (s : RingState) (m : List ℕ) where
   abbrev Slots : Sequence
-  Slots = packed_slots s.features m s.layout s.accepted_slots
+  Slots = packed_slots s.features m s.layout (available_place s)
 
-  same_chain : (i j k l : ℕ) (parts rest : List Part) → PackedChain s.features m s.layout s.accepted_slots i j parts → PackedChain s.features m s.layout s.accepted_slots k l rest
+  same_chain : (i j k l : ℕ) (parts rest : List Part) → PackedChain s.features m s.layout (available_place s) i j parts → PackedChain s.features m s.layout (available_place s) k l rest
       → (i ≡ k) × (j ≡ l) × (parts ≡ rest)
   same_chain i j k l parts rest (c, x, is_c, id_c, slots_c) (d, y, is_d, id_d, slots_d) =
       let e = chain_once Slots (packed_table m) c x parts d y rest is_c is_d in (
@@ -150,10 +150,10 @@ module _ (s : RingState) (m : List ℕ) where
         e.2,
       )
 
-  fine_or_wrong : (i j : ℕ) (parts : List Part) (f : RingFault) → PackedChain s.features m s.layout s.accepted_slots i j parts → PackedFails s.features m s.layout s.accepted_slots f → ⊥
+  fine_or_wrong : (i j : ℕ) (parts : List Part) (f : RingFault) → PackedChain s.features m s.layout (available_place s) i j parts → PackedFails s.features m s.layout (available_place s) f → ⊥
   fine_or_wrong i j parts f (c, x, is_c, id_c, slots_c) bad = chain_or_fails Slots (packed_table m) c x parts f is_c bad
 
-  same_whole : (i j k l : ℕ) (parts rest : List Part) → PackedChain s.features m s.layout s.accepted_slots i j parts → PackedChain s.features m s.layout s.accepted_slots k l rest
+  same_whole : (i j k l : ℕ) (parts rest : List Part) → PackedChain s.features m s.layout (available_place s) i j parts → PackedChain s.features m s.layout (available_place s) k l rest
       → whole_wrong s i j ≡ whole_wrong s k l
   same_whole i j k l parts rest c d =
       let e = same_chain i j k l parts rest c d in

@@ -10,7 +10,7 @@ use Rattle.ring_core.specs.State.{RingState, no_features}
 use Rattle.ring_core.specs.Walk.{nothing_before, goes_on, is_writable, is_indirect, part_of, amount, front, first_of, buffer_tests, table_wrong, Sequence, LeadsTo, IsRun, EndsIn, IsChain}
 use Rattle.ring_core.specs.RightChain.{IsRightChain}
 use Rattle.ring_core.specs.Split.{split_path, split_table, next_head, entry_wrong, split_wrong}
-use Rattle.ring_core.specs.Packed.{packed_slots, packed_table, packed_wrong}
+use Rattle.ring_core.specs.Packed.{packed_slots, packed_table, packed_wrong, available_place}
 use Rattle.ring_core.specs.Offer.{Offers, OffersUnless, OffersInForm, Found}
 use Rattle.ring_core.specs.declared.layout.Features.{Features}
 use Rattle.ring_core.specs.declared.layout.Layout.{Layout}
@@ -263,16 +263,16 @@ module _ (s : RingState) (m : List ℕ) where
   Path = split_path s.features m s.layout.desc s.layout.size (next_head s m)
 
   abbrev Slots : Sequence
-  Slots = packed_slots s.features m s.layout s.accepted_slots
+  Slots = packed_slots s.features m s.layout (available_place s)
 
   in_form_right : (form : Form) (id slots : ℕ) (parts : List Part) → OffersInForm form s m (Found id slots parts) → IsRightChain (length m) parts
   in_form_right Split id slots parts (there, fine, is, one, (direct, last, chain)) =
       chain_right (length m) Path (split_table m) (split_tests s.features m s.layout.desc s.layout.size (next_head s m)) (split_table_tests m) direct last parts chain
   in_form_right Packed id slots parts (there, (direct, last, chain, is, count), fine) =
-      chain_right (length m) Slots (packed_table m) (packed_tests s.features m s.layout s.accepted_slots) (packed_table_tests m) direct last parts chain
+      chain_right (length m) Slots (packed_table m) (packed_tests s.features m s.layout (available_place s)) (packed_table_tests m) direct last parts chain
 
   packed_few : (direct : List Descriptor) (last : Descriptor) (parts : List Part) → 1 ≤ s.layout.size → IsChain Slots (packed_table m) direct last parts → length direct + 1 ≤ s.layout.size
-  packed_few direct last parts some chain = run_few Slots nothing_before s.layout.size (packed_ends s m s.accepted_slots) direct last some chain.0
+  packed_few direct last parts some chain = run_few Slots nothing_before s.layout.size (packed_ends s m (available_place s)) direct last some chain.0
 
   split_few : (direct : List Descriptor) (last : Descriptor) (parts : List Part) → 1 ≤ s.layout.size → IsChain Path (split_table m) direct last parts → length direct + 1 ≤ s.layout.size
   split_few direct last parts some chain =

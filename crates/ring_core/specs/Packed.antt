@@ -6,6 +6,7 @@ use Rattle.ring_core.specs.State.{RingState, under}
 use Rattle.ring_core.specs.Walk.{goes_on, is_indirect, first_of, buffer_tests, table_wrong, by_next, Sequence, IsChain, ChainFails}
 use Rattle.ring_core.specs.Writes.{Write}
 use Rattle.ring_core.specs.declared.layout.Layout.{Layout}
+use Rattle.ring_core.specs.declared.layout.RingIndex.{RingIndex}
 use Rattle.ring_core.specs.declared.layout.Features.{Features}
 use Rattle.ring_core.specs.declared.descriptor.Part.{Part}
 use Rattle.ring_core.specs.declared.descriptor.Descriptor.{Descriptor}
@@ -42,11 +43,27 @@ avail_bit d = bit_and d.flags 128 == 128
 abbrev pub used_bit : Descriptor → Bool
 used_bit d = bit_and d.flags 32768 == 32768
 
+-- the slots that were passed at an index, since a round began with wrap counter 1
+abbrev pub passed_at : ℕ → RingIndex → ℕ
+passed_at size i = i.index + cond i.wrap 0 size
+
+-- the index that is reached once t slots were passed
+abbrev pub index_at : ℕ → ℕ → RingIndex
+index_at size t = record { index = t % size; wrap = wrap_counter size t }
+
+-- how many were passed before the next available slot, and before the next used one: those before the first, and those
+-- of all chains accepted or used
+abbrev pub available_place : RingState → ℕ
+available_place s = s.accepted_slots + passed_at s.layout.size s.layout.first_available
+
+abbrev pub used_place : RingState → ℕ
+used_place s = s.used_slots + passed_at s.layout.size s.layout.first_used
+
 -- the next slot holds an available descriptor: AVAIL is the driver's wrap counter, and USED isn't
 abbrev pub is_available : RingState → List ℕ → Bool
 is_available s m =
-    let d = slot_at s.layout m s.accepted_slots in
-    cond (wrap_counter s.layout.size s.accepted_slots)
+    let d = slot_at s.layout m (available_place s) in
+    cond (wrap_counter s.layout.size (available_place s))
     (avail_bit d && not (used_bit d))
     (not (avail_bit d) && used_bit d)
 
@@ -108,9 +125,9 @@ used_flags wrap len = cond wrap 32896 0 + cond (nat_lt 0 len) 2 0
 -- its addr stays
 abbrev pub packed_used_writes : RingState → ℕ → ℕ → List Write
 packed_used_writes s id len =
-    let flags = used_flags (wrap_counter s.layout.size s.used_slots) len in
+    let flags = used_flags (wrap_counter s.layout.size (used_place s)) len in
     record {
-      addr = s.layout.desc + 16 * (s.used_slots % s.layout.size) + 8;
+      addr = s.layout.desc + 16 * (used_place s % s.layout.size) + 8;
       bytes = little_bytes 4 len ++ little_bytes 2 id ++ little_bytes 2 flags;
     }
     ∷ []
@@ -140,5 +157,5 @@ names_one size place t (suc n) = names_one size place t n || is_named size place
 abbrev pub packed_wants_notice : RingState → List ℕ → Bool
 packed_wants_notice s m =
     cond (s.features.event_index && (event_flags s m == 2))
-    (names_one s.layout.size (event_place s m) (s.used_slots - s.latest_slots) s.latest_slots)
+    (names_one s.layout.size (event_place s m) (used_place s - s.latest_slots) s.latest_slots)
     (not (event_flags s m == 1))

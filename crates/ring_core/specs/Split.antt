@@ -69,14 +69,18 @@ SplitFails features m table size head f = ChainFails (split_path features m tabl
 
 -- The available ring (2.7.6): le16 flags, le16 idx, le16 ring[size]
 
--- how many of its entries weren't accepted yet: idx ahead of the accepted chains, modulo 65,536
+-- the index of the next entry: as many as were accepted behind that of the first one, modulo 65,536 (2.7.6)
+abbrev pub available_index : RingState → ℕ
+available_index s = (s.layout.first_available.index + length s.log.accepted) % 65536
+
+-- how many of its entries weren't accepted yet: idx ahead of that
 abbrev pub ahead : RingState → List ℕ → ℕ
-ahead s m = (little_number 2 (bytes_at m (s.layout.driver + 2) 2) + 65536 - length s.log.accepted % 65536) % 65536
+ahead s m = (little_number 2 (bytes_at m (s.layout.driver + 2) 2) + 65536 - available_index s) % 65536
 
 -- the head that the next entry names
 abbrev pub next_head : RingState → List ℕ → ℕ
 next_head s m =
-    little_number 2 (bytes_at m (s.layout.driver + 4 + 2 * (length s.log.accepted % 65536 % s.layout.size)) 2)
+    little_number 2 (bytes_at m (s.layout.driver + 4 + 2 * (available_index s % s.layout.size)) 2)
 
 -- what is wrong with the next entry
 abbrev pub entry_wrong : RingState → List ℕ → Option RingFault
@@ -95,20 +99,24 @@ split_interrupts s m = not (bit_and (little_number 2 (bytes_at m s.layout.driver
 abbrev pub used_event : RingState → List ℕ → ℕ
 used_event s m = little_number 2 (bytes_at m (s.layout.driver + 4 + 2 * s.layout.size) 2)
 
+-- the used index behind so many completions, modulo 65,536 (2.7.8)
+abbrev pub used_index_after : RingState → ℕ → ℕ
+used_index_after s n = (s.layout.first_used.index + n) % 65536
+
 -- a notice is wanted of the latest used chain: where event indices were agreed, that is the one whose completion found
 -- used_event as the used index; before the first completion there is none (2.7.7.2)
 abbrev pub split_wants_notice : RingState → List ℕ → Bool
 split_wants_notice s m =
     cond s.features.event_index
-    (nat_lt 0 (length s.log.used) && (used_event s m == (length s.log.used - 1) % 65536))
+    (nat_lt 0 (length s.log.used) && (used_event s m == used_index_after s (length s.log.used - 1)))
     (split_interrupts s m)
 
 -- The used ring (2.7.8): le16 flags, le16 idx, elements of le32 id and le32 len
 
--- what a completion writes: the element in the slot of the own index, and then the next index
+-- what a completion writes: the element in the slot of the used index, and then the next index
 abbrev pub split_used_writes : RingState → ℕ → ℕ → List Write
 split_used_writes s head len =
-    let own : ℕ = length s.log.used % 65536 in
+    let own : ℕ = used_index_after s (length s.log.used) in
     record { addr = s.layout.device + 4 + 8 * (own % s.layout.size); bytes = little_bytes 4 head ++ little_bytes 4 len }
     ∷ record { addr = s.layout.device + 2; bytes = little_bytes 2 ((own + 1) % 65536) }
     ∷ []

@@ -1,7 +1,8 @@
 -- A virtqueue as a plain value: where it lies, its log, and which of its chains are outstanding.
-use Rattle.std.specs.Prelude.{ℕ, ◌+◌, ◌≡◌, ◌<◌, List, [], ◌∷◌, ◌++◌, length, Option, Some, None, false, get_or, slice_set, slice_get, zero, suc, replicate, bit_and, ◌==◌, ◌^◌}
+use Rattle.std.specs.Prelude.{ℕ, ◌+◌, ◌≡◌, ◌<◌, List, [], ◌∷◌, ◌++◌, length, Option, Some, None, true, false, get_or, slice_set, slice_get, zero, suc, replicate, bit_and, ◌==◌, ◌^◌}
 use Rattle.ring_core.specs.declared.log.Ticket.{Ticket}
 use Rattle.ring_core.specs.declared.layout.Layout.{Layout}
+use Rattle.ring_core.specs.declared.layout.RingIndex.{RingIndex}
 use Rattle.ring_core.specs.declared.layout.Form.{Form}
 use Rattle.ring_core.specs.declared.layout.Features.{Features}
 use Rattle.ring_core.specs.declared.outstanding.OutstandingChain.{OutstandingChain}
@@ -29,6 +30,21 @@ pub record RingState : Type 0 where
   pub latest_slots : ℕ
   -- the fault that broke it
   pub broken : Option RingFault
+
+-- where a device begins in a ring that none served before: at index 0, with wrap counter 1 (2.7.6, 2.7.8, 2.8.1)
+abbrev pub first_index : RingIndex
+first_index = record { index = 0; wrap = true }
+
+abbrev pub fresh_layout : ℕ → ℕ → ℕ → ℕ → Layout
+fresh_layout size desc driver device =
+    record {
+      size = size;
+      desc = desc;
+      driver = driver;
+      device = device;
+      first_available = first_index;
+      first_used = first_index;
+    }
 
 -- neither indirect descriptors nor event indices were agreed
 abbrev pub no_features : Features

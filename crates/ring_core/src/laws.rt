@@ -14,8 +14,9 @@ mod scattering;
 
 pub use cases::{
     a_loop_is_too_long, as_many_as_the_size_are_no_jump, descriptors_are_read_as_written,
-    one_descriptor_is_a_chain, one_notice_of_a_split_queue, one_of_four_chains_is_named,
-    the_index_counts_round, three_linked_descriptors_are_a_chain,
+    fresh_rings_begin_at_0, one_descriptor_is_a_chain, one_notice_of_a_split_queue,
+    one_of_four_chains_is_named, packed_rings_go_on_at_an_index, the_index_counts_round,
+    three_linked_descriptors_are_a_chain,
 };
 pub use properties::{packed_chains_by_properties, split_chains_by_properties};
 pub use scattering::{

@@ -1,7 +1,7 @@
 //! The place of a queue in memory, and its form.
 
 ghost use Rattle.std.specs.Prelude.{◌≡◌};
-ghost use Rattle.ring_core.specs.State.{features_of, no_features};
+ghost use Rattle.ring_core.specs.State.{features_of, no_features, fresh_layout};
 
 use std::error::Error;
 use std::fmt;
@@ -15,7 +15,22 @@ pub enum Form {
     Packed,
 }
 
-/// The layout of a queue: its size in descriptors, and the addresses of its three areas.
+/// An index into a ring, with the wrap counter of the side that it is of.
+#[derive(Clone, Copy, Debug, PartialEq, Eq)]
+pub struct RingIndex {
+    /// The index: in a split queue any of two bytes, in a packed one the number of a slot.
+    pub index: u16,
+    /// True if the wrap counter is 1 (VIRTIO 1.2, 2.8.1). A split queue has none, and doesn't look at it.
+    pub wrap: bool,
+}
+
+/// The first index of a ring that no device served before: 0, with wrap counter 1.
+pub const FIRST_INDEX: RingIndex = RingIndex {
+    index: 0,
+    wrap: true,
+};
+
+/// The layout of a queue: its size in descriptors, the addresses of its three areas, and where the device begins in it.
 #[derive(Clone, Copy, Debug, PartialEq, Eq)]
 pub struct Layout {
     /// The number of its descriptors, at most 32,768; in a split queue a power of two.
@@ -27,6 +42,26 @@ pub struct Layout {
     pub driver: u64,
     /// The device area: the used ring, or 4 bytes of event suppression; aligned to 4.
     pub device: u64,
+    /// The index of the first entry or slot that the device takes, `FIRST_INDEX` where no device served the queue before.
+    pub first_available: RingIndex,
+    /// The index of the first element or slot into which it writes a used chain.
+    pub first_used: RingIndex,
+}
+
+impl Layout {
+    /// Makes the layout of a queue that no device served before.
+    pub fn fresh(size: u16, desc: u64, driver: u64, device: u64) -> Layout
+        ensures { result ≡ fresh_layout size desc driver device }
+    {
+        Layout {
+            size,
+            desc,
+            driver,
+            device,
+            first_available: FIRST_INDEX,
+            first_used: FIRST_INDEX,
+        }
+    }
 }
 
 /// The optional features of virtqueues that were agreed (VIRTIO 1.2, 6).
@@ -66,7 +101,7 @@ impl Features {
     }
 }
 
-/// The cause for which a layout is refused. They are tested in this order.
+/// The cause for which a layout is refused. They are tested in this order, `NoMemory` last.
 #[derive(Clone, Copy, Debug, PartialEq, Eq)]
 pub enum LayoutFault {
     /// The size is 0, above 32,768, or in a split queue no power of two.
@@ -77,6 +112,8 @@ pub enum LayoutFault {
     Outside = 3,
     /// A growth was refused.
     NoMemory = 4,
+    /// The device would begin at a slot that a packed queue of this size doesn't have.
+    BadStart = 5,
 }
 
 impl fmt::Display for LayoutFault {
@@ -86,6 +123,7 @@ impl fmt::Display for LayoutFault {
             LayoutFault::BadAlignment => write!(f, "bad alignment"),
             LayoutFault::Outside => write!(f, "queue outside guest memory"),
             LayoutFault::NoMemory => write!(f, "no memory"),
+            LayoutFault::BadStart => write!(f, "bad first index"),
         }
     }
 }

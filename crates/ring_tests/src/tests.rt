@@ -101,7 +101,15 @@ fn plays_rows(rt: HostRuntime) -> Result<(), Fail> {
     );
     none_is(
         &rt,
+        first_wrong_row::<SplitRing>(rt.alloc(), &split::begins::BEGINS)?,
+    );
+    none_is(
+        &rt,
         first_wrong_row::<PackedRing>(rt.alloc(), &packed::rows::ROWS)?,
+    );
+    none_is(
+        &rt,
+        first_wrong_row::<PackedRing>(rt.alloc(), &packed::begins::BEGINS)?,
     );
     none_is(
         &rt,

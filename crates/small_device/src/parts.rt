@@ -75,12 +75,7 @@ fn units(alloc: Global) -> Option<Vec<UnitState>> {
 /// and by tests that put another queue in its place.
 pub fn queue(alloc: Global, number: u16, memory: &GuestMem) -> Option<Queue> {
     let page = PAGE * u64::from(number);
-    let layout = Layout {
-        size: 8,
-        desc: page,
-        driver: page + 1024,
-        device: page + 2048,
-    };
+    let layout = Layout::fresh(8, page, page + 1024, page + 2048);
     if !is_placed(Form::Split, memory.size(), &layout) {
         return None;
     }

@@ -73,15 +73,24 @@ impl SplitRing {
 }
 
 impl SplitRing {
-    ghost use Rattle.std.specs.Prelude.{◌≡◌, ◌≢◌, ◌%◌, ◌<◌, List, ℕ, length, MatchResult, IfOk, None, Some};
-    ghost use Rattle.ring_core.specs.Split.{ahead as ahead_of, entry_wrong, next_head};
+    ghost use Rattle.std.specs.Prelude.{◌≡◌, ◌≢◌, ◌<◌, List, ℕ, MatchResult, IfOk, None, Some};
+    ghost use Rattle.ring_core.specs.Split.{available_index, ahead as ahead_of, entry_wrong, next_head, used_index_after};
     ghost use Rattle.split_ring.specs.Inner.{SplitFinds};
 
-    /// Returns how many chains were accepted, as the available ring's index counts them.
-    fn accepted(&self) -> u16
-        ensures { result ≡ length self.now.log.accepted % 65536 }
+    /// Returns the index of the available ring's next entry.
+    fn available_index(&self) -> u16
+        ensures { result ≡ available_index self.now }
     {
-        (self.base.log().accepted() % 65536) as u16
+        let first = self.base.layout().first_available.index;
+        first.wrapping_add((self.base.log().accepted() % 65536) as u16)
+    }
+
+    /// Returns the used index behind so many completions.
+    fn used_index_after(&self, used: u64) -> u16
+        ensures { result ≡ used_index_after self.now used }
+    {
+        let first = self.base.layout().first_used.index;
+        first.wrapping_add((used % 65536) as u16)
     }
 
     /// Returns how many entries of the available ring weren't accepted yet.
@@ -94,8 +103,8 @@ impl SplitRing {
         ensures reading { M.is_open memory.new }
         ensures ahead { (m : List ℕ) → M.may_be memory.new m → result ≡ ahead_of self.now m }
     {
-        let accepted = self.accepted();
-        number_at(memory, self.base.layout().driver + 2).wrapping_sub(accepted)
+        let index = self.available_index();
+        number_at(memory, self.base.layout().driver + 2).wrapping_sub(index)
     }
 
     /// Returns the head that the next entry of the available ring names, where so many weren't accepted yet.
@@ -115,8 +124,8 @@ impl SplitRing {
         if ahead > layout.size {
             return Err(RingFault::IndexJump);
         }
-        let accepted = self.accepted();
-        let place = layout.driver + 4 + 2 * (accepted % layout.size) as u64;
+        let index = self.available_index();
+        let place = layout.driver + 4 + 2 * (index % layout.size) as u64;
         let head = number_at(memory, place);
         if head >= layout.size {
             return Err(RingFault::HeadOutOfRange);
@@ -243,7 +252,7 @@ impl Ring for SplitRing {
     ) -> Ticket {
         let _size = memory.size();
         let layout = self.base.layout();
-        let own = (self.base.log().used() % 65536) as u16;
+        let own = self.used_index_after(self.base.log().used());
         let place = layout.device + 4 + 8 * (own % layout.size) as u64;
         put_element(memory, place, chain.id() as u32, len);
         put_number(memory, layout.device + 2, own.wrapping_add(1));
@@ -257,7 +266,7 @@ impl Ring for SplitRing {
         }
         let used = self.base.log().used();
         let event = number_at(memory, layout.driver + 4 + 2 * layout.size as u64);
-        used != 0 && event == ((used - 1) % 65536) as u16
+        used != 0 && event == self.used_index_after(used - 1)
     }
 
     fn log(&self) -> &QueueLog {

@@ -7,7 +7,7 @@ use crate::bench::{CALM, SECOND};
 use block_store::NoMemory;
 use decisions::{ChainLengths, Decision, Inventory, MOST_UNITS, UnitSpec, are_rising, decide};
 use guest_mem::GuestMem;
-use ring_core::{Answered, Chain, FIRST_BYTES, Fetched, Layout, Ring, RingFault};
+use ring_core::{Answered, Chain, FIRST_BYTES, FIRST_INDEX, Fetched, Layout, Ring, RingFault};
 use split_ring::SplitRing;
 use std::alloc::Global;
 use unit_history::{Arrival, Job};
@@ -23,6 +23,8 @@ const PLACE: Layout = Layout {
     desc: 0,
     driver: 4096,
     device: 8192,
+    first_available: FIRST_INDEX,
+    first_used: FIRST_INDEX,
 };
 
 /// The address of each request while it is fetched, with its data behind it.

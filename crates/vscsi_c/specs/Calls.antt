@@ -189,6 +189,7 @@ layout_number layout.BadSize = 1
 layout_number layout.BadAlignment = 2
 layout_number layout.Outside = 3
 layout_number layout.NoMemory = 4
+layout_number layout.BadStart = 5
 
 abbrev pub cause_of : ConfigFault → Cause
 cause_of config.Pages = record { cause = 1; place = 0; detail = 0 }

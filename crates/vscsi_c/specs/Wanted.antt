@@ -1,13 +1,14 @@
 -- The configuration that C asks for.
 use Rattle.std.specs.Prelude.{ℕ, ◌≡◌, ◌==◌, not, List, map}
 use Rattle.ring_core.specs.declared.layout.Layout.{Layout}
+use Rattle.ring_core.specs.State.{fresh_layout}
 use Rattle.decisions.specs.declared.inventory.UnitSpec.{UnitSpec}
 use Rattle.config.specs.declared.config.Config.{Config}
 use Rattle.vscsi_c.specs.declared.wanted.WantedQueue.{WantedQueue}
 use Rattle.vscsi_c.specs.declared.wanted.WantedUnit.{WantedUnit}
 
 abbrev pub layout_of : WantedQueue → Layout
-layout_of q = record { size = q.size; desc = q.desc; driver = q.driver; device = q.device }
+layout_of q = fresh_layout q.size q.desc q.driver q.device
 
 abbrev pub spec_of : WantedUnit → UnitSpec
 spec_of u = record { target = u.target; lun = u.lun; blocks = u.blocks; calm = not (u.calm == 0) }

@@ -29,12 +29,7 @@ impl WantedQueue {
     fn layout(&self) -> Layout
         ensures { result ≡ layout_of self.now }
     {
-        Layout {
-            size: self.size,
-            desc: self.desc,
-            driver: self.driver,
-            device: self.device,
-        }
+        Layout::fresh(self.size, self.desc, self.driver, self.device)
     }
 }
 
@@ -81,6 +76,7 @@ fn layout_number(fault: LayoutFault) -> u32
         LayoutFault::BadAlignment => 2,
         LayoutFault::Outside => 3,
         LayoutFault::NoMemory => 4,
+        LayoutFault::BadStart => 5,
     }
 }
 

@@ -3,9 +3,9 @@
 ghost use Rattle.std.specs.Prelude.{◌≡◌, ◌+◌, ◌%◌, ◌^◌, ◌<◌, ◌≤◌, ◌==◌, ◌++◌, ℕ, List, length, Some, true, false};
 ghost use Rattle.byteorder.specs.Endian.{little_number, little_bytes};
 ghost use Rattle.guest_mem.specs.Memory.{bytes_at};
-ghost use Rattle.ring_core.specs.State.{RingState};
-ghost use Rattle.ring_core.specs.Split.{split_descriptor, ahead, entry_wrong, used_event, split_wants_notice};
-ghost use Rattle.ring_core.specs.Packed.{packed_descriptor, names_one};
+ghost use Rattle.ring_core.specs.State.{RingState, first_index};
+ghost use Rattle.ring_core.specs.Split.{split_descriptor, available_index, ahead, entry_wrong, used_event, used_index_after, split_wants_notice};
+ghost use Rattle.ring_core.specs.Packed.{packed_descriptor, wrap_counter, passed_at, index_at, available_place, used_place, names_one};
 ghost use Rattle.ring_core.specs.Cases.{OneAlone, ThreeLinked, NamesItself};
 ghost use Rattle.ring_core.specs.declared.fault.RingFault.TheVariants.{IndexJump};
 
@@ -35,17 +35,17 @@ pub fn a_loop_is_too_long()
     ensures { NamesItself }
 {}
 
-/// The available index counts modulo 65,536, however many chains were accepted: where it equals
-/// their number no entry is ahead of them, one further one entry is, and k further k are.
+/// The available index counts modulo 65,536 from the first one, however many chains were accepted: where it is as far
+/// as they are no entry is ahead of them, one further one entry is, and k further k are.
 pub fn the_index_counts_round()
     ensures none { (s : RingState) (m : List ℕ)
-        → little_number 2 (bytes_at m (s.layout.driver + 2) 2) ≡ length s.log.accepted % 65536
+        → little_number 2 (bytes_at m (s.layout.driver + 2) 2) ≡ (s.layout.first_available.index + length s.log.accepted) % 65536
         → ahead s m ≡ 0 }
     ensures one { (s : RingState) (m : List ℕ)
-        → little_number 2 (bytes_at m (s.layout.driver + 2) 2) ≡ (length s.log.accepted + 1) % 65536
+        → little_number 2 (bytes_at m (s.layout.driver + 2) 2) ≡ (s.layout.first_available.index + length s.log.accepted + 1) % 65536
         → ahead s m ≡ 1 }
     ensures each { (s : RingState) (m : List ℕ) (k : ℕ) → k < 65536
-        → little_number 2 (bytes_at m (s.layout.driver + 2) 2) ≡ (length s.log.accepted + k) % 65536
+        → little_number 2 (bytes_at m (s.layout.driver + 2) 2) ≡ (s.layout.first_available.index + length s.log.accepted + k) % 65536
         → ahead s m ≡ k }
 {}
 
@@ -56,10 +56,29 @@ pub fn as_many_as_the_size_are_no_jump()
 {}
 
 /// One alone of a split queue's first 65,536 completions wants a notice, if event indices were agreed: that whose
-/// number, from 0, is used_event.
+/// number k, from 0, used_event names behind the first used index.
 pub fn one_notice_of_a_split_queue()
-    ensures { (s : RingState) (m : List ℕ) → s.features.event_index ≡ true → length s.log.used ≤ 65536
-        → used_event s m < 65536 → split_wants_notice s m ≡ (length s.log.used == used_event s m + 1) }
+    ensures { (s : RingState) (m : List ℕ) (k : ℕ) → s.features.event_index ≡ true → length s.log.used ≤ 65536
+        → k < 65536 → used_event s m ≡ (s.layout.first_used.index + k) % 65536
+        → split_wants_notice s m ≡ (length s.log.used == k + 1) }
+{}
+
+/// A ring that no device served before begins at 0 on both sides: its indices and its slots are counted by the chains
+/// of this device alone.
+pub fn fresh_rings_begin_at_0()
+    ensures available_index { (s : RingState) → s.layout.first_available ≡ first_index
+        → available_index s ≡ length s.log.accepted % 65536 }
+    ensures used_index { (s : RingState) (n : ℕ) → s.layout.first_used ≡ first_index → used_index_after s n ≡ n % 65536 }
+    ensures available_slots { (s : RingState) → s.layout.first_available ≡ first_index
+        → available_place s ≡ s.accepted_slots }
+    ensures used_slots { (s : RingState) → s.layout.first_used ≡ first_index → used_place s ≡ s.used_slots }
+{}
+
+/// An index with its wrap counter says all that a packed queue needs to go on from there: the slot and the wrap counter
+/// that are reached once so many slots were passed.
+pub fn packed_rings_go_on_at_an_index()
+    ensures slot { (size t : ℕ) → 0 < size → passed_at size (index_at size t) % size ≡ t % size }
+    ensures wrap { (size t : ℕ) → 0 < size → wrap_counter size (passed_at size (index_at size t)) ≡ wrap_counter size t }
 {}
 
 /// In a packed queue of 7, of four chains of 3 slots each the second alone has the slot that offset

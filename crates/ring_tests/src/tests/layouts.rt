@@ -4,7 +4,7 @@ use super::split::PLACE;
 use super::{Made, none_is};
 use guest_mem::{GuestMem, StillMem};
 use packed_ring::PackedRing;
-use ring_core::{Fetched, Layout, LayoutFault};
+use ring_core::{Fetched, Layout, LayoutFault, RingIndex};
 use split_ring::SplitRing;
 use std::alloc::Global;
 use std::test::Fail;
@@ -48,15 +48,42 @@ static PACKED: [Placed; 9] = [
     (7, 16272, 16380, 16384, Some(LayoutFault::Outside)),
 ];
 
+/// The first indices of packed queues of seven slots, available and used, and why they are refused, if they are.
+type Begun = (u16, u16, Option<LayoutFault>);
+
+static BEGUN: [Begun; 4] = [
+    (6, 6, None),
+    (0, 6, None),
+    (7, 0, Some(LayoutFault::BadStart)),
+    (0, 7, Some(LayoutFault::BadStart)),
+];
+
+/// Returns the number of the first row of `BEGUN` that isn't taken or refused as it says, from 0.
+fn first_wrong_start<R: Made>(memory: &GuestMem, alloc: Global) -> Option<usize> {
+    for number in 0..BEGUN.len() {
+        let (available, used, wanted) = BEGUN[number];
+        let layout = Layout {
+            first_available: RingIndex {
+                index: available,
+                wrap: false,
+            },
+            first_used: RingIndex {
+                index: used,
+                wrap: true,
+            },
+            ..Layout::fresh(7, 0, 4096, 8192)
+        };
+        if R::made(alloc, 2, layout, 0, memory).err() != wanted {
+            return Some(number);
+        }
+    }
+    None
+}
+
 /// Returns why a layout is refused, if it is.
 fn refusal<R: Made>(memory: &GuestMem, alloc: Global, placed: &Placed) -> Option<LayoutFault> {
     let (size, desc, driver, device, _) = *placed;
-    let layout = Layout {
-        size,
-        desc,
-        driver,
-        device,
-    };
+    let layout = Layout::fresh(size, desc, driver, device);
     match R::made(alloc, 2, layout, 0, memory) {
         Ok(_) => None,
         Err(fault) => Some(fault),
@@ -78,6 +105,7 @@ fn layouts(rt: HostRuntime) -> Result<(), Fail> {
     let memory = GuestMem::new(rt.alloc(), 4)?;
     none_is(&rt, first_wrong::<SplitRing>(&memory, rt.alloc(), &SPLIT));
     none_is(&rt, first_wrong::<PackedRing>(&memory, rt.alloc(), &PACKED));
+    none_is(&rt, first_wrong_start::<PackedRing>(&memory, rt.alloc()));
     Ok(())
 }
 

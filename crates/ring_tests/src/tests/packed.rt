@@ -1,11 +1,12 @@
 //! Tests of a packed queue.
 
+pub(super) mod begins;
 pub(super) mod notices;
 pub(super) mod rows;
 pub(super) mod tables;
 mod wrapping;
 
-use ring_core::Layout;
+use ring_core::{FIRST_INDEX, Layout};
 
 /// The flags of a slot that the driver makes available while its wrap counter is 1.
 const AVAILABLE: u16 = 0x80;
@@ -19,4 +20,6 @@ const PLACE: Layout = Layout {
     desc: 0,
     driver: 4096,
     device: 8192,
+    first_available: FIRST_INDEX,
+    first_used: FIRST_INDEX,
 };

@@ -1,12 +1,13 @@
 //! Tests of a split queue.
 
+pub(super) mod begins;
 pub(super) mod faults;
 mod notices;
 pub(super) mod rows;
 pub(super) mod tables;
 mod wrapping;
 
-use ring_core::Layout;
+use ring_core::{FIRST_INDEX, Layout};
 
 /// The place of a queue.
 pub(super) const PLACE: Layout = Layout {
@@ -14,4 +15,6 @@ pub(super) const PLACE: Layout = Layout {
     desc: 0,
     driver: 4096,
     device: 8192,
+    first_available: FIRST_INDEX,
+    first_used: FIRST_INDEX,
 };

@@ -24,11 +24,12 @@ static RING_FAULTS: [(RingFault, &str); 10] = [
 ];
 
 /// Faults of a layout, in the order of their numbers.
-static LAYOUT_FAULTS: [(LayoutFault, &str); 4] = [
+static LAYOUT_FAULTS: [(LayoutFault, &str); 5] = [
     (LayoutFault::BadSize, "bad queue size"),
     (LayoutFault::BadAlignment, "bad alignment"),
     (LayoutFault::Outside, "queue outside guest memory"),
     (LayoutFault::NoMemory, "no memory"),
+    (LayoutFault::BadStart, "bad first index"),
 ];
 
 /// Returns the number of the first value that isn't called as its row says, from 0.

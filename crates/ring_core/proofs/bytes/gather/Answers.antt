@@ -1,4 +1,4 @@
-use Rattle.std.proofs.Common.{◌∙◌, arith, rules}
+use Rattle.std.proofs.Common.{◌∙◌, arith}
 use Rattle.std.proofs.lemmas.Grind.{common_steps}
 use Rattle.ring_core.proofs.ByPart.{gather_more}
 use Rattle.ring_core.proofs.bytes.gather.Goals as goal

@@ -10,6 +10,7 @@ const MANY: Layout = Layout {
     desc: 0,
     driver: 131_072,
     device: 147_464,
+    ..PLACE
 };
 
 /// The row from which others are made: each says the memory's pages and the queue's place where they aren't these.
@@ -166,6 +167,7 @@ pub static ROWS: [Row; 14] = [
             desc: 1_048_576,
             driver: 0,
             device: 524_288,
+            ..PLACE
         },
         features: 0,
         moves: &[
@@ -184,6 +186,7 @@ pub static ROWS: [Row; 14] = [
             desc: 1_048_576,
             driver: 0,
             device: 524_288,
+            ..PLACE
         },
         features: 0,
         moves: &[
@@ -202,6 +205,7 @@ pub static ROWS: [Row; 14] = [
             desc: 1_048_576,
             driver: 0,
             device: 524_288,
+            ..PLACE
         },
         features: 0,
         moves: &[
