@@ -48,12 +48,13 @@ static void *scribbles(void *nothing)
 	while (!atomic_load(&over)) {
 		uint64_t r = next(&seed);
 
-		switch (r % 6) {
+		/* Now and then anything anywhere; mostly what a driver might write. */
+		switch (r % 64 ? 1 + r % 5 : 0) {
 		case 0:
 			put(DESC + (r >> 8) % 0x4000, r >> 32, 1 + (r >> 4) % 4);
 			break;
 		case 1:
-			put(DRIVER + 2, index += (uint16_t)(r >> 16) % 3, 2);
+			put(DRIVER + 2, index = (index + (uint16_t)(r >> 16) % 2) % 64, 2);
 			break;
 		case 2:
 			put(DRIVER + 4 + 2 * (r >> 8 & 255), r >> 16 & 255, 2);

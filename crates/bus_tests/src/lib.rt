@@ -7,7 +7,7 @@ use crate::echo::{Echoed, open_and_echo};
 use host_bus::HostBus;
 use live_mem::{Bus, LiveMem};
 use packed_ring::PackedRing;
-use ring_core::Layout;
+use ring_core::{FIRST_INDEX, Layout};
 use split_ring::SplitRing;
 use std::alloc::Global;
 
@@ -20,6 +20,8 @@ const LAYOUT: Layout = Layout {
     desc: 0x1_0000,
     driver: 0x1_2000,
     device: 0x1_3000,
+    first_available: FIRST_INDEX,
+    first_used: FIRST_INDEX,
 };
 
 /// Loads bytes, so many times.
