@@ -140,6 +140,18 @@ impl GuestMem {
     }
 }
 
+/// Copies bytes. Both of two are loaded before one is stored: else the machine code tests whether the places overlap.
+#[inline(always)]
+fn copy(from: &[u8], out: &mut [u8])
+    requires { length from.now ≡ length out.old }
+    ensures { out.new ≡ from.now }
+{
+    match from {
+        [first, second] => out.copy_from_slice(&[*first, *second]),
+        _ => out.copy_from_slice(from),
+    }
+}
+
 impl Memory for GuestMem {
     ghost may_be = { λ x m. m ≡ x };
 
@@ -159,7 +171,7 @@ impl Memory for GuestMem {
 
     #[inline(always)]
     fn read(&mut self, addr: u64, out: &mut [u8]) {
-        out.copy_from_slice(self.range(addr, out.len()));
+        copy(self.range(addr, out.len()), out);
     }
 
     #[inline(always)]
@@ -212,7 +224,7 @@ impl<'a> Memory for StillMem<'a> {
 
     #[inline(always)]
     fn read(&mut self, addr: u64, out: &mut [u8]) {
-        out.copy_from_slice(self.memory.range(addr, out.len()));
+        copy(self.memory.range(addr, out.len()), out);
     }
 
     #[inline(always)]
