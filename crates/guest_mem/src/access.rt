@@ -1,6 +1,6 @@
 //! What the device asks of a guest's memory, whether it stands still or changes while the guest runs.
 
-ghost use Rattle.std.specs.Prelude.{◌≡◌, ◌+◌, ◌≤◌, ◌^◌, List, ℕ, length, OnOk, ◌++◌};
+ghost use Rattle.std.specs.Prelude.{◌≡◌, ◌+◌, ◌≤◌, ◌^◌, Bool, false, List, ℕ, length, OnOk, ◌++◌};
 ghost use Rattle.guest_mem.specs.Memory.{bytes_at, with_bytes, LiesIn};
 
 use std::alloc::AllocError;
@@ -20,6 +20,9 @@ pub trait Memory {
 
     /// Says what a new phase has of the one before it.
     ghost begins: { Self → Self → Type 0 };
+
+    /// Says that others may write the memory too: between two phases, and within one.
+    ghost shared: { Bool };
 
     /// Begins a phase: forgets what was read before, which may have changed.
     fn begin(&mut self)
@@ -55,6 +58,12 @@ pub trait Memory {
 
     /// Proves that what the memory may be has its size.
     ghost sized: { (x : Self) (m : List ℕ) → may_be x m → length m ≡ extent x };
+
+    /// Proves that a new phase finds what the one before it left, where nobody else may write.
+    ghost own: { (x y : Self) (m : List ℕ) → shared ≡ false → begins x y → may_be y m → may_be x m };
+
+    /// Proves that the memory is of one list of bytes, where nobody else may write.
+    ghost one: { (x : Self) (m n : List ℕ) → shared ≡ false → may_be x m → may_be x n → m ≡ n };
 }
 
 /// Writes a guest's memory too, behind what a phase reads.

@@ -1,8 +1,8 @@
 //! The memory itself.
 
-ghost use Rattle.std.specs.Prelude.{◌≡◌, ◌+◌, ◌*◌, ◌≤◌, ◌<◌, ◌^◌, List, ℕ, length, replicate, IfOk, OnOk, OnErr, IsOk, IfErr, ◌↔◌, ⊤};
+ghost use Rattle.std.specs.Prelude.{◌≡◌, ◌+◌, ◌*◌, ◌≤◌, ◌<◌, ◌^◌, List, ℕ, length, replicate, IfOk, OnOk, OnErr, IsOk, IfErr, ◌↔◌, ⊤, false};
 ghost use Rattle.guest_mem.specs.Memory.{bytes_at, with_bytes, LiesIn};
-ghost use Rattle.std.proofs.Common.{ap};
+ghost use Rattle.std.proofs.Common.{ap, sym, ◌∙◌};
 
 use crate::access::{Memory, WritableMemory};
 use std::alloc::{AllocError, Global};
@@ -161,6 +161,8 @@ impl Memory for GuestMem {
 
     ghost begins = { λ x y. y ≡ x };
 
+    ghost shared = { false };
+
     #[inline(always)]
     fn begin(&mut self) {}
 
@@ -180,6 +182,10 @@ impl Memory for GuestMem {
     }
 
     ghost sized = { λ x m e. ap length e };
+
+    ghost own = { λ x y m alone begun e. e ∙ begun };
+
+    ghost one = { λ x m n alone a b. a ∙ sym b };
 }
 
 impl WritableMemory for GuestMem {
@@ -214,6 +220,8 @@ impl<'a> Memory for StillMem<'a> {
 
     ghost begins = { λ x y. y ≡ x };
 
+    ghost shared = { false };
+
     #[inline(always)]
     fn begin(&mut self) {}
 
@@ -233,4 +241,8 @@ impl<'a> Memory for StillMem<'a> {
     }
 
     ghost sized = { λ x m e. ap length e };
+
+    ghost own = { λ x y m alone begun e. e ∙ ap (λ k. k.memory.now) begun };
+
+    ghost one = { λ x m n alone a b. a ∙ sym b };
 }

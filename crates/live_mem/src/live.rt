@@ -5,6 +5,7 @@ ghost use Rattle.guest_mem.specs.Memory.{bytes_at, with_bytes, LiesIn};
 ghost use Rattle.live_mem.specs.Access.{Access, loaded, stored, AreBytes, Asks, LoadsThere, MayBe, StoredNothing};
 ghost use Rattle.live_mem.specs.Heard.{heard};
 ghost use Rattle.live_mem.specs.Kept.{valued};
+ghost use Rattle.std.proofs.lemmas.Bool.{true≢false};
 
 use crate::bus::Bus;
 use crate::kept::Kept;
@@ -133,6 +134,8 @@ impl<B: Bus> Memory for LiveMem<B> {
 
     ghost begins = { λ x y. heard y.bus ≡ Access.Begins ∷ heard x.bus };
 
+    ghost shared = { true };
+
     fn begin(&mut self)
         ensures size { self.new.size ≡ self.old.size }
         ensures reading { StoredNothing (heard self.new.bus) }
@@ -185,6 +188,10 @@ impl<B: Bus> Memory for LiveMem<B> {
     }
 
     ghost sized = { λ x m b. b.3 };
+
+    ghost own = { λ x y m alone begun b. absurd (true≢false alone) };
+
+    ghost one = { λ x m n alone a b. absurd (true≢false alone) };
 }
 
 impl<B: Bus> WritableMemory for LiveMem<B> {
