@@ -1,10 +1,12 @@
 #include "session.h"
 
 #include <errno.h>
+#include <poll.h>
 #include <stdio.h>
 #include <string.h>
 #include <sys/epoll.h>
 #include <sys/timerfd.h>
+#include <sys/uio.h>
 #include <unistd.h>
 
 #include "bytes.h"
@@ -246,9 +248,25 @@ static bool guarded(struct session *session, bool (*call)(void *session)) {
 
 bool session_read(struct session *session) { return guarded(session, read_on); }
 
+// Adds to an event's count. A front end may have made its descriptor one that waits, so a count that is full is left alone: it hasn't
+// looked yet. Between the two calls none but that front end could fill it.
 static void signal_fd(int fd) {
   const uint64_t one = 1;
-  if (fd >= 0 && write(fd, &one, sizeof one) < 0) return;  // its count is full: the front end hasn't looked yet
+  struct pollfd asked = {.fd = fd, .events = POLLOUT};
+  if (fd < 0 || poll(&asked, 1, 0) < 1 || !(asked.revents & POLLOUT)) return;
+  if (write(fd, &one, sizeof one) < 0) return;
+}
+
+// Takes what a kick's descriptor has to say, without waiting, also where the front end made it one that waits. Returns false where it
+// can't be read.
+static bool drain(int fd) {
+  uint64_t count;
+  struct iovec part = {.iov_base = &count, .iov_len = sizeof count};
+  struct pollfd asked = {.fd = fd, .events = POLLIN};
+  ssize_t got = preadv2(fd, &part, 1, -1, RWF_NOWAIT);
+  // A system or a file that doesn't know that word. What is there now only the front end can take away before it is read.
+  if (got < 0 && (errno == EOPNOTSUPP || errno == ENOSYS)) got = poll(&asked, 1, 0) == 1 ? read(fd, &count, sizeof count) : 1;
+  return got > 0 || (got < 0 && (errno == EAGAIN || errno == EINTR));
 }
 
 void session_kicked(struct session *session, unsigned what) {
@@ -257,9 +275,8 @@ void session_kicked(struct session *session, unsigned what) {
   if (what == EVENT_TIMER && read(session->timer, &count, sizeof count) < 0) return;  // it was set anew meanwhile
   if (what >= session->backend.count || session->queues[what].kick < 0) return;
   int kick = session->queues[what].kick;
-  ssize_t got = read(kick, &count, sizeof count);
-  // No eventfd, and at its end, or nothing that can be read.
-  if (got == 0 || (got < 0 && errno != EAGAIN && errno != EINTR)) epoll_ctl(session->epoll, EPOLL_CTL_DEL, kick, NULL);
+  // No eventfd, or at its end.
+  if (!drain(kick)) epoll_ctl(session->epoll, EPOLL_CTL_DEL, kick, NULL);
 }
 
 static void notify(struct session *session, uint32_t owed) {

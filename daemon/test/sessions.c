@@ -243,6 +243,9 @@ void test_kicks(void) {
     struct sent wrong;
     front_descriptor(&wrong, SET_VRING_CALL, 2, front.socket);
     MUST(!front_ask(&front, &wrong) && front.alive);
+    // Reading a file may take as long as its file system wants.
+    front_descriptor(&wrong, SET_VRING_KICK, 2, front.memory_fd);
+    MUST(!front_ask(&front, &wrong) && front.alive);
     MUST(epoll_wait(front.epoll, &event, 1, 0) == 0 && !front.session.more);
     close(other);
     // Without a kick the daemon looks by itself.
@@ -262,6 +265,38 @@ void test_kicks(void) {
     uint64_t begun = clock_now();
     while (clock_now() - begun < 50) looks += epoll_wait(front.epoll, &event, 1, 0) > 0 ? (turn(&front), 1u) : 0u;
     MUST(looks && looks <= clock_now() - begun + 1);
+    end(&front, &disks);
+  }
+}
+
+// Makes a descriptor that the daemon has too one that waits.
+static void make_wait(int fd) { MUST(!fcntl(fd, F_SETFL, fcntl(fd, F_GETFL) & ~O_NONBLOCK)); }
+
+void test_waits(void) {
+  for (unsigned number = 0; number < WAYS; number++) {
+    struct disks disks;
+    struct front front;
+    int ends[2];
+    struct sent sent;
+    begin(&front, &disks, number);
+    front_agree(&front);
+    MUST(is_ready(&front, 3) && !pipe2(ends, O_CLOEXEC));
+    // Whoever waits for ever is ended by this.
+    alarm(20);
+    make_wait(front.kick[3]);
+    make_wait(front.call[3]);
+    // There is nothing to be read: the front end read it first.
+    session_kicked(&front.session, 3);
+    front_descriptor(&sent, SET_VRING_KICK, 4, ends[0]);
+    MUST(front_ask(&front, &sent));
+    make_wait(ends[0]);
+    session_kicked(&front.session, 4);
+    // There is no room for more in this count.
+    MUST(write(front.call[3], &(uint64_t){UINT64_MAX - 1}, 8) == 8);
+    MUST(is_ready(&front, 3) && is_ready(&front, 2) && is_ready(&front, 3));
+    alarm(0);
+    close(ends[0]);
+    close(ends[1]);
     end(&front, &disks);
   }
 }

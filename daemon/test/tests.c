@@ -306,7 +306,7 @@ int main(int count, char **words) {
                {"scattered", test_scattered}, {"whole", test_whole}, {"full", test_full}, {"forgetful", test_forgetful},
                {"abandoned", test_abandoned}, {"zeros", test_zeros}, {"turns", test_turns}, {"order of control", test_order_of_control},
                {"moved", test_moved}, {"slots", test_slots}, {"regions", test_regions}, {"short", test_short},
-               {"forms", test_forms}, {"stale", test_stale}, {"kicks", test_kicks}, {"reset", test_reset},
+               {"forms", test_forms}, {"stale", test_stale}, {"kicks", test_kicks}, {"waits", test_waits}, {"reset", test_reset},
                {"refused", test_refused}, {"endless", test_endless}};
   unsigned files = open_files();
   for (size_t i = 0; i < sizeof tests / sizeof *tests; i++) {
