@@ -25,7 +25,7 @@ bool backend_make(struct backend *backend, const struct vscsi_queue *queues, uin
                                       .units = units,
                                       .unit_count = backend->disks->count,
                                       .pages = pages};
-  memset(backend->places, 0, sizeof backend->places);
+  memset(backend->noted, 0, sizeof backend->noted);
   return blocks_load(backend->disks, why, room) && device_create(&backend->device, &config, backend->disks->stores, why, room);
 }
 
@@ -101,7 +101,7 @@ static enum ran run_queues(struct backend *backend, uint32_t queues, uint64_t un
   while (more && backend->steps < MOST_ROUND_STEPS) {
     bool served = device_serve(&backend->device, queues, most, &more);
     backend->steps += most;
-    if (kept) blocks_note(&backend->device, backend->disks, backend->places);
+    if (kept) blocks_note(&backend->device, backend->disks, backend->noted);
     if (!served) return REFUSED;
     if (more && clock_now() >= until) return RUNS;
   }

@@ -32,7 +32,7 @@ struct backend {
   struct memory memory;
   struct disks *disks;
   struct device device;
-  uint64_t places[DEVICE_MOST_UNITS];  // of each unit's history: what is noted in its disk's backlog
+  struct noted noted[DEVICE_MOST_UNITS];  // of each unit: what is noted in its disk's backlog
   struct backend_queue queues[MOST_QUEUES];
   unsigned count;
   bool only_shadow, shadow, packed, event_index, indirect;

@@ -15,8 +15,13 @@ bool blocks_load(struct disks *disks, char *why, size_t room);
 // Returns whether a disk has a file that is written.
 bool blocks_are_kept(const struct disks *disks);
 
-// Notes the blocks that the device changed since the last call for it. `places` has a place for each disk, 0 at first.
-void blocks_note(struct device *device, struct disks *disks, uint64_t *places);
+// Of a disk: the place of its history up to which changes were noted, and how many commands had ended with GOOD there.
+struct noted {
+  uint64_t place, good;
+};
+
+// Notes the blocks that the device changed since the last call for it. `noted` has a place for each disk, zeros at first.
+void blocks_note(struct device *device, struct disks *disks, struct noted *noted);
 
 // Notes that the guest wants blocks of a disk unmapped: where they are zeros when they are written, they become a hole of the file.
 void blocks_unmap(struct disks *disks, uint8_t target, uint16_t lun, struct vscsi_range range);

@@ -26,7 +26,9 @@ void faults_clear(void) {
 ssize_t pwrite(int fd, const void *bytes, size_t count, off_t at) {
   if (faults.write_error && !faults.writes) return errno = faults.write_error, -1;
   if (faults.write_error) faults.writes--;
+  if (faults.slow) usleep(faults.slow);
   ssize_t here = (ssize_t)syscall(SYS_pwrite64, fd, bytes, count, at);
+  if (here > 0) faults.bytes += (uint64_t)here;
   if (here > 0 && written_count < MOST_WRITTEN) {
     written[written_count].at = at;
     written[written_count++].count = (size_t)here;

@@ -4,6 +4,7 @@
 #define DAEMON_TEST_FAULTS_H
 
 #include <stdbool.h>
+#include <stdint.h>
 
 struct faults {
   int write_error;      // by which pwrite fails, or 0
@@ -12,6 +13,8 @@ struct faults {
   unsigned bad_syncs;   // how many fail
   unsigned refusals;    // how many calls of vscsi_serve are refused memory
   bool endless;         // vscsi_serve says that something is left
+  unsigned slow;        // microseconds that pwrite takes
+  uint64_t bytes;       // that pwrite wrote
 };
 
 extern struct faults faults;

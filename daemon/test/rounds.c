@@ -6,6 +6,7 @@
 #include <stdlib.h>
 #include <string.h>
 #include <sys/stat.h>
+#include <time.h>
 #include <unistd.h>
 
 #include "../bytes.h"
@@ -131,9 +132,9 @@ void test_scattered(void) {
     struct disks disks;
     struct front front;
     struct stat stat;
+    clock_t begun = clock();
     make_disk(&disks, "64G");
     begin(&front, &disks, number);
-    uint64_t begun = clock_now();
     put_writes(&front, MANY);
     MUST(await(&front, Q, MANY, PATIENCE) == MANY && has_all(&front, MANY));
     for (unsigned i = 0; i < 5; i++) put_unmap(&front, i, 16 * i, 16);
@@ -141,22 +142,29 @@ void test_scattered(void) {
     MUST(await(&front, Q, 5, PATIENCE) == 5);
     for (unsigned i = 0; i < 5; i++) MUST(is_good(&front, i));
     for (unsigned i = 0; i < MANY; i++) MUST(has(i, (uint64_t)i * APART, i < 80));
-    MUST(clock_now() - begun < 2000 && !lstat(path, &stat) && stat.st_blocks < 8192);
+    // UNMAPs of more descriptors than the device takes, which change nothing.
+    faults.bytes = 0;
+    put_unmap(&front, 0, 80, 17);
+    put_unmap(&front, 1, 80, 65);
+    put_unmap(&front, 2, 80, 200);
+    driver_kick(&front, Q);
+    MUST(await(&front, Q, 3, PATIENCE) == 3 && !faults.bytes);
+    for (unsigned i = 0; i < 3; i++) MUST(answer_of(&front, i)[10] == 2);
+    for (unsigned i = 80; i < MANY; i++) MUST(has(i, (uint64_t)i * APART, false));
+    MUST(clock() - begun < 2 * CLOCKS_PER_SEC && !lstat(path, &stat) && stat.st_blocks < 8192);
     end(&front, &disks);
   }
 }
 
-void test_whole(void) {
+void test_slow(void) {
   for (unsigned number = 0; number < WAYS; number += 5) {
     struct disks disks;
     struct front front;
     uint8_t payload[8];
-    make_disk(&disks, "512M");
+    make_disk(&disks, "64G");
     begin(&front, &disks, number);
-    put_write(&front, Q, 1, APART);
-    // An UNMAP with more descriptors than are taken: any block may have changed.
-    put_unmap(&front, 0, 0, 65);
-    driver_kick(&front, Q);
+    faults.slow = 3000;
+    put_writes(&front, 60);
     turn(&front);
     front_say(&front, GET_FEATURES, 0);
     front_say(&front, GET_VRING_BASE, 3);
@@ -166,10 +174,10 @@ void test_whole(void) {
       turn(&front);
       MUST(clock_now() - begun < PATIENCE);
       while (driver_next(&front, Q, 3, &length)) seen++;
-      if (front_reply(&front, payload, sizeof payload) && answered++) MUST(seen == 2 && little_get(payload, 4) == 3);
+      if (front_reply(&front, payload, sizeof payload) && answered++) MUST(seen == 60 && little_get(payload, 4) == 3);
       MUST(!seen || answered);
     }
-    MUST(turns > 3 && is_good(&front, 1) && answer_of(&front, 0)[10] == 2 && has(1, APART, false));
+    MUST(turns > 3 && has_all(&front, 60));
     end(&front, &disks);
   }
 }

@@ -637,14 +637,15 @@ def test_held(room):
         log.unlink()
 
 
-def test_written_whole(room):
-    """While a disk is written from its first block to its last, messages are answered, and the daemon ends by a signal."""
-    with driven(room, "--disk", f"0:0=8T,file={room.folder / 'image'}", ends=1) as (_, front, log):
+def test_refused_unmap(room):
+    """An UNMAP that names more blocks than it may changes nothing, and writes nothing, however large the disk is."""
+    image = room.folder / "image"
+    with driven(room, "--disk", f"0:0=8T,file={image}", ends=0) as (_, front, _):
         front.refused_unmap()
-        for _ in range(5):
-            time.sleep(0.1)
-            assert front.asks() and front.answered() == 0
-    assert "aren't kept" in log.read_text()
+        wait_for(lambda: front.answered() == 1, "the UNMAP")
+        front.write(0, b"a" * 4096)
+        wait_for(lambda: front.answered() == 2, "a WRITE")
+    assert image.stat().st_blocks <= 64
 
 
 # Isolation.

@@ -70,7 +70,7 @@ class FrontEnd:
         self.put(struct.pack(">BBIBHB", 0x2A, 0, lba, 0, len(data) // BLOCK, 0), data)
 
     def refused_unmap(self):
-        """Makes an UNMAP available that has more descriptors than are taken, so that any block may have changed."""
+        """Makes an UNMAP available that has more descriptors than are taken, so that the library tells of any block."""
         length = 8 + 65 * 16
         self.put(struct.pack(">BBIBHB", 0x42, 0, 0, 0, length, 0), struct.pack(">HHI", length - 2, length - 8, 0).ljust(length, b"\0"))
 
