@@ -663,13 +663,14 @@ def has_seccomp(room):
 def test_limits(room):
     """The daemon can't gain privileges, writes no core file, and opens a limited number of files."""
     with room.runs("--disk", "0:0=1M") as run:
+        assert serves(room.socket)
         told = facts(run)
         limits = Path(f"/proc/{run.pid}/limits").read_text()
         assert told["NoNewPrivs"] == "1" and told["Seccomp"] == ("2" if has_seccomp(room) else "0")
         assert re.search(r"Max core file size +0 +0", limits) and re.search(r"Max open files +1024 ", limits)
     if has_seccomp(room):
         with room.runs("--disk", "0:0=1M", "--seccomp", "off") as run:
-            assert facts(run)["Seccomp"] == "0" and facts(run)["NoNewPrivs"] == "1"
+            assert serves(room.socket) and facts(run)["Seccomp"] == "0" and facts(run)["NoNewPrivs"] == "1"
 
 
 def test_modes(room):
@@ -689,11 +690,12 @@ def test_users(room):
     room.folder.chmod(0o777)
     disk = room.folder / "new.img"
     with room.runs("--disk", f"0:0=1M,file={disk}", "--user", "nobody", "--group", "daemon", "--mode", "660") as run:
+        # It listens before it becomes another.
+        assert serves(room.socket)
         told = facts(run)
         assert told["Uid"].split() == ["65534"] * 4 and told["Gid"].split() == ["1"] * 4 and told["CapEff"] == "0000000000000000"
         assert told["Groups"].split() in ([], ["1"], ["65534"], ["1", "65534"])
         assert (room.socket.stat().st_uid, room.socket.stat().st_gid, disk.stat().st_uid) == (65534, 1, 65534)
-        assert serves(room.socket)
     assert not room.socket.exists()
     return None
 
