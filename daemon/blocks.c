@@ -7,9 +7,9 @@
 
 #include "clock.h"
 
-// How many blocks are moved at once; the ranges that a backlog has room for at the most; and milliseconds, of blocks_keep and of
-// blocks_finish.
-enum { CHUNK = 128, MOST_RANGES = 1 << 16, PORTION = 20, LAST_PORTIONS = 1000 };
+// How many blocks are moved at once; the ranges that a backlog has room for at the most; and milliseconds, of blocks_keep, of
+// blocks_finish, and between two tries of a file that can't be written.
+enum { CHUNK = 128, MOST_RANGES = 1 << 16, PORTION = 20, LAST_PORTIONS = 1000, LEAST_PAUSE = 50, MOST_PAUSE = 5000 };
 
 static bool load_chunk(struct vscsi_disk *store, const struct disk *disk, uint64_t first, uint32_t count) {
   uint8_t bytes[CHUNK * DEVICE_BLOCK];
@@ -135,6 +135,15 @@ void blocks_note(struct device *device, struct disks *disks, struct noted *noted
   }
 }
 
+uint64_t blocks_named(const struct disks *disks, uint8_t target, uint16_t lun, bool whole_target) {
+  uint64_t named = 0;
+  for (size_t i = 0; i < disks->count; i++) {
+    const struct disk *disk = &disks->disks[i];
+    if (disk->target == target && (disk->lun == lun || whole_target)) named |= UINT64_C(1) << i;
+  }
+  return named;
+}
+
 void blocks_unmap(struct disks *disks, uint8_t target, uint16_t lun, struct vscsi_range range) {
   for (size_t i = 0; i < disks->count; i++) {
     struct disk *disk = &disks->disks[i];
@@ -178,21 +187,29 @@ static bool write_chunk(struct device *device, struct disks *disks, size_t which
   return true;
 }
 
+// Notes by which error a disk's file can't be written, and puts the next try off, each time for twice as long.
+static enum kept put_off(struct disk *disk) {
+  disk->error = errno;
+  disk->pause = !disk->pause ? LEAST_PAUSE : disk->pause > MOST_PAUSE / 2 ? MOST_PAUSE : 2 * disk->pause;
+  disk->due = clock_now() + disk->pause;
+  return STUCK;
+}
+
 // Writes a disk's backlog until this time, and waits until that stands on the file.
 static enum kept keep(struct device *device, struct disks *disks, size_t which, uint64_t until) {
   struct disk *disk = &disks->disks[which];
   struct backlog *backlog = &disk->backlog;
   do {
     if (backlog->written.range == backlog->count) break;
-    if (!write_chunk(device, disks, which)) return disk->error = errno, STUCK;
+    if (!write_chunk(device, disks, which)) return put_off(disk);
   } while (clock_now() < until);
   if (!disk_sync(disk)) {
     // The system may have forgotten all that was written since it last stood there for sure, and won't say so again.
-    disk->error = errno;
     backlog->written = backlog->synced;
-    return STUCK;
+    return put_off(disk);
   }
   disk->error = 0;
+  disk->pause = 0;
   backlog->synced = backlog->written;
   if (backlog->written.range < backlog->count) return KEEPING;
   backlog->count = backlog->unmapped_count = 0;
@@ -200,31 +217,48 @@ static enum kept keep(struct device *device, struct disks *disks, size_t which, 
   return KEPT;
 }
 
-enum kept blocks_keep(struct device *device, struct disks *disks) {
+enum kept blocks_keep(struct device *device, struct disks *disks, bool at_once) {
   uint64_t until = 0;
   enum kept kept = KEPT;
   for (size_t i = 0; i < disks->count; i++) {
-    struct backlog *backlog = &disks->disks[i].backlog;
-    if (!backlog->count) backlog->unmapped_count = 0;
-    if (!backlog->count) continue;
+    struct disk *disk = &disks->disks[i];
+    if (!disk->backlog.count) disk->backlog.unmapped_count = 0;
+    if (!disk->backlog.count) continue;
+    bool waits = disk->pause && !at_once && clock_now() < disk->due;
     if (!until) until = clock_now() + PORTION;
-    enum kept its = keep(device, disks, i, until);
+    enum kept its = waits ? STUCK : keep(device, disks, i, until);
     if (its > kept) kept = its;
   }
   return kept;
+}
+
+uint64_t blocks_behind(const struct disks *disks) {
+  uint64_t behind = 0;
+  for (size_t i = 0; i < disks->count; i++)
+    if (disks->disks[i].backlog.count) behind |= UINT64_C(1) << i;
+  return behind;
+}
+
+uint64_t blocks_due(const struct disks *disks) {
+  uint64_t due = UINT64_MAX;
+  for (size_t i = 0; i < disks->count; i++) {
+    const struct disk *disk = &disks->disks[i];
+    if (disk->backlog.count && disk->due < due) due = disk->due;
+  }
+  return due;
 }
 
 bool blocks_finish(struct disks *disks, char *why, size_t room) {
   struct device none = {0};
   uint64_t until = clock_now() + LAST_PORTIONS;
   enum kept kept;
-  do kept = blocks_keep(&none, disks);
+  do kept = blocks_keep(&none, disks, true);
   while (kept == KEEPING && clock_now() < until);
   for (size_t i = 0; kept != KEPT && i < disks->count; i++) {
     const struct disk *disk = &disks->disks[i];
     const char *cause = disk->error ? strerror(disk->error) : "there was no time for it";
     if (!disk->backlog.count) continue;
-    snprintf(why, room, "disk %u:%u: %s: requests that weren't answered aren't kept: %s", disk->target, disk->lun, disk->path, cause);
+    snprintf(why, room, "disk %u:%u: %s: requests that weren't answered GOOD aren't kept: %s", disk->target, disk->lun, disk->path, cause);
     return false;
   }
   return true;

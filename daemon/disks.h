@@ -36,6 +36,9 @@ struct disk {
   uint64_t length;  // of the image when it was opened, in bytes
   bool dirty;       // written since disk_sync
   int error;        // the error number by which the image can't be written now, or 0
+  unsigned pause;   // milliseconds between two tries then, and the time of the next one
+  uint64_t due;
+  uint64_t told;    // when it was last said that it can't be written, or 0
   struct backlog backlog;
 };
 

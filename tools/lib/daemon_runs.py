@@ -637,6 +637,23 @@ def test_held(room):
         log.unlink()
 
 
+def test_apart(room):
+    """A disk whose file can't be written holds no other. What was answered for that one is on its file when the daemon is killed."""
+    for mode in ([], ["--shadow"]):
+        first, second = (room.folder / f"{name}{len(mode)}" for name in ("first", "second"))
+        words = [*mode, "--quiet", "--disk", f"0:0=16M,file={first}", "--disk", f"0:1=16M,file={second}"]
+        with room.runs(*words, ends=-signal.SIGKILL, by=signal.SIGKILL) as run, FrontEnd(connected(room.socket)) as front:
+            front.write(0, b"a" * 4096)
+            wait_for(lambda: front.answered() == 1, "the first WRITE")
+            limit_files(run, MIB)
+            front.write(8192, b"b" * 4096)
+            for i in range(10):
+                front.write(8 * i, bytes([i + 1]) * 4096, 1)
+                wait_for(lambda: front.answered() == 2 + i, "a WRITE to the other disk")  # noqa: B023
+        assert first.read_bytes()[:4096] == b"a" * 4096
+        assert second.read_bytes()[: 10 * 4096] == b"".join(bytes([i + 1]) * 4096 for i in range(10))
+
+
 def test_refused_unmap(room):
     """An UNMAP that names more blocks than it may changes nothing, and writes nothing, however large the disk is."""
     image = room.folder / "image"
