@@ -7,9 +7,9 @@
 
 #include "clock.h"
 
-// How many blocks are moved at once; the ranges that a backlog has room for at first, and at the most; and milliseconds, of
-// blocks_keep and of blocks_finish.
-enum { CHUNK = 128, FEW_RANGES = 64, MOST_RANGES = 1 << 16, PORTION = 20, LAST_PORTIONS = 1000 };
+// How many blocks are moved at once; the ranges that a backlog has room for at the most; and milliseconds, of blocks_keep, of
+// blocks_finish, and between two tries of a file that can't be written.
+enum { CHUNK = 128, MOST_RANGES = 1 << 16, PORTION = 20, LAST_PORTIONS = 1000, LEAST_PAUSE = 50, MOST_PAUSE = 5000 };
 
 static bool load_chunk(struct vscsi_disk *store, const struct disk *disk, uint64_t first, uint32_t count) {
   uint8_t bytes[CHUNK * DEVICE_BLOCK];
@@ -51,36 +51,97 @@ bool blocks_are_kept(const struct disks *disks) {
   return false;
 }
 
-static void note_all(struct backlog *backlog) {
-  backlog->all = true;
-  backlog->count = 1;
+static struct vscsi_range *ranges_of(struct backlog *backlog) { return backlog->ranges ? backlog->ranges : backlog->few; }
+
+static size_t room_of(const struct backlog *backlog) { return backlog->ranges ? backlog->room : FEW_RANGES; }
+
+// Gives a backlog room for twice as many ranges. Returns false where it has as much as it gets.
+static bool grow(struct backlog *backlog) {
+  size_t more = 2 * room_of(backlog);
+  struct vscsi_range *ranges = more <= MOST_RANGES ? realloc(backlog->ranges, more * sizeof *ranges) : NULL;
+  if (!ranges) return false;
+  if (!backlog->ranges) memcpy(ranges, backlog->few, sizeof backlog->few);
+  backlog->ranges = ranges;
+  backlog->room = more;
+  return true;
+}
+
+static void swap(struct vscsi_range *a, struct vscsi_range *b) {
+  struct vscsi_range kept = *a;
+  *a = *b;
+  *b = kept;
+}
+
+// Moves a range down a heap, behind those that begin later.
+static void sift(struct vscsi_range *ranges, size_t at, size_t count) {
+  for (size_t child = 2 * at + 1; child < count; at = child, child = 2 * at + 1) {
+    if (child + 1 < count && ranges[child + 1].first > ranges[child].first) child++;
+    if (ranges[at].first >= ranges[child].first) return;
+    swap(&ranges[at], &ranges[child]);
+  }
+}
+
+// Sorts ranges by their first blocks, with no memory and no call of the system, as qsort may make.
+static void sort(struct vscsi_range *ranges, size_t count) {
+  for (size_t i = count / 2; i-- > 0;) sift(ranges, i, count);
+  for (size_t end = count; end-- > 1;) {
+    swap(&ranges[0], &ranges[end]);
+    sift(ranges, 0, end);
+  }
+}
+
+// Joins sorted ranges that meet, or each second one with the one before it. Returns how many are left.
+static size_t join(struct vscsi_range *ranges, size_t count, bool pairs) {
+  size_t last = 0;
+  for (size_t i = 1; i < count; i++) {
+    uint64_t end = ranges[last].first + ranges[last].count, its_end = ranges[i].first + ranges[i].count;
+    bool joins = pairs ? i % 2 : ranges[i].first <= end;
+    if (!joins) ranges[++last] = ranges[i];
+    else if (its_end > end) ranges[last].count = its_end - ranges[last].first;
+  }
+  return count ? last + 1 : 0;
+}
+
+// Makes room in a backlog that gets none: half of it at the least. What lies between two ranges may have to be written with them.
+static void shrink(struct backlog *backlog) {
+  struct vscsi_range *ranges = ranges_of(backlog);
+  sort(ranges, backlog->count);
+  backlog->count = join(ranges, backlog->count, false);
+  if (backlog->count > room_of(backlog) / 2) backlog->count = join(ranges, backlog->count, true);
   backlog->written = backlog->synced = (struct mark){0};
 }
 
-// Notes a range of blocks. Where there is no room for one more, the backlog becomes the whole disk.
+// Notes a range of blocks.
 static void note(struct backlog *backlog, struct vscsi_range range) {
-  if (!backlog->all && backlog->count == backlog->room) {
-    size_t more = backlog->room ? 2 * backlog->room : FEW_RANGES;
-    struct vscsi_range *ranges = more <= MOST_RANGES ? realloc(backlog->ranges, more * sizeof *ranges) : NULL;
-    if (ranges) {
-      backlog->ranges = ranges;
-      backlog->room = more;
-    }
-  }
-  if (backlog->all || backlog->count == backlog->room) note_all(backlog);
-  else backlog->ranges[backlog->count++] = range;
+  if (backlog->count == room_of(backlog) && !grow(backlog)) shrink(backlog);
+  ranges_of(backlog)[backlog->count++] = range;
 }
 
-void blocks_note(struct device *device, struct disks *disks, uint64_t *places) {
+void blocks_note(struct device *device, struct disks *disks, struct noted *noted) {
   for (size_t i = 0; i < disks->count; i++) {
     struct disk *disk = &disks->disks[i];
     struct vscsi_range ranges[VSCSI_MOST_RANGES];
     size_t count = 0;
     bool all = true;
+    uint64_t good = noted[i].good;
     if (!is_kept(disk)) continue;
-    if (!device_changed(device, disk->target, disk->lun, &places[i], ranges, &count, &all) || all) note_all(&disk->backlog);
-    for (size_t r = 0; !all && r < count; r++) note(&disk->backlog, ranges[r]);
+    bool told = device_changed(device, disk->target, disk->lun, &noted[i].place, ranges, &count, &all) &&
+                device_good(device, disk->target, disk->lun, &good);
+    // A command that doesn't end with GOOD changes no block, whichever blocks it names.
+    if (told && good == noted[i].good) continue;
+    noted[i].good = good;
+    if (!told || all) note(&disk->backlog, (struct vscsi_range){0, disk->blocks});
+    for (size_t r = 0; told && !all && r < count; r++) note(&disk->backlog, ranges[r]);
   }
+}
+
+uint64_t blocks_named(const struct disks *disks, uint8_t target, uint16_t lun, bool whole_target) {
+  uint64_t named = 0;
+  for (size_t i = 0; i < disks->count; i++) {
+    const struct disk *disk = &disks->disks[i];
+    if (disk->target == target && (disk->lun == lun || whole_target)) named |= UINT64_C(1) << i;
+  }
+  return named;
 }
 
 void blocks_unmap(struct disks *disks, uint8_t target, uint16_t lun, struct vscsi_range range) {
@@ -116,7 +177,7 @@ static bool write_chunk(struct device *device, struct disks *disks, size_t which
   uint8_t bytes[CHUNK * DEVICE_BLOCK];
   struct disk *disk = &disks->disks[which];
   struct mark *mark = &disk->backlog.written;
-  struct vscsi_range range = disk->backlog.all ? (struct vscsi_range){0, disk->blocks} : disk->backlog.ranges[mark->range];
+  struct vscsi_range range = ranges_of(&disk->backlog)[mark->range];
   uint64_t first = range.first + mark->done, left = range.count - mark->done;
   uint32_t count = left < CHUNK ? (uint32_t)left : CHUNK;
   bool unmapped = is_unmapped(&disk->backlog, first, count);
@@ -126,54 +187,78 @@ static bool write_chunk(struct device *device, struct disks *disks, size_t which
   return true;
 }
 
+// Notes by which error a disk's file can't be written, and puts the next try off, each time for twice as long.
+static enum kept put_off(struct disk *disk) {
+  disk->error = errno;
+  disk->pause = !disk->pause ? LEAST_PAUSE : disk->pause > MOST_PAUSE / 2 ? MOST_PAUSE : 2 * disk->pause;
+  disk->due = clock_now() + disk->pause;
+  return STUCK;
+}
+
 // Writes a disk's backlog until this time, and waits until that stands on the file.
 static enum kept keep(struct device *device, struct disks *disks, size_t which, uint64_t until) {
   struct disk *disk = &disks->disks[which];
   struct backlog *backlog = &disk->backlog;
   do {
     if (backlog->written.range == backlog->count) break;
-    if (!write_chunk(device, disks, which)) return disk->error = errno, STUCK;
+    if (!write_chunk(device, disks, which)) return put_off(disk);
   } while (clock_now() < until);
   if (!disk_sync(disk)) {
     // The system may have forgotten all that was written since it last stood there for sure, and won't say so again.
-    disk->error = errno;
     backlog->written = backlog->synced;
-    return STUCK;
+    return put_off(disk);
   }
   disk->error = 0;
+  disk->pause = 0;
   backlog->synced = backlog->written;
   if (backlog->written.range < backlog->count) return KEEPING;
   backlog->count = backlog->unmapped_count = 0;
-  backlog->all = false;
   backlog->written = backlog->synced = (struct mark){0};
   return KEPT;
 }
 
-enum kept blocks_keep(struct device *device, struct disks *disks) {
+enum kept blocks_keep(struct device *device, struct disks *disks, bool at_once) {
   uint64_t until = 0;
   enum kept kept = KEPT;
   for (size_t i = 0; i < disks->count; i++) {
-    struct backlog *backlog = &disks->disks[i].backlog;
-    if (!backlog->count) backlog->unmapped_count = 0;
-    if (!backlog->count) continue;
+    struct disk *disk = &disks->disks[i];
+    if (!disk->backlog.count) disk->backlog.unmapped_count = 0;
+    if (!disk->backlog.count) continue;
+    bool waits = disk->pause && !at_once && clock_now() < disk->due;
     if (!until) until = clock_now() + PORTION;
-    enum kept its = keep(device, disks, i, until);
+    enum kept its = waits ? STUCK : keep(device, disks, i, until);
     if (its > kept) kept = its;
   }
   return kept;
+}
+
+uint64_t blocks_behind(const struct disks *disks) {
+  uint64_t behind = 0;
+  for (size_t i = 0; i < disks->count; i++)
+    if (disks->disks[i].backlog.count) behind |= UINT64_C(1) << i;
+  return behind;
+}
+
+uint64_t blocks_due(const struct disks *disks) {
+  uint64_t due = UINT64_MAX;
+  for (size_t i = 0; i < disks->count; i++) {
+    const struct disk *disk = &disks->disks[i];
+    if (disk->backlog.count && disk->due < due) due = disk->due;
+  }
+  return due;
 }
 
 bool blocks_finish(struct disks *disks, char *why, size_t room) {
   struct device none = {0};
   uint64_t until = clock_now() + LAST_PORTIONS;
   enum kept kept;
-  do kept = blocks_keep(&none, disks);
+  do kept = blocks_keep(&none, disks, true);
   while (kept == KEEPING && clock_now() < until);
   for (size_t i = 0; kept != KEPT && i < disks->count; i++) {
     const struct disk *disk = &disks->disks[i];
     const char *cause = disk->error ? strerror(disk->error) : "there was no time for it";
     if (!disk->backlog.count) continue;
-    snprintf(why, room, "disk %u:%u: %s: requests that weren't answered aren't kept: %s", disk->target, disk->lun, disk->path, cause);
+    snprintf(why, room, "disk %u:%u: %s: requests that weren't answered GOOD aren't kept: %s", disk->target, disk->lun, disk->path, cause);
     return false;
   }
   return true;

@@ -15,19 +15,34 @@ bool blocks_load(struct disks *disks, char *why, size_t room);
 // Returns whether a disk has a file that is written.
 bool blocks_are_kept(const struct disks *disks);
 
-// Notes the blocks that the device changed since the last call for it. `places` has a place for each disk, 0 at first.
-void blocks_note(struct device *device, struct disks *disks, uint64_t *places);
+// Of a disk: the place of its history up to which changes were noted, and how many commands had ended with GOOD there.
+struct noted {
+  uint64_t place, good;
+};
+
+// Notes the blocks that the device changed since the last call for it. `noted` has a place for each disk, zeros at first.
+void blocks_note(struct device *device, struct disks *disks, struct noted *noted);
+
+// Returns the disk at a target and a LUN, or all at the target: bit 0 is the first disk.
+uint64_t blocks_named(const struct disks *disks, uint8_t target, uint16_t lun, bool whole_target);
 
 // Notes that the guest wants blocks of a disk unmapped: where they are zeros when they are written, they become a hole of the file.
 void blocks_unmap(struct disks *disks, uint8_t target, uint16_t lun, struct vscsi_range range);
 
-// What came of blocks_keep: all that was noted stands on the files; or more is to be written; or a file can't be written, as
-// its disk's `error` says, and the others stand.
-enum kept { KEPT, KEEPING, STUCK };
+// What came of blocks_keep: all that was noted stands on the files; or a file can't be written, as its disk's `error` says, and nothing
+// is left of the others; or more is to be written.
+enum kept { KEPT, STUCK, KEEPING };
 
-// Writes what was noted to the files, for some 20 milliseconds, and waits until that stands there. It is called again until it
-// says KEPT. No block of a backlog is left out in between, also where fdatasync fails.
-enum kept blocks_keep(struct device *device, struct disks *disks);
+// Writes what was noted to the files, for some 20 milliseconds, and waits until that stands there. It is called again while it says
+// KEEPING. A file that couldn't be written is tried again once its disk's `due` has come, or `at_once`. No block of a backlog is left out
+// in between, also where fdatasync fails.
+enum kept blocks_keep(struct device *device, struct disks *disks, bool at_once);
+
+// Returns the disks whose files lack something that was noted: bit 0 is the first disk.
+uint64_t blocks_behind(const struct disks *disks);
+
+// Returns when the next of these is to be tried again.
+uint64_t blocks_due(const struct disks *disks);
 
 // Writes what was noted, for a second at most, as the daemon ends. Returns false, and names a disk and why, where a file lacks
 // some.

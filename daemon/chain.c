@@ -28,7 +28,7 @@ enum fetched chain_add(struct chain *chain, uint64_t addr, uint32_t length, bool
   bool is_late = !writable && chain->count && chain->segments[chain->count - 1].writable;
   if (is_late || addr > UINT64_MAX - length) return BROKEN;
   if (chain->count == chain->room) {
-    size_t room = chain->room ? 2 * chain->room : 16;
+    size_t room = chain->room ? 2 * chain->room : LEAST_ROOM;
     struct segment *more = realloc(chain->segments, room * sizeof *more);
     if (!more) return NO_ROOM;
     chain->segments = more;

@@ -68,8 +68,8 @@ static bool has_long_tables(const struct backend *backend) {
   return bytes > zeros_at(backend) + DEVICE_PAGE;
 }
 
-// Learns what command a request has, once its bytes are in the device's memory.
-static bool weigh(struct backend *backend, const struct chain *chain) {
+// Learns what a request is about, once its bytes are in the device's memory.
+static bool weigh(struct backend *backend, unsigned q, struct chain *chain) {
   uint8_t request[MOST_LOOKED_AT];
   memset(request, 0, HEAD);
   size_t wanted = chain->in <= sizeof request ? (size_t)chain->in : HEAD, done = 0;
@@ -79,7 +79,7 @@ static bool weigh(struct backend *backend, const struct chain *chain) {
     if (here && !device_peek(&backend->device, it->addr, request + done, here)) return false;
     done += here;
   }
-  backend_weigh(backend, request, wanted);
+  backend_weigh(backend, q, chain, request, wanted);
   return true;
 }
 
@@ -96,7 +96,7 @@ static bool fetch(struct backend *backend, unsigned q, char *why, size_t room) {
     queue->taken++;
     if (has_long_tables(backend)) return snprintf(why, room, "queue %u: tables that are longer together than the guest's memory", q), false;
     if (is_in_zeros(backend, chain)) return snprintf(why, room, "queue %u: a buffer behind the guest's memory", q), false;
-    if (!bring(backend, chain) || (q >= FIXED_QUEUES && !weigh(backend, chain))) {
+    if (!bring(backend, chain) || (q != EVENT_QUEUE && !weigh(backend, q, chain))) {
       // A part that isn't in the device's memory: there the device breaks the queue.
       queue->ring.broken = true;
       return true;
@@ -104,22 +104,23 @@ static bool fetch(struct backend *backend, unsigned q, char *why, size_t room) {
   }
 }
 
-// The used element of a chain that the device gave back: of a split queue by its number, of a packed one where the ring stands.
+// The used element of a chain that the device gave back: of a split queue by its number, of a packed one where the device stands, which
+// gives back what isn't used yet, too.
 static bool element(struct backend *backend, const struct backend_queue *queue, uint64_t number, uint16_t *id, uint32_t *length) {
   const struct ring *ring = &queue->ring;
   uint8_t bytes[8];
-  uint64_t at = ring->packed ? ring->desc + (uint64_t)ring->used * DESCRIPTOR + 8 : ring->device + 4 + 8 * (number % ring->size);
+  uint64_t at = ring->packed ? ring->desc + (uint64_t)queue->device_used * DESCRIPTOR + 8 : ring->device + 4 + 8 * (number % ring->size);
   if (!device_peek(&backend->device, at, bytes, sizeof bytes)) return false;
   *id = (uint16_t)little_get(bytes + (ring->packed ? 4 : 0), 2);
   *length = (uint32_t)little_get(bytes + (ring->packed ? 0 : 4), 4);
   return true;
 }
 
-static bool answer(struct backend *backend, struct backend_queue *queue, uint64_t number) {
+static bool answer(struct backend *backend, struct backend_queue *queue, uint64_t number, uint64_t behind) {
   uint16_t id;
   uint32_t length;
   if (!element(backend, queue, number, &id, &length)) return false;
-  struct chain *chain = ring_take(&queue->ring, id);
+  struct chain *chain = ring_find_chain(&queue->ring, id);
   if (!chain) return false;
   uint32_t left = length;
   for (size_t i = 0; i < chain->count && left; i++) {
@@ -129,22 +130,25 @@ static bool answer(struct backend *backend, struct backend_queue *queue, uint64_
     move_out(&backend->memory, it->addr, &backend->device, it->addr, here);
     left -= here;
   }
-  ring_use(&queue->ring, chain, length);
-  ring_free(&queue->ring, chain);
+  queue->device_used = (uint16_t)((queue->device_used + chain->slots) % queue->ring.size);
+  ring_answer(&queue->ring, chain, length, behind);
   return true;
 }
 
-static bool complete(struct backend *backend, unsigned q, char *why, size_t room) {
+static bool complete(struct backend *backend, unsigned q, uint64_t behind, char *why, size_t room) {
   struct backend_queue *queue = &backend->queues[q];
   uint64_t taken, used;
   if (!device_progress(&backend->device, q, &taken, &used)) return false;
-  if (taken > queue->taken) {
+  // A ring that the daemon broke since it named a chain that is held isn't broken for the device.
+  if (taken > queue->taken && !queue->ring.broken) {
     // The device wrote what it took: the daemon knows none of these chains.
     snprintf(why, room, "queue %u: the guest had the device write requests into a ring", q);
     return false;
   }
   for (; queue->used < used; queue->used++)
-    if (!answer(backend, queue, queue->used)) return snprintf(why, room, "queue %u: an answer to no request", q), false;
+    if (!answer(backend, queue, queue->used, behind)) break;
+  if (queue->used < used && !queue->ring.broken) return snprintf(why, room, "queue %u: an answer to no request", q), false;
+  queue->used = used;
   if (device_broken(&backend->device, q)) queue->ring.broken = true;
   return true;
 }
@@ -157,8 +161,8 @@ bool direct_fetch(struct backend *backend, uint32_t queues, char *why, size_t ro
   return true;
 }
 
-bool direct_complete(struct backend *backend, char *why, size_t room) {
+bool direct_complete(struct backend *backend, uint64_t behind, char *why, size_t room) {
   for (unsigned q = 0; q < backend->count; q++)
-    if (backend->queues[q].ready && !complete(backend, q, why, room)) return false;
+    if (backend->queues[q].ready && !complete(backend, q, behind, why, room)) return false;
   return true;
 }

@@ -5,7 +5,7 @@
 
 #include "library.h"
 
-enum { MOST_UNMAPPED = 64 };
+enum { MOST_UNMAPPED = 64, FEW_RANGES = 64 };
 
 // A place among the ranges of a backlog: so many blocks of this range are done, and all of those before it.
 struct mark {
@@ -13,12 +13,11 @@ struct mark {
   uint64_t done;
 };
 
-// Blocks that a disk's file may lack (blocks.h), as ranges that may overlap; where `all` is true, one range of the whole disk. Those
-// before `written` were written since, and those before `synced` stand there for sure.
+// Blocks that a disk's file may lack (blocks.h), as ranges that may overlap. Those before `written` were written since, and those before
+// `synced` stand there for sure. `ranges` is NULL while they stand in `few`.
 struct backlog {
-  struct vscsi_range *ranges;
+  struct vscsi_range few[FEW_RANGES], *ranges;
   size_t count, room;
-  bool all;
   struct mark written, synced;
   struct vscsi_range unmapped[MOST_UNMAPPED];  // which of these blocks the guest unmapped, as far as there is room
   size_t unmapped_count;
@@ -37,6 +36,9 @@ struct disk {
   uint64_t length;  // of the image when it was opened, in bytes
   bool dirty;       // written since disk_sync
   int error;        // the error number by which the image can't be written now, or 0
+  unsigned pause;   // milliseconds between two tries then, and the time of the next one
+  uint64_t due;
+  uint64_t told;    // when it was last said that it can't be written, or 0
   struct backlog backlog;
 };
 

@@ -64,6 +64,13 @@ bool device_changed(struct device *device, uint8_t target, uint16_t lun, uint64_
   return vscsi_changed(&device->vscsi, target, lun, place, ranges, VSCSI_MOST_RANGES, count, all) == VSCSI_DONE;
 }
 
+bool device_good(struct device *device, uint8_t target, uint16_t lun, uint64_t *good) {
+  struct vscsi_counts counts;
+  bool told = vscsi_counts(&device->vscsi, target, lun, &counts, sizeof counts) == VSCSI_DONE;
+  if (told) *good = counts.good;
+  return told;
+}
+
 bool device_blocks(struct device *device, uint8_t target, uint16_t lun, uint64_t first, uint32_t count, void *into) {
   return vscsi_blocks(&device->vscsi, target, lun, first, count, into, (size_t)count * DEVICE_BLOCK) == VSCSI_DONE;
 }

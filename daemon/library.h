@@ -46,6 +46,9 @@ bool device_broken(struct device *device, unsigned queue);
 // room for VSCSI_MOST_RANGES. Where `all` is true any block may have changed.
 bool device_changed(struct device *device, uint8_t target, uint16_t lun, uint64_t *place, struct vscsi_range *ranges, size_t *count, bool *all);
 
+// Counts the commands of a unit that ran and ended with GOOD.
+bool device_good(struct device *device, uint8_t target, uint16_t lun, uint64_t *good);
+
 // Copies blocks of a unit out. `into` has room for `count` blocks.
 bool device_blocks(struct device *device, uint8_t target, uint16_t lun, uint64_t first, uint32_t count, void *into);
 

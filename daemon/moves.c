@@ -41,3 +41,14 @@ bool move_out(const struct memory *memory, uint64_t guest, struct device *device
   }
   return true;
 }
+
+void move_bytes(const struct memory *memory, uint64_t guest, const uint8_t *bytes, size_t count) {
+  while (count) {
+    uint8_t *at;
+    size_t here = (size_t)memory_run(memory, guest, count, &at);
+    if (at) memcpy(at, bytes, here);
+    guest += here;
+    bytes += here;
+    count -= here;
+  }
+}

@@ -9,4 +9,7 @@
 bool move_in(const struct memory *memory, uint64_t guest, struct device *device, uint64_t addr, uint64_t count);
 bool move_out(const struct memory *memory, uint64_t guest, struct device *device, uint64_t addr, uint64_t count);
 
+// Copies bytes of the daemon's to the guest. Those that are in no region are skipped.
+void move_bytes(const struct memory *memory, uint64_t guest, const uint8_t *bytes, size_t count);
+
 #endif

@@ -139,6 +139,13 @@ bool queue_set_enable(struct session *session, const struct message *message) {
   return true;
 }
 
+// Returns whether a descriptor is an eventfd or another that has no file, or a pipe. A file may be one of the front end's own file system,
+// which has the daemon wait; and its own end of the connection would keep that open when the front end is gone.
+static bool is_event(int fd) {
+  struct stat stat;
+  return !fstat(fd, &stat) && (!(stat.st_mode & S_IFMT) || S_ISFIFO(stat.st_mode));
+}
+
 // The queue of a message that may come with a descriptor, and the descriptor, or -1.
 static bool with_descriptor(struct session *session, struct message *message, unsigned *q, int *fd) {
   if (message->size != 8) return false;
@@ -146,9 +153,7 @@ static bool with_descriptor(struct session *session, struct message *message, un
   bool none = number & NO_DESCRIPTOR;
   *q = (unsigned)(number & 0xff);
   if (number & ~UINT64_C(0x1ff) || *q >= session->backend.count || message->fd_count != !none) return false;
-  // A front end's own end of the connection would keep that open when the front end is gone.
-  struct stat stat;
-  if (!none && (fstat(message->fds[0], &stat) || S_ISSOCK(stat.st_mode))) return false;
+  if (!none && !is_event(message->fds[0])) return false;
   *fd = message_take(message, 0);
   // The daemon waits for nothing of a front end's.
   if (*fd >= 0) fcntl(*fd, F_SETFL, O_NONBLOCK | fcntl(*fd, F_GETFL));

@@ -68,7 +68,8 @@ enum fetched ring_fetch(struct ring *ring, const struct source *source, struct c
   return fetched;
 }
 
-void ring_free(struct ring *ring, struct chain *chain) {
+// Lets go of a chain that is off its ring.
+static void spare(struct ring *ring, struct chain *chain) {
   // Room for a long table isn't kept.
   if (chain->room > MOST_KEPT) {
     free(chain->segments);
@@ -79,38 +80,76 @@ void ring_free(struct ring *ring, struct chain *chain) {
   ring->spare = chain;
 }
 
-struct chain *ring_take(struct ring *ring, uint16_t id) {
-  for (struct chain **at = &ring->first; *at; at = &(*at)->next) {
-    struct chain *chain = *at;
-    if (chain->id != id) continue;
-    *at = chain->next;
-    if (!chain->next) ring->last = at;
-    ring->outstanding--;
-    ring->slots -= chain->slots;
-    ring->tables -= chain->table;
-    return chain;
-  }
+// Takes the chain that stands here off the ring, and lets go of it.
+static void cut(struct ring *ring, struct chain **at) {
+  struct chain *chain = *at;
+  *at = chain->next;
+  if (!chain->next) ring->last = at;
+  ring->outstanding--;
+  ring->slots -= chain->slots;
+  ring->tables -= chain->table;
+  spare(ring, chain);
+}
+
+struct chain *ring_find_chain(const struct ring *ring, uint16_t id) {
+  for (struct chain *chain = ring->first; chain; chain = chain->next)
+    if (chain->id == id && !chain->answered) return chain;
   return NULL;
 }
 
 void ring_unfetch(struct ring *ring, struct chain *chain) {
   ring->next = chain->next_before;
   ring->next_wrap = chain->wrap_before;
-  for (struct chain **at = &ring->first; *at; at = &(*at)->next) {
-    if (*at != chain) continue;
-    *at = NULL;
-    ring->last = at;
-    ring->outstanding--;
-    ring->slots -= chain->slots;
-    ring->tables -= chain->table;
-    break;
-  }
-  ring_free(ring, chain);
+  struct chain **at = &ring->first;
+  while (*at != chain) at = &(*at)->next;
+  cut(ring, at);
 }
 
-void ring_use(struct ring *ring, const struct chain *chain, uint32_t length) {
-  if (ring->packed) packed_use(ring, chain, length);
-  else split_use(ring, chain, length);
+// Writes that the chain that stands here was used, and lets go of it.
+static void use(struct ring *ring, struct chain **at) {
+  const struct chain *chain = *at;
+  if (ring->packed) packed_use(ring, chain, chain->length);
+  else split_use(ring, chain, chain->length);
+  ring->held--;
+  cut(ring, at);
+}
+
+// Leaves of a chain the parts that its response lies in: a guest may have far more chains held than a round has, and of long tables.
+static void narrow(struct chain *chain) {
+  uint64_t written = 0;
+  size_t kept = 0;
+  for (size_t i = 0; i < chain->count && written < RESPONSE; i++) {
+    if (!chain->segments[i].writable || !chain->segments[i].length) continue;
+    written += chain->segments[i].length;
+    chain->segments[kept++] = chain->segments[i];
+  }
+  chain->count = kept;
+  size_t room = kept < LEAST_ROOM ? LEAST_ROOM : kept;
+  struct segment *less = chain->room > room ? realloc(chain->segments, room * sizeof *less) : NULL;
+  if (!less) return;
+  chain->segments = less;
+  chain->room = room;
+}
+
+void ring_answer(struct ring *ring, struct chain *chain, uint32_t length, uint64_t behind) {
+  struct chain **at = &ring->first;
+  if (!chain->answered) ring->held++;
+  chain->answered = true;
+  chain->length = length;
+  if (chain->disks & behind) {
+    narrow(chain);
+    return;
+  }
+  while (*at != chain) at = &(*at)->next;
+  use(ring, at);
+}
+
+void ring_use(struct ring *ring, uint64_t behind) {
+  for (struct chain **at = &ring->first; ring->held && *at;) {
+    const struct chain *chain = *at;
+    if (chain->answered && !(chain->disks & behind)) use(ring, at);
+    else at = &(*at)->next;
+  }
 }
 
 bool ring_publish(struct ring *ring) {
@@ -146,7 +185,8 @@ void ring_drop(struct ring *ring) {
     ring->next = ring->first->next_before;
     ring->next_wrap = ring->first->wrap_before;
   }
-  while (ring->first) ring_free(ring, ring_take(ring, ring->first->id));
+  while (ring->first) cut(ring, &ring->first);
+  ring->held = 0;
   while (ring->spare) {
     struct chain *chain = ring->spare;
     ring->spare = chain->next;

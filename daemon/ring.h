@@ -11,6 +11,9 @@
 // The entries that a table may have in shadow mode, and the bytes of a descriptor.
 enum { MOST_ENTRIES = 8192, DESCRIPTOR = 16 };
 
+// How many parts a chain has room for at first.
+enum { LEAST_ROOM = 16 };
+
 // The bytes of a request's head and of its response, and how many bytes of data a command moves at the most.
 enum { HEAD = 51, RESPONSE = 108, MOST_DATA = 1 << 20 };
 
@@ -31,6 +34,9 @@ struct chain {
   uint64_t in_at, out_at;  // of shadow mode: where its bytes lie in the device's memory
   uint64_t in, out;        // its readable and its writable bytes
   uint64_t table;          // the bytes of its table
+  uint64_t disks;          // those that its request names: bit 0 is the first
+  bool answered;           // the device gave it back, with so many bytes written
+  uint32_t length;
   size_t count, room;      // of segments: those that it has, and those that there is room for
   struct segment *segments;
 };
@@ -51,6 +57,7 @@ struct ring {
   struct chain *spare;                         // chains to be used again
   size_t outstanding, slots;                   // how many these are, and how many descriptors of the ring they take
   uint64_t tables;                             // and the bytes of their tables
+  size_t held;                                 // how many of them the device gave back
 };
 
 // Where chains are fetched from: the device's copy where there is a device, else the guest's memory.
@@ -88,15 +95,14 @@ enum fetched ring_fetch(struct ring *ring, const struct source *source, struct c
 // Puts back the chain that was fetched last.
 void ring_unfetch(struct ring *ring, struct chain *chain);
 
-// Takes the outstanding chain with this id off the ring, if there is one.
-struct chain *ring_take(struct ring *ring, uint16_t id);
+// Returns the outstanding chain with this id that the device hasn't given back, if there is one.
+struct chain *ring_find_chain(const struct ring *ring, uint16_t id);
 
-// Lets go of a chain that was taken off its ring.
-void ring_free(struct ring *ring, struct chain *chain);
-
-// Writes that a chain was used, with so many bytes written; ring_publish makes all of these visible, and returns whether the
-// driver wants to be notified.
-void ring_use(struct ring *ring, const struct chain *chain, uint32_t length);
+// Notes that the device gave a chain back, with so many bytes written, and writes that it was used; where its request names one of these
+// disks it is held. ring_use writes those that were held, but for the ones that name one of these disks. ring_publish makes what was
+// written visible, and returns whether the driver wants to be notified. A chain is the ring's until it is written.
+void ring_answer(struct ring *ring, struct chain *chain, uint32_t length, uint64_t behind);
+void ring_use(struct ring *ring, uint64_t behind);
 bool ring_publish(struct ring *ring);
 
 // Asks the driver to notify of what it makes available next. Returns whether it made something available meanwhile.

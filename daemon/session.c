@@ -1,10 +1,12 @@
 #include "session.h"
 
 #include <errno.h>
+#include <poll.h>
 #include <stdio.h>
 #include <string.h>
 #include <sys/epoll.h>
 #include <sys/timerfd.h>
+#include <sys/uio.h>
 #include <unistd.h>
 
 #include "bytes.h"
@@ -21,9 +23,9 @@
 // How many messages of a session are taken before others of the daemon's descriptors are looked at.
 enum { MOST_MESSAGES = 64, WHY = 200, REGION_BYTES = 32, SPACE_HEAD = 12, MOST_SPACE = 256 };
 
-// Milliseconds: how often it is said that a file can't be written, and a ring is looked at that has no kick; and how long a session is
-// served before others of the daemon's descriptors are looked at, but for one round.
-enum { COMPLAINT = 60000, POLL = 1, LONGEST = 20 };
+// Milliseconds: how often it is said that a file can't be written, and a ring is looked at that has no kick; how long a session is
+// served before others of the daemon's descriptors are looked at, but for one round; and how long a session that ends has for a round.
+enum { COMPLAINT = 60000, POLL = 1, LONGEST = 20, LEAVING = 200 };
 
 static void say(const struct session *session, const char *what, const char *why) {
   if (!session->quiet) log_say(LOG_NOTE, NULL, "%s: %s", what, why);
@@ -51,22 +53,6 @@ bool session_begin(struct session *session, int socket, int epoll, struct disks 
   close(socket);
   session->socket = session->timer = -1;
   return false;
-}
-
-void session_end(struct session *session) {
-  backend_end(&session->backend);
-  queues_end(session);
-  memory_clear(&session->backend.memory);
-  reader_end(&session->reader);
-  if (session->is_waiting) message_close(&session->waiting);
-  session->is_waiting = false;
-  if (session->socket >= 0) {
-    epoll_ctl(session->epoll, EPOLL_CTL_DEL, session->socket, NULL);
-    close(session->socket);
-  }
-  // Nobody else has a descriptor of the timer's, so epoll forgets it.
-  if (session->timer >= 0) close(session->timer);
-  session->socket = session->timer = -1;
 }
 
 static bool reply_number(const struct session *session, const struct message *message, uint64_t number) {
@@ -204,17 +190,26 @@ static bool finish(struct session *session, struct message *message) {
   return stands;
 }
 
-// Returns whether a message may end the device, or take away what a round's chains lie in.
-static bool is_final(uint32_t request) {
-  return request == GET_VRING_BASE || request == SET_VRING_KICK || request == RESET_DEVICE || request == RESET_OWNER ||
-         request == SET_MEM_TABLE || request == ADD_MEM_REG || request == REM_MEM_REG;
+static bool names_started(const struct session *session, const struct message *message) {
+  uint64_t q = little_get(message->payload, 8) & 0xff;
+  return q < session->backend.count && session->queues[q].started;
 }
 
-// Returns whether the round's answers are about to be shown: they wait for a file that is being written, and not for one that can't
-// be.
-static bool is_busy(const struct session *session) {
+// Returns whether a message has to wait, since it may end the device, or take away what a round's chains lie in. Answers that are held
+// are in the driver's memory, and in the rings: in shadow mode they stay behind memory that changes. A reset forgets them.
+static bool must_wait(const struct session *session, const struct message *message) {
   const struct backend *backend = &session->backend;
-  return backend->device.live && backend->phase != FETCHING && !backend->pause;
+  bool is_busy = backend_is_busy(backend), is_in_round = is_busy && backend->phase != FETCHING;
+  switch (message->request) {
+    case GET_VRING_BASE: return is_busy;
+    case SET_VRING_KICK: return is_busy && !names_started(session, message);
+    case SET_MEM_TABLE:
+    case ADD_MEM_REG:
+    case REM_MEM_REG: return backend->shadow ? is_in_round : is_busy;
+    case RESET_OWNER:
+    case RESET_DEVICE: return is_in_round;
+    default: return false;
+  }
 }
 
 bool session_is_owed(const struct session *session) { return !session->messages || session->reader.have; }
@@ -227,9 +222,12 @@ static bool read_on(void *with) {
     enum read_answer answer = reader_next(&session->reader, session->socket, &message);
     if (answer != READ_MESSAGE) return answer == READ_WAITS;
     session->messages++;
-    if (is_final(message.request) && is_busy(session)) {
+    if (must_wait(session, &message)) {
       session->waiting = message;
-      session->is_waiting = true;
+      session->is_waiting = session->more = true;
+      session->waiting_since = clock_now();
+      // What comes behind it isn't looked at meanwhile.
+      epoll_ctl(session->epoll, EPOLL_CTL_DEL, session->socket, NULL);
     } else if (!finish(session, &message)) {
       return false;
     }
@@ -246,9 +244,25 @@ static bool guarded(struct session *session, bool (*call)(void *session)) {
 
 bool session_read(struct session *session) { return guarded(session, read_on); }
 
+// Adds to an event's count. A front end may have made its descriptor one that waits, so a count that is full is left alone: it hasn't
+// looked yet. Between the two calls none but that front end could fill it.
 static void signal_fd(int fd) {
   const uint64_t one = 1;
-  if (fd >= 0 && write(fd, &one, sizeof one) < 0) return;  // its count is full: the front end hasn't looked yet
+  struct pollfd asked = {.fd = fd, .events = POLLOUT};
+  if (fd < 0 || poll(&asked, 1, 0) < 1 || !(asked.revents & POLLOUT)) return;
+  if (write(fd, &one, sizeof one) < 0) return;
+}
+
+// Takes what a kick's descriptor has to say, without waiting, also where the front end made it one that waits. Returns false where it
+// can't be read.
+static bool drain(int fd) {
+  uint64_t count;
+  struct iovec part = {.iov_base = &count, .iov_len = sizeof count};
+  struct pollfd asked = {.fd = fd, .events = POLLIN};
+  ssize_t got = preadv2(fd, &part, 1, -1, RWF_NOWAIT);
+  // A system or a file that doesn't know that word. What is there now only the front end can take away before it is read.
+  if (got < 0 && (errno == EOPNOTSUPP || errno == ENOSYS)) got = poll(&asked, 1, 0) == 1 ? read(fd, &count, sizeof count) : 1;
+  return got > 0 || (got < 0 && (errno == EAGAIN || errno == EINTR));
 }
 
 void session_kicked(struct session *session, unsigned what) {
@@ -257,9 +271,8 @@ void session_kicked(struct session *session, unsigned what) {
   if (what == EVENT_TIMER && read(session->timer, &count, sizeof count) < 0) return;  // it was set anew meanwhile
   if (what >= session->backend.count || session->queues[what].kick < 0) return;
   int kick = session->queues[what].kick;
-  ssize_t got = read(kick, &count, sizeof count);
-  // No eventfd, and at its end, or nothing that can be read.
-  if (got == 0 || (got < 0 && errno != EAGAIN && errno != EINTR)) epoll_ctl(session->epoll, EPOLL_CTL_DEL, kick, NULL);
+  // No eventfd, or at its end.
+  if (!drain(kick)) epoll_ctl(session->epoll, EPOLL_CTL_DEL, kick, NULL);
 }
 
 static void notify(struct session *session, uint32_t owed) {
@@ -275,20 +288,20 @@ static void notify(struct session *session, uint32_t owed) {
   }
 }
 
-// Says once a minute which file can't be written and why, and says when all can be again.
-static void tell_files(struct session *session) {
-  const struct disks *disks = session->backend.disks;
-  bool is_due = !session->complained || clock_now() - session->complained >= COMPLAINT, fails = false;
+// Says once a minute of each file that it can't be written and why, and once that it has all again.
+static void tell_files(const struct session *session) {
+  struct disks *disks = session->backend.disks;
+  uint64_t now = clock_now();
   for (size_t i = 0; i < disks->count; i++) {
-    const struct disk *disk = &disks->disks[i];
-    if (!disk->error) continue;
-    fails = true;
-    if (is_due) log_say(LOG_ERROR, disk, "can't be written, and is tried again: %s", strerror(disk->error));
-  }
-  if (fails && is_due) session->complained = clock_now();
-  if (!fails && session->complained) {
-    log_say(LOG_ERROR, NULL, "every disk's file can be written again");
-    session->complained = 0;
+    struct disk *disk = &disks->disks[i];
+    bool is_due = !disk->told || now - disk->told >= COMPLAINT;
+    if (disk->error && is_due) {
+      log_say(LOG_ERROR, disk, "can't be written, and is tried again: %s", strerror(disk->error));
+      disk->told = now;
+    } else if (disk->told && !disk->backlog.count) {
+      log_say(LOG_ERROR, disk, "can be written again");
+      disk->told = 0;
+    }
   }
 }
 
@@ -309,12 +322,10 @@ static bool is_polled(const struct session *session) {
 
 // Sets the timer to when the session is to be served again with no other cause, if it is.
 static void set_next(const struct session *session, enum served served) {
-  if (served == LATER) {
-    uint64_t now = clock_now(), due = session->backend.due;
-    set_timer(session, due > now ? due - now : 1);
-  } else if (!session->more && is_polled(session)) {
-    set_timer(session, POLL);
-  }
+  uint64_t now = clock_now(), due = session->backend.due, left = due > now ? due - now : 1;
+  if (session->more) return;
+  if (is_polled(session)) left = POLL;
+  if (served == LATER || is_polled(session)) set_timer(session, left);
 }
 
 // Makes the device where something is available for it. Returns false where it can't be.
@@ -327,11 +338,35 @@ static bool make_device(struct session *session, uint32_t queues) {
   return true;
 }
 
+// Says how a session that was served goes on. Returns false where it has to end.
+static bool note_served(struct session *session, enum served served, const char *why) {
+  tell_files(session);
+  if (served == FAILED) return log_say(LOG_ERROR, NULL, "the session ends: %s", why), false;
+  session->more = served == MORE || served == BUSY;
+  set_next(session, served);
+  return true;
+}
+
+// Goes on until the message that waits may be taken, and takes it.
+static bool stop(struct session *session) {
+  char why[WHY] = "";
+  uint32_t owed = 0;
+  enum served served = backend_stop(&session->backend, clock_now() - session->waiting_since, &owed, why, sizeof why);
+  notify(session, owed);
+  if (!note_served(session, served, why)) return false;
+  if (must_wait(session, &session->waiting)) return true;
+  session->is_waiting = false;
+  session->more = true;
+  if (!watch(session->epoll, session->socket, EVENT_SOCKET)) return false;
+  return finish(session, &session->waiting) && read_on(session);
+}
+
 static bool serve(void *with) {
   struct session *session = with;
   struct backend *backend = &session->backend;
   char why[WHY] = "";
   uint32_t queues = 0, owed = 0;
+  if (session->is_waiting) return stop(session);
   for (unsigned q = 0; q < backend->count; q++)
     if (session->queues[q].started && session->queues[q].enabled) queues |= UINT32_C(1) << q;
   session->more = false;
@@ -343,13 +378,38 @@ static bool serve(void *with) {
     served = backend_serve(backend, queues, &owed, why, sizeof why);
     notify(session, owed);
   }
-  tell_files(session);
-  if (served == FAILED) return log_say(LOG_ERROR, NULL, "the session ends: %s", why), false;
-  session->more = served == MORE || served == BUSY;
-  set_next(session, served);
-  if (!session->is_waiting || is_busy(session)) return true;
-  session->is_waiting = false;
-  return finish(session, &session->waiting) && read_on(session);
+  return note_served(session, served, why);
 }
 
 bool session_serve(struct session *session) { return guarded(session, serve); }
+
+// Answers what the device has run: a front end that comes back goes on behind it.
+static bool leave(void *with) {
+  struct session *session = with;
+  char why[WHY] = "";
+  uint32_t owed = 0;
+  uint64_t begun = clock_now();
+  enum served served = BUSY;
+  while (served == BUSY && clock_now() - begun < LEAVING) served = backend_stop(&session->backend, 0, &owed, why, sizeof why);
+  if (served == BUSY || served == LATER) served = backend_stop(&session->backend, UINT64_MAX, &owed, why, sizeof why);
+  notify(session, owed);
+  return served == SERVED;
+}
+
+void session_end(struct session *session) {
+  bool left;
+  if (backend_is_busy(&session->backend)) guard_run(leave, session, &left);
+  backend_end(&session->backend);
+  queues_end(session);
+  memory_clear(&session->backend.memory);
+  reader_end(&session->reader);
+  if (session->is_waiting) message_close(&session->waiting);
+  session->is_waiting = false;
+  if (session->socket >= 0) {
+    epoll_ctl(session->epoll, EPOLL_CTL_DEL, session->socket, NULL);
+    close(session->socket);
+  }
+  // Nobody else has a descriptor of the timer's, so epoll forgets it.
+  if (session->timer >= 0) close(session->timer);
+  session->socket = session->timer = -1;
+}

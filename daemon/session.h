@@ -24,9 +24,9 @@ struct session {
   uint64_t messages;  // that came
   bool more, quiet;
   int timer;               // by which a round that has to wait is tried again
-  struct message waiting;  // a message that ends the device, until a round's answers are shown
+  struct message waiting;  // a message that has to wait for the requests that the device has run to be answered, and since when
   bool is_waiting;
-  uint64_t complained;     // when it was last said that a file can't be written, or 0 where all can
+  uint64_t waiting_since;
 };
 
 // What an epoll event of this session's is about: its socket, its timer, or a queue's kick.

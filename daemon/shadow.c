@@ -110,23 +110,23 @@ static bool place_request(struct chain *chain, struct round *round) {
   return true;
 }
 
-// Learns what command a request has.
-static bool weigh(struct backend *backend, const struct chain *chain) {
+// Learns what a request is about.
+static bool weigh(struct backend *backend, unsigned q, struct chain *chain) {
   uint8_t request[MOST_LOOKED_AT];
   size_t length = chain->in <= sizeof request ? (size_t)chain->in : HEAD;
   if (length < HEAD) memset(request, 0, HEAD);
   if (!device_peek(&backend->device, chain->in_at, request, length)) return false;
-  backend_weigh(backend, request, length);
+  backend_weigh(backend, q, chain, request, length);
   return true;
 }
 
 // Brings a chain that was fetched to the device. Returns false where the device doesn't take it.
-static bool give(struct backend *backend, unsigned q, const struct chain *chain) {
+static bool give(struct backend *backend, unsigned q, struct chain *chain) {
   struct backend_queue *queue = &backend->queues[q];
   uint16_t step = ring_step(&queue->ring, chain);
   queue->due = (uint16_t)(queue->due > step ? queue->due - step : 0);
   if (!bring(backend, chain) || !put_descriptors(backend, q, chain) || !offer(backend, q, chain)) return false;
-  return q < FIXED_QUEUES || weigh(backend, chain);
+  return q == EVENT_QUEUE || weigh(backend, q, chain);
 }
 
 // Takes chains of a queue into the round, at most so many. Returns false where the device doesn't take one.
@@ -201,17 +201,18 @@ bool shadow_fetch(struct backend *backend, uint32_t queues, char *why, size_t ro
   return fetched;
 }
 
-static struct chain *take(struct ring *ring, uint64_t place) {
-  for (const struct chain *chain = ring->first; chain; chain = chain->next)
-    if (chain->place == place) return ring_take(ring, chain->id);
+// Returns the chain that has a slot, which those have that the device hasn't given back.
+static struct chain *chain_at(const struct ring *ring, uint64_t place) {
+  for (struct chain *chain = ring->first; chain; chain = chain->next)
+    if (chain->place == place && !chain->answered) return chain;
   return NULL;
 }
 
-static bool answer(struct backend *backend, unsigned q, uint64_t number) {
+static bool answer(struct backend *backend, unsigned q, uint64_t number, uint64_t behind) {
   struct ring *ring = &backend->queues[q].ring;
   uint8_t element[8];
   if (!device_peek(&backend->device, area(q) + DEVICE_AT + 4 + 8 * (number % RING), element, sizeof element)) return false;
-  struct chain *chain = take(ring, little_get(element, 4) / PARTS);
+  struct chain *chain = chain_at(ring, little_get(element, 4) / PARTS);
   if (!chain) return false;
   uint64_t length = little_get(element + 4, 4), done = 0;
   for (size_t i = 0; i < chain->count && done < length; i++) {
@@ -222,25 +223,24 @@ static bool answer(struct backend *backend, unsigned q, uint64_t number) {
     done += here;
   }
   if (q == EVENT_QUEUE) backend->held[chain->place] = false;
-  ring_use(ring, chain, (uint32_t)length);
-  ring_free(ring, chain);
+  ring_answer(ring, chain, (uint32_t)length, behind);
   return true;
 }
 
-static bool complete(struct backend *backend, unsigned q) {
+static bool complete(struct backend *backend, unsigned q, uint64_t behind) {
   struct backend_queue *queue = &backend->queues[q];
   uint64_t taken, used;
   // Events wait where their ring's memory isn't there.
   if (!queue->ready) return true;
   if (!device_progress(&backend->device, q, &taken, &used)) return false;
   for (; queue->used < used; queue->used++)
-    if (!answer(backend, q, queue->used)) return false;
-  // All but event buffers come back at once.
-  return taken == queue->taken && (q == EVENT_QUEUE || used == taken);
+    if (!answer(backend, q, queue->used, behind)) return false;
+  // All but event buffers come back at once, where the device isn't stopped before.
+  return backend->stopping || (taken == queue->taken && (q == EVENT_QUEUE || used == taken));
 }
 
-bool shadow_complete(struct backend *backend, char *why, size_t room) {
+bool shadow_complete(struct backend *backend, uint64_t behind, char *why, size_t room) {
   for (unsigned q = 0; q < backend->count; q++)
-    if (!complete(backend, q)) return snprintf(why, room, "queue %u: an answer to no request", q), false;
+    if (!complete(backend, q, behind)) return snprintf(why, room, "queue %u: an answer to no request", q), false;
   return true;
 }

@@ -18,8 +18,9 @@
 
 enum { AREA = 0x8000, DRIVER_AT = 0x4000, DEVICE_AT = 0x5000, FILE_BYTES = 256 << 10, MOST_DESCRIPTORS = 256, MOST_EVENTS = 32 };
 
-// How often a session is served in a row, and how often for nothing; a second, and the most that a turn of the loop may take of it.
-enum { MOST_TURNS = 40, MOST_IDLE = 30, NANOSECONDS = 1000000000, LONGEST_TURN = NANOSECONDS / 2 };
+// How often a session is served in a row, and how often for nothing; a second, and the most that a turn of the loop may take of it; and
+// milliseconds that no message waits longer for.
+enum { MOST_TURNS = 40, MOST_IDLE = 30, NANOSECONDS = 1000000000, LONGEST_TURN = NANOSECONDS / 2, LONGEST_WAIT = 6000 };
 
 static int memory_fd = -1;
 static uint8_t *memory_at_driver;
@@ -136,6 +137,8 @@ void connection_end(struct connection *connection) {
   close(connection->socket);
   connection->socket = -1;
   connection_pump(connection);
+  // A message may wait for answers that are held, and no other is read meanwhile.
+  if (connection->alive) connection_wait(connection, LONGEST_WAIT);
   must(!connection->alive, "a session stands without its front end");
   refusals = (struct refusals){0};
   look_at_file(connection);

@@ -3,6 +3,7 @@
 #include <errno.h>
 #include <string.h>
 #include <sys/syscall.h>
+#include <time.h>
 #include <unistd.h>
 
 #include "../library.h"
@@ -19,14 +20,24 @@ static struct {
 static unsigned written_count;
 
 void faults_clear(void) {
-  faults = (struct faults){0};
+  faults = (struct faults){.passed = faults.passed};
   written_count = 0;
 }
 
+int clock_gettime(clockid_t clock, struct timespec *now) {
+  int status = (int)syscall(SYS_clock_gettime, clock, now);
+  if (clock != CLOCK_MONOTONIC) return status;
+  now->tv_sec += (time_t)faults.passed;
+  return status;
+}
+
 ssize_t pwrite(int fd, const void *bytes, size_t count, off_t at) {
-  if (faults.write_error && !faults.writes) return errno = faults.write_error, -1;
-  if (faults.write_error) faults.writes--;
+  bool fails = faults.write_error && (!faults.only || faults.only == fd);
+  if (fails && !faults.writes) return errno = faults.write_error, -1;
+  if (fails) faults.writes--;
+  if (faults.slow) usleep(faults.slow);
   ssize_t here = (ssize_t)syscall(SYS_pwrite64, fd, bytes, count, at);
+  if (here > 0) faults.bytes += (uint64_t)here;
   if (here > 0 && written_count < MOST_WRITTEN) {
     written[written_count].at = at;
     written[written_count++].count = (size_t)here;

@@ -2,11 +2,11 @@
 #ifndef DAEMON_TEST_ROUNDS_H
 #define DAEMON_TEST_ROUNDS_H
 
-// 120 WRITEs at once to places far apart, and UNMAPs of many descriptors: each writes what it names, and not the whole disk.
+// 120 WRITEs at once to places far apart, and UNMAPs of many descriptors: each writes what it changes, and not the whole disk.
 void test_scattered(void);
 
-// A round that has the whole disk written: messages are answered meanwhile, and those that end the device wait.
-void test_whole(void);
+// A round that takes long to be written: messages are answered meanwhile, and those that end the device wait.
+void test_slow(void);
 
 // A file that can't be written for a time: nothing is answered, and nothing is lost.
 void test_full(void);

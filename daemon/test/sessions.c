@@ -155,9 +155,9 @@ void test_regions(void) {
 }
 
 void test_short(void) {
-  // Where the memory then ends: before a request, and before the rings.
-  static const off_t ends[] = {0x100000, 0};
-  for (unsigned number = 0; number < 2 * WAYS; number++) {
+  // Where the memory then ends: before a request, before the rings, and before the data of a READ.
+  static const off_t ends[] = {0x100000, 0, HALF};
+  for (unsigned number = 0; number < 3 * WAYS; number++) {
     struct disks disks;
     struct front front;
     uint32_t length;
@@ -165,13 +165,14 @@ void test_short(void) {
     MUST(!fcntl(front.memory_fd, F_ADD_SEALS, F_SEAL_SEAL));
     front_agree(&front);
     MUST(write_block(&front));
-    const struct part parts[] = {{0x200000, 51, false}, {0x201000, 108, true}};
-    driver_put(&front, 2, parts, 2);
+    put_request(&front, 0x200000, read_10, sizeof read_10);
+    const struct part parts[] = {{0x200000, 51, false}, {0x201000, 108, true}, {HALF + 0x1000, 512, true}};
+    driver_put(&front, 2, parts, 3);
     MUST(!ftruncate(front.memory_fd, ends[number / WAYS]) && write(front.kick[2], &(uint64_t){1}, 8) == 8);
     pump(&front);
     MUST(!front.alive);
     // As long as before, so that the test itself may look at it.
-    MUST(!ftruncate(front.memory_fd, GUEST_BYTES) && (number < WAYS || !driver_take(&front, 3, &length)));
+    MUST(!ftruncate(front.memory_fd, GUEST_BYTES) && !driver_take(&front, 3, &length));
     front_end(&front);
     front_begin(&front, &disks, way_of(number % WAYS));
     front_agree(&front);
@@ -243,6 +244,9 @@ void test_kicks(void) {
     struct sent wrong;
     front_descriptor(&wrong, SET_VRING_CALL, 2, front.socket);
     MUST(!front_ask(&front, &wrong) && front.alive);
+    // Reading a file may take as long as its file system wants.
+    front_descriptor(&wrong, SET_VRING_KICK, 2, front.memory_fd);
+    MUST(!front_ask(&front, &wrong) && front.alive);
     MUST(epoll_wait(front.epoll, &event, 1, 0) == 0 && !front.session.more);
     close(other);
     // Without a kick the daemon looks by itself.
@@ -262,6 +266,38 @@ void test_kicks(void) {
     uint64_t begun = clock_now();
     while (clock_now() - begun < 50) looks += epoll_wait(front.epoll, &event, 1, 0) > 0 ? (turn(&front), 1u) : 0u;
     MUST(looks && looks <= clock_now() - begun + 1);
+    end(&front, &disks);
+  }
+}
+
+// Makes a descriptor that the daemon has too one that waits.
+static void make_wait(int fd) { MUST(!fcntl(fd, F_SETFL, fcntl(fd, F_GETFL) & ~O_NONBLOCK)); }
+
+void test_waits(void) {
+  for (unsigned number = 0; number < WAYS; number++) {
+    struct disks disks;
+    struct front front;
+    int ends[2];
+    struct sent sent;
+    begin(&front, &disks, number);
+    front_agree(&front);
+    MUST(is_ready(&front, 3) && !pipe2(ends, O_CLOEXEC));
+    // Whoever waits for ever is ended by this.
+    alarm(20);
+    make_wait(front.kick[3]);
+    make_wait(front.call[3]);
+    // There is nothing to be read: the front end read it first.
+    session_kicked(&front.session, 3);
+    front_descriptor(&sent, SET_VRING_KICK, 4, ends[0]);
+    MUST(front_ask(&front, &sent));
+    make_wait(ends[0]);
+    session_kicked(&front.session, 4);
+    // There is no room for more in this count.
+    MUST(write(front.call[3], &(uint64_t){UINT64_MAX - 1}, 8) == 8);
+    MUST(is_ready(&front, 3) && is_ready(&front, 2) && is_ready(&front, 3));
+    alarm(0);
+    close(ends[0]);
+    close(ends[1]);
     end(&front, &disks);
   }
 }
@@ -341,11 +377,18 @@ void test_endless(void) {
     turn(&front);
     MUST(front.alive && front.session.more && front_reply(&front, payload, sizeof payload) == 8 && !driver_next(&front, 3, 2, &length));
     MUST(!front_reply(&front, payload, sizeof payload));
-    faults.endless = false;
-    pump(&front);
+    faults.passed++;
+    turn(&front);
+    MUST(front.alive && !front_reply(&front, payload, sizeof payload) && !driver_next(&front, 3, 2, &length));
+    // For so long it had time, by itself or not.
+    faults.endless = number % 2;
+    faults.passed += number % 2 ? 4 : 0;
+    turn(&front);
     // The queue is stopped once the round's answers are shown.
     MUST(driver_next(&front, 3, 2, &length) && front.memory[0x201000 + 10] == 0);
     MUST(front_reply(&front, payload, sizeof payload) == 8 && little_get(payload, 4) == 4);
+    faults.endless = false;
+    MUST(has_block(&front));
     end(&front, &disks);
   }
 }

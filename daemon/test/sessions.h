@@ -23,6 +23,9 @@ void test_stale(void);
 // Kicks that can't be read, and queues that have none.
 void test_kicks(void);
 
+// Descriptors of which the front end has the daemon's reads and writes wait.
+void test_waits(void);
+
 // A reset, behind which the front end gives some descriptors no more.
 void test_reset(void);
 

@@ -11,6 +11,7 @@
 #include "../images.h"
 #include "chains.h"
 #include "front.h"
+#include "holds.h"
 #include "rounds.h"
 #include "sessions.h"
 
@@ -303,10 +304,11 @@ int main(int count, char **words) {
   } tests[] = {{"words", test_words}, {"ways", test_ways}, {"bases", test_bases}, {"files", test_files}, {"events", test_events},
                {"totals", test_totals}, {"empty", test_empty}, {"order", test_order}, {"tables", test_tables},
                {"shared", test_shared}, {"cuts", test_cuts}, {"fields", test_fields}, {"rings", test_rings},
-               {"scattered", test_scattered}, {"whole", test_whole}, {"full", test_full}, {"forgetful", test_forgetful},
+               {"scattered", test_scattered}, {"slow", test_slow}, {"full", test_full}, {"forgetful", test_forgetful},
                {"abandoned", test_abandoned}, {"zeros", test_zeros}, {"turns", test_turns}, {"order of control", test_order_of_control},
+               {"apart", test_apart}, {"overtaken", test_overtaken}, {"stopped", test_stopped}, {"waiting", test_waiting},
                {"moved", test_moved}, {"slots", test_slots}, {"regions", test_regions}, {"short", test_short},
-               {"forms", test_forms}, {"stale", test_stale}, {"kicks", test_kicks}, {"reset", test_reset},
+               {"forms", test_forms}, {"stale", test_stale}, {"kicks", test_kicks}, {"waits", test_waits}, {"reset", test_reset},
                {"refused", test_refused}, {"endless", test_endless}};
   unsigned files = open_files();
   for (size_t i = 0; i < sizeof tests / sizeof *tests; i++) {

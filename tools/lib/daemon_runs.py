@@ -637,14 +637,32 @@ def test_held(room):
         log.unlink()
 
 
-def test_written_whole(room):
-    """While a disk is written from its first block to its last, messages are answered, and the daemon ends by a signal."""
-    with driven(room, "--disk", f"0:0=8T,file={room.folder / 'image'}", ends=1) as (_, front, log):
+def test_apart(room):
+    """A disk whose file can't be written holds no other. What was answered for that one is on its file when the daemon is killed."""
+    for mode in ([], ["--shadow"]):
+        first, second = (room.folder / f"{name}{len(mode)}" for name in ("first", "second"))
+        words = [*mode, "--quiet", "--disk", f"0:0=16M,file={first}", "--disk", f"0:1=16M,file={second}"]
+        with room.runs(*words, ends=-signal.SIGKILL, by=signal.SIGKILL) as run, FrontEnd(connected(room.socket)) as front:
+            front.write(0, b"a" * 4096)
+            wait_for(lambda: front.answered() == 1, "the first WRITE")
+            limit_files(run, MIB)
+            front.write(8192, b"b" * 4096)
+            for i in range(10):
+                front.write(8 * i, bytes([i + 1]) * 4096, 1)
+                wait_for(lambda: front.answered() == 2 + i, "a WRITE to the other disk")  # noqa: B023
+        assert first.read_bytes()[:4096] == b"a" * 4096
+        assert second.read_bytes()[: 10 * 4096] == b"".join(bytes([i + 1]) * 4096 for i in range(10))
+
+
+def test_refused_unmap(room):
+    """An UNMAP that names more blocks than it may changes nothing, and writes nothing, however large the disk is."""
+    image = room.folder / "image"
+    with driven(room, "--disk", f"0:0=8T,file={image}", ends=0) as (_, front, _):
         front.refused_unmap()
-        for _ in range(5):
-            time.sleep(0.1)
-            assert front.asks() and front.answered() == 0
-    assert "aren't kept" in log.read_text()
+        wait_for(lambda: front.answered() == 1, "the UNMAP")
+        front.write(0, b"a" * 4096)
+        wait_for(lambda: front.answered() == 2, "a WRITE")
+    assert image.stat().st_blocks <= 64
 
 
 # Isolation.
@@ -662,13 +680,14 @@ def has_seccomp(room):
 def test_limits(room):
     """The daemon can't gain privileges, writes no core file, and opens a limited number of files."""
     with room.runs("--disk", "0:0=1M") as run:
+        assert serves(room.socket)
         told = facts(run)
         limits = Path(f"/proc/{run.pid}/limits").read_text()
         assert told["NoNewPrivs"] == "1" and told["Seccomp"] == ("2" if has_seccomp(room) else "0")
         assert re.search(r"Max core file size +0 +0", limits) and re.search(r"Max open files +1024 ", limits)
     if has_seccomp(room):
         with room.runs("--disk", "0:0=1M", "--seccomp", "off") as run:
-            assert facts(run)["Seccomp"] == "0" and facts(run)["NoNewPrivs"] == "1"
+            assert serves(room.socket) and facts(run)["Seccomp"] == "0" and facts(run)["NoNewPrivs"] == "1"
 
 
 def test_modes(room):
@@ -688,11 +707,12 @@ def test_users(room):
     room.folder.chmod(0o777)
     disk = room.folder / "new.img"
     with room.runs("--disk", f"0:0=1M,file={disk}", "--user", "nobody", "--group", "daemon", "--mode", "660") as run:
+        # It listens before it becomes another.
+        assert serves(room.socket)
         told = facts(run)
         assert told["Uid"].split() == ["65534"] * 4 and told["Gid"].split() == ["1"] * 4 and told["CapEff"] == "0000000000000000"
         assert told["Groups"].split() in ([], ["1"], ["65534"], ["1", "65534"])
         assert (room.socket.stat().st_uid, room.socket.stat().st_gid, disk.stat().st_uid) == (65534, 1, 65534)
-        assert serves(room.socket)
     assert not room.socket.exists()
     return None
 

@@ -50,11 +50,11 @@ class FrontEnd:
         self.say(GET_FEATURES)
         return struct.unpack("<IIIQ", self.connection.recv(20))[3]
 
-    def put(self, block, data=b""):
-        """Makes a request of disk 0:0 available, with these data, and kicks. A request takes three descriptors."""
+    def put(self, block, data=b"", lun=0):
+        """Makes a request of a disk of target 0 available, with these data, and kicks. A request takes three descriptors."""
         number, first = self.count, 3 * (self.count % (SIZE // 4))
         at, room = REQUESTS + 0x200 * number, DATA + 0x1000 * number
-        self.memory[at : at + HEAD] = (bytes([1, 0, 0x40, 0]) + bytes(15) + block).ljust(HEAD, b"\0")
+        self.memory[at : at + HEAD] = (bytes([1, 0, 0x40, lun]) + bytes(15) + block).ljust(HEAD, b"\0")
         self.memory[room : room + len(data)] = data
         parts = ((at, HEAD, 1, first + 1), (room, len(data), 1, first + 2), (at + 0x100, RESPONSE, 2, 0))
         for place, part in enumerate(parts, first):
@@ -65,12 +65,12 @@ class FrontEnd:
         self.memory[AVAILABLE + 2 : AVAILABLE + 4] = struct.pack("<H", self.count)
         os.eventfd_write(self.kick, 1)
 
-    def write(self, lba, data):
+    def write(self, lba, data, lun=0):
         """Makes a WRITE available."""
-        self.put(struct.pack(">BBIBHB", 0x2A, 0, lba, 0, len(data) // BLOCK, 0), data)
+        self.put(struct.pack(">BBIBHB", 0x2A, 0, lba, 0, len(data) // BLOCK, 0), data, lun)
 
     def refused_unmap(self):
-        """Makes an UNMAP available that has more descriptors than are taken, so that any block may have changed."""
+        """Makes an UNMAP available that has more descriptors than are taken, so that the library tells of any block."""
         length = 8 + 65 * 16
         self.put(struct.pack(">BBIBHB", 0x42, 0, 0, 0, length, 0), struct.pack(">HHI", length - 2, length - 8, 0).ljust(length, b"\0"))
 

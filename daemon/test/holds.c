@@ -1,0 +1,178 @@
+#include "holds.h"
+
+#include <errno.h>
+#include <string.h>
+#include <unistd.h>
+
+#include "../bytes.h"
+#include "../clock.h"
+#include "faults.h"
+#include "load.h"
+
+enum { BUSY_RESPONSE = 5, ROUNDS = 300, NONE = 40 };
+
+static const uint8_t compare_16[16] = {0x89, 0, 0, 0, 0, 0, 0, 0, 0, 9, 0, 0, 0, 1};
+
+// Begins with two disks, of which 0:0 can't be written.
+static void begin(struct front *front, struct disks *disks, unsigned number) {
+  load_make_two(disks, "64G");
+  load_begin(front, disks, number);
+  faults.only = disks->disks[0].file;
+  faults.write_error = ENOSPC;
+}
+
+void test_apart(void) {
+  for (unsigned number = 0; number < WAYS; number++) {
+    struct disks disks;
+    struct front front;
+    begin(&front, &disks, number);
+    put_write_to(&front, 0, Q, 0, 0);
+    put_write_to(&front, 1, Q, 1, 8);
+    put_write_to(&front, 1, 3, 2, 16);
+    driver_kick(&front, Q);
+    driver_kick(&front, 3);
+    MUST(await(&front, Q, 1, PATIENCE) == 1 && await(&front, 3, 1, PATIENCE) == 1);
+    MUST(is_good(&front, 1) && is_good(&front, 2) && has_on(1, 1, 8, false) && has_on(1, 2, 16, false) && !has(0, 0, false));
+    // Nothing is left to do until the next try.
+    MUST(await(&front, Q, 1, NONE) == 0 && !front.session.more && front.alive && disks.disks[0].error == ENOSPC);
+    faults_clear();
+    pass(&front, 5);
+    MUST(await(&front, Q, 1, PATIENCE) == 1 && is_good(&front, 0) && has(0, 0, false) && !disks.disks[0].error);
+    load_end(&front, &disks);
+  }
+}
+
+void test_overtaken(void) {
+  for (unsigned number = 0; number < WAYS; number++) {
+    struct disks disks;
+    struct front front;
+    uint32_t length;
+    begin(&front, &disks, number);
+    for (unsigned i = 0; i < 20; i++) put_write_to(&front, 0, Q, i, i * APART);
+    driver_kick(&front, Q);
+    MUST(await_error(&front, Q));
+    // It has run, and isn't answered before the requests of its unit are.
+    put_reset(&front, MANY);
+    driver_kick(&front, 0);
+    // A packed ring wraps over the descriptors of those that are held. This driver takes those of a split ring in their order.
+    for (unsigned i = 0; i < (front.way.packed ? 2 * ROUNDS : ROUNDS); i++) {
+      unsigned which = 20 + i % 50, q = Q + i % 3;
+      put_write_to(&front, 1, q, which, 8 * i);
+      driver_kick(&front, q);
+      MUST(await(&front, q, 1, PATIENCE) == 1 && is_good(&front, which) && has_on(1, which, 8 * i, false));
+    }
+    MUST(await_of(&front, 0, 2, 1, NONE) == 0 && !driver_next(&front, Q, 3, &length));
+    faults_clear();
+    pass(&front, 5);
+    MUST(await_of(&front, 0, 2, 1, PATIENCE) == 1 && answer_of(&front, MANY)[0] == 0);
+    // All at once, so that the function's answer is seen last.
+    for (unsigned i = 0; i < 20; i++) MUST(driver_next(&front, Q, 3, &length) && is_good(&front, i) && has(i, (uint64_t)i * APART, false));
+    load_end(&front, &disks);
+  }
+}
+
+// Makes a COMPARE AND WRITE available, of zeros with bytes that tell its number.
+static void put_compare(struct front *front, unsigned i) {
+  memset(buffer_of(front, i), 0, 512);
+  memset(buffer_of(front, i) + 512, (int)(i + 1), 512);
+  put(front, Q, i, compare_16, sizeof compare_16, 1024);
+  driver_kick(front, Q);
+}
+
+// Looks whether the disk has what COMPARE AND WRITE i wrote.
+static bool is_written(struct front *front, unsigned i) {
+  static const uint8_t read_10[] = {0x28, 0, 0, 0, 0, 9, 0, 0, 1, 0};
+  uint8_t found[512], wanted[512];
+  memset(wanted, (int)(i + 1), sizeof wanted);
+  return command(front, 4, read_10, sizeof read_10, NULL, 0, found, sizeof found) == 0 && !memcmp(found, wanted, sizeof found);
+}
+
+// Has the session go on until a message of queue Q is answered. Returns the base.
+static uint32_t await_base(struct front *front) {
+  uint8_t payload[8];
+  for (uint64_t begun = clock_now(); !front_reply(front, payload, sizeof payload); usleep(200)) {
+    MUST(clock_now() - begun < PATIENCE && front->alive);
+    turn(front);
+  }
+  MUST(little_get(payload, 4) == Q);
+  return (uint32_t)little_get(payload + 4, 4);
+}
+
+// Stops queue Q while the file can't be written, which ends before the requests would be refused or behind that. Returns the base.
+static uint32_t stop(struct front *front, bool ends) {
+  uint8_t payload[8];
+  uint32_t length;
+  front_say(front, GET_VRING_BASE, Q);
+  for (unsigned i = 0; i < 10; i++) turn(front);
+  MUST(front->alive && !front_reply(front, payload, sizeof payload) && !driver_next(front, Q, 3, &length));
+  if (ends) faults_clear();
+  pass(front, ends ? 0 : 1);
+  return await_base(front);
+}
+
+// Starts queue Q where it stopped.
+static void start(struct front *front, uint32_t base) {
+  static struct sent sent[64];
+  size_t count = front_set_up(front, sent, 0);
+  for (size_t i = 8; i < count; i++) {
+    uint8_t *at = sent[i].bytes + HEADER;
+    uint32_t request = (uint32_t)little_get(sent[i].bytes, 4);
+    if (request == SET_VRING_BASE) little_put(at + 4, base, 4);
+    if ((little_get(at, 4) & 0xff) == Q) MUST(front_ask(front, &sent[i]));
+  }
+}
+
+void test_stopped(void) {
+  for (unsigned number = 0; number < 2 * WAYS; number++) {
+    struct disks disks;
+    struct front front;
+    uint32_t length;
+    bool ends = number >= WAYS;
+    begin(&front, &disks, number % WAYS);
+    put_compare(&front, 0);
+    MUST(await_error(&front, Q));
+    uint32_t base = stop(&front, ends);
+    // The request is answered: that it was done, or that it failed.
+    MUST(driver_next(&front, Q, 3, &length) && length == 108);
+    MUST(answer_of(&front, 0)[10] == 0 && answer_of(&front, 0)[11] == (ends ? 0 : BUSY_RESPONSE));
+    MUST((base & 0x7fff) == (!front.way.packed ? 1 : front.way.indirect ? 1 : 3));
+    faults_clear();
+    start(&front, base);
+    pass(&front, 5);
+    MUST(is_written(&front, 0) && !driver_next(&front, Q, 3, &length));
+    put_write(&front, Q, 1, 0);
+    driver_kick(&front, Q);
+    MUST(await(&front, Q, 1, PATIENCE) == 1 && is_good(&front, 1) && has(1, 0, false));
+    load_end(&front, &disks);
+  }
+}
+
+void test_waiting(void) {
+  for (unsigned number = 0; number < WAYS; number++) {
+    struct disks disks;
+    struct front front;
+    struct sent sent;
+    uint32_t length;
+    uint8_t payload[8];
+    begin(&front, &disks, number);
+    put_compare(&front, 0);
+    put_write_to(&front, 1, Q, 1, 8);
+    driver_kick(&front, Q);
+    MUST(await(&front, Q, 1, PATIENCE) == 1 && is_good(&front, 1));
+    // The same memory once more. In shadow mode the answer is held over it.
+    front_table(&front, &sent, (struct area[]){front_half(&front, 0), front_half(&front, 1)}, 2);
+    MUST(front_send(&front, &sent, 0, sent.length));
+    turn(&front);
+    MUST(front.alive && !!front_reply(&front, payload, sizeof payload) == front.way.shadow);
+    faults_clear();
+    pass(&front, 0);
+    MUST(await(&front, Q, 1, PATIENCE) == 1 && is_good(&front, 0) && front.alive);
+    pump(&front);
+    MUST(front.way.shadow || front_reply(&front, payload, sizeof payload) == 8);
+    MUST(is_written(&front, 0) && !driver_next(&front, Q, 3, &length));
+    // The other queues go on, and nothing runs twice.
+    put_compare(&front, 2);
+    MUST(await(&front, Q, 1, PATIENCE) == 1 && answer_of(&front, 2)[10] == 2);
+    load_end(&front, &disks);
+  }
+}
