@@ -1,9 +1,9 @@
 -- How many Commits the phases make that make none.
 use Rattle.std.proofs.Common.{◌≡◌, ℕ, ◌+◌, Bool, true, false, List, Result, Ok, Err, Option, Some, None, sym, subst, ap, ◌∙◌, arith, if◌then◌else◌}
-use Rattle.block_store.specs.declared.NoMemory.{NoMemory}
+use Rattle.scsi_codec.specs.declared.lun.Address.{Address}
 use Rattle.unit_model.specs.Jobs.{PlainJob, Jobs}
 use Rattle.unit_model.specs.Unit.{PlainUnit}
-use Rattle.unit_history.specs.declared.outcomes.ResizeFault.{ResizeFault}
+use Rattle.phases.specs.declared.resizing.ResizeFault.{ResizeFault}
 use Rattle.unit_history.specs.Calls.{Commits as CommitsUnit}
 use Rattle.unit_history.specs.declared.outcomes.Outcome as answers
 use Rattle.unit_history.specs.declared.outcomes.Outcome.TheVariants as outcome
@@ -19,6 +19,8 @@ use Rattle.bays.specs.declared.joined_unit.NextJob.TheVariants.{Listed, Taken, C
 use Rattle.bays.specs.Joined.{LeavesEnters, RunsNext, LeavesEntersRuns}
 use Rattle.event_queue.specs.declared.waiting.WaitingEvents.{WaitingEvents}
 use Rattle.phases.specs.Units.{IsEntering, Enters, Commits, Leaves}
+use Rattle.phases.specs.declared.resetting.ResetFault.{ResetFault}
+use Rattle.phases.specs.declared.resetting.ResetFault.TheVariants as refused
 use Rattle.phases.specs.Resetting.{Resets}
 use Rattle.phases.specs.Resizing.{ResizesUnit}
 use Rattle.bays.specs.Ledgers.{commits_of, receipts_due, receipts_run}
@@ -49,17 +51,18 @@ leaves_none (Hand.Taken x) u out false v h' out' e = counted u v e.0
 leaves_none (Hand.Done x o) u out true v h' out' e = absurd e
 leaves_none (Hand.Done x o) u out false v h' out' e = counted u v e.0
 
-pub resets_none : (u : PlainUnit) (out : Jobs) (w : WaitingEvents) (r : Result Bool NoMemory) (v : PlainUnit) (out' : Jobs)
-    (w' : WaitingEvents) → Resets u out w r v out' w' → AsMany u v
-resets_none u out w (Ok true) v out' w' e = ap (λ (z : PlainUnit). commits_of z.steps) (e.0 0).is
-resets_none u out w (Ok false) v out' w' e = counted u v e.0.unit
-resets_none u out w (Err fault) v out' w' e = counted u v e.unit
+pub resets_none : (inventory : List Address) (at : ℕ) (u : PlainUnit) (out : Jobs) (w : WaitingEvents) (r : Result Bool ResetFault)
+    (v : PlainUnit) (out' : Jobs) (w' : WaitingEvents) → Resets inventory at u out w r v out' w' → AsMany u v
+resets_none inventory at u out w (Ok true) v out' w' e = ap (λ (z : PlainUnit). commits_of z.steps) e.1.is
+resets_none inventory at u out w (Ok false) v out' w' e = counted u v e.1.unit
+resets_none inventory at u out w (Err refused.WrongUnit) v out' w' e = counted u v e.1.unit
+resets_none inventory at u out w (Err refused.NoMemory) v out' w' e = counted u v e.1.unit
 
-pub resizes_none : (u : PlainUnit) (blocks : ℕ) (told : Bool) (w : WaitingEvents) (r : Result Bool ResizeFault)
-    (v : PlainUnit) (w' : WaitingEvents) → ResizesUnit u blocks told w r v w' → AsMany u v
-resizes_none u blocks told w (Ok true) v w' e = ap (λ (z : PlainUnit). commits_of z.steps) (e.0 0).is
-resizes_none u blocks told w (Ok false) v w' e = counted u v e.0
-resizes_none u blocks told w (Err fault) v w' e = counted u v e.0
+pub resizes_none : (inventory : List Address) (at : ℕ) (u : PlainUnit) (blocks : ℕ) (told : Bool) (w : WaitingEvents)
+    (r : Result Bool ResizeFault) (v : PlainUnit) (w' : WaitingEvents) → ResizesUnit inventory at u blocks told w r v w' → AsMany u v
+resizes_none inventory at u blocks told w (Ok true) v w' e = ap (λ (z : PlainUnit). commits_of z.steps) e.1.is
+resizes_none inventory at u blocks told w (Ok false) v w' e = counted u v e.1
+resizes_none inventory at u blocks told w (Err fault) v w' e = counted u v e.0
 
 entered : (d : Transition) (x : PlainJob) (u v : PlainUnit) → IsEntering x d → DoesUnit d u v → AsMany u v
 entered (Transition.Run y) x u v is does = counted_as does.is

@@ -13,13 +13,13 @@ ghost use Rattle.bays.specs.Ledgers.{receipts_made};
 
 use crate::gate::{Gate, Point};
 use crate::lend::UnitBays;
-use block_store::NoMemory;
+use decisions::Inventory;
 use event_queue::WaitingEvents;
 use phases::{
-    Hand, OpenFunction, Slot, phase_check, phase_commit, phase_enter, phase_hard, phase_leave,
-    phase_mark, phase_prepare, phase_resize, phase_start_pages,
+    Hand, OpenFunction, ResetFault, ResizeFault, Slot, phase_check, phase_commit, phase_enter,
+    phase_hard, phase_leave, phase_mark, phase_prepare, phase_resize, phase_start_pages,
 };
-use unit_history::{JobList, ResizeFault, StartedWrite};
+use unit_history::{JobList, StartedWrite};
 
 /// Brings the request that arrived to its unit (`phase_enter`), in one hold of that. The owner of its queue calls, with
 /// its place from `Slot::unit`. Returns true if something changed.
@@ -143,12 +143,14 @@ pub fn leave_on<B: UnitBays>(bays: &mut B, at: usize, hand: &mut Hand, out: &mut
 pub fn mark_on<B: UnitBays>(
     bays: &mut B,
     at: usize,
+    inventory: &Inventory,
     function: &mut OpenFunction,
     out: &mut JobList,
 ) -> bool
     requires there { at < B.units bays.old }
     ensures did { (u : PlainUnit) × (v : PlainUnit) × B.lends_unit bays.old at u
-        × Marks function.old u out.old result v function.new out.new × B.keeps_unit bays.old at v bays.new }
+        × Marks inventory.now function.old u out.old result v function.new out.new
+        × B.keeps_unit bays.old at v bays.new }
     ensures counted { B.counts bays.old 0 bays.new }
     ensures units { B.units bays.new ≡ B.units bays.old }
 {
@@ -156,20 +158,26 @@ pub fn mark_on<B: UnitBays>(
         at,
         function,
         out,
-        |unit, function, out| -> (bool, u64)
-            ensures { Marks function.old unit.old out.old result.0 unit.new function.new out.new × (result.1 ≡ 0) }
-        { (phase_mark(unit, function, out), 0) },
+        move |unit, function, out| -> (bool, u64)
+            ensures { Marks inventory.entry.now function.old unit.old out.old result.0 unit.new function.new out.new
+                × (result.1 ≡ 0) }
+        { (phase_mark(unit, inventory, function, out), 0) },
     )
     .0
 }
 
 /// Checks whether the open function's first mark is clear (`phase_check`), in one hold of that mark's unit, which stays
 /// as it is. The worker that has the function calls, with the unit's place from `Function::waits_for`. Returns true if
-/// it was clear.
-pub fn check_on<B: UnitBays>(bays: &mut B, at: usize, function: &mut OpenFunction) -> bool
+/// something changed.
+pub fn check_on<B: UnitBays>(
+    bays: &mut B,
+    at: usize,
+    inventory: &Inventory,
+    function: &mut OpenFunction,
+) -> bool
     requires there { at < B.units bays.old }
-    ensures did { (u : PlainUnit) × B.lends_unit bays.old at u × Checks function.old u result function.new
-        × B.keeps_unit bays.old at u bays.new }
+    ensures did { (u : PlainUnit) × B.lends_unit bays.old at u
+        × Checks inventory.now function.old u result function.new × B.keeps_unit bays.old at u bays.new }
     ensures counted { B.counts bays.old 0 bays.new }
     ensures units { B.units bays.new ≡ B.units bays.old }
 {
@@ -177,24 +185,27 @@ pub fn check_on<B: UnitBays>(bays: &mut B, at: usize, function: &mut OpenFunctio
         at,
         function,
         &mut (),
-        |unit, function, _nothing| -> (bool, u64)
-            ensures { Checks function.old unit.old result.0 function.new × (unit.new ≡ unit.old) × (result.1 ≡ 0) }
-        { (phase_check(unit, function), 0) },
+        move |unit, function, _nothing| -> (bool, u64)
+            ensures { Checks inventory.entry.now function.old unit.old result.0 function.new × (unit.new ≡ unit.old)
+                × (result.1 ≡ 0) }
+        { (phase_check(unit, inventory, function), 0) },
     )
     .0
 }
 
-/// Resets a unit (`phase_hard`), in one hold of it. The operator's seat calls. Returns true if something changed, or
-/// `NoMemory` as the phase does.
+/// Resets the unit of a place of the inventory (`phase_hard`), in one hold of it. The operator's seat calls. Returns
+/// true if something changed, or `WrongUnit` or `NoMemory` as the phase does.
 pub fn hard_on<B: UnitBays>(
     bays: &mut B,
     at: usize,
+    inventory: &Inventory,
     out: &mut JobList,
     waiting: &mut WaitingEvents,
-) -> Result<bool, NoMemory>
+) -> Result<bool, ResetFault>
     requires there { at < B.units bays.old }
     ensures did { (u : PlainUnit) × (v : PlainUnit) × B.lends_unit bays.old at u
-        × Resets u out.old waiting.old result v out.new waiting.new × B.keeps_unit bays.old at v bays.new }
+        × Resets inventory.now at u out.old waiting.old result v out.new waiting.new
+        × B.keeps_unit bays.old at v bays.new }
     ensures counted { B.counts bays.old 0 bays.new }
     ensures units { B.units bays.new ≡ B.units bays.old }
 {
@@ -202,25 +213,28 @@ pub fn hard_on<B: UnitBays>(
         at,
         out,
         waiting,
-        |unit, out, waiting| -> (Result<bool, NoMemory>, u64)
-            ensures { Resets unit.old out.old waiting.old result.0 unit.new out.new waiting.new × (result.1 ≡ 0) }
-        { (phase_hard(unit, out, waiting), 0) },
+        move |unit, out, waiting| -> (Result<bool, ResetFault>, u64)
+            ensures { Resets inventory.entry.now at unit.old out.old waiting.old result.0 unit.new out.new waiting.new
+                × (result.1 ≡ 0) }
+        { (phase_hard(unit, inventory, at, out, waiting), 0) },
     )
     .0
 }
 
-/// Gives a unit another capacity (`phase_resize`), in one hold of it. The operator's seat calls. Answers as the phase
-/// does: `BadCapacity` or `NoMemory`, with nothing changed.
+/// Gives the unit of a place of the inventory another capacity (`phase_resize`), in one hold of it. The operator's seat
+/// calls. Answers as the phase does: `WrongUnit`, `BadCapacity` or `NoMemory`, with nothing changed.
 pub fn resize_on<B: UnitBays>(
     bays: &mut B,
     at: usize,
+    inventory: &Inventory,
     blocks: u64,
     told: bool,
     waiting: &mut WaitingEvents,
 ) -> Result<bool, ResizeFault>
     requires there { at < B.units bays.old }
     ensures did { (u : PlainUnit) × (v : PlainUnit) × B.lends_unit bays.old at u
-        × ResizesUnit u blocks told waiting.old result v waiting.new × B.keeps_unit bays.old at v bays.new }
+        × ResizesUnit inventory.now at u blocks told waiting.old result v waiting.new
+        × B.keeps_unit bays.old at v bays.new }
     ensures counted { B.counts bays.old 0 bays.new }
     ensures units { B.units bays.new ≡ B.units bays.old }
 {
@@ -229,8 +243,9 @@ pub fn resize_on<B: UnitBays>(
         waiting,
         &mut (),
         move |unit, waiting, _nothing| -> (Result<bool, ResizeFault>, u64)
-            ensures { ResizesUnit unit.old blocks told waiting.old result.0 unit.new waiting.new × (result.1 ≡ 0) }
-        { (phase_resize(unit, blocks, told, waiting), 0) },
+            ensures { ResizesUnit inventory.entry.now at unit.old blocks told waiting.old result.0 unit.new waiting.new
+                × (result.1 ≡ 0) }
+        { (phase_resize(unit, inventory, at, blocks, told, waiting), 0) },
     )
     .0
 }

@@ -14,6 +14,7 @@ use Rattle.unit_model.specs.Asking.{IsOf}
 use Rattle.task_mgmt.specs.declared.kind.MarkBy.TheVariants.{Abort, Reset}
 use Rattle.device_model.specs.Parts.{Hand, Slot}
 use Rattle.device_model.specs.World.{PlainQueue, PlainWorld, Opens}
+use Rattle.device_model.specs.Addressed.{IsAddressed, AreAddressed}
 use Rattle.device_model.specs.Transitions.{Transition}
 use Rattle.device_model.specs.Happens.{May, CommitsUnknown, EntersStale, UnitIs, Occurrence, Reached, occurrence_of, world_of, Leads}
 use Rattle.device_model.specs.Lawful.{KeepsParts}
@@ -69,6 +70,14 @@ never_lost k x w m h =
           })
     ]) refl
 
+-- each unit has the address that stands in the inventory at its place
+addressed_where : (old : PlainWorld) (ds : List Transition) (w : PlainWorld) → Opens old → w.inventory ≡ old.inventory → Says old ds w
+    → AreAddressed w
+addressed_where old ds w o e h k u at =
+    let told = (h.units k u at).0 in
+    subst (λ inventory. IsAddressed inventory k u) (sym e)
+    (subst (λ z. slice_get old.inventory k ≡ Some (unit_address z)) (sym told.opening) (o.addressed k told.opened told.there))
+
 -- each request that arrived names the unit that it is for
 named_where : (old : PlainWorld) (ds : List Transition) (w : PlainWorld) → Opens old → Says old ds w → AreNamedThere w
 named_where old ds w o h x i q u at e there =
@@ -113,6 +122,13 @@ all_named old ds o l = named_where old ds (world_of old ds) o (says_at old ds o 
 
 pub named_there : (old : PlainWorld) (trace : List Occurrence) (w : PlainWorld) → Reached old trace w → AreNamedThere w
 named_there old trace w r = in_run (λ ds v. AreNamedThere v) old (λ ds l. all_named old ds r.opens l) trace w r.runs
+
+all_addressed : (old : PlainWorld) (ds : List Transition) → Opens old → Leads old ds → AreAddressed (world_of old ds)
+all_addressed old ds o l = addressed_where old ds (world_of old ds) o (parts_at old ds l).inventory (says_at old ds o l)
+
+pub addressed_there : (old : PlainWorld) (trace : List Occurrence) (w : PlainWorld) → Reached old trace w → AreAddressed w
+addressed_there old trace w r =
+    in_run (λ ds v. AreAddressed v) old (λ ds l. all_addressed old ds r.opens l) trace w r.runs
 
 pub none_is_lost : (old : PlainWorld) (ds : List Transition) → Opens old → Leads old ds → NoneIsLost ds
 none_is_lost old ds o l h =

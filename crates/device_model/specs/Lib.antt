@@ -1,5 +1,6 @@
 pub mod Parts
 pub mod World
+pub mod Addressed
 pub mod Events
 pub mod Transitions
 pub mod After

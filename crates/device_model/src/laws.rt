@@ -48,6 +48,7 @@ ghost use Rattle.device_model.specs.Standing.{
   FunctionIsThere,
   IsToCheck,
 };
+ghost use Rattle.device_model.specs.Addressed.{AreAddressed};
 ghost use Rattle.device_model.specs.Applies.{Applies};
 ghost use Rattle.device_model.specs.Turns.{Turns, IsStep};
 ghost use Rattle.device_model.specs.Laws.{
@@ -215,6 +216,12 @@ pub fn tickets_rise()
 /// another.
 pub fn requests_come_to_their_units()
     ensures { (old : PlainWorld) (trace : List Occurrence) (w : PlainWorld) → Reached old trace w → AreNamedThere w }
+{}
+
+/// Each unit has the address that stands in the inventory at its place, in every world that is reached. So a function
+/// and the operator come to the unit that they name.
+pub fn units_keep_their_addresses()
+    ensures { (old : PlainWorld) (trace : List Occurrence) (w : PlainWorld) → Reached old trace w → AreAddressed w }
 {}
 
 /// No seat has more jobs than the units' task sets have places, in every world that is reached. The jobs that a seat

@@ -17,7 +17,7 @@ use std::sync::Wait;
 use std::sync::ledger::{Blank, Ledger};
 use std::thread;
 use std::thread::Threads;
-use workers::{CloseFault, Host, Open, Report, ResizeFault};
+use workers::{CloseFault, Host, Open, Report, ResetFault, ResizeFault};
 
 /// The number of looks that the guest takes for an answer that a line waits for.
 const LOOKS: u32 = 1_000_000;
@@ -222,7 +222,11 @@ impl<C: Ledger, D: Ledger> Service<C, D> {
     /// Resets a unit for the operator, and tells the guest; where the unit isn't there nothing happens.
     fn hard<R: Wait>(&mut self, rt: &R, unit: Address) -> Result<(), Stop> {
         if let Some(place) = self.known.place(unit) {
-            self.host.operator(rt, place)?;
+            match self.host.operator(rt, place) {
+                Ok(()) => {}
+                Err(ResetFault::WrongUnit) => return Err(Stop::Fault(LineFault::WrongUnit)),
+                Err(ResetFault::NoMemory) => return Err(Stop::NoMemory),
+            }
         }
         Ok(())
     }
@@ -233,6 +237,7 @@ impl<C: Ledger, D: Ledger> Service<C, D> {
             match self.host.resize(rt, place, blocks) {
                 Ok(()) => self.known.resize(place, blocks),
                 Err(ResizeFault::BadCapacity) => {}
+                Err(ResizeFault::WrongUnit) => return Err(Stop::Fault(LineFault::WrongUnit)),
                 Err(ResizeFault::NoMemory) => return Err(Stop::NoMemory),
             }
         }

@@ -1,15 +1,18 @@
 -- What the operator's reset of a unit does.
 use Rattle.std.specs.Prelude.{ℕ, ◌≡◌, ◌<◌, ◌++◌, Bool, true, false, List, [], ◌∷◌, Result, Ok, Err}
-use Rattle.block_store.specs.declared.NoMemory.{NoMemory}
+use Rattle.scsi_codec.specs.declared.lun.Address.{Address}
 use Rattle.scsi_codec.specs.declared.event_queue.Event.{Event as Report}
 use Rattle.unit_model.specs.Steps.{Step}
 use Rattle.unit_model.specs.Jobs.{Jobs}
 use Rattle.unit_model.specs.Unit.{PlainUnit}
+use Rattle.device_model.specs.Addressed.{IsAddressed}
 use Rattle.device_model.specs.Transitions.{Transition}
 use Rattle.device_model.specs.After.{hard_code, hard_report}
 use Rattle.device_model.specs.Happens.{handed_out}
 use Rattle.phases.specs.DoingUnit.{DoesUnit, HasPlaces, with_more}
 use Rattle.phases.specs.Units.{mark_at}
+use Rattle.phases.specs.declared.resetting.ResetFault.{ResetFault}
+use Rattle.phases.specs.declared.resetting.ResetFault.TheVariants as fault
 
 -- nothing changed
 pub record StaysReset (u : PlainUnit) (out : Jobs) (w : List Report) (u' : PlainUnit) (out' : Jobs)
@@ -18,12 +21,17 @@ pub record StaysReset (u : PlainUnit) (out : Jobs) (w : List Report) (u' : Plain
   pub jobs : out' ≡ out
   pub waiting : w' ≡ w
 
--- the unit is reset wherever it stands, its released jobs are appended, and the event waits; there is no room for the
--- jobs, or no event may name the unit's LUN; or memory was refused
-abbrev pub Resets : PlainUnit → Jobs → List Report → Result Bool NoMemory → PlainUnit → Jobs → List Report → Type 0
-Resets u out w (Ok true) u' out' w' =
-    ((place : ℕ) → DoesUnit (Transition.Hard (mark_at place u) (handed_out u (Step.Reset hard_code))) u u')
+-- the unit of this place of the inventory is reset, its released jobs are appended, and the event waits; there is no room
+-- for the jobs, or no event may name the unit's LUN; or it is another unit; or memory was refused
+abbrev pub Resets : List Address → ℕ → PlainUnit → Jobs → List Report → Result Bool ResetFault → PlainUnit → Jobs → List Report
+    → Type 0
+Resets inventory place u out w (Ok true) u' out' w' =
+    IsAddressed inventory place u
+    × DoesUnit (Transition.Hard (mark_at place u) (handed_out u (Step.Reset hard_code))) u u'
     × (out' ≡ with_more (handed_out u (Step.Reset hard_code)) out) × (w' ≡ w ++ hard_report u ∷ [])
-Resets u out w (Ok false) u' out' w' =
-    StaysReset u out w u' out' w' × (HasPlaces out → u.opening.lun < 16384 → ⊥)
-Resets u out w (Err e) u' out' w' = StaysReset u out w u' out' w'
+Resets inventory place u out w (Ok false) u' out' w' =
+    IsAddressed inventory place u × StaysReset u out w u' out' w' × (HasPlaces out → u.opening.lun < 16384 → ⊥)
+Resets inventory place u out w (Err fault.WrongUnit) u' out' w' =
+    (IsAddressed inventory place u → ⊥) × StaysReset u out w u' out' w'
+Resets inventory place u out w (Err fault.NoMemory) u' out' w' =
+    IsAddressed inventory place u × StaysReset u out w u' out' w'

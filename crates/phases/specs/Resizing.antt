@@ -1,17 +1,38 @@
 -- What the operator's resize of a unit does.
 use Rattle.std.specs.Prelude.{ℕ, ◌≡◌, ◌<◌, ◌++◌, Bool, true, false, List, Some, Result, Ok, Err}
+use Rattle.scsi_codec.specs.declared.lun.Address.{Address}
 use Rattle.scsi_codec.specs.declared.event_queue.Event.{Event as Report}
 use Rattle.unit_model.specs.Unit.{PlainUnit}
-use Rattle.unit_history.specs.Calls.{ResizeRefused}
-use Rattle.unit_history.specs.declared.outcomes.ResizeFault.{ResizeFault}
+use Rattle.unit_model.specs.Contents.{is_capacity}
+use Rattle.unit_history.specs.declared.outcomes.ResizeFault as of_unit
+use Rattle.unit_history.specs.declared.outcomes.ResizeFault.TheVariants as unit_fault
+use Rattle.phases.specs.declared.resizing.ResizeFault.{ResizeFault}
+use Rattle.phases.specs.declared.resizing.ResizeFault.TheVariants as fault
+use Rattle.device_model.specs.Addressed.{IsAddressed}
 use Rattle.device_model.specs.Transitions.{Transition}
 use Rattle.device_model.specs.After.{change_reports}
 use Rattle.phases.specs.DoingUnit.{DoesUnit}
 
--- the unit has so many blocks wherever it stands, and the event waits where the driver is told; or no event may name the
--- unit's LUN; or it is refused, and nothing changed
-abbrev pub ResizesUnit : PlainUnit → ℕ → Bool → List Report → Result Bool ResizeFault → PlainUnit → List Report → Type 0
-ResizesUnit u blocks told w (Ok true) u' w' =
-    ((place : ℕ) → DoesUnit (Transition.Resize place blocks) u u') × (w' ≡ w ++ change_reports told (Some u))
-ResizesUnit u blocks told w (Ok false) u' w' = (u' ≡ u) × (w' ≡ w) × (u.opening.lun < 16384 → ⊥)
-ResizesUnit u blocks told w (Err fault) u' w' = (u' ≡ u) × (w' ≡ w) × ResizeRefused blocks fault
+-- own: why the unit itself refuses it
+abbrev pub resize_fault_of : of_unit.ResizeFault → ResizeFault
+resize_fault_of unit_fault.BadCapacity = fault.BadCapacity
+resize_fault_of unit_fault.NoMemory = fault.NoMemory
+
+-- a resize is refused where the unit is another than the one at this place of the inventory, else where no unit may have
+-- so many blocks, and memory only where one may
+abbrev pub RefusesResize : List Address → ℕ → PlainUnit → ℕ → ResizeFault → Type 0
+RefusesResize inventory place u blocks fault.WrongUnit = IsAddressed inventory place u → ⊥
+RefusesResize inventory place u blocks fault.BadCapacity = IsAddressed inventory place u × (is_capacity blocks ≡ false)
+RefusesResize inventory place u blocks fault.NoMemory = IsAddressed inventory place u × (is_capacity blocks ≡ true)
+
+-- the unit of this place of the inventory has so many blocks, and the event waits where the driver is told; or no event may
+-- name the unit's LUN; or it is refused, and nothing changed
+abbrev pub ResizesUnit : List Address → ℕ → PlainUnit → ℕ → Bool → List Report → Result Bool ResizeFault → PlainUnit → List Report
+    → Type 0
+ResizesUnit inventory place u blocks told w (Ok true) u' w' =
+    IsAddressed inventory place u × DoesUnit (Transition.Resize place blocks) u u'
+    × (w' ≡ w ++ change_reports told (Some u))
+ResizesUnit inventory place u blocks told w (Ok false) u' w' =
+    IsAddressed inventory place u × (u' ≡ u) × (w' ≡ w) × (u.opening.lun < 16384 → ⊥)
+ResizesUnit inventory place u blocks told w (Err fault) u' w' =
+    (u' ≡ u) × (w' ≡ w) × RefusesResize inventory place u blocks fault

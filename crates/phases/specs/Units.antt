@@ -1,5 +1,6 @@
 -- What the phases do that work on a unit.
 use Rattle.std.specs.Prelude.{ℕ, ◌≡◌, ◌⊎◌, Bool, true, false, List, [], ◌∷◌, length, Result, Ok, Err}
+use Rattle.scsi_codec.specs.declared.lun.Address.{Address}
 use Rattle.block_store.specs.declared.NoMemory.{NoMemory}
 use Rattle.unit_model.specs.Tasks.{task_of}
 use Rattle.unit_model.specs.Steps.{Step, alive}
@@ -16,6 +17,7 @@ use Rattle.task_mgmt.specs.declared.kind.Kind.TheVariants.{Marking, Querying}
 use Rattle.task_mgmt.specs.declared.function.Mark.{Mark as Place}
 use Rattle.device_model.specs.Parts.{Outcome, Slot, Hand}
 use Rattle.device_model.specs.World.{Opened}
+use Rattle.device_model.specs.Addressed.{IsAddressed}
 use Rattle.device_model.specs.Transitions.{Transition}
 use Rattle.device_model.specs.Happens.{handed_out}
 use Rattle.device_model.specs.Laws.{brings}
@@ -112,34 +114,53 @@ MarksBy m u out (Err e) u' out' = (u' ≡ u) × (out' ≡ out)
 abbrev pub mark_at : ℕ → PlainUnit → Place
 mark_at place u = record { unit = place; place = length u.steps }
 
--- the unit is marked, or memory was refused
-abbrev pub MarksUnit : Opened → ℕ → Kind → PlainUnit → Jobs → PlainUnit → Opened → Jobs → Type 0
-MarksUnit f place (Marking m) u out u' f' out' =
-    (DoesUnit (Transition.Mark f.chain.ticket (mark_at place u) m (handed_out u (step_by m))) u u'
+-- the function fails, and nothing else changed
+pub record FailsMark (u u' : PlainUnit) (f f' : Opened) (out out' : Jobs) : Type 0 where
+  pub unit : u' ≡ u
+  pub function : f' ≡ record f { function = failing f.function }
+  pub jobs : out' ≡ out
+
+-- the unit is the one that the function names, and is marked or looked at; or the function fails: there, or where a mark is
+-- refused memory
+abbrev pub MarksUnit : List Address → Opened → ℕ → Kind → PlainUnit → Jobs → PlainUnit → Opened → Jobs → Type 0
+MarksUnit inventory f place (Marking m) u out u' f' out' =
+    (IsAddressed inventory place u
+    × DoesUnit (Transition.Mark f.chain.ticket (mark_at place u) m (handed_out u (step_by m))) u u'
     × (f' ≡ record f { function = marking (mark_at place u) f.function })
     × (out' ≡ with_more (handed_out u (step_by m)) out))
-    ⊎ ((u' ≡ u) × (f' ≡ record f { function = failing f.function }) × (out' ≡ out))
-MarksUnit f place (Querying rule) u out u' f' out' =
-    DoesUnit (Transition.Ask f.chain.ticket place rule (any_met rule (alive u.steps))) u u'
-    × (f' ≡ record f { function = asking (any_met rule (alive u.steps)) f.function }) × (out' ≡ out)
+    ⊎ FailsMark u u' f f' out out'
+MarksUnit inventory f place (Querying rule) u out u' f' out' =
+    (IsAddressed inventory place u
+    × DoesUnit (Transition.Ask f.chain.ticket place rule (any_met rule (alive u.steps))) u u'
+    × (f' ≡ record f { function = asking (any_met rule (alive u.steps)) f.function }) × (out' ≡ out))
+    ⊎ ((IsAddressed inventory place u → ⊥) × FailsMark u u' f f' out out')
 
-abbrev pub MarksNext : Opened → List ℕ → PlainUnit → Jobs → Bool → PlainUnit → Opened → Jobs → Type 0
-MarksNext f (place ∷ later) u out true u' f' out' = MarksUnit f place f.function.kind u out u' f' out'
-MarksNext f (place ∷ later) u out false u' f' out' = (HasPlaces out → ⊥) × StaysMark u u' f f' out out'
-MarksNext f [] u out true u' f' out' = ⊥
-MarksNext f [] u out false u' f' out' = StaysMark u u' f f' out out'
+abbrev pub MarksNext : List Address → Opened → List ℕ → PlainUnit → Jobs → Bool → PlainUnit → Opened → Jobs → Type 0
+MarksNext inventory f (place ∷ later) u out true u' f' out' =
+    MarksUnit inventory f place f.function.kind u out u' f' out'
+MarksNext inventory f (place ∷ later) u out false u' f' out' = (HasPlaces out → ⊥) × StaysMark u u' f f' out out'
+MarksNext inventory f [] u out true u' f' out' = ⊥
+MarksNext inventory f [] u out false u' f' out' = StaysMark u u' f f' out out'
 
-abbrev pub Marks : Opened → PlainUnit → Jobs → Bool → PlainUnit → Opened → Jobs → Type 0
-Marks f u out result u' f' out' = MarksNext f f.function.left u out result u' f' out'
+-- a function goes on at its next unit, whose address stands in the inventory
+abbrev pub Marks : List Address → Opened → PlainUnit → Jobs → Bool → PlainUnit → Opened → Jobs → Type 0
+Marks inventory f u out result u' f' out' = MarksNext inventory f f.function.left u out result u' f' out'
 
 -- Check
 
-abbrev pub ChecksFirst : Opened → List ℕ → List Place → PlainUnit → Bool → Opened → Type 0
-ChecksFirst f [] (p ∷ later) u true f' =
-    DoesUnit (Transition.Check f.chain.ticket p) u u × (f' ≡ record f { function = checking f.function })
-ChecksFirst f [] (p ∷ later) u false f' = (is_clear p.place u.steps ≡ false) × (f' ≡ f)
-ChecksFirst f left waits u true f' = ⊥
-ChecksFirst f left waits u false f' = f' ≡ f
+-- the first mark is clear at its unit; or the unit is another: the function fails, and waits for this mark no more
+abbrev pub ChecksMark : List Address → Opened → Place → PlainUnit → Opened → Type 0
+ChecksMark inventory f p u f' =
+    (IsAddressed inventory p.unit u × DoesUnit (Transition.Check f.chain.ticket p) u u
+    × (f' ≡ record f { function = checking f.function }))
+    ⊎ ((IsAddressed inventory p.unit u → ⊥) × (f' ≡ record f { function = checking (failing f.function) }))
 
-abbrev pub Checks : Opened → PlainUnit → Bool → Opened → Type 0
-Checks f u result f' = ChecksFirst f f.function.left f.function.waits u result f'
+abbrev pub ChecksFirst : List Address → Opened → List ℕ → List Place → PlainUnit → Bool → Opened → Type 0
+ChecksFirst inventory f [] (p ∷ later) u true f' = ChecksMark inventory f p u f'
+ChecksFirst inventory f [] (p ∷ later) u false f' =
+    IsAddressed inventory p.unit u × (is_clear p.place u.steps ≡ false) × (f' ≡ f)
+ChecksFirst inventory f left waits u true f' = ⊥
+ChecksFirst inventory f left waits u false f' = f' ≡ f
+
+abbrev pub Checks : List Address → Opened → PlainUnit → Bool → Opened → Type 0
+Checks inventory f u result f' = ChecksFirst inventory f f.function.left f.function.waits u result f'

@@ -6,7 +6,9 @@ ghost use Rattle.phases.specs.Units.{Marks, MarksBy, Checks};
 
 use crate::entering::has_places;
 use crate::function::OpenFunction;
+use crate::naming::is_addressed;
 use block_store::NoMemory;
+use decisions::Inventory;
 use task_mgmt::{Kind, MarkBy};
 use unit_history::{JobList, Place, UnitState};
 
@@ -23,14 +25,26 @@ fn mark_tasks(unit: &mut UnitState, mark: MarkBy, out: &mut JobList) -> Result<P
 }
 
 /// Marks the next unit of the open function, which the caller found by `next_unit`, or looks at it. Appends the jobs of
-/// tasks that wait there and are marked to the list. If memory is refused, the function fails and leaves its other
-/// units. Returns true if something changed: not where no unit is left, or where the list has fewer than 64 free
-/// places.
-pub fn phase_mark(unit: &mut UnitState, opened: &mut OpenFunction, out: &mut JobList) -> bool
-    ensures { Marks opened.old unit.old out.old result unit.new opened.new out.new }
+/// tasks that wait there and are marked to the list. If memory is refused, or the unit isn't the one that the inventory
+/// names there, the function fails and leaves its other units. Returns true if something changed: not where no unit is
+/// left, or where the list has fewer than 64 free places.
+pub fn phase_mark(
+    unit: &mut UnitState,
+    inventory: &Inventory,
+    opened: &mut OpenFunction,
+    out: &mut JobList,
+) -> bool
+    ensures { Marks inventory.now opened.old unit.old out.old result unit.new opened.new out.new }
 {
-    if !has_places(out) || opened.function.next_unit().is_none() {
+    if !has_places(out) {
         return false;
+    }
+    let Some(place) = opened.function.next_unit() else {
+        return false;
+    };
+    if !is_addressed(inventory, place, unit) {
+        opened.function.refused();
+        return true;
     }
     match opened.function.kind() {
         Kind::Marking(mark) => match mark_tasks(unit, mark, out) {
@@ -43,22 +57,26 @@ pub fn phase_mark(unit: &mut UnitState, opened: &mut OpenFunction, out: &mut Job
 }
 
 /// Checks whether the open function's first mark is clear, at that mark's unit, which the caller found by `waits_for`,
-/// and goes on to the next. Returns true if something changed: not where a unit is left to mark, no mark is waited for,
-/// or a task that the mark met has not left.
-pub fn phase_check(unit: &UnitState, opened: &mut OpenFunction) -> bool
-    ensures { Checks opened.old unit.now result opened.new }
+/// and goes on to the next. If the unit isn't the one that the inventory names there, the function fails, and waits no
+/// more for that mark. Returns true if something changed: not where a unit is left to mark, no mark is waited for, or a
+/// task that the mark met has not left.
+pub fn phase_check(unit: &UnitState, inventory: &Inventory, opened: &mut OpenFunction) -> bool
+    ensures { Checks inventory.now opened.old unit.now result opened.new }
 {
     if opened.function.next_unit().is_some() {
         return false;
     }
-    match opened.function.waits_for() {
-        Some(mark) => {
-            if unit.clear_of(mark.place) {
-                opened.function.cleared();
-                return true;
-            }
-            false
-        }
-        None => false,
+    let Some(mark) = opened.function.waits_for() else {
+        return false;
+    };
+    if !is_addressed(inventory, mark.unit, unit) {
+        opened.function.refused();
+        opened.function.cleared();
+        return true;
     }
+    if !unit.clear_of(mark.place) {
+        return false;
+    }
+    opened.function.cleared();
+    true
 }

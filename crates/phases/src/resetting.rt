@@ -5,11 +5,22 @@ ghost use Rattle.device_model.specs.After.{hard_report};
 ghost use Rattle.phases.specs.Resetting.{Resets};
 
 use crate::entering::has_places;
+use crate::naming::is_addressed;
 use block_store::NoMemory;
+use decisions::Inventory;
 use event_queue::WaitingEvents;
 use scsi_codec::{Address, Event, TRANSPORT_RESET};
 use unit_attention::Code;
 use unit_history::{JobList, UnitState};
+
+/// Says why a unit isn't reset for the operator. Nothing changed.
+#[derive(Clone, Copy, Debug, PartialEq, Eq)]
+pub enum ResetFault {
+    /// The unit isn't the one that was named.
+    WrongUnit,
+    /// Memory was refused.
+    NoMemory,
+}
 
 /// The number of LUNs that an event may name.
 pub(crate) const LUNS: u16 = 16384;
@@ -28,25 +39,33 @@ fn reset_event(unit: &UnitState) -> Event
     }
 }
 
-/// Resets a unit for the operator, wherever it stands: jobs of tasks that wait there are appended to the list, and the
-/// event of the reset waits. Returns true if something changed: not where the list has fewer than 64 free places, or no
-/// event can name the unit's LUN. `NoMemory`, with nothing changed, where the event or the step was refused memory.
+/// Resets the unit of a place of the inventory for the operator: jobs of tasks that wait there are appended to the list,
+/// and the event of the reset waits. Returns true if something changed: not where the list has fewer than 64 free
+/// places, or no event can name the unit's LUN. `WrongUnit` where this isn't the unit that the inventory names there,
+/// `NoMemory` where the event or the step was refused memory; nothing changed then.
 pub fn phase_hard(
     unit: &mut UnitState,
+    inventory: &Inventory,
+    place: usize,
     out: &mut JobList,
     waiting: &mut WaitingEvents,
-) -> Result<bool, NoMemory>
-    ensures { Resets unit.old out.old waiting.old result unit.new out.new waiting.new }
+) -> Result<bool, ResetFault>
+    ensures { Resets inventory.now place unit.old out.old waiting.old result unit.new out.new waiting.new }
 {
+    if !is_addressed(inventory, place, unit) {
+        return Err(ResetFault::WrongUnit);
+    }
     if !has_places(out) || unit.lun() >= LUNS {
         return Ok(false);
     }
-    waiting.push(reset_event(unit))?;
+    let Ok(()) = waiting.push(reset_event(unit)) else {
+        return Err(ResetFault::NoMemory);
+    };
     match unit.reset(Code::POWER_ON_OR_RESET, out) {
         Ok(_) => Ok(true),
         Err(NoMemory) => {
             waiting.withdraw();
-            Err(NoMemory)
+            Err(ResetFault::NoMemory)
         }
     }
 }

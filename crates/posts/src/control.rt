@@ -38,6 +38,7 @@ fn go_on<R: Wait, G: Gate + Drop, C: Ledger, W: Ledger>(
             mark_on(
                 &mut shared.units(rt, &mut post.part),
                 at,
+                &shared.inventory,
                 function,
                 &mut post.out,
             );
@@ -48,7 +49,12 @@ fn go_on<R: Wait, G: Gate + Drop, C: Ledger, W: Ledger>(
     if waits.unit >= shared.units.len() {
         return Some(Progress::Idle);
     }
-    let did = check_on(&mut shared.units(rt, &mut post.part), waits.unit, function);
+    let did = check_on(
+        &mut shared.units(rt, &mut post.part),
+        waits.unit,
+        &shared.inventory,
+        function,
+    );
     Some(Progress::of(did))
 }
 

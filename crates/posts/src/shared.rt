@@ -39,7 +39,7 @@ pub struct Shared<G: Gate + Drop, C: Ledger, W: Ledger> {
     pub books: Mutex<Books<C, W>>,
     pub queues: Vec<Mutex<Queue>>,
     pub(crate) port: Mutex<EventPort>,
-    pub(crate) inventory: Inventory,
+    pub inventory: Inventory,
     pub handoff: Handoff,
     pub(crate) gate: G,
     pub(crate) closing: AtomicBool,
@@ -60,6 +60,7 @@ impl<G: Gate + Drop, C: Ledger, W: Ledger> Shared<G, C, W> {
         ensures handoff { result.handoff ≡ handoff }
         ensures units { vec_len result.units ≡ vec_len parts.units }
         ensures queues { vec_len result.queues ≡ vec_len parts.queues }
+        ensures inventory { result.inventory ≡ parts.inventory }
     {
         let Parts {
             units,

@@ -37,6 +37,9 @@ pub enum LineFault {
     /// The device would take more steps than the script may.
     #[error("too many steps")]
     TooManySteps,
+    /// Another unit stands in the place of the one that the operator named: the device is at fault.
+    #[error("wrong unit")]
+    WrongUnit,
     /// The header lacks a line, or asks for what the device refuses.
     #[error("bad config")]
     BadConfig,

@@ -166,15 +166,16 @@ fn open<B: UnitBays + QueueBays>(bays: &mut B, inventory: &Inventory) -> Option<
 /// Has the function mark its unit, and see that it is clear.
 fn mark_and_check<B: UnitBays + QueueBays>(
     bays: &mut B,
+    inventory: &Inventory,
     mut function: OpenFunction,
     mut out: JobList,
 ) -> Option<OpenFunction> {
     let place = function.function.next_unit()?;
-    if place >= bays.unit_count() || !mark_on(bays, place, &mut function, &mut out) {
+    if place >= bays.unit_count() || !mark_on(bays, place, inventory, &mut function, &mut out) {
         return None;
     }
     let place = function.function.waits_for()?.unit;
-    if place < bays.unit_count() && check_on(bays, place, &mut function) {
+    if place < bays.unit_count() && check_on(bays, place, inventory, &mut function) {
         return Some(function);
     }
     None
@@ -187,7 +188,8 @@ fn serves_function<B: UnitBays + QueueBays>(
     inventory: &Inventory,
 ) -> Option<bool> {
     let function = open(bays, inventory)?;
-    let function = mark_and_check(bays, function, JobList::with_limit(alloc, 64).ok()?)?;
+    let out = JobList::with_limit(alloc, 64).ok()?;
+    let function = mark_and_check(bays, inventory, function, out)?;
     if bays.queue_count() == 0 {
         return None;
     }
@@ -196,7 +198,11 @@ fn serves_function<B: UnitBays + QueueBays>(
 }
 
 /// Resets the first unit as the operator, and returns true if the event goes to the one buffer of the event queue.
-fn serves_event<B: UnitBays + QueueBays>(alloc: Global, bays: &mut B) -> Option<bool> {
+fn serves_event<B: UnitBays + QueueBays>(
+    alloc: Global,
+    bays: &mut B,
+    inventory: &Inventory,
+) -> Option<bool> {
     let (mut port, mut waiting) = (EventPort::new(alloc, 8).ok()?, WaitingEvents::new(alloc));
     let mut out = JobList::with_limit(alloc, 64).ok()?;
     if bays.queue_count() <= 1 {
@@ -206,7 +212,7 @@ fn serves_event<B: UnitBays + QueueBays>(alloc: Global, bays: &mut B) -> Option<
     if bays.unit_count() == 0 {
         return None;
     }
-    let _ = hard_on(bays, 0, &mut out, &mut waiting);
+    let _ = hard_on(bays, 0, inventory, &mut out, &mut waiting);
     if bays.queue_count() <= 1 {
         return None;
     }
@@ -258,8 +264,8 @@ impl Parts {
     /// Resets the first unit as the operator, and returns true if the guest is told so.
     fn tell(&mut self, alloc: Global) -> Option<bool> {
         put(&mut self.memory, 1, &[0], 16);
-        let (mut bays, _) = self.lend();
-        serves_event(alloc, &mut bays)
+        let (mut bays, inventory) = self.lend();
+        serves_event(alloc, &mut bays, inventory)
     }
 
     /// Returns true if a queue's chain was used, and no other of it.

@@ -100,7 +100,8 @@ impl Function {
         self.found = yes || self.found;
     }
 
-    /// Tells that the mark of the next unit was refused memory: no unit is left, and the response is FAILURE.
+    /// Tells that a unit can't be visited, since its mark was refused memory, or it isn't the one that was named: no unit
+    /// is left, and the response is FAILURE.
     pub fn refused(&mut self)
         ensures { self.new ≡ failing self.old }
     {
@@ -115,7 +116,7 @@ impl Function {
         self.waits.as_slice().first().copied()
     }
 
-    /// Tells that the mark or look that was waited for is clear.
+    /// Tells that the mark or look that was waited for is clear, or waited for no more since the function failed.
     pub fn cleared(&mut self)
         requires { 0 < length self.old.waits }
         ensures { self.new ≡ checking self.old }

@@ -3,15 +3,16 @@
 use crate::changes::Changes;
 use crate::kind::StepKind;
 use crate::outcomes::Receipt;
-use crate::unit::{Place, UnitState};
+use crate::unit::{Place, UnitState, has_address};
 use block_store::{NoMemory, Store};
 use ring_core::Ticket;
+use scsi_codec::Address;
 use std::mem;
 use unit_attention::Code;
 use unit_model::{Counts, Rule};
 
 impl UnitState {
-    ghost use Rattle.std.specs.Prelude.{◌≡◌, ◌+◌, ◌*◌, ◌<◌, ◌≤◌, ◌⊎◌, ◌++◌, true, length, slice_get, OnOk, OnErr, IsTrue, ◌↔◌};
+    ghost use Rattle.std.specs.Prelude.{◌≡◌, ◌+◌, ◌*◌, ◌≢◌, ◌<◌, ◌≤◌, ◌⊎◌, ◌++◌, true, length, slice_get, OnOk, OnErr, IsTrue, IsFalse, ◌↔◌};
     ghost use Rattle.std.specs.Option.{option_map};
     ghost use Rattle.block_store.specs.Blocks.{run};
     ghost use Rattle.unit_model.specs.Steps.{alive};
@@ -20,10 +21,18 @@ impl UnitState {
     ghost use Rattle.unit_model.specs.Contents.{blocks_of, capacity_of, pending_of};
     ghost use Rattle.unit_model.specs.Counts.{counts_of};
     ghost use Rattle.unit_model.specs.Base.{base_of, kept_at};
-    ghost use Rattle.unit_model.specs.Receipts.{IsConfirmed, step_at};
+    ghost use Rattle.unit_model.specs.Receipts.{IsConfirmed, step_at, unit_address};
     ghost use Rattle.unit_history.specs.Kept.{kind_of};
     ghost use Rattle.unit_history.specs.Runs.{committed_one};
     ghost use Rattle.unit_history.specs.Changes.{AreUnchanged};
+
+    /// Returns true if the unit has this address. A function and the operator name the unit that they come to by it.
+    pub fn has_address(&self, address: Address) -> bool
+        ensures yes { IsTrue result → address ≡ unit_address self.now.opening }
+        ensures no { IsFalse result → address ≢ unit_address self.now.opening }
+    {
+        has_address(&self.facts, address)
+    }
 
     /// Returns true if all tasks that were alive at the step of this place and met by it, done or not, have left. A
     /// step that is no Abort and no Reset met none. It takes no memory.

@@ -1,5 +1,6 @@
 -- The operator's reset of a unit that a lock lent.
-use Rattle.std.proofs.Common.{Bool, true, false, List, Ok}
+use Rattle.std.proofs.Common.{ℕ, Bool, true, false, List, Ok}
+use Rattle.scsi_codec.specs.declared.lun.Address.{Address}
 use Rattle.std.specs.Bool.{OnTrue}
 use Rattle.scsi_codec.specs.declared.event_queue.Event.{Event as Report}
 use Rattle.unit_model.specs.Jobs.{Jobs}
@@ -7,9 +8,9 @@ use Rattle.unit_model.specs.Unit.{PlainUnit, IsUnit}
 use Rattle.phases.specs.Resetting.{Resets}
 use Rattle.workers.specs.Resetting.{WasReset}
 
-pub was_reset : (b : Bool) (u v : PlainUnit) (out out' : Jobs) (w w' : List Report) → IsUnit u → Resets u out w (Ok b) v out' w' → IsUnit v
-    → OnTrue b WasReset
-was_reset true u v out out' w w' before did behind =
+pub was_reset : (inventory : List Address) (place : ℕ) (b : Bool) (u v : PlainUnit) (out out' : Jobs) (w w' : List Report) → IsUnit u → Resets inventory place u out w (Ok b) v out' w'
+    → IsUnit v → OnTrue b (WasReset inventory place)
+was_reset inventory place true u v out out' w w' before did behind =
     record {
       unit = u;
       jobs = out;
@@ -21,4 +22,4 @@ was_reset true u v out out' w w' before did behind =
       reset = did;
       stands_after = behind;
     }
-was_reset false u v out out' w w' before did behind = tt
+was_reset inventory place false u v out out' w w' before did behind = tt

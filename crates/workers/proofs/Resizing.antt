@@ -1,14 +1,19 @@
 -- The operator's resize of a unit that a lock lent.
-use Rattle.std.proofs.Common.{ℕ, Bool, true, false, List, Ok}
+use Rattle.std.proofs.Common.{ℕ, ◌≡◌, Bool, true, false, List, Ok}
+use Rattle.scsi_codec.specs.declared.lun.Address.{Address}
+use Rattle.phases.specs.declared.resizing.ResizeFault.{ResizeFault}
+use Rattle.phases.specs.declared.resizing.ResizeFault.TheVariants as fault
+use Rattle.unit_model.specs.Contents.{is_capacity}
 use Rattle.std.specs.Bool.{OnTrue}
 use Rattle.scsi_codec.specs.declared.event_queue.Event.{Event as Report}
 use Rattle.unit_model.specs.Unit.{PlainUnit, IsUnit}
-use Rattle.phases.specs.Resizing.{ResizesUnit}
-use Rattle.workers.specs.Resizing.{WasResized}
+use Rattle.phases.specs.Resizing.{RefusesResize, ResizesUnit}
+use Rattle.workers.specs.Resizing.{ResizeFails, WasResized}
 
-pub was_resized : (blocks : ℕ) (told b : Bool) (u v : PlainUnit) (w w' : List Report) → IsUnit u
-    → ResizesUnit u blocks told w (Ok b) v w' → IsUnit v → OnTrue b (WasResized blocks told)
-was_resized blocks told true u v w w' before did behind =
+pub was_resized : (inventory : List Address) (place blocks : ℕ) (told b : Bool) (u v : PlainUnit) (w w' : List Report) → IsUnit u
+    → ResizesUnit inventory place u blocks told w (Ok b) v w' → IsUnit v
+    → OnTrue b (WasResized inventory place blocks told)
+was_resized inventory place blocks told true u v w w' before did behind =
     record {
       unit = u;
       waiting = w;
@@ -18,4 +23,11 @@ was_resized blocks told true u v w w' before did behind =
       resized = did;
       stands_after = behind;
     }
-was_resized blocks told false u v w w' before did behind = tt
+was_resized inventory place blocks told false u v w w' before did behind = tt
+
+-- what a unit refuses, of a capacity that one may have
+pub resize_fails : (inventory : List Address) (place : ℕ) (u : PlainUnit) (blocks : ℕ) (x : ResizeFault) → is_capacity blocks ≡ true
+    → RefusesResize inventory place u blocks x → ResizeFails blocks x
+resize_fails inventory place u blocks fault.WrongUnit may h = may
+resize_fails inventory place u blocks fault.BadCapacity may h = h.1
+resize_fails inventory place u blocks fault.NoMemory may h = h.1

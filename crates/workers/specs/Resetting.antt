@@ -1,13 +1,14 @@
 -- The operator's reset of a unit that a lock lent.
-use Rattle.std.specs.Prelude.{true, List, Ok}
+use Rattle.std.specs.Prelude.{ℕ, true, List, Ok}
+use Rattle.scsi_codec.specs.declared.lun.Address.{Address}
 use Rattle.scsi_codec.specs.declared.event_queue.Event.{Event as Report}
 use Rattle.unit_model.specs.Jobs.{Jobs}
 use Rattle.unit_model.specs.Unit.{PlainUnit, IsUnit}
 use Rattle.phases.specs.Resetting.{Resets}
 
--- own: some unit was reset: the jobs that this released, and the event that tells the guest, stand behind those that
--- were there
-pub record WasReset : Type 0 where
+-- own: a unit with the address that stands at this place of the inventory was reset: the jobs that this released, and the
+-- event that tells the guest, stand behind those that were there
+pub record WasReset (inventory : List Address) (place : ℕ) : Type 0 where
   pub unit : PlainUnit
   pub jobs : Jobs
   pub waiting : List Report
@@ -15,5 +16,5 @@ pub record WasReset : Type 0 where
   pub jobs_after : Jobs
   pub waiting_after : List Report
   pub stands : IsUnit unit
-  pub reset : Resets unit jobs waiting (Ok true) unit_after jobs_after waiting_after
+  pub reset : Resets inventory place unit jobs waiting (Ok true) unit_after jobs_after waiting_after
   pub stands_after : IsUnit unit_after

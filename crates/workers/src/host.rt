@@ -22,6 +22,7 @@ use decisions::UnitSpec;
 use event_queue::WaitingEvents;
 use guest_mem::MemFault;
 use handoff::{Handoff, Seat};
+use phases::{ResetFault, ResizeFault};
 use posts::{Post, Shared, finish};
 use report::{CloseFault, Report, report_closed};
 use ring_core::RingFault;
@@ -31,7 +32,6 @@ use std::sync::ledger::{Blank, Ledger, Share};
 use std::sync::{Arc, Wait};
 use std::thread::Threads;
 use task_set::MOST_TASKS;
-use unit_history::ResizeFault;
 
 impl<W: Ledger> Begins for Post<W> {
     ghost seat = { λ p. p.seat };
@@ -165,8 +165,9 @@ pub struct Host<G: Gate + Drop, C: Ledger, W: Ledger> {
 }
 
 impl<G: Gate + Drop, C: Ledger, W: Ledger> Model for Host<G, C, W> {
-    ghost use Rattle.std.specs.Prelude.{◌≡◌, ◌+◌, ◌≤◌, vec_len};
+    ghost use Rattle.std.specs.Prelude.{◌≡◌, ◌+◌, ◌≤◌, map, vec_len};
     ghost use Rattle.std.specs.Arc.{arc_value};
+    ghost use Rattle.decisions.specs.Inventory.{address_of};
     ghost use Rattle.workers.specs.Crew.{IsLastSeat};
     ghost use Rattle.workers.specs.Extent.{Extent};
     ghost use Rattle.posts.specs.Tallying.{Tallies};
@@ -185,20 +186,21 @@ impl<G: Gate + Drop, C: Ledger, W: Ledger> Model for Host<G, C, W> {
         × (h.crew.hub ≡ (arc_value h.shared).handoff) × IsLastSeat (arc_value h.shared).handoff h.post.seat
         × Tallies h.post.lost h.post.part.share.amount h.post.kept h.post.hand
         × (h.commits.parts + vec_len (arc_value h.shared).units ≡ C.parts) × (h.commits.amount ≡ 0)
-        × (h.receipts.parts + (h.crew.threads + 1) ≡ W.parts) × (h.receipts.amount ≡ 0) };
+        × (h.receipts.parts + (h.crew.threads + 1) ≡ W.parts) × (h.receipts.amount ≡ 0)
+        × ((arc_value h.shared).inventory ≡ map address_of h.specs.items) };
 }
 
 impl<G: Gate + Drop, C: Ledger, W: Ledger> Host<G, C, W> {
-    ghost use Rattle.std.specs.Prelude.{◌≡◌, ◌<◌, ◌≤◌, true, List, ℕ, length, IfOk, IfErr, IfSome, OnOk, OnErr, vec_len, is_some, nat_lt};
+    ghost use Rattle.std.specs.Prelude.{◌≡◌, ◌<◌, ◌≤◌, true, List, ℕ, length, map, IfOk, IfErr, IfSome, OnOk, OnErr, vec_len, is_some, nat_lt};
     ghost use Rattle.guest_mem.specs.declared.memory.MemFault.TheVariants as MemFault;
     ghost use Rattle.bays.specs.Lending.{IsMemory};
     ghost use Rattle.bays.specs.Memory.{Writes, Reads};
     ghost use Rattle.report.specs.Closed.{IsReport};
     ghost use Rattle.workers.specs.Resetting.{WasReset};
-    ghost use Rattle.workers.specs.Resizing.{WasResized};
+    ghost use Rattle.workers.specs.Resizing.{ResizeFails, WasResized};
+    ghost use Rattle.decisions.specs.Inventory.{address_of};
     ghost use Rattle.workers.specs.Ledgers.{Opens, commits_in};
     ghost use Rattle.unit_model.specs.Contents.{is_capacity};
-    ghost use Rattle.unit_history.specs.Calls.{ResizeRefused};
 
     /// Starts `n` workers, 1 to 8, in place of the number that the configuration has. The embedder calls it once for
     /// each host. `BadConfig` exactly where the device doesn't take such a configuration. Else `NoMemory` where a
@@ -256,11 +258,13 @@ impl<G: Gate + Drop, C: Ledger, W: Ledger> Host<G, C, W> {
     }
 
     /// Resets the unit at an index of the configuration for the operator, and tells the guest (TRANSPORT_RESET). A unit
-    /// that isn't there changes nothing. Wakes the workers that sleep. `NoMemory` where a growth was refused: the unit
-    /// wasn't reset then. It may wait, and run commands.
-    pub fn operator<R: Wait>(&mut self, rt: &R, place: u16) -> Result<(), NoMemory>
+    /// that isn't there changes nothing. Wakes the workers that sleep. `NoMemory` where a growth was refused. `WrongUnit`
+    /// where the unit that was lent hasn't the address of that index, which no host of this crate lends. The unit wasn't
+    /// reset then. It may wait, and run commands.
+    pub fn operator<R: Wait>(&mut self, rt: &R, place: u16) -> Result<(), ResetFault>
         ensures same { self.new ≡ self.old }
-        ensures reset { OnOk result (place < length self.old.units → WasReset) }
+        ensures reset { OnOk result (place < length self.old.units →
+            WasReset (map address_of self.old.units) place) }
         ensures there { OnErr result (place < length self.old.units) }
     {
         let done = reset(
@@ -277,12 +281,13 @@ impl<G: Gate + Drop, C: Ledger, W: Ledger> Host<G, C, W> {
     /// Gives the unit at an index of the configuration another capacity for the operator, in blocks of 512 bytes, and
     /// tells the guest (PARAM_CHANGE) where its driver agreed to `CHANGE`. A unit that isn't there changes nothing.
     /// Wakes the workers that sleep. `BadCapacity` for 0 and for more than 2^40 blocks, `NoMemory` where a growth was
-    /// refused: the unit wasn't resized then. It may wait.
+    /// refused, `WrongUnit` as of [`Host::operator`]: the unit wasn't resized then. It may wait.
     pub fn resize<R: Wait>(&mut self, rt: &R, place: u16, blocks: u64) -> Result<(), ResizeFault>
         ensures same { self.new ≡ self.old }
         ensures good { OnOk result (is_capacity blocks ≡ true) }
-        ensures resized { OnOk result (place < length self.old.units → WasResized blocks self.old.told) }
-        ensures cause { IfErr result (λ fault. ResizeRefused blocks fault) }
+        ensures resized { OnOk result (place < length self.old.units →
+            WasResized (map address_of self.old.units) place blocks self.old.told) }
+        ensures cause { IfErr result (λ fault. ResizeFails blocks fault) }
     {
         let told = self.told;
         let done = resize(

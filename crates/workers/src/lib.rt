@@ -16,9 +16,10 @@ pub use bays::{Gate, Open, Point, QueueBays, UnitBays};
 pub use config::{Config, StartFault};
 pub use host::{Host, Seen};
 pub use phases::{
-    Cause, Note, phase_answer, phase_answer_tmf, phase_check, phase_commit, phase_direct,
-    phase_enter, phase_fetch, phase_fetch_control, phase_fetch_event, phase_hard, phase_leave,
-    phase_mark, phase_prepare, phase_raise, phase_resize, phase_start_pages,
+    Cause, Note, ResetFault, ResizeFault, phase_answer, phase_answer_tmf, phase_check,
+    phase_commit, phase_direct, phase_enter, phase_fetch, phase_fetch_control, phase_fetch_event,
+    phase_hard, phase_leave, phase_mark, phase_prepare, phase_raise, phase_resize,
+    phase_start_pages,
 };
 pub use report::{CloseFault, Report};
-pub use unit_history::{Receipt, ResizeFault};
+pub use unit_history::Receipt;

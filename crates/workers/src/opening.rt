@@ -97,6 +97,7 @@ pub(crate) fn open_parts<C: Ledger>(
     ensures units { IfOk result (λ p. vec_len p.units ≡ length config.now.units.items) }
     ensures queues { IfOk result (λ p. vec_len p.queues ≡ length config.now.queues.items) }
     ensures few { IfOk result (λ p. vec_len p.queues ≤ 18) }
+    ensures inventory { IfOk result (λ p. p.inventory ≡ map address_of config.now.units.items) }
 {
     let Some(form) = form(config.features) else {
         unreachable!()

@@ -1,5 +1,5 @@
 -- What a check of the open function does is a turn of its event.
-use Rattle.std.proofs.Common.{◌≡◌, ℕ, Bool, true, false, List, [], ◌∷◌, Option, Some, refl, sym, ap, ◌∙◌}
+use Rattle.std.proofs.Common.{◌≡◌, ℕ, Bool, true, false, List, [], ◌∷◌, Option, Some, inl, inr, refl, sym, ap, ◌∙◌}
 use Rattle.std.specs.Prelude.{slice_get}
 use Rattle.unit_model.specs.Clearing.{is_clear}
 use Rattle.unit_model.specs.Unit.{PlainUnit}
@@ -14,7 +14,8 @@ use Rattle.device_model.specs.Happens.{IsWaiting}
 use Rattle.device_model.specs.Turns.{Turns}
 use Rattle.device_model.proofs.Joining.{joins}
 use Rattle.device_model.proofs.Lists.{same}
-use Rattle.phases.specs.Units.{Checks, ChecksFirst}
+use Rattle.device_model.specs.Addressed.{AreAddressed}
+use Rattle.phases.specs.Units.{Checks, ChecksFirst, ChecksMark}
 
 -- the world with this function
 abbrev with_function : Option Opened → PlainWorld → PlainWorld
@@ -49,35 +50,43 @@ not_clear w f p later u there waits at unclear h =
     (ap (λ (m : Place). is_clear m.place u.steps) mark
     ∙ ap (λ (v : PlainUnit). is_clear h.mark.place v.steps) unit ∙ h.clear)
 
--- by what is left to visit, and what is waited for
-first_turns : (w : PlainWorld) (f f' : Opened) (left : List ℕ) (waits : List Place) (mark : Place) (u : PlainUnit)
-    (r : Bool) → w.function ≡ Some f → f.function.left ≡ left → f.function.waits ≡ waits
-    → slice_get waits 0 ≡ Some mark → slice_get w.units mark.unit ≡ Some u → ChecksFirst f left waits u r f'
-    → Turns w Event.Check r (with_function (Some f') w)
-first_turns w f f' [] (p ∷ later) mark u true there left waits first at h =
-    let here = ap (λ (m : Place). slice_get w.units m.unit) (same first) ∙ at in
+-- a mark that is clear
+mark_turns : (w : PlainWorld) (f f' : Opened) (p : Place) (later : List Place) (u : PlainUnit) → AreAddressed w
+    → w.function ≡ Some f → f.function.left ≡ [] → f.function.waits ≡ p ∷ later → slice_get w.units p.unit ≡ Some u
+    → ChecksMark w.inventory f p u f' → Turns w Event.Check true (with_function (Some f') w)
+mark_turns w f f' p later u addressed there left waits here (inr h) = absurd (h.0 (addressed p.unit u here))
+mark_turns w f f' p later u addressed there left waits here (inl h) =
     let waiting : IsWaiting w f.chain.ticket (p ∷ later) =
     record { opened = f; there = there; of = refl; left = left; still = waits } in (
       Transition.Check f.chain.ticket p,
       refl,
-      joins (Transition.Check f.chain.ticket p) w (later, waiting) (u, here, h.0.asks) tt,
+      joins (Transition.Check f.chain.ticket p) w (later, waiting) (u, here, h.1.asks) tt,
       ap (λ o. with_function o w)
-          (ap (λ o. Some o) h.1 ∙ ap (λ o. on_function checking o) (sym there)),
+          (ap (λ o. Some o) h.2 ∙ ap (λ o. on_function checking o) (sym there)),
     )
-first_turns w f f' [] (p ∷ later) mark u false there left waits first at h =
+
+-- by what is left to visit, and what is waited for
+first_turns : (w : PlainWorld) (f f' : Opened) (left : List ℕ) (waits : List Place) (mark : Place) (u : PlainUnit)
+    (r : Bool) → AreAddressed w → w.function ≡ Some f → f.function.left ≡ left → f.function.waits ≡ waits
+    → slice_get waits 0 ≡ Some mark → slice_get w.units mark.unit ≡ Some u → ChecksFirst w.inventory f left waits u r f'
+    → Turns w Event.Check r (with_function (Some f') w)
+first_turns w f f' [] (p ∷ later) mark u true addressed there left waits first at h =
+    let here = ap (λ (m : Place). slice_get w.units m.unit) (same first) ∙ at in
+    mark_turns w f f' p later u addressed there left waits here h
+first_turns w f f' [] (p ∷ later) mark u false addressed there left waits first at h =
     let here = ap (λ (m : Place). slice_get w.units m.unit) (same first) ∙ at in (
-      ap (λ o. with_function o w) (ap (λ o. Some o) h.1 ∙ sym there),
-      not_clear w f p later u there waits here h.0,
+      ap (λ o. with_function o w) (ap (λ o. Some o) h.2 ∙ sym there),
+      not_clear w f p later u there waits here h.1,
     )
-first_turns w f f' [] [] mark u true there left waits first at h = absurd h
-first_turns w f f' [] [] mark u false there left waits first at h = (
+first_turns w f f' [] [] mark u true addressed there left waits first at h = absurd h
+first_turns w f f' [] [] mark u false addressed there left waits first at h = (
   ap (λ o. with_function o w) (ap (λ o. Some o) h ∙ sym there),
   λ may.
       no_first
       (sym waits ∙ ap (λ (o : Opened). o.function.waits) (same (sym there ∙ may.there)) ∙ may.still),
 )
-first_turns w f f' (place ∷ more) waits mark u true there left still first at h = absurd h
-first_turns w f f' (place ∷ more) waits mark u false there left still first at h = (
+first_turns w f f' (place ∷ more) waits mark u true addressed there left still first at h = absurd h
+first_turns w f f' (place ∷ more) waits mark u false addressed there left still first at h = (
   ap (λ o. with_function o w) (ap (λ o. Some o) h ∙ sym there),
   λ may.
       not_empty
@@ -85,8 +94,8 @@ first_turns w f f' (place ∷ more) waits mark u false there left still first at
 )
 
 -- what a check does is a turn of its event
-pub check_turns : (w : PlainWorld) (f f' : Opened) (mark : Place) (u : PlainUnit) (r : Bool) → w.function ≡ Some f
-    → slice_get f.function.waits 0 ≡ Some mark → slice_get w.units mark.unit ≡ Some u → Checks f u r f'
-    → Turns w Event.Check r (with_function (Some f') w)
-check_turns w f f' mark u r there first at h =
-    first_turns w f f' f.function.left f.function.waits mark u r there refl refl first at h
+pub check_turns : (w : PlainWorld) (f f' : Opened) (mark : Place) (u : PlainUnit) (r : Bool) → AreAddressed w
+    → w.function ≡ Some f → slice_get f.function.waits 0 ≡ Some mark → slice_get w.units mark.unit ≡ Some u
+    → Checks w.inventory f u r f' → Turns w Event.Check r (with_function (Some f') w)
+check_turns w f f' mark u r addressed there first at h =
+    first_turns w f f' f.function.left f.function.waits mark u r addressed there refl refl first at h

@@ -3,6 +3,7 @@ use Rattle.std.proofs.Common.{◌≡◌, ◌≤◌, ◌<◌, ◌+◌, ◌*◌, �
 use Rattle.std.specs.Prelude.{slice_get, slice_set, map}
 use Rattle.std.proofs.lemmas.List.{length-map}
 use Rattle.block_store.specs.declared.NoMemory.{NoMemory}
+use Rattle.scsi_codec.specs.declared.lun.Address.{Address}
 use Rattle.scsi_codec.specs.declared.event_queue.Event.{Event as Report}
 use Rattle.unit_model.specs.Steps.{Step}
 use Rattle.unit_model.specs.Jobs.{Jobs}
@@ -12,9 +13,12 @@ use Rattle.device_model.specs.Events.{Event}
 use Rattle.device_model.specs.Transitions.{Transition}
 use Rattle.device_model.specs.After.{hard_code, reports_of}
 use Rattle.device_model.specs.Happens.{handed_out}
+use Rattle.device_model.specs.Addressed.{AreAddressed}
 use Rattle.device_model.specs.Standing.{HaveRoom}
 use Rattle.device_model.proofs.Joining.{joins}
 use Rattle.phases.specs.Units.{mark_at}
+use Rattle.phases.specs.declared.resetting.ResetFault.{ResetFault}
+use Rattle.phases.specs.declared.resetting.ResetFault.TheVariants as fault
 use Rattle.phases.specs.Resetting.{Resets}
 use Rattle.world.specs.Kept.{KeptSeat, seat_of}
 use Rattle.world.specs.Steps.{TurnsOrWants}
@@ -22,11 +26,12 @@ use Rattle.world.specs.Sound.{AreFew, lun_of}
 use Rattle.world.proofs.Setting.{list_of, listing, unit_change, unit_still, map_get, seat_there, seat_more, seat_still, has_places}
 
 -- the list keeps its limit
-pub reset_limit : (u v : PlainUnit) (out out' : Jobs) (x y : List Report) (r : Result Bool NoMemory)
-    → Resets u out x r v out' y → out'.limit ≡ out.limit
-reset_limit u v out out' x y (Ok true) h = ap (λ (j : Jobs). j.limit) h.1
-reset_limit u v out out' x y (Ok false) h = ap (λ (j : Jobs). j.limit) h.0.jobs
-reset_limit u v out out' x y (Err e) h = ap (λ (j : Jobs). j.limit) h.jobs
+pub reset_limit : (inventory : List Address) (p : ℕ) (u v : PlainUnit) (out out' : Jobs) (x y : List Report)
+    (r : Result Bool ResetFault) → Resets inventory p u out x r v out' y → out'.limit ≡ out.limit
+reset_limit inventory p u v out out' x y (Ok true) h = ap (λ (j : Jobs). j.limit) h.2
+reset_limit inventory p u v out out' x y (Ok false) h = ap (λ (j : Jobs). j.limit) h.1.jobs
+reset_limit inventory p u v out out' x y (Err fault.WrongUnit) h = ap (λ (j : Jobs). j.limit) h.1.jobs
+reset_limit inventory p u v out out' x y (Err fault.NoMemory) h = ap (λ (j : Jobs). j.limit) h.1.jobs
 
 -- there is a seat of the operator
 pub has_operator : (w : PlainWorld) (kept : List KeptSeat) → w.seats ≡ map seat_of kept
@@ -48,28 +53,36 @@ parts_are w a a' b b' c c' x y z =
 abbrev pub reset_in : PlainWorld → List KeptSeat → ℕ → PlainUnit → ℕ → KeptSeat → List Report → PlainWorld
 reset_in w kept p v n t waiting = reset_parts w (slice_set w.units p v) (map seat_of (slice_set kept n t)) waiting
 
+-- as it is told of the event: no unit is another than the one that is named
+abbrev pub reset_as : Result Bool ResetFault → Result Bool NoMemory
+reset_as (Ok changed) = Ok changed
+reset_as (Err fault.WrongUnit) = Ok false
+reset_as (Err fault.NoMemory) = Err (record {})
+
 -- what a reset does is the event's turn, or memory was refused
-pub resets : (w : PlainWorld) (kept : List KeptSeat) → w.seats ≡ map seat_of kept → HaveRoom w → AreFew w
+pub resets : (w : PlainWorld) (kept : List KeptSeat) → w.seats ≡ map seat_of kept → HaveRoom w → AreAddressed w → AreFew w
     → ((k : ℕ) (z : KeptSeat) → slice_get kept k ≡ Some z → z.limit ≡ 64 * length w.units + 64)
     → (p : ℕ) (u v : PlainUnit) (s : KeptSeat) (out : Jobs) (waiting : List Report) → slice_get w.units p ≡ Some u
-    → slice_get kept w.workers ≡ Some s → (r : Result Bool NoMemory) → Resets u (list_of s) w.waiting r v out waiting
-    → TurnsOrWants w (Event.Hard p) r (reset_in w kept p v w.workers (listing out s) waiting)
-resets w kept are room few limits p u v s out waiting u_at s_at (Ok true) h =
+    → slice_get kept w.workers ≡ Some s → (r : Result Bool ResetFault)
+    → Resets w.inventory p u (list_of s) w.waiting r v out waiting
+    → TurnsOrWants w (Event.Hard p) (reset_as r) (reset_in w kept p v w.workers (listing out s) waiting)
+resets w kept are room addressed few limits p u v s out waiting u_at s_at (Ok true) h =
     let jobs = handed_out u (Step.Reset hard_code) in
     let d = Transition.Hard (mark_at p u) jobs in
-    let does = h.0 p in (
+    let does = h.1 in (
       d,
       refl,
       joins d w (seat_of s, seat_there w.seats kept are w.workers s s_at out) (u, u_at, does.asks) tt,
       parts_are w _ _ _ _ _ _ (unit_change (stepped (Step.Reset hard_code)) w.units p u v u_at does.is)
-          (seat_more w.seats kept are w.workers s s_at out jobs h.1)
-          (h.2 ∙ ap (λ (o : Option PlainUnit). w.waiting ++ reports_of o) (sym u_at)),
+          (seat_more w.seats kept are w.workers s s_at out jobs h.2)
+          (h.3 ∙ ap (λ (o : Option PlainUnit). w.waiting ++ reports_of o) (sym u_at)),
     )
-resets w kept are room few limits p u v s out waiting u_at s_at (Ok false) h =
+resets w kept are room addressed few limits p u v s out waiting u_at s_at (Ok false) h =
     let lun : u.opening.lun ≤ 16383 = few.luns p (lun_of u) (map_get lun_of p w.units u u_at) in
-    absurd (h.1 (has_places w kept w.workers s are room limits s_at) (omega (arith, lun)))
-resets w kept are room few limits p u v s out waiting u_at s_at (Err e) h = (
+    absurd (h.2 (has_places w kept w.workers s are room limits s_at) (omega (arith, lun)))
+resets w kept are room addressed few limits p u v s out waiting u_at s_at (Err fault.WrongUnit) h = absurd (h.0 (addressed p u u_at))
+resets w kept are room addressed few limits p u v s out waiting u_at s_at (Err fault.NoMemory) h = (
   (u, u_at),
-  parts_are w _ _ _ _ _ _ (unit_still w.units p u v u_at h.unit)
-      (seat_still w.seats kept are w.workers s s_at out h.jobs) h.waiting,
+  parts_are w _ _ _ _ _ _ (unit_still w.units p u v u_at h.1.unit)
+      (seat_still w.seats kept are w.workers s s_at out h.1.jobs) h.1.waiting,
 )

@@ -4,6 +4,7 @@ use Rattle.unit_model.specs.Unit.{PlainUnit}
 use Rattle.device_model.specs.World.{PlainQueue, PlainWorld, Everywhere}
 use Rattle.device_model.specs.Happens.{Occurrence, Reached}
 use Rattle.device_model.specs.Lawful.{AreNumbered}
+use Rattle.device_model.specs.Addressed.{AreAddressed}
 use Rattle.device_model.specs.Standing.{AreOwned, AreAtWork, AreBehind, AreNamedThere, HaveRoom, FunctionIsThere, BuffersAreOutstanding}
 
 -- some trace reached it from an opening
@@ -18,6 +19,7 @@ pub record IsSound (w : PlainWorld) : Type 0 where
   pub works : AreAtWork w
   pub behind : AreBehind w
   pub named : AreNamedThere w
+  pub addressed : AreAddressed w
   pub room : HaveRoom w
   pub function : FunctionIsThere (length w.units) w.function
   pub numbered : AreNumbered w

@@ -22,15 +22,15 @@ pub use config::{
 pub use device_model::Event;
 pub use notifications::Notifications;
 pub use phases::{
-    Cause, DirectChain, Hand, JobInHand, Note, OpenFunction, ReceiptOrNote, Refusal, Slot,
-    phase_answer, phase_answer_tmf, phase_check, phase_commit, phase_direct, phase_enter,
-    phase_fetch, phase_fetch_control, phase_fetch_event, phase_hard, phase_leave, phase_mark,
-    phase_prepare, phase_raise, phase_resize, phase_start_pages,
+    Cause, DirectChain, Hand, JobInHand, Note, OpenFunction, ReceiptOrNote, Refusal, ResetFault,
+    ResizeFault, Slot, phase_answer, phase_answer_tmf, phase_check, phase_commit, phase_direct,
+    phase_enter, phase_fetch, phase_fetch_control, phase_fetch_event, phase_hard, phase_leave,
+    phase_mark, phase_prepare, phase_raise, phase_resize, phase_start_pages,
 };
 pub use queues::{AnyRing, Queue};
 pub use ring_core::RingFault;
 pub use service::Served;
 pub use unit_attention::Code;
-pub use unit_history::{Changes, ResizeFault, StepKind, UnitState};
+pub use unit_history::{Changes, StepKind, UnitState};
 pub use unit_model::Counts;
 pub use world::World;

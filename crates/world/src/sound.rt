@@ -5,7 +5,7 @@ ghost use Rattle.world.specs.Sound.{AreSound};
 use device_model::laws::{
     functions_find_their_units, held_buffers_are_outstanding, lists_have_room, logs_are_numbered,
     parts_stay, requests_come_to_their_units, tasks_are_at_work, tickets_rise,
-    what_stands_is_owned,
+    units_keep_their_addresses, what_stands_is_owned,
 };
 
 /// Shows that all that a step rests on holds of every device that some trace reached.
@@ -16,6 +16,7 @@ pub(crate) fn all_are_sound()
     tasks_are_at_work();
     tickets_rise();
     requests_come_to_their_units();
+    units_keep_their_addresses();
     lists_have_room();
     functions_find_their_units();
     logs_are_numbered();

@@ -11,11 +11,10 @@ ghost use Rattle.world.specs.Sound.{AreFew, IsSound};
 use crate::device::Device;
 use block_store::NoMemory;
 use phases::{
-    phase_answer, phase_answer_tmf, phase_check, phase_commit, phase_direct, phase_enter,
-    phase_fetch, phase_fetch_control, phase_fetch_event, phase_hard, phase_leave, phase_mark,
-    phase_prepare, phase_raise, phase_resize, phase_start_pages,
+    ResetFault, ResizeFault, phase_answer, phase_answer_tmf, phase_check, phase_commit,
+    phase_direct, phase_enter, phase_fetch, phase_fetch_control, phase_fetch_event, phase_hard,
+    phase_leave, phase_mark, phase_prepare, phase_raise, phase_resize, phase_start_pages,
 };
-use unit_history::ResizeFault;
 
 /// Returns the seat that serves a request queue.
 pub(crate) fn owner(workers: u16, queue: u16) -> usize
@@ -258,7 +257,12 @@ impl Device {
         if place >= self.units.len() || self.seats.is_empty() {
             return false;
         }
-        phase_mark(&mut self.units[place], open, &mut self.seats[0].out)
+        phase_mark(
+            &mut self.units[place],
+            &self.inventory,
+            open,
+            &mut self.seats[0].out,
+        )
     }
 
     /// Has the open function see that its first mark is clear.
@@ -275,7 +279,7 @@ impl Device {
         if mark.unit >= self.units.len() {
             return false;
         }
-        phase_check(&self.units[mark.unit], open)
+        phase_check(&self.units[mark.unit], &self.inventory, open)
     }
 
     /// Makes the pages of the WRITE in a seat's hand, ahead of its commit. Nothing changes that anybody sees.
@@ -324,11 +328,17 @@ impl Device {
         if at >= self.units.len() {
             return Ok(false);
         }
-        phase_hard(
+        match phase_hard(
             &mut self.units[at],
+            &self.inventory,
+            at,
             &mut self.seats[seat].out,
             &mut self.waiting,
-        )
+        ) {
+            Ok(changed) => Ok(changed),
+            Err(ResetFault::WrongUnit) => Ok(false),
+            Err(ResetFault::NoMemory) => Err(NoMemory),
+        }
     }
 
     /// Gives the unit at a place so many blocks; nothing changes where there is none, or no unit may have so many.
@@ -342,8 +352,16 @@ impl Device {
             return Ok(false);
         }
         let told = self.tells_changes;
-        match phase_resize(&mut self.units[at], blocks, told, &mut self.waiting) {
+        match phase_resize(
+            &mut self.units[at],
+            &self.inventory,
+            at,
+            blocks,
+            told,
+            &mut self.waiting,
+        ) {
             Ok(changed) => Ok(changed),
+            Err(ResizeFault::WrongUnit) => Ok(false),
             Err(ResizeFault::BadCapacity) => Ok(false),
             Err(ResizeFault::NoMemory) => Err(NoMemory),
         }

@@ -11,6 +11,7 @@ returns c =
       works = c.tasks_are_at_work.ensures r.old r.trace w r.reached;
       behind = c.tickets_rise.ensures r.old r.trace w r.reached;
       named = c.requests_come_to_their_units.ensures r.old r.trace w r.reached;
+      addressed = c.units_keep_their_addresses.ensures r.old r.trace w r.reached;
       room = c.lists_have_room.ensures r.old r.trace w r.reached;
       function = c.functions_find_their_units.ensures r.old r.trace w r.reached;
       numbered = c.logs_are_numbered.ensures r.old r.trace w r.reached;

@@ -1,13 +1,18 @@
-use Rattle.std.proofs.Common.{◌≡◌, ◌<◌, length, vec_len, subst, ap, arith}
-use Rattle.std.specs.Prelude.{OnOk}
+use Rattle.std.proofs.Common.{◌≡◌, ◌∙◌, ◌<◌, List, length, vec_len, subst, ap, arith}
+use Rattle.std.specs.Prelude.{OnOk, map}
+use Rattle.scsi_codec.specs.declared.lun.Address.{Address}
+use Rattle.decisions.specs.Inventory.{address_of}
 use Rattle.workers.specs.Resetting.{WasReset}
 use Rattle.workers.proofs.host.Host.operator.Goals as goal
 
--- there are as many units as were wanted
+-- there are as many units as were wanted, and they have their addresses
 pub returns-clause-reset : goal.returns-clause-reset
 returns-clause-reset g c =
     let shared = ap (λ s. vec_len s.units) c.deref.ensures in
     let view = ap (λ v. length v.units) c.self.view_is in
     let many : vec_len c.deref.result.now.units ≡ length c.args.self.now.units =
     omega (arith, shared, c.self.invariant.1, c.self.inside.specs.ok.0, view) in
-    subst (λ n. OnOk c.reset-done.result (c.args.place < n → WasReset)) many c.reset-done.ensures.reset
+    let addresses : c.deref.result.now.inventory ≡ map address_of c.args.self.now.units =
+    ap (λ s. s.inventory) c.deref.ensures ∙ c.self.invariant.9 ∙ ap (λ v. map address_of v.units) c.self.view_is in
+    subst (λ (l : List Address). OnOk c.reset-done.result (c.args.place < length c.args.self.now.units → WasReset l c.args.place)) addresses
+    (subst (λ n. OnOk c.reset-done.result (c.args.place < n → WasReset c.deref.result.now.inventory c.args.place)) many c.reset-done.ensures.reset)

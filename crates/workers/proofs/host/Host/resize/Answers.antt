@@ -1,9 +1,11 @@
-use Rattle.std.proofs.Common.{◌≡◌, ◌<◌, length, vec_len, subst, ap, arith}
-use Rattle.std.specs.Prelude.{OnOk}
+use Rattle.std.proofs.Common.{◌≡◌, ◌∙◌, ◌<◌, List, length, vec_len, subst, ap, arith}
+use Rattle.std.specs.Prelude.{OnOk, map}
+use Rattle.scsi_codec.specs.declared.lun.Address.{Address}
+use Rattle.decisions.specs.Inventory.{address_of}
 use Rattle.workers.specs.Resizing.{WasResized}
 use Rattle.workers.proofs.host.Host.resize.Goals as goal
 
--- there are as many units as were wanted
+-- there are as many units as were wanted, and they have their addresses
 pub returns-clause-resized : goal.returns-clause-resized
 returns-clause-resized g c =
     let shared = ap (λ s. vec_len s.units) c.deref.ensures in
@@ -11,5 +13,8 @@ returns-clause-resized g c =
     let many : vec_len c.deref.result.now.units ≡ length c.args.self.now.units =
     omega (arith, shared, c.self.invariant.1, c.self.inside.specs.ok.0, view) in
     let told = ap (λ v. v.told) c.self.view_is in
-    subst (λ b. OnOk c.resize-done.result (c.args.place < length c.args.self.now.units → WasResized c.args.blocks b)) told
-    (subst (λ n. OnOk c.resize-done.result (c.args.place < n → WasResized c.args.blocks c.self.inside.told)) many c.resize-done.ensures.resized)
+    let addresses : c.deref.result.now.inventory ≡ map address_of c.args.self.now.units =
+    ap (λ s. s.inventory) c.deref.ensures ∙ c.self.invariant.9 ∙ ap (λ v. map address_of v.units) c.self.view_is in
+    subst (λ (l : List Address). OnOk c.resize-done.result (c.args.place < length c.args.self.now.units → WasResized l c.args.place c.args.blocks c.args.self.now.told)) addresses
+    (subst (λ b. OnOk c.resize-done.result (c.args.place < length c.args.self.now.units → WasResized c.deref.result.now.inventory c.args.place c.args.blocks b)) told
+    (subst (λ n. OnOk c.resize-done.result (c.args.place < n → WasResized c.deref.result.now.inventory c.args.place c.args.blocks c.self.inside.told)) many c.resize-done.ensures.resized))

@@ -14,4 +14,6 @@ returns c =
     let f = c.in-Some.open in
     let first = sym (ap (λ (o : Opened). slice_get o.function.waits 0) c.open.view_is)
     ∙ sym c.waits_for.ensures ∙ c.in-Some-waits_for.is in
-    rw (← c.self.view_is) (check_turns _ f _ mark _ c.phase_check.result c.in-Some.is first at c.phase_check.ensures)
+    let sound = rw (← c.self.view_is) at c.requires.sound in
+    rw (← c.self.view_is)
+    (check_turns _ f _ mark _ c.phase_check.result sound.addressed c.in-Some.is first at c.phase_check.ensures)

@@ -1,12 +1,20 @@
-use Rattle.std.proofs.Common.{◌≡◌, ◌<◌, length, Some, refl, sym, ap, ◌∙◌}
+use Rattle.std.proofs.Common.{◌≡◌, ◌<◌, Bool, length, Some, Result, Err, refl, sym, ap, subst, ◌∙◌}
 use Rattle.std.specs.Prelude.{slice_get}
 use Rattle.std.proofs.lemmas.Option.{slice_get_read}
+use Rattle.block_store.specs.declared.NoMemory.{NoMemory}
+use Rattle.phases.specs.declared.resetting.ResetFault.{ResetFault}
+use Rattle.device_model.specs.Events.{Event}
+use Rattle.world.specs.Steps.{TurnsOrWants}
 use Rattle.world.specs.Kept.{KeptSeat}
 use Rattle.world.specs.contracts.device.Device as seen
 use Rattle.world.specs.contracts.seat.Seat as seat
 use Rattle.world.proofs.Setting.{list_of, listing, unit_kept}
-use Rattle.world.proofs.Resetting.{reset_limit, resets, has_operator}
+use Rattle.world.proofs.Resetting.{reset_limit, reset_as, reset_in, resets, has_operator}
+use Rattle.world.proofs.device.Device.hard.Goals.{in-Ok, in-Err-WrongUnit, in-Err-NoMemory}
 use Rattle.world.proofs.device.Device.hard.Goals as goal
+
+abbrev refused : ResetFault → Result Bool ResetFault
+refused x = Err x
 
 pub invariant_of-self : goal.invariant_of-self
 invariant_of-self c =
@@ -21,7 +29,7 @@ invariant_of-self c =
     let out = c.phase_hard.new.out in
     unit_kept d.memory d.bays.items d.units.items d.seats.items c.args.place c.phase_hard.new.unit d.workers s
     (listing out s) c.self.invariant s_at
-    (reset_limit c.index_mut.result.now c.phase_hard.new.unit (list_of s) out d.waiting c.phase_hard.new.waiting
+    (reset_limit d.inventory c.args.place c.index_mut.result.now c.phase_hard.new.unit (list_of s) out d.waiting c.phase_hard.new.waiting
     c.phase_hard.result c.phase_hard.ensures)
 
 pub returns : goal.returns
@@ -38,7 +46,16 @@ returns c =
     let u_at : slice_get d.units.items c.args.place ≡ Some c.index_mut.result.now =
     slice_get_read d.units.items c.len.result c.args.place c.index_mut.result.now
     (c.len.ensures ∙ d.units.ok.0) c.if-at-len.false c.index_mut.ensures.value in
+    let w = seen.the_view d in
+    let same : reset_as c.phase_hard.result ≡ c.match-phase_hard.result =
+    elim c.match-phase_hard.branch [
+      | in-Ok z ↦ ap reset_as z.in-Ok.is ∙ sym z.result-is
+      | in-Err-WrongUnit z ↦ ap reset_as (z.in-Err-WrongUnit.is ∙ ap (λ x. refused x) z.in-Err-WrongUnit.field-0-is) ∙ sym z.result-is
+      | in-Err-NoMemory z ↦ ap reset_as (z.in-Err-NoMemory.is ∙ ap (λ x. refused x) z.in-Err-NoMemory.field-0-is) ∙ sym z.result-is
+    ] in
     rw (← c.self.view_is)
-    (resets (seen.the_view d) d.seats.items refl sound.room few c.self.invariant.limits c.args.place
+    (subst (λ (r : Result Bool NoMemory). TurnsOrWants w (Event.Hard c.args.place) r
+    (reset_in w d.seats.items c.args.place c.phase_hard.new.unit d.workers (listing c.phase_hard.new.out s) c.phase_hard.new.waiting)) same
+    (resets w d.seats.items refl sound.room sound.addressed few c.self.invariant.limits c.args.place
     c.index_mut.result.now c.phase_hard.new.unit s c.phase_hard.new.out c.phase_hard.new.waiting u_at s_at
-    c.phase_hard.result c.phase_hard.ensures)
+    c.phase_hard.result c.phase_hard.ensures))

@@ -3,6 +3,7 @@ use Rattle.std.specs.Prelude.{slice_get, length}
 use Rattle.std.proofs.lemmas.Option.{slice_get_read}
 use Rattle.device_model.specs.World.{Opened, PlainWorld}
 use Rattle.device_model.specs.Events.{Event as PlainEvent}
+use Rattle.device_model.specs.Addressed.{AreAddressed}
 use Rattle.device_model.specs.Standing.{HaveRoom}
 use Rattle.world.specs.Kept.{KeptSeat}
 use Rattle.world.specs.contracts.device.Device as seen
@@ -25,7 +26,7 @@ invariant_of-self-2 c =
     let out = c.phase_mark.new.out in
     unit_kept d.memory d.bays.items d.units.items d.seats.items c.in-Some-next_unit.place c.phase_mark.new.unit 0 s
     (listing out s) c.self.invariant s_at
-    (limit_stays f f.function.left c.index_mut.result.now (list_of s) c.phase_mark.result c.phase_mark.new.unit
+    (limit_stays d.inventory f f.function.left c.index_mut.result.now (list_of s) c.phase_mark.result c.phase_mark.new.unit
     c.phase_mark.new.opened out c.phase_mark.ensures)
 
 pub returns : goal.returns
@@ -48,6 +49,7 @@ returns c =
     turns_seen _ _ PlainEvent.Mark c.phase_mark.result _ c.self.view_is
     (marks (seen.the_view d) d.seats.items refl
     (subst (λ (w : PlainWorld). HaveRoom w) (sym c.self.view_is) c.requires.sound.room)
+    (subst (λ (w : PlainWorld). AreAddressed w) (sym c.self.view_is) c.requires.sound.addressed)
     c.self.invariant.limits f c.in-Some.is c.in-Some-next_unit.place c.index_mut.result.now s u_at s_at
     c.phase_mark.new.unit c.phase_mark.new.opened c.phase_mark.new.out f.function.left refl first
     c.phase_mark.result c.phase_mark.ensures)
