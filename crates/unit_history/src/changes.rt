@@ -82,7 +82,8 @@ impl Changes {
 
     /// Returns the place of the unit's history from which on each block outside the ranges is unchanged. It is the
     /// place of the last call of [`crate::UnitState::take_changes`], 0 where there was none, or a later one where there
-    /// were more than 64 ranges.
+    /// were more than 64 ranges. No clause says that it isn't later still: so a caller compares it with the place of its
+    /// own last call before it looks at the ranges.
     pub fn since(&self) -> u64
         ensures { result ≡ self.now.since }
     {

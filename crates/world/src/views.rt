@@ -139,7 +139,8 @@ impl World {
     }
 
     /// Returns which blocks of the unit of an address may have changed, as [`UnitState::take_changes`] does, and starts
-    /// anew; `None` where there is no such unit. A host calls it to write a disk through to its file. It takes no
+    /// anew; `None` where there is no such unit. A host calls it to write a disk through to its file. It looks at
+    /// `since` first: where that is later than the place of its last call, each block may have changed. It takes no
     /// memory.
     pub fn take_changes(&mut self, target: u8, lun: u16) -> Option<Changes>
         ensures same { self.new ≡ self.old }
