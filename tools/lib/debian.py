@@ -117,7 +117,7 @@ def put_development(root, _):
     with tempfile.TemporaryDirectory() as room:
         tool.install(archive.BUILT, "", room)
         put_pages(root, 3, {page.name: page.read_text() for page in Path(room).glob("share/man/man3/*")})
-    put(root, "usr/share/doc/libvscsi-dev", ROOT / "docs/EMBEDDING.md")
+    put(root, "usr/share/doc/libvscsi-dev", ROOT / "docs/C.md")
     put(root, "usr/share/doc/libvscsi-dev/examples", *(ROOT / "examples/c").iterdir())
 
 

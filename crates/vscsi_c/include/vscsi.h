@@ -27,7 +27,7 @@
  * points into; two calls on one device or one disk at a time. Then anything may happen.
  *
  * Guest memory is one run of bytes that begins at guest address 0. The device has its own: what a guest wrote is copied
- * in by vscsi_poke, what the device wrote is copied out by vscsi_peek. docs/EMBEDDING.md says which bytes, and when.
+ * in by vscsi_poke, what the device wrote is copied out by vscsi_peek. docs/C.md says which bytes, and when.
  *
  * Versions. VSCSI_VERSION is that of this header, vscsi_version() that of the library. With one major version programs
  * that were built with an older header go on working: numbers keep their meaning, and calls, numbers and fields at a
