@@ -16,3 +16,4 @@ pub mod Answering
 pub mod Resetting
 pub mod Resizing
 pub mod Serving
+pub mod InMemory
