@@ -7,3 +7,5 @@ pub mod Answered
 pub mod Commits
 pub mod Enters
 pub mod AtOnce
+pub mod Behind
+pub mod EventsOwn
