@@ -14,21 +14,21 @@ use Rattle.phases.specs.InMemory.{EachSeen, DoesQueueIn}
 
 -- memory that was left so is seen so
 pub is_seen : (shared : Bool) (left seen : List ℕ) → SeenAs shared left seen → IsSeen shared left seen
-is_seen false left seen as = as.own refl
-is_seen true left seen as = as.long
+is_seen false left seen behind = behind.own refl
+is_seen true left seen behind = behind.long
 
 -- writes and then others are both
 pub behind_both : (shared : Bool) (before middle after : List ℕ → Type 0) (first then : List Write) → Wrote before middle first
     → SeenBehind shared middle after then → SeenBehind shared before after (first ++ then)
 behind_both shared before middle after first then wrote behind =
     λ seen may.
-    let (between, stood, as) = behind seen may in
+    let (between, stood, left_so) = behind seen may in
     let (found, was, is) = wrote between stood in
     let left : all_written between then ≡ all_written found (first ++ then) =
     ap (λ (k : List ℕ). all_written k then) is ∙ sym (written_in_order found first then) in (
       found,
       was,
-      subst (λ (k : List ℕ). SeenAs shared k seen) left as,
+      subst (λ (k : List ℕ). SeenAs shared k seen) left left_so,
     )
 
 -- what holds of all that may be read, where nothing was written

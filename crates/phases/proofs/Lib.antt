@@ -9,3 +9,4 @@ pub mod Enters
 pub mod AtOnce
 pub mod Behind
 pub mod EventsOwn
+pub mod Raised

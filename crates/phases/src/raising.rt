@@ -137,7 +137,7 @@ pub fn phase_fetch_event_in<M: WritableMemory>(
     requires reading { M.is_open memory.old }
     ensures fetches { EachSeen M.shared (M.may_be memory.old) (M.may_be memory.new)
         (λ found left seen. FetchesEventIn M.shared (with_slot (slot_of slot.now) queue.old) found port.old
-            result (with_slot (slot_of slot.now) queue.new) left seen port.new) }
+        result (with_slot (slot_of slot.now) queue.new) left seen port.new) }
     ensures size { M.extent memory.new ≡ M.extent memory.old }
     ensures reading { M.is_open memory.new }
 {
@@ -190,7 +190,7 @@ pub fn phase_raise_in<M: WritableMemory>(
 ) -> bool
     ensures raises { EachSeen M.shared (M.may_be memory.old) (M.may_be memory.new)
         (λ found left seen. RaisesNextIn M.shared waiting.old queue.old found port.old
-            result queue.new left seen port.new waiting.new) }
+        result queue.new left seen port.new waiting.new) }
     ensures size { M.extent memory.new ≡ M.extent memory.old }
     ensures reading { M.is_open memory.old → M.is_open memory.new }
 {
