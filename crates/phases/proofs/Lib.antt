@@ -7,3 +7,6 @@ pub mod Answered
 pub mod Commits
 pub mod Enters
 pub mod AtOnce
+pub mod Behind
+pub mod EventsOwn
+pub mod Raised

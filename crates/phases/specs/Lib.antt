@@ -17,3 +17,5 @@ pub mod Resetting
 pub mod Resizing
 pub mod Serving
 pub mod InMemory
+pub mod EventsInMemory
+pub mod ServingInMemory
