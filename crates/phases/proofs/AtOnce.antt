@@ -26,8 +26,10 @@ use Rattle.phases.specs.Direct.{decided_writes}
 use Rattle.phases.specs.DoingUnit.{with_more}
 use Rattle.phases.specs.Serving.{Serves}
 use Rattle.phases.specs.InMemory.{EachSeen, AnswersIn, as_seen}
-use Rattle.phases.specs.ServingInMemory.{ServesAtOnceIn, ServesIn, WritesWholeIn}
-use Rattle.phases.proofs.Behind.{is_seen, behind_both, each_read, each_maps, does_own}
+use Rattle.phases.specs.Outcomes.{WritesWholeIn}
+use Rattle.phases.specs.ServingInMemory.{ServesAtOnceIn, ServesIn}
+use Rattle.phases.proofs.Answered.{AnswersJob, answers_job, answers_own}
+use Rattle.phases.proofs.Behind.{each_read, each_maps}
 use Rattle.phases.proofs.Commits.{committed}
 use Rattle.phases.proofs.Enters.{runs, with_none}
 
@@ -42,42 +44,6 @@ commits x u v what c =
     λ k.
     let (d, of, does, ends) = committed k x u v what c in
     (d, of, does, ap (λ (e : Ending). Hand.Done x (Outcome.Ended e)) ends)
-
--- what answers a job, and what its chain's use left
-abbrev AnswersJob : Bool → PlainJob → Ending → BareQueue → BareQueue → List ℕ → List ℕ → List ℕ → Type 0
-AnswersJob shared x e q q' found left seen =
-    AnswersIn shared (Hand.Done x (Outcome.Ended e)) q found true q' left seen (Hand.Answered x.unit x.chain.ticket)
-
--- a job that ended so is answered by its ending, once that is written and the chain is used
-pub answers_job : (shared : Bool) (x : PlainJob) (e : Ending) (q q' : BareQueue) (before middle after : List ℕ → Type 0) (len : ℕ)
-    (c : PlainChain) → WritesWholeIn x e before len middle → c ≡ x.chain
-    → SeenBehind shared middle after (used_writes q.ring c.id len)
-    → ((m : List ℕ) → after m → q' ≡ completing m c q) → EachSeen shared before after (AnswersJob shared x e q q')
-answers_job shared x e q q' before middle after len c wrote chain used queue =
-    λ seen may.
-    let bytes = answer_of (lengths_of x.chain) e in
-    let first : List Write = scatter_writes x.chain.parts 0 bytes in
-    let then : used_writes q.ring c.id len ≡ used_writes q.ring x.chain.id (length bytes) =
-    ap (λ (d : PlainChain). used_writes q.ring d.id len) chain ∙ ap (used_writes q.ring x.chain.id) wrote.written in
-    let all : SeenBehind shared before after (decided_writes q.ring x.chain (Outcome.Ended e)) =
-    behind_both shared before middle after first (used_writes q.ring x.chain.id (length bytes)) wrote.memory
-    (subst (λ (ws : List Write). SeenBehind shared middle after ws) then used) in
-    let (found, was, behind) = all seen may in
-    let left = all_written found (decided_writes q.ring x.chain (Outcome.Ended e)) in
-    let is : IsSeen shared left seen = is_seen shared left seen behind in
-    let after_it : q' ≡ completing seen x.chain q =
-    queue seen may ∙ ap (λ (d : PlainChain). completing seen d q) chain in (
-      found,
-      was,
-      (
-        left,
-        is,
-        (
-          λ k inventory s. record { asks = λ missed. (refl, is); queue = ap (with_slot s) after_it; memory = refl },
-          refl,
-        ),
-      ),
-    )
 
 -- all of it
 all : (shared : Bool) (x : PlainJob) (u v z u' : PlainUnit) (q q' : BareQueue) (found left seen : List ℕ) (out out' : Jobs)
@@ -158,18 +124,6 @@ served_alone shared x u u' q q' before middle after len c s out alone chain used
     ))
     (answers_job shared x (ending_of alone.outcome) q q' before middle after len c alone.answered chain used queue)
 
--- a job that is answered in a memory that nobody else writes
-answers_own : (x : PlainJob) (o : Outcome) (q q' : BareQueue) (m m' n : List ℕ) (h' : Hand)
-    → AnswersIn false (Hand.Done x o) q m true q' m' n h' → Answers (Hand.Done x o) q m true q' m' h'
-answers_own x o q q' m m' n h' (does, hand) = (
-  (λ k.
-      let xs : List Write = decided_writes q.ring x.chain o in
-      let seen : n ≡ all_written m xs = ((does k [] Slot.Empty).asks false).1 in
-      subst (λ z. AtQueue (Transition.Answer k x o (as_seen z xs)) q m q' m') seen (λ inventory s.
-      does_own inventory (Transition.Answer k x o (as_seen n xs)) (with_slot s q) (with_slot s q') m m' (does k inventory s))),
-  hand,
-)
-
 -- a request that is served in such a memory
 pub serves_own : (x : PlainJob) (u u' : PlainUnit) (q q' : BareQueue) (m m' n : List ℕ) (s s' : Slot) (out out' : Jobs)
     (r : Option Bool) → ServesIn false x u q m s out r u' q' m' n s' out' → Serves x u q m s out r u' q' m' s' out'
@@ -180,7 +134,7 @@ serves_own x u u' q q' m m' n s s' out out' (Some gone) (at_once, slot) = (
     outcome = at_once.outcome;
     enters = at_once.enters;
     commits = at_once.commits;
-    answers = answers_own x at_once.outcome q q' m m' n (Hand.Answered x.unit x.chain.ticket) at_once.answers;
+    answers = answers_own (Hand.Done x at_once.outcome) (Hand.Answered x.unit x.chain.ticket) q q' m m' n true at_once.answers;
     leaves = at_once.leaves;
   },
   slot,

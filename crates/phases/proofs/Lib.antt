@@ -3,6 +3,7 @@ pub mod Deciding
 pub mod Reading
 pub mod Refusing
 pub mod Fetched
+pub mod Directed
 pub mod Answered
 pub mod Commits
 pub mod Enters

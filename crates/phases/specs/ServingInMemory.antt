@@ -1,10 +1,8 @@
 -- What is done of a request at once, in a memory that others may write too: found, left and seen as in InMemory.
-use Rattle.std.specs.Prelude.{ℕ, ◌≡◌, Bool, true, List, [], ◌∷◌, length, Option, Some, None}
-use Rattle.ring_core.specs.Writes.{Wrote, scatter_writes}
-use Rattle.unit_model.specs.Endings.{Ending, answer_of}
+use Rattle.std.specs.Prelude.{ℕ, ◌≡◌, Bool, true, List, [], ◌∷◌, Option, Some, None}
 use Rattle.unit_model.specs.Jobs.{PlainJob, Jobs}
 use Rattle.unit_model.specs.Unit.{PlainUnit}
-use Rattle.device_model.specs.Parts.{Outcome, Slot, Hand, lengths_of}
+use Rattle.device_model.specs.Parts.{Outcome, Slot, Hand}
 use Rattle.queues.specs.Queue.{BareQueue}
 use Rattle.phases.specs.DoingUnit.{with_more}
 use Rattle.phases.specs.Units.{EntersAs, Commits, Leaves}
@@ -34,10 +32,3 @@ abbrev pub ServesIn : Bool → PlainJob → PlainUnit → BareQueue → List ℕ
 ServesIn shared x u q found s out (Some gone) u' q' left seen s' out' =
     ServesAtOnceIn shared x u q found out gone u' q' left seen out' × (s' ≡ s)
 ServesIn shared x u q found s out None u' q' left seen s' out' = OnlyEntersIn x u q found out u' q' left seen s' out'
-
--- Only private functions cite what follows.
-
--- what answers the job has so many bytes, which were written over its chain's parts
-pub record WritesWholeIn (x : PlainJob) (e : Ending) (before : List ℕ → Type 0) (len : ℕ) (after : List ℕ → Type 0) : Type 0 where
-  pub written : len ≡ length (answer_of (lengths_of x.chain) e)
-  pub memory : Wrote before after (scatter_writes x.chain.parts 0 (answer_of (lengths_of x.chain) e))

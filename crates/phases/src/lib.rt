@@ -25,9 +25,9 @@ mod serving;
 mod slot;
 mod taking;
 
-pub use answering::phase_answer;
+pub use answering::{phase_answer, phase_answer_in};
 pub use committing::{phase_commit, phase_leave};
-pub use direct::{phase_answer_tmf, phase_direct};
+pub use direct::{phase_answer_tmf, phase_answer_tmf_in, phase_direct, phase_direct_in};
 pub use direct_chain::DirectChain;
 pub use entering::phase_enter;
 pub use fetching::{phase_fetch, phase_fetch_control, phase_fetch_control_in, phase_fetch_in};
