@@ -42,7 +42,8 @@ pub each_maps : (shared : Bool) (before after : List ℕ → Type 0) (P Q : List
     → EachSeen shared before after P → EachSeen shared before after Q
 each_maps shared before after P Q follows each =
     λ seen may.
-    let (found, was, left, is, p) = each seen may in (found, was, (left, is, follows found left seen is p))
+    let (found, was, rest) = each seen may in
+    let (left, is, p) = rest in (found, was, (left, is, follows found left seen is p))
 
 -- The memory that nobody else writes
 
@@ -50,7 +51,8 @@ each_maps shared before after P Q follows each =
 pub each_own : (old new : List ℕ) (Does : List ℕ → List ℕ → List ℕ → Type 0)
     → EachSeen false (λ m. m ≡ old) (λ m. m ≡ new) Does → Does old new new
 each_own old new Does each =
-    let (found, was, left, is, does) = each new refl in
+    let (found, was, rest) = each new refl in
+    let (left, is, does) = rest in
     subst (λ f. Does f new new) was (subst (λ l. Does found l new) (sym is) does)
 
 -- what is seen as it was left may be seen so, shared or not
