@@ -1,5 +1,7 @@
 -- A chain for which no command ran, answered in a memory that others may write too.
-use Rattle.std.proofs.Common.{◌≡◌, ℕ, Bool, true, false, List, [], Option, Some, None, refl, sym, ap, subst}
+use Rattle.std.proofs.Common.{◌≡◌, ℕ, Bool, true, false, List, [], Option, Some, None, refl, sym, ap, subst, ◌∙◌}
+use Rattle.std.specs.Prelude.{IsTrue, ◌↔◌}
+use Rattle.std.proofs.lemmas.Bool.{false≢true}
 use Rattle.scsi_codec.specs.ControlQueue.{function_bytes}
 use Rattle.ring_core.specs.State.{PlainChain}
 use Rattle.ring_core.specs.Writes.{Write, all_written}
@@ -22,17 +24,20 @@ stays_so q m = record { queue = refl; memory = refl; seen = refl }
 pub lets_go_so : (q : BareQueue) (m : List ℕ) (c : PlainChain) → (MayComplete q m c → ⊥) → LetsGoIn q m c q m m
 lets_go_so q m c why = record { why = why; stays = stays_so q m }
 
+-- it may not be completed
+pub may_not : (q : BareQueue) (m : List ℕ) (c : PlainChain) → (IsTrue false ↔ MayComplete q m c) → MayComplete q m c → ⊥
+may_not q m c told may = false≢true (told.1 may)
+
 -- Direct
 
 -- the chain is answered
-pub directs : (shared : Bool) (c : PlainChain) (o : Outcome) (q q' : BareQueue) (before after : List ℕ → Type 0) (bytes : List ℕ)
-    → bytes ≡ bytes_of (lengths_of c) o → SeenBehind shared before after (answer_writes q.ring c bytes)
-    → ((m : List ℕ) → after m → q' ≡ completing m c q)
+directs_so : (shared : Bool) (c : PlainChain) (o : Outcome) (q q' : BareQueue) (before after : List ℕ → Type 0)
+    → SeenBehind shared before after (decided_writes q.ring c o) → ((m : List ℕ) → after m → q' ≡ completing m c q)
     → EachSeen shared before after (λ found left seen. DirectsIn shared (Slot.Direct c o) q found true q' left seen Slot.Empty)
-directs shared c o q q' before after bytes is behind queue =
+directs_so shared c o q q' before after behind queue =
     λ seen may.
     let ws : List Write = decided_writes q.ring c o in
-    let (found, was, left_so) = subst (λ b. SeenBehind shared before after (answer_writes q.ring c b)) is behind seen may in
+    let (found, was, left_so) = behind seen may in
     let seen_so : IsSeen shared (all_written found ws) seen = is_seen shared (all_written found ws) seen left_so in (
       found,
       was,
@@ -47,6 +52,16 @@ directs shared c o q q' before after bytes is behind queue =
       ),
     )
 
+pub directs : (shared : Bool) (c d : PlainChain) (o : Outcome) (q q' : BareQueue) (before after : List ℕ → Type 0) (bytes : List ℕ)
+    → d ≡ c → bytes ≡ bytes_of (lengths_of c) o → SeenBehind shared before after (answer_writes q.ring d bytes)
+    → ((m : List ℕ) → after m → q' ≡ completing m d q)
+    → EachSeen shared before after (λ found left seen. DirectsIn shared (Slot.Direct c o) q found true q' left seen Slot.Empty)
+directs shared c d o q q' before after bytes same is behind queue =
+    directs_so shared c o q q' before after
+    (subst (λ (b : List ℕ). SeenBehind shared before after (answer_writes q.ring c b)) is
+    (subst (λ (k : PlainChain). SeenBehind shared before after (answer_writes q.ring k bytes)) same behind))
+    (λ m may. queue m may ∙ ap (λ (k : PlainChain). completing m k q) same)
+
 -- no chain is to be answered
 pub directs_none : (shared : Bool) (s : Slot) (q : BareQueue) (may : List ℕ → Type 0) → is_direct s ≡ false
     → EachSeen shared may may (λ found left seen. DirectsIn shared s q found false q left seen s)
@@ -59,12 +74,13 @@ directs_none shared (Slot.Arrived x) q may none =
 directs_none shared (Slot.Direct c o) q may none = absurd (cc)
 
 -- the chain is let go
-pub directs_away : (shared : Bool) (c : PlainChain) (o : Outcome) (q : BareQueue) (may : List ℕ → Type 0)
-    → ((m : List ℕ) → may m → MayComplete q m c → ⊥)
+pub directs_away : (shared : Bool) (c d : PlainChain) (o : Outcome) (q : BareQueue) (may : List ℕ → Type 0) → d ≡ c
+    → ((m : List ℕ) → may m → IsTrue false ↔ MayComplete q m d)
     → EachSeen shared may may (λ found left seen. DirectsIn shared (Slot.Direct c o) q found false q left seen Slot.Empty)
-directs_away shared c o q may why =
+directs_away shared c d o q may same why =
     each_read shared may may (λ found left seen. DirectsIn shared (Slot.Direct c o) q found false q left seen Slot.Empty)
-    (λ m stood. stood) (λ m stood. (lets_go_so q m c (why m stood), refl))
+    (λ m stood. stood)
+    (λ m stood. (lets_go_so q m c (subst (λ (k : PlainChain). MayComplete q m k → ⊥) same (may_not q m d (why m stood))), refl))
 
 -- in a memory that nobody else writes
 pub directs_own : (s s' : Slot) (q q' : BareQueue) (m m' n : List ℕ) (r : Bool) → DirectsIn false s q m r q' m' n s'
@@ -129,12 +145,12 @@ responds_none shared q may =
 
 -- the function is let go
 pub responds_away : (shared : Bool) (f : Opened) (q : BareQueue) (may : List ℕ → Type 0) → is_over f.function ≡ true
-    → ((m : List ℕ) → may m → MayComplete q m f.chain → ⊥)
+    → ((m : List ℕ) → may m → IsTrue false ↔ MayComplete q m f.chain)
     → EachSeen shared may may (λ found left seen. RespondsIn shared (Some f) q found false q left seen None)
 responds_away shared f q may over why =
     each_read shared may may (λ found left seen. RespondsIn shared (Some f) q found false q left seen None) (λ m stood. stood)
     (λ m stood.
-    subst (λ b. RespondsWhereIn shared b f q m false q m m None) (sym over) (lets_go_so q m f.chain (why m stood), refl))
+    subst (λ b. RespondsWhereIn shared b f q m false q m m None) (sym over) (lets_go_so q m f.chain (may_not q m f.chain (why m stood)), refl))
 
 -- in a memory that nobody else writes
 where_own : (b : Bool) (f : Opened) (f' : Option Opened) (q q' : BareQueue) (m m' n : List ℕ) (r : Bool)
