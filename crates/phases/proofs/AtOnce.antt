@@ -1,8 +1,14 @@
 -- What a request that is served at once is, by what the calls of its unit answer.
-use Rattle.std.proofs.Common.{◌≡◌, ℕ, Bool, true, false, List, [], Option, Some, None, length, refl, ap, sym, ◌∙◌, subst}
+use Rattle.std.proofs.Common.{◌≡◌, ℕ, ◌+◌, Bool, true, false, List, [], Option, Some, None, length, refl, ap, sym, ◌∙◌, subst, arith}
+use Rattle.cdb.specs.declared.commands.Command.{Command}
+use Rattle.cdb.specs.Need.{need_of}
+use Rattle.replies.specs.Statuses.{good}
+use Rattle.replies.specs.PlainReply.{good_data, success}
+use Rattle.decisions.specs.declared.answer.ChainLengths.{ChainLengths}
+use Rattle.ring_core.specs.Parts.{readable_total, writable_total}
 use Rattle.ring_core.specs.declared.log.Ticket.{Ticket}
 use Rattle.ring_core.specs.State.{PlainChain}
-use Rattle.ring_core.specs.Writes.{Write, all_written, scatter_writes}
+use Rattle.ring_core.specs.Writes.{Wrote, scatter_writes}
 use Rattle.ring_core.specs.Offer.{used_writes}
 use Rattle.unit_model.specs.Endings.{Ending, answer_of}
 use Rattle.unit_model.specs.Steps.{Step}
@@ -14,21 +20,16 @@ use Rattle.unit_history.specs.Calls as calls
 use Rattle.unit_history.specs.Endings.{ending_of}
 use Rattle.unit_history.specs.declared.outcomes.Outcome as answers
 use Rattle.unit_history.specs.declared.outcomes.Entered.TheVariants as entered
-use Rattle.device_model.specs.Parts.{IsSeen, Outcome, Slot, Hand, lengths_of}
-use Rattle.device_model.specs.Transitions.{Transition}
+use Rattle.device_model.specs.Parts.{Outcome, Slot, Hand, lengths_of}
 use Rattle.queues.specs.Queue.{BareQueue, completing}
 use Rattle.queues.specs.Completing.{SeenBehind}
-use Rattle.phases.specs.Queue.{with_slot}
-use Rattle.phases.specs.DoingQueue.{AtQueue}
 use Rattle.phases.specs.Units.{EntersAs, Commits, Leaves}
-use Rattle.phases.specs.Answering.{Answers}
-use Rattle.phases.specs.Direct.{decided_writes}
 use Rattle.phases.specs.DoingUnit.{with_more}
 use Rattle.phases.specs.Serving.{Serves}
-use Rattle.phases.specs.InMemory.{EachSeen, AnswersIn, as_seen}
+use Rattle.phases.specs.InMemory.{EachSeen}
 use Rattle.phases.specs.Outcomes.{WritesWholeIn}
 use Rattle.phases.specs.ServingInMemory.{ServesAtOnceIn, ServesIn}
-use Rattle.phases.proofs.Answered.{AnswersJob, answers_job, answers_own}
+use Rattle.phases.proofs.Answered.{AnswersJob, answers_job, answers_own, both_lengths}
 use Rattle.phases.proofs.Behind.{each_read, each_maps}
 use Rattle.phases.proofs.Commits.{committed}
 use Rattle.phases.proofs.Enters.{runs, with_none}
@@ -146,3 +147,24 @@ serves_own x u u' q q' m m' n s s' out out' None enters =
       memory = enters.at_queue.memory;
       jobs = enters.jobs;
     }
+
+-- what was written over a job's parts answers it, by its chain's lengths
+pub writes_whole : (x : PlainJob) (e : Ending) (n : ChainLengths) (c : PlainChain) (before after : List ℕ → Type 0) (len : ℕ)
+    → n.readable ≡ readable_total x.chain.parts → n.writable ≡ writable_total x.chain.parts → c ≡ x.chain
+    → len ≡ length (answer_of n e) → Wrote before after (scatter_writes c.parts 0 (answer_of n e))
+    → WritesWholeIn x e before len after
+writes_whole x e n c before after len readable writable chain is wrote =
+    let whole : n ≡ lengths_of x.chain = both_lengths n (readable_total x.chain.parts) (writable_total x.chain.parts)
+    readable writable in
+    record {
+      written = is ∙ ap (λ (k : ChainLengths). length (answer_of k e)) whole;
+      memory =
+          subst (λ (k : ChainLengths). Wrote before after (scatter_writes x.chain.parts 0 (answer_of k e))) whole
+          (subst (λ (d : PlainChain). Wrote before after (scatter_writes d.parts 0 (answer_of n e))) chain wrote);
+    }
+
+-- data of a command that takes none are its success
+pub read_as : (command : Command) (bytes : List ℕ) → (need_of command).out ≡ 0 → good_data bytes ≡ success command bytes
+read_as command bytes none =
+    let moved : length bytes ≡ (need_of command).out + length bytes = omega (arith, none) in
+    ap (λ (k : ℕ). record { status = good; sense = None; payload = bytes; moved = k }) moved

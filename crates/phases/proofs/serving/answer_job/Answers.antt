@@ -1,5 +1,5 @@
 use Rattle.unit_history.specs.Endings.{ending_of}
-use Rattle.phases.proofs.AtOnce.{answers_job}
+use Rattle.phases.proofs.Answered.{answers_job}
 use Rattle.phases.proofs.serving.answer_job.Goals as goal
 
 pub returns-clause-answers : goal.returns-clause-answers
