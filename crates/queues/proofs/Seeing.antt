@@ -1,7 +1,7 @@
 -- What is seen in the phase behind the writes of a completion.
 use Rattle.std.proofs.Common.{◌≡◌, ◌∙◌, Bool, true, false, List, ℕ, length, refl, sym, ap}
-use Rattle.ring_core.specs.Writes.{Write, Wrote, all_written}
-use Rattle.queues.specs.Completing.{SeenAs, SeenBehind}
+use Rattle.ring_core.specs.Writes.{Write, Wrote}
+use Rattle.queues.specs.Completing.{SeenBehind}
 
 -- where nobody else writes, memory may have been so behind the writes; else some memory of its size stood there
 pub seen_behind : (shared : Bool) (before written after : List ℕ → Type 0) (size : ℕ) (ws : List Write) → Wrote before written ws

@@ -1,4 +1,4 @@
-use Rattle.std.proofs.Common.{◌≡◌, ◌∙◌}
+use Rattle.std.proofs.Common.{◌∙◌}
 use Rattle.ring_core.specs.Offer.{used_writes}
 use Rattle.queues.specs.AnyRing.{ring_state}
 use Rattle.queues.proofs.Seeing.{seen_behind}
