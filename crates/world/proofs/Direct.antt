@@ -18,16 +18,6 @@ use Rattle.world.specs.Sound.{IsSound}
 use Rattle.world.proofs.Setting.{set_change, set_same}
 use Rattle.world.proofs.Seats.{one_there}
 
--- the phase keeps the size of the memory that the queue was made with
-pub keeps_memory : (slot : Slot) (q r : BareQueue) (m m' : List ℕ) (b : Bool) (s : Slot) → Directs slot q m b r m' s
-    → r.ring.memory ≡ q.ring.memory
-keeps_memory Slot.Empty q r m m' true s c = absurd c
-keeps_memory Slot.Empty q r m m' false s c = ap (λ (z : BareQueue). z.ring.memory) c.0.queue
-keeps_memory (Slot.Arrived x) q r m m' true s c = absurd c
-keeps_memory (Slot.Arrived x) q r m m' false s c = ap (λ (z : BareQueue). z.ring.memory) c.0.queue
-keeps_memory (Slot.Direct d o) q r m m' true s c = ap (λ (z : PlainQueue). z.ring.memory) (c.0 []).queue
-keeps_memory (Slot.Direct d o) q r m m' false s c = ap (λ (z : BareQueue). z.ring.memory) c.0.stays.queue
-
 -- the device with memory and a queue set
 abbrev pub with_queue : PlainWorld → List ℕ → ℕ → PlainQueue → PlainWorld
 with_queue w m i q = record w { memory = m; queues = slice_set w.queues i q }

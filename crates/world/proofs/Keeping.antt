@@ -2,6 +2,7 @@
 use Rattle.std.proofs.Common.{◌≡◌, ℕ, List, [], ◌∷◌, refl, ap, zero, suc}
 use Rattle.std.specs.Prelude.{map}
 use Rattle.ring_core.specs.Writes.{all_written}
+use Rattle.ring_core.specs.declared.layout.Layout.{Layout}
 use Rattle.unit_model.specs.Steps.{Step}
 use Rattle.unit_model.specs.Endings.{Ending}
 use Rattle.unit_model.specs.Unit.{PlainUnit, after as stepped, parking}
@@ -19,40 +20,53 @@ map_change f g k [] same = refl
 map_change f g zero (x ∷ xs) same = ap (λ y. y ∷ map f xs) (same x)
 map_change f g (suc k) (x ∷ xs) same = ap (λ ys. f x ∷ ys) (map_change f g k xs same)
 
+-- each ring has the memory that it was made for, and its layout
+pub rings_stay : {X : Type 0} (f : ℕ → Layout → X) (d : Transition) (w : PlainWorld)
+    → map (λ (q : PlainQueue). f q.ring.memory q.ring.layout) (after d w).queues
+    ≡ map (λ (q : PlainQueue). f q.ring.memory q.ring.layout) w.queues
+rings_stay f (Transition.Poke x) w = refl
+rings_stay f (Transition.Arrive f x) w = map_change (λ (q : PlainQueue). f q.ring.memory q.ring.layout) (arriving f.chain (Slot.Arrived x)) f.chain.ticket.queue w.queues (λ (q : PlainQueue). refl)
+rings_stay f (Transition.Refuse f a) w = map_change (λ (q : PlainQueue). f q.ring.memory q.ring.layout) (arriving f.chain (Slot.Direct f.chain (Outcome.Decided a))) f.chain.ticket.queue w.queues (λ (q : PlainQueue). refl)
+rings_stay f (Transition.Open f g) w = map_change (λ (q : PlainQueue). f q.ring.memory q.ring.layout) (taking f.chain) f.chain.ticket.queue w.queues (λ (q : PlainQueue). refl)
+rings_stay f (Transition.Hold f) w = map_change (λ (q : PlainQueue). f q.ring.memory q.ring.layout) (taking f.chain) f.chain.ticket.queue w.queues (λ (q : PlainQueue). refl)
+rings_stay f (Transition.UseBuffer f xs) w = map_change (λ (q : PlainQueue). f q.ring.memory q.ring.layout) (spending xs.seen f.chain) f.chain.ticket.queue w.queues (λ (q : PlainQueue). refl)
+rings_stay f (Transition.Break q n) w = map_change (λ (q : PlainQueue). f q.ring.memory q.ring.layout) (broken_by n) q w.queues (λ (q : PlainQueue). refl)
+rings_stay f (Transition.Run x) w = map_change (λ (q : PlainQueue). f q.ring.memory q.ring.layout) (slotted Slot.Empty) x.chain.ticket.queue w.queues (λ (q : PlainQueue). refl)
+rings_stay f (Transition.Park x) w = map_change (λ (q : PlainQueue). f q.ring.memory q.ring.layout) (slotted Slot.Empty) x.chain.ticket.queue w.queues (λ (q : PlainQueue). refl)
+rings_stay f (Transition.EnterFull x) w = map_change (λ (q : PlainQueue). f q.ring.memory q.ring.layout) (slotted (Slot.Direct x.chain (Outcome.Ended Ending.Full))) x.chain.ticket.queue w.queues (λ (q : PlainQueue). refl)
+rings_stay f (Transition.EnterBusy x) w = map_change (λ (q : PlainQueue). f q.ring.memory q.ring.layout) (slotted (Slot.Direct x.chain (Outcome.Ended Ending.Busy))) x.chain.ticket.queue w.queues (λ (q : PlainQueue). refl)
+rings_stay f (Transition.EnterStale x) w = map_change (λ (q : PlainQueue). f q.ring.memory q.ring.layout) (slotted (Slot.Direct x.chain (Outcome.Ended Ending.Lost))) x.chain.ticket.queue w.queues (λ (q : PlainQueue). refl)
+rings_stay f (Transition.Direct c o xs) w = map_change (λ (q : PlainQueue). f q.ring.memory q.ring.layout) (directing xs.seen c) c.ticket.queue w.queues (λ (q : PlainQueue). refl)
+rings_stay f (Transition.Put k x) w = refl
+rings_stay f (Transition.Keep k x) w = refl
+rings_stay f (Transition.Take k from x) w = refl
+rings_stay f (Transition.Commit k x r) w = refl
+rings_stay f (Transition.CommitBusy k x) w = refl
+rings_stay f (Transition.CommitAborted k x why) w = refl
+rings_stay f (Transition.CommitUnknown k x) w = refl
+rings_stay f (Transition.Answer k x o xs) w = map_change (λ (q : PlainQueue). f q.ring.memory q.ring.layout) (completing xs.seen x.chain) x.chain.ticket.queue w.queues (λ (q : PlainQueue). refl)
+rings_stay f (Transition.Leave k u t jobs) w = refl
+rings_stay f (Transition.Mark t p m jobs) w = refl
+rings_stay f (Transition.Ask t u rule b) w = refl
+rings_stay f (Transition.MarkRefused t) w = refl
+rings_stay f (Transition.Check t p) w = refl
+rings_stay f (Transition.Respond c r xs) w = map_change (λ (q : PlainQueue). f q.ring.memory q.ring.layout) (completing xs.seen c) c.ticket.queue w.queues (λ (q : PlainQueue). refl)
+rings_stay f (Transition.Hard p jobs) w = refl
+rings_stay f (Transition.Resize place blocks) w = refl
+rings_stay f (Transition.Give e c xs) w = map_change (λ (q : PlainQueue). f q.ring.memory q.ring.layout) (completing xs.seen c) c.ticket.queue w.queues (λ (q : PlainQueue). refl)
+rings_stay f (Transition.Miss e) w = refl
+rings_stay f (Transition.Idle e) w = refl
+
 -- each queue has its size
 pub sizes_stay : (d : Transition) (w : PlainWorld) → map size_of (after d w).queues ≡ map size_of w.queues
-sizes_stay (Transition.Poke x) w = refl
-sizes_stay (Transition.Arrive f x) w = map_change size_of (arriving f.chain (Slot.Arrived x)) f.chain.ticket.queue w.queues (λ (q : PlainQueue). refl)
-sizes_stay (Transition.Refuse f a) w = map_change size_of (arriving f.chain (Slot.Direct f.chain (Outcome.Decided a))) f.chain.ticket.queue w.queues (λ (q : PlainQueue). refl)
-sizes_stay (Transition.Open f g) w = map_change size_of (taking f.chain) f.chain.ticket.queue w.queues (λ (q : PlainQueue). refl)
-sizes_stay (Transition.Hold f) w = map_change size_of (taking f.chain) f.chain.ticket.queue w.queues (λ (q : PlainQueue). refl)
-sizes_stay (Transition.UseBuffer f xs) w = map_change size_of (spending xs.seen f.chain) f.chain.ticket.queue w.queues (λ (q : PlainQueue). refl)
-sizes_stay (Transition.Break q n) w = map_change size_of (broken_by n) q w.queues (λ (q : PlainQueue). refl)
-sizes_stay (Transition.Run x) w = map_change size_of (slotted Slot.Empty) x.chain.ticket.queue w.queues (λ (q : PlainQueue). refl)
-sizes_stay (Transition.Park x) w = map_change size_of (slotted Slot.Empty) x.chain.ticket.queue w.queues (λ (q : PlainQueue). refl)
-sizes_stay (Transition.EnterFull x) w = map_change size_of (slotted (Slot.Direct x.chain (Outcome.Ended Ending.Full))) x.chain.ticket.queue w.queues (λ (q : PlainQueue). refl)
-sizes_stay (Transition.EnterBusy x) w = map_change size_of (slotted (Slot.Direct x.chain (Outcome.Ended Ending.Busy))) x.chain.ticket.queue w.queues (λ (q : PlainQueue). refl)
-sizes_stay (Transition.EnterStale x) w = map_change size_of (slotted (Slot.Direct x.chain (Outcome.Ended Ending.Lost))) x.chain.ticket.queue w.queues (λ (q : PlainQueue). refl)
-sizes_stay (Transition.Direct c o xs) w = map_change size_of (directing xs.seen c) c.ticket.queue w.queues (λ (q : PlainQueue). refl)
-sizes_stay (Transition.Put k x) w = refl
-sizes_stay (Transition.Keep k x) w = refl
-sizes_stay (Transition.Take k from x) w = refl
-sizes_stay (Transition.Commit k x r) w = refl
-sizes_stay (Transition.CommitBusy k x) w = refl
-sizes_stay (Transition.CommitAborted k x why) w = refl
-sizes_stay (Transition.CommitUnknown k x) w = refl
-sizes_stay (Transition.Answer k x o xs) w = map_change size_of (completing xs.seen x.chain) x.chain.ticket.queue w.queues (λ (q : PlainQueue). refl)
-sizes_stay (Transition.Leave k u t jobs) w = refl
-sizes_stay (Transition.Mark t p m jobs) w = refl
-sizes_stay (Transition.Ask t u rule b) w = refl
-sizes_stay (Transition.MarkRefused t) w = refl
-sizes_stay (Transition.Check t p) w = refl
-sizes_stay (Transition.Respond c r xs) w = map_change size_of (completing xs.seen c) c.ticket.queue w.queues (λ (q : PlainQueue). refl)
-sizes_stay (Transition.Hard p jobs) w = refl
-sizes_stay (Transition.Resize place blocks) w = refl
-sizes_stay (Transition.Give e c xs) w = map_change size_of (completing xs.seen c) c.ticket.queue w.queues (λ (q : PlainQueue). refl)
-sizes_stay (Transition.Miss e) w = refl
-sizes_stay (Transition.Idle e) w = refl
+sizes_stay = rings_stay (λ (m : ℕ) (l : Layout). l.size)
+
+-- and the size of its memory
+abbrev pub room_of : PlainQueue → ℕ
+room_of q = q.ring.memory
+
+pub rooms_stay : (d : Transition) (w : PlainWorld) → map room_of (after d w).queues ≡ map room_of w.queues
+rooms_stay = rings_stay (λ (m : ℕ) (l : Layout). m)
 
 -- each unit has its LUN
 pub luns_stay : (d : Transition) (w : PlainWorld) → map lun_of (after d w).units ≡ map lun_of w.units

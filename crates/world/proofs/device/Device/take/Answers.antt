@@ -4,6 +4,7 @@ use Rattle.std.proofs.lemmas.Option.{slice_get_read}
 use Rattle.device_model.specs.Events.{Event as PlainEvent}
 use Rattle.device_model.proofs.Lists.{same}
 use Rattle.world.specs.Kept.{KeptSeat}
+use Rattle.world.specs.Apart.{standing}
 use Rattle.world.specs.contracts.device.Device as seen
 use Rattle.world.proofs.Setting.{seat_kept, turns_seen}
 use Rattle.world.proofs.Handing.{takes}
@@ -17,11 +18,11 @@ invariant_of-self-2 c =
     let at : slice_get kept k ≡ Some s =
     slice_get_read kept c.len.result k s (c.len.ensures ∙ c.self.inside.seats.ok.0) c.if-at-len.false
     c.index_mut.ensures.value in
-    seat_kept c.self.inside.memory c.self.inside.bays.items c.self.inside.units.items kept k s c.hold.new.self
+    seat_kept c.self.inside.units.items kept k s c.hold.new.self
     c.self.invariant at (ap (λ (z : KeptSeat). z.limit) c.hold.ensures)
 
 pub returns : goal.returns
-returns c =
+returns c shared m sound =
     let kept = c.self.inside.seats.items in
     let k = c.args.number in
     let s = c.index_mut.result.now in
@@ -33,7 +34,7 @@ returns c =
     c.if-at-len.false c.index.ensures in
     let one : s ≡ c.index.result.now = same (sym at ∙ before) in
     let idle = c.if-not-is_idle.ensures.0 refl in
-    turns_seen _ _ (PlainEvent.Take k) true _ c.self.view_is
-    (takes (seen.the_view c.self.inside) kept refl k s c.hold.new.self at c.in-Some.job c.take.new.self
+    turns_seen shared m _ _ (PlainEvent.Take k) true _ c.self.view_is
+    (takes (standing shared m (seen.the_view c.self.inside)) kept refl k s c.hold.new.self at c.in-Some.job c.take.new.self
     c.if-number-self.false (ap (λ (z : KeptSeat). z.hand) one ∙ idle.0) (ap (λ (z : KeptSeat). z.jobs) one ∙ idle.1)
     c.hold.ensures (rw c.in-Some.is at c.take.ensures))
