@@ -21,41 +21,41 @@ map_change f g zero (x ∷ xs) same = ap (λ y. y ∷ map f xs) (same x)
 map_change f g (suc k) (x ∷ xs) same = ap (λ ys. f x ∷ ys) (map_change f g k xs same)
 
 -- each ring has the memory that it was made for, and its layout
-pub rings_stay : {X : Type 0} (f : ℕ → Layout → X) (d : Transition) (w : PlainWorld)
-    → map (λ (q : PlainQueue). f q.ring.memory q.ring.layout) (after d w).queues
-    ≡ map (λ (q : PlainQueue). f q.ring.memory q.ring.layout) w.queues
-rings_stay f (Transition.Poke x) w = refl
-rings_stay f (Transition.Arrive f x) w = map_change (λ (q : PlainQueue). f q.ring.memory q.ring.layout) (arriving f.chain (Slot.Arrived x)) f.chain.ticket.queue w.queues (λ (q : PlainQueue). refl)
-rings_stay f (Transition.Refuse f a) w = map_change (λ (q : PlainQueue). f q.ring.memory q.ring.layout) (arriving f.chain (Slot.Direct f.chain (Outcome.Decided a))) f.chain.ticket.queue w.queues (λ (q : PlainQueue). refl)
-rings_stay f (Transition.Open f g) w = map_change (λ (q : PlainQueue). f q.ring.memory q.ring.layout) (taking f.chain) f.chain.ticket.queue w.queues (λ (q : PlainQueue). refl)
-rings_stay f (Transition.Hold f) w = map_change (λ (q : PlainQueue). f q.ring.memory q.ring.layout) (taking f.chain) f.chain.ticket.queue w.queues (λ (q : PlainQueue). refl)
-rings_stay f (Transition.UseBuffer f xs) w = map_change (λ (q : PlainQueue). f q.ring.memory q.ring.layout) (spending xs.seen f.chain) f.chain.ticket.queue w.queues (λ (q : PlainQueue). refl)
-rings_stay f (Transition.Break q n) w = map_change (λ (q : PlainQueue). f q.ring.memory q.ring.layout) (broken_by n) q w.queues (λ (q : PlainQueue). refl)
-rings_stay f (Transition.Run x) w = map_change (λ (q : PlainQueue). f q.ring.memory q.ring.layout) (slotted Slot.Empty) x.chain.ticket.queue w.queues (λ (q : PlainQueue). refl)
-rings_stay f (Transition.Park x) w = map_change (λ (q : PlainQueue). f q.ring.memory q.ring.layout) (slotted Slot.Empty) x.chain.ticket.queue w.queues (λ (q : PlainQueue). refl)
-rings_stay f (Transition.EnterFull x) w = map_change (λ (q : PlainQueue). f q.ring.memory q.ring.layout) (slotted (Slot.Direct x.chain (Outcome.Ended Ending.Full))) x.chain.ticket.queue w.queues (λ (q : PlainQueue). refl)
-rings_stay f (Transition.EnterBusy x) w = map_change (λ (q : PlainQueue). f q.ring.memory q.ring.layout) (slotted (Slot.Direct x.chain (Outcome.Ended Ending.Busy))) x.chain.ticket.queue w.queues (λ (q : PlainQueue). refl)
-rings_stay f (Transition.EnterStale x) w = map_change (λ (q : PlainQueue). f q.ring.memory q.ring.layout) (slotted (Slot.Direct x.chain (Outcome.Ended Ending.Lost))) x.chain.ticket.queue w.queues (λ (q : PlainQueue). refl)
-rings_stay f (Transition.Direct c o xs) w = map_change (λ (q : PlainQueue). f q.ring.memory q.ring.layout) (directing xs.seen c) c.ticket.queue w.queues (λ (q : PlainQueue). refl)
-rings_stay f (Transition.Put k x) w = refl
-rings_stay f (Transition.Keep k x) w = refl
-rings_stay f (Transition.Take k from x) w = refl
-rings_stay f (Transition.Commit k x r) w = refl
-rings_stay f (Transition.CommitBusy k x) w = refl
-rings_stay f (Transition.CommitAborted k x why) w = refl
-rings_stay f (Transition.CommitUnknown k x) w = refl
-rings_stay f (Transition.Answer k x o xs) w = map_change (λ (q : PlainQueue). f q.ring.memory q.ring.layout) (completing xs.seen x.chain) x.chain.ticket.queue w.queues (λ (q : PlainQueue). refl)
-rings_stay f (Transition.Leave k u t jobs) w = refl
-rings_stay f (Transition.Mark t p m jobs) w = refl
-rings_stay f (Transition.Ask t u rule b) w = refl
-rings_stay f (Transition.MarkRefused t) w = refl
-rings_stay f (Transition.Check t p) w = refl
-rings_stay f (Transition.Respond c r xs) w = map_change (λ (q : PlainQueue). f q.ring.memory q.ring.layout) (completing xs.seen c) c.ticket.queue w.queues (λ (q : PlainQueue). refl)
-rings_stay f (Transition.Hard p jobs) w = refl
-rings_stay f (Transition.Resize place blocks) w = refl
-rings_stay f (Transition.Give e c xs) w = map_change (λ (q : PlainQueue). f q.ring.memory q.ring.layout) (completing xs.seen c) c.ticket.queue w.queues (λ (q : PlainQueue). refl)
-rings_stay f (Transition.Miss e) w = refl
-rings_stay f (Transition.Idle e) w = refl
+pub rings_stay : {X : Type 0} (look : ℕ → Layout → X) (d : Transition) (w : PlainWorld)
+    → map (λ (q : PlainQueue). look q.ring.memory q.ring.layout) (after d w).queues
+    ≡ map (λ (q : PlainQueue). look q.ring.memory q.ring.layout) w.queues
+rings_stay look (Transition.Poke x) w = refl
+rings_stay look (Transition.Arrive f x) w = map_change (λ (q : PlainQueue). look q.ring.memory q.ring.layout) (arriving f.chain (Slot.Arrived x)) f.chain.ticket.queue w.queues (λ (q : PlainQueue). refl)
+rings_stay look (Transition.Refuse f a) w = map_change (λ (q : PlainQueue). look q.ring.memory q.ring.layout) (arriving f.chain (Slot.Direct f.chain (Outcome.Decided a))) f.chain.ticket.queue w.queues (λ (q : PlainQueue). refl)
+rings_stay look (Transition.Open f g) w = map_change (λ (q : PlainQueue). look q.ring.memory q.ring.layout) (taking f.chain) f.chain.ticket.queue w.queues (λ (q : PlainQueue). refl)
+rings_stay look (Transition.Hold f) w = map_change (λ (q : PlainQueue). look q.ring.memory q.ring.layout) (taking f.chain) f.chain.ticket.queue w.queues (λ (q : PlainQueue). refl)
+rings_stay look (Transition.UseBuffer f xs) w = map_change (λ (q : PlainQueue). look q.ring.memory q.ring.layout) (spending xs.seen f.chain) f.chain.ticket.queue w.queues (λ (q : PlainQueue). refl)
+rings_stay look (Transition.Break q n) w = map_change (λ (q : PlainQueue). look q.ring.memory q.ring.layout) (broken_by n) q w.queues (λ (q : PlainQueue). refl)
+rings_stay look (Transition.Run x) w = map_change (λ (q : PlainQueue). look q.ring.memory q.ring.layout) (slotted Slot.Empty) x.chain.ticket.queue w.queues (λ (q : PlainQueue). refl)
+rings_stay look (Transition.Park x) w = map_change (λ (q : PlainQueue). look q.ring.memory q.ring.layout) (slotted Slot.Empty) x.chain.ticket.queue w.queues (λ (q : PlainQueue). refl)
+rings_stay look (Transition.EnterFull x) w = map_change (λ (q : PlainQueue). look q.ring.memory q.ring.layout) (slotted (Slot.Direct x.chain (Outcome.Ended Ending.Full))) x.chain.ticket.queue w.queues (λ (q : PlainQueue). refl)
+rings_stay look (Transition.EnterBusy x) w = map_change (λ (q : PlainQueue). look q.ring.memory q.ring.layout) (slotted (Slot.Direct x.chain (Outcome.Ended Ending.Busy))) x.chain.ticket.queue w.queues (λ (q : PlainQueue). refl)
+rings_stay look (Transition.EnterStale x) w = map_change (λ (q : PlainQueue). look q.ring.memory q.ring.layout) (slotted (Slot.Direct x.chain (Outcome.Ended Ending.Lost))) x.chain.ticket.queue w.queues (λ (q : PlainQueue). refl)
+rings_stay look (Transition.Direct c o xs) w = map_change (λ (q : PlainQueue). look q.ring.memory q.ring.layout) (directing xs.seen c) c.ticket.queue w.queues (λ (q : PlainQueue). refl)
+rings_stay look (Transition.Put k x) w = refl
+rings_stay look (Transition.Keep k x) w = refl
+rings_stay look (Transition.Take k from x) w = refl
+rings_stay look (Transition.Commit k x r) w = refl
+rings_stay look (Transition.CommitBusy k x) w = refl
+rings_stay look (Transition.CommitAborted k x why) w = refl
+rings_stay look (Transition.CommitUnknown k x) w = refl
+rings_stay look (Transition.Answer k x o xs) w = map_change (λ (q : PlainQueue). look q.ring.memory q.ring.layout) (completing xs.seen x.chain) x.chain.ticket.queue w.queues (λ (q : PlainQueue). refl)
+rings_stay look (Transition.Leave k u t jobs) w = refl
+rings_stay look (Transition.Mark t p m jobs) w = refl
+rings_stay look (Transition.Ask t u rule b) w = refl
+rings_stay look (Transition.MarkRefused t) w = refl
+rings_stay look (Transition.Check t p) w = refl
+rings_stay look (Transition.Respond c r xs) w = map_change (λ (q : PlainQueue). look q.ring.memory q.ring.layout) (completing xs.seen c) c.ticket.queue w.queues (λ (q : PlainQueue). refl)
+rings_stay look (Transition.Hard p jobs) w = refl
+rings_stay look (Transition.Resize place blocks) w = refl
+rings_stay look (Transition.Give e c xs) w = map_change (λ (q : PlainQueue). look q.ring.memory q.ring.layout) (completing xs.seen c) c.ticket.queue w.queues (λ (q : PlainQueue). refl)
+rings_stay look (Transition.Miss e) w = refl
+rings_stay look (Transition.Idle e) w = refl
 
 -- each queue has its size
 pub sizes_stay : (d : Transition) (w : PlainWorld) → map size_of (after d w).queues ≡ map size_of w.queues

@@ -51,7 +51,7 @@ impl Model for Device {
     ghost invariant = { λ d. HasLists d.units.items d.seats.items d.port.limit };
 }
 
-ghost use Rattle.std.specs.Prelude.{◌≡◌, ◌≤◌, ◌↔◌, ◌==◌, ◌&&◌, ℕ, Bool, List, IsTrue, length};
+ghost use Rattle.std.specs.Prelude.{◌≡◌, ◌≤◌, ◌↔◌, ◌==◌, ◌&&◌, ℕ, Bool, false, List, [], IsTrue, length};
 
 /// Returns true if a unit has this address.
 fn has_address(unit: &UnitState, target: u8, lun: u16) -> bool
@@ -80,7 +80,7 @@ impl Device {
 
     /// Returns where the first unit of an address stands.
     fn unit_place(&self, target: u8, lun: u16) -> Option<usize>
-        ensures { (shared : Bool) (m : List ℕ) → FindsUnit (standing shared m self.now) target lun result }
+        ensures { FindsUnit (standing false [] self.now) target lun result }
     {
         for place in 0..self.units.len() {
             if has_address(&self.units[place], target, lun) {
@@ -93,7 +93,7 @@ impl Device {
     /// Returns which blocks of the unit of an address may have changed, and starts anew.
     pub(crate) fn take_changes(&mut self, target: u8, lun: u16) -> Option<Changes>
         ensures same { self.new ≡ self.old }
-        ensures changes { (shared : Bool) (m : List ℕ) → GivesChanges (unit_at (standing shared m self.old) target lun) result }
+        ensures changes { GivesChanges (unit_at (standing false [] self.old) target lun) result }
     {
         match self.unit_place(target, lun) {
             Some(place) => Some(self.units[place].take_changes()),

@@ -161,6 +161,7 @@ impl Device {
 
     /// Has a seat hand its next job off, or keep it where its list of the hand-off is full.
     pub(crate) fn put(&mut self, number: u16) -> bool
+        requires lists { length self.old.handed_off ≡ length self.old.seats }
         ensures { TurnsAlone self.old (AnEvent.Put number) result self.new }
     {
         let at = number as usize;
@@ -180,6 +181,7 @@ impl Device {
 
     /// Has a worker take a job from the nearest list of the hand-off that isn't empty.
     pub(crate) fn take(&mut self, number: u16) -> bool
+        requires lists { length self.old.handed_off ≡ length self.old.seats }
         ensures { TurnsAlone self.old (AnEvent.Take number) result self.new }
     {
         let at = number as usize;

@@ -18,7 +18,7 @@ invariant_of-result c =
     let lists = lists_open c.in_ok-units.units.items (c.args.config.now.workers + 1) c.in_ok-seats.seats.items
     (subst (λ (n : ℕ). AreSeats (c.args.config.now.workers + 1) (64 * n + 64) c.in_ok-seats.seats.items)
     (c.len.ensures ∙ c.in_ok-units.units.ok.0) is) in
-    record { limits = lists.limits; port = ap (λ (p : PlainPort). p.limit) c.in-Ok-new.ensures }
+    record { limits = lists.limits; port = ap (λ (p : PlainPort). p.limit) c.in-Ok.ensures }
 
 pub returns : goal.returns
 returns c =
@@ -44,8 +44,8 @@ returns c =
           c.in_ok-handed_off.ensures.lists
           ∙ omega (arith, c.len-2.ensures, c.in_ok-seats.seats.ok.0, length-map c.in_ok-seats.seats.items seat_of);
       function = refl;
-      buffers = ap (λ (p : PlainPort). p.buffers) c.in-Ok-new.ensures;
-      missed = ap (λ (p : PlainPort). p.missed) c.in-Ok-new.ensures;
-      waiting = c.new-4.ensures;
+      buffers = ap (λ (p : PlainPort). p.buffers) c.in-Ok.ensures;
+      missed = ap (λ (p : PlainPort). p.missed) c.in-Ok.ensures;
+      waiting = c.new-3.ensures;
       tells_changes = c.tells_changes.ensures;
     }

@@ -20,7 +20,6 @@ loop-number-init c =
     let first = c.first_enter-number.ensures ∙ ap (λ n. enter_from c.args.cursor n) (many ∙ same) in
     record {
       same = refl;
-      size = refl;
       below = subst (λ n. NoEnterBelow n w) (sym first)
           (enters_from w c.args.cursor c.requires.before);
       all = end ∙ same;
@@ -28,26 +27,25 @@ loop-number-init c =
 
 pub returns-then-enter-clause-turns : goal.returns-then-enter-clause-turns
 returns-then-enter-clause-turns c =
-    next_one (asks c.args.queues) c.args.most (standing false c.args.memory.now c.args.self.now) c.after_enter.result c.one.result (standing false c.loop-number.memory c.enter.new.self) c.requires.most c.one.ensures
-    (enter_next (asks c.args.queues) (standing false c.args.memory.now c.args.self.now) (standing false c.loop-number.memory c.loop-number.self) (standing false c.loop-number.memory c.enter.new.self) c.loop-number.number c.enter.result
+    next_one (asks c.args.queues) c.args.most (standing false c.args.memory.now c.args.self.now) c.after_enter.result c.one.result (standing false c.args.memory.now c.enter.new.self) c.requires.most c.one.ensures
+    (enter_next (asks c.args.queues) (standing false c.args.memory.now c.args.self.now) (standing false c.args.memory.now c.loop-number.self) (standing false c.args.memory.now c.enter.new.self) c.loop-number.number c.enter.result
     c.after_enter.result c.if-enter.true c.loop-number.invariant.same c.requires.start c.requires.direct c.requires.seat c.loop-number.invariant.below
-    (omega (arith, c.loop-number-test.true, c.loop-number.invariant.all)) (c.enter.ensures false c.loop-number.memory (subst IsSound (sym c.loop-number.invariant.same) c.requires.sound)) (c.after_enter.ensures false c.loop-number.memory))
+    (omega (arith, c.loop-number-test.true, c.loop-number.invariant.all)) (c.enter.ensures false c.args.memory.now (subst IsSound (sym c.loop-number.invariant.same) c.requires.sound)) (c.after_enter.ensures false c.args.memory.now))
 
 pub loop-number-preserved : goal.loop-number-preserved
 loop-number-preserved c =
     let n = c.loop-number.number in
-    let here = idle (Event.Enter n) (standing false c.args.memory.now c.args.self.now) (standing false c.loop-number.memory c.loop-number.self) (standing false c.loop-number.memory c.enter.new.self) c.enter.result c.if-enter.false
-    c.loop-number.invariant.same (c.enter.ensures false c.loop-number.memory (subst IsSound (sym c.loop-number.invariant.same) c.requires.sound)) in
+    let here = idle (Event.Enter n) (standing false c.args.memory.now c.args.self.now) (standing false c.args.memory.now c.loop-number.self) (standing false c.args.memory.now c.enter.new.self) c.enter.result c.if-enter.false
+    c.loop-number.invariant.same (c.enter.ensures false c.args.memory.now (subst IsSound (sym c.loop-number.invariant.same) c.requires.sound)) in
     record {
       same = here.0;
-      size = c.loop-number.invariant.size;
       below = and_next (λ i. Applies (standing false c.args.memory.now c.args.self.now) (Event.Enter i) → ⊥) n c.loop-number.invariant.below here.1;
       all = c.loop-number.invariant.all;
     }
 
 pub from_fetch-requires-clause-before : goal.from_fetch-requires-clause-before
 from_fetch-requires-clause-before c =
-    enters_past (standing false c.args.memory.now c.args.self.now) (standing false c.loop-number.memory c.loop-number.self) c.loop-number.number c.loop-number.invariant.same
+    enters_past (standing false c.args.memory.now c.args.self.now) (standing false c.args.memory.now c.loop-number.self) c.loop-number.number c.loop-number.invariant.same
     (omega (arith, c.loop-number-test.false, c.loop-number.invariant.all)) c.requires.start c.requires.direct c.requires.seat
     c.loop-number.invariant.below
 

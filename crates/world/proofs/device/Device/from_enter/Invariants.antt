@@ -6,8 +6,7 @@ use Rattle.world.proofs.device.Device.from_enter.Given as goal
 abbrev pub invariant-loop-number : goal.invariant-loop-number
 invariant-loop-number l =
     record {
-      same : standing false l.memory l.self ≡ standing false l.fn.memory l.fn.self;
-      size : length l.memory ≡ length l.fn.memory;
+      same : standing false l.fn.memory l.self ≡ standing false l.fn.memory l.fn.self;
       below : NoEnterBelow l.number (standing false l.fn.memory l.fn.self);
       all : l.number-end ≡ length l.fn.self.queues;
     }

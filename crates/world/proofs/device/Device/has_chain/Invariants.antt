@@ -7,6 +7,6 @@ use Rattle.world.proofs.device.Device.has_chain.Given as goal
 abbrev pub invariant-loop-number : goal.invariant-loop-number
 invariant-loop-number l =
     record {
-      below : NoFetchBelow (asks l.queues) l.number (standing false l.fn.memory.now l.fn.self);
+      below : NoFetchBelow (asks l.queues) l.number (standing false l.fn.memory l.fn.self);
       all : l.number-end ≡ length l.fn.self.queues;
     }

@@ -18,7 +18,7 @@ invariant_of-self-2 c =
     let f = c.in-Some.open in
     let s = seat.the_view c.behind-self.inside in
     let some : 0 < length d.seats.items =
-    omega (arith, some_there d.seats.len c.else-place-len-is_empty.ensures, d.seats.ok.0) in
+    omega (arith, some_there d.seats.len c.if-is_empty.ensures, d.seats.ok.0) in
     let s_at : slice_get d.seats.items 0 ≡ Some s =
     slice_get_read d.seats.items (length d.seats.items) 0 c.index_mut-2.result.now refl some
     c.index_mut-2.ensures.value ∙ ap (λ (z : KeptSeat). Some z) (sym c.behind-self.view_is) in
@@ -35,7 +35,7 @@ returns c shared m sound =
     let f = c.in-Some.open in
     let s = seat.the_view c.behind-self.inside in
     let some : 0 < length d.seats.items =
-    omega (arith, some_there d.seats.len c.else-place-len-is_empty.ensures, d.seats.ok.0) in
+    omega (arith, some_there d.seats.len c.if-is_empty.ensures, d.seats.ok.0) in
     let s_at : slice_get d.seats.items 0 ≡ Some s =
     slice_get_read d.seats.items (length d.seats.items) 0 c.index_mut-2.result.now refl some
     c.index_mut-2.ensures.value ∙ ap (λ (z : KeptSeat). Some z) (sym c.behind-self.view_is) in

@@ -1,16 +1,23 @@
-use Rattle.std.proofs.Common.{◌≡◌, true, false, Some, refl, sym, ap, ◌∙◌, arith}
+use Rattle.std.proofs.Common.{◌≡◌, length, subst, true, false, Some, refl, sym, ap, ◌∙◌, arith}
 use Rattle.std.specs.Prelude.{slice_get}
+use Rattle.std.proofs.lemmas.List.{length-map}
 use Rattle.std.proofs.lemmas.Option.{slice_get_read}
 use Rattle.unit_model.specs.Jobs.{PlainJob}
 use Rattle.device_model.specs.Parts.{Hand}
 use Rattle.device_model.specs.Events.{Event as PlainEvent}
 use Rattle.device_model.proofs.Lists.{same}
-use Rattle.world.specs.Kept.{KeptSeat}
-use Rattle.world.specs.Apart.{standing}
+use Rattle.world.specs.Kept.{KeptSeat, seat_of}
+use Rattle.world.specs.Apart.{PlainDevice, standing}
 use Rattle.world.specs.contracts.device.Device as seen
 use Rattle.world.proofs.Setting.{seat_kept, turns_seen}
 use Rattle.world.proofs.Handing.{puts_nothing, puts, keeps}
 use Rattle.world.proofs.device.Device.put.Goals as goal
+
+pub put-requires : goal.put-requires
+put-requires c =
+    let d = c.self.inside in
+    let lists = subst (λ (z : PlainDevice). length z.handed_off ≡ length z.seats) (sym c.self.view_is) c.requires.lists in
+    omega (arith, c.if-at-len.false, c.len.ensures, d.seats.ok.0, lists, length-map d.seats.items seat_of)
 
 pub returns-in_default : goal.returns-in_default
 returns-in_default c shared m sound =
