@@ -1,5 +1,5 @@
 -- The phase that answers the job in a seat's hand takes the turn of its event.
-use Rattle.std.proofs.Common.{◌≡◌, ℕ, Bool, true, false, List, [], length, Some, refl, sym, ap, ◌∙◌, subst}
+use Rattle.std.proofs.Common.{◌≡◌, ℕ, Bool, true, false, List, length, Some, refl, sym, ap, ◌∙◌, subst}
 use Rattle.std.specs.Prelude.{slice_get, slice_set, map}
 use Rattle.ring_core.specs.State.{Owns}
 use Rattle.ring_core.specs.Writes.{all_written}

@@ -1,7 +1,6 @@
 -- What a transition leaves of each queue and each unit as it was.
 use Rattle.std.proofs.Common.{◌≡◌, ℕ, List, [], ◌∷◌, refl, ap, zero, suc}
 use Rattle.std.specs.Prelude.{map}
-use Rattle.ring_core.specs.Writes.{all_written}
 use Rattle.ring_core.specs.declared.layout.Layout.{Layout}
 use Rattle.unit_model.specs.Steps.{Step}
 use Rattle.unit_model.specs.Endings.{Ending}

@@ -1,6 +1,5 @@
 use Rattle.std.proofs.Common.{◌<◌, false, arith}
 use Rattle.std.proofs.lemmas.Option.{slice_get_read}
-use Rattle.device_model.specs.Events.{Event}
 use Rattle.world.specs.Apart.{standing}
 use Rattle.world.specs.contracts.device.Device.{the_view}
 use Rattle.world.proofs.Fetches.{request_turns}

@@ -1,5 +1,4 @@
 use Rattle.std.proofs.Common.{length, ap, ◌∙◌}
-use Rattle.unit_model.specs.Unit.{PlainUnit}
 use Rattle.world.proofs.AtOpening.{over_length, lists_over}
 use Rattle.world.proofs.device.Device.hand_in.Goals as goal
 

@@ -1,10 +1,8 @@
-use Rattle.std.proofs.Common.{◌≡◌, ◌<◌, Some, sym, ap, subst, ◌∙◌, length, arith}
+use Rattle.std.proofs.Common.{◌≡◌, Some, sym, ap, ◌∙◌, length, arith}
 use Rattle.std.specs.Prelude.{slice_get}
-use Rattle.std.proofs.lemmas.Option.{slice_get_read}
 use Rattle.device_model.specs.Events.{Event}
 use Rattle.device_model.specs.Applies.{Applies}
 use Rattle.world.specs.Apart.{PlainDevice, standing}
-use Rattle.world.specs.contracts.device.Device.{the_view}
 use Rattle.world.proofs.Choosing.{and_next}
 use Rattle.world.proofs.Looks.{ready_there, no_ready, queue_read}
 use Rattle.world.proofs.device.Device.has_answer.Goals as goal

@@ -1,11 +1,11 @@
-use Rattle.std.proofs.Common.{◌≡◌, ◌<◌, true, false, refl, sym, ap, ◌∙◌, subst, length, Some, ℕ, arith}
+use Rattle.std.proofs.Common.{◌≡◌, ◌<◌, false, refl, sym, ◌∙◌, subst, length, Some}
 use Rattle.std.specs.Prelude.{slice_get}
 use Rattle.world.specs.Apart.{PlainDevice, standing}
 use Rattle.device_model.specs.Happens.{IsOpenTo}
 use Rattle.world.specs.Settling.{asks}
 use Rattle.world.specs.contracts.device.Device.{the_view}
 use Rattle.world.proofs.Setting.{fits_seen}
-use Rattle.world.proofs.Looks.{false_true, told, chain_look, queue_read}
+use Rattle.world.proofs.Looks.{false_true, chain_look, queue_read}
 use Rattle.world.proofs.device.Device.queue_goes_on.Goals as goal
 
 pub returns-then-not-is_asked : goal.returns-then-not-is_asked

@@ -1,4 +1,4 @@
-use Rattle.std.proofs.Common.{ℕ, true, false, ◌∷◌, ◌≡◌, ◌∙◌, ◌<◌, length, Some, Ok, Err, refl, sym, ap, subst, arith}
+use Rattle.std.proofs.Common.{ℕ, false, ◌∷◌, ◌≡◌, ◌∙◌, ◌<◌, length, Some, Ok, Err, refl, sym, ap, subst, arith}
 use Rattle.std.specs.Prelude.{slice_get, slice_set, map, drop}
 use Rattle.std.proofs.lemmas.Option.{slice_get_read, slice_get_within}
 use Rattle.std.proofs.lemmas.List.{length-map}
