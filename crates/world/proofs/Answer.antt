@@ -1,5 +1,5 @@
 -- The phase that answers the job in a seat's hand takes the turn of its event.
-use Rattle.std.proofs.Common.{◌≡◌, ℕ, Bool, true, false, List, [], length, Some, refl, sym, ap, ◌∙◌, subst}
+use Rattle.std.proofs.Common.{◌≡◌, ℕ, Bool, true, false, List, length, Some, refl, sym, ap, ◌∙◌, subst}
 use Rattle.std.specs.Prelude.{slice_get, slice_set, map}
 use Rattle.ring_core.specs.State.{Owns}
 use Rattle.ring_core.specs.Writes.{all_written}
@@ -23,19 +23,6 @@ use Rattle.world.specs.Kept.{KeptSeat, seat_of}
 use Rattle.world.specs.Sound.{IsSound}
 use Rattle.world.proofs.Setting.{set_change}
 use Rattle.world.proofs.Seats.{seat_set, shown, one_there, with_queue_and_seat, moved_queue}
-
--- the phase keeps the size of the memory that the queue was made with
-pub keeps_memory : (hand : Hand) (q r : BareQueue) (m m' : List ℕ) (b : Bool) (h : Hand) → Answers hand q m b r m' h
-    → r.ring.memory ≡ q.ring.memory
-keeps_memory Hand.Empty q r m m' true h c = absurd c
-keeps_memory Hand.Empty q r m m' false h c = ap (λ (z : BareQueue). z.ring.memory) c.0.queue
-keeps_memory (Hand.Taken x) q r m m' true h c = absurd c
-keeps_memory (Hand.Taken x) q r m m' false h c = ap (λ (z : BareQueue). z.ring.memory) c.0.queue
-keeps_memory (Hand.Answered p t) q r m m' true h c = absurd c
-keeps_memory (Hand.Answered p t) q r m m' false h c = ap (λ (z : BareQueue). z.ring.memory) c.0.queue
-keeps_memory (Hand.Done x o) q r m m' true h c =
-    ap (λ (z : PlainQueue). z.ring.memory) (c.0 0 [] Slot.Empty).queue
-keeps_memory (Hand.Done x o) q r m m' false h c = ap (λ (z : BareQueue). z.ring.memory) c.0.stays.queue
 
 module _ (w : PlainWorld) (kept : List KeptSeat) (k : ℕ) (x : PlainJob) (o : Outcome) (jobs : List PlainJob) (limit : ℕ)
     (slot : Slot) (q r : BareQueue) (m : List ℕ) (h : Hand) (seats : w.seats ≡ map seat_of kept)

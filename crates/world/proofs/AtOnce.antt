@@ -1,5 +1,5 @@
 -- A request that is served at once: seven events, each the first that applies, one after another.
-use Rattle.std.proofs.Common.{◌≡◌, ◌≤◌, ◌<◌, ◌+◌, ◌*◌, ℕ, zero, suc, Bool, true, false, List, [], ◌∷◌, ◌++◌, length, Option, Some, None, Ok, refl, sym, ap, ◌∙◌, subst, inl, inr, arith}
+use Rattle.std.proofs.Common.{◌≡◌, ◌≤◌, ◌<◌, ◌+◌, ◌*◌, ℕ, zero, suc, Bool, true, false, List, [], ◌∷◌, length, Option, Some, None, Ok, refl, sym, ap, ◌∙◌, subst, inl, inr, arith}
 use Rattle.std.specs.Prelude.{slice_get, slice_set, map, drop}
 use Rattle.std.proofs.lemmas.Option.{slice_get_within}
 use Rattle.unit_model.specs.Jobs.{PlainJob, Jobs}
@@ -33,7 +33,7 @@ use Rattle.world.proofs.Fetches.{request_turns, request_memory}
 use Rattle.world.proofs.Entering.{enters, entered_in}
 use Rattle.world.proofs.Handing.{puts, takes, no_item}
 use Rattle.world.proofs.Commit.{commits}
-use Rattle.world.proofs.Answer.{answers, keeps_memory}
+use Rattle.world.proofs.Answer.{answers}
 use Rattle.world.proofs.Leave.{leaves, seat_with, keeps_limit}
 use Rattle.world.proofs.Stages as stages
 use Rattle.world.proofs.Choosing.{taken}
@@ -415,16 +415,12 @@ has_room s n is many =
     let none : length s.jobs ≡ 0 = ap (λ (z : KeptSeat). length z.jobs) is in
     omega (arith, none, many)
 
--- what is served keeps the memory of the queue, and the room of the list
+-- what is served keeps the room of the list
 pub serves_keeps : (x : PlainJob) (u u' : PlainUnit) (q q' : BareQueue) (m m' : List ℕ) (s s' : Slot) (out out' : Jobs)
-    (done : Option Bool) → Serves x u q m s out done u' q' m' s' out'
-    → (q'.ring.memory ≡ q.ring.memory) × (out'.limit ≡ out.limit)
-serves_keeps x u u' q q' m m' s s' out out' None h =
-    (ap (λ (z : BareQueue). z.ring.memory) h.queue, ap (λ (z : Jobs). z.limit) h.jobs)
-serves_keeps x u u' q q' m m' s s' out out' (Some left) h = (
-  keeps_memory (Hand.Done x h.0.outcome) q q' m m' true (Hand.Answered x.unit x.chain.ticket) h.0.answers,
-  keeps_limit (Hand.Answered x.unit x.chain.ticket) h.0.committed u' out out' left Hand.Empty h.0.leaves,
-)
+    (done : Option Bool) → Serves x u q m s out done u' q' m' s' out' → out'.limit ≡ out.limit
+serves_keeps x u u' q q' m m' s s' out out' None h = ap (λ (z : Jobs). z.limit) h.jobs
+serves_keeps x u u' q q' m m' s s' out out' (Some left) h =
+    keeps_limit (Hand.Answered x.unit x.chain.ticket) h.0.committed u' out out' left Hand.Empty h.0.leaves
 
 -- where to look then
 looks_so : (asked : ℕ → Bool) (most : ℕ) (w v : PlainWorld) (n : ℕ) (left : Bool) (jobs : List PlainJob) → 7 ≤ most → n ≡ length jobs → ServesBy asked w 7 v

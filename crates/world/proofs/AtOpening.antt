@@ -4,7 +4,7 @@ use Rattle.std.specs.Prelude.{slice_get, slice_set, nat_le, is_none}
 use Rattle.std.specs.List.{list_all}
 use Rattle.std.proofs.lemmas.Bool.{and_parts}
 use Rattle.std.proofs.lemmas.Bool.Decides.{nat_tests}
-use Rattle.std.proofs.lemmas.List.{length-map}
+use Rattle.std.proofs.lemmas.List.{length-map, length-replicate}
 use Rattle.std.proofs.lemmas.Option.{slice_get_within}
 use Rattle.ring_core.specs.State.{opening, features_of}
 use Rattle.ring_core.specs.declared.layout.Features.{Features}
@@ -27,8 +27,8 @@ use Rattle.block_store.specs.declared.paged.PagedStore.{PagedStore}
 use Rattle.unit_history.specs.Disks.{opening_over, IsDiskOf}
 use Rattle.world.specs.Opening.{AreOpening, AreFresh, AreSeats, IsOpening, AreDisksOf, IsOpeningOver, over_disks, opening_unit}
 use Rattle.world.specs.Kept.{KeptSeat, seat_of, HasLists}
-use Rattle.world.specs.Sound.{AreFew, IsWhole}
-use Rattle.world.proofs.Setting.{map_get}
+use Rattle.world.specs.Sound.{AreFew, AreFitting, IsSteady, IsWhole}
+use Rattle.world.proofs.Setting.{map_get, each_image}
 use Rattle.world.specs.Sound as seen
 
 -- the item that was put at the end of a list
@@ -86,14 +86,6 @@ each_made make P wanted made count each is k y at =
     let found = stands_at wanted k (omega (arith, slice_get_within made k y at, count)) in
     subst (λ z. P k z) (same (sym (each k found.0 found.1) ∙ at)) (is k found.0)
 
--- what stands in an image is the image of what stands there
-pub each_image : {X Y : Type 0} (f : X → Y) (P : Y → Type 0) (xs : List X)
-    → ((k : ℕ) (x : X) → slice_get xs k ≡ Some x → P (f x)) → (k : ℕ) (y : Y)
-    → slice_get (map f xs) k ≡ Some y → P y
-each_image f P [] is k y at = absurd (nothing at)
-each_image f P (x ∷ xs) is zero y at = subst P (same at) (is zero x refl)
-each_image f P (x ∷ xs) is (suc k) y at = each_image f P xs (λ j z e. is (suc j) z e) k y at
-
 -- a queue that opens is new
 opens_new : (form : Form) (memory number : ℕ) (l : Layout) (features : Features)
     → IsNewQueue number (with_slot Slot.Empty (opening_queue form memory number l features))
@@ -110,19 +102,20 @@ unfolding opening
 opens_in Split memory number l features = refl
 opens_in Packed memory number l features = refl
 
+-- the rings of a device that opens are for its memory
+rings_open : (form : Form) (features : Features) (size : ℕ) (layouts : List Layout) (queues : List PlainQueue)
+    → AreOpening form size features layouts queues
+    → Everywhere (λ (k : ℕ) (q : PlainQueue). q.ring.memory ≡ size) queues
+rings_open form features size layouts queues opening =
+    each_made (λ (k : ℕ) (l : Layout). with_slot Slot.Empty (opening_queue form size k l features))
+    (λ (k : ℕ) (q : PlainQueue). q.ring.memory ≡ size) layouts queues opening.count opening.each
+    (λ k l. opens_in form size k l features)
+
 -- the lists of a device that opens
-pub lists_open : (form : Form) (features : Features) (m : List ℕ) (layouts : List Layout) (queues : List PlainQueue) (units : List PlainUnit)
-    (count : ℕ) (seats : List KeptSeat) → AreOpening form (length m) features layouts queues
-    → AreSeats count (64 * length units + 64) seats → HasLists m queues units seats 1025
-lists_open form features m layouts queues units count seats opening is =
-    record {
-      fits =
-          each_made (λ (k : ℕ) (l : Layout). with_slot Slot.Empty (opening_queue form (length m) k l features))
-          (λ (k : ℕ) (q : PlainQueue). q.ring.memory ≡ length m) layouts queues opening.count opening.each
-          (λ k l. opens_in form (length m) k l features);
-      limits = λ k s at. ap (λ (z : KeptSeat). z.limit) (is.each k s at);
-      port = refl;
-    }
+pub lists_open : (units : List PlainUnit) (count : ℕ) (seats : List KeptSeat)
+    → AreSeats count (64 * length units + 64) seats → HasLists units seats 1025
+lists_open units count seats is =
+    record { limits = λ k s at. ap (λ (z : KeptSeat). z.limit) (is.each k s at); port = refl }
 
 -- seats that open have nothing
 pub seats_idle : (count limit : ℕ) (seats : List KeptSeat) → AreSeats count limit seats
@@ -297,7 +290,7 @@ config_tests c is =
     (t.0, last.1)
 
 -- and so it is whole
-pub opens_whole : (c : Config) (w : PlainWorld) → is_config c ≡ true → IsOpening c w → IsWhole w
+opens_whole : (c : Config) (w : PlainWorld) → is_config c ≡ true → IsOpening c w → IsWhole w
 opens_whole c w is o =
     let few = config_few c is in
     let tests = config_tests c is in
@@ -314,6 +307,16 @@ opens_whole c w is o =
         luns = luns_open c.units.items w.units o.units units.1;
       };
     }
+
+-- its rings are for its memory
+fits_open : (c : Config) (w : PlainWorld) → IsOpening c w → AreFitting w
+fits_open c w o =
+    let size : size_of c ≡ length w.memory = sym (ap (λ m. length m) o.memory ∙ length-replicate (size_of c) 0) in
+    subst (λ (n : ℕ). Everywhere (λ (k : ℕ) (q : PlainQueue). q.ring.memory ≡ n) w.queues) size
+    (rings_open o.form (features_of c.features) (size_of c) c.queues.items w.queues o.queues)
+
+pub opens_steady : (c : Config) (w : PlainWorld) → is_config c ≡ true → IsOpening c w → IsSteady w
+opens_steady c w is o = record { whole = opens_whole c w is o; fits = fits_open c w o }
 
 -- units of which no step was taken have none over their disks
 new_over : (units : List PlainUnit) (disks : List PagedStore)
@@ -376,7 +379,7 @@ opens_over c disks w is o =
     })
 
 -- and so it is whole
-pub opens_over_whole : (c : Config) (disks : List PagedStore) (w : PlainWorld) → is_config c ≡ true → IsOpeningOver c disks w
+opens_over_whole : (c : Config) (disks : List PagedStore) (w : PlainWorld) → is_config c ≡ true → IsOpeningOver c disks w
     → IsWhole w
 opens_over_whole c disks w is o =
     let few = (opens_whole c o.bare is o.opening).few in
@@ -391,6 +394,11 @@ opens_over_whole c disks w is o =
         luns = subst (λ (ns : List ℕ). Everywhere (λ k (n : ℕ). n ≤ 16383) ns) (sym (over_luns o.bare.units disks)) few.luns;
       });
     }
+
+pub opens_over_steady : (c : Config) (disks : List PagedStore) (w : PlainWorld) → is_config c ≡ true
+    → IsOpeningOver c disks w → IsSteady w
+opens_over_steady c disks w is o =
+    record { whole = opens_over_whole c disks w is o; fits = subst AreFitting (sym o.is) (fits_open c o.bare o.opening) }
 
 -- the disks of one more unit
 pub disks_more : (units : List PlainUnit) (disks : List PagedStore) (u : PlainUnit) (disk : PagedStore) → AreDisksOf units disks
@@ -411,11 +419,10 @@ nothing_in [] none = refl
 nothing_in (x ∷ xs) none = absurd (omega (arith, none))
 
 -- the lists are those of as many units
-pub lists_over : (m : List ℕ) (queues : List PlainQueue) (units over : List PlainUnit) (seats : List KeptSeat) (limit : ℕ)
-    → length over ≡ length units → HasLists m queues units seats limit → HasLists m queues over seats limit
-lists_over m queues units over seats limit many lists =
+pub lists_over : (units over : List PlainUnit) (seats : List KeptSeat) (limit : ℕ) → length over ≡ length units
+    → HasLists units seats limit → HasLists over seats limit
+lists_over units over seats limit many lists =
     record {
-      fits = lists.fits;
       limits = λ k s at. lists.limits k s at ∙ ap (λ (n : ℕ). 64 * n + 64) (sym many);
       port = lists.port;
     }

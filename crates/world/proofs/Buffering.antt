@@ -1,4 +1,4 @@
--- What a fetch of the event queue does is a turn of its event, and the ring and the port keep their sizes.
+-- What a fetch of the event queue does is a turn of its event, and the port keeps its size.
 use Rattle.std.proofs.Common.{◌≡◌, ◌≤◌, ℕ, zero, suc, Bool, true, false, List, [], ◌∷◌, ◌++◌, length, Some, Result, Ok, Err, refl, sym, ap, ◌∙◌, subst, arith}
 use Rattle.std.specs.Prelude.{slice_get, slice_set, ◌&&◌}
 use Rattle.block_store.specs.declared.NoMemory.{NoMemory}
@@ -21,7 +21,6 @@ use Rattle.world.specs.Sound.{IsSound, AreFew, size_of}
 use Rattle.world.proofs.Setting.{map_get, set_same}
 use Rattle.world.proofs.Placing.{set_as}
 use Rattle.world.proofs.Fetches.{at_number, has_some}
-use Rattle.world.proofs.Memories.{keeps_memory}
 
 -- the world with this memory, these queues and this port
 abbrev pub with_port : List ℕ → List PlainQueue → PlainPort → PlainWorld → PlainWorld
@@ -119,14 +118,6 @@ module _ (w : PlainWorld) (k : ℕ) (q q' : PlainQueue) (m' : List ℕ) (p p' : 
     },
     event_still h.0,
   )
-
--- the ring keeps its memory
-pub event_memory : (q q' : PlainQueue) (m m' : List ℕ) (p p' : PlainPort) (r : Result Bool NoMemory)
-    → FetchesEvent q m p r q' m' p' → q'.ring.memory ≡ q.ring.memory
-event_memory q q' m m' p p' (Ok true) h =
-    ap (λ (z : PlainQueue). z.ring.memory) h.2.2.queue ∙ keeps_memory h.2.0 m q
-event_memory q q' m m' p p' (Ok false) h = ap (λ (z : PlainQueue). z.ring.memory) h.0.queue
-event_memory q q' m m' p p' (Err e) h = ap (λ (z : PlainQueue). z.ring.memory) h.0.queue
 
 -- a transition keeps how many buffers the port may hold
 limit_after : (d : Transition) (p : PlainPort) → (port_after d p).limit ≡ p.limit

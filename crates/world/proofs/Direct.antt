@@ -1,5 +1,5 @@
 -- The phase that answers the chain that is ready on a queue takes the turn of its event.
-use Rattle.std.proofs.Common.{◌≡◌, ℕ, Bool, true, false, List, [], length, Some, refl, sym, ap, ◌∙◌, subst}
+use Rattle.std.proofs.Common.{◌≡◌, ℕ, Bool, true, false, List, length, Some, refl, sym, ap, ◌∙◌, subst}
 use Rattle.std.specs.Prelude.{slice_get, slice_set}
 use Rattle.ring_core.specs.State.{PlainChain, Owns}
 use Rattle.ring_core.specs.Writes.{all_written}
@@ -17,16 +17,6 @@ use Rattle.phases.specs.Direct.{decided_writes, Directs, LetsGo, StaysQueue}
 use Rattle.world.specs.Sound.{IsSound}
 use Rattle.world.proofs.Setting.{set_change, set_same}
 use Rattle.world.proofs.Seats.{one_there}
-
--- the phase keeps the size of the memory that the queue was made with
-pub keeps_memory : (slot : Slot) (q r : BareQueue) (m m' : List ℕ) (b : Bool) (s : Slot) → Directs slot q m b r m' s
-    → r.ring.memory ≡ q.ring.memory
-keeps_memory Slot.Empty q r m m' true s c = absurd c
-keeps_memory Slot.Empty q r m m' false s c = ap (λ (z : BareQueue). z.ring.memory) c.0.queue
-keeps_memory (Slot.Arrived x) q r m m' true s c = absurd c
-keeps_memory (Slot.Arrived x) q r m m' false s c = ap (λ (z : BareQueue). z.ring.memory) c.0.queue
-keeps_memory (Slot.Direct d o) q r m m' true s c = ap (λ (z : PlainQueue). z.ring.memory) (c.0 []).queue
-keeps_memory (Slot.Direct d o) q r m m' false s c = ap (λ (z : BareQueue). z.ring.memory) c.0.stays.queue
 
 -- the device with memory and a queue set
 abbrev pub with_queue : PlainWorld → List ℕ → ℕ → PlainQueue → PlainWorld

@@ -185,11 +185,3 @@ control_turns w k q q' f' (Err e) sound first at fits h = (
   },
   ap (λ g. with_both (slice_set w.queues k q') g w) h.1 ∙ same_queues w k q q' at h.0,
 )
-
--- and the ring keeps its memory
-pub control_memory : (inventory : List Address) (m : List ℕ) (q q' : PlainQueue) (f f' : Option Opened)
-    (r : Result Bool NoMemory) → FetchesControl inventory m q f r q' f' → q'.ring.memory ≡ q.ring.memory
-control_memory inventory m q q' f f' (Ok true) h =
-    ap (λ (z : PlainQueue). z.ring.memory) h.3.2.queue ∙ keeps_memory h.3.0 m q
-control_memory inventory m q q' f f' (Ok false) h = ap (λ (z : PlainQueue). z.ring.memory) h.0
-control_memory inventory m q q' f f' (Err e) h = ap (λ (z : PlainQueue). z.ring.memory) h.0

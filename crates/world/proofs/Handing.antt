@@ -1,5 +1,5 @@
 -- A seat hands its next job off, or keeps it; a worker takes a job from the hand-off.
-use Rattle.std.proofs.Common.{◌≡◌, ◌≤◌, ◌<◌, ℕ, true, false, List, [], ◌∷◌, ◌++◌, length, Some, None, refl, sym, ap, ◌∙◌}
+use Rattle.std.proofs.Common.{◌≡◌, ◌<◌, ℕ, true, false, List, [], ◌∷◌, Some, None, refl, sym, ap, ◌∙◌}
 use Rattle.std.specs.Prelude.{slice_get, slice_set, map, drop}
 use Rattle.unit_model.specs.Jobs.{PlainJob}
 use Rattle.device_model.specs.Parts.{Hand}

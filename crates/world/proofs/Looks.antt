@@ -13,14 +13,13 @@ use Rattle.phases.specs.Slots.{arrived_unit, is_direct}
 use Rattle.device_model.specs.Parts.{Slot, Hand}
 use Rattle.device_model.specs.World.{PlainQueue, PlainWorld, Opened, Seat}
 use Rattle.device_model.specs.Events.{Event}
-use Rattle.device_model.specs.Applies.{Applies, MayFetch, MayCheck, MayMark, MayRespond, MayPut, MayTake}
+use Rattle.device_model.specs.Applies.{Applies, MayCheck, MayMark, MayRespond, MayPut, MayTake}
 use Rattle.device_model.specs.Happens.{IsOpenTo, SeatIs}
-use Rattle.device_model.specs.Phases.{SlotIs}
 use Rattle.device_model.proofs.Lists.{same, nothing}
 use Rattle.device_model.specs.Order.{of_seat, IsQuietOf, NoneApplies}
 use Rattle.device_model.proofs.Quiet.{AllQuiet, all_quiet}
 use Rattle.world.specs.Cursors.{Denies, of_function, NoDirect, NoSeat, NoEnter, NoFetch}
-use Rattle.world.specs.Off.{HasJob, IsNearest, AreBare}
+use Rattle.world.specs.Off.{AreBare}
 use Rattle.world.proofs.Choosing.{option_none}
 use Rattle.world.proofs.Ordering.{none_left}
 use Rattle.world.proofs.Stages as stages

@@ -3,7 +3,7 @@ use Rattle.std.proofs.Common.{◌≡◌, ◌≤◌, ◌<◌, ◌⊎◌, inl, inr
 use Rattle.std.specs.Prelude.{slice_get, slice_set}
 use Rattle.std.proofs.lemmas.Option.{slice_get_within, slice_get_read}
 use Rattle.unit_model.specs.Jobs.{PlainJob, Jobs}
-use Rattle.device_model.specs.World.{IsBefore, change}
+use Rattle.device_model.specs.World.{change}
 use Rattle.device_model.specs.After.{with_job}
 use Rattle.world.specs.Cursors.{Denies}
 use Rattle.world.specs.Off.{jobs_of, HaveLimit, AreBare, AreBareBetween, HasJob, IsFirstBetween, IsNearest, PutsAt, Takes}

@@ -1,25 +1,24 @@
 -- Serving in portions, and what a device that asks each queue does.
-use Rattle.std.proofs.Common.{◌≡◌, inl, inr, ℕ, ◌<◌, ◌≤◌, ◌+◌, ◌-◌, ◌^◌, ◌==◌, Bool, true, false, List, [], ◌∷◌, length, Result, Ok, Err, refl, sym, ap, ◌∙◌, subst, true≢false, arith}
-use Rattle.std.specs.Prelude.{slice_get}
+use Rattle.std.proofs.Common.{◌≡◌, inl, inr, ℕ, ◌<◌, ◌≤◌, ◌==◌, Bool, true, false, List, [], ◌∷◌, length, Ok, Err, refl, sym, ap, ◌∙◌, subst, arith}
 use Rattle.std.proofs.lemmas.Nat.Bits.{bit_at_ones}
 use Rattle.std.proofs.lemmas.Option.{slice_get_within}
 use Rattle.block_store.specs.declared.NoMemory.{NoMemory}
 use Rattle.device_model.specs.World.{PlainWorld}
 use Rattle.device_model.specs.Events.{Event}
 use Rattle.device_model.specs.Transitions.{Transition, event_of}
-use Rattle.device_model.specs.Happens.{Happens, world_of}
+use Rattle.device_model.specs.Happens.{world_of}
 use Rattle.device_model.specs.Lawful.{KeepsParts}
 use Rattle.device_model.proofs.Staying.{transition_stays}
-use Rattle.device_model.specs.Order.{order, order_by, order_of, IsFirstOf, IsNextOf, IsQuiet, IsQuietOf, IsAtRest, IsAtRestOf, NoneApplies}
+use Rattle.device_model.specs.Order.{order, order_by, order_of, IsFirstOf, IsNextOf, IsQuietOf, IsAtRest, IsAtRestOf, NoneApplies}
 use Rattle.device_model.specs.Settling.{SettlesOf}
 use Rattle.device_model.proofs.Choosing.{next_or_quiet_of}
 use Rattle.device_model.proofs.Runs.{settles_of_to_rest}
 use Rattle.device_model.proofs.Bounds.{settles_of_short}
 use Rattle.world.specs.declared.service.Served.{Served}
 use Rattle.world.specs.Settling.{asks, asks_all, order_for, ServesBy, MayWantFirst, ServesSome, ServesUntilRefused, ServesSomeOrWants, ServesAll, ServesInPart, ServesOrWants}
-use Rattle.world.specs.Promise.{GoesOnInOrder, ServesAsPromised, SettlesAsPromised}
+use Rattle.world.specs.Promise.{GoesOnInOrder}
 use Rattle.world.specs.Cursors.{Denies}
-use Rattle.world.specs.Sound.{IsReached, AreFew}
+use Rattle.world.specs.Sound.{IsReached}
 use Rattle.world.proofs.Ordering.{AskAlike, order_alike}
 
 -- A portion

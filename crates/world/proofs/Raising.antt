@@ -1,4 +1,4 @@
--- What the raising of an event does is a turn of it, and the ring and the port keep their sizes.
+-- What the raising of an event does is a turn of it, and the port keeps its size.
 use Rattle.std.proofs.Common.{◌≡◌, ℕ, Bool, true, false, List, [], ◌∷◌, length, Some, refl, sym, ap, ◌∙◌, subst}
 use Rattle.std.specs.Prelude.{slice_get, slice_set, drop}
 use Rattle.std.specs.List.{AllByRecursion}
@@ -22,7 +22,6 @@ use Rattle.phases.specs.EventQueue.{RaisesNext, RaisesTo, StaysRaised}
 use Rattle.world.specs.Sound.{IsSound}
 use Rattle.world.proofs.Setting.{set_same}
 use Rattle.world.proofs.Placing.{set_as}
-use Rattle.world.proofs.Memories.{keeps_memory}
 
 -- the world with this memory, these queues, this port and these events that wait
 abbrev pub with_raised : List ℕ → List PlainQueue → PlainPort → List Report → PlainWorld → PlainWorld
@@ -127,25 +126,16 @@ module _ (w : PlainWorld) (k : ℕ) (s : Slot) (l l' : BareQueue) (m' : List ℕ
   raises [] false waits sound fits h =
       (still [] waits h, λ may. none_there (sym waits ∙ may.2))
 
--- what holds of the sizes afterwards
-to_sizes : (cs : List PlainChain) (e : Report) (later : List Report) (l l' : BareQueue) (m m' : List ℕ) (p p' : PlainPort)
-    (x' : List Report) (r : Bool) → RaisesTo cs e later l m p r l' m' p' x'
-    → (l'.ring.memory ≡ l.ring.memory) × (p'.limit ≡ p.limit)
-to_sizes (c ∷ more) e later l l' m m' p p' x' true h =
-    let xs = answer_writes l.ring c (event_bytes e) in (
-      ap (λ (q : PlainQueue). q.ring.memory) (h.0 [] Slot.Empty).queue
-          ∙ keeps_memory (Transition.Give e c (as_left m xs)) m (with_slot Slot.Empty l),
-      ap (λ (z : PlainPort). z.limit) h.1,
-    )
-to_sizes (c ∷ more) e later l l' m m' p p' x' false h =
-    (ap (λ (q : BareQueue). q.ring.memory) h.1.at_queue.queue, ap (λ (z : PlainPort). z.limit) h.1.port)
-to_sizes [] e later l l' m m' p p' x' true h =
-    (ap (λ (q : BareQueue). q.ring.memory) h.0.queue, ap (λ (z : PlainPort). z.limit) h.1)
-to_sizes [] e later l l' m m' p p' x' false h = absurd h
+-- the port keeps how many buffers it may hold
+to_limit : (cs : List PlainChain) (e : Report) (later : List Report) (l l' : BareQueue) (m m' : List ℕ) (p p' : PlainPort)
+    (x' : List Report) (r : Bool) → RaisesTo cs e later l m p r l' m' p' x' → p'.limit ≡ p.limit
+to_limit (c ∷ more) e later l l' m m' p p' x' true h = ap (λ (z : PlainPort). z.limit) h.1
+to_limit (c ∷ more) e later l l' m m' p p' x' false h = ap (λ (z : PlainPort). z.limit) h.1.port
+to_limit [] e later l l' m m' p p' x' true h = ap (λ (z : PlainPort). z.limit) h.1
+to_limit [] e later l l' m m' p p' x' false h = absurd h
 
-pub raise_sizes : (x : List Report) (l l' : BareQueue) (m m' : List ℕ) (p p' : PlainPort) (x' : List Report) (r : Bool)
-    → RaisesNext x l m p r l' m' p' x' → (l'.ring.memory ≡ l.ring.memory) × (p'.limit ≡ p.limit)
-raise_sizes (e ∷ later) l l' m m' p p' x' r h = to_sizes p.buffers e later l l' m m' p p' x' r h
-raise_sizes [] l l' m m' p p' x' true h = absurd h
-raise_sizes [] l l' m m' p p' x' false h =
-    (ap (λ (q : BareQueue). q.ring.memory) h.at_queue.queue, ap (λ (z : PlainPort). z.limit) h.port)
+pub raise_limit : (x : List Report) (l l' : BareQueue) (m m' : List ℕ) (p p' : PlainPort) (x' : List Report) (r : Bool)
+    → RaisesNext x l m p r l' m' p' x' → p'.limit ≡ p.limit
+raise_limit (e ∷ later) l l' m m' p p' x' r h = to_limit p.buffers e later l l' m m' p p' x' r h
+raise_limit [] l l' m m' p p' x' true h = absurd h
+raise_limit [] l l' m m' p p' x' false h = ap (λ (z : PlainPort). z.limit) h.port

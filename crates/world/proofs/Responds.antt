@@ -1,4 +1,4 @@
--- What an answer to the open function does is a turn of its event, and the ring keeps its memory.
+-- What an answer to the open function does is a turn of its event.
 use Rattle.std.proofs.Common.{◌≡◌, ℕ, Bool, true, false, List, [], ◌∷◌, length, ◌&&◌, ◌==◌, Option, Some, None, refl, sym, ap, ◌∙◌, arith}
 use Rattle.std.specs.Prelude.{slice_get, slice_set}
 use Rattle.std.proofs.lemmas.Bool.{eqb-true}
@@ -21,7 +21,6 @@ use Rattle.phases.specs.Direct.{Responds, RespondsWhere, StaysQueue}
 use Rattle.world.specs.Sound.{IsSound}
 use Rattle.world.proofs.Setting.{set_same}
 use Rattle.world.proofs.Placing.{set_as}
-use Rattle.world.proofs.Memories.{keeps_memory}
 
 -- the world with this memory, these queues and this function
 abbrev with_three : List ℕ → List PlainQueue → Option Opened → PlainWorld → PlainWorld
@@ -132,21 +131,3 @@ pub respond_turns : (w : PlainWorld) (k : ℕ) (s : Slot) (l l' : BareQueue) (m'
     → Turns w Event.AnswerTmf r (with_three m' (slice_set w.queues k (with_slot s l')) f' w)
 respond_turns w k s l l' m' f' r sound first at fits h =
     some_turns w k s l l' m' w.function f' r first at fits refl sound.owned.function h
-
--- whatever is over
-where_memory : (over : Bool) (f : Opened) (f' : Option Opened) (l l' : BareQueue) (m m' : List ℕ) (r : Bool)
-    → RespondsWhere over f l m r l' m' f' → l'.ring.memory ≡ l.ring.memory
-where_memory true f f' l l' m m' true h =
-    let x = answer_writes l.ring f.chain (function_bytes (response_of f.function)) in
-    ap (λ (q : PlainQueue). q.ring.memory) (h.0 [] Slot.Empty).queue
-    ∙ keeps_memory (Transition.Respond f.chain (response_of f.function) (as_left m x)) m (with_slot Slot.Empty l)
-where_memory true f f' l l' m m' false h = ap (λ (q : BareQueue). q.ring.memory) h.0.stays.queue
-where_memory false f f' l l' m m' true h = absurd h
-where_memory false f f' l l' m m' false h = ap (λ (q : BareQueue). q.ring.memory) h.0.queue
-
--- and the ring keeps its memory
-pub respond_memory : (f f' : Option Opened) (l l' : BareQueue) (m m' : List ℕ) (r : Bool) → Responds f l m r l' m' f'
-    → l'.ring.memory ≡ l.ring.memory
-respond_memory (Some f) f' l l' m m' r h = where_memory (is_over f.function) f f' l l' m m' r h
-respond_memory None f' l l' m m' true h = absurd h
-respond_memory None f' l l' m m' false h = ap (λ (q : BareQueue). q.ring.memory) h.0.queue

@@ -33,13 +33,12 @@ seat_set g k kept s t at is =
     ∙ set_change g k (map seat_of kept) (seat_of s) (map_get seat_of k kept s at))
 
 -- the lists are those that they were, where one unit is set and one seat with the limit that it had
-pub keeps_unit : {room : ℕ} (m : List ℕ) (queues : List PlainQueue) (units : List PlainUnit) (kept : List KeptSeat) (k place : ℕ)
-    (u : PlainUnit) (s t : KeptSeat) → slice_get kept k ≡ Some s → t.limit ≡ s.limit
-    → HasLists m queues units kept room → HasLists m queues (slice_set units place u) (slice_set kept k t) room
-keeps_unit m queues units kept k place u s t at same_limit h =
+pub keeps_unit : {room : ℕ} (units : List PlainUnit) (kept : List KeptSeat) (k place : ℕ) (u : PlainUnit)
+    (s t : KeptSeat) → slice_get kept k ≡ Some s → t.limit ≡ s.limit
+    → HasLists units kept room → HasLists (slice_set units place u) (slice_set kept k t) room
+keeps_unit units kept k place u s t at same_limit h =
     let size = length_set place units u in
     record {
-      fits = h.fits;
       limits = everywhere_set (λ (z : KeptSeat). z.limit ≡ 64 * length (slice_set units place u) + 64) k kept t
           (λ i z e. h.limits i z e ∙ ap (λ n. 64 * n + 64) (sym size))
           (same_limit ∙ (h.limits k s at ∙ ap (λ n. 64 * n + 64) (sym size)));
@@ -98,23 +97,11 @@ moved_queue w m m' queues queues' seats seats' em eq es =
     ∙ (ap (λ (z : List PlainQueue). record w { memory = m'; queues = z; seats = seats }) eq
     ∙ ap (λ (z : List Seat). record w { memory = m'; queues = queues'; seats = z }) es)
 
--- the lists are those that they were, where memory is as long, and one queue is set whose ring has that memory
-pub keeps_queue : {room : ℕ} (m m' : List ℕ) (queues : List PlainQueue) (units : List PlainUnit) (kept : List KeptSeat) (i : ℕ)
-    (q r : PlainQueue) → length m' ≡ length m → slice_get queues i ≡ Some q → r.ring.memory ≡ q.ring.memory
-    → HasLists m queues units kept room → HasLists m' (slice_set queues i r) units kept room
-keeps_queue m m' queues units kept i q r size at same_memory h = record {
-  fits = everywhere_set (λ (z : PlainQueue). z.ring.memory ≡ length m') i queues r
-      (λ j z e. h.fits j z e ∙ sym size) (same_memory ∙ (h.fits i q at ∙ sym size));
-  limits = h.limits;
-  port = h.port;
-}
-
--- and where one seat is set with the limit that it had
-pub keeps_seat : {room : ℕ} (m : List ℕ) (queues : List PlainQueue) (units : List PlainUnit) (kept : List KeptSeat) (k : ℕ)
-    (s t : KeptSeat) → slice_get kept k ≡ Some s → t.limit ≡ s.limit
-    → HasLists m queues units kept room → HasLists m queues units (slice_set kept k t) room
-keeps_seat m queues units kept k s t at same_limit h = record {
-  fits = h.fits;
+-- the lists are those that they were, where one seat is set with the limit that it had
+pub keeps_seat : {room : ℕ} (units : List PlainUnit) (kept : List KeptSeat) (k : ℕ) (s t : KeptSeat)
+    → slice_get kept k ≡ Some s → t.limit ≡ s.limit
+    → HasLists units kept room → HasLists units (slice_set kept k t) room
+keeps_seat units kept k s t at same_limit h = record {
   limits = everywhere_set (λ (z : KeptSeat). z.limit ≡ 64 * length units + 64) k kept t
       (λ i z e. h.limits i z e) (same_limit ∙ h.limits k s at);
   port = h.port;

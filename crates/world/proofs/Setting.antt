@@ -11,7 +11,9 @@ use Rattle.device_model.specs.After.{slotted, with_jobs}
 use Rattle.device_model.specs.Standing.{HaveRoom}
 use Rattle.device_model.specs.Turns.{Turns}
 use Rattle.phases.specs.DoingUnit.{HasPlaces, with_more}
+use Rattle.world.specs.Apart.{PlainDevice, standing}
 use Rattle.world.specs.Kept.{KeptSeat, seat_of, HasLists}
+use Rattle.world.specs.Sound.{AreFitting, IsSound}
 use Rattle.device_model.proofs.Lists.{same, nothing}
 
 -- to set what a change gives is the change
@@ -41,6 +43,14 @@ map_get f k [] x e = absurd (nothing e)
 map_get f zero (y ∷ xs) x e = ap (λ z. Some (f z)) (same e)
 map_get f (suc k) (y ∷ xs) x e = map_get f k xs x e
 
+-- what stands in an image is the image of what stands there
+pub each_image : {X Y : Type 0} (f : X → Y) (P : Y → Type 0) (xs : List X)
+    → ((k : ℕ) (x : X) → slice_get xs k ≡ Some x → P (f x)) → (k : ℕ) (y : Y)
+    → slice_get (map f xs) k ≡ Some y → P y
+each_image f P [] is k y at = absurd (nothing at)
+each_image f P (x ∷ xs) is zero y at = subst P (same at) (is zero x refl)
+each_image f P (x ∷ xs) is (suc k) y at = each_image f P xs (λ j z e. is (suc j) z e) k y at
+
 -- what is true of each item is true of each where one is set that it is true of
 pub everywhere_set : {X : Type 0} (P : X → Type 0) (k : ℕ) (xs : List X) (x : X)
     → ((i : ℕ) (z : X) → slice_get xs i ≡ Some z → P z) → P x
@@ -66,12 +76,11 @@ seat_change g k kept s t at is =
     ∙ set_change g k (map seat_of kept) (seat_of s) (map_get seat_of k kept s at)
 
 -- what the device keeps of its lists, where a seat is set
-pub seat_kept : {room : ℕ} (m : List ℕ) (queues : List PlainQueue) (units : List PlainUnit) (kept : List KeptSeat) (k : ℕ)
-    (s t : KeptSeat) → HasLists m queues units kept room → slice_get kept k ≡ Some s → t.limit ≡ s.limit
-    → HasLists m queues units (slice_set kept k t) room
-seat_kept m queues units kept k s t h at is =
+pub seat_kept : {room : ℕ} (units : List PlainUnit) (kept : List KeptSeat) (k : ℕ) (s t : KeptSeat)
+    → HasLists units kept room → slice_get kept k ≡ Some s → t.limit ≡ s.limit
+    → HasLists units (slice_set kept k t) room
+seat_kept units kept k s t h at is =
     record {
-      fits = h.fits;
       limits =
           everywhere_set (λ (z : KeptSeat). z.limit ≡ 64 * length units + 64) k kept t h.limits
           (is ∙ h.limits k s at);
@@ -79,8 +88,18 @@ seat_kept m queues units kept k s t h at is =
     }
 
 -- a turn of the device as it is seen
-pub turns_seen : (v w : PlainWorld) (e : Event) (b : Bool) (w' : PlainWorld) → v ≡ w → Turns v e b w' → Turns w e b w'
-turns_seen v w e b w' is h = subst (λ z. Turns z e b w') is h
+pub turns_seen : (shared : Bool) (m : List ℕ) (v d : PlainDevice) (e : Event) (b : Bool) (w' : PlainWorld) → v ≡ d
+    → Turns (standing shared m v) e b w' → Turns (standing shared m d) e b w'
+turns_seen shared m v d e b w' is h = subst (λ z. Turns (standing shared m z) e b w') is h
+
+-- and what it rests on
+pub sound_seen : (shared : Bool) (m : List ℕ) (v d : PlainDevice) → v ≡ d → IsSound (standing shared m d)
+    → IsSound (standing shared m v)
+sound_seen shared m v d is h = subst (λ z. IsSound (standing shared m z)) (sym is) h
+
+pub fits_seen : (shared : Bool) (m : List ℕ) (v d : PlainDevice) → v ≡ d → AreFitting (standing shared m d)
+    → AreFitting (standing shared m v)
+fits_seen shared m v d is h = subst (λ z. AreFitting (standing shared m z)) (sym is) h
 
 -- A queue, a unit and a seat's list
 
@@ -141,28 +160,14 @@ has_places w kept n s are room limits at =
     omega (arith, few, many)
 
 -- what the device keeps of its lists, where a unit and a seat are set
-pub unit_kept : {room : ℕ} (m : List ℕ) (queues : List PlainQueue) (units : List PlainUnit) (kept : List KeptSeat) (p : ℕ)
-    (v : PlainUnit) (n : ℕ) (s t : KeptSeat) → HasLists m queues units kept room → slice_get kept n ≡ Some s
-    → t.limit ≡ s.limit → HasLists m queues (slice_set units p v) (slice_set kept n t) room
-unit_kept m queues units kept p v n s t h at is =
+pub unit_kept : {room : ℕ} (units : List PlainUnit) (kept : List KeptSeat) (p : ℕ) (v : PlainUnit) (n : ℕ)
+    (s t : KeptSeat) → HasLists units kept room → slice_get kept n ≡ Some s → t.limit ≡ s.limit
+    → HasLists (slice_set units p v) (slice_set kept n t) room
+unit_kept units kept p v n s t h at is =
     record {
-      fits = h.fits;
       limits =
           everywhere_set (λ (z : KeptSeat). z.limit ≡ 64 * length (slice_set units p v) + 64) n kept t
           (λ k z e. h.limits k z e ∙ ap (λ j. 64 * j + 64) (sym (set_length p units v)))
           (is ∙ h.limits n s at ∙ ap (λ j. 64 * j + 64) (sym (set_length p units v)));
-      port = h.port;
-    }
-
--- and where a slot is set besides
-pub slot_kept : {room : ℕ} (m : List ℕ) (queues : List PlainQueue) (units : List PlainUnit) (kept : List KeptSeat) (i : ℕ)
-    (q : PlainQueue) (slot : Slot) → HasLists m queues units kept room → slice_get queues i ≡ Some q
-    → HasLists m (slice_set queues i (slotted slot q)) units kept room
-slot_kept m queues units kept i q slot h at =
-    record {
-      fits =
-          everywhere_set (λ (z : PlainQueue). z.ring.memory ≡ length m) i queues (slotted slot q) h.fits
-          (h.fits i q at);
-      limits = h.limits;
       port = h.port;
     }

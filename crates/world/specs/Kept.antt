@@ -3,7 +3,7 @@ use Rattle.std.specs.Prelude.{ℕ, ◌≡◌, ◌+◌, ◌*◌, List, length}
 use Rattle.unit_model.specs.Jobs.{PlainJob}
 use Rattle.unit_model.specs.Unit.{PlainUnit}
 use Rattle.device_model.specs.Parts.{Hand}
-use Rattle.device_model.specs.World.{PlainQueue, Seat, Everywhere}
+use Rattle.device_model.specs.World.{Seat, Everywhere}
 
 -- a seat, and how many jobs there is room for
 pub record KeptSeat : Type 0 where
@@ -14,10 +14,8 @@ pub record KeptSeat : Type 0 where
 abbrev pub seat_of : KeptSeat → Seat
 seat_of s = record { hand = s.hand; out = s.jobs }
 
--- each ring was made with this memory, each seat's list has room for all tasks and 64 more, and the port for one
--- buffer more than the largest queue has descriptors
-pub record HasLists (memory : List ℕ) (queues : List PlainQueue) (units : List PlainUnit) (seats : List KeptSeat)
-    (room : ℕ) : Type 0 where
-  pub fits : Everywhere (λ i (q : PlainQueue). q.ring.memory ≡ length memory) queues
+-- each seat's list has room for all tasks and 64 more, and the port for one buffer more than the largest queue has
+-- descriptors
+pub record HasLists (units : List PlainUnit) (seats : List KeptSeat) (room : ℕ) : Type 0 where
   pub limits : Everywhere (λ k (s : KeptSeat). s.limit ≡ 64 * length units + 64) seats
   pub port : room ≡ 1025

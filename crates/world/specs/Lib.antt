@@ -2,6 +2,7 @@ pub mod Kept
 pub mod Off
 pub mod Sound
 pub mod Steps
+pub mod Apart
 pub mod Settling
 pub mod Cursors
 pub mod Stages

@@ -47,10 +47,15 @@ pub record AreFew (w : PlainWorld) : Type 0 where
 abbrev pub AreFitting : PlainWorld → Type 0
 AreFitting w = Everywhere (λ i (q : PlainQueue). q.ring.memory ≡ length w.memory) w.queues
 
--- what holds between two calls
+-- what the transitions keep
 pub record IsWhole (w : PlainWorld) : Type 0 where
   pub reached : IsReached w
   pub few : AreFew w
+
+-- what holds between two calls
+pub record IsSteady (w : PlainWorld) : Type 0 where
+  pub whole : IsWhole w
+  pub fits : AreFitting w
 
 -- of every device that some trace reached
 abbrev pub AreSound : Type 0

@@ -5,16 +5,14 @@ use crate::handed_off::HandedOff;
 use crate::seat::Seat;
 use decisions::Inventory;
 use event_queue::{EventPort, WaitingEvents};
-use guest_mem::GuestMem;
 use phases::OpenFunction;
 use std::marker::Model;
 use unit_history::{Changes, UnitState};
 
-/// The parts of the device: memory, queues with their slots, units, seats, the hand-off, the function, the event port
-/// and the events that wait for it.
+/// The parts of the device but memory: queues with their slots, units, seats, the hand-off, the function, the event
+/// port and the events that wait for it.
 #[derive(Drop)]
 pub(crate) struct Device {
-    pub(crate) memory: GuestMem,
     pub(crate) inventory: Inventory,
     pub(crate) bays: Vec<Bay>,
     pub(crate) units: Vec<UnitState>,
@@ -29,15 +27,13 @@ pub(crate) struct Device {
 }
 
 impl Model for Device {
-    ghost use Rattle.std.specs.Prelude.{map, false};
-    ghost use Rattle.device_model.specs.World.{PlainWorld};
+    ghost use Rattle.std.specs.Prelude.{map};
+    ghost use Rattle.world.specs.Apart.{PlainDevice};
     ghost use Rattle.world.specs.Kept.{seat_of, HasLists};
 
-    ghost Value = { PlainWorld };
+    ghost Value = { PlainDevice };
 
     ghost view = { λ d. record {
-      memory = d.memory;
-      shared = false;
       inventory = d.inventory;
       queues = d.bays.items;
       units = d.units.items;
@@ -52,10 +48,10 @@ impl Model for Device {
       tells_changes = d.tells_changes;
     } };
 
-    ghost invariant = { λ d. HasLists d.memory d.bays.items d.units.items d.seats.items d.port.limit };
+    ghost invariant = { λ d. HasLists d.units.items d.seats.items d.port.limit };
 }
 
-ghost use Rattle.std.specs.Prelude.{◌≡◌, ◌↔◌, ◌==◌, ◌&&◌, IsTrue};
+ghost use Rattle.std.specs.Prelude.{◌≡◌, ◌≤◌, ◌↔◌, ◌==◌, ◌&&◌, ℕ, Bool, false, List, [], IsTrue, length};
 
 /// Returns true if a unit has this address.
 fn has_address(unit: &UnitState, target: u8, lun: u16) -> bool
@@ -66,20 +62,13 @@ fn has_address(unit: &UnitState, target: u8, lun: u16) -> bool
 }
 
 impl Device {
-    ghost use Rattle.world.specs.Sound.{AreFew, AreFitting};
+    ghost use Rattle.world.specs.Apart.{standing};
     ghost use Rattle.world.specs.Views.{IsPlaceOf, FindsUnit, unit_at, GivesChanges};
-
-    /// Shows that the ring of each queue was made for a memory of this size.
-    pub(crate) fn fits(&self)
-        ensures { AreFitting self.now }
-    {
-        let _ = &self.memory;
-    }
 
     /// Returns the place of the unit of an address.
     pub(crate) fn place(&self, target: u8, lun: u16) -> Option<u16>
-        requires few { AreFew self.now }
-        ensures { IsPlaceOf self.now target lun result }
+        requires few { length self.now.units ≤ 64 }
+        ensures { (shared : Bool) (m : List ℕ) → IsPlaceOf (standing shared m self.now) target lun result }
     {
         for place in 0..self.units.len() {
             if has_address(&self.units[place], target, lun) {
@@ -91,7 +80,7 @@ impl Device {
 
     /// Returns where the first unit of an address stands.
     fn unit_place(&self, target: u8, lun: u16) -> Option<usize>
-        ensures { FindsUnit self.now target lun result }
+        ensures { FindsUnit (standing false [] self.now) target lun result }
     {
         for place in 0..self.units.len() {
             if has_address(&self.units[place], target, lun) {
@@ -104,7 +93,7 @@ impl Device {
     /// Returns which blocks of the unit of an address may have changed, and starts anew.
     pub(crate) fn take_changes(&mut self, target: u8, lun: u16) -> Option<Changes>
         ensures same { self.new ≡ self.old }
-        ensures changes { GivesChanges (unit_at self.old target lun) result }
+        ensures changes { GivesChanges (unit_at (standing false [] self.old) target lun) result }
     {
         match self.unit_place(target, lun) {
             Some(place) => Some(self.units[place].take_changes()),

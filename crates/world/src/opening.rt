@@ -1,12 +1,13 @@
 //! The opening of the device.
 
-ghost use Rattle.std.specs.Prelude.{◌≡◌, ◌≤◌, [], length, map, IfOk, IsFalse, IsTrue, true};
+ghost use Rattle.std.specs.Prelude.{◌≡◌, ◌≤◌, [], length, map, replicate, IfOk, IsFalse, IsTrue, true, false};
 ghost use Rattle.decisions.specs.Inventory.{address_of};
 ghost use Rattle.std.specs.List.{list_all};
-ghost use Rattle.config.specs.Config.{is_config, is_queue};
+ghost use Rattle.config.specs.Config.{is_config, is_queue, size_of};
 ghost use Rattle.ring_core.specs.State.{features_of};
 ghost use Rattle.device_model.specs.World.{Everywhere};
 ghost use Rattle.std.specs.Vec.{vec_capacity};
+ghost use Rattle.world.specs.Apart.{standing};
 ghost use Rattle.world.specs.Opening.{AreOpening, AreFresh, AreSeats, IsOpening, AreDisksOf, opening_unit, AreDisksFor, over_disks};
 
 use crate::bay::Bay;
@@ -96,23 +97,25 @@ fn open_seats(alloc: Global, count: usize, limit: usize) -> Result<Vec<Seat>, No
     Ok(seats)
 }
 
-/// Makes the parts of the device of a configuration that is valid.
-pub(crate) fn open_device(alloc: Global, config: &Config) -> Result<Device, NoMemory>
-    requires { is_config config.now ≡ true }
-    ensures { IfOk result (λ d. IsOpening config.now d) }
+/// Makes the parts of the device of a configuration that is valid, whose queues lie in a memory of zeros.
+pub(crate) fn open_device(
+    alloc: Global,
+    config: &Config,
+    memory: &GuestMem,
+) -> Result<Device, NoMemory>
+    requires taken { is_config config.now ≡ true }
+    requires zeros { memory.now ≡ replicate (size_of config.now) 0 }
+    ensures { IfOk result (λ d. IsOpening config.now (standing false memory.now d)) }
 {
     let Some(form) = form(config.features) else {
         unreachable!()
-    };
-    let Ok(memory) = GuestMem::new(alloc, config.pages) else {
-        return Err(NoMemory);
     };
     let bays = open_bays(
         alloc,
         form,
         config.features,
         config.queues.as_slice(),
-        &memory,
+        memory,
     )?;
     let inventory = Inventory::new(config.units.as_slice());
     let units = open_units(alloc, config.units.as_slice(), &inventory)?;
@@ -128,7 +131,6 @@ pub(crate) fn open_device(alloc: Global, config: &Config) -> Result<Device, NoMe
         return Err(NoMemory);
     };
     Ok(Device {
-        memory,
         inventory,
         bays,
         units,

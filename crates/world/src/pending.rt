@@ -1,22 +1,25 @@
 //! Looks whether an event of the order applies, and changes nothing.
 
-ghost use Rattle.std.specs.Prelude.{◌≡◌, ◌<◌, true, length};
+ghost use Rattle.std.specs.Prelude.{◌≡◌, ◌<◌, ◌≤◌, ℕ, Bool, List, true, false, length};
 ghost use Rattle.device_model.specs.Order.{of_seat, IsQuietOf, NoneApplies};
 ghost use Rattle.device_model.specs.Events.{Event as AnEvent};
 ghost use Rattle.device_model.specs.Applies.{Applies};
 ghost use Rattle.device_model.specs.Happens.{IsOpenTo};
 ghost use Rattle.world.specs.Cursors.{Denies, of_function, NoDirect, NoSeat, NoEnter, NoFetch};
 ghost use Rattle.world.specs.Settling.{asks};
-ghost use Rattle.world.specs.Sound.{AreFew};
+ghost use Rattle.world.specs.Apart.{standing};
+ghost use Rattle.world.specs.Sound.{AreFew, AreFitting};
 
 use crate::device::Device;
 use crate::service::is_asked;
+use guest_mem::GuestMem;
 
 impl Device {
     /// Returns true if an event of the order applies, with new chains of the queues alone that are asked.
-    pub(crate) fn has_step(&self, queues: u32) -> bool
-        requires few { AreFew self.now }
-        ensures { Denies (IsQuietOf (asks queues) self.now) result }
+    pub(crate) fn has_step(&self, memory: &GuestMem, queues: u32) -> bool
+        requires few { AreFew (standing false memory.now self.now) }
+        requires fits { AreFitting (standing false memory.now self.now) }
+        ensures { Denies (IsQuietOf (asks queues) (standing false memory.now self.now)) result }
     {
         if self.function_goes_on() {
             return true;
@@ -33,12 +36,12 @@ impl Device {
         if self.has_arrival() {
             return true;
         }
-        self.has_chain(queues)
+        self.has_chain(memory, queues)
     }
 
     /// Returns true if the open function has a unit left to visit, is to be answered, or finds its next mark clear.
     fn function_goes_on(&self) -> bool
-        ensures { Denies (NoneApplies self.now of_function) result }
+        ensures { (shared : Bool) (m : List ℕ) → Denies (NoneApplies (standing shared m self.now) of_function) result }
     {
         let Some(open) = &self.function else {
             return false;
@@ -57,7 +60,7 @@ impl Device {
 
     /// Returns true if a queue has a chain that is ready to be answered.
     fn has_answer(&self) -> bool
-        ensures { Denies (NoDirect self.now) result }
+        ensures { (shared : Bool) (m : List ℕ) → Denies (NoDirect (standing shared m self.now)) result }
     {
         for number in 0..self.bays.len() {
             if self.bays[number].is_direct() {
@@ -69,8 +72,8 @@ impl Device {
 
     /// Returns true if a seat has a step to take.
     fn has_turn(&self) -> bool
-        requires few { AreFew self.now }
-        ensures { Denies (NoSeat self.now) result }
+        requires few { length self.now.seats ≤ 9 }
+        ensures { (shared : Bool) (m : List ℕ) → Denies (NoSeat (standing shared m self.now)) result }
     {
         for number in 0..self.seats.len() {
             if self.seat_goes_on(number as u16) {
@@ -83,7 +86,7 @@ impl Device {
     /// Returns true if this seat has a step to take: by its hand, with a job to hand off, or with one to take.
     fn seat_goes_on(&self, number: u16) -> bool
         requires there { number < length self.now.seats }
-        ensures { Denies (NoneApplies self.now (of_seat number)) result }
+        ensures { (shared : Bool) (m : List ℕ) → Denies (NoneApplies (standing shared m self.now) (of_seat number)) result }
     {
         let seat = &self.seats[number as usize];
         if !seat.has_empty_hand() {
@@ -100,7 +103,7 @@ impl Device {
 
     /// Returns true if a request arrived on a queue.
     fn has_arrival(&self) -> bool
-        ensures { Denies (NoEnter self.now) result }
+        ensures { (shared : Bool) (m : List ℕ) → Denies (NoEnter (standing shared m self.now)) result }
     {
         for number in 0..self.bays.len() {
             if self.bays[number].has_request() {
@@ -111,12 +114,13 @@ impl Device {
     }
 
     /// Returns true if a queue that is asked has a chain for the device.
-    fn has_chain(&self, queues: u32) -> bool
-        requires few { AreFew self.now }
-        ensures { Denies (NoFetch (asks queues) self.now) result }
+    fn has_chain(&self, memory: &GuestMem, queues: u32) -> bool
+        requires few { AreFew (standing false memory.now self.now) }
+        requires fits { AreFitting (standing false memory.now self.now) }
+        ensures { Denies (NoFetch (asks queues) (standing false memory.now self.now)) result }
     {
         for number in 0..self.bays.len() {
-            if self.queue_goes_on(number as u16, queues) {
+            if self.queue_goes_on(memory, number as u16, queues) {
                 return true;
             }
         }
@@ -125,7 +129,7 @@ impl Device {
 
     /// Returns true if no chain is taken from this queue now: from the control queue, while a function is open.
     fn is_closed_to(&self, number: u16) -> bool
-        ensures { Denies (IsOpenTo self.now number) result }
+        ensures { (shared : Bool) (m : List ℕ) → Denies (IsOpenTo (standing shared m self.now) number) result }
     {
         if number != 0 {
             return false;
@@ -134,10 +138,11 @@ impl Device {
     }
 
     /// Returns true if this queue is asked and has a chain for the device.
-    fn queue_goes_on(&self, number: u16, queues: u32) -> bool
-        requires few { AreFew self.now }
+    fn queue_goes_on(&self, memory: &GuestMem, number: u16, queues: u32) -> bool
+        requires few { AreFew (standing false memory.now self.now) }
+        requires fits { AreFitting (standing false memory.now self.now) }
         requires there { number < length self.now.queues }
-        ensures { Denies (asks queues number ≡ true → Applies self.now (AnEvent.Fetch number) → ⊥) result }
+        ensures { Denies (asks queues number ≡ true → Applies (standing false memory.now self.now) (AnEvent.Fetch number) → ⊥) result }
     {
         if !is_asked(queues, number) {
             return false;
@@ -145,6 +150,6 @@ impl Device {
         if self.is_closed_to(number) {
             return false;
         }
-        self.bays[number as usize].has_chain(&self.memory)
+        self.bays[number as usize].has_chain(memory)
     }
 }

@@ -1,14 +1,15 @@
 //! The order in which a device serves what is there: the first event of it that applies, one after another. It doesn't
 //! look again at what a step can't have woken.
 
-ghost use Rattle.std.specs.Prelude.{◌≡◌, ◌≤◌, ◌<◌, IsTrue, Some, true, slice_get, length};
+ghost use Rattle.std.specs.Prelude.{◌≡◌, ◌≤◌, ◌<◌, ℕ, Bool, List, IsTrue, Some, true, false, slice_get, length};
 ghost use Rattle.device_model.specs.Order.{of_seat};
 ghost use Rattle.device_model.specs.Parts.{Hand};
 ghost use Rattle.device_model.specs.Phases.{HasHand};
 ghost use Rattle.world.specs.Cursors.{TurnsFirst, of_function, TurnsNext, FetchesOn, MayServe, NoneBefore, NoneBeforeFetch, NoFetchBelow, EntersNext, FetchesNext, LeavesNext};
 ghost use Rattle.world.specs.Cursors.{NoStart, NoDirect, NoSeat};
 ghost use Rattle.world.specs.Settling.{asks, asks_all};
-ghost use Rattle.world.specs.Sound.{AreFew, IsSound, IsWhole};
+ghost use Rattle.world.specs.Apart.{standing};
+ghost use Rattle.world.specs.Sound.{AreFew, AreFitting, IsSound, IsWhole};
 
 use crate::cursor::{
     AT_ONCE, Cursor, Progress, first_direct, first_enter, first_seat, is_fetch, is_start, one,
@@ -19,6 +20,7 @@ use crate::seat::Stage;
 use crate::sound::all_are_sound;
 use crate::steps::owner;
 use block_store::NoMemory;
+use guest_mem::GuestMem;
 use phases::{Slot, Taken, serve_request, take_request};
 use scsi_codec::{CONTROL_QUEUE, EVENT_QUEUE, FIRST_REQUEST_QUEUE};
 
@@ -42,14 +44,16 @@ pub(crate) fn is_asked(queues: u32, number: u16) -> bool
 
 impl Device {
     /// Takes a step of the open function.
-    fn turn_function(&mut self) -> bool
-        requires sound { IsSound self.old }
-        ensures { TurnsFirst of_function self.old result self.new }
+    fn turn_function(&mut self, memory: &mut GuestMem) -> bool
+        requires sound { IsSound (standing false memory.old self.old) }
+        requires fits { AreFitting (standing false memory.old self.old) }
+        ensures turns { TurnsFirst of_function (standing false memory.old self.old) result (standing false memory.new self.new) }
+        ensures size { length memory.new ≡ length memory.old }
     {
         if self.function.is_none() {
             return false;
         }
-        if self.answer_tmf() {
+        if self.answer_tmf(memory) {
             return true;
         }
         if self.check() {
@@ -59,9 +63,11 @@ impl Device {
     }
 
     /// Takes a step of a seat: which one is seen by its hand alone, unless that is empty.
-    fn turn_seat(&mut self, number: u16) -> bool
-        requires sound { IsSound self.old }
-        ensures { TurnsFirst (of_seat number) self.old result self.new }
+    fn turn_seat(&mut self, memory: &mut GuestMem, number: u16) -> bool
+        requires sound { IsSound (standing false memory.old self.old) }
+        requires fits { AreFitting (standing false memory.old self.old) }
+        ensures turns { TurnsFirst (of_seat number) (standing false memory.old self.old) result (standing false memory.new self.new) }
+        ensures size { length memory.new ≡ length memory.old }
     {
         let at = number as usize;
         if at >= self.seats.len() {
@@ -69,17 +75,19 @@ impl Device {
         }
         match self.seats[at].stage() {
             Stage::Answered => self.leave(number),
-            Stage::Done => self.answer(number),
+            Stage::Done => self.answer(memory, number),
             Stage::Taken => self.commit(number),
-            Stage::Empty => self.turn_free(number),
+            Stage::Empty => self.turn_free(memory, number),
         }
     }
 
     /// Takes a step of a seat that has nothing in hand.
-    fn turn_free(&mut self, number: u16) -> bool
-        requires sound { IsSound self.old }
-        requires free { HasHand self.old number Hand.Empty }
-        ensures { TurnsFirst (of_seat number) self.old result self.new }
+    fn turn_free(&mut self, memory: &mut GuestMem, number: u16) -> bool
+        requires sound { IsSound (standing false memory.old self.old) }
+        requires fits { AreFitting (standing false memory.old self.old) }
+        requires free { HasHand (standing false memory.old self.old) number Hand.Empty }
+        ensures turns { TurnsFirst (of_seat number) (standing false memory.old self.old) result (standing false memory.new self.new) }
+        ensures size { length memory.new ≡ length memory.old }
     {
         if self.put(number) {
             return true;
@@ -92,136 +100,158 @@ impl Device {
     #[inline(always)]
     pub(crate) fn turn(
         &mut self,
+        memory: &mut GuestMem,
         cursor: Cursor,
         queues: u32,
         most: u64,
     ) -> Result<Option<Progress>, NoMemory>
         requires most { 1 ≤ most }
-        requires whole { IsWhole self.old }
-        requires sound { IsSound self.old }
-        requires few { AreFew self.old }
-        requires before { NoneBefore cursor self.old }
-        ensures { TurnsNext (asks queues) most self.old result self.new }
+        requires whole { IsWhole (standing false memory.old self.old) }
+        requires sound { IsSound (standing false memory.old self.old) }
+        requires fits { AreFitting (standing false memory.old self.old) }
+        requires few { AreFew (standing false memory.old self.old) }
+        requires before { NoneBefore cursor (standing false memory.old self.old) }
+        ensures turns { TurnsNext (asks queues) most (standing false memory.old self.old) result (standing false memory.new self.new) }
+        ensures size { length memory.new ≡ length memory.old }
     {
         if is_fetch(cursor) {
-            return self.from_fetch(queues, most);
+            return self.from_fetch(memory, queues, most);
         }
-        self.from_start(cursor, queues, most)
+        self.from_start(memory, cursor, queues, most)
     }
 
     /// Does the same where more than the queues is to be looked at, apart so that requests served at once pass it by.
     #[inline(never)]
     fn from_start(
         &mut self,
+        memory: &mut GuestMem,
         cursor: Cursor,
         queues: u32,
         most: u64,
     ) -> Result<Option<Progress>, NoMemory>
         requires most { 1 ≤ most }
-        requires whole { IsWhole self.old }
-        requires sound { IsSound self.old }
-        requires few { AreFew self.old }
-        requires before { NoneBefore cursor self.old }
-        ensures { TurnsNext (asks queues) most self.old result self.new }
+        requires whole { IsWhole (standing false memory.old self.old) }
+        requires sound { IsSound (standing false memory.old self.old) }
+        requires fits { AreFitting (standing false memory.old self.old) }
+        requires few { AreFew (standing false memory.old self.old) }
+        requires before { NoneBefore cursor (standing false memory.old self.old) }
+        ensures turns { TurnsNext (asks queues) most (standing false memory.old self.old) result (standing false memory.new self.new) }
+        ensures size { length memory.new ≡ length memory.old }
     {
         if is_start(cursor) {
-            if self.turn_function() {
+            if self.turn_function(memory) {
                 return Ok(Some(one(Cursor::Start)));
             }
-            if self.raise() {
+            if self.raise(memory) {
                 return Ok(Some(one(Cursor::Start)));
             }
         }
-        self.from_direct(cursor, queues, most)
+        self.from_direct(memory, cursor, queues, most)
     }
 
     /// Goes on from the answers that are ready, where the cursor isn't past them.
     #[inline(always)]
     fn from_direct(
         &mut self,
+        memory: &mut GuestMem,
         cursor: Cursor,
         queues: u32,
         most: u64,
     ) -> Result<Option<Progress>, NoMemory>
         requires most { 1 ≤ most }
-        requires whole { IsWhole self.old }
-        requires sound { IsSound self.old }
-        requires few { AreFew self.old }
-        requires start { NoStart self.old }
-        requires before { NoneBefore cursor self.old }
-        ensures { TurnsNext (asks queues) most self.old result self.new }
+        requires whole { IsWhole (standing false memory.old self.old) }
+        requires sound { IsSound (standing false memory.old self.old) }
+        requires fits { AreFitting (standing false memory.old self.old) }
+        requires few { AreFew (standing false memory.old self.old) }
+        requires start { NoStart (standing false memory.old self.old) }
+        requires before { NoneBefore cursor (standing false memory.old self.old) }
+        ensures turns { TurnsNext (asks queues) most (standing false memory.old self.old) result (standing false memory.new self.new) }
+        ensures size { length memory.new ≡ length memory.old }
     {
         for number in first_direct(cursor, self.bays.len())..self.bays.len() {
-            if self.direct(number as u16) {
+            if self.direct(memory, number as u16) {
                 return Ok(Some(one(Cursor::Direct(number as u16))));
             }
         }
-        self.from_seats(cursor, queues, most)
+        self.from_seats(memory, cursor, queues, most)
     }
 
     /// Goes on from the seats, where the cursor isn't past them.
     #[inline(always)]
     fn from_seats(
         &mut self,
+        memory: &mut GuestMem,
         cursor: Cursor,
         queues: u32,
         most: u64,
     ) -> Result<Option<Progress>, NoMemory>
         requires most { 1 ≤ most }
-        requires whole { IsWhole self.old }
-        requires sound { IsSound self.old }
-        requires few { AreFew self.old }
-        requires start { NoStart self.old }
-        requires direct { NoDirect self.old }
-        requires before { NoneBefore cursor self.old }
-        ensures { TurnsNext (asks queues) most self.old result self.new }
+        requires whole { IsWhole (standing false memory.old self.old) }
+        requires sound { IsSound (standing false memory.old self.old) }
+        requires fits { AreFitting (standing false memory.old self.old) }
+        requires few { AreFew (standing false memory.old self.old) }
+        requires start { NoStart (standing false memory.old self.old) }
+        requires direct { NoDirect (standing false memory.old self.old) }
+        requires before { NoneBefore cursor (standing false memory.old self.old) }
+        ensures turns { TurnsNext (asks queues) most (standing false memory.old self.old) result (standing false memory.new self.new) }
+        ensures size { length memory.new ≡ length memory.old }
     {
         for number in first_seat(cursor, self.seats.len())..self.seats.len() {
-            if self.turn_seat(number as u16) {
+            if self.turn_seat(memory, number as u16) {
                 return Ok(Some(one(self.after_seat())));
             }
         }
-        self.from_enter(cursor, queues, most)
+        self.from_enter(memory, cursor, queues, most)
     }
 
     /// Goes on from the requests that arrived, where the cursor isn't past them.
     #[inline(always)]
     fn from_enter(
         &mut self,
+        memory: &mut GuestMem,
         cursor: Cursor,
         queues: u32,
         most: u64,
     ) -> Result<Option<Progress>, NoMemory>
         requires most { 1 ≤ most }
-        requires whole { IsWhole self.old }
-        requires sound { IsSound self.old }
-        requires few { AreFew self.old }
-        requires start { NoStart self.old }
-        requires direct { NoDirect self.old }
-        requires seat { NoSeat self.old }
-        requires before { NoneBefore cursor self.old }
-        ensures { TurnsNext (asks queues) most self.old result self.new }
+        requires whole { IsWhole (standing false memory.old self.old) }
+        requires sound { IsSound (standing false memory.old self.old) }
+        requires fits { AreFitting (standing false memory.old self.old) }
+        requires few { AreFew (standing false memory.old self.old) }
+        requires start { NoStart (standing false memory.old self.old) }
+        requires direct { NoDirect (standing false memory.old self.old) }
+        requires seat { NoSeat (standing false memory.old self.old) }
+        requires before { NoneBefore cursor (standing false memory.old self.old) }
+        ensures turns { TurnsNext (asks queues) most (standing false memory.old self.old) result (standing false memory.new self.new) }
+        ensures size { length memory.new ≡ length memory.old }
     {
         for number in first_enter(cursor, self.bays.len())..self.bays.len() {
             if self.enter(number as u16) {
                 return Ok(Some(one(self.after_enter(number as u16))));
             }
         }
-        self.from_fetch(queues, most)
+        self.from_fetch(memory, queues, most)
     }
 
     /// Looks for a chain on the queues that are asked, by rising number.
     #[inline(always)]
-    fn from_fetch(&mut self, queues: u32, most: u64) -> Result<Option<Progress>, NoMemory>
+    fn from_fetch(
+        &mut self,
+        memory: &mut GuestMem,
+        queues: u32,
+        most: u64,
+    ) -> Result<Option<Progress>, NoMemory>
         requires most { 1 ≤ most }
-        requires whole { IsWhole self.old }
-        requires sound { IsSound self.old }
-        requires few { AreFew self.old }
-        requires before { NoneBeforeFetch self.old }
-        ensures { TurnsNext (asks queues) most self.old result self.new }
+        requires whole { IsWhole (standing false memory.old self.old) }
+        requires sound { IsSound (standing false memory.old self.old) }
+        requires fits { AreFitting (standing false memory.old self.old) }
+        requires few { AreFew (standing false memory.old self.old) }
+        requires before { NoneBeforeFetch (standing false memory.old self.old) }
+        ensures turns { TurnsNext (asks queues) most (standing false memory.old self.old) result (standing false memory.new self.new) }
+        ensures size { length memory.new ≡ length memory.old }
     {
-        for number in self.first_fetch()..self.bays.len() {
-            match self.serve_queue(number as u16, queues, most) {
+        for number in self.first_fetch(memory)..self.bays.len() {
+            match self.serve_queue(memory, number as u16, queues, most) {
                 Ok(None) => {}
                 Ok(Some(served)) => return Ok(Some(served)),
                 Err(NoMemory) => return Err(NoMemory),
@@ -232,11 +262,15 @@ impl Device {
 
     /// Returns the first queue that may have a chain, as far as the control queue and the event queue tell.
     #[inline(always)]
-    fn first_fetch(&self) -> usize
-        requires sound { IsSound self.now }
-        ensures below { NoFetchBelow asks_all result self.now }
+    fn first_fetch(&self, memory: &GuestMem) -> usize
+        requires sound { IsSound (standing false memory.now self.now) }
+        requires fits { AreFitting (standing false memory.now self.now) }
+        ensures below { NoFetchBelow asks_all result (standing false memory.now self.now) }
     {
-        if self.bays.len() >= 2 && self.is_idle(CONTROL_QUEUE) && self.is_idle(EVENT_QUEUE) {
+        if self.bays.len() >= 2
+            && self.is_idle(memory, CONTROL_QUEUE)
+            && self.is_idle(memory, EVENT_QUEUE)
+        {
             FIRST_REQUEST_QUEUE as usize
         } else {
             0
@@ -248,26 +282,29 @@ impl Device {
     #[inline(always)]
     fn serve_queue(
         &mut self,
+        memory: &mut GuestMem,
         number: u16,
         queues: u32,
         most: u64,
     ) -> Result<Option<Progress>, NoMemory>
         requires most { 1 ≤ most }
-        requires whole { IsWhole self.old }
-        requires sound { IsSound self.old }
-        requires few { AreFew self.old }
-        requires before { NoneBeforeFetch self.old }
-        requires below { NoFetchBelow (asks queues) number self.old }
+        requires whole { IsWhole (standing false memory.old self.old) }
+        requires sound { IsSound (standing false memory.old self.old) }
+        requires fits { AreFitting (standing false memory.old self.old) }
+        requires few { AreFew (standing false memory.old self.old) }
+        requires before { NoneBeforeFetch (standing false memory.old self.old) }
+        requires below { NoFetchBelow (asks queues) number (standing false memory.old self.old) }
         requires there { number < length self.old.queues }
-        ensures { FetchesOn (asks queues) most number self.old result self.new }
+        ensures turns { FetchesOn (asks queues) most number (standing false memory.old self.old) result (standing false memory.new self.new) }
+        ensures size { length memory.new ≡ length memory.old }
     {
         if !is_asked(queues, number) {
             return Ok(None);
         }
-        if self.is_idle(number) {
+        if self.is_idle(memory, number) {
             return Ok(None);
         }
-        self.serve_next(number, queues, most)
+        self.serve_next(memory, number, queues, most)
     }
 
     /// Takes the next chain of a queue that is asked, and does at once what may be done of it.
@@ -275,24 +312,27 @@ impl Device {
     #[inline(never)]
     fn serve_next(
         &mut self,
+        memory: &mut GuestMem,
         number: u16,
         queues: u32,
         most: u64,
     ) -> Result<Option<Progress>, NoMemory>
         requires most { 1 ≤ most }
-        requires whole { IsWhole self.old }
-        requires sound { IsSound self.old }
-        requires few { AreFew self.old }
-        requires before { NoneBeforeFetch self.old }
-        requires below { NoFetchBelow (asks queues) number self.old }
+        requires whole { IsWhole (standing false memory.old self.old) }
+        requires sound { IsSound (standing false memory.old self.old) }
+        requires fits { AreFitting (standing false memory.old self.old) }
+        requires few { AreFew (standing false memory.old self.old) }
+        requires before { NoneBeforeFetch (standing false memory.old self.old) }
+        requires below { NoFetchBelow (asks queues) number (standing false memory.old self.old) }
         requires there { number < length self.old.queues }
         requires asked { asks queues number ≡ true }
-        ensures { FetchesOn (asks queues) most number self.old result self.new }
+        ensures turns { FetchesOn (asks queues) most number (standing false memory.old self.old) result (standing false memory.new self.new) }
+        ensures size { length memory.new ≡ length memory.old }
     {
         if most >= AT_ONCE && self.serves_at_once(number) {
-            return self.serve(number, queues, most);
+            return self.serve(memory, number, queues, most);
         }
-        match self.fetch(number) {
+        match self.fetch(memory, number) {
             Ok(false) => Ok(None),
             Ok(true) => Ok(Some(one(self.after_fetch(number)))),
             Err(NoMemory) => Err(NoMemory),
@@ -301,8 +341,8 @@ impl Device {
 
     /// Returns true if a request of a queue is served by the first seat and nothing stands between.
     fn serves_at_once(&self, number: u16) -> bool
-        requires sound { IsSound self.now }
-        ensures { IsTrue result → MayServe number self.now }
+        requires working { 1 ≤ self.now.workers }
+        ensures { (shared : Bool) (m : List ℕ) → IsTrue result → MayServe number (standing shared m self.now) }
     {
         let at = number as usize;
         number >= 2
@@ -317,18 +357,26 @@ impl Device {
 
     /// Takes a request queue's next chain, and serves its request to the end, if nothing blocks it.
     #[inline(always)]
-    fn serve(&mut self, number: u16, queues: u32, most: u64) -> Result<Option<Progress>, NoMemory>
+    fn serve(
+        &mut self,
+        memory: &mut GuestMem,
+        number: u16,
+        queues: u32,
+        most: u64,
+    ) -> Result<Option<Progress>, NoMemory>
         requires most { AT_ONCE ≤ most }
-        requires whole { IsWhole self.old }
-        requires before { NoneBeforeFetch self.old }
-        requires below { NoFetchBelow (asks queues) number self.old }
+        requires whole { IsWhole (standing false memory.old self.old) }
+        requires fits { AreFitting (standing false memory.old self.old) }
+        requires before { NoneBeforeFetch (standing false memory.old self.old) }
+        requires below { NoFetchBelow (asks queues) number (standing false memory.old self.old) }
         requires asked { asks queues number ≡ true }
-        requires at_once { MayServe number self.old }
-        ensures { FetchesOn (asks queues) most number self.old result self.new }
+        requires at_once { MayServe number (standing false memory.old self.old) }
+        ensures turns { FetchesOn (asks queues) most number (standing false memory.old self.old) result (standing false memory.new self.new) }
+        ensures size { length memory.new ≡ length memory.old }
     {
         all_are_sound();
         let bay = &mut self.bays[number as usize];
-        match take_request(&mut bay.queue, &mut bay.slot, &self.memory, &self.inventory) {
+        match take_request(&mut bay.queue, &mut bay.slot, memory, &self.inventory) {
             Err(NoMemory) => Err(NoMemory),
             Ok(Taken::Nothing) => Ok(None),
             Ok(Taken::Other) => Ok(Some(one(Cursor::Start))),
@@ -341,7 +389,7 @@ impl Device {
                 let done = serve_request(
                     &mut self.units[place],
                     &mut bay.queue,
-                    &mut self.memory,
+                    memory,
                     &mut bay.slot,
                     arrival,
                     &mut self.seats[0].out,
@@ -353,7 +401,7 @@ impl Device {
 
     /// Returns where to look once a seat took a step: a function may find its mark clear.
     fn after_seat(&self) -> Cursor
-        ensures { LeavesNext self.now result }
+        ensures { (shared : Bool) (m : List ℕ) → LeavesNext (standing shared m self.now) result }
     {
         if self.function.is_some() {
             Cursor::Start
@@ -364,7 +412,7 @@ impl Device {
 
     /// Returns where to look once a request came to its unit: it may be answered at once.
     fn after_enter(&self, number: u16) -> Cursor
-        ensures { EntersNext number self.now result }
+        ensures { (shared : Bool) (m : List ℕ) → EntersNext number (standing shared m self.now) result }
     {
         let at = number as usize;
         if at < self.bays.len() && self.bays[at].slot.is_empty() {
@@ -376,7 +424,7 @@ impl Device {
 
     /// Returns where to look once a queue took a chain: a request comes to its unit next.
     fn after_fetch(&self, number: u16) -> Cursor
-        ensures { FetchesNext number self.now result }
+        ensures { (shared : Bool) (m : List ℕ) → FetchesNext number (standing shared m self.now) result }
     {
         let at = number as usize;
         if at < self.bays.len() && self.function.is_none() && self.bays[at].slot.unit().is_some() {

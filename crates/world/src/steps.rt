@@ -1,15 +1,17 @@
 //! Each event's step on the parts of the device.
 
-ghost use Rattle.std.specs.Prelude.{◌≡◌, ◌≤◌, IsTrue};
+ghost use Rattle.std.specs.Prelude.{◌≡◌, ◌≤◌, ◌+◌, Bool, false, IsTrue, length};
 ghost use Rattle.device_model.specs.World.{owner};
 ghost use Rattle.device_model.specs.Events.{Event as AnEvent};
 ghost use Rattle.device_model.specs.Applies.{Applies};
 ghost use Rattle.device_model.specs.Turns.{Turns};
 ghost use Rattle.world.specs.Steps.{TurnsOrWants};
-ghost use Rattle.world.specs.Sound.{AreFew, IsSound};
+ghost use Rattle.world.specs.Apart.{PlainDevice, standing, TurnsAlone, TurnsAloneOrWants};
+ghost use Rattle.world.specs.Sound.{AreFew, AreFitting, IsSound};
 
 use crate::device::Device;
 use block_store::NoMemory;
+use guest_mem::GuestMem;
 use phases::{
     ResetFault, ResizeFault, phase_answer, phase_answer_tmf, phase_check, phase_commit,
     phase_direct, phase_enter, phase_fetch, phase_fetch_control, phase_fetch_event, phase_hard,
@@ -28,57 +30,66 @@ pub(crate) fn owner(workers: u16, queue: u16) -> usize
     ((queue - 2) % workers) as usize
 }
 
-impl Device {
-    /// Writes the guest's bytes at an address, where all of them lie in memory.
-    pub(crate) fn poke(&mut self, addr: u64, bytes: &[u8]) -> bool
-        ensures { Turns self.old (AnEvent.Poke (record { addr = addr; bytes = bytes.now })) result self.new }
-    {
-        self.memory.write(addr, bytes).is_ok()
-    }
+/// Writes the guest's bytes at an address, where all of them lie in memory.
+pub(crate) fn poke(memory: &mut GuestMem, addr: u64, bytes: &[u8]) -> bool
+    ensures turns { (shared : Bool) (d : PlainDevice) → Turns (standing shared memory.old d)
+        (AnEvent.Poke (record { addr = addr; bytes = bytes.now })) result (standing shared memory.new d) }
+    ensures size { length memory.new ≡ length memory.old }
+{
+    memory.write(addr, bytes).is_ok()
+}
 
+impl Device {
     /// Returns true if a queue has nothing to take, by which little more than its index is looked at.
-    pub(crate) fn is_idle(&self, number: u16) -> bool
-        requires sound { IsSound self.now }
-        ensures { IsTrue result → Applies self.now (AnEvent.Fetch number) → ⊥ }
+    pub(crate) fn is_idle(&self, memory: &GuestMem, number: u16) -> bool
+        requires sound { IsSound (standing false memory.now self.now) }
+        requires fits { AreFitting (standing false memory.now self.now) }
+        ensures { IsTrue result → Applies (standing false memory.now self.now) (AnEvent.Fetch number) → ⊥ }
     {
         let at = number as usize;
-        at >= self.bays.len() || self.bays[at].queue.is_idle(&self.memory)
+        at >= self.bays.len() || self.bays[at].queue.is_idle(memory)
     }
 
     /// Has a queue take its next chain.
-    pub(crate) fn fetch(&mut self, number: u16) -> Result<bool, NoMemory>
-        requires sound { IsSound self.old }
-        requires few { AreFew self.old }
-        ensures { TurnsOrWants self.old (AnEvent.Fetch number) result self.new }
+    pub(crate) fn fetch(&mut self, memory: &mut GuestMem, number: u16) -> Result<bool, NoMemory>
+        requires sound { IsSound (standing false memory.old self.old) }
+        requires fits { AreFitting (standing false memory.old self.old) }
+        requires few { AreFew (standing false memory.old self.old) }
+        ensures turns { TurnsOrWants (standing false memory.old self.old) (AnEvent.Fetch number) result (standing false memory.new self.new) }
+        ensures size { length memory.new ≡ length memory.old }
     {
-        if self.is_idle(number) {
+        if self.is_idle(memory, number) {
             return Ok(false);
         }
         match number {
-            0 => self.fetch_control(),
-            1 => self.fetch_event(),
-            _ => self.fetch_request(number),
+            0 => self.fetch_control(memory),
+            1 => self.fetch_event(memory),
+            _ => self.fetch_request(memory, number),
         }
     }
 
     /// Takes the next chain of a request queue.
-    fn fetch_request(&mut self, number: u16) -> Result<bool, NoMemory>
-        requires sound { IsSound self.old }
+    fn fetch_request(&mut self, memory: &mut GuestMem, number: u16) -> Result<bool, NoMemory>
+        requires sound { IsSound (standing false memory.old self.old) }
+        requires fits { AreFitting (standing false memory.old self.old) }
         requires request { 2 ≤ number }
-        ensures { TurnsOrWants self.old (AnEvent.Fetch number) result self.new }
+        ensures turns { TurnsOrWants (standing false memory.old self.old) (AnEvent.Fetch number) result (standing false memory.new self.new) }
+        ensures size { length memory.new ≡ length memory.old }
     {
         let at = number as usize;
         if at >= self.bays.len() {
             return Ok(false);
         }
         let bay = &mut self.bays[at];
-        phase_fetch(&mut bay.queue, &mut bay.slot, &self.memory, &self.inventory)
+        phase_fetch(&mut bay.queue, &mut bay.slot, memory, &self.inventory)
     }
 
     /// Takes the next chain of the control queue.
-    fn fetch_control(&mut self) -> Result<bool, NoMemory>
-        requires sound { IsSound self.old }
-        ensures { TurnsOrWants self.old (AnEvent.Fetch 0) result self.new }
+    fn fetch_control(&mut self, memory: &mut GuestMem) -> Result<bool, NoMemory>
+        requires sound { IsSound (standing false memory.old self.old) }
+        requires fits { AreFitting (standing false memory.old self.old) }
+        ensures turns { TurnsOrWants (standing false memory.old self.old) (AnEvent.Fetch 0) result (standing false memory.new self.new) }
+        ensures size { length memory.new ≡ length memory.old }
     {
         if self.bays.is_empty() {
             return Ok(false);
@@ -88,28 +99,30 @@ impl Device {
             &mut bay.queue,
             &mut bay.slot,
             &mut self.function,
-            &self.memory,
+            memory,
             &self.inventory,
         )
     }
 
     /// Takes the next chain of the event queue.
-    fn fetch_event(&mut self) -> Result<bool, NoMemory>
-        requires sound { IsSound self.old }
-        requires few { AreFew self.old }
-        ensures { TurnsOrWants self.old (AnEvent.Fetch 1) result self.new }
+    fn fetch_event(&mut self, memory: &mut GuestMem) -> Result<bool, NoMemory>
+        requires sound { IsSound (standing false memory.old self.old) }
+        requires fits { AreFitting (standing false memory.old self.old) }
+        requires few { AreFew (standing false memory.old self.old) }
+        ensures turns { TurnsOrWants (standing false memory.old self.old) (AnEvent.Fetch 1) result (standing false memory.new self.new) }
+        ensures size { length memory.new ≡ length memory.old }
     {
         let bay = &mut self.bays[1];
         let _log = bay.queue.log();
-        phase_fetch_event(&mut bay.queue, &bay.slot, &mut self.port, &mut self.memory)
+        phase_fetch_event(&mut bay.queue, &bay.slot, &mut self.port, memory)
     }
 
     /// Brings the request that arrived on a queue to its unit.
     // As `direct`.
     #[inline(always)]
     pub(crate) fn enter(&mut self, number: u16) -> bool
-        requires sound { IsSound self.old }
-        ensures { Turns self.old (AnEvent.Enter number) result self.new }
+        requires working { 1 ≤ self.old.workers }
+        ensures { TurnsAlone self.old (AnEvent.Enter number) result self.new }
     {
         let at = number as usize;
         if number < 2 || at >= self.bays.len() {
@@ -132,22 +145,24 @@ impl Device {
     /// Answers the chain that is ready on a queue.
     // Within the loop over all queues the test of the slot costs no call.
     #[inline(always)]
-    pub(crate) fn direct(&mut self, number: u16) -> bool
-        requires sound { IsSound self.old }
-        ensures { Turns self.old (AnEvent.Direct number) result self.new }
+    pub(crate) fn direct(&mut self, memory: &mut GuestMem, number: u16) -> bool
+        requires sound { IsSound (standing false memory.old self.old) }
+        requires fits { AreFitting (standing false memory.old self.old) }
+        ensures turns { Turns (standing false memory.old self.old) (AnEvent.Direct number) result (standing false memory.new self.new) }
+        ensures size { length memory.new ≡ length memory.old }
     {
         let at = number as usize;
         if at >= self.bays.len() || !self.bays[at].is_direct() {
             return false;
         }
         let bay = &mut self.bays[at];
-        phase_direct(&mut bay.queue, &mut bay.slot, &mut self.memory).is_some()
+        phase_direct(&mut bay.queue, &mut bay.slot, memory).is_some()
     }
 
     /// Has a seat hand its next job off, or keep it where its list of the hand-off is full.
     pub(crate) fn put(&mut self, number: u16) -> bool
-        requires sound { IsSound self.old }
-        ensures { Turns self.old (AnEvent.Put number) result self.new }
+        requires lists { length self.old.handed_off ≡ length self.old.seats }
+        ensures { TurnsAlone self.old (AnEvent.Put number) result self.new }
     {
         let at = number as usize;
         if at >= self.seats.len() || !self.seats[at].has_empty_hand() {
@@ -166,8 +181,8 @@ impl Device {
 
     /// Has a worker take a job from the nearest list of the hand-off that isn't empty.
     pub(crate) fn take(&mut self, number: u16) -> bool
-        requires sound { IsSound self.old }
-        ensures { Turns self.old (AnEvent.Take number) result self.new }
+        requires lists { length self.old.handed_off ≡ length self.old.seats }
+        ensures { TurnsAlone self.old (AnEvent.Take number) result self.new }
     {
         let at = number as usize;
         if number >= self.workers || at >= self.seats.len() {
@@ -185,8 +200,7 @@ impl Device {
 
     /// Commits the job in a seat's hand.
     pub(crate) fn commit(&mut self, number: u16) -> bool
-        requires sound { IsSound self.old }
-        ensures { Turns self.old (AnEvent.Commit number) result self.new }
+        ensures { TurnsAlone self.old (AnEvent.Commit number) result self.new }
     {
         let at = number as usize;
         if at >= self.seats.len() {
@@ -202,9 +216,11 @@ impl Device {
     }
 
     /// Answers the job in a seat's hand.
-    pub(crate) fn answer(&mut self, number: u16) -> bool
-        requires sound { IsSound self.old }
-        ensures { Turns self.old (AnEvent.Answer number) result self.new }
+    pub(crate) fn answer(&mut self, memory: &mut GuestMem, number: u16) -> bool
+        requires sound { IsSound (standing false memory.old self.old) }
+        requires fits { AreFitting (standing false memory.old self.old) }
+        ensures turns { Turns (standing false memory.old self.old) (AnEvent.Answer number) result (standing false memory.new self.new) }
+        ensures size { length memory.new ≡ length memory.old }
     {
         let at = number as usize;
         if at >= self.seats.len() {
@@ -218,7 +234,7 @@ impl Device {
         }
         phase_answer(
             &mut self.bays[queue as usize].queue,
-            &mut self.memory,
+            memory,
             &mut self.seats[at].hand,
         )
         .is_some()
@@ -226,8 +242,7 @@ impl Device {
 
     /// Has the task in a seat's hand leave.
     pub(crate) fn leave(&mut self, number: u16) -> bool
-        requires sound { IsSound self.old }
-        ensures { Turns self.old (AnEvent.Leave number) result self.new }
+        ensures { TurnsAlone self.old (AnEvent.Leave number) result self.new }
     {
         let at = number as usize;
         if at >= self.seats.len() {
@@ -245,8 +260,7 @@ impl Device {
 
     /// Has the open function mark its next unit, or look at it.
     pub(crate) fn mark(&mut self) -> bool
-        requires sound { IsSound self.old }
-        ensures { Turns self.old AnEvent.Mark result self.new }
+        ensures { TurnsAlone self.old AnEvent.Mark result self.new }
     {
         let Some(open) = &mut self.function else {
             return false;
@@ -267,8 +281,7 @@ impl Device {
 
     /// Has the open function see that its first mark is clear.
     pub(crate) fn check(&mut self) -> bool
-        requires sound { IsSound self.old }
-        ensures { Turns self.old AnEvent.Check result self.new }
+        ensures { TurnsAlone self.old AnEvent.Check result self.new }
     {
         let Some(open) = &mut self.function else {
             return false;
@@ -284,7 +297,7 @@ impl Device {
 
     /// Makes the pages of the WRITE in a seat's hand, ahead of its commit. Nothing changes that anybody sees.
     pub(crate) fn prepare(&mut self, number: u16) -> bool
-        ensures { Turns self.old (AnEvent.Prepare number) result self.new }
+        ensures { TurnsAlone self.old (AnEvent.Prepare number) result self.new }
     {
         let at = number as usize;
         if at >= self.seats.len() {
@@ -304,25 +317,22 @@ impl Device {
     }
 
     /// Answers the open function.
-    pub(crate) fn answer_tmf(&mut self) -> bool
-        requires sound { IsSound self.old }
-        ensures { Turns self.old AnEvent.AnswerTmf result self.new }
+    pub(crate) fn answer_tmf(&mut self, memory: &mut GuestMem) -> bool
+        requires sound { IsSound (standing false memory.old self.old) }
+        requires fits { AreFitting (standing false memory.old self.old) }
+        ensures turns { Turns (standing false memory.old self.old) AnEvent.AnswerTmf result (standing false memory.new self.new) }
+        ensures size { length memory.new ≡ length memory.old }
     {
         if self.bays.is_empty() {
             return false;
         }
-        phase_answer_tmf(
-            &mut self.bays[0].queue,
-            &mut self.memory,
-            &mut self.function,
-        )
+        phase_answer_tmf(&mut self.bays[0].queue, memory, &mut self.function)
     }
 
     /// Resets a unit for the operator.
     pub(crate) fn hard(&mut self, place: u16) -> Result<bool, NoMemory>
-        requires sound { IsSound self.old }
-        requires few { AreFew self.old }
-        ensures { TurnsOrWants self.old (AnEvent.Hard place) result self.new }
+        requires seated { length self.old.seats ≡ self.old.workers + 1 }
+        ensures { TurnsAloneOrWants self.old (AnEvent.Hard place) result self.new }
     {
         let (at, seat) = (place as usize, self.workers as usize);
         if at >= self.units.len() {
@@ -343,9 +353,7 @@ impl Device {
 
     /// Gives the unit at a place so many blocks; nothing changes where there is none, or no unit may have so many.
     pub(crate) fn resize(&mut self, place: u16, blocks: u64) -> Result<bool, NoMemory>
-        requires sound { IsSound self.old }
-        requires few { AreFew self.old }
-        ensures { TurnsOrWants self.old (AnEvent.Resize place blocks) result self.new }
+        ensures { TurnsAloneOrWants self.old (AnEvent.Resize place blocks) result self.new }
     {
         let at = place as usize;
         if at >= self.units.len() {
@@ -368,14 +376,16 @@ impl Device {
     }
 
     /// Gives the oldest event that waits to the guest, or misses it.
-    pub(crate) fn raise(&mut self) -> bool
-        requires sound { IsSound self.old }
-        requires few { AreFew self.old }
-        ensures { Turns self.old AnEvent.Raise result self.new }
+    pub(crate) fn raise(&mut self, memory: &mut GuestMem) -> bool
+        requires sound { IsSound (standing false memory.old self.old) }
+        requires fits { AreFitting (standing false memory.old self.old) }
+        requires few { AreFew (standing false memory.old self.old) }
+        ensures turns { Turns (standing false memory.old self.old) AnEvent.Raise result (standing false memory.new self.new) }
+        ensures size { length memory.new ≡ length memory.old }
     {
         phase_raise(
             &mut self.bays[1].queue,
-            &mut self.memory,
+            memory,
             &mut self.port,
             &mut self.waiting,
         )

@@ -29,7 +29,7 @@ impl World {
     pub fn memory(&self) -> &GuestMem
         ensures { result.now ≡ self.now.memory }
     {
-        &self.device.memory
+        &self.memory
     }
 
     /// Returns how many queues there are.

@@ -8,29 +8,34 @@ use crate::device::Device;
 use crate::opening::{are_disks_for, disks_of, open_device};
 use crate::service::Served;
 use crate::sound::all_are_sound;
+use crate::steps::poke;
 use block_store::{NoMemory, PagedStore};
 use config::{Config, StartFault};
 use device_model::Event;
 use device_model::laws::every_run_goes_on;
 use device_model::trace_laws::the_promise_is_kept;
+use guest_mem::GuestMem;
 use std::alloc::Global;
 use std::marker::Model;
 
 /// The device: guest memory, its queues, its units and the seats that serve them, between two steps.
 #[derive(Drop)]
 pub struct World {
+    pub(crate) memory: GuestMem,
     pub(crate) device: Device,
 }
 
 impl Model for World {
+    ghost use Rattle.std.specs.Prelude.{false};
     ghost use Rattle.device_model.specs.World.{PlainWorld};
-    ghost use Rattle.world.specs.Sound.{IsWhole};
+    ghost use Rattle.world.specs.Apart.{standing};
+    ghost use Rattle.world.specs.Sound.{IsSteady};
 
     ghost Value = { PlainWorld };
 
-    ghost view = { λ w. w.device };
+    ghost view = { λ w. standing false w.memory w.device };
 
-    ghost invariant = { λ w. IsWhole w.device };
+    ghost invariant = { λ w. IsSteady (standing false w.memory w.device) };
 }
 
 impl World {
@@ -60,8 +65,11 @@ impl World {
         if !config.is_valid() {
             return Err(StartFault::BadConfig);
         }
-        match open_device(alloc, config) {
-            Ok(device) => Ok(World { device }),
+        let Ok(memory) = GuestMem::new(alloc, config.pages) else {
+            return Err(StartFault::NoMemory);
+        };
+        match open_device(alloc, config, &memory) {
+            Ok(device) => Ok(World { memory, device }),
             Err(NoMemory) => Err(StartFault::NoMemory),
         }
     }
@@ -128,7 +136,7 @@ impl World {
         requires room { length self.units ≤ vec_capacity empty }
         ensures { AreDisksOf self.units result.items }
     {
-        let World { device } = self;
+        let World { device, .. } = self;
         let Device { units, .. } = device;
         disks_of(units, empty)
     }
@@ -137,7 +145,7 @@ impl World {
     pub fn is_reached(&self)
         ensures { IsReached self.now }
     {
-        let _ = &self.device.memory;
+        let _ = &self.memory;
     }
 
     /// Shows that the ring of each queue was made for a memory of this size. Each chain that stands somewhere is its
@@ -145,7 +153,7 @@ impl World {
     pub fn fits(&self)
         ensures { AreFitting self.now }
     {
-        self.device.fits();
+        let _ = &self.memory;
     }
 
     /// Returns what each step rests on.
@@ -154,7 +162,7 @@ impl World {
         ensures few { AreFew self.now }
     {
         all_are_sound();
-        let _ = &self.device.memory;
+        let _ = &self.memory;
     }
 
     /// Takes one event, by reference.
@@ -163,22 +171,22 @@ impl World {
     {
         self.is_sound();
         match event {
-            Event::Poke(addr, bytes) => Ok(self.device.poke(*addr, bytes.as_slice())),
-            Event::Fetch(queue) => self.device.fetch(*queue),
+            Event::Poke(addr, bytes) => Ok(poke(&mut self.memory, *addr, bytes.as_slice())),
+            Event::Fetch(queue) => self.device.fetch(&mut self.memory, *queue),
             Event::Enter(queue) => Ok(self.device.enter(*queue)),
-            Event::Direct(queue) => Ok(self.device.direct(*queue)),
+            Event::Direct(queue) => Ok(self.device.direct(&mut self.memory, *queue)),
             Event::Put(seat) => Ok(self.device.put(*seat)),
             Event::Take(seat) => Ok(self.device.take(*seat)),
             Event::Prepare(seat) => Ok(self.device.prepare(*seat)),
             Event::Commit(seat) => Ok(self.device.commit(*seat)),
-            Event::Answer(seat) => Ok(self.device.answer(*seat)),
+            Event::Answer(seat) => Ok(self.device.answer(&mut self.memory, *seat)),
             Event::Leave(seat) => Ok(self.device.leave(*seat)),
             Event::Mark => Ok(self.device.mark()),
             Event::Check => Ok(self.device.check()),
-            Event::AnswerTmf => Ok(self.device.answer_tmf()),
+            Event::AnswerTmf => Ok(self.device.answer_tmf(&mut self.memory)),
             Event::Hard(place) => self.device.hard(*place),
             Event::Resize(place, blocks) => self.device.resize(*place, *blocks),
-            Event::Raise => Ok(self.device.raise()),
+            Event::Raise => Ok(self.device.raise(&mut self.memory)),
         }
     }
 
@@ -301,7 +309,7 @@ impl World {
         ensures { TurnsNext (asks queues) most self.old result self.new }
     {
         self.is_sound();
-        self.device.turn(cursor, queues, most)
+        self.device.turn(&mut self.memory, cursor, queues, most)
     }
 
     /// Returns true if an event of the order applies, with new chains of the queues alone that are asked.
@@ -310,7 +318,7 @@ impl World {
         ensures { Denies (IsQuietOf (asks queues) self.now) result }
     {
         self.is_sound();
-        self.device.has_step(queues)
+        self.device.has_step(&self.memory, queues)
     }
 
     /// Writes bytes as the guest at an address. Returns false, with nothing changed, where one of them would lie
@@ -322,6 +330,6 @@ impl World {
     {
         every_run_goes_on();
         the_promise_is_kept();
-        self.device.poke(addr, bytes)
+        poke(&mut self.memory, addr, bytes)
     }
 }

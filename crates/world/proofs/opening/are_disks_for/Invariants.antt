@@ -1,4 +1,4 @@
-use Rattle.std.proofs.Common.{◌≡◌, ◌<◌, ℕ, length, Some}
+use Rattle.std.proofs.Common.{◌≡◌, ◌<◌, ℕ, Some}
 use Rattle.std.specs.Prelude.{slice_get}
 use Rattle.block_store.specs.declared.paged.PagedStore.{PagedStore}
 use Rattle.decisions.specs.declared.inventory.UnitSpec.{UnitSpec}

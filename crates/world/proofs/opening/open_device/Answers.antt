@@ -15,24 +15,23 @@ pub invariant_of-result : goal.invariant_of-result
 invariant_of-result c =
     let is : AreSeats (c.args.config.now.workers + 1) (64 * c.len.result + 64) c.in_ok-seats.seats.items =
     c.in_ok-seats.ensures in
-    let lists = lists_open c.in-Some.form (features_of c.args.config.now.features) c.in-Ok.memory c.as_slice.result.now c.in_ok-bays.bays.items c.in_ok-units.units.items
-    (c.args.config.now.workers + 1) c.in_ok-seats.seats.items c.in_ok-bays.ensures
+    let lists = lists_open c.in_ok-units.units.items (c.args.config.now.workers + 1) c.in_ok-seats.seats.items
     (subst (λ (n : ℕ). AreSeats (c.args.config.now.workers + 1) (64 * n + 64) c.in_ok-seats.seats.items)
     (c.len.ensures ∙ c.in_ok-units.units.ok.0) is) in
-    record { fits = lists.fits; limits = lists.limits; port = ap (λ (p : PlainPort). p.limit) c.in-Ok-new.ensures }
+    record { limits = lists.limits; port = ap (λ (p : PlainPort). p.limit) c.in-Ok.ensures }
 
 pub returns : goal.returns
 returns c =
-    let size : length c.in-Ok.memory ≡ size_of c.args.config.now = rw c.in-Ok.ensures.zeros (length-replicate _ _) in
+    let size : length c.args.memory.now ≡ size_of c.args.config.now = rw c.requires.zeros (length-replicate _ _) in
     record {
       form = c.in-Some.form;
       agreed = sym c.form.ensures ∙ c.in-Some.is;
-      memory = c.in-Ok.ensures.zeros;
+      memory = c.requires.zeros;
       own = refl;
       inventory = c.new-inventory.ensures ∙ ap (λ (us : List UnitSpec). map address_of us) c.as_slice-2.ensures.value;
       queues =
           subst (λ (n : ℕ). AreOpening c.in-Some.form n (features_of c.args.config.now.features) c.args.config.now.queues.items c.in_ok-bays.bays.items) size
-          (subst (λ (ls : List Layout). AreOpening c.in-Some.form (length c.in-Ok.memory) (features_of c.args.config.now.features) ls c.in_ok-bays.bays.items)
+          (subst (λ (ls : List Layout). AreOpening c.in-Some.form (length c.args.memory.now) (features_of c.args.config.now.features) ls c.in_ok-bays.bays.items)
           c.as_slice.ensures.value c.in_ok-bays.ensures);
       units =
           subst (λ (us : List UnitSpec). AreFresh us c.in_ok-units.units.items) c.as_slice-3.ensures.value c.in_ok-units.ensures;
@@ -45,8 +44,8 @@ returns c =
           c.in_ok-handed_off.ensures.lists
           ∙ omega (arith, c.len-2.ensures, c.in_ok-seats.seats.ok.0, length-map c.in_ok-seats.seats.items seat_of);
       function = refl;
-      buffers = ap (λ (p : PlainPort). p.buffers) c.in-Ok-new.ensures;
-      missed = ap (λ (p : PlainPort). p.missed) c.in-Ok-new.ensures;
-      waiting = c.new-4.ensures;
+      buffers = ap (λ (p : PlainPort). p.buffers) c.in-Ok.ensures;
+      missed = ap (λ (p : PlainPort). p.missed) c.in-Ok.ensures;
+      waiting = c.new-3.ensures;
       tells_changes = c.tells_changes.ensures;
     }

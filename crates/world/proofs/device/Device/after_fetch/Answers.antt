@@ -6,7 +6,7 @@ use Rattle.world.proofs.Woken.{arrived_there}
 use Rattle.world.proofs.device.Device.after_fetch.Goals as goal
 
 pub returns-then-is_some : goal.returns-then-is_some
-returns-then-is_some c =
+returns-then-is_some c shared m =
     let d = c.self.inside in
     let within : c.args.number < d.bays.len = omega (arith, c.len.ensures, c.if-at-len.true) in
     let at = slice_get_read d.bays.items d.bays.len c.args.number c.index.result.now d.bays.ok.0 within

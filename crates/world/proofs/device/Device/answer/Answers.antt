@@ -1,41 +1,31 @@
-use Rattle.std.proofs.Common.{◌≡◌, is_some, Some, sym, subst, ap, refl, ◌∙◌, length, arith}
+use Rattle.std.proofs.Common.{◌≡◌, is_some, Some, false, sym, subst, ap, refl, ◌∙◌, length, arith}
 use Rattle.device_model.specs.Events.{Event}
 use Rattle.device_model.specs.Turns.{Turns}
 use Rattle.phases.specs.Parts.{answering_queue}
 use Rattle.phases.specs.Slots.{slot_of}
 use Rattle.phases.specs.Queue.{with_slot}
 use Rattle.world.specs.Kept.{KeptSeat}
-use Rattle.world.specs.Sound.{IsSound}
+use Rattle.world.specs.Apart.{standing}
 use Rattle.world.specs.contracts.device.Device.{the_view}
 use Rattle.world.specs.contracts.seat.Seat as seat
-use Rattle.world.proofs.Seats.{keeps_queue, keeps_seat, found, one_there, with_queue_and_seat}
-use Rattle.world.proofs.Answer.{keeps_memory, answers}
+use Rattle.world.proofs.Setting.{turns_seen, sound_seen, fits_seen}
+use Rattle.world.proofs.Seats.{keeps_seat, found, one_there, with_queue_and_seat}
+use Rattle.world.proofs.Answer.{answers}
 use Rattle.world.proofs.device.Device.answer.Goals as goal
 
 pub invariant_of-self : goal.invariant_of-self
 invariant_of-self c =
     let d = c.self.inside in
     let size : c.len.result ≡ length d.seats.items = omega (arith, d.seats.ok.0, c.len.ensures) in
-    let many : c.len-2.result ≡ length d.bays.items = omega (arith, d.bays.ok.0, c.len-2.ensures) in
     let k = c.args.number in
-    let i = c.in-Some.queue in
-    let q = c.behind-self-2.inside.queue in
-    let r = c.phase_answer.new.queue in
-    let slot = slot_of c.behind-self-2.inside.slot in
     let s : KeptSeat = seat.the_view c.behind-self-3.inside in
     let t : KeptSeat = seat.the_view (record { hand = c.phase_answer.new.hand; out = c.behind-self-3.inside.out }) in
-    let m = c.phase_answer.new.memory in
     let at = found d.seats.items c.len.result k s c.index_mut-2.result.now size c.if-at-len.false
     c.index_mut-2.ensures.value c.behind-self-3.view_is in
-    let there = found d.bays.items c.len-2.result i (with_slot slot q) c.index_mut.result.now many c.if-queue-len.false
-    c.index_mut.ensures.value c.behind-self-2.view_is in
-    keeps_seat m _ d.units.items d.seats.items k s t at refl
-    (keeps_queue d.memory m d.bays.items d.units.items d.seats.items i (with_slot slot q) (with_slot slot r)
-    c.phase_answer.ensures.size there
-    (keeps_memory s.hand q r d.memory m (is_some c.phase_answer.result) t.hand c.phase_answer.ensures.answers) c.self.invariant)
+    keeps_seat d.units.items d.seats.items k s t at refl c.self.invariant
 
-pub returns : goal.returns
-returns c =
+pub returns-clause-turns : goal.returns-clause-turns
+returns-clause-turns c =
     let d = c.self.inside in
     let size : c.len.result ≡ length d.seats.items = omega (arith, d.seats.ok.0, c.len.ensures) in
     let many : c.len-2.result ≡ length d.bays.items = omega (arith, d.bays.ok.0, c.len-2.ensures) in
@@ -44,7 +34,8 @@ returns c =
     let q = c.behind-self-2.inside.queue in
     let r = c.phase_answer.new.queue in
     let slot = slot_of c.behind-self-2.inside.slot in
-    let m = c.phase_answer.new.memory in
+    let m = c.args.memory.now in
+    let left = c.phase_answer.new.memory in
     let seen : KeptSeat = seat.the_view c.behind-self.inside in
     let s : KeptSeat = seat.the_view c.behind-self-3.inside in
     let t : KeptSeat = seat.the_view (record { hand = c.phase_answer.new.hand; out = c.behind-self-3.inside.out }) in
@@ -57,9 +48,10 @@ returns c =
     let one = one_there d.seats.items k s seen at at_seen in
     let queue : answering_queue s.hand ≡ Some i =
     ap (λ (z : KeptSeat). answering_queue z.hand) one ∙ sym c.in-Some.ensures in
-    let next = with_queue_and_seat (the_view d) m i (with_slot slot r) d.seats.items k t in
-    subst (λ w. Turns w (Event.Answer k) c.is_some.result next) c.self.view_is
-    (subst (λ b. Turns (the_view d) (Event.Answer k) b next) (sym c.is_some.ensures)
-    (answers (the_view d) d.seats.items k i s.hand s.jobs s.limit slot q r m t.hand (is_some c.phase_answer.result)
-    (subst IsSound (sym c.self.view_is) c.requires.sound) c.self.invariant.fits refl at queue there
-    c.phase_answer.ensures.answers))
+    let w = standing false m (the_view d) in
+    let next = with_queue_and_seat w left i (with_slot slot r) d.seats.items k t in
+    turns_seen false m _ _ (Event.Answer k) c.is_some.result next c.self.view_is
+    (subst (λ b. Turns w (Event.Answer k) b next) (sym c.is_some.ensures)
+    (answers w d.seats.items k i s.hand s.jobs s.limit slot q r left t.hand (is_some c.phase_answer.result)
+    (sound_seen false m _ _ c.self.view_is c.requires.sound) (fits_seen false m _ _ c.self.view_is c.requires.fits)
+    refl at queue there c.phase_answer.ensures.answers))

@@ -1,11 +1,11 @@
-use Rattle.std.proofs.Common.{◌≡◌, Some, sym, subst, ap, refl, ◌∙◌, length, arith}
+use Rattle.std.proofs.Common.{◌≡◌, Some, sym, ap, refl, ◌∙◌, length, arith}
 use Rattle.device_model.specs.Events.{Event}
-use Rattle.device_model.specs.Turns.{Turns}
 use Rattle.phases.specs.Parts.{committing_unit}
 use Rattle.world.specs.Kept.{KeptSeat}
-use Rattle.world.specs.Sound.{IsSound}
+use Rattle.world.specs.Apart.{standing}
 use Rattle.world.specs.contracts.device.Device.{the_view}
 use Rattle.world.specs.contracts.seat.Seat as seat
+use Rattle.world.proofs.Setting.{turns_seen, sound_seen}
 use Rattle.world.proofs.Seats.{keeps_unit, found, one_there, with_unit_and_seat}
 use Rattle.world.proofs.Commit.{commits}
 use Rattle.world.proofs.device.Device.commit.Goals as goal
@@ -18,11 +18,11 @@ invariant_of-self c =
     let s : KeptSeat = seat.the_view c.behind-self-2.inside in
     let at = found d.seats.items c.len.result k s c.index_mut-2.result.now size c.if-at-len.false
     c.index_mut-2.ensures.value c.behind-self-2.view_is in
-    keeps_unit d.memory d.bays.items d.units.items d.seats.items k c.in-Some.place c.phase_commit.new.unit s _ at refl
+    keeps_unit d.units.items d.seats.items k c.in-Some.place c.phase_commit.new.unit s _ at refl
     c.self.invariant
 
 pub returns : goal.returns
-returns c =
+returns c shared m sound =
     let d = c.self.inside in
     let size : c.len.result ≡ length d.seats.items = omega (arith, d.seats.ok.0, c.len.ensures) in
     let many : c.len-2.result ≡ length d.units.items = omega (arith, d.units.ok.0, c.len-2.ensures) in
@@ -39,8 +39,9 @@ returns c =
     let unit : committing_unit s.hand ≡ Some c.in-Some.place =
     ap (λ (z : KeptSeat). committing_unit z.hand) one ∙ sym c.in-Some.ensures in
     let t : KeptSeat = seat.the_view (record { hand = c.phase_commit.new.hand; out = c.behind-self-2.inside.out }) in
-    let next = with_unit_and_seat (the_view d) c.in-Some.place c.phase_commit.new.unit d.seats.items k t in
-    subst (λ w. Turns w (Event.Commit k) c.phase_commit.result next) c.self.view_is
-    (commits (the_view d) d.seats.items k c.in-Some.place s.hand s.jobs s.limit c.index_mut.result.now
-    c.phase_commit.new.unit _ c.phase_commit.result (subst IsSound (sym c.self.view_is) c.requires.sound) refl at unit
+    let w = standing shared m (the_view d) in
+    let next = with_unit_and_seat w c.in-Some.place c.phase_commit.new.unit d.seats.items k t in
+    turns_seen shared m _ _ (Event.Commit k) c.phase_commit.result next c.self.view_is
+    (commits w d.seats.items k c.in-Some.place s.hand s.jobs s.limit c.index_mut.result.now
+    c.phase_commit.new.unit _ c.phase_commit.result (sound_seen shared m _ _ c.self.view_is sound) refl at unit
     there c.phase_commit.ensures.commits)

@@ -1,4 +1,4 @@
-use Rattle.std.proofs.Common.{◌≡◌, Some, refl, sym, ap, subst, ◌∙◌}
+use Rattle.std.proofs.Common.{◌≡◌, Some, refl, sym, ap, ◌∙◌}
 use Rattle.std.specs.Prelude.{slice_get}
 use Rattle.std.proofs.lemmas.Option.{slice_get_read}
 use Rattle.device_model.specs.World.{PlainQueue}
@@ -6,11 +6,11 @@ use Rattle.device_model.specs.Events.{Event as PlainEvent}
 use Rattle.device_model.proofs.Lists.{same}
 use Rattle.phases.specs.Slots.{slot_of, arrived_unit}
 use Rattle.world.specs.Kept.{KeptSeat}
-use Rattle.world.specs.Sound.{IsSound}
+use Rattle.world.specs.Apart.{standing}
 use Rattle.world.specs.contracts.device.Device as seen
 use Rattle.world.specs.contracts.bay.Bay as bay
 use Rattle.world.specs.contracts.seat.Seat as seat
-use Rattle.world.proofs.Setting.{list_of, listing, unit_kept, slot_kept, turns_seen}
+use Rattle.world.proofs.Setting.{list_of, listing, unit_kept, turns_seen, sound_seen}
 use Rattle.world.proofs.Entering.{limit_stays, enters}
 use Rattle.world.proofs.device.Device.enter.Goals as goal
 
@@ -19,24 +19,19 @@ invariant_of-self c =
     let d = c.self.inside in
     let q = bay.the_view c.behind-self-2.inside in
     let s = seat.the_view c.behind-self-3.inside in
-    let q_at : slice_get d.bays.items c.args.number ≡ Some q =
-    slice_get_read d.bays.items c.len.result c.args.number c.index_mut-2.result.now (c.len.ensures ∙ d.bays.ok.0)
-    c.if-at-len.false c.index_mut-2.ensures.value ∙ ap (λ (z : PlainQueue). Some z) (sym c.behind-self-2.view_is) in
     let s_at : slice_get d.seats.items c.owner-seat.result ≡ Some s =
     slice_get_read d.seats.items c.len-else-place-len.result c.owner-seat.result c.index_mut-3.result.now
     (c.len-else-place-len.ensures ∙ d.seats.ok.0) c.if-seat-len.false c.index_mut-3.ensures.value
     ∙ ap (λ (z : KeptSeat). Some z) (sym c.behind-self-3.view_is) in
     let out = c.phase_enter.new.out in
     let slot = slot_of c.phase_enter.new.slot in
-    slot_kept d.memory d.bays.items _ _ c.args.number q slot
-    (unit_kept d.memory d.bays.items d.units.items d.seats.items c.in-Some.place c.phase_enter.new.unit
+    unit_kept d.units.items d.seats.items c.in-Some.place c.phase_enter.new.unit
     c.owner-seat.result s (listing out s) c.self.invariant s_at
     (limit_stays q.slot c.index_mut.result.now (list_of s) c.phase_enter.result c.phase_enter.new.unit slot out
-    c.phase_enter.ensures))
-    q_at
+    c.phase_enter.ensures)
 
 pub returns : goal.returns
-returns c =
+returns c shared m sound =
     let d = c.self.inside in
     let q = bay.the_view c.behind-self-2.inside in
     let s = seat.the_view c.behind-self-3.inside in
@@ -59,8 +54,8 @@ returns c =
     slice_get_read d.seats.items c.len-else-place-len.result c.owner-seat.result c.index_mut-3.result.now
     (c.len-else-place-len.ensures ∙ d.seats.ok.0) c.if-seat-len.false c.index_mut-3.ensures.value
     ∙ ap (λ (z : KeptSeat). Some z) (sym c.behind-self-3.view_is) in
-    turns_seen _ _ (PlainEvent.Enter c.args.number) c.phase_enter.result _ c.self.view_is
-    (enters (seen.the_view d) d.seats.items refl (subst (λ w. IsSound w) (sym c.self.view_is) c.requires.sound)
+    turns_seen shared m _ _ (PlainEvent.Enter c.args.number) c.phase_enter.result _ c.self.view_is
+    (enters (standing shared m (seen.the_view d)) d.seats.items refl (sound_seen shared m _ _ c.self.view_is sound)
     c.self.invariant.limits c.args.number c.in-Some.place c.owner-seat.result q c.index_mut.result.now s
     c.owner-seat.ensures q_at u_at s_at (slot_of c.phase_enter.new.slot) c.phase_enter.new.unit c.phase_enter.new.out
     q.slot refl place c.phase_enter.result c.phase_enter.ensures)

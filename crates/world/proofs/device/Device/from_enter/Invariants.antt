@@ -1,11 +1,12 @@
-use Rattle.std.proofs.Common.{◌≡◌, length}
+use Rattle.std.proofs.Common.{◌≡◌, false, length}
+use Rattle.world.specs.Apart.{standing}
 use Rattle.world.specs.Cursors.{NoEnterBelow}
 use Rattle.world.proofs.device.Device.from_enter.Given as goal
 
 abbrev pub invariant-loop-number : goal.invariant-loop-number
 invariant-loop-number l =
     record {
-      same : l.self ≡ l.fn.self;
-      below : NoEnterBelow l.number l.fn.self;
+      same : standing false l.fn.memory l.self ≡ standing false l.fn.memory l.fn.self;
+      below : NoEnterBelow l.number (standing false l.fn.memory l.fn.self);
       all : l.number-end ≡ length l.fn.self.queues;
     }

@@ -1,29 +1,30 @@
-use Rattle.std.proofs.Common.{◌≡◌, ◌<◌, ◌≤◌, None, Some, sym, ap, ◌∙◌, length, arith}
+use Rattle.std.proofs.Common.{◌<◌, ◌≤◌, sym, ap, ◌∙◌, length, arith}
 use Rattle.std.specs.Prelude.{slice_get}
 use Rattle.std.proofs.lemmas.Option.{slice_get_read}
 use Rattle.device_model.specs.World.{Opened}
+use Rattle.world.specs.Apart.{standing}
 use Rattle.world.specs.contracts.device.Device.{the_view}
 use Rattle.world.proofs.Choosing.{option_none}
 use Rattle.world.proofs.Looks.{marks_some, responds, unit_absent, checks}
 use Rattle.world.proofs.device.Device.function_goes_on.Goals as goal
 
 pub returns-then-is_some : goal.returns-then-is_some
-returns-then-is_some c =
+returns-then-is_some c shared m =
     let first = c.next_unit.ensures ∙ ap (λ (o : Opened). slice_get o.function.left 0) c.open.view_is in
     rw (← c.self.view_is)
-    (marks_some (the_view c.self.inside) c.in-Some.open c.next_unit.result c.in-Some.is first
+    (marks_some (standing shared m (the_view c.self.inside)) c.in-Some.open c.next_unit.result c.in-Some.is first
     (sym c.is_some.ensures ∙ c.if-is_some.true))
 
 pub returns-in_default-waits_for : goal.returns-in_default-waits_for
-returns-in_default-waits_for c =
+returns-in_default-waits_for c shared m =
     let first = c.next_unit.ensures ∙ ap (λ (o : Opened). slice_get o.function.left 0) c.open.view_is in
     let left = sym first ∙ option_none c.next_unit.result (sym c.is_some.ensures ∙ c.if-is_some.false) in
     let waits = sym (c.waits_for.ensures ∙ ap (λ (o : Opened). slice_get o.function.waits 0) c.open.view_is)
     ∙ c.in_default-waits_for.is in
-    rw (← c.self.view_is) (responds (the_view c.self.inside) c.in-Some.open c.in-Some.is left waits)
+    rw (← c.self.view_is) (responds (standing shared m (the_view c.self.inside)) c.in-Some.open c.in-Some.is left waits)
 
 pub returns-then-mark-len : goal.returns-then-mark-len
-returns-then-mark-len c =
+returns-then-mark-len c shared m =
     let d = c.self.inside in
     let first = c.next_unit.ensures ∙ ap (λ (o : Opened). slice_get o.function.left 0) c.open.view_is in
     let left = sym first ∙ option_none c.next_unit.result (sym c.is_some.ensures ∙ c.if-is_some.false) in
@@ -32,10 +33,10 @@ returns-then-mark-len c =
     let far : length d.units.items ≤ c.in-Some-waits_for.mark.unit =
     omega (arith, c.len.ensures, d.units.ok.0, c.if-mark-len.true) in
     rw (← c.self.view_is)
-    (unit_absent (the_view d) c.in-Some.open c.in-Some-waits_for.mark c.in-Some.is left waits far)
+    (unit_absent (standing shared m (the_view d)) c.in-Some.open c.in-Some-waits_for.mark c.in-Some.is left waits far)
 
 pub returns : goal.returns
-returns c =
+returns c shared m =
     let d = c.self.inside in
     let mark = c.in-Some-waits_for.mark in
     let first = c.next_unit.ensures ∙ ap (λ (o : Opened). slice_get o.function.left 0) c.open.view_is in
@@ -45,5 +46,5 @@ returns c =
     let within : mark.unit < d.units.len = omega (arith, c.len.ensures, c.if-mark-len.false) in
     let at = slice_get_read d.units.items d.units.len mark.unit c.index.result.now d.units.ok.0 within c.index.ensures in
     rw (← c.self.view_is)
-    (checks (the_view d) c.in-Some.open mark c.index.result.now c.clear_of.result c.in-Some.is left waits at
+    (checks (standing shared m (the_view d)) c.in-Some.open mark c.index.result.now c.clear_of.result c.in-Some.is left waits at
     c.clear_of.ensures)

@@ -1,10 +1,11 @@
-use Rattle.std.proofs.Common.{◌≡◌, length}
+use Rattle.std.proofs.Common.{◌≡◌, ℕ, Bool, List, length}
+use Rattle.world.specs.Apart.{standing}
 use Rattle.world.specs.Cursors.{NoDirectBelow}
 use Rattle.world.proofs.device.Device.has_answer.Given as goal
 
 abbrev pub invariant-loop-number : goal.invariant-loop-number
 invariant-loop-number l =
     record {
-      below : NoDirectBelow l.number l.fn.self;
+      below : (shared : Bool) (m : List ℕ) → NoDirectBelow l.number (standing shared m l.fn.self);
       all : l.number-end ≡ length l.fn.self.queues;
     }

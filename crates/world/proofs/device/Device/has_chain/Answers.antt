@@ -1,7 +1,7 @@
-use Rattle.std.proofs.Common.{◌≡◌, ◌<◌, true, sym, ap, ◌∙◌, length, arith}
+use Rattle.std.proofs.Common.{◌≡◌, true, false, ap, ◌∙◌, length, arith}
 use Rattle.device_model.specs.Events.{Event}
 use Rattle.device_model.specs.Applies.{Applies}
-use Rattle.device_model.specs.World.{PlainWorld}
+use Rattle.world.specs.Apart.{PlainDevice, standing}
 use Rattle.world.specs.Settling.{asks}
 use Rattle.world.proofs.Choosing.{and_next}
 use Rattle.world.proofs.Looks.{denied_by, told}
@@ -13,14 +13,14 @@ loop-number-init c =
     let end : c.len-number-end.result ≡ length d.bays.items = omega (arith, d.bays.ok.0, c.len-number-end.ensures) in
     record {
       below = λ i lt. absurd (omega (arith, lt));
-      all = end ∙ ap (λ (w : PlainWorld). length w.queues) c.self.view_is;
+      all = end ∙ ap (λ (z : PlainDevice). length z.queues) c.self.view_is;
     }
 
 pub returns-then-queue_goes_on : goal.returns-then-queue_goes_on
 returns-then-queue_goes_on c =
     let n = c.loop-number.number in
     λ none.
-    denied_by (asks c.args.queues n ≡ true → Applies c.args.self.now (Event.Fetch n) → ⊥) c.queue_goes_on.result
+    denied_by (asks c.args.queues n ≡ true → Applies (standing false c.args.memory.now c.args.self.now) (Event.Fetch n) → ⊥) c.queue_goes_on.result
     c.if-queue_goes_on.true c.queue_goes_on.ensures
     (none n (omega (arith, c.loop-number-test.true, c.loop-number.invariant.all)))
 
@@ -28,9 +28,9 @@ pub loop-number-preserved : goal.loop-number-preserved
 loop-number-preserved c =
     let n = c.loop-number.number in
     record {
-      below = and_next (λ i. asks c.args.queues i ≡ true → Applies c.args.self.now (Event.Fetch i) → ⊥) n
+      below = and_next (λ i. asks c.args.queues i ≡ true → Applies (standing false c.args.memory.now c.args.self.now) (Event.Fetch i) → ⊥) n
           c.loop-number.invariant.below
-          (told (asks c.args.queues n ≡ true → Applies c.args.self.now (Event.Fetch n) → ⊥) c.queue_goes_on.result
+          (told (asks c.args.queues n ≡ true → Applies (standing false c.args.memory.now c.args.self.now) (Event.Fetch n) → ⊥) c.queue_goes_on.result
           c.if-queue_goes_on.false c.queue_goes_on.ensures);
       all = c.loop-number.invariant.all;
     }

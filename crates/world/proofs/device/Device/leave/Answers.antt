@@ -1,11 +1,11 @@
-use Rattle.std.proofs.Common.{◌≡◌, Some, sym, subst, ap, refl, ◌∙◌, length, arith}
+use Rattle.std.proofs.Common.{◌≡◌, Some, sym, ap, refl, ◌∙◌, length, arith}
 use Rattle.device_model.specs.Events.{Event}
-use Rattle.device_model.specs.Turns.{Turns}
 use Rattle.phases.specs.Parts.{leaving_unit, hand_of}
 use Rattle.world.specs.Kept.{KeptSeat}
-use Rattle.world.specs.Sound.{IsSound}
+use Rattle.world.specs.Apart.{standing}
 use Rattle.world.specs.contracts.device.Device.{the_view}
 use Rattle.world.specs.contracts.seat.Seat as seat
+use Rattle.world.proofs.Setting.{turns_seen, sound_seen}
 use Rattle.world.proofs.Seats.{keeps_unit, found, one_there, with_unit_and_seat}
 use Rattle.world.proofs.Leave.{seat_with, keeps_limit, leaves}
 use Rattle.world.proofs.device.Device.leave.Goals as goal
@@ -18,13 +18,13 @@ invariant_of-self c =
     let s : KeptSeat = seat.the_view c.seat.inside in
     let at = found d.seats.items c.len.result k s c.index_mut-seat.result.now size c.if-at-len.false
     c.index_mut-seat.ensures.value c.seat.view_is in
-    keeps_unit d.memory d.bays.items d.units.items d.seats.items k c.in-Some.place c.phase_leave.new.unit s _ at
+    keeps_unit d.units.items d.seats.items k c.in-Some.place c.phase_leave.new.unit s _ at
     (keeps_limit s.hand c.index_mut.result.now c.phase_leave.new.unit c.seat.inside.out c.phase_leave.new.out
     c.phase_leave.result (hand_of c.phase_leave.new.hand) c.phase_leave.ensures)
     c.self.invariant
 
 pub returns : goal.returns
-returns c =
+returns c shared m sound =
     let d = c.self.inside in
     let size : c.len.result ≡ length d.seats.items = omega (arith, d.seats.ok.0, c.len.ensures) in
     let many : c.len-2.result ≡ length d.units.items = omega (arith, d.units.ok.0, c.len-2.ensures) in
@@ -41,8 +41,9 @@ returns c =
     let unit : leaving_unit s.hand ≡ Some c.in-Some.place =
     ap (λ (z : KeptSeat). leaving_unit z.hand) one ∙ sym c.in-Some.ensures in
     let t = seat_with (hand_of c.phase_leave.new.hand) c.phase_leave.new.out in
-    let next = with_unit_and_seat (the_view d) c.in-Some.place c.phase_leave.new.unit d.seats.items k t in
-    subst (λ w. Turns w (Event.Leave k) c.phase_leave.result next) c.self.view_is
-    (leaves (the_view d) d.seats.items k c.in-Some.place s.hand c.index_mut.result.now c.phase_leave.new.unit
+    let w = standing shared m (the_view d) in
+    let next = with_unit_and_seat w c.in-Some.place c.phase_leave.new.unit d.seats.items k t in
+    turns_seen shared m _ _ (Event.Leave k) c.phase_leave.result next c.self.view_is
+    (leaves w d.seats.items k c.in-Some.place s.hand c.index_mut.result.now c.phase_leave.new.unit
     c.seat.inside.out c.phase_leave.new.out (hand_of c.phase_leave.new.hand) c.phase_leave.result
-    (subst IsSound (sym c.self.view_is) c.requires.sound) c.self.invariant.limits refl at unit there c.phase_leave.ensures)
+    (sound_seen shared m _ _ c.self.view_is sound) c.self.invariant.limits refl at unit there c.phase_leave.ensures)

@@ -5,7 +5,9 @@ use Rattle.block_store.specs.declared.NoMemory.{NoMemory}
 use Rattle.phases.specs.declared.resizing.ResizeFault.{ResizeFault}
 use Rattle.device_model.specs.Events.{Event}
 use Rattle.world.specs.Steps.{TurnsOrWants}
+use Rattle.world.specs.Apart.{standing}
 use Rattle.world.specs.contracts.device.Device as seen
+use Rattle.world.proofs.Setting.{sound_seen}
 use Rattle.world.proofs.Resizing.{told_as, resized_in, resizes}
 use Rattle.world.proofs.device.Device.resize.Goals.{in-Ok, in-Err-WrongUnit, in-Err-BadCapacity, in-Err-NoMemory}
 use Rattle.world.proofs.device.Device.resize.Goals as goal
@@ -14,11 +16,10 @@ abbrev refused : ResizeFault → Result Bool ResizeFault
 refused x = Err x
 
 pub returns : goal.returns
-returns c =
+returns c shared m sound few =
     let d = c.self.inside in
-    let w = seen.the_view d in
-    let sound = rw (← c.self.view_is) at c.requires.sound in
-    let few = rw (← c.self.view_is) at c.requires.few in
+    let w = standing shared m (seen.the_view d) in
+    let firm = sound_seen shared m _ _ c.self.view_is sound in
     let u_at : slice_get d.units.items c.args.place ≡ Some c.index_mut.result.now =
     slice_get_read d.units.items c.len.result c.args.place c.index_mut.result.now
     (c.len.ensures ∙ d.units.ok.0) c.if-at-len.false c.index_mut.ensures.value in
@@ -32,5 +33,5 @@ returns c =
     rw (← c.self.view_is)
     (subst (λ (r : Result Bool NoMemory). TurnsOrWants w (Event.Resize c.args.place c.args.blocks) r
     (resized_in w c.args.place c.phase_resize.new.unit c.phase_resize.new.waiting)) same
-    (resizes w sound.addressed few c.args.place c.args.blocks c.index_mut.result.now c.phase_resize.new.unit c.phase_resize.new.waiting u_at
+    (resizes w firm.addressed (rw (← c.self.view_is) at few) c.args.place c.args.blocks c.index_mut.result.now c.phase_resize.new.unit c.phase_resize.new.waiting u_at
     c.phase_resize.result c.phase_resize.ensures))

@@ -1,7 +1,7 @@
-use Rattle.std.proofs.Common.{◌≡◌, Some, sym, ap, subst, ◌∙◌}
+use Rattle.std.proofs.Common.{◌≡◌, Some, sym, subst, ◌∙◌}
 use Rattle.std.specs.Prelude.{slice_get}
 use Rattle.std.proofs.lemmas.Option.{slice_get_read}
-use Rattle.device_model.specs.World.{PlainWorld}
+use Rattle.world.specs.Apart.{PlainDevice}
 use Rattle.world.proofs.Finding.{find_here}
 use Rattle.world.proofs.device.Device.unit_place.Goals as goal
 
@@ -11,7 +11,7 @@ returns-then-has_address c =
     let found : slice_get d.units.items c.loop-place.place ≡ Some c.index.result.now =
     slice_get_read d.units.items c.len-place-end.result c.loop-place.place c.index.result.now
     (c.len-place-end.ensures ∙ d.units.ok.0) c.loop-place-test.true c.index.ensures in
-    let at = subst (λ (w : PlainWorld). slice_get w.units c.loop-place.place ≡ Some c.index.result.now) c.self.view_is found in (
+    let at = subst (λ (z : PlainDevice). slice_get z.units c.loop-place.place ≡ Some c.index.result.now) c.self.view_is found in (
       c.index.result.now,
       at,
       c.loop-place.invariant.rest

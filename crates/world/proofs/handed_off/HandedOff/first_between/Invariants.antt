@@ -1,4 +1,4 @@
-use Rattle.std.proofs.Common.{◌≡◌, ◌≤◌}
+use Rattle.std.proofs.Common.{◌≤◌}
 use Rattle.world.specs.Off.{AreBareBetween}
 use Rattle.world.proofs.handed_off.HandedOff.first_between.Given as goal
 

@@ -1,4 +1,4 @@
-use Rattle.std.proofs.Common.{◌≡◌, List, [], length, Some, refl, ap, ◌∙◌, arith}
+use Rattle.std.proofs.Common.{List, Some, ap, ◌∙◌, arith}
 use Rattle.unit_model.specs.Jobs.{PlainJob}
 use Rattle.world.specs.Off.{jobs_of}
 use Rattle.world.proofs.Off.{list_there, is_bare}

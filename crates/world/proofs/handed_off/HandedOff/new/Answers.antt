@@ -1,8 +1,8 @@
-use Rattle.std.proofs.Common.{◌≡◌, ◌∷◌, ◌++◌, ◌∙◌, [], refl, ap, arith, length-append}
-use Rattle.std.proofs.lemmas.List.{length-map}
-use Rattle.unit_model.specs.Jobs.{PlainJob, Jobs}
+use Rattle.std.proofs.Common.{◌≡◌, ◌∷◌, ◌++◌, [], refl, ap, arith, length-append}
+use Rattle.unit_model.specs.Jobs.{Jobs}
 use Rattle.world.specs.Off.{jobs_of}
-use Rattle.world.proofs.AtOpening.{everywhere_more, each_image}
+use Rattle.world.proofs.AtOpening.{everywhere_more}
+use Rattle.world.proofs.Setting.{each_image}
 use Rattle.world.proofs.handed_off.HandedOff.new.Goals as goal
 
 pub loop-number-preserved : goal.loop-number-preserved

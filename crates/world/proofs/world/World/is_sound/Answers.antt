@@ -1,6 +1,7 @@
-use Rattle.std.proofs.Common.{subst}
+use Rattle.std.proofs.Common.{false, subst}
+use Rattle.world.specs.Apart.{standing}
 use Rattle.world.specs.Sound.{IsSound}
 use Rattle.world.proofs.world.World.is_sound.Goals as goal
 
 pub returns-clause-sound : goal.returns-clause-sound
-returns-clause-sound c = subst IsSound c.self.view_is (c.all_are_sound.ensures c.self.inside.device c.self.invariant.reached)
+returns-clause-sound c = subst IsSound c.self.view_is (c.all_are_sound.ensures (standing false c.self.inside.memory c.self.inside.device) c.self.invariant.whole.reached)

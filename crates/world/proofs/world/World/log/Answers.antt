@@ -12,7 +12,7 @@ returns-in-Some-clause-lawful c =
     let found : slice_get c.deref.result.now c.args.number ≡ Some c.in-Some.bay.now =
     slice_get_read c.deref.result.now (length c.deref.result.now) c.args.number c.in-Some.bay.now
     refl within c.in-Some.ensures.lookup.1 in
-    let there : slice_get c.self-inside.inside.0.0.bays.items c.args.number ≡ Some c.in-Some.bay.now =
+    let there : slice_get c.self-inside.inside.0.1.0.bays.items c.args.number ≡ Some c.in-Some.bay.now =
     ap (λ (qs : List PlainQueue). slice_get qs c.args.number) (sym c.deref.ensures.value) ∙ found in
     let at : slice_get c.args.self.now.queues c.args.number ≡ Some c.in-Some.bay.now =
     rw (← c.self.view_is, ← c.self-inside.view_is) there in
@@ -26,7 +26,7 @@ returns-in-Some-clause-lawful c =
 pub returns-in-None-clause-log : goal.returns-in-None-clause-log
 returns-in-None-clause-log c =
     let past : length c.deref.result.now ≤ c.args.number = grind (arith, nat_tests, c.in-None.ensures.lookup.0) in
-    let none : slice_get c.self-inside.inside.0.0.bays.items c.args.number ≡ None =
+    let none : slice_get c.self-inside.inside.0.1.0.bays.items c.args.number ≡ None =
     ap (λ (qs : List PlainQueue). slice_get qs c.args.number) (sym c.deref.ensures.value)
     ∙ slice_get_past c.deref.result.now c.args.number past in
     rw (← c.self.view_is, ← c.self-inside.view_is) (rw none refl)

@@ -1,18 +1,19 @@
-use Rattle.std.proofs.Common.{◌≡◌, true, refl, sym, ◌∙◌}
+use Rattle.std.proofs.Common.{◌≡◌, true, false, refl, sym, ◌∙◌}
 use Rattle.config.specs.Config.{is_config}
-use Rattle.world.proofs.AtOpening.{opens, opens_whole}
+use Rattle.world.specs.Apart.{standing}
+use Rattle.world.proofs.AtOpening.{opens, opens_steady}
 use Rattle.world.proofs.world.World.new.Goals as goal
 
 -- the configuration is taken
-taken : (c : goal.In-Ok) → is_config c.args.config.now ≡ true
+taken : (c : goal.In-Ok-open_device) → is_config c.args.config.now ≡ true
 taken c = sym c.is_valid.ensures ∙ c.if-not-is_valid.false
 
 pub invariant_of-result : goal.invariant_of-result
-invariant_of-result c = opens_whole c.args.config.now c.in-Ok.device (taken c) c.in-Ok.ensures
+invariant_of-result c = opens_steady c.args.config.now (standing false c.in-Ok.memory c.in-Ok-open_device.device) (taken c) c.in-Ok-open_device.ensures
 
-pub returns-in-Ok-clause-opens : goal.returns-in-Ok-clause-opens
-returns-in-Ok-clause-opens c = opens c.args.config.now c.in-Ok.device (taken c) c.in-Ok.ensures
+pub returns-in-Ok-open_device-clause-opens : goal.returns-in-Ok-open_device-clause-opens
+returns-in-Ok-open_device-clause-opens c = opens c.args.config.now (standing false c.in-Ok.memory c.in-Ok-open_device.device) (taken c) c.in-Ok-open_device.ensures
 
-pub returns-in-Ok-clause-reaches : goal.returns-in-Ok-clause-reaches
-returns-in-Ok-clause-reaches c =
-    record { opens = opens c.args.config.now c.in-Ok.device (taken c) c.in-Ok.ensures; runs = refl }
+pub returns-in-Ok-open_device-clause-reaches : goal.returns-in-Ok-open_device-clause-reaches
+returns-in-Ok-open_device-clause-reaches c =
+    record { opens = opens c.args.config.now (standing false c.in-Ok.memory c.in-Ok-open_device.device) (taken c) c.in-Ok-open_device.ensures; runs = refl }

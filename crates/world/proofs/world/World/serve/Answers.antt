@@ -1,4 +1,4 @@
-use Rattle.std.proofs.Common.{◌≡◌, ◌<◌, true, false, sym, subst, arith, true≢false}
+use Rattle.std.proofs.Common.{false, sym, subst, arith, true≢false}
 use Rattle.std.proofs.lemmas.Bool.Decides.{nat_tests}
 use Rattle.device_model.specs.Order.{IsQuietOf}
 use Rattle.world.specs.Settling.{asks, ServesBy}

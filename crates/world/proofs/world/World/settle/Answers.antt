@@ -1,4 +1,3 @@
-use Rattle.std.proofs.Common.{arith}
 use Rattle.world.proofs.Portions.{whole_or_part, counted_out, refused_part, goes_alike}
 use Rattle.world.proofs.world.World.settle.Goals as goal
 
