@@ -1,71 +1,141 @@
--- A job that is answered, as a transition.
-use Rattle.std.proofs.Common.{ℕ, ◌≡◌, true, List, length, Option, Some, None, refl, ap, sym, ◌∙◌, subst}
+-- A job that is answered, in a memory that others may write too.
+use Rattle.std.proofs.Common.{ℕ, ◌≡◌, Bool, true, false, List, [], length, Option, Some, None, refl, ap, sym, ◌∙◌, subst}
 use Rattle.std.specs.Prelude.{is_some, IfSome}
 use Rattle.ring_core.specs.State.{PlainChain}
 use Rattle.ring_core.specs.declared.log.Ticket.{Ticket}
-use Rattle.ring_core.specs.Writes.{all_written, scatter_writes}
+use Rattle.ring_core.specs.Writes.{Write, all_written, scatter_writes}
 use Rattle.ring_core.specs.Offer.{used_writes}
-use Rattle.ring_core.proofs.Scattering.{written_in_order}
 use Rattle.decisions.specs.declared.answer.ChainLengths.{ChainLengths}
 use Rattle.unit_model.specs.Endings.{Ending, answer_of}
 use Rattle.unit_model.specs.Jobs.{PlainJob}
 use Rattle.unit_history.specs.Endings.{ending_of}
 use Rattle.unit_history.specs.declared.outcomes.Outcome as answers
-use Rattle.device_model.specs.Parts.{Outcome, Hand, lengths_of}
-use Rattle.device_model.proofs.Seeing.{seen_as_left}
-use Rattle.queues.specs.Queue.{BareQueue, completing}
+use Rattle.device_model.specs.Parts.{IsSeen, Outcome, Slot, Hand, lengths_of}
+use Rattle.device_model.specs.Transitions.{Transition}
+use Rattle.queues.specs.Queue.{BareQueue, MayComplete, completing}
+use Rattle.queues.specs.Completing.{SeenBehind}
+use Rattle.phases.specs.Queue.{with_slot}
 use Rattle.phases.specs.Answering.{Answers}
 use Rattle.phases.specs.Direct.{decided_writes}
-use Rattle.phases.specs.Outcomes.{WritesWhole, WritesEnding}
+use Rattle.phases.specs.InMemory.{EachSeen, DoesQueueIn, AnswersIn, as_seen}
+use Rattle.phases.specs.Outcomes.{WritesWholeIn, WritesEndingIn}
 use Rattle.phases.specs.Parts.{hand_with, job_held}
+use Rattle.phases.proofs.Behind.{is_seen, behind_both, each_read, does_own}
+use Rattle.phases.proofs.Directed.{stays_so, lets_go_so}
 
--- memory once a job was answered
-abbrev written : BareQueue → List ℕ → PlainJob → Outcome → List ℕ
-written q m x o = all_written m (decided_writes q.ring x.chain o)
+-- what answers a job, and what its chain's use left
+abbrev pub AnswersJob : Bool → PlainJob → Ending → BareQueue → BareQueue → List ℕ → List ℕ → List ℕ → Type 0
+AnswersJob shared x e q q' found left seen =
+    AnswersIn shared (Hand.Done x (Outcome.Ended e)) q found true q' left seen (Hand.Answered x.unit x.chain.ticket)
 
--- the queue once a job was answered
-abbrev used : BareQueue → List ℕ → PlainJob → Outcome → BareQueue
-used q m x o = completing (written q m x o) x.chain q
-
--- what answers a job, from plain parts
-answers_plainly : (x : PlainJob) (o : Outcome) (q : BareQueue) (m : List ℕ)
-    → Answers (Hand.Done x o) q m true (used q m x o) (written q m x o) (Hand.Answered x.unit x.chain.ticket)
-answers_plainly x o q m = (λ k inventory s. record { asks = λ shared missed. (refl, seen_as_left shared (written q m x o)); queue = refl; memory = refl }, refl)
-
--- a job that ended so is answered by its ending
-pub answered_so : (x : PlainJob) (e : Ending) (q q' : BareQueue) (m n m' : List ℕ) (len : ℕ) (c : PlainChain) (place : ℕ)
-    (t : Ticket) → WritesWhole x e m len n → place ≡ x.unit → c ≡ x.chain → t ≡ c.ticket
-    → m' ≡ all_written n (used_writes q.ring c.id len) → q' ≡ completing m' c q
-    → Answers (Hand.Done x (Outcome.Ended e)) q m true q' m' (Hand.Answered place t)
-answered_so x e q q' m n m' len c place t wrote place_is chain t_is m_is q_is =
-    let o = Outcome.Ended e in
+-- a job that ended so is answered by its ending, once that is written and the chain is used
+pub answers_job : (shared : Bool) (x : PlainJob) (e : Ending) (q q' : BareQueue) (before middle after : List ℕ → Type 0) (len : ℕ)
+    (c : PlainChain) → WritesWholeIn x e before len middle → c ≡ x.chain
+    → SeenBehind shared middle after (used_writes q.ring c.id len)
+    → ((m : List ℕ) → after m → q' ≡ completing m c q) → EachSeen shared before after (AnswersJob shared x e q q')
+answers_job shared x e q q' before middle after len c wrote chain used queue =
+    λ seen may.
     let bytes = answer_of (lengths_of x.chain) e in
-    let first = scatter_writes x.chain.parts 0 bytes in
-    let memory : m' ≡ written q m x o =
-    m_is
-    ∙ ap (λ (d : PlainChain). all_written n (used_writes q.ring d.id len)) chain
-    ∙ ap (λ (k : ℕ). all_written n (used_writes q.ring x.chain.id k)) wrote.written
-    ∙ ap (λ (k : List ℕ). all_written k (used_writes q.ring x.chain.id (length bytes))) wrote.memory
-    ∙ sym (written_in_order m first (used_writes q.ring x.chain.id (length bytes))) in
-    let queue : q' ≡ used q m x o =
-    q_is ∙ ap (λ (d : PlainChain). completing m' d q) chain ∙ ap (λ (k : List ℕ). completing k x.chain q) memory in
-    let hand : Hand.Answered place t ≡ Hand.Answered x.unit x.chain.ticket =
-    ap (λ (p : ℕ). Hand.Answered p t) place_is
-    ∙ ap (λ (k : Ticket). Hand.Answered x.unit k) (t_is ∙ ap (λ (d : PlainChain). d.ticket) chain) in
-    subst (λ (a : BareQueue). Answers (Hand.Done x o) q m true a m' (Hand.Answered place t)) (sym queue)
-    (subst (λ (k : List ℕ). Answers (Hand.Done x o) q m true (used q m x o) k (Hand.Answered place t)) (sym memory)
-    (subst (λ (g : Hand). Answers (Hand.Done x o) q m true (used q m x o) (written q m x o) g) (sym hand)
-    (answers_plainly x o q m)))
+    let first : List Write = scatter_writes x.chain.parts 0 bytes in
+    let then : used_writes q.ring c.id len ≡ used_writes q.ring x.chain.id (length bytes) =
+    ap (λ (d : PlainChain). used_writes q.ring d.id len) chain ∙ ap (used_writes q.ring x.chain.id) wrote.written in
+    let all : SeenBehind shared before after (decided_writes q.ring x.chain (Outcome.Ended e)) =
+    behind_both shared before middle after first (used_writes q.ring x.chain.id (length bytes)) wrote.memory
+    (subst (λ (ws : List Write). SeenBehind shared middle after ws) then used) in
+    let (found, was, behind) = all seen may in
+    let left = all_written found (decided_writes q.ring x.chain (Outcome.Ended e)) in
+    let is : IsSeen shared left seen = is_seen shared left seen behind in
+    let after_it : q' ≡ completing seen x.chain q =
+    queue seen may ∙ ap (λ (d : PlainChain). completing seen d q) chain in (
+      found,
+      was,
+      (
+        left,
+        is,
+        (
+          λ k inventory s. record { asks = λ missed. (refl, is); queue = ap (with_slot s) after_it; memory = refl },
+          refl,
+        ),
+      ),
+    )
 
 -- a job whose commit is over is answered by what came of it
-pub answered : (x : PlainJob) (outcome : Option answers.Outcome) (q q' : BareQueue) (m n m' : List ℕ) (len : ℕ) (c : PlainChain)
-    (place : ℕ) (t : Ticket) → is_some outcome ≡ true → WritesEnding (record { job = x; outcome = outcome }) m len n
-    → IfSome (job_held (hand_with x outcome)) (λ (y : PlainJob). (place ≡ y.unit) × (c ≡ y.chain))
-    → t ≡ c.ticket → m' ≡ all_written n (used_writes q.ring c.id len) → q' ≡ completing m' c q
-    → Answers (hand_with x outcome) q m true q' m' (Hand.Answered place t)
-answered x None q q' m n m' len c place t over wrote took t_is m_is q_is = absurd (cc)
-answered x (Some o) q q' m n m' len c place t over wrote took t_is m_is q_is =
-    answered_so x (ending_of o) q q' m n m' len c place t wrote took.0 took.1 t_is m_is q_is
+pub answered : (shared : Bool) (x : PlainJob) (outcome : Option answers.Outcome) (q q' : BareQueue)
+    (before middle after : List ℕ → Type 0) (len : ℕ) (c : PlainChain) (place : ℕ) (t : Ticket) → is_some outcome ≡ true
+    → WritesEndingIn (record { job = x; outcome = outcome }) before len middle
+    → IfSome (job_held (hand_with x outcome)) (λ (y : PlainJob). (place ≡ y.unit) × (c ≡ y.chain)) → t ≡ c.ticket
+    → SeenBehind shared middle after (used_writes q.ring c.id len) → ((m : List ℕ) → after m → q' ≡ completing m c q)
+    → EachSeen shared before after (λ found left seen. AnswersIn shared (hand_with x outcome) q found true q' left seen
+    (Hand.Answered place t))
+answered shared x None q q' before middle after len c place t over wrote took t_is used queue = absurd (cc)
+answered shared x (Some o) q q' before middle after len c place t over wrote took t_is used queue =
+    let done : Hand = Hand.Done x (Outcome.Ended (ending_of o)) in
+    let hand : Hand.Answered place t ≡ Hand.Answered x.unit x.chain.ticket =
+    ap (λ (p : ℕ). Hand.Answered p t) took.0
+    ∙ ap (λ (k : Ticket). Hand.Answered x.unit k) (t_is ∙ ap (λ (d : PlainChain). d.ticket) took.1) in
+    subst (λ (h : Hand). EachSeen shared before after (λ found left seen. AnswersIn shared done q found true q' left seen h)) (sym hand)
+    (answers_job shared x (ending_of o) q q' before middle after len c wrote took.1 used queue)
+
+-- it is let go
+pub answered_away : (shared : Bool) (x : PlainJob) (outcome : Option answers.Outcome) (q : BareQueue) (may : List ℕ → Type 0)
+    → is_some outcome ≡ true → ((m : List ℕ) → may m → MayComplete q m x.chain → ⊥)
+    → EachSeen shared may may (λ found left seen. AnswersIn shared (hand_with x outcome) q found false q left seen Hand.Empty)
+answered_away shared x None q may over why = absurd (cc)
+answered_away shared x (Some o) q may over why =
+    each_read shared may may
+    (λ found left seen. AnswersIn shared (Hand.Done x (Outcome.Ended (ending_of o))) q found false q left seen Hand.Empty)
+    (λ m stood. stood) (λ m stood. (lets_go_so q m x.chain (why m stood), refl))
+
+-- a job whose commit isn't over stays
+pub answered_later : (shared : Bool) (x : PlainJob) (outcome : Option answers.Outcome) (q : BareQueue) (may : List ℕ → Type 0)
+    → is_some outcome ≡ false
+    → EachSeen shared may may (λ found left seen. AnswersIn shared (hand_with x outcome) q found false q left seen
+    (hand_with x outcome))
+answered_later shared x None q may later =
+    each_read shared may may (λ found left seen. AnswersIn shared (Hand.Taken x) q found false q left seen (Hand.Taken x))
+    (λ m stood. stood) (λ m stood. (stays_so q m, refl))
+answered_later shared x (Some o) q may later = absurd (cc)
+
+-- no job is in the hand
+pub answered_none : (shared : Bool) (q : BareQueue) (may : List ℕ → Type 0)
+    → EachSeen shared may may (λ found left seen. AnswersIn shared Hand.Empty q found false q left seen Hand.Empty)
+answered_none shared q may =
+    each_read shared may may (λ found left seen. AnswersIn shared Hand.Empty q found false q left seen Hand.Empty)
+    (λ m stood. stood) (λ m stood. (stays_so q m, refl))
+
+pub answered_before : (shared : Bool) (place : ℕ) (t : Ticket) (q : BareQueue) (may : List ℕ → Type 0)
+    → EachSeen shared may may (λ found left seen. AnswersIn shared (Hand.Answered place t) q found false q left seen
+    (Hand.Answered place t))
+answered_before shared place t q may =
+    each_read shared may may
+    (λ found left seen. AnswersIn shared (Hand.Answered place t) q found false q left seen (Hand.Answered place t))
+    (λ m stood. stood) (λ m stood. (stays_so q m, refl))
+
+-- in a memory that nobody else writes
+pub answers_own : (h h' : Hand) (q q' : BareQueue) (m m' n : List ℕ) (r : Bool) → AnswersIn false h q m r q' m' n h'
+    → Answers h q m r q' m' h'
+answers_own (Hand.Done x o) h' q q' m m' n true (does, hand) = (
+  (λ k inventory s.
+      let xs : List Write = decided_writes q.ring x.chain o in
+      let seen : n ≡ all_written m xs = ((does k [] Slot.Empty).asks false).1 in
+      let d : List ℕ → Transition = λ z. Transition.Answer k x o (as_seen z xs) in
+      does_own inventory (d (all_written m xs)) (with_slot s q) (with_slot s q') m m'
+      (subst (λ z. DoesQueueIn false inventory (d z) (with_slot s q) m (with_slot s q') m') seen (does k inventory s))),
+  hand,
+)
+answers_own (Hand.Done x o) h' q q' m m' n false (gone, hand) = (
+  record { why = gone.why; stays = record { queue = gone.stays.queue; memory = gone.stays.memory } },
+  hand,
+)
+answers_own Hand.Empty h' q q' m m' n true impossible = impossible
+answers_own (Hand.Taken x) h' q q' m m' n true impossible = impossible
+answers_own (Hand.Answered place t) h' q q' m m' n true impossible = impossible
+answers_own Hand.Empty h' q q' m m' n false (stays, hand) = (record { queue = stays.queue; memory = stays.memory }, hand)
+answers_own (Hand.Taken x) h' q q' m m' n false (stays, hand) = (record { queue = stays.queue; memory = stays.memory }, hand)
+answers_own (Hand.Answered place t) h' q q' m m' n false (stays, hand) = (
+  record { queue = stays.queue; memory = stays.memory },
+  hand,
+)
 
 -- these many readable and writable bytes
 abbrev pub the_lengths : ℕ → ℕ → ChainLengths

@@ -1,10 +1,16 @@
 -- What a request that is served at once is, by what the calls of its unit answer.
-use Rattle.std.proofs.Common.{◌≡◌, ℕ, Bool, true, List, [], refl, ap, sym, ◌∙◌, subst}
+use Rattle.std.proofs.Common.{◌≡◌, ℕ, ◌+◌, Bool, true, false, List, [], Option, Some, None, length, refl, ap, sym, ◌∙◌, subst, arith}
+use Rattle.cdb.specs.declared.commands.Command.{Command}
+use Rattle.cdb.specs.Need.{need_of}
+use Rattle.replies.specs.Statuses.{good}
+use Rattle.replies.specs.PlainReply.{good_data, success}
+use Rattle.decisions.specs.declared.answer.ChainLengths.{ChainLengths}
+use Rattle.ring_core.specs.Parts.{readable_total, writable_total}
 use Rattle.ring_core.specs.declared.log.Ticket.{Ticket}
 use Rattle.ring_core.specs.State.{PlainChain}
-use Rattle.ring_core.specs.Writes.{all_written}
+use Rattle.ring_core.specs.Writes.{Wrote, scatter_writes}
 use Rattle.ring_core.specs.Offer.{used_writes}
-use Rattle.unit_model.specs.Endings.{Ending}
+use Rattle.unit_model.specs.Endings.{Ending, answer_of}
 use Rattle.unit_model.specs.Steps.{Step}
 use Rattle.unit_model.specs.Released.{released}
 use Rattle.unit_model.specs.Jobs.{PlainJob, Jobs, of_tasks}
@@ -14,14 +20,17 @@ use Rattle.unit_history.specs.Calls as calls
 use Rattle.unit_history.specs.Endings.{ending_of}
 use Rattle.unit_history.specs.declared.outcomes.Outcome as answers
 use Rattle.unit_history.specs.declared.outcomes.Entered.TheVariants as entered
-use Rattle.device_model.specs.Parts.{Outcome, Hand}
+use Rattle.device_model.specs.Parts.{Outcome, Slot, Hand, lengths_of}
 use Rattle.queues.specs.Queue.{BareQueue, completing}
-use Rattle.phases.specs.Units.{Commits, Leaves}
-use Rattle.phases.specs.Answering.{Answers}
-use Rattle.phases.specs.Outcomes.{WritesWhole}
+use Rattle.queues.specs.Completing.{SeenBehind}
+use Rattle.phases.specs.Units.{EntersAs, Commits, Leaves}
 use Rattle.phases.specs.DoingUnit.{with_more}
-use Rattle.phases.specs.Serving.{ServesAtOnce}
-use Rattle.phases.proofs.Answered.{answered_so}
+use Rattle.phases.specs.Serving.{Serves}
+use Rattle.phases.specs.InMemory.{EachSeen}
+use Rattle.phases.specs.Outcomes.{WritesWholeIn}
+use Rattle.phases.specs.ServingInMemory.{ServesAtOnceIn, ServesIn}
+use Rattle.phases.proofs.Answered.{AnswersJob, answers_job, answers_own, both_lengths}
+use Rattle.phases.proofs.Behind.{each_read, each_maps}
 use Rattle.phases.proofs.Commits.{committed}
 use Rattle.phases.proofs.Enters.{runs, with_none}
 
@@ -38,12 +47,12 @@ commits x u v what c =
     (d, of, does, ap (λ (e : Ending). Hand.Done x (Outcome.Ended e)) ends)
 
 -- all of it
-all : (x : PlainJob) (u v z u' : PlainUnit) (q q' : BareQueue) (m m' : List ℕ) (out out' : Jobs) (left : Bool)
-    (what : answers.Outcome) → calls.Enters u x (entered.Run x) v → calls.Commits v x what z
-    → Answers (Hand.Done x (came what)) q m true q' m' (Hand.Answered x.unit x.chain.ticket)
-    → Leaves (Hand.Answered x.unit x.chain.ticket) z out left u' Hand.Empty out'
-    → ServesAtOnce x u q m out left u' q' m' out'
-all x u v z u' q q' m m' out out' left what enters ran answered leaves =
+all : (shared : Bool) (x : PlainJob) (u v z u' : PlainUnit) (q q' : BareQueue) (found left seen : List ℕ) (out out' : Jobs)
+    (gone : Bool) (what : answers.Outcome) → calls.Enters u x (entered.Run x) v → calls.Commits v x what z
+    → AnswersJob shared x (ending_of what) q q' found left seen
+    → Leaves (Hand.Answered x.unit x.chain.ticket) z out gone u' Hand.Empty out'
+    → ServesAtOnceIn shared x u q found out gone u' q' left seen out'
+all shared x u v z u' q q' found left seen out out' gone what enters ran answered leaves =
     record {
       entered = v;
       committed = z;
@@ -55,18 +64,40 @@ all x u v z u' q q' m m' out out' left what enters ran answered leaves =
     }
 
 -- the same of the job that the unit handed out, which is the request's, and of the ticket that was used
-pub served : (x y : PlainJob) (t : Ticket) (u v z u' : PlainUnit) (q q' : BareQueue) (m m' : List ℕ) (out out' : Jobs)
-    (left : Bool) (what : answers.Outcome) → calls.Enters u x (entered.Run y) v → calls.Commits v y what z
-    → t ≡ y.chain.ticket
-    → Answers (Hand.Done y (came what)) q m true q' m' (Hand.Answered y.unit y.chain.ticket)
-    → ((place : ℕ) → Leaves (Hand.Answered place t) z out left u' Hand.Empty out')
-    → ServesAtOnce x u q m out left u' q' m' out'
-served x y t u v z u' q q' m m' out out' left what enters ran used answered leaves =
+served_so : (shared : Bool) (x y : PlainJob) (t : Ticket) (u v z u' : PlainUnit) (q q' : BareQueue) (found left seen : List ℕ)
+    (out out' : Jobs) (gone : Bool) (what : answers.Outcome) → calls.Enters u x (entered.Run y) v → calls.Commits v y what z
+    → t ≡ y.chain.ticket → AnswersJob shared y (ending_of what) q q' found left seen
+    → ((place : ℕ) → Leaves (Hand.Answered place t) z out gone u' Hand.Empty out')
+    → ServesAtOnceIn shared x u q found out gone u' q' left seen out'
+served_so shared x y t u v z u' q q' found left seen out out' gone what enters ran used answered leaves =
     let is : y ≡ x = enters.0 in
     let enters_y = subst (λ j. calls.Enters u j (entered.Run y) v) (sym is) enters in
-    let leaves_y = subst (λ k. Leaves (Hand.Answered y.unit k) z out left u' Hand.Empty out') used (leaves y.unit) in
-    subst (λ j. ServesAtOnce j u q m out left u' q' m' out') is
-    (all y u v z u' q q' m m' out out' left what enters_y ran answered leaves_y)
+    let leaves_y = subst (λ k. Leaves (Hand.Answered y.unit k) z out gone u' Hand.Empty out') used (leaves y.unit) in
+    subst (λ j. ServesAtOnceIn shared j u q found out gone u' q' left seen out') is
+    (all shared y u v z u' q q' found left seen out out' gone what enters_y ran answered leaves_y)
+
+pub served : (shared : Bool) (x y : PlainJob) (t : Ticket) (u v z u' : PlainUnit) (q q' : BareQueue)
+    (before after : List ℕ → Type 0) (s : Slot) (out out' : Jobs) (gone : Bool) (what : answers.Outcome)
+    → calls.Enters u x (entered.Run y) v → calls.Commits v y what z → t ≡ y.chain.ticket
+    → EachSeen shared before after (AnswersJob shared y (ending_of what) q q')
+    → ((place : ℕ) → Leaves (Hand.Answered place t) z out gone u' Hand.Empty out')
+    → EachSeen shared before after (λ found left seen. ServesIn shared x u q found s out (Some gone) u' q' left seen s out')
+served shared x y t u v z u' q q' before after s out out' gone what enters ran used answered leaves =
+    each_maps shared before after (AnswersJob shared y (ending_of what) q q')
+    (λ found left seen. ServesIn shared x u q found s out (Some gone) u' q' left seen s out')
+    (λ found left seen is told. (
+      served_so shared x y t u v z u' q q' found left seen out out' gone what enters ran used told leaves,
+      refl,
+    )) answered
+
+-- the request only entered, or was refused
+pub only_entered : (shared : Bool) (x : PlainJob) (u u' : PlainUnit) (q : BareQueue) (may : List ℕ → Type 0) (s s' : Slot)
+    (out : Jobs) → ((list : Jobs) → EntersAs x u list u' s' list)
+    → EachSeen shared may may (λ found left seen. ServesIn shared x u q found s out None u' q left seen s' out)
+only_entered shared x u u' q may s s' out enters =
+    each_read shared may may (λ found left seen. ServesIn shared x u q found s out None u' q left seen s' out)
+    (λ m stood. stood)
+    (λ m stood. record { enters = enters; at_queue = record { queue = refl; memory = refl; seen = refl }; jobs = refl })
 
 -- a job leaves its unit, where no other waits
 left_alone : (u u' : PlainUnit) (place : ℕ) (t : Ticket) (out : Jobs) → u.parked ≡ [] → Steps u (Step.Leave t) u'
@@ -79,12 +110,61 @@ left_alone u u' place t out none step =
     )
 
 -- all of it in one call of the unit but for the use of the chain, which follows
-pub served_alone : (x : PlainJob) (u u' : PlainUnit) (q q' : BareQueue) (m n m' : List ℕ) (len : ℕ) (c : PlainChain) (out : Jobs)
-    → ServesAlone (λ e. WritesWhole x e m len n) u x u' → c ≡ x.chain
-    → m' ≡ all_written n (used_writes q.ring c.id len) → q' ≡ completing m' c q
-    → ServesAtOnce x u q m out true u' q' m' out
-served_alone x u u' q q' m n m' len c out s chain memory queue =
-    all x u s.once_entered s.once_run u' q q' m m' out out true s.outcome s.enters s.commits
-    (answered_so x (ending_of s.outcome) q q' m n m' len c x.unit x.chain.ticket s.answered refl chain
-    (ap (λ (d : PlainChain). d.ticket) (sym chain)) memory queue)
-    (left_alone s.once_run u' x.unit x.chain.ticket out s.alone s.leaves)
+pub served_alone : (shared : Bool) (x : PlainJob) (u u' : PlainUnit) (q q' : BareQueue) (before middle after : List ℕ → Type 0)
+    (len : ℕ) (c : PlainChain) (s : Slot) (out : Jobs) → ServesAlone (λ e. WritesWholeIn x e before len middle) u x u'
+    → c ≡ x.chain → SeenBehind shared middle after (used_writes q.ring c.id len)
+    → ((m : List ℕ) → after m → q' ≡ completing m c q)
+    → EachSeen shared before after (λ found left seen. ServesIn shared x u q found s out (Some true) u' q' left seen s out)
+served_alone shared x u u' q q' before middle after len c s out alone chain used queue =
+    each_maps shared before after (AnswersJob shared x (ending_of alone.outcome) q q')
+    (λ found left seen. ServesIn shared x u q found s out (Some true) u' q' left seen s out)
+    (λ found left seen is answered. (
+      all shared x u alone.once_entered alone.once_run u' q q' found left seen out out true alone.outcome alone.enters
+          alone.commits answered (left_alone alone.once_run u' x.unit x.chain.ticket out alone.alone alone.leaves),
+      refl,
+    ))
+    (answers_job shared x (ending_of alone.outcome) q q' before middle after len c alone.answered chain used queue)
+
+-- a request that is served in such a memory
+pub serves_own : (x : PlainJob) (u u' : PlainUnit) (q q' : BareQueue) (m m' n : List ℕ) (s s' : Slot) (out out' : Jobs)
+    (r : Option Bool) → ServesIn false x u q m s out r u' q' m' n s' out' → Serves x u q m s out r u' q' m' s' out'
+serves_own x u u' q q' m m' n s s' out out' (Some gone) (at_once, slot) = (
+  record {
+    entered = at_once.entered;
+    committed = at_once.committed;
+    outcome = at_once.outcome;
+    enters = at_once.enters;
+    commits = at_once.commits;
+    answers = answers_own (Hand.Done x at_once.outcome) (Hand.Answered x.unit x.chain.ticket) q q' m m' n true at_once.answers;
+    leaves = at_once.leaves;
+  },
+  slot,
+)
+serves_own x u u' q q' m m' n s s' out out' None enters =
+    record {
+      enters = enters.enters;
+      queue = enters.at_queue.queue;
+      memory = enters.at_queue.memory;
+      jobs = enters.jobs;
+    }
+
+-- what was written over a job's parts answers it, by its chain's lengths
+pub writes_whole : (x : PlainJob) (e : Ending) (n : ChainLengths) (c : PlainChain) (before after : List ℕ → Type 0) (len : ℕ)
+    → n.readable ≡ readable_total x.chain.parts → n.writable ≡ writable_total x.chain.parts → c ≡ x.chain
+    → len ≡ length (answer_of n e) → Wrote before after (scatter_writes c.parts 0 (answer_of n e))
+    → WritesWholeIn x e before len after
+writes_whole x e n c before after len readable writable chain is wrote =
+    let whole : n ≡ lengths_of x.chain = both_lengths n (readable_total x.chain.parts) (writable_total x.chain.parts)
+    readable writable in
+    record {
+      written = is ∙ ap (λ (k : ChainLengths). length (answer_of k e)) whole;
+      memory =
+          subst (λ (k : ChainLengths). Wrote before after (scatter_writes x.chain.parts 0 (answer_of k e))) whole
+          (subst (λ (d : PlainChain). Wrote before after (scatter_writes d.parts 0 (answer_of n e))) chain wrote);
+    }
+
+-- data of a command that takes none are its success
+pub read_as : (command : Command) (bytes : List ℕ) → (need_of command).out ≡ 0 → good_data bytes ≡ success command bytes
+read_as command bytes none =
+    let moved : length bytes ≡ (need_of command).out + length bytes = omega (arith, none) in
+    ap (λ (k : ℕ). record { status = good; sense = None; payload = bytes; moved = k }) moved

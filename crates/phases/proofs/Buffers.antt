@@ -1,19 +1,20 @@
 -- What a fetch from the event queue does, as transitions.
-use Rattle.std.proofs.Common.{◌≡◌, ℕ, List, Bool, true, false, ◌||◌, refl, ap, ◌∙◌, subst}
+use Rattle.std.proofs.Common.{◌≡◌, ℕ, List, Bool, true, false, ◌||◌, refl, ap, sym, ◌∙◌, subst}
 use Rattle.ring_core.specs.State.{RingState, PlainChain}
 use Rattle.ring_core.specs.Fetch.{Takes}
 use Rattle.ring_core.specs.Writes.{Write, all_written}
 use Rattle.ring_core.specs.declared.log.Ticket.{Ticket}
 use Rattle.event_queue.specs.Port.{PlainPort}
-use Rattle.device_model.specs.Parts.{PlainFetch, Slot, as_left, answer_writes, is_short}
+use Rattle.device_model.specs.Parts.{PlainFetch, IsSeen, Slot, answer_writes, is_short}
 use Rattle.device_model.specs.Transitions.{Transition}
 use Rattle.device_model.specs.After.{with_chain}
 use Rattle.device_model.specs.Happens.{spent_bytes}
-use Rattle.device_model.proofs.Seeing.{seen_as_left}
 use Rattle.queues.specs.Queue.{BareQueue, completing}
 use Rattle.phases.specs.Queue.{with_slot}
 use Rattle.queues.specs.Looking.{Breaks}
-use Rattle.phases.specs.EventQueue.{IsEventFetch, DoesAtPort, TakesBuffer}
+use Rattle.phases.specs.EventQueue.{IsEventFetch}
+use Rattle.phases.specs.InMemory.{as_seen}
+use Rattle.phases.specs.EventsInMemory.{DoesAtPortIn, TakesBuffer}
 
 -- what one lock lends is the same where its parts are
 same_lent : (q : BareQueue) (r : RingState) (n : ℕ) → q.ring ≡ r → q.notices ≡ n → q ≡ record { ring = r; notices = n }
@@ -43,43 +44,42 @@ module _ (old new : BareQueue) (m : List ℕ) (c : PlainChain) (bytes : List ℕ
   is_accepted = same_lent new (with_chain c old.ring) old.notices taken.after same
 
   -- the transition that the taking of the buffer is
-  pub buffer_taken : (q' : BareQueue) (m' : List ℕ) (p' : PlainPort) (b : Bool) → (is_short c || p.missed) ≡ b
-      → TakesBuffer b c new m p q' m' p'
-      → (d : Transition) × IsEventFetch d × DoesAtPort d (with_slot s old) m p (with_slot s q') m' p'
-  buffer_taken q' m' p' false held (stays, port) = (
+  pub buffer_taken : (shared : Bool) (q' : BareQueue) (left seen : List ℕ) (p' : PlainPort) (b : Bool) → (is_short c || p.missed) ≡ b
+      → IsSeen shared left seen → TakesBuffer b c new m p q' left seen p'
+      → (d : Transition) × IsEventFetch d × DoesAtPortIn shared d (with_slot s old) m p (with_slot s q') left seen p'
+  buffer_taken shared q' left seen p' false held is (stays, port) = (
     Transition.Hold fetch,
     of_queue,
     record {
-      asks = λ shared inventory. (gives, held);
+      asks = λ inventory. (gives, held);
       queue = ap (with_slot s) (stays.queue ∙ is_accepted);
       memory = stays.memory;
+      sees = stays.seen ∙ sym stays.memory;
       port = port;
     },
   )
-  buffer_taken q' m' p' true spent (uses, port) =
-      let memory : m' ≡ all_written m writes =
+  buffer_taken shared q' left seen p' true spent is (uses, port) =
+      let memory : left ≡ all_written m writes =
       uses.memory ∙ ap (λ (n : BareQueue). all_written m (answer_writes n.ring c (spent_bytes c))) is_accepted in (
-        Transition.UseBuffer fetch (as_left m writes),
+        Transition.UseBuffer fetch (as_seen seen writes),
         of_queue,
         record {
-          asks = λ shared inventory. (gives, spent, refl, seen_as_left shared (all_written m writes));
-          queue =
-              ap (with_slot s)
-              (uses.queue
-              ∙ ap (λ (n : BareQueue). completing m' c n) is_accepted
-              ∙ ap (λ (k : List ℕ). completing k c accepted) memory);
+          asks = λ inventory. (gives, spent, refl, subst (λ (k : List ℕ). IsSeen shared k seen) memory is);
+          queue = ap (with_slot s) (uses.queue ∙ ap (λ (n : BareQueue). completing seen c n) is_accepted);
           memory = memory;
+          sees = refl;
           port = port;
         },
       )
 
 -- a fault of the guest that breaks the event queue is the transition that breaks it
-pub broken_at_port : (old new : BareQueue) (m : List ℕ) (s : Slot) (p : PlainPort) (b : Breaks old m new)
-    → DoesAtPort (Transition.Break old.ring.queue b.fault) (with_slot s old) m p (with_slot s new) m p
-broken_at_port old new m s p b =
+pub broken_at_port : (shared : Bool) (old new : BareQueue) (m : List ℕ) (s : Slot) (p : PlainPort) (b : Breaks old m new)
+    → DoesAtPortIn shared (Transition.Break old.ring.queue b.fault) (with_slot s old) m p (with_slot s new) m m p
+broken_at_port shared old new m s p b =
     record {
-      asks = λ shared inventory. (b.whole, b.offered);
+      asks = λ inventory. (b.whole, b.offered);
       queue = ap (with_slot s) b.after;
       memory = refl;
+      sees = refl;
       port = refl;
     }

@@ -3,7 +3,11 @@ pub mod Deciding
 pub mod Reading
 pub mod Refusing
 pub mod Fetched
+pub mod Directed
 pub mod Answered
 pub mod Commits
 pub mod Enters
 pub mod AtOnce
+pub mod Behind
+pub mod EventsOwn
+pub mod Raised

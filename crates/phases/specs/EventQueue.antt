@@ -1,19 +1,17 @@
 -- What the phases do that work on the event queue: a fetch from it, and the raising of an event.
-use Rattle.std.specs.Prelude.{ℕ, ◌≡◌, ◌<◌, ◌&&◌, ◌||◌, ◌++◌, Bool, true, false, List, [], ◌∷◌, length, drop, Result, Ok, Err, ⊤}
+use Rattle.std.specs.Prelude.{ℕ, ◌≡◌, ◌<◌, ◌&&◌, ◌++◌, Bool, true, false, List, [], ◌∷◌, length, drop, Result, Ok, Err, ⊤}
 use Rattle.block_store.specs.declared.NoMemory.{NoMemory}
 use Rattle.scsi_codec.specs.declared.lun.Address.{Address}
 use Rattle.scsi_codec.specs.declared.event_queue.Event.{Event as Report}
 use Rattle.scsi_codec.specs.EventQueue.{event_bytes}
 use Rattle.ring_core.specs.State.{PlainChain}
-use Rattle.ring_core.specs.Writes.{all_written}
 use Rattle.ring_core.specs.Offer.{MayLackMemory}
 use Rattle.event_queue.specs.Port.{PlainPort}
 use Rattle.device_model.specs.Parts.{answer_writes, as_left, is_short}
 use Rattle.device_model.specs.World.{PlainQueue}
 use Rattle.device_model.specs.Transitions.{Transition}
-use Rattle.device_model.specs.Happens.{spent_bytes}
 use Rattle.device_model.specs.Phases.{AsksQueue, queue_after, bytes_after}
-use Rattle.queues.specs.Queue.{BareQueue, completing, MayComplete}
+use Rattle.queues.specs.Queue.{BareQueue, MayComplete}
 use Rattle.phases.specs.DoingQueue.{AtQueue}
 use Rattle.phases.specs.Fetching.{IsFree, HasSome}
 use Rattle.phases.specs.Direct.{StaysQueue}
@@ -92,21 +90,7 @@ RaisesNext (e ∷ later) q m p result q' m' p' w' = RaisesTo p.buffers e later q
 RaisesNext [] q m p true q' m' p' w' = ⊥
 RaisesNext [] q m p false q' m' p' w' = StaysRaised q m p [] q' m' p' w'
 
--- Only private functions cite what follows.
-
--- the chain was written with these bytes, and used
-pub record UsesWith (c : PlainChain) (bytes : List ℕ) (q : BareQueue) (m : List ℕ) (q' : BareQueue) (m' : List ℕ) : Type 0 where
-  pub memory : m' ≡ all_written m (answer_writes q.ring c bytes)
-  pub queue : q' ≡ completing m' c q
-
--- a chain of the event queue is used at once, or held
-abbrev pub TakesBuffer : Bool → PlainChain → BareQueue → List ℕ → PlainPort → BareQueue → List ℕ → PlainPort → Type 0
-TakesBuffer true c q m p q' m' p' =
-    UsesWith c (spent_bytes c) q m q' m' × (p' ≡ record p { missed = p.missed && is_short c })
-TakesBuffer false c q m p q' m' p' = StaysQueue q q' m m' × (p' ≡ record p { buffers = p.buffers ++ c ∷ [] })
-
-abbrev pub TakesBufferOf : PlainChain → BareQueue → List ℕ → PlainPort → BareQueue → List ℕ → PlainPort → Type 0
-TakesBufferOf c q m p q' m' p' = TakesBuffer (is_short c || p.missed) c q m p q' m' p'
+-- Only a private function cites what follows.
 
 -- the oldest buffer, if there is one, may be completed
 abbrev pub MayRaise : List PlainChain → BareQueue → List ℕ → Type 0

@@ -16,3 +16,6 @@ pub mod Answering
 pub mod Resetting
 pub mod Resizing
 pub mod Serving
+pub mod InMemory
+pub mod EventsInMemory
+pub mod ServingInMemory

@@ -33,7 +33,11 @@ TakesRequest inventory m s q (Ok (taken.Arrived x)) s' q' =
 TakesRequest inventory m s q (Err e) s' q' =
     FetchesRequest inventory m (with_slot s q) (Err e) (with_slot s' q')
 
+-- the chain of a request that arrived is outstanding at the queue, whose memory has this size
+abbrev pub IsOutstandingIn : ℕ → Result Taken NoMemory → BareQueue → Type 0
+IsOutstandingIn size (Ok (taken.Arrived x)) q' = (size ≡ q'.ring.memory) × Owns q'.ring x.chain
+IsOutstandingIn size r q' = ⊤
+
 -- the chain of a request that arrived is outstanding at the queue, whose memory this is
 abbrev pub IsOutstanding : List ℕ → Result Taken NoMemory → BareQueue → Type 0
-IsOutstanding m (Ok (taken.Arrived x)) q' = (length m ≡ q'.ring.memory) × Owns q'.ring x.chain
-IsOutstanding m r q' = ⊤
+IsOutstanding m r q' = IsOutstandingIn (length m) r q'

@@ -1,18 +1,20 @@
 //! The step that answers a job.
 
-ghost use Rattle.std.specs.Prelude.{◌≡◌, ◌<◌, length, true, is_some, MatchOption, IfSome, Some};
+ghost use Rattle.std.specs.Prelude.{◌≡◌, ◌<◌, List, ℕ, length, true, is_some, MatchOption, IfSome, Some};
+ghost use Rattle.ring_core.specs.State.{Owns};
 ghost use Rattle.queues.specs.Queue.{MayComplete};
 ghost use Rattle.device_model.specs.Parts as plain;
 ghost use Rattle.phases.specs.Parts.{hand_of, job_held, outcome_in};
 ghost use Rattle.phases.specs.Giving.{given_for, given_in};
-ghost use Rattle.phases.specs.Outcomes.{WritesEnding};
+ghost use Rattle.phases.specs.Outcomes.{WritesEndingIn};
 ghost use Rattle.phases.specs.Answering.{Answers};
+ghost use Rattle.phases.specs.InMemory.{EachSeen, AnswersIn};
 
 use crate::hand::Hand;
 use crate::job_in_hand::JobInHand;
 use crate::note::{Cause, Note};
 use crate::receipt_or_note::ReceiptOrNote;
-use guest_mem::GuestMem;
+use guest_mem::{GuestMem, WritableMemory};
 use queues::Queue;
 use ring_core::{Chain, Ticket};
 use std::mem;
@@ -20,14 +22,15 @@ use unit_history::Outcome;
 
 /// Writes what answers a job whose commit is over: how many bytes it has. `None` where the memory isn't the queue's, or
 /// the queue doesn't own the chain.
-fn write_held(queue: &Queue, memory: &mut GuestMem, held: &JobInHand) -> Option<u32>
+fn write_held<M: WritableMemory>(queue: &Queue, memory: &mut M, held: &JobInHand) -> Option<u32>
     requires over { is_some held.now.outcome ≡ true }
-    ensures owned { MatchOption result ((MayComplete queue.now memory.old held.now.job.chain → ⊥)
+    ensures owned { MatchOption result (((m : List ℕ) → M.may_be memory.old m → MayComplete queue.now m held.now.job.chain → ⊥)
         × (memory.new ≡ memory.old))
-        (λ len. MayComplete queue.now memory.old held.now.job.chain × WritesEnding held.now memory.old len memory.new) }
-    ensures size { length memory.new ≡ length memory.old }
+        (λ len. (M.extent memory.old ≡ queue.now.ring.memory) × Owns queue.now.ring held.now.job.chain
+        × WritesEndingIn held.now (M.may_be memory.old) len (M.may_be memory.new)) }
+    ensures size { M.extent memory.new ≡ M.extent memory.old }
 {
-    if !queue.may_complete(memory, held.job().chain()) {
+    if !queue.may_complete_in(memory, held.job().chain()) {
         return None;
     }
     Some(held.write(memory))
@@ -67,6 +70,7 @@ fn given(ticket: Ticket, outcome: Outcome) -> ReceiptOrNote
 /// Answers the job in the hand whose commit is over by what came of it, and uses its chain; its task is then to leave.
 /// Returns its receipt, or a note of why it got none. `None` where no such job is in the hand. `None`, with the job let
 /// go, where the memory isn't the queue's, or the queue doesn't own the chain, which never happens in one device.
+#[inline(always)]
 pub fn phase_answer(
     queue: &mut Queue,
     memory: &mut GuestMem,
@@ -76,6 +80,23 @@ pub fn phase_answer(
         (hand_of hand.new) }
     ensures gives { IfSome result (λ given. given_in hand.old ≡ Some given) }
     ensures size { length memory.new ≡ length memory.old }
+{
+    phase_answer_in(queue, memory, hand)
+}
+
+/// Answers the job in the hand in any memory, as [`phase_answer`] does. Whether the driver wants a notice is decided in a
+/// phase behind what it wrote.
+pub fn phase_answer_in<M: WritableMemory>(
+    queue: &mut Queue,
+    memory: &mut M,
+    hand: &mut Hand,
+) -> Option<ReceiptOrNote>
+    ensures answers { EachSeen M.shared (M.may_be memory.old) (M.may_be memory.new)
+        (λ found left seen. AnswersIn M.shared (hand_of hand.old) queue.old found (is_some result) queue.new left seen
+        (hand_of hand.new)) }
+    ensures gives { IfSome result (λ given. given_in hand.old ≡ Some given) }
+    ensures size { M.extent memory.new ≡ M.extent memory.old }
+    ensures reading { M.is_open memory.old → M.is_open memory.new }
 {
     let written = match hand {
         Hand::Job(held) => {
@@ -89,7 +110,7 @@ pub fn phase_answer(
     let (unit, chain, outcome) = take_job(hand);
     match written {
         Some(len) => {
-            let answered = queue.complete(memory, chain, len);
+            let answered = queue.complete_in(memory, chain, len);
             let ticket = answered.ticket();
             *hand = Hand::Answered(unit, answered);
             Some(given(ticket, outcome))

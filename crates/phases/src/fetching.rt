@@ -1,6 +1,6 @@
 //! The steps that take a chain from a queue.
 
-ghost use Rattle.std.specs.Prelude.{◌≡◌, ◌+◌, ◌≤◌, ◌^◌, length};
+ghost use Rattle.std.specs.Prelude.{◌≡◌, ◌+◌, ◌≤◌, ◌^◌, List, ℕ, length};
 ghost use Rattle.ring_core.specs.Parts.{PartsFit, writable_total};
 ghost use Rattle.task_mgmt.specs.Control.{Suits};
 ghost use Rattle.device_model.specs.Happens.{DecidesControl};
@@ -12,10 +12,10 @@ ghost use Rattle.phases.specs.Fetching.{FetchesRequest, FetchesControl, IsDecide
 use crate::direct_chain::DirectChain;
 use crate::function::OpenFunction;
 use crate::slot::Slot;
-use crate::taking::{Taken, take_request};
+use crate::taking::{Taken, take_request_in};
 use block_store::NoMemory;
 use decisions::{ChainLengths, Inventory};
-use guest_mem::GuestMem;
+use guest_mem::{GuestMem, Memory, StillMem};
 use queues::{Fetch, Queue};
 use ring_core::{Chain, Fetched};
 use scsi_codec::{CONTROL_QUEUE, one_control};
@@ -47,7 +47,27 @@ pub fn phase_fetch(
     ensures { FetchesRequest inventory.now memory.now
         (with_slot (slot_of slot.old) queue.old) result (with_slot (slot_of slot.new) queue.new) }
 {
-    match take_request(queue, slot, memory, inventory) {
+    let mut still = StillMem::of(memory);
+    phase_fetch_in(queue, slot, &mut still, inventory)
+}
+
+/// Takes the next chain of a request queue from any memory, as [`phase_fetch`] does. Called in a phase of the
+/// memory that wrote nothing yet.
+#[inline(always)]
+pub fn phase_fetch_in<M: Memory>(
+    queue: &mut Queue,
+    slot: &mut Slot,
+    memory: &mut M,
+    inventory: &Inventory,
+) -> Result<bool, NoMemory>
+    requires reading { M.is_open memory.old }
+    ensures size { M.extent memory.new ≡ M.extent memory.old }
+    ensures stays { (m : List ℕ) → M.may_be memory.new m → M.may_be memory.old m }
+    ensures reading { M.is_open memory.new }
+    ensures fetches { (m : List ℕ) → M.may_be memory.new m → FetchesRequest inventory.now m
+        (with_slot (slot_of slot.old) queue.old) result (with_slot (slot_of slot.new) queue.new) }
+{
+    match take_request_in(queue, slot, memory, inventory) {
         Err(NoMemory) => Err(NoMemory),
         Ok(Taken::Nothing) => Ok(false),
         Ok(Taken::Other) => Ok(true),
@@ -104,6 +124,28 @@ pub fn phase_fetch_control(
     ensures { FetchesControl inventory.now memory.now (with_slot (slot_of slot.old) queue.old) function.old
         result (with_slot (slot_of slot.new) queue.new) function.new }
 {
+    let mut still = StillMem::of(memory);
+    phase_fetch_control_in(queue, slot, function, &mut still, inventory)
+}
+
+/// Takes the next chain of the control queue from any memory, as [`phase_fetch_control`] does. Called in a phase
+/// of the memory that wrote nothing yet.
+#[inline(always)]
+pub fn phase_fetch_control_in<M: Memory>(
+    queue: &mut Queue,
+    slot: &mut Slot,
+    function: &mut Option<OpenFunction>,
+    memory: &mut M,
+    inventory: &Inventory,
+) -> Result<bool, NoMemory>
+    requires reading { M.is_open memory.old }
+    ensures size { M.extent memory.new ≡ M.extent memory.old }
+    ensures stays { (m : List ℕ) → M.may_be memory.new m → M.may_be memory.old m }
+    ensures reading { M.is_open memory.new }
+    ensures fetches { (m : List ℕ) → M.may_be memory.new m
+        → FetchesControl inventory.now m (with_slot (slot_of slot.old) queue.old) function.old
+        result (with_slot (slot_of slot.new) queue.new) function.new }
+{
     if queue.number() != CONTROL_QUEUE
         || function.is_some()
         || !slot.is_empty()
@@ -111,7 +153,7 @@ pub fn phase_fetch_control(
     {
         return Ok(false);
     }
-    match queue.fetch(memory) {
+    match queue.fetch_in(memory) {
         Err(NoMemory) => Err(NoMemory),
         Ok(Fetch::Idle) => Ok(false),
         Ok(Fetch::Broke) => Ok(true),

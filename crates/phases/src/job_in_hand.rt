@@ -5,7 +5,7 @@ ghost use Rattle.unit_history.specs.Calls.{Commits};
 
 use crate::response::write_outcome;
 use block_store::Prepared;
-use guest_mem::GuestMem;
+use guest_mem::WritableMemory;
 use std::marker::Model;
 use unit_history::{Job, Outcome, PreparedWrite, StartedWrite, UnitState};
 
@@ -34,9 +34,9 @@ impl Model for JobInHand {
 }
 
 impl JobInHand {
-    ghost use Rattle.std.specs.Prelude.{None, true, length};
+    ghost use Rattle.std.specs.Prelude.{None, true};
     ghost use Rattle.phases.specs.Giving.{is_reply};
-    ghost use Rattle.phases.specs.Outcomes.{WritesEnding};
+    ghost use Rattle.phases.specs.Outcomes.{WritesEndingIn};
     ghost use Rattle.unit_history.specs.declared.outcomes.Outcome as answers;
 
     /// Makes a job that is to be committed.
@@ -89,11 +89,11 @@ impl JobInHand {
 
     /// Writes what answers the job over the writable parts of its chain, where its commit is over: how many bytes it
     /// has.
-    pub(crate) fn write(&self, memory: &mut GuestMem) -> u32
-        requires fits { length memory.old ≡ self.now.job.chain.memory }
+    pub(crate) fn write<M: WritableMemory>(&self, memory: &mut M) -> u32
+        requires fits { M.extent memory.old ≡ self.now.job.chain.memory }
         requires over { is_some self.now.outcome ≡ true }
-        ensures written { WritesEnding self.now memory.old result memory.new }
-        ensures size { length memory.new ≡ length memory.old }
+        ensures written { WritesEndingIn self.now (M.may_be memory.old) result (M.may_be memory.new) }
+        ensures size { M.extent memory.new ≡ M.extent memory.old }
     {
         match &self.outcome {
             Some(outcome) => write_outcome(memory, self.job.chain(), &self.job.lengths(), outcome),

@@ -1,55 +1,69 @@
 //! The steps on the event queue: a buffer comes, and an event is raised.
 
-ghost use Rattle.std.specs.Prelude.{◌≡◌, ◌≤◌, ◌<◌, ◌↔◌, ◌^◌, length, IsTrue};
+ghost use Rattle.std.specs.Prelude.{◌≡◌, ◌≤◌, ◌<◌, ◌↔◌, ◌^◌, List, ℕ, length, IsTrue};
 ghost use Rattle.ring_core.specs.Parts.{writable_total};
 ghost use Rattle.ring_core.specs.State.{Owns};
 ghost use Rattle.phases.specs.Queue.{with_slot};
 ghost use Rattle.phases.specs.Slots.{slot_of};
-ghost use Rattle.phases.specs.EventQueue.{FetchesEvent, RaisesNext, MayHold, UsesWith, TakesBufferOf, MayRaise};
+ghost use Rattle.phases.specs.EventQueue.{FetchesEvent, RaisesNext, MayHold, MayRaise};
+ghost use Rattle.phases.specs.InMemory.{EachSeen};
+ghost use Rattle.phases.specs.EventsInMemory.{FetchesEventIn, RaisesNextIn, LooksAtPort, IsHeldBy, UsesWith, TakesBufferOf, MayRaiseIn};
 
 use crate::slot::Slot;
 use block_store::NoMemory;
 use event_queue::{EventBuffer, EventPort, WaitingEvents};
-use guest_mem::GuestMem;
+use guest_mem::{GuestMem, Memory, WritableMemory};
 use queues::{Fetch, Queue};
 use ring_core::{Chain, scatter};
 use scsi_codec::{EVENT_BYTES, EVENT_QUEUE};
 
 /// Uses a chain with these bytes.
-fn use_with(queue: &mut Queue, memory: &mut GuestMem, chain: Chain, bytes: &[u8])
-    requires fits { length memory.old ≡ queue.old.ring.memory }
+fn use_with<M: WritableMemory>(queue: &mut Queue, memory: &mut M, chain: Chain, bytes: &[u8])
+    requires fits { M.extent memory.old ≡ queue.old.ring.memory }
     requires owned { Owns queue.old.ring chain }
     requires room { length bytes.now ≤ writable_total chain.parts }
     requires small { length bytes.now < 2 ^ 32 }
-    ensures uses { UsesWith chain bytes.now queue.old memory.old queue.new memory.new }
-    ensures size { length memory.new ≡ length memory.old }
+    ensures uses { EachSeen M.shared (M.may_be memory.old) (M.may_be memory.new)
+        (λ found left seen. UsesWith chain bytes.now queue.old found queue.new left seen) }
+    ensures size { M.extent memory.new ≡ M.extent memory.old }
+    ensures reading { M.is_open memory.new }
 {
     let len = scatter(memory, &chain, 0, bytes);
-    let _answered = queue.complete(memory, chain, len);
+    let _answered = queue.complete_in(memory, chain, len);
 }
 
 /// Uses a buffer that was held with an event.
-fn use_held(
+fn use_held<M: WritableMemory>(
     queue: &mut Queue,
-    memory: &mut GuestMem,
+    memory: &mut M,
     buffer: EventBuffer,
     event: &[u8; EVENT_BYTES],
 )
-    requires fits { length memory.old ≡ queue.old.ring.memory }
+    requires fits { M.extent memory.old ≡ queue.old.ring.memory }
     requires owned { Owns queue.old.ring buffer }
-    ensures uses { UsesWith buffer event.now queue.old memory.old queue.new memory.new }
-    ensures size { length memory.new ≡ length memory.old }
+    ensures uses { EachSeen M.shared (M.may_be memory.old) (M.may_be memory.new)
+        (λ found left seen. UsesWith buffer event.now queue.old found queue.new left seen) }
+    ensures size { M.extent memory.new ≡ M.extent memory.old }
+    ensures reading { M.is_open memory.new }
 {
     use_with(queue, memory, buffer.into_chain(), event);
 }
 
 /// Holds a chain of the event queue, or uses it at once: a short one with no byte, another where an event was missed.
-fn take_buffer(queue: &mut Queue, memory: &mut GuestMem, port: &mut EventPort, chain: Chain)
-    requires fits { length memory.old ≡ queue.old.ring.memory }
+fn take_buffer<M: WritableMemory>(
+    queue: &mut Queue,
+    memory: &mut M,
+    port: &mut EventPort,
+    chain: Chain,
+)
+    requires fits { M.extent memory.old ≡ queue.old.ring.memory }
+    requires reading { M.is_open memory.old }
     requires owned { Owns queue.old.ring chain }
     requires room { MayHold port.old }
-    ensures takes { TakesBufferOf chain queue.old memory.old port.old queue.new memory.new port.new }
-    ensures size { length memory.new ≡ length memory.old }
+    ensures takes { EachSeen M.shared (M.may_be memory.old) (M.may_be memory.new)
+        (λ found left seen. TakesBufferOf chain queue.old found port.old queue.new left seen port.new) }
+    ensures size { M.extent memory.new ≡ M.extent memory.old }
+    ensures reading { M.is_open memory.new }
 {
     let _parts = chain.parts();
     if chain.writable_len() < EVENT_BYTES as u64 {
@@ -63,6 +77,35 @@ fn take_buffer(queue: &mut Queue, memory: &mut GuestMem, port: &mut EventPort, c
         }
         None => {}
     }
+}
+
+/// Fetches the next chain of the event queue, where its slot is empty, the memory is the queue's and the port may hold
+/// one more. Elsewhere it is as if nothing were available.
+#[inline(always)]
+fn fetch_at_port<M: Memory>(
+    queue: &mut Queue,
+    slot: &Slot,
+    port: &EventPort,
+    memory: &mut M,
+) -> Result<Fetch, NoMemory>
+    requires reading { M.is_open memory.old }
+    ensures size { M.extent memory.new ≡ M.extent memory.old }
+    ensures stays { (m : List ℕ) → M.may_be memory.new m → M.may_be memory.old m }
+    ensures reading { M.is_open memory.new }
+    ensures looks { (m : List ℕ) → M.may_be memory.new m
+        → LooksAtPort (slot_of slot.now) queue.old m port.now result queue.new }
+    ensures owned { IsHeldBy (M.extent memory.new) port.now result queue.new }
+{
+    if queue.number() != EVENT_QUEUE
+        || !slot.is_empty()
+        || !queue.fits(memory)
+        || !port.has_room()
+    {
+        return Ok(Fetch::Idle);
+    }
+    let fetched = queue.fetch_in(memory);
+    let _bytes = memory.size();
+    fetched
 }
 
 /// Takes the next chain of the event queue, where its slot is empty, the memory is the queue's and the port may hold
@@ -79,14 +122,26 @@ pub fn phase_fetch_event(
         result (with_slot (slot_of slot.now) queue.new) memory.new port.new }
     ensures size { length memory.new ≡ length memory.old }
 {
-    if queue.number() != EVENT_QUEUE
-        || !slot.is_empty()
-        || !queue.fits(memory)
-        || !port.has_room()
-    {
-        return Ok(false);
-    }
-    match queue.fetch(memory) {
+    phase_fetch_event_in(queue, slot, port, memory)
+}
+
+/// Takes the next chain of the event queue from any memory, as [`phase_fetch_event`] does. Called in a phase of the
+/// memory that wrote nothing yet. Where it uses a chain, it begins a new one behind that.
+#[inline(always)]
+pub fn phase_fetch_event_in<M: WritableMemory>(
+    queue: &mut Queue,
+    slot: &Slot,
+    port: &mut EventPort,
+    memory: &mut M,
+) -> Result<bool, NoMemory>
+    requires reading { M.is_open memory.old }
+    ensures fetches { EachSeen M.shared (M.may_be memory.old) (M.may_be memory.new)
+        (λ found left seen. FetchesEventIn M.shared (with_slot (slot_of slot.now) queue.old) found port.old
+        result (with_slot (slot_of slot.now) queue.new) left seen port.new) }
+    ensures size { M.extent memory.new ≡ M.extent memory.old }
+    ensures reading { M.is_open memory.new }
+{
+    match fetch_at_port(queue, slot, port, memory) {
         Err(NoMemory) => Err(NoMemory),
         Ok(Fetch::Idle) => Ok(false),
         Ok(Fetch::Broke) => Ok(true),
@@ -98,11 +153,12 @@ pub fn phase_fetch_event(
 }
 
 /// Returns true if the oldest buffer, if there is one, may be completed.
-fn may_raise(queue: &Queue, memory: &GuestMem, port: &EventPort) -> bool
-    ensures { IsTrue result ↔ MayRaise port.now.buffers queue.now memory.now }
+fn may_raise<M: Memory>(queue: &Queue, memory: &M, port: &EventPort) -> bool
+    ensures owned { IsTrue result → MayRaiseIn (M.extent memory.now) port.now.buffers queue.now }
+    ensures may { (m : List ℕ) → M.may_be memory.now m → (IsTrue result ↔ MayRaise port.now.buffers queue.now m) }
 {
     match port.oldest() {
-        Some(buffer) => queue.may_complete(memory, buffer.chain()),
+        Some(buffer) => queue.may_complete_in(memory, buffer.chain()),
         None => true,
     }
 }
@@ -119,6 +175,24 @@ pub fn phase_raise(
     ensures raises { RaisesNext waiting.old queue.old memory.old port.old
         result queue.new memory.new port.new waiting.new }
     ensures size { length memory.new ≡ length memory.old }
+{
+    phase_raise_in(queue, memory, port, waiting)
+}
+
+/// Gives the oldest event that waits to the oldest buffer in any memory, as [`phase_raise`] does. Where it uses the
+/// buffer, it begins a new phase of the memory behind that.
+#[inline(always)]
+pub fn phase_raise_in<M: WritableMemory>(
+    queue: &mut Queue,
+    memory: &mut M,
+    port: &mut EventPort,
+    waiting: &mut WaitingEvents,
+) -> bool
+    ensures raises { EachSeen M.shared (M.may_be memory.old) (M.may_be memory.new)
+        (λ found left seen. RaisesNextIn M.shared waiting.old queue.old found port.old
+        result queue.new left seen port.new waiting.new) }
+    ensures size { M.extent memory.new ≡ M.extent memory.old }
+    ensures reading { M.is_open memory.old → M.is_open memory.new }
 {
     let Some(event) = waiting.oldest() else {
         return false;

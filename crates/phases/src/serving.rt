@@ -1,14 +1,15 @@
 //! A request served at once: what the phases do of it one after another, with nothing put down between them.
 
-ghost use Rattle.std.specs.Prelude.{◌≡◌, length, true, IfSome, IfNone};
+ghost use Rattle.std.specs.Prelude.{◌≡◌, List, ℕ, length, true, IfSome, IfNone};
 ghost use Rattle.ring_core.specs.State.{Owns};
 ghost use Rattle.device_model.specs.Parts as plain;
 ghost use Rattle.phases.specs.DoingUnit.{HasPlaces};
 ghost use Rattle.phases.specs.Slots.{slot_of};
 ghost use Rattle.phases.specs.Units.{Leaves};
-ghost use Rattle.phases.specs.Answering.{Answers};
-ghost use Rattle.phases.specs.Outcomes.{WritesWhole};
-ghost use Rattle.phases.specs.Serving.{Serves, ServesAtOnce};
+ghost use Rattle.phases.specs.InMemory.{EachSeen, AnswersIn};
+ghost use Rattle.phases.specs.Serving.{Serves};
+ghost use Rattle.phases.specs.ServingInMemory.{ServesIn};
+ghost use Rattle.phases.specs.Outcomes.{WritesWholeIn};
 ghost use Rattle.unit_history.specs.Endings.{ending_of, FitsNeed};
 ghost use Rattle.unit_history.specs.Serving.{ServesAlone};
 ghost use Rattle.cdb.specs.Need.{need_of};
@@ -18,52 +19,59 @@ use crate::refusal::Refusal;
 use crate::response::{write_outcome, write_run};
 use crate::slot::Slot;
 use block_store::NoMemory;
-use guest_mem::GuestMem;
-use queues::{Queue, write_read};
+use guest_mem::{GuestMem, WritableMemory};
+use queues::{Queue, write_read_in};
 use replies::Reply;
 use ring_core::Answered;
 use unit_history::{Answering, Arrival, Entered, Job, JobList, Outcome, UnitState, Unknown};
 
 /// Writes what answers a job over the writable parts of its chain, by what came of its commit.
 #[inline(always)]
-fn write_job(memory: &mut GuestMem, job: &Job, outcome: &Outcome) -> u32
-    requires fits { length memory.old ≡ job.now.chain.memory }
+fn write_job<M: WritableMemory>(memory: &mut M, job: &Job, outcome: &Outcome) -> u32
+    requires fits { M.extent memory.old ≡ job.now.chain.memory }
     requires payload { FitsNeed (need_of job.now.entry.command).into outcome.now }
-    ensures written { WritesWhole job.now (ending_of outcome.now) memory.old result memory.new }
-    ensures size { length memory.new ≡ length memory.old }
+    ensures written { WritesWholeIn job.now (ending_of outcome.now) (M.may_be memory.old) result (M.may_be memory.new) }
+    ensures size { M.extent memory.new ≡ M.extent memory.old }
 {
     write_outcome(memory, job.chain(), &job.lengths(), outcome)
 }
 
 /// Answers a job by what came of its commit, and uses its chain.
 #[inline(always)]
-fn answer_job(queue: &mut Queue, memory: &mut GuestMem, job: Job, outcome: &Outcome) -> Answered
-    requires fits { length memory.old ≡ queue.old.ring.memory }
+fn answer_job<M: WritableMemory>(
+    queue: &mut Queue,
+    memory: &mut M,
+    job: Job,
+    outcome: &Outcome,
+) -> Answered
+    requires fits { M.extent memory.old ≡ queue.old.ring.memory }
     requires owned { Owns queue.old.ring job.chain }
     requires payload { FitsNeed (need_of job.entry.command).into outcome.now }
     ensures ticket { result ≡ job.chain.ticket }
-    ensures answers { Answers (plain.Hand.Done job (plain.Outcome.Ended (ending_of outcome.now)))
-        queue.old memory.old true
-        queue.new memory.new (plain.Hand.Answered job.unit job.chain.ticket) }
-    ensures size { length memory.new ≡ length memory.old }
+    ensures answers { EachSeen M.shared (M.may_be memory.old) (M.may_be memory.new)
+        (λ found left seen. AnswersIn M.shared (plain.Hand.Done job (plain.Outcome.Ended (ending_of outcome.now)))
+        queue.old found true queue.new left seen (plain.Hand.Answered job.unit job.chain.ticket)) }
+    ensures size { M.extent memory.new ≡ M.extent memory.old }
+    ensures reading { M.is_open memory.new }
 {
     let len = write_job(memory, &job, outcome);
-    queue.complete(memory, job.into_chain(), len)
+    queue.complete_in(memory, job.into_chain(), len)
 }
 
 /// Guest memory, where what answers a request is written, and how many bytes of it were.
 #[derive(Drop)]
-struct Answer<'a> {
-    memory: &'a mut GuestMem,
+struct Answer<'a, M: WritableMemory> {
+    memory: &'a mut M,
     len: u32,
 }
 
-impl<'a> Answering for Answer<'a> {
-    ghost may_answer = { λ s x. length s.memory.now ≡ x.chain.memory };
+impl<'a, M: WritableMemory> Answering for Answer<'a, M> {
+    ghost may_answer = { λ s x. M.extent s.memory.now ≡ x.chain.memory };
 
     // It has the same memory afterwards.
     ghost answers = { λ s x e t. (t.memory.ghost_name ≡ s.memory.ghost_name)
-        × (length t.memory.now ≡ length s.memory.now) × WritesWhole x e s.memory.now t.len t.memory.now };
+        × (M.extent t.memory.now ≡ M.extent s.memory.now)
+        × WritesWholeIn x e (M.may_be s.memory.now) t.len (M.may_be t.memory.now) };
 
     #[inline(always)]
     fn answer(&mut self, arrival: &Arrival, ran: &Result<Reply, NoMemory>) {
@@ -72,7 +80,7 @@ impl<'a> Answering for Answer<'a> {
 
     #[inline(always)]
     fn answer_read(&mut self, arrival: &Arrival, data: &[u8]) {
-        self.len = write_read(self.memory, arrival.chain(), &arrival.lengths(), data);
+        self.len = write_read_in(self.memory, arrival.chain(), &arrival.lengths(), data);
     }
 }
 
@@ -92,11 +100,16 @@ fn leave(unit: &mut UnitState, answered: Answered, out: &mut JobList) -> bool
 /// Serves a request in one call of its unit, where that may be, but for the use of its chain. Returns how many bytes
 /// answer it; `None` where it may not be, with nothing changed.
 #[inline(always)]
-fn serve_alone(unit: &mut UnitState, memory: &mut GuestMem, arrival: &Arrival) -> Option<u32>
-    requires fits { length memory.old ≡ arrival.now.chain.memory }
+fn serve_alone<M: WritableMemory>(
+    unit: &mut UnitState,
+    memory: &mut M,
+    arrival: &Arrival,
+) -> Option<u32>
+    requires fits { M.extent memory.old ≡ arrival.now.chain.memory }
     ensures serves { IfSome result (λ len.
-        ServesAlone (λ e. WritesWhole arrival.now e memory.old len memory.new) unit.old arrival.now unit.new) }
-    ensures size { length memory.new ≡ length memory.old }
+        ServesAlone (λ e. WritesWholeIn arrival.now e (M.may_be memory.old) len (M.may_be memory.new))
+        unit.old arrival.now unit.new) }
+    ensures size { M.extent memory.new ≡ M.extent memory.old }
     ensures same { IfNone result ((unit.new ≡ unit.old) × (memory.new ≡ memory.old)) }
 {
     let mut answer = Answer { memory, len: 0 };
@@ -107,23 +120,25 @@ fn serve_alone(unit: &mut UnitState, memory: &mut GuestMem, arrival: &Arrival) -
     }
 }
 
-/// Serves a request as [`serve_request`] does, by one call of its unit for each step.
+/// Serves a request as [`serve_request_in`] does, by one call of its unit for each step.
 #[inline(never)]
-fn serve_by_steps(
+fn serve_by_steps<M: WritableMemory>(
     unit: &mut UnitState,
     queue: &mut Queue,
-    memory: &mut GuestMem,
+    memory: &mut M,
     slot: &mut Slot,
     arrival: Arrival,
     out: &mut JobList,
 ) -> Option<bool>
-    requires fits { length memory.old ≡ queue.old.ring.memory }
+    requires fits { M.extent memory.old ≡ queue.old.ring.memory }
     requires owned { Owns queue.old.ring arrival.chain }
     requires places { HasPlaces out.old }
     requires empty { slot_of slot.old ≡ plain.Slot.Empty }
-    ensures serves { Serves arrival unit.old queue.old memory.old (slot_of slot.old) out.old result
-        unit.new queue.new memory.new (slot_of slot.new) out.new }
-    ensures size { length memory.new ≡ length memory.old }
+    ensures serves { EachSeen M.shared (M.may_be memory.old) (M.may_be memory.new)
+        (λ found left seen. ServesIn M.shared arrival unit.old queue.old found (slot_of slot.old) out.old result
+        unit.new queue.new left seen (slot_of slot.new) out.new) }
+    ensures size { M.extent memory.new ≡ M.extent memory.old }
+    ensures reading { M.is_open memory.old → M.is_open memory.new }
 {
     match unit.enter(arrival) {
         Entered::Run(job) => {
@@ -171,9 +186,33 @@ pub fn serve_request(
         unit.new queue.new memory.new (slot_of slot.new) out.new }
     ensures size { length memory.new ≡ length memory.old }
 {
+    serve_request_in(unit, queue, memory, slot, arrival, out)
+}
+
+/// Brings a request to its unit in any memory, as [`serve_request`] does. Where it uses the chain, it begins a new phase
+/// of the memory behind that.
+#[inline(always)]
+pub fn serve_request_in<M: WritableMemory>(
+    unit: &mut UnitState,
+    queue: &mut Queue,
+    memory: &mut M,
+    slot: &mut Slot,
+    arrival: Arrival,
+    out: &mut JobList,
+) -> Option<bool>
+    requires fits { M.extent memory.old ≡ queue.old.ring.memory }
+    requires owned { Owns queue.old.ring arrival.chain }
+    requires places { HasPlaces out.old }
+    requires empty { slot_of slot.old ≡ plain.Slot.Empty }
+    ensures serves { EachSeen M.shared (M.may_be memory.old) (M.may_be memory.new)
+        (λ found left seen. ServesIn M.shared arrival unit.old queue.old found (slot_of slot.old) out.old result
+        unit.new queue.new left seen (slot_of slot.new) out.new) }
+    ensures size { M.extent memory.new ≡ M.extent memory.old }
+    ensures reading { M.is_open memory.old → M.is_open memory.new }
+{
     match serve_alone(unit, memory, &arrival) {
         Some(len) => {
-            queue.complete(memory, arrival.into_chain(), len);
+            queue.complete_in(memory, arrival.into_chain(), len);
             Some(true)
         }
         None => serve_by_steps(unit, queue, memory, slot, arrival, out),

@@ -1,16 +1,16 @@
 //! The step that takes a request from its queue.
 
-ghost use Rattle.std.specs.Prelude.{◌≡◌, length, min};
+ghost use Rattle.std.specs.Prelude.{◌≡◌, List, ℕ, length, min};
 ghost use Rattle.ring_core.specs.Parts.{readable_total};
 ghost use Rattle.phases.specs.Slots.{slot_of};
-ghost use Rattle.phases.specs.Taking.{IsTakenAs, TakesRequest, IsOutstanding};
+ghost use Rattle.phases.specs.Taking.{IsTakenAs, TakesRequest, IsOutstanding, IsOutstandingIn};
 
 use crate::direct_chain::DirectChain;
 use crate::fetching::lengths_of_chain;
 use crate::slot::Slot;
 use block_store::NoMemory;
 use decisions::{Decision, Inventory, decide};
-use guest_mem::GuestMem;
+use guest_mem::{GuestMem, Memory, StillMem};
 use queues::{Fetch, Queue};
 use ring_core::Fetched;
 use scsi_codec::FIRST_REQUEST_QUEUE;
@@ -65,15 +65,37 @@ pub fn take_request(
         result (slot_of slot.new) queue.new }
     ensures owned { IsOutstanding memory.now result queue.new }
 {
+    let mut still = StillMem::of(memory);
+    take_request_in(queue, slot, &mut still, inventory)
+}
+
+/// Takes the next chain of a request queue from any memory, as [`take_request`] does. Called in a phase of the
+/// memory that wrote nothing yet.
+#[inline(always)]
+pub fn take_request_in<M: Memory>(
+    queue: &mut Queue,
+    slot: &mut Slot,
+    memory: &mut M,
+    inventory: &Inventory,
+) -> Result<Taken, NoMemory>
+    requires reading { M.is_open memory.old }
+    ensures size { M.extent memory.new ≡ M.extent memory.old }
+    ensures stays { (m : List ℕ) → M.may_be memory.new m → M.may_be memory.old m }
+    ensures reading { M.is_open memory.new }
+    ensures takes { (m : List ℕ) → M.may_be memory.new m
+        → TakesRequest inventory.now m (slot_of slot.old) queue.old result (slot_of slot.new) queue.new }
+    ensures owned { IsOutstandingIn (M.extent memory.new) result queue.new }
+{
     if queue.number() < FIRST_REQUEST_QUEUE || !slot.is_empty() || !queue.fits(memory) {
         return Ok(Taken::Nothing);
     }
-    match queue.fetch(memory) {
+    match queue.fetch_in(memory) {
         Err(NoMemory) => Err(NoMemory),
         Ok(Fetch::Idle) => Ok(Taken::Nothing),
         Ok(Fetch::Broke) => Ok(Taken::Other),
         Ok(Fetch::Got(fetched)) => {
             let _parts = fetched.chain.parts();
+            let _bytes = memory.size();
             Ok(decided(inventory, fetched, slot))
         }
     }

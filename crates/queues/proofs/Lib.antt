@@ -1,3 +1,4 @@
 pub mod FirstPart
 pub mod Opening
 pub mod Own
+pub mod Seeing

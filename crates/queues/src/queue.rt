@@ -132,6 +132,7 @@ impl Queue {
     ghost use Rattle.ring_core.specs.Writes.{Wrote, all_written};
     ghost use Rattle.ring_core.specs.Offer.{used_writes};
     ghost use Rattle.queues.specs.Looking.{IsIdle, Looks};
+    ghost use Rattle.queues.specs.Completing.{SeenBehind};
 
     /// Opens a queue with this number at a place that its ring takes, for a driver that agreed to these features. It
     /// looks only at those that concern rings. `NoMemory` where its ring was refused memory.
@@ -173,6 +174,17 @@ impl Queue {
     #[inline(always)]
     pub fn may_complete(&self, memory: &GuestMem, chain: &Chain) -> bool
         ensures { IsTrue result ↔ MayComplete self.now memory.now chain.now }
+    {
+        self.may_complete_in(memory, chain)
+    }
+
+    /// Returns true if any memory has the size that it was made with, and the chain is outstanding here, as `may_complete`
+    /// does. It reads nothing.
+    #[inline(always)]
+    pub fn may_complete_in<M: Memory>(&self, memory: &M, chain: &Chain) -> bool
+        ensures fits { IsTrue result → M.extent memory.now ≡ self.now.ring.memory }
+        ensures owned { IsTrue result → Owns self.now.ring chain.now }
+        ensures may { (m : List ℕ) → M.may_be memory.now m → (IsTrue result ↔ MayComplete self.now m chain.now) }
     {
         self.ring.fits(memory) && self.ring.owns(chain)
     }
@@ -271,8 +283,10 @@ impl Queue {
         ensures size { M.extent memory.new ≡ M.extent memory.old }
         ensures reading { M.is_open memory.new }
         ensures queue { (m : List ℕ) → M.may_be memory.new m → self.new ≡ completing m chain self.old }
+        ensures seen { SeenBehind M.shared (M.may_be memory.old) (M.may_be memory.new) (used_writes self.old.ring chain.id len) }
     {
         let answered = self.ring.complete(memory, chain, len);
+        let _bytes = memory.size();
         memory.begin();
         let _used = self.ring.log().used();
         if self.ring.wants_notice(memory) {

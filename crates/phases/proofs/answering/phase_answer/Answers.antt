@@ -1,13 +1,17 @@
-use Rattle.std.proofs.Common.{sym, ◌∙◌}
-use Rattle.phases.proofs.Answered.{answered}
+use Rattle.std.proofs.Common.{false}
+use Rattle.std.specs.Prelude.{is_some}
+use Rattle.phases.specs.Parts.{hand_of}
+use Rattle.phases.specs.InMemory.{AnswersIn}
+use Rattle.phases.proofs.Answered.{answers_own}
+use Rattle.phases.proofs.Behind.{each_own}
 use Rattle.phases.proofs.answering.phase_answer.Goals as goal
 
-pub returns-in-Some-clause-answers : goal.returns-in-Some-clause-answers
-returns-in-Some-clause-answers c =
-    let held = c.in-Job.held in
-    rw c.in-Job.is
-    (answered held.job held.outcome c.args.queue.now c.complete-answered.new.self c.args.memory.now
-    c.write_held-written.new.memory c.complete-answered.new.memory c.in-Some.len c.take_job-unit.result.1
-    c.take_job-unit.result.0 c.complete-answered.result (sym c.is_over.ensures ∙ c.if-not-is_over.false)
-    c.in-Some.ensures.owned.1 c.take_job-unit.ensures.job
-    c.complete-answered.ensures.ticket c.complete-answered.ensures.memory c.complete-answered.ensures.queue)
+pub returns-clause-answers : goal.returns-clause-answers
+returns-clause-answers c =
+    let d = c.phase_answer_in in
+    let h = hand_of c.args.hand.now in
+    let h' = hand_of d.new.hand in
+    let q = c.args.queue.now in
+    answers_own h h' q d.new.queue c.args.memory.now d.new.memory d.new.memory (is_some d.result)
+    (each_own c.args.memory.now d.new.memory
+    (λ found left seen. AnswersIn false h q found (is_some d.result) d.new.queue left seen h') d.ensures.answers)

@@ -1,12 +1,17 @@
-use Rattle.std.proofs.Common.{length, sym}
+use Rattle.std.proofs.Common.{length, ℕ, subst}
 use Rattle.ring_core.specs.Writes.{scatter_writes}
 use Rattle.ring_core.specs.Offer.{used_writes}
-use Rattle.ring_core.proofs.Scattering.{written_in_order}
+use Rattle.queues.specs.Completing.{SeenBehind}
+use Rattle.phases.proofs.Behind.{behind_both}
 use Rattle.phases.proofs.direct.answer_chain.Goals as goal
 
-pub returns-clause-memory : goal.returns-clause-memory
-returns-clause-memory c =
+pub returns-clause-seen : goal.returns-clause-seen
+returns-clause-seen g c =
+    let ring = c.args.queue.now.ring in
     let answer = c.args.answer.now in
-    rw (c.complete.ensures.memory, c.write_direct-len.ensures.memory, c.write_direct-len.ensures.written)
-    (sym (written_in_order c.args.memory.now (scatter_writes c.args.chain.parts 0 answer)
-    (used_writes c.args.queue.now.ring c.args.chain.id (length answer))))
+    let middle = g.M.Memory.may_be c.write_direct_in-len.new.memory in
+    let after = g.M.Memory.may_be c.complete_in.new.memory in
+    behind_both g.M.Memory.shared (g.M.Memory.may_be c.args.memory.now) middle after (scatter_writes c.args.chain.parts 0 answer)
+    (used_writes ring c.args.chain.id (length answer)) c.write_direct_in-len.ensures.memory
+    (subst (λ (n : ℕ). SeenBehind g.M.Memory.shared middle after (used_writes ring c.args.chain.id n))
+    c.write_direct_in-len.ensures.written c.complete_in.ensures.seen)

@@ -1,37 +1,8 @@
-use Rattle.std.proofs.Common.{◌≡◌, arith, refl, None}
-use Rattle.phases.specs.Slots.{slot_of}
-use Rattle.phases.proofs.Deciding.{none_of}
-use Rattle.phases.proofs.Fetched.{control_taken, broken}
-use Rattle.device_model.specs.Transitions.{Transition}
+use Rattle.std.proofs.Common.{◌≡◌, ◌∙◌, refl}
 use Rattle.phases.proofs.fetching.phase_fetch_control.Goals as goal
 
-pub returns-in-Ok-Broke : goal.returns-in-Ok-Broke
-returns-in-Ok-Broke c =
-    let looked = rw c.in-Ok-Broke.field-0-is at c.in-Ok-Broke.ensures in
-    let old = c.args.queue.now in
-    let control : old.ring.queue ≡ 0 = omega (arith, c.number.ensures, c.if-number-ne-CONTROL_QUEUE.false) in
-    let none : c.args.function.now ≡ None = none_of c.args.function.now c.if-is_some.ensures in (
-      control,
-      record { empty = c.if-not-is_empty.ensures.0 refl; fits = c.if-not-fits.ensures.0 refl },
-      none,
-      (
-        Transition.Break old.ring.queue looked.fault,
-        control,
-        broken c.args.inventory.now old c.fetch.new.self c.args.memory.now (slot_of c.args.slot.now) looked,
-        none,
-      ),
-    )
-
-pub returns-in-Ok-Got : goal.returns-in-Ok-Got
-returns-in-Ok-Got c =
-    let looked = rw c.in-Ok-Got.field-0-is at c.in-Ok-Got.ensures in
-    let fetched = c.in-Ok-Got.fetched in
-    let control : c.args.queue.now.ring.queue ≡ 0 = omega (arith, c.number.ensures, c.if-number-ne-CONTROL_QUEUE.false) in
-    let none : c.args.function.now ≡ None = none_of c.args.function.now c.if-is_some.ensures in (
-      control,
-      record { empty = c.if-not-is_empty.ensures.0 refl; fits = c.if-not-fits.ensures.0 refl },
-      none,
-      control_taken c.args.inventory.now c.args.queue.now c.fetch.new.self c.args.memory.now fetched.chain
-          fetched.bytes.items (slot_of c.args.slot.now) looked.0 looked.1 (slot_of c.decided_control.new.slot)
-          c.args.function.now c.decided_control.new.function control none c.decided_control.ensures,
-    )
+pub returns : goal.returns
+returns c =
+    let still = c.phase_fetch_control_in.new.memory in
+    let same : still.memory.now ≡ c.args.memory.now = c.phase_fetch_control_in.ensures.stays still.memory.now refl ∙ c.of-still.ensures in
+    rw same at (c.phase_fetch_control_in.ensures.fetches still.memory.now refl)

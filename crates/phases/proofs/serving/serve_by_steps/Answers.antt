@@ -1,53 +1,39 @@
-use Rattle.std.proofs.Common.{refl}
-use Rattle.phases.proofs.AtOnce.{served}
+use Rattle.phases.specs.Slots.{slot_of}
+use Rattle.phases.proofs.AtOnce.{served, only_entered}
 use Rattle.phases.proofs.Enters.{parks, overflows, sheds, stalls}
 use Rattle.phases.proofs.serving.serve_by_steps.Goals as goal
 
 pub returns-in-Run-clause-serves : goal.returns-in-Run-clause-serves
-returns-in-Run-clause-serves c = (
-  served c.args.arrival c.in-Run.job c.answer_job-answered.result c.args.unit.now c.enter.new.self c.commit-outcome.new.self
-      c.leave.new.unit c.args.queue.now c.answer_job-answered.new.queue c.args.memory.now
-      c.answer_job-answered.new.memory c.args.out.now c.leave.new.out c.leave.result c.commit-outcome.result
-      c.in-Run.ensures c.commit-outcome.ensures.step c.answer_job-answered.ensures.ticket
-      c.answer_job-answered.ensures.answers (rw c.keep_room.ensures at c.leave.ensures),
-  refl,
-)
+returns-in-Run-clause-serves g c =
+    served g.M.Memory.shared c.args.arrival c.in-Run.job c.answer_job-answered.result c.args.unit.now c.enter.new.self
+    c.commit-outcome.new.self c.leave.new.unit c.args.queue.now c.answer_job-answered.new.queue
+    (g.M.Memory.may_be c.args.memory.now) (g.M.Memory.may_be c.answer_job-answered.new.memory) (slot_of c.args.slot.now)
+    c.args.out.now c.leave.new.out c.leave.result c.commit-outcome.result c.in-Run.ensures c.commit-outcome.ensures.step
+    c.answer_job-answered.ensures.ticket c.answer_job-answered.ensures.answers (rw c.keep_room.ensures at c.leave.ensures)
 
 pub returns-in-Parked-clause-serves : goal.returns-in-Parked-clause-serves
-returns-in-Parked-clause-serves c =
-    record {
-      enters = λ list. rw c.requires.empty (parks c.args.arrival c.args.unit.now c.enter.new.self list c.in-Parked.ensures);
-      queue = refl;
-      memory = refl;
-      jobs = refl;
-    }
+returns-in-Parked-clause-serves g c =
+    only_entered g.M.Memory.shared c.args.arrival c.args.unit.now c.enter.new.self c.args.queue.now
+    (g.M.Memory.may_be c.args.memory.now) (slot_of c.args.slot.now) (slot_of c.args.slot.now) c.args.out.now
+    (λ list. rw c.requires.empty (parks c.args.arrival c.args.unit.now c.enter.new.self list c.in-Parked.ensures))
 
 pub returns-in-Full-clause-serves : goal.returns-in-Full-clause-serves
-returns-in-Full-clause-serves c =
-    record {
-      enters = λ list. rw c.refused.ensures
-          (overflows c.args.arrival c.args.unit.now c.enter.new.self list c.in-Full.job c.in-Full.ensures);
-      queue = refl;
-      memory = refl;
-      jobs = refl;
-    }
+returns-in-Full-clause-serves g c =
+    only_entered g.M.Memory.shared c.args.arrival c.args.unit.now c.enter.new.self c.args.queue.now
+    (g.M.Memory.may_be c.args.memory.now) (slot_of c.args.slot.now) _ c.args.out.now
+    (λ list. rw c.refused.ensures
+    (overflows c.args.arrival c.args.unit.now c.enter.new.self list c.in-Full.job c.in-Full.ensures))
 
 pub returns-in-Busy-clause-serves : goal.returns-in-Busy-clause-serves
-returns-in-Busy-clause-serves c =
-    record {
-      enters = λ list. rw c.refused-in-Busy.ensures
-          (sheds c.args.arrival c.args.unit.now c.enter.new.self list c.in-Busy.job c.in-Busy.ensures);
-      queue = refl;
-      memory = refl;
-      jobs = refl;
-    }
+returns-in-Busy-clause-serves g c =
+    only_entered g.M.Memory.shared c.args.arrival c.args.unit.now c.enter.new.self c.args.queue.now
+    (g.M.Memory.may_be c.args.memory.now) (slot_of c.args.slot.now) _ c.args.out.now
+    (λ list. rw c.refused-in-Busy.ensures
+    (sheds c.args.arrival c.args.unit.now c.enter.new.self list c.in-Busy.job c.in-Busy.ensures))
 
 pub returns-in-Stale-clause-serves : goal.returns-in-Stale-clause-serves
-returns-in-Stale-clause-serves c =
-    record {
-      enters = λ list. rw c.refused-in-Stale.ensures
-          (stalls c.args.arrival c.args.unit.now c.enter.new.self list c.in-Stale.job c.in-Stale.ensures);
-      queue = refl;
-      memory = refl;
-      jobs = refl;
-    }
+returns-in-Stale-clause-serves g c =
+    only_entered g.M.Memory.shared c.args.arrival c.args.unit.now c.enter.new.self c.args.queue.now
+    (g.M.Memory.may_be c.args.memory.now) (slot_of c.args.slot.now) _ c.args.out.now
+    (λ list. rw c.refused-in-Stale.ensures
+    (stalls c.args.arrival c.args.unit.now c.enter.new.self list c.in-Stale.job c.in-Stale.ensures))

@@ -1,11 +1,16 @@
-use Rattle.std.proofs.Common.{refl}
-use Rattle.phases.proofs.AtOnce.{served_alone}
+use Rattle.phases.specs.Slots.{slot_of}
+use Rattle.std.proofs.Common.{false}
+use Rattle.phases.specs.ServingInMemory.{ServesIn}
+use Rattle.phases.proofs.Behind.{each_own}
+use Rattle.phases.proofs.AtOnce.{serves_own}
 use Rattle.phases.proofs.serving.serve_request.Goals as goal
 
-pub returns-in-Some-clause-serves : goal.returns-in-Some-clause-serves
-returns-in-Some-clause-serves c = (
-  served_alone c.args.arrival c.args.unit.now c.serve_alone.new.unit c.args.queue.now c.complete.new.self c.args.memory.now
-      c.serve_alone.new.memory c.complete.new.memory c.in-Some.len c.into_chain.result c.args.out.now c.in-Some.ensures.serves
-      c.into_chain.ensures c.complete.ensures.memory c.complete.ensures.queue,
-  refl,
-)
+pub returns-clause-serves : goal.returns-clause-serves
+returns-clause-serves c =
+    let d = c.serve_request_in in
+    serves_own c.args.arrival c.args.unit.now d.new.unit c.args.queue.now d.new.queue c.args.memory.now d.new.memory d.new.memory
+    (slot_of c.args.slot.now) (slot_of d.new.slot) c.args.out.now d.new.out d.result
+    (each_own c.args.memory.now d.new.memory
+    (λ found left seen. ServesIn false c.args.arrival c.args.unit.now c.args.queue.now found (slot_of c.args.slot.now)
+    c.args.out.now d.result d.new.unit d.new.queue left seen (slot_of d.new.slot) d.new.out)
+    d.ensures.serves)

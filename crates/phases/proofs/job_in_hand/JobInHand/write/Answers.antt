@@ -1,7 +1,7 @@
-use Rattle.std.proofs.Common.{◌≡◌, ◌∙◌, ap, length}
+use Rattle.std.proofs.Common.{◌≡◌, ◌∙◌, ap, length, subst}
 use Rattle.ring_core.specs.Parts.{readable_total, writable_total}
 use Rattle.ring_core.specs.State.{PlainChain}
-use Rattle.ring_core.specs.Writes.{all_written, scatter_writes}
+use Rattle.ring_core.specs.Writes.{Wrote, scatter_writes}
 use Rattle.decisions.specs.declared.answer.ChainLengths.{ChainLengths}
 use Rattle.unit_model.specs.Endings.{answer_of}
 use Rattle.unit_history.specs.Endings.{ending_of}
@@ -10,8 +10,9 @@ use Rattle.phases.proofs.Answered.{both_lengths}
 use Rattle.phases.proofs.job_in_hand.JobInHand.write.Goals as goal
 
 pub returns-clause-written : goal.returns-clause-written
-returns-clause-written c =
-    let m = c.args.memory.now in
+returns-clause-written g c =
+    let before = g.M.Memory.may_be c.args.memory.now in
+    let after = g.M.Memory.may_be c.write_outcome.new.memory in
     let chain = c.self.inside.job.chain in
     let e = ending_of c.in-Some.outcome in
     let n = c.lengths.result in
@@ -19,7 +20,8 @@ returns-clause-written c =
     c.lengths.ensures.readable c.lengths.ensures.writable in
     rw (← c.self.view_is) (rw c.in-Some.is (record {
       written = c.write_outcome.ensures.written ∙ ap (λ (k : ChainLengths). length (answer_of k e)) whole;
-      memory = c.write_outcome.ensures.memory
-          ∙ ap (λ (d : PlainChain). all_written m (scatter_writes d.parts 0 (answer_of n e))) c.chain.ensures
-          ∙ ap (λ (k : ChainLengths). all_written m (scatter_writes chain.parts 0 (answer_of k e))) whole;
+      memory =
+          subst (λ (k : ChainLengths). Wrote before after (scatter_writes chain.parts 0 (answer_of k e))) whole
+          (subst (λ (d : PlainChain). Wrote before after (scatter_writes d.parts 0 (answer_of n e))) c.chain.ensures
+          c.write_outcome.ensures.memory);
     }))

@@ -1,0 +1,36 @@
+use Rattle.std.proofs.Common.{◌∙◌, ap, sym}
+use Rattle.scsi_codec.specs.ControlQueue.{function_bytes}
+use Rattle.device_model.specs.World.{Opened}
+use Rattle.phases.proofs.Directed.{responds, responds_away, responds_later, responds_none}
+use Rattle.phases.proofs.direct.phase_answer_tmf_in.Goals as goal
+
+pub returns-then-not-finished-clause-responds : goal.returns-then-not-finished-clause-responds
+returns-then-not-finished-clause-responds g c =
+    let open_one : Opened = record { chain = c.open.inside.chain; function = c.open.inside.function } in
+    rw (← c.in-Some.ensures.value, ← c.open.view_is)
+    (responds_later g.M.Memory.shared open_one c.args.queue.now (g.M.Memory.may_be c.args.memory.now)
+    (sym c.finished.ensures ∙ c.if-not-finished.true))
+
+pub returns-then-not-may_complete_in-clause-responds :
+    goal.returns-then-not-may_complete_in-clause-responds
+returns-then-not-may_complete_in-clause-responds g c =
+    let open_one : Opened = record { chain = c.open.inside.chain; function = c.open.inside.function } in
+    rw (← c.in-Some.ensures.value, ← c.open.view_is, c.in-Some.ensures.after)
+    (responds_away g.M.Memory.shared open_one c.args.queue.now (g.M.Memory.may_be c.args.memory.now)
+    (sym c.finished.ensures ∙ c.if-not-finished.false) c.if-not-may_complete_in.ensures.may)
+
+pub returns-else-not-may_complete_in-clause-responds :
+    goal.returns-else-not-may_complete_in-clause-responds
+returns-else-not-may_complete_in-clause-responds g c =
+    let open_one : Opened = record { chain = c.open.inside.chain; function = c.open.inside.function } in
+    rw (← c.in-Some.ensures.value, ← c.open.view_is, c.in-Some.ensures.after)
+    (responds g.M.Memory.shared open_one c.args.queue.now c.answer_chain-answered.new.queue
+    (g.M.Memory.may_be c.args.memory.now) (g.M.Memory.may_be c.answer_chain-answered.new.memory)
+    c.of_function-response.result (sym c.finished.ensures ∙ c.if-not-finished.false)
+    (c.of_function-response.ensures ∙ ap function_bytes c.answer.ensures) c.answer_chain-answered.ensures.seen
+    c.answer_chain-answered.ensures.queue)
+
+pub returns-in-None-clause-responds : goal.returns-in-None-clause-responds
+returns-in-None-clause-responds g c =
+    rw (← c.in-None.ensures.value, c.in-None.ensures.after)
+    (responds_none g.M.Memory.shared c.args.queue.now (g.M.Memory.may_be c.args.memory.now))

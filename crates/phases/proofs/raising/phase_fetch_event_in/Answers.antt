@@ -1,0 +1,53 @@
+use Rattle.std.proofs.Common.{◌||◌, true, Ok, refl}
+use Rattle.device_model.specs.Parts.{is_short}
+use Rattle.device_model.specs.Transitions.{Transition}
+use Rattle.phases.specs.Queue.{with_slot}
+use Rattle.phases.specs.Slots.{slot_of}
+use Rattle.phases.specs.EventsInMemory.{FetchesEventIn}
+use Rattle.phases.proofs.Behind.{each_read}
+use Rattle.phases.proofs.Buffers.{buffer_taken, broken_at_port}
+use Rattle.phases.proofs.raising.phase_fetch_event_in.Goals as goal
+
+pub returns-in-Ok-Broke-clause-fetches : goal.returns-in-Ok-Broke-clause-fetches
+returns-in-Ok-Broke-clause-fetches g c =
+    let old = c.args.queue.now in
+    let new = c.fetch_at_port.new.queue in
+    let s = slot_of c.args.slot.now in
+    let p = c.args.port.now in
+    each_read g.M.Memory.shared (g.M.Memory.may_be c.args.memory.now) (g.M.Memory.may_be c.fetch_at_port.new.memory)
+    (λ found left seen. FetchesEventIn g.M.Memory.shared (with_slot s old) found p (Ok true) (with_slot s new) left seen p)
+    c.fetch_at_port.ensures.stays
+    (λ m stood.
+    let looks = c.in-Ok-Broke.ensures.looks m stood in
+    let (event, free, looked) = rw c.in-Ok-Broke.field-0-is at looks in (
+      event,
+      free,
+      (
+        Transition.Break old.ring.queue looked.fault,
+        event,
+        broken_at_port g.M.Memory.shared old new m s p looked,
+      ),
+    ))
+
+pub returns-in-Ok-Got-clause-fetches : goal.returns-in-Ok-Got-clause-fetches
+returns-in-Ok-Got-clause-fetches g c = λ seen may.
+    let old = c.args.queue.now in
+    let fetched = c.in-Ok-Got.fetched in
+    let s = slot_of c.args.slot.now in
+    let p = c.args.port.now in
+    let (found, was, (left, is, takes)) = c.take_buffer.ensures.takes seen may in
+    let looks = c.in-Ok-Got.ensures.looks found was in
+    let (event, free, looked) = rw c.in-Ok-Got.field-0-is at looks in (
+      found,
+      c.fetch_at_port.ensures.stays found was,
+      (
+        left,
+        is,
+        (
+          event,
+          free,
+          buffer_taken old c.fetch_at_port.new.queue found fetched.chain fetched.bytes.items s p looked.0 looked.1 event
+              g.M.Memory.shared c.take_buffer.new.queue left seen c.take_buffer.new.port (is_short fetched.chain || p.missed) refl is takes,
+        ),
+      ),
+    )

@@ -1,0 +1,14 @@
+use Rattle.std.proofs.Common.{refl}
+use Rattle.unit_history.specs.Endings.{ending_of_run, plain_run}
+use Rattle.phases.proofs.AtOnce.{writes_whole}
+use Rattle.phases.proofs.serving.AnswerAnswering.answer.Goals as goal
+
+pub returns : goal.returns
+returns g c = (
+  refl,
+  c.write_run-self.ensures.size,
+  writes_whole c.args.arrival.now (ending_of_run (plain_run c.args.ran.now)) c.lengths.result c.chain.result.now
+      (g.M.Memory.may_be c.args.self.now.memory.now) (g.M.Memory.may_be c.write_run-self.new.memory) c.write_run-self.result
+      c.lengths.ensures.readable c.lengths.ensures.writable c.chain.ensures c.write_run-self.ensures.written
+      c.write_run-self.ensures.memory,
+)
