@@ -33,7 +33,11 @@ use Rattle.world.proofs.Fetches.{request_turns, request_memory}
 use Rattle.world.proofs.Entering.{enters, entered_in}
 use Rattle.world.proofs.Handing.{puts, takes, no_item}
 use Rattle.world.proofs.Commit.{commits}
+<<<<<<< HEAD
 use Rattle.world.proofs.Answer.{answers}
+=======
+use Rattle.world.proofs.Answer.{answers_own}
+>>>>>>> 48268e53733eb4334d0daa1a162b82212713cc2a
 use Rattle.world.proofs.Leave.{leaves, seat_with, keeps_limit}
 use Rattle.world.proofs.Stages as stages
 use Rattle.world.proofs.Choosing.{taken}
@@ -272,7 +276,7 @@ module _ (sound : AreSound) (asked : ℕ → Bool) (w : PlainWorld) (whole : IsW
 
       next6 : StepsNext asked w5 cursor.Seats w6
       next6 =
-          let answer = answers w5 (bare (Hand.Done x s.outcome) limit ∷ rest) 0 i (Hand.Done x s.outcome) [] limit Slot.Empty
+          let answer = answers_own w5 (bare (Hand.Done x s.outcome) limit ∷ rest) 0 i (Hand.Done x s.outcome) [] limit Slot.Empty
           lent q' m' (Hand.Answered x.unit x.chain.ticket) true (sound w5 whole5.reached)
           (everywhere_set (λ j (z : PlainQueue). z.ring.memory ≡ length w.memory) i w1.queues (slotted Slot.Empty q1) fits1
           (fits1 i q1 at1)) refl refl (ap (λ (k : ℕ). Some k) own) at2 s.answers in

@@ -13,10 +13,10 @@ use Rattle.device_model.specs.Transitions.{Transition}
 use Rattle.device_model.specs.After.{taking, spending, broken_by}
 use Rattle.device_model.specs.Happens.{IsOpenTo}
 use Rattle.device_model.specs.Phases.{AsksQueue}
-use Rattle.device_model.specs.Turns.{Turns}
 use Rattle.device_model.proofs.Joining.{joins}
-use Rattle.phases.specs.EventQueue.{IsEventFetch, DoesAtPort, FetchesEvent, MayHold, StaysAtPort, port_after}
-use Rattle.world.specs.Steps.{TurnsOrWants}
+use Rattle.phases.specs.EventQueue.{IsEventFetch, MayHold, port_after}
+use Rattle.phases.specs.EventsInMemory.{DoesAtPortIn, FetchesEventIn, StaysAtPortIn}
+use Rattle.world.specs.Apart.{TurnsSeen, TurnsSeenOrWants}
 use Rattle.world.specs.Sound.{IsSound, AreFew, size_of}
 use Rattle.world.proofs.Setting.{map_get, set_same}
 use Rattle.world.proofs.Placing.{set_as}
@@ -31,7 +31,7 @@ open_event : (w : PlainWorld) (i : ℕ) → i ≡ 1 → IsOpenTo w i
 open_event w zero e = absurd (omega (arith, e))
 open_event w (suc i) e = tt
 
-module _ (w : PlainWorld) (k : ℕ) (q q' : PlainQueue) (m' : List ℕ) (p p' : PlainPort) (second : k ≡ 1)
+module _ (w : PlainWorld) (k : ℕ) (q q' : PlainQueue) (m' n : List ℕ) (p p' : PlainPort) (second : k ≡ 1)
     (at : slice_get w.queues k ≡ Some q) (held : p.buffers ≡ w.buffers) (missed : p.missed ≡ w.missed) where
   -- what the transition asks where the port's word stands for the world's
   asked : (d : Transition) → AsksQueue w.shared w.inventory p.missed d q w.memory
@@ -49,8 +49,8 @@ module _ (w : PlainWorld) (k : ℕ) (q q' : PlainQueue) (m' : List ℕ) (p p' : 
       ap (λ m. changed m (slice_set w.queues k q') p') a ∙ ap (λ qs. changed m qs p') b ∙ ap (λ z. changed m qs z) c
 
   -- a fetch with its transition is a turn
-  event_transition : (d : Transition) → q.slot ≡ Slot.Empty → IsEventFetch d → DoesAtPort d q w.memory p q' m' p'
-      → Turns w (Event.Fetch 1) true (with_port m' (slice_set w.queues k q') p' w)
+  event_transition : (d : Transition) → q.slot ≡ Slot.Empty → IsEventFetch d → DoesAtPortIn w.shared d q w.memory p q' m' n p'
+      → TurnsSeen n w (Event.Fetch 1) true (with_port m' (slice_set w.queues k q') p' w)
   event_transition (Transition.Hold f) empty of does =
       let d = Transition.Hold f in
       let here = at_number w k f.chain.ticket.queue q at (of ∙ sym second) in
@@ -58,10 +58,11 @@ module _ (w : PlainWorld) (k : ℕ) (q q' : PlainQueue) (m' : List ℕ) (p p' : 
       let qs = change (taking f.chain) f.chain.ticket.queue w.queues in (
         d,
         ap (λ n. Event.Fetch n) of,
-        joins d w ((q, here, empty), of) tt (q, here, asked d (does.asks w.shared w.inventory)),
+        joins d w ((q, here, empty), of) tt (q, here, asked d (does.asks w.inventory)),
         parts_are w.memory qs _ does.memory set does.port
             ∙ ap (λ (b : List PlainChain). record w { queues = qs; buffers = b ++ f.chain ∷ []; missed = p.missed }) held
             ∙ ap (λ (b : Bool). record w { queues = qs; buffers = w.buffers ++ f.chain ∷ []; missed = b }) missed,
+        does.sees,
       )
   event_transition (Transition.UseBuffer f xs) empty of does =
       let d = Transition.UseBuffer f xs in
@@ -71,10 +72,11 @@ module _ (w : PlainWorld) (k : ℕ) (q q' : PlainQueue) (m' : List ℕ) (p p' : 
       let qs = change (spending xs.seen f.chain) f.chain.ticket.queue w.queues in (
         d,
         ap (λ n. Event.Fetch n) of,
-        joins d w ((q, here, empty), of) tt (q, here, asked d (does.asks w.shared w.inventory)),
+        joins d w ((q, here, empty), of) tt (q, here, asked d (does.asks w.inventory)),
         parts_are m qs _ does.memory set does.port
             ∙ ap (λ (b : List PlainChain). record w { memory = m; queues = qs; buffers = b; missed = p.missed && is_short f.chain }) held
             ∙ ap (λ (b : Bool). record w { memory = m; queues = qs; missed = b && is_short f.chain }) missed,
+        does.sees,
       )
   event_transition (Transition.Break n fault) empty of does =
       let d = Transition.Break n fault in
@@ -83,15 +85,16 @@ module _ (w : PlainWorld) (k : ℕ) (q q' : PlainQueue) (m' : List ℕ) (p p' : 
       let qs = change (broken_by fault) n w.queues in (
         d,
         ap (λ n. Event.Fetch n) of,
-        joins d w ((q, here, empty), open_event w n of) tt (q, here, asked d (does.asks w.shared w.inventory)),
+        joins d w ((q, here, empty), open_event w n of) tt (q, here, asked d (does.asks w.inventory)),
         parts_are w.memory qs _ does.memory set does.port
             ∙ ap (λ (b : List PlainChain). record w { queues = qs; buffers = b; missed = p.missed }) held
             ∙ ap (λ (b : Bool). record w { queues = qs; missed = b }) missed,
+        does.sees,
       )
   event_transition d empty of does = absurd of
 
   -- where nothing was changed the world is as it was
-  event_still : StaysAtPort q w.memory p q' m' p' → with_port m' (slice_set w.queues k q') p' w ≡ w
+  event_still : StaysAtPortIn q w.memory p q' m' n p' → with_port m' (slice_set w.queues k q') p' w ≡ w
   event_still h =
       parts_are w.memory w.queues p h.memory (ap (λ z. slice_set w.queues k z) h.queue ∙ set_same k w.queues q at) h.port
       ∙ ap (λ (b : List PlainChain). record w { buffers = b; missed = p.missed }) held
@@ -99,14 +102,15 @@ module _ (w : PlainWorld) (k : ℕ) (q q' : PlainQueue) (m' : List ℕ) (p p' : 
 
   -- what a fetch does is a turn of its event, or memory was refused
   pub event_turns : (r : Result Bool NoMemory) → IsSound w → q.ring.memory ≡ length w.memory → MayHold p
-      → FetchesEvent q w.memory p r q' m' p'
-      → TurnsOrWants w (Event.Fetch 1) r (with_port m' (slice_set w.queues k q') p' w)
+      → FetchesEventIn w.shared q w.memory p r q' m' n p'
+      → TurnsSeenOrWants n w (Event.Fetch 1) r (with_port m' (slice_set w.queues k q') p' w)
   event_turns (Ok true) sound fits room h = event_transition h.2.0 h.1.empty h.2.1 h.2.2
   event_turns (Ok false) sound fits room h = (
     event_still h.0,
     λ may.
         h.1 ((sound.numbered k q at).queue ∙ second) room
         (has_some w 1 q (at_number w k 1 q at (sym second)) (sym fits) may),
+    h.0.sees,
   )
   event_turns (Err e) sound fits room h = (
     record {
@@ -117,6 +121,7 @@ module _ (w : PlainWorld) (k : ℕ) (q q' : PlainQueue) (m' : List ℕ) (p p' : 
       wants = h.3;
     },
     event_still h.0,
+    h.0.sees,
   )
 
 -- a transition keeps how many buffers the port may hold
@@ -128,11 +133,11 @@ limit_after (Transition.Miss e) p = refl
 limit_after d p = refl
 
 -- and so does a fetch
-pub event_limit : (q q' : PlainQueue) (m m' : List ℕ) (p p' : PlainPort) (r : Result Bool NoMemory)
-    → FetchesEvent q m p r q' m' p' → p'.limit ≡ p.limit
-event_limit q q' m m' p p' (Ok true) h = ap (λ (z : PlainPort). z.limit) h.2.2.port ∙ limit_after h.2.0 p
-event_limit q q' m m' p p' (Ok false) h = ap (λ (z : PlainPort). z.limit) h.0.port
-event_limit q q' m m' p p' (Err e) h = ap (λ (z : PlainPort). z.limit) h.0.port
+pub event_limit : (shared : Bool) (q q' : PlainQueue) (m m' n : List ℕ) (p p' : PlainPort) (r : Result Bool NoMemory)
+    → FetchesEventIn shared q m p r q' m' n p' → p'.limit ≡ p.limit
+event_limit shared q q' m m' n p p' (Ok true) h = ap (λ (z : PlainPort). z.limit) h.2.2.port ∙ limit_after h.2.0 p
+event_limit shared q q' m m' n p p' (Ok false) h = ap (λ (z : PlainPort). z.limit) h.0.port
+event_limit shared q q' m m' n p p' (Err e) h = ap (λ (z : PlainPort). z.limit) h.0.port
 
 -- the port may hold one more buffer
 pub may_hold : (w : PlainWorld) (k : ℕ) (q : PlainQueue) (p : PlainPort) → IsSound w → AreFew w → k ≡ 1

@@ -22,11 +22,11 @@ use Rattle.world.specs.Sound.{IsSound}
 use Rattle.world.proofs.Memories.{keeps_memory}
 
 -- the world with these queues
-abbrev with_queues : List PlainQueue → PlainWorld → PlainWorld
+abbrev pub with_queues : List PlainQueue → PlainWorld → PlainWorld
 with_queues qs w = record w { queues = qs }
 
 -- and with this function
-abbrev with_both : List PlainQueue → Option Opened → PlainWorld → PlainWorld
+abbrev pub with_both : List PlainQueue → Option Opened → PlainWorld → PlainWorld
 with_both qs f w = record w { queues = qs; function = f }
 
 -- a request queue is open whatever function is

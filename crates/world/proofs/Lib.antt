@@ -5,6 +5,7 @@ pub mod Stages
 pub mod Woken
 pub mod Reaching
 pub mod Placing
+pub mod InMemory
 pub mod Memories
 pub mod Fetches
 pub mod Checks

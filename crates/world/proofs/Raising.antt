@@ -7,18 +7,19 @@ use Rattle.scsi_codec.specs.EventQueue.{event_bytes}
 use Rattle.ring_core.specs.State.{PlainChain}
 use Rattle.ring_core.specs.Writes.{all_written}
 use Rattle.event_queue.specs.Port.{PlainPort}
-use Rattle.device_model.specs.Parts.{as_left, Slot, answer_writes}
+use Rattle.device_model.specs.Parts.{Slot, answer_writes}
 use Rattle.device_model.specs.World.{PlainQueue, PlainWorld, change}
 use Rattle.device_model.specs.Events.{Event}
 use Rattle.device_model.specs.Transitions.{Transition}
 use Rattle.device_model.specs.After.{completing}
 use Rattle.device_model.specs.Standing.{IsOwned}
-use Rattle.device_model.specs.Turns.{Turns}
 use Rattle.device_model.proofs.Joining.{joins}
 use Rattle.device_model.proofs.Lists.{same}
 use Rattle.queues.specs.Queue.{BareQueue, MayComplete}
 use Rattle.phases.specs.Queue.{with_slot}
-use Rattle.phases.specs.EventQueue.{RaisesNext, RaisesTo, StaysRaised}
+use Rattle.phases.specs.InMemory.{as_seen}
+use Rattle.phases.specs.EventsInMemory.{RaisesNextIn, RaisesToIn, StaysRaisedIn}
+use Rattle.world.specs.Apart.{TurnsSeen}
 use Rattle.world.specs.Sound.{IsSound}
 use Rattle.world.proofs.Setting.{set_same}
 use Rattle.world.proofs.Placing.{set_as}
@@ -32,7 +33,7 @@ with_raised m qs p x w =
 none_there : {X : Type 0} {x : X} {xs : List X} → [] ≡ x ∷ xs → ⊥
 none_there e = cc
 
-module _ (w : PlainWorld) (k : ℕ) (s : Slot) (l l' : BareQueue) (m' : List ℕ) (p p' : PlainPort) (x' : List Report)
+module _ (w : PlainWorld) (k : ℕ) (s : Slot) (l l' : BareQueue) (m' n : List ℕ) (p p' : PlainPort) (x' : List Report)
     (second : k ≡ 1) (at : slice_get w.queues k ≡ Some (with_slot s l)) (held : p.buffers ≡ w.buffers)
     (missed : p.missed ≡ w.missed) where
   -- by what the parts are
@@ -45,7 +46,7 @@ module _ (w : PlainWorld) (k : ℕ) (s : Slot) (l l' : BareQueue) (m' : List ℕ
       ∙ ap (λ x. with_raised m qs z x w) d
 
   -- where nothing was changed the world is as it was
-  still : (x : List Report) → w.waiting ≡ x → StaysRaised l w.memory p x l' m' p' x'
+  still : (x : List Report) → w.waiting ≡ x → StaysRaisedIn l w.memory p x l' m' n p' x'
       → with_raised m' (slice_set w.queues k (with_slot s l')) p' x' w ≡ w
   still x waits h =
       parts_are w.memory w.queues p w.waiting h.at_queue.memory
@@ -65,21 +66,21 @@ module _ (w : PlainWorld) (k : ℕ) (s : Slot) (l l' : BareQueue) (m' : List ℕ
   raises_to : (cs : List PlainChain) (e : Report) (later : List Report) (r : Bool) → p.buffers ≡ cs
       → w.waiting ≡ e ∷ later → l.ring.memory ≡ length w.memory
       → AllByRecursion (λ (c : PlainChain). (c.ticket.queue ≡ 1) × IsOwned w c) cs
-      → RaisesTo cs e later l w.memory p r l' m' p' x'
-      → Turns w Event.Raise r (with_raised m' (slice_set w.queues k (with_slot s l')) p' x' w)
+      → RaisesToIn w.shared cs e later l w.memory p r l' m' n p' x'
+      → TurnsSeen n w Event.Raise r (with_raised m' (slice_set w.queues k (with_slot s l')) p' x' w)
   raises_to (c ∷ more) e later true has waits fits owned h =
       let xs = answer_writes l.ring c (event_bytes e) in
       let m = all_written w.memory xs in
-      let d = Transition.Give e c (as_left w.memory xs) in
+      let d = Transition.Give e c (as_seen n xs) in
       let does = h.0 w.inventory s in
       let first = owned.0.0 ∙ sym second in
       let here : slice_get w.queues c.ticket.queue ≡ Some (with_slot s l) = ap (λ i. slice_get w.queues i) first ∙ at in
-      let qs = change (completing m c) c.ticket.queue w.queues in
-      let set = set_as (completing m c) k c.ticket.queue w.queues (with_slot s l) (with_slot s l') at does.queue first in (
+      let qs = change (completing n c) c.ticket.queue w.queues in
+      let set = set_as (completing n c) k c.ticket.queue w.queues (with_slot s l) (with_slot s l') at does.queue first in (
         d,
         refl,
         joins d w (record { later = later; waits = waits; more = more; held = sym held ∙ has }) tt
-            (with_slot s l, here, does.asks w.shared w.missed),
+            (with_slot s l, here, does.asks w.missed),
         parts_are m qs _ later does.memory set h.1 h.2
             ∙ ap (λ (b : List PlainChain). record w {
               memory = m;
@@ -101,6 +102,7 @@ module _ (w : PlainWorld) (k : ℕ) (s : Slot) (l l' : BareQueue) (m' : List ℕ
               buffers = drop 1 w.buffers;
               waiting = drop 1 x;
             }) (sym waits),
+        refl,
       )
   raises_to (c ∷ more) e later false has waits fits owned h = absurd (h.0 (may_give c fits owned.0))
   raises_to [] e later true has waits fits owned h =
@@ -112,21 +114,23 @@ module _ (w : PlainWorld) (k : ℕ) (s : Slot) (l l' : BareQueue) (m' : List ℕ
             (ap (λ z. slice_set w.queues k (with_slot s z)) h.0.queue ∙ set_same k w.queues (with_slot s l) at) h.1 h.2
             ∙ ap (λ (b : List PlainChain). record w { buffers = b; missed = true; waiting = later }) held
             ∙ ap (λ (x : List Report). record w { missed = true; waiting = drop 1 x }) (sym waits),
+        h.0.seen ∙ sym h.0.memory,
       )
   raises_to [] e later false has waits fits owned h = absurd h
 
   -- by the events that wait
   pub raises : (x : List Report) (r : Bool) → w.waiting ≡ x → IsSound w → l.ring.memory ≡ length w.memory
-      → RaisesNext x l w.memory p r l' m' p' x'
-      → Turns w Event.Raise r (with_raised m' (slice_set w.queues k (with_slot s l')) p' x' w)
+      → RaisesNextIn w.shared x l w.memory p r l' m' n p' x'
+      → TurnsSeen n w Event.Raise r (with_raised m' (slice_set w.queues k (with_slot s l')) p' x' w)
   raises (e ∷ later) r waits sound fits h =
       raises_to p.buffers e later r refl waits fits
       (subst (λ cs. AllByRecursion (λ (c : PlainChain). (c.ticket.queue ≡ 1) × IsOwned w c) cs) (sym held) sound.owned.buffers) h
   raises [] true waits sound fits h = absurd h
   raises [] false waits sound fits h =
-      (still [] waits h, λ may. none_there (sym waits ∙ may.2))
+      (still [] waits h, λ may. none_there (sym waits ∙ may.2), h.at_queue.seen)
 
 -- the port keeps how many buffers it may hold
+<<<<<<< HEAD
 to_limit : (cs : List PlainChain) (e : Report) (later : List Report) (l l' : BareQueue) (m m' : List ℕ) (p p' : PlainPort)
     (x' : List Report) (r : Bool) → RaisesTo cs e later l m p r l' m' p' x' → p'.limit ≡ p.limit
 to_limit (c ∷ more) e later l l' m m' p p' x' true h = ap (λ (z : PlainPort). z.limit) h.1
@@ -139,3 +143,17 @@ pub raise_limit : (x : List Report) (l l' : BareQueue) (m m' : List ℕ) (p p' :
 raise_limit (e ∷ later) l l' m m' p p' x' r h = to_limit p.buffers e later l l' m m' p p' x' r h
 raise_limit [] l l' m m' p p' x' true h = absurd h
 raise_limit [] l l' m m' p p' x' false h = ap (λ (z : PlainPort). z.limit) h.port
+=======
+to_limit : (shared : Bool) (cs : List PlainChain) (e : Report) (later : List Report) (l l' : BareQueue) (m m' n : List ℕ) (p p' : PlainPort)
+    (x' : List Report) (r : Bool) → RaisesToIn shared cs e later l m p r l' m' n p' x' → p'.limit ≡ p.limit
+to_limit shared (c ∷ more) e later l l' m m' n p p' x' true h = ap (λ (z : PlainPort). z.limit) h.1
+to_limit shared (c ∷ more) e later l l' m m' n p p' x' false h = ap (λ (z : PlainPort). z.limit) h.1.port
+to_limit shared [] e later l l' m m' n p p' x' true h = ap (λ (z : PlainPort). z.limit) h.1
+to_limit shared [] e later l l' m m' n p p' x' false h = absurd h
+
+pub raise_limit : (shared : Bool) (x : List Report) (l l' : BareQueue) (m m' n : List ℕ) (p p' : PlainPort) (x' : List Report) (r : Bool)
+    → RaisesNextIn shared x l m p r l' m' n p' x' → p'.limit ≡ p.limit
+raise_limit shared (e ∷ later) l l' m m' n p p' x' r h = to_limit shared p.buffers e later l l' m m' n p p' x' r h
+raise_limit shared [] l l' m m' n p p' x' true h = absurd h
+raise_limit shared [] l l' m m' n p p' x' false h = ap (λ (z : PlainPort). z.limit) h.port
+>>>>>>> 48268e53733eb4334d0daa1a162b82212713cc2a

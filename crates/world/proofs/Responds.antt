@@ -5,25 +5,25 @@ use Rattle.std.proofs.lemmas.Bool.{eqb-true}
 use Rattle.scsi_codec.specs.ControlQueue.{function_bytes}
 use Rattle.ring_core.specs.Writes.{all_written}
 use Rattle.task_mgmt.specs.Functions.{PlainFunction, is_over, response_of}
-use Rattle.device_model.specs.Parts.{as_left, Slot, answer_writes}
+use Rattle.device_model.specs.Parts.{Slot, answer_writes}
 use Rattle.device_model.specs.World.{PlainQueue, Opened, PlainWorld, change}
 use Rattle.device_model.specs.Events.{Event}
 use Rattle.device_model.specs.Transitions.{Transition}
 use Rattle.device_model.specs.After.{completing}
 use Rattle.device_model.specs.Happens.{IsWaiting}
 use Rattle.device_model.specs.Standing.{FunctionOwns}
-use Rattle.device_model.specs.Turns.{Turns}
 use Rattle.device_model.proofs.Joining.{joins}
 use Rattle.device_model.proofs.Lists.{same, nothing}
 use Rattle.queues.specs.Queue.{BareQueue, MayComplete}
 use Rattle.phases.specs.Queue.{with_slot}
-use Rattle.phases.specs.Direct.{Responds, RespondsWhere, StaysQueue}
+use Rattle.phases.specs.InMemory.{as_seen, RespondsIn, RespondsWhereIn, StaysQueueIn}
+use Rattle.world.specs.Apart.{TurnsSeen}
 use Rattle.world.specs.Sound.{IsSound}
 use Rattle.world.proofs.Setting.{set_same}
 use Rattle.world.proofs.Placing.{set_as}
 
 -- the world with this memory, these queues and this function
-abbrev with_three : List ℕ → List PlainQueue → Option Opened → PlainWorld → PlainWorld
+abbrev pub with_three : List ℕ → List PlainQueue → Option Opened → PlainWorld → PlainWorld
 with_three m qs f w = record w { memory = m; queues = qs; function = f }
 
 -- no falsehood is true
@@ -58,10 +58,10 @@ over_or_not : {b : Bool} → b ≡ false → b ≡ true → ⊥
 over_or_not e h = cc
 
 -- where nothing was changed the world is as it was
-stays : (w : PlainWorld) (k : ℕ) (s : Slot) (l l' : BareQueue) (m' : List ℕ) (f' : Option Opened)
-    → slice_get w.queues k ≡ Some (with_slot s l) → StaysQueue l l' w.memory m' → f' ≡ w.function
+stays : (w : PlainWorld) (k : ℕ) (s : Slot) (l l' : BareQueue) (m' n : List ℕ) (f' : Option Opened)
+    → slice_get w.queues k ≡ Some (with_slot s l) → StaysQueueIn l l' w.memory m' n → f' ≡ w.function
     → with_three m' (slice_set w.queues k (with_slot s l')) f' w ≡ w
-stays w k s l l' m' f' at h is =
+stays w k s l l' m' n f' at h is =
     let m = ap (λ m. with_three m (slice_set w.queues k (with_slot s l')) f' w) h.memory in
     let q = ap (λ l. with_three w.memory (slice_set w.queues k (with_slot s l)) f' w) h.queue in
     let qs = ap (λ qs. with_three w.memory qs f' w) (set_same k w.queues (with_slot s l) at) in
@@ -76,16 +76,15 @@ may_complete w k s l f first at fits h =
     record { fits = sym fits; owned = rw (ap (λ (q : PlainQueue). q.ring) is) at h.1.owned }
 
 -- by whether the function is over
-where_turns : (w : PlainWorld) (k : ℕ) (s : Slot) (l l' : BareQueue) (m' : List ℕ) (f : Opened) (f' : Option Opened)
+where_turns : (w : PlainWorld) (k : ℕ) (s : Slot) (l l' : BareQueue) (m' n : List ℕ) (f : Opened) (f' : Option Opened)
     (over r : Bool) → k ≡ 0 → slice_get w.queues k ≡ Some (with_slot s l) → l.ring.memory ≡ length w.memory
     → w.function ≡ Some f → FunctionOwns w (Some f) → is_over f.function ≡ over
-    → RespondsWhere over f l w.memory r l' m' f'
-    → Turns w Event.AnswerTmf r (with_three m' (slice_set w.queues k (with_slot s l')) f' w)
-where_turns w k s l l' m' f f' true true first at fits there owns over h =
+    → RespondsWhereIn w.shared over f l w.memory r l' m' n f'
+    → TurnsSeen n w Event.AnswerTmf r (with_three m' (slice_set w.queues k (with_slot s l')) f' w)
+where_turns w k s l l' m' n f f' true true first at fits there owns over h =
     let r = response_of f.function in
     let xs = answer_writes l.ring f.chain (function_bytes r) in
-    let m = all_written w.memory xs in
-    let d = Transition.Respond f.chain r (as_left w.memory xs) in
+    let d = Transition.Respond f.chain r (as_seen n xs) in
     let does = h.0 w.inventory s in
     let none = over_left f.function over in
     let here : slice_get w.queues f.chain.ticket.queue ≡ Some (with_slot s l) =
@@ -93,41 +92,50 @@ where_turns w k s l l' m' f f' true true first at fits there owns over h =
     let waiting : IsWaiting w f.chain.ticket [] =
     record { opened = f; there = there; of = refl; left = none.0; still = none.1 } in
     let queues = slice_set w.queues k (with_slot s l') in
-    let completed = change (completing m f.chain) f.chain.ticket.queue w.queues in
-    let set = set_as (completing m f.chain) k f.chain.ticket.queue w.queues (with_slot s l) (with_slot s l') at
+    let completed = change (completing n f.chain) f.chain.ticket.queue w.queues in
+    let set = set_as (completing n f.chain) k f.chain.ticket.queue w.queues (with_slot s l) (with_slot s l') at
     does.queue (owns.0 ∙ sym first) in (
       d,
       refl,
-      joins d w (record { waiting = waiting; chain = refl }, refl) tt (with_slot s l, here, does.asks w.shared w.missed),
-      ap (λ m. with_three m queues f' w) does.memory ∙ ap (λ qs. with_three m qs f' w) set
-          ∙ ap (λ g. with_three m completed g w) h.1,
+      joins d w (record { waiting = waiting; chain = refl }, refl) tt (with_slot s l, here, does.asks w.missed),
+      ap (λ m. with_three m queues f' w) does.memory ∙ ap (λ qs. with_three (all_written w.memory xs) qs f' w) set
+          ∙ ap (λ g. with_three (all_written w.memory xs) completed g w) h.1,
+      refl,
     )
-where_turns w k s l l' m' f f' true false first at fits there owns over h =
+where_turns w k s l l' m' n f f' true false first at fits there owns over h =
     absurd (h.0.why (may_complete w k s l f first at fits owns))
-where_turns w k s l l' m' f f' false true first at fits there owns over h = absurd h
-where_turns w k s l l' m' f f' false false first at fits there owns over h = (
-  stays w k s l l' m' f' at h.0 (h.1 ∙ sym there),
+where_turns w k s l l' m' n f f' false true first at fits there owns over h = absurd h
+where_turns w k s l l' m' n f f' false false first at fits there owns over h = (
+  stays w k s l l' m' n f' at h.0 (h.1 ∙ sym there),
   λ may.
       over_or_not over
       (ap (λ (o : Opened). is_over o.function) (same (sym there ∙ may.there))
       ∙ left_over may.opened.function may.left may.still),
+  h.0.seen,
 )
 
 -- by whether a function is open
-some_turns : (w : PlainWorld) (k : ℕ) (s : Slot) (l l' : BareQueue) (m' : List ℕ) (f f' : Option Opened) (r : Bool)
+some_turns : (w : PlainWorld) (k : ℕ) (s : Slot) (l l' : BareQueue) (m' n : List ℕ) (f f' : Option Opened) (r : Bool)
     → k ≡ 0 → slice_get w.queues k ≡ Some (with_slot s l) → l.ring.memory ≡ length w.memory → w.function ≡ f
-    → FunctionOwns w f → Responds f l w.memory r l' m' f'
-    → Turns w Event.AnswerTmf r (with_three m' (slice_set w.queues k (with_slot s l')) f' w)
-some_turns w k s l l' m' (Some f) f' r first at fits there owns h =
-    where_turns w k s l l' m' f f' (is_over f.function) r first at fits there owns refl h
-some_turns w k s l l' m' None f' true first at fits there owns h = absurd h
-some_turns w k s l l' m' None f' false first at fits there owns h =
-    (stays w k s l l' m' f' at h.0 (h.1 ∙ sym there), λ may. nothing (sym there ∙ may.there))
+    → FunctionOwns w f → RespondsIn w.shared f l w.memory r l' m' n f'
+    → TurnsSeen n w Event.AnswerTmf r (with_three m' (slice_set w.queues k (with_slot s l')) f' w)
+some_turns w k s l l' m' n (Some f) f' r first at fits there owns h =
+    where_turns w k s l l' m' n f f' (is_over f.function) r first at fits there owns refl h
+some_turns w k s l l' m' n None f' true first at fits there owns h = absurd h
+some_turns w k s l l' m' n None f' false first at fits there owns h =
+    (stays w k s l l' m' n f' at h.0 (h.1 ∙ sym there), λ may. nothing (sym there ∙ may.there), h.0.seen)
 
 -- what an answer to the open function does is a turn of its event
-pub respond_turns : (w : PlainWorld) (k : ℕ) (s : Slot) (l l' : BareQueue) (m' : List ℕ) (f' : Option Opened) (r : Bool)
+pub respond_turns : (w : PlainWorld) (k : ℕ) (s : Slot) (l l' : BareQueue) (m' n : List ℕ) (f' : Option Opened) (r : Bool)
     → IsSound w → k ≡ 0 → slice_get w.queues k ≡ Some (with_slot s l) → l.ring.memory ≡ length w.memory
+<<<<<<< HEAD
     → Responds w.function l w.memory r l' m' f'
     → Turns w Event.AnswerTmf r (with_three m' (slice_set w.queues k (with_slot s l')) f' w)
 respond_turns w k s l l' m' f' r sound first at fits h =
     some_turns w k s l l' m' w.function f' r first at fits refl sound.owned.function h
+=======
+    → RespondsIn w.shared w.function l w.memory r l' m' n f'
+    → TurnsSeen n w Event.AnswerTmf r (with_three m' (slice_set w.queues k (with_slot s l')) f' w)
+respond_turns w k s l l' m' n f' r sound first at fits h =
+    some_turns w k s l l' m' n w.function f' r first at fits refl sound.owned.function h
+>>>>>>> 48268e53733eb4334d0daa1a162b82212713cc2a

@@ -1,15 +1,31 @@
 -- The device apart from its memory, and what an event does to it whatever stands there. Only private functions and models
 -- cite it: no promise stands on it.
+<<<<<<< HEAD
 use Rattle.std.specs.Prelude.{ℕ, Bool, List, Option, Result}
+=======
+use Rattle.std.specs.Prelude.{ℕ, ◌≡◌, Bool, true, false, List, [], Option, Result, Ok, Err}
+>>>>>>> 48268e53733eb4334d0daa1a162b82212713cc2a
 use Rattle.block_store.specs.declared.NoMemory.{NoMemory}
 use Rattle.scsi_codec.specs.declared.lun.Address.{Address}
 use Rattle.scsi_codec.specs.declared.event_queue.Event.{Event as Report}
 use Rattle.ring_core.specs.State.{PlainChain}
 use Rattle.unit_model.specs.Jobs.{PlainJob}
 use Rattle.unit_model.specs.Unit.{PlainUnit}
+<<<<<<< HEAD
 use Rattle.device_model.specs.World.{PlainQueue, Seat, Opened, PlainWorld}
 use Rattle.device_model.specs.Events.{Event}
 use Rattle.device_model.specs.Turns.{Turns}
+=======
+use Rattle.device_model.specs.World.{PlainQueue, Seat, Opened, PlainWorld, Everywhere}
+use Rattle.device_model.specs.Events.{Event}
+use Rattle.device_model.specs.Transitions.{Transition, event_of, completion_of}
+use Rattle.device_model.specs.After.{after}
+use Rattle.device_model.specs.Happens.{Happens, MayWant}
+use Rattle.device_model.specs.Applies.{Applies}
+use Rattle.device_model.specs.Turns.{Turns}
+use Rattle.phases.specs.InMemory.{EachSeen}
+use Rattle.phases.specs.EventsInMemory.{SeesBy}
+>>>>>>> 48268e53733eb4334d0daa1a162b82212713cc2a
 use Rattle.world.specs.Steps.{TurnsOrWants}
 use Rattle.world.specs.Sound.{AreFew, IsSound}
 
@@ -59,3 +75,44 @@ abbrev pub TurnsAloneOrWants : PlainDevice → Event → Result Bool NoMemory �
 TurnsAloneOrWants d e result d' =
     (shared : Bool) (m : List ℕ) → IsSound (standing shared m d) → AreFew (standing shared m d)
     → TurnsOrWants (standing shared m d) e result (standing shared m d')
+<<<<<<< HEAD
+=======
+
+-- each ring was made for a memory of this size
+abbrev pub FitsIn : ℕ → PlainDevice → Type 0
+FitsIn size d = Everywhere (λ i (q : PlainQueue). q.ring.memory ≡ size) d.queues
+
+-- One event in a memory that others may write too
+
+-- a transition of the event was done, and by this memory the notice of what it completed was decided; where it completed
+-- nothing, this memory was left. Or the event doesn't apply, nothing changed, and this memory was found
+abbrev pub TurnsSeen : List ℕ → PlainWorld → Event → Bool → PlainWorld → Type 0
+TurnsSeen seen w e true w' =
+    (t : Transition) × (event_of t ≡ e) × Happens t w × (w' ≡ after t w) × SeesBy (completion_of t) w'.memory seen
+TurnsSeen seen w e false w' = (w' ≡ w) × (Applies w e → ⊥) × (seen ≡ w.memory)
+
+-- that, or the memory that the event asks the host for was refused
+abbrev pub TurnsSeenOrWants : List ℕ → PlainWorld → Event → Result Bool NoMemory → PlainWorld → Type 0
+TurnsSeenOrWants seen w e (Ok changed) w' = TurnsSeen seen w e changed w'
+TurnsSeenOrWants seen w e (Err x) w' = MayWant e w × (w' ≡ w) × (seen ≡ w.memory)
+
+-- whatever may be seen afterwards, the event takes its turn on a memory that may have been found
+abbrev pub TurnsIn : Bool → (List ℕ → Type 0) → (List ℕ → Type 0) → PlainDevice → Event → Bool → PlainDevice → Type 0
+TurnsIn shared before after d e changed d' =
+    EachSeen shared before after
+    (λ found left seen. TurnsSeen seen (standing shared found d) e changed (standing shared left d'))
+
+abbrev pub TurnsInOrWants : Bool → (List ℕ → Type 0) → (List ℕ → Type 0) → PlainDevice → Event → Result Bool NoMemory → PlainDevice
+    → Type 0
+TurnsInOrWants shared before after d e result d' =
+    EachSeen shared before after
+    (λ found left seen. TurnsSeenOrWants seen (standing shared found d) e result (standing shared left d'))
+
+-- it has few parts, whatever stands in memory
+abbrev pub HasFew : PlainDevice → Type 0
+HasFew d = AreFew (standing false [] d)
+
+-- the device is sound whatever the memory may be
+abbrev pub IsSoundIn : Bool → (List ℕ → Type 0) → PlainDevice → Type 0
+IsSoundIn shared may_be d = (m : List ℕ) → may_be m → IsSound (standing shared m d)
+>>>>>>> 48268e53733eb4334d0daa1a162b82212713cc2a

@@ -1,21 +1,34 @@
 //! Each event's step on the parts of the device.
 
+<<<<<<< HEAD
 ghost use Rattle.std.specs.Prelude.{◌≡◌, ◌≤◌, ◌+◌, Bool, false, IsTrue, length};
+=======
+ghost use Rattle.std.specs.Prelude.{◌≡◌, ◌≤◌, ◌+◌, ℕ, List, Bool, false, IsTrue, length};
+>>>>>>> 48268e53733eb4334d0daa1a162b82212713cc2a
 ghost use Rattle.device_model.specs.World.{owner};
 ghost use Rattle.device_model.specs.Events.{Event as AnEvent};
 ghost use Rattle.device_model.specs.Applies.{Applies};
 ghost use Rattle.device_model.specs.Turns.{Turns};
 ghost use Rattle.world.specs.Steps.{TurnsOrWants};
+<<<<<<< HEAD
 ghost use Rattle.world.specs.Apart.{PlainDevice, standing, TurnsAlone, TurnsAloneOrWants};
+=======
+ghost use Rattle.world.specs.Apart.{PlainDevice, standing, TurnsAlone, TurnsAloneOrWants, TurnsIn, TurnsInOrWants, IsSoundIn, FitsIn, HasFew};
+>>>>>>> 48268e53733eb4334d0daa1a162b82212713cc2a
 ghost use Rattle.world.specs.Sound.{AreFew, AreFitting, IsSound};
 
 use crate::device::Device;
 use block_store::NoMemory;
+<<<<<<< HEAD
 use guest_mem::GuestMem;
+=======
+use guest_mem::{GuestMem, Memory, WritableMemory};
+>>>>>>> 48268e53733eb4334d0daa1a162b82212713cc2a
 use phases::{
-    ResetFault, ResizeFault, phase_answer, phase_answer_tmf, phase_check, phase_commit,
-    phase_direct, phase_enter, phase_fetch, phase_fetch_control, phase_fetch_event, phase_hard,
-    phase_leave, phase_mark, phase_prepare, phase_raise, phase_resize, phase_start_pages,
+    ResetFault, ResizeFault, phase_answer_in, phase_answer_tmf_in, phase_check, phase_commit,
+    phase_direct_in, phase_enter, phase_fetch_control_in, phase_fetch_event_in, phase_fetch_in,
+    phase_hard, phase_leave, phase_mark, phase_prepare, phase_raise_in, phase_resize,
+    phase_start_pages,
 };
 
 /// Returns the seat that serves a request queue.
@@ -48,17 +61,63 @@ impl Device {
     {
         let at = number as usize;
         at >= self.bays.len() || self.bays[at].queue.is_idle(memory)
+<<<<<<< HEAD
     }
 
     /// Has a queue take its next chain.
+=======
+    }
+
+    /// Returns true if a queue has nothing to take from any memory, as `is_idle` does.
+    fn is_idle_in<M: WritableMemory>(&self, memory: &mut M, number: u16) -> bool
+        requires reading { M.is_open memory.old }
+        requires fits { FitsIn (M.extent memory.old) self.now }
+        ensures idle { (m : List ℕ) → M.may_be memory.new m → IsTrue result
+            → Applies (standing M.shared m self.now) (AnEvent.Fetch number) → ⊥ }
+        ensures stays { (m : List ℕ) → M.may_be memory.new m → M.may_be memory.old m }
+        ensures reading { M.is_open memory.new }
+        ensures size { M.extent memory.new ≡ M.extent memory.old }
+    {
+        let at = number as usize;
+        at >= self.bays.len() || self.bays[at].queue.is_idle_in(memory)
+    }
+
+    /// Has a queue take its next chain.
+    #[inline(always)]
+>>>>>>> 48268e53733eb4334d0daa1a162b82212713cc2a
     pub(crate) fn fetch(&mut self, memory: &mut GuestMem, number: u16) -> Result<bool, NoMemory>
         requires sound { IsSound (standing false memory.old self.old) }
         requires fits { AreFitting (standing false memory.old self.old) }
         requires few { AreFew (standing false memory.old self.old) }
+<<<<<<< HEAD
         ensures turns { TurnsOrWants (standing false memory.old self.old) (AnEvent.Fetch number) result (standing false memory.new self.new) }
         ensures size { length memory.new ≡ length memory.old }
     {
         if self.is_idle(memory, number) {
+=======
+        ensures turns { TurnsOrWants (standing false memory.old self.old) (AnEvent.Fetch number) result
+            (standing false memory.new self.new) }
+        ensures size { length memory.new ≡ length memory.old }
+    {
+        self.fetch_in(memory, number)
+    }
+
+    /// Has a queue take its next chain from any memory, as `fetch` does. Called in a phase that wrote nothing yet.
+    pub(crate) fn fetch_in<M: WritableMemory>(
+        &mut self,
+        memory: &mut M,
+        number: u16,
+    ) -> Result<bool, NoMemory>
+        requires reading { M.is_open memory.old }
+        requires sound { IsSoundIn M.shared (M.may_be memory.old) self.old }
+        requires fits { FitsIn (M.extent memory.old) self.old }
+        requires few { HasFew self.old }
+        ensures turns { TurnsInOrWants M.shared (M.may_be memory.old) (M.may_be memory.new) self.old
+            (AnEvent.Fetch number) result self.new }
+        ensures size { M.extent memory.new ≡ M.extent memory.old }
+    {
+        if self.is_idle_in(memory, number) {
+>>>>>>> 48268e53733eb4334d0daa1a162b82212713cc2a
             return Ok(false);
         }
         match number {
@@ -69,18 +128,34 @@ impl Device {
     }
 
     /// Takes the next chain of a request queue.
+<<<<<<< HEAD
     fn fetch_request(&mut self, memory: &mut GuestMem, number: u16) -> Result<bool, NoMemory>
         requires sound { IsSound (standing false memory.old self.old) }
         requires fits { AreFitting (standing false memory.old self.old) }
         requires request { 2 ≤ number }
         ensures turns { TurnsOrWants (standing false memory.old self.old) (AnEvent.Fetch number) result (standing false memory.new self.new) }
         ensures size { length memory.new ≡ length memory.old }
+=======
+    fn fetch_request<M: WritableMemory>(
+        &mut self,
+        memory: &mut M,
+        number: u16,
+    ) -> Result<bool, NoMemory>
+        requires reading { M.is_open memory.old }
+        requires sound { IsSoundIn M.shared (M.may_be memory.old) self.old }
+        requires fits { FitsIn (M.extent memory.old) self.old }
+        requires request { 2 ≤ number }
+        ensures turns { TurnsInOrWants M.shared (M.may_be memory.old) (M.may_be memory.new) self.old
+            (AnEvent.Fetch number) result self.new }
+        ensures size { M.extent memory.new ≡ M.extent memory.old }
+>>>>>>> 48268e53733eb4334d0daa1a162b82212713cc2a
     {
         let at = number as usize;
         if at >= self.bays.len() {
             return Ok(false);
         }
         let bay = &mut self.bays[at];
+<<<<<<< HEAD
         phase_fetch(&mut bay.queue, &mut bay.slot, memory, &self.inventory)
     }
 
@@ -90,12 +165,25 @@ impl Device {
         requires fits { AreFitting (standing false memory.old self.old) }
         ensures turns { TurnsOrWants (standing false memory.old self.old) (AnEvent.Fetch 0) result (standing false memory.new self.new) }
         ensures size { length memory.new ≡ length memory.old }
+=======
+        phase_fetch_in(&mut bay.queue, &mut bay.slot, memory, &self.inventory)
+    }
+
+    /// Takes the next chain of the control queue.
+    fn fetch_control<M: WritableMemory>(&mut self, memory: &mut M) -> Result<bool, NoMemory>
+        requires reading { M.is_open memory.old }
+        requires sound { IsSoundIn M.shared (M.may_be memory.old) self.old }
+        requires fits { FitsIn (M.extent memory.old) self.old }
+        ensures turns { TurnsInOrWants M.shared (M.may_be memory.old) (M.may_be memory.new) self.old (AnEvent.Fetch 0)
+            result self.new }
+        ensures size { M.extent memory.new ≡ M.extent memory.old }
+>>>>>>> 48268e53733eb4334d0daa1a162b82212713cc2a
     {
         if self.bays.is_empty() {
             return Ok(false);
         }
         let bay = &mut self.bays[0];
-        phase_fetch_control(
+        phase_fetch_control_in(
             &mut bay.queue,
             &mut bay.slot,
             &mut self.function,
@@ -105,6 +193,7 @@ impl Device {
     }
 
     /// Takes the next chain of the event queue.
+<<<<<<< HEAD
     fn fetch_event(&mut self, memory: &mut GuestMem) -> Result<bool, NoMemory>
         requires sound { IsSound (standing false memory.old self.old) }
         requires fits { AreFitting (standing false memory.old self.old) }
@@ -115,6 +204,22 @@ impl Device {
         let bay = &mut self.bays[1];
         let _log = bay.queue.log();
         phase_fetch_event(&mut bay.queue, &bay.slot, &mut self.port, memory)
+=======
+    fn fetch_event<M: WritableMemory>(&mut self, memory: &mut M) -> Result<bool, NoMemory>
+        requires reading { M.is_open memory.old }
+        requires sound { IsSoundIn M.shared (M.may_be memory.old) self.old }
+        requires fits { FitsIn (M.extent memory.old) self.old }
+        requires few { HasFew self.old }
+        ensures turns { TurnsInOrWants M.shared (M.may_be memory.old) (M.may_be memory.new) self.old (AnEvent.Fetch 1)
+            result self.new }
+        ensures size { M.extent memory.new ≡ M.extent memory.old }
+    {
+        let bay = &mut self.bays[1];
+        let _log = bay.queue.log();
+        let fetched = phase_fetch_event_in(&mut bay.queue, &bay.slot, &mut self.port, memory);
+        let _bytes = memory.size();
+        fetched
+>>>>>>> 48268e53733eb4334d0daa1a162b82212713cc2a
     }
 
     /// Brings the request that arrived on a queue to its unit.
@@ -150,13 +255,32 @@ impl Device {
         requires fits { AreFitting (standing false memory.old self.old) }
         ensures turns { Turns (standing false memory.old self.old) (AnEvent.Direct number) result (standing false memory.new self.new) }
         ensures size { length memory.new ≡ length memory.old }
+<<<<<<< HEAD
+=======
+    {
+        self.direct_in(memory, number)
+    }
+
+    /// Answers the chain that is ready on a queue in any memory, as `direct` does.
+    // Within the loop over all queues the test of the slot costs no call.
+    #[inline(always)]
+    pub(crate) fn direct_in<M: WritableMemory>(&mut self, memory: &mut M, number: u16) -> bool
+        requires sound { IsSoundIn M.shared (M.may_be memory.old) self.old }
+        requires fits { FitsIn (M.extent memory.old) self.old }
+        ensures turns { TurnsIn M.shared (M.may_be memory.old) (M.may_be memory.new) self.old (AnEvent.Direct number) result self.new }
+        ensures size { M.extent memory.new ≡ M.extent memory.old }
+>>>>>>> 48268e53733eb4334d0daa1a162b82212713cc2a
     {
         let at = number as usize;
         if at >= self.bays.len() || !self.bays[at].is_direct() {
             return false;
         }
         let bay = &mut self.bays[at];
+<<<<<<< HEAD
         phase_direct(&mut bay.queue, &mut bay.slot, memory).is_some()
+=======
+        phase_direct_in(&mut bay.queue, &mut bay.slot, memory).is_some()
+>>>>>>> 48268e53733eb4334d0daa1a162b82212713cc2a
     }
 
     /// Has a seat hand its next job off, or keep it where its list of the hand-off is full.
@@ -216,11 +340,28 @@ impl Device {
     }
 
     /// Answers the job in a seat's hand.
+<<<<<<< HEAD
+=======
+    #[inline(always)]
+>>>>>>> 48268e53733eb4334d0daa1a162b82212713cc2a
     pub(crate) fn answer(&mut self, memory: &mut GuestMem, number: u16) -> bool
         requires sound { IsSound (standing false memory.old self.old) }
         requires fits { AreFitting (standing false memory.old self.old) }
         ensures turns { Turns (standing false memory.old self.old) (AnEvent.Answer number) result (standing false memory.new self.new) }
         ensures size { length memory.new ≡ length memory.old }
+<<<<<<< HEAD
+=======
+    {
+        self.answer_in(memory, number)
+    }
+
+    /// Answers the job in a seat's hand in any memory, as `answer` does.
+    pub(crate) fn answer_in<M: WritableMemory>(&mut self, memory: &mut M, number: u16) -> bool
+        requires sound { IsSoundIn M.shared (M.may_be memory.old) self.old }
+        requires fits { FitsIn (M.extent memory.old) self.old }
+        ensures turns { TurnsIn M.shared (M.may_be memory.old) (M.may_be memory.new) self.old (AnEvent.Answer number) result self.new }
+        ensures size { M.extent memory.new ≡ M.extent memory.old }
+>>>>>>> 48268e53733eb4334d0daa1a162b82212713cc2a
     {
         let at = number as usize;
         if at >= self.seats.len() {
@@ -232,7 +373,7 @@ impl Device {
         if queue as usize >= self.bays.len() {
             return false;
         }
-        phase_answer(
+        phase_answer_in(
             &mut self.bays[queue as usize].queue,
             memory,
             &mut self.seats[at].hand,
@@ -317,16 +458,37 @@ impl Device {
     }
 
     /// Answers the open function.
+<<<<<<< HEAD
+=======
+    #[inline(always)]
+>>>>>>> 48268e53733eb4334d0daa1a162b82212713cc2a
     pub(crate) fn answer_tmf(&mut self, memory: &mut GuestMem) -> bool
         requires sound { IsSound (standing false memory.old self.old) }
         requires fits { AreFitting (standing false memory.old self.old) }
         ensures turns { Turns (standing false memory.old self.old) AnEvent.AnswerTmf result (standing false memory.new self.new) }
         ensures size { length memory.new ≡ length memory.old }
+<<<<<<< HEAD
+=======
+    {
+        self.answer_tmf_in(memory)
+    }
+
+    /// Answers the open function in any memory, as `answer_tmf` does.
+    pub(crate) fn answer_tmf_in<M: WritableMemory>(&mut self, memory: &mut M) -> bool
+        requires sound { IsSoundIn M.shared (M.may_be memory.old) self.old }
+        requires fits { FitsIn (M.extent memory.old) self.old }
+        ensures turns { TurnsIn M.shared (M.may_be memory.old) (M.may_be memory.new) self.old AnEvent.AnswerTmf result self.new }
+        ensures size { M.extent memory.new ≡ M.extent memory.old }
+>>>>>>> 48268e53733eb4334d0daa1a162b82212713cc2a
     {
         if self.bays.is_empty() {
             return false;
         }
+<<<<<<< HEAD
         phase_answer_tmf(&mut self.bays[0].queue, memory, &mut self.function)
+=======
+        phase_answer_tmf_in(&mut self.bays[0].queue, memory, &mut self.function)
+>>>>>>> 48268e53733eb4334d0daa1a162b82212713cc2a
     }
 
     /// Resets a unit for the operator.
@@ -376,6 +538,10 @@ impl Device {
     }
 
     /// Gives the oldest event that waits to the guest, or misses it.
+<<<<<<< HEAD
+=======
+    #[inline(always)]
+>>>>>>> 48268e53733eb4334d0daa1a162b82212713cc2a
     pub(crate) fn raise(&mut self, memory: &mut GuestMem) -> bool
         requires sound { IsSound (standing false memory.old self.old) }
         requires fits { AreFitting (standing false memory.old self.old) }
@@ -383,11 +549,24 @@ impl Device {
         ensures turns { Turns (standing false memory.old self.old) AnEvent.Raise result (standing false memory.new self.new) }
         ensures size { length memory.new ≡ length memory.old }
     {
-        phase_raise(
+        self.raise_in(memory)
+    }
+
+    /// Gives the oldest event that waits in any memory, as `raise` does.
+    pub(crate) fn raise_in<M: WritableMemory>(&mut self, memory: &mut M) -> bool
+        requires sound { IsSoundIn M.shared (M.may_be memory.old) self.old }
+        requires fits { FitsIn (M.extent memory.old) self.old }
+        requires few { HasFew self.old }
+        ensures turns { TurnsIn M.shared (M.may_be memory.old) (M.may_be memory.new) self.old AnEvent.Raise result self.new }
+        ensures size { M.extent memory.new ≡ M.extent memory.old }
+    {
+        let raised = phase_raise_in(
             &mut self.bays[1].queue,
             memory,
             &mut self.port,
             &mut self.waiting,
-        )
+        );
+        let _bytes = memory.size();
+        raised
     }
 }

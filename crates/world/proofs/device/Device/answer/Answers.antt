@@ -1,3 +1,4 @@
+<<<<<<< HEAD
 use Rattle.std.proofs.Common.{◌≡◌, is_some, Some, false, sym, subst, ap, refl, ◌∙◌, length, arith}
 use Rattle.device_model.specs.Events.{Event}
 use Rattle.device_model.specs.Turns.{Turns}
@@ -55,3 +56,16 @@ returns-clause-turns c =
     (answers w d.seats.items k i s.hand s.jobs s.limit slot q r left t.hand (is_some c.phase_answer.result)
     (sound_seen false m _ _ c.self.view_is c.requires.sound) (fits_seen false m _ _ c.self.view_is c.requires.fits)
     refl at queue there c.phase_answer.ensures.answers))
+=======
+use Rattle.device_model.specs.Events.{Event}
+use Rattle.world.proofs.InMemory.{sound_own, turns_own}
+use Rattle.world.proofs.device.Device.answer.Goals as goal
+
+pub answer_in-requires-clause-sound : goal.answer_in-requires-clause-sound
+answer_in-requires-clause-sound c = sound_own c.args.memory.now c.args.self.now c.requires.sound
+
+pub returns-clause-turns : goal.returns-clause-turns
+returns-clause-turns c =
+    turns_own c.args.memory.now c.answer_in.new.memory c.args.self.now (Event.Answer c.args.number) c.answer_in.result c.answer_in.new.self
+    c.answer_in.ensures.turns
+>>>>>>> 48268e53733eb4334d0daa1a162b82212713cc2a

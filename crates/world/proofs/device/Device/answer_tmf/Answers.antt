@@ -1,3 +1,4 @@
+<<<<<<< HEAD
 use Rattle.std.proofs.Common.{◌<◌, false, refl}
 use Rattle.std.proofs.lemmas.Option.{slice_get_read}
 use Rattle.device_model.specs.Events.{Event}
@@ -20,3 +21,16 @@ returns-clause-turns c =
     turns_seen false m _ _ Event.AnswerTmf c.phase_answer_tmf.result _ c.self.view_is
     (respond_turns _ 0 (slot_of c.behind-self.inside.slot) _ _ _ _ c.phase_answer_tmf.result sound refl here
     (fits 0 _ here) c.phase_answer_tmf.ensures.responds)
+=======
+use Rattle.device_model.specs.Events.{Event}
+use Rattle.world.proofs.InMemory.{sound_own, turns_own}
+use Rattle.world.proofs.device.Device.answer_tmf.Goals as goal
+
+pub answer_tmf_in-requires-clause-sound : goal.answer_tmf_in-requires-clause-sound
+answer_tmf_in-requires-clause-sound c = sound_own c.args.memory.now c.args.self.now c.requires.sound
+
+pub returns-clause-turns : goal.returns-clause-turns
+returns-clause-turns c =
+    turns_own c.args.memory.now c.answer_tmf_in.new.memory c.args.self.now Event.AnswerTmf c.answer_tmf_in.result c.answer_tmf_in.new.self
+    c.answer_tmf_in.ensures.turns
+>>>>>>> 48268e53733eb4334d0daa1a162b82212713cc2a

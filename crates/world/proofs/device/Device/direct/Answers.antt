@@ -1,3 +1,4 @@
+<<<<<<< HEAD
 use Rattle.std.proofs.Common.{◌≡◌, is_some, false, sym, subst, length, arith}
 use Rattle.device_model.specs.Events.{Event}
 use Rattle.device_model.specs.Turns.{Turns}
@@ -30,3 +31,16 @@ returns-clause-turns c =
     (directs w i slot next_slot q r left (is_some c.phase_direct.result)
     (sound_seen false m _ _ c.self.view_is c.requires.sound) (fits_seen false m _ _ c.self.view_is c.requires.fits)
     there c.phase_direct.ensures.directs))
+=======
+use Rattle.device_model.specs.Events.{Event}
+use Rattle.world.proofs.InMemory.{sound_own, turns_own}
+use Rattle.world.proofs.device.Device.direct.Goals as goal
+
+pub direct_in-requires-clause-sound : goal.direct_in-requires-clause-sound
+direct_in-requires-clause-sound c = sound_own c.args.memory.now c.args.self.now c.requires.sound
+
+pub returns-clause-turns : goal.returns-clause-turns
+returns-clause-turns c =
+    turns_own c.args.memory.now c.direct_in.new.memory c.args.self.now (Event.Direct c.args.number) c.direct_in.result c.direct_in.new.self
+    c.direct_in.ensures.turns
+>>>>>>> 48268e53733eb4334d0daa1a162b82212713cc2a

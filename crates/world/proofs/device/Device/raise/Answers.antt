@@ -1,3 +1,4 @@
+<<<<<<< HEAD
 use Rattle.std.proofs.Common.{◌<◌, false, refl, ◌∙◌, arith}
 use Rattle.std.proofs.lemmas.Option.{slice_get_read}
 use Rattle.device_model.specs.Events.{Event}
@@ -29,3 +30,20 @@ returns-clause-turns c =
     turns_seen false m _ _ Event.Raise c.phase_raise.result _ c.self.view_is
     (raises _ 1 (slot_of c.behind-self.inside.slot) _ _ _ _ _ _ refl here refl refl _ c.phase_raise.result refl sound
     (fits 1 _ here) c.phase_raise.ensures.raises)
+=======
+use Rattle.device_model.specs.Events.{Event}
+use Rattle.std.proofs.Common.{false}
+use Rattle.world.proofs.InMemory.{has_few, sound_own, turns_own}
+use Rattle.world.proofs.device.Device.raise.Goals as goal
+
+pub raise_in-requires-clause-sound : goal.raise_in-requires-clause-sound
+raise_in-requires-clause-sound c = sound_own c.args.memory.now c.args.self.now c.requires.sound
+
+pub raise_in-requires-clause-few : goal.raise_in-requires-clause-few
+raise_in-requires-clause-few c = has_few false c.args.memory.now c.args.self.now c.requires.few
+
+pub returns-clause-turns : goal.returns-clause-turns
+returns-clause-turns c =
+    turns_own c.args.memory.now c.raise_in.new.memory c.args.self.now Event.Raise c.raise_in.result c.raise_in.new.self
+    c.raise_in.ensures.turns
+>>>>>>> 48268e53733eb4334d0daa1a162b82212713cc2a
