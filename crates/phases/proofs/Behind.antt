@@ -1,5 +1,5 @@
 -- What is found, left and seen of a memory that others may write too.
-use Rattle.std.proofs.Common.{◌≡◌, ℕ, Bool, true, false, List, ◌++◌, length, refl, sym, ap, ◌∙◌, subst}
+use Rattle.std.proofs.Common.{◌≡◌, ℕ, Bool, true, false, List, ◌++◌, refl, sym, ap, ◌∙◌, subst}
 use Rattle.scsi_codec.specs.declared.lun.Address.{Address}
 use Rattle.ring_core.specs.Writes.{Write, Wrote, all_written}
 use Rattle.ring_core.proofs.Scattering.{written_in_order}

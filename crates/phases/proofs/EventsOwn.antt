@@ -1,5 +1,5 @@
 -- What the phases do on the event queue in a memory that nobody else writes, where it is seen as it was left.
-use Rattle.std.proofs.Common.{◌≡◌, ℕ, Bool, true, false, List, [], ◌∷◌, Result, Ok, Err, refl, sym, ap, ◌∙◌, subst}
+use Rattle.std.proofs.Common.{◌≡◌, ℕ, Bool, true, false, List, [], ◌∷◌, Result, Ok, Err, subst}
 use Rattle.block_store.specs.declared.NoMemory.{NoMemory}
 use Rattle.scsi_codec.specs.declared.event_queue.Event.{Event as Report}
 use Rattle.scsi_codec.specs.EventQueue.{event_bytes}

@@ -51,8 +51,8 @@ pub fn phase_fetch(
     phase_fetch_in(queue, slot, &mut still, inventory)
 }
 
-/// Takes the next chain of a request queue from any memory, as [`phase_fetch`] does. Called in a phase that wrote
-/// nothing yet.
+/// Takes the next chain of a request queue from any memory, as [`phase_fetch`] does. Called in a phase of the
+/// memory that wrote nothing yet.
 #[inline(always)]
 pub fn phase_fetch_in<M: Memory>(
     queue: &mut Queue,
@@ -128,8 +128,8 @@ pub fn phase_fetch_control(
     phase_fetch_control_in(queue, slot, function, &mut still, inventory)
 }
 
-/// Takes the next chain of the control queue from any memory, as [`phase_fetch_control`] does. Called in a phase that
-/// wrote nothing yet.
+/// Takes the next chain of the control queue from any memory, as [`phase_fetch_control`] does. Called in a phase
+/// of the memory that wrote nothing yet.
 #[inline(always)]
 pub fn phase_fetch_control_in<M: Memory>(
     queue: &mut Queue,

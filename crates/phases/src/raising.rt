@@ -125,8 +125,8 @@ pub fn phase_fetch_event(
     phase_fetch_event_in(queue, slot, port, memory)
 }
 
-/// Takes the next chain of the event queue from any memory, as [`phase_fetch_event`] does. Called in a phase that wrote
-/// nothing yet. Where it uses a chain, a new phase is begun behind that.
+/// Takes the next chain of the event queue from any memory, as [`phase_fetch_event`] does. Called in a phase of the
+/// memory that wrote nothing yet. Where it uses a chain, it begins a new one behind that.
 #[inline(always)]
 pub fn phase_fetch_event_in<M: WritableMemory>(
     queue: &mut Queue,
@@ -180,7 +180,7 @@ pub fn phase_raise(
 }
 
 /// Gives the oldest event that waits to the oldest buffer in any memory, as [`phase_raise`] does. Where it uses the
-/// buffer, a new phase is begun behind that.
+/// buffer, it begins a new phase of the memory behind that.
 #[inline(always)]
 pub fn phase_raise_in<M: WritableMemory>(
     queue: &mut Queue,

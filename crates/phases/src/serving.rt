@@ -189,8 +189,8 @@ pub fn serve_request(
     serve_request_in(unit, queue, memory, slot, arrival, out)
 }
 
-/// Brings a request to its unit in any memory, as [`serve_request`] does. Where it uses the chain, a new phase is begun
-/// behind that.
+/// Brings a request to its unit in any memory, as [`serve_request`] does. Where it uses the chain, it begins a new phase
+/// of the memory behind that.
 #[inline(always)]
 pub fn serve_request_in<M: WritableMemory>(
     unit: &mut UnitState,

@@ -69,8 +69,8 @@ pub fn take_request(
     take_request_in(queue, slot, &mut still, inventory)
 }
 
-/// Takes the next chain of a request queue from any memory, as [`take_request`] does. Called in a phase that wrote
-/// nothing yet.
+/// Takes the next chain of a request queue from any memory, as [`take_request`] does. Called in a phase of the
+/// memory that wrote nothing yet.
 #[inline(always)]
 pub fn take_request_in<M: Memory>(
     queue: &mut Queue,

@@ -1,4 +1,4 @@
-use Rattle.std.proofs.Common.{◌≡◌, ap, inl, inr, refl}
+use Rattle.std.proofs.Common.{ap, inl, inr, refl}
 use Rattle.device_model.specs.Parts.{Slot}
 use Rattle.phases.specs.DirectChain.{PlainDirectChain}
 use Rattle.phases.proofs.fetching.decided_control.Goals as goal

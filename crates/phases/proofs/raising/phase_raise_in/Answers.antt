@@ -1,4 +1,4 @@
-use Rattle.std.proofs.Common.{◌≡◌, None, refl, sym, ◌∙◌}
+use Rattle.std.proofs.Common.{◌≡◌, None, ◌∙◌}
 use Rattle.std.specs.Prelude.{slice_get}
 use Rattle.phases.proofs.Raised.{missed, refused, quiet, none_left}
 use Rattle.phases.proofs.raising.phase_raise_in.Goals as goal

@@ -1,5 +1,5 @@
 use Rattle.std.proofs.Common.{refl, subst}
-use Rattle.replies.specs.PlainReply.{PlainReply, good_data, success}
+use Rattle.replies.specs.PlainReply.{PlainReply, good_data}
 use Rattle.unit_model.specs.Endings.{Ending}
 use Rattle.phases.specs.Outcomes.{WritesWholeIn}
 use Rattle.phases.proofs.AtOnce.{writes_whole, read_as}
