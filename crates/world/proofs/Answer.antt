@@ -23,10 +23,7 @@ use Rattle.world.specs.Apart.{TurnsSeen}
 use Rattle.world.specs.Sound.{IsSound}
 use Rattle.world.proofs.Setting.{set_change}
 use Rattle.world.proofs.Seats.{seat_set, shown, one_there, with_queue_and_seat, moved_queue}
-<<<<<<< HEAD
-=======
 use Rattle.world.proofs.InMemory.{turned}
->>>>>>> 48268e53733eb4334d0daa1a162b82212713cc2a
 
 module _ (w : PlainWorld) (kept : List KeptSeat) (k : ℕ) (x : PlainJob) (o : Outcome) (jobs : List PlainJob) (limit : ℕ)
     (slot : Slot) (q r : BareQueue) (m n : List ℕ) (h : Hand) (seats : w.seats ≡ map seat_of kept)

@@ -33,11 +33,7 @@ use Rattle.world.proofs.Fetches.{request_turns, request_memory}
 use Rattle.world.proofs.Entering.{enters, entered_in}
 use Rattle.world.proofs.Handing.{puts, takes, no_item}
 use Rattle.world.proofs.Commit.{commits}
-<<<<<<< HEAD
-use Rattle.world.proofs.Answer.{answers}
-=======
 use Rattle.world.proofs.Answer.{answers_own}
->>>>>>> 48268e53733eb4334d0daa1a162b82212713cc2a
 use Rattle.world.proofs.Leave.{leaves, seat_with, keeps_limit}
 use Rattle.world.proofs.Stages as stages
 use Rattle.world.proofs.Choosing.{taken}

@@ -130,20 +130,6 @@ module _ (w : PlainWorld) (k : ℕ) (s : Slot) (l l' : BareQueue) (m' n : List �
       (still [] waits h, λ may. none_there (sym waits ∙ may.2), h.at_queue.seen)
 
 -- the port keeps how many buffers it may hold
-<<<<<<< HEAD
-to_limit : (cs : List PlainChain) (e : Report) (later : List Report) (l l' : BareQueue) (m m' : List ℕ) (p p' : PlainPort)
-    (x' : List Report) (r : Bool) → RaisesTo cs e later l m p r l' m' p' x' → p'.limit ≡ p.limit
-to_limit (c ∷ more) e later l l' m m' p p' x' true h = ap (λ (z : PlainPort). z.limit) h.1
-to_limit (c ∷ more) e later l l' m m' p p' x' false h = ap (λ (z : PlainPort). z.limit) h.1.port
-to_limit [] e later l l' m m' p p' x' true h = ap (λ (z : PlainPort). z.limit) h.1
-to_limit [] e later l l' m m' p p' x' false h = absurd h
-
-pub raise_limit : (x : List Report) (l l' : BareQueue) (m m' : List ℕ) (p p' : PlainPort) (x' : List Report) (r : Bool)
-    → RaisesNext x l m p r l' m' p' x' → p'.limit ≡ p.limit
-raise_limit (e ∷ later) l l' m m' p p' x' r h = to_limit p.buffers e later l l' m m' p p' x' r h
-raise_limit [] l l' m m' p p' x' true h = absurd h
-raise_limit [] l l' m m' p p' x' false h = ap (λ (z : PlainPort). z.limit) h.port
-=======
 to_limit : (shared : Bool) (cs : List PlainChain) (e : Report) (later : List Report) (l l' : BareQueue) (m m' n : List ℕ) (p p' : PlainPort)
     (x' : List Report) (r : Bool) → RaisesToIn shared cs e later l m p r l' m' n p' x' → p'.limit ≡ p.limit
 to_limit shared (c ∷ more) e later l l' m m' n p p' x' true h = ap (λ (z : PlainPort). z.limit) h.1
@@ -156,4 +142,3 @@ pub raise_limit : (shared : Bool) (x : List Report) (l l' : BareQueue) (m m' n :
 raise_limit shared (e ∷ later) l l' m m' n p p' x' r h = to_limit shared p.buffers e later l l' m m' n p p' x' r h
 raise_limit shared [] l l' m m' n p p' x' true h = absurd h
 raise_limit shared [] l l' m m' n p p' x' false h = ap (λ (z : PlainPort). z.limit) h.port
->>>>>>> 48268e53733eb4334d0daa1a162b82212713cc2a

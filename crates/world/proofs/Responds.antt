@@ -128,14 +128,7 @@ some_turns w k s l l' m' n None f' false first at fits there owns h =
 -- what an answer to the open function does is a turn of its event
 pub respond_turns : (w : PlainWorld) (k : ℕ) (s : Slot) (l l' : BareQueue) (m' n : List ℕ) (f' : Option Opened) (r : Bool)
     → IsSound w → k ≡ 0 → slice_get w.queues k ≡ Some (with_slot s l) → l.ring.memory ≡ length w.memory
-<<<<<<< HEAD
-    → Responds w.function l w.memory r l' m' f'
-    → Turns w Event.AnswerTmf r (with_three m' (slice_set w.queues k (with_slot s l')) f' w)
-respond_turns w k s l l' m' f' r sound first at fits h =
-    some_turns w k s l l' m' w.function f' r first at fits refl sound.owned.function h
-=======
     → RespondsIn w.shared w.function l w.memory r l' m' n f'
     → TurnsSeen n w Event.AnswerTmf r (with_three m' (slice_set w.queues k (with_slot s l')) f' w)
 respond_turns w k s l l' m' n f' r sound first at fits h =
     some_turns w k s l l' m' n w.function f' r first at fits refl sound.owned.function h
->>>>>>> 48268e53733eb4334d0daa1a162b82212713cc2a

@@ -1,21 +1,12 @@
 -- The device apart from its memory, and what an event does to it whatever stands there. Only private functions and models
 -- cite it: no promise stands on it.
-<<<<<<< HEAD
-use Rattle.std.specs.Prelude.{ℕ, Bool, List, Option, Result}
-=======
 use Rattle.std.specs.Prelude.{ℕ, ◌≡◌, Bool, true, false, List, [], Option, Result, Ok, Err}
->>>>>>> 48268e53733eb4334d0daa1a162b82212713cc2a
 use Rattle.block_store.specs.declared.NoMemory.{NoMemory}
 use Rattle.scsi_codec.specs.declared.lun.Address.{Address}
 use Rattle.scsi_codec.specs.declared.event_queue.Event.{Event as Report}
 use Rattle.ring_core.specs.State.{PlainChain}
 use Rattle.unit_model.specs.Jobs.{PlainJob}
 use Rattle.unit_model.specs.Unit.{PlainUnit}
-<<<<<<< HEAD
-use Rattle.device_model.specs.World.{PlainQueue, Seat, Opened, PlainWorld}
-use Rattle.device_model.specs.Events.{Event}
-use Rattle.device_model.specs.Turns.{Turns}
-=======
 use Rattle.device_model.specs.World.{PlainQueue, Seat, Opened, PlainWorld, Everywhere}
 use Rattle.device_model.specs.Events.{Event}
 use Rattle.device_model.specs.Transitions.{Transition, event_of, completion_of}
@@ -25,7 +16,6 @@ use Rattle.device_model.specs.Applies.{Applies}
 use Rattle.device_model.specs.Turns.{Turns}
 use Rattle.phases.specs.InMemory.{EachSeen}
 use Rattle.phases.specs.EventsInMemory.{SeesBy}
->>>>>>> 48268e53733eb4334d0daa1a162b82212713cc2a
 use Rattle.world.specs.Steps.{TurnsOrWants}
 use Rattle.world.specs.Sound.{AreFew, IsSound}
 
@@ -75,8 +65,6 @@ abbrev pub TurnsAloneOrWants : PlainDevice → Event → Result Bool NoMemory �
 TurnsAloneOrWants d e result d' =
     (shared : Bool) (m : List ℕ) → IsSound (standing shared m d) → AreFew (standing shared m d)
     → TurnsOrWants (standing shared m d) e result (standing shared m d')
-<<<<<<< HEAD
-=======
 
 -- each ring was made for a memory of this size
 abbrev pub FitsIn : ℕ → PlainDevice → Type 0
@@ -115,4 +103,3 @@ HasFew d = AreFew (standing false [] d)
 -- the device is sound whatever the memory may be
 abbrev pub IsSoundIn : Bool → (List ℕ → Type 0) → PlainDevice → Type 0
 IsSoundIn shared may_be d = (m : List ℕ) → may_be m → IsSound (standing shared m d)
->>>>>>> 48268e53733eb4334d0daa1a162b82212713cc2a

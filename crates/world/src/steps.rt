@@ -1,29 +1,17 @@
 //! Each event's step on the parts of the device.
 
-<<<<<<< HEAD
-ghost use Rattle.std.specs.Prelude.{◌≡◌, ◌≤◌, ◌+◌, Bool, false, IsTrue, length};
-=======
 ghost use Rattle.std.specs.Prelude.{◌≡◌, ◌≤◌, ◌+◌, ℕ, List, Bool, false, IsTrue, length};
->>>>>>> 48268e53733eb4334d0daa1a162b82212713cc2a
 ghost use Rattle.device_model.specs.World.{owner};
 ghost use Rattle.device_model.specs.Events.{Event as AnEvent};
 ghost use Rattle.device_model.specs.Applies.{Applies};
 ghost use Rattle.device_model.specs.Turns.{Turns};
 ghost use Rattle.world.specs.Steps.{TurnsOrWants};
-<<<<<<< HEAD
-ghost use Rattle.world.specs.Apart.{PlainDevice, standing, TurnsAlone, TurnsAloneOrWants};
-=======
 ghost use Rattle.world.specs.Apart.{PlainDevice, standing, TurnsAlone, TurnsAloneOrWants, TurnsIn, TurnsInOrWants, IsSoundIn, FitsIn, HasFew};
->>>>>>> 48268e53733eb4334d0daa1a162b82212713cc2a
 ghost use Rattle.world.specs.Sound.{AreFew, AreFitting, IsSound};
 
 use crate::device::Device;
 use block_store::NoMemory;
-<<<<<<< HEAD
-use guest_mem::GuestMem;
-=======
 use guest_mem::{GuestMem, Memory, WritableMemory};
->>>>>>> 48268e53733eb4334d0daa1a162b82212713cc2a
 use phases::{
     ResetFault, ResizeFault, phase_answer_in, phase_answer_tmf_in, phase_check, phase_commit,
     phase_direct_in, phase_enter, phase_fetch_control_in, phase_fetch_event_in, phase_fetch_in,
@@ -61,11 +49,6 @@ impl Device {
     {
         let at = number as usize;
         at >= self.bays.len() || self.bays[at].queue.is_idle(memory)
-<<<<<<< HEAD
-    }
-
-    /// Has a queue take its next chain.
-=======
     }
 
     /// Returns true if a queue has nothing to take from any memory, as `is_idle` does.
@@ -84,17 +67,10 @@ impl Device {
 
     /// Has a queue take its next chain.
     #[inline(always)]
->>>>>>> 48268e53733eb4334d0daa1a162b82212713cc2a
     pub(crate) fn fetch(&mut self, memory: &mut GuestMem, number: u16) -> Result<bool, NoMemory>
         requires sound { IsSound (standing false memory.old self.old) }
         requires fits { AreFitting (standing false memory.old self.old) }
         requires few { AreFew (standing false memory.old self.old) }
-<<<<<<< HEAD
-        ensures turns { TurnsOrWants (standing false memory.old self.old) (AnEvent.Fetch number) result (standing false memory.new self.new) }
-        ensures size { length memory.new ≡ length memory.old }
-    {
-        if self.is_idle(memory, number) {
-=======
         ensures turns { TurnsOrWants (standing false memory.old self.old) (AnEvent.Fetch number) result
             (standing false memory.new self.new) }
         ensures size { length memory.new ≡ length memory.old }
@@ -117,7 +93,6 @@ impl Device {
         ensures size { M.extent memory.new ≡ M.extent memory.old }
     {
         if self.is_idle_in(memory, number) {
->>>>>>> 48268e53733eb4334d0daa1a162b82212713cc2a
             return Ok(false);
         }
         match number {
@@ -128,14 +103,6 @@ impl Device {
     }
 
     /// Takes the next chain of a request queue.
-<<<<<<< HEAD
-    fn fetch_request(&mut self, memory: &mut GuestMem, number: u16) -> Result<bool, NoMemory>
-        requires sound { IsSound (standing false memory.old self.old) }
-        requires fits { AreFitting (standing false memory.old self.old) }
-        requires request { 2 ≤ number }
-        ensures turns { TurnsOrWants (standing false memory.old self.old) (AnEvent.Fetch number) result (standing false memory.new self.new) }
-        ensures size { length memory.new ≡ length memory.old }
-=======
     fn fetch_request<M: WritableMemory>(
         &mut self,
         memory: &mut M,
@@ -148,24 +115,12 @@ impl Device {
         ensures turns { TurnsInOrWants M.shared (M.may_be memory.old) (M.may_be memory.new) self.old
             (AnEvent.Fetch number) result self.new }
         ensures size { M.extent memory.new ≡ M.extent memory.old }
->>>>>>> 48268e53733eb4334d0daa1a162b82212713cc2a
     {
         let at = number as usize;
         if at >= self.bays.len() {
             return Ok(false);
         }
         let bay = &mut self.bays[at];
-<<<<<<< HEAD
-        phase_fetch(&mut bay.queue, &mut bay.slot, memory, &self.inventory)
-    }
-
-    /// Takes the next chain of the control queue.
-    fn fetch_control(&mut self, memory: &mut GuestMem) -> Result<bool, NoMemory>
-        requires sound { IsSound (standing false memory.old self.old) }
-        requires fits { AreFitting (standing false memory.old self.old) }
-        ensures turns { TurnsOrWants (standing false memory.old self.old) (AnEvent.Fetch 0) result (standing false memory.new self.new) }
-        ensures size { length memory.new ≡ length memory.old }
-=======
         phase_fetch_in(&mut bay.queue, &mut bay.slot, memory, &self.inventory)
     }
 
@@ -177,7 +132,6 @@ impl Device {
         ensures turns { TurnsInOrWants M.shared (M.may_be memory.old) (M.may_be memory.new) self.old (AnEvent.Fetch 0)
             result self.new }
         ensures size { M.extent memory.new ≡ M.extent memory.old }
->>>>>>> 48268e53733eb4334d0daa1a162b82212713cc2a
     {
         if self.bays.is_empty() {
             return Ok(false);
@@ -193,18 +147,6 @@ impl Device {
     }
 
     /// Takes the next chain of the event queue.
-<<<<<<< HEAD
-    fn fetch_event(&mut self, memory: &mut GuestMem) -> Result<bool, NoMemory>
-        requires sound { IsSound (standing false memory.old self.old) }
-        requires fits { AreFitting (standing false memory.old self.old) }
-        requires few { AreFew (standing false memory.old self.old) }
-        ensures turns { TurnsOrWants (standing false memory.old self.old) (AnEvent.Fetch 1) result (standing false memory.new self.new) }
-        ensures size { length memory.new ≡ length memory.old }
-    {
-        let bay = &mut self.bays[1];
-        let _log = bay.queue.log();
-        phase_fetch_event(&mut bay.queue, &bay.slot, &mut self.port, memory)
-=======
     fn fetch_event<M: WritableMemory>(&mut self, memory: &mut M) -> Result<bool, NoMemory>
         requires reading { M.is_open memory.old }
         requires sound { IsSoundIn M.shared (M.may_be memory.old) self.old }
@@ -219,7 +161,6 @@ impl Device {
         let fetched = phase_fetch_event_in(&mut bay.queue, &bay.slot, &mut self.port, memory);
         let _bytes = memory.size();
         fetched
->>>>>>> 48268e53733eb4334d0daa1a162b82212713cc2a
     }
 
     /// Brings the request that arrived on a queue to its unit.
@@ -255,8 +196,6 @@ impl Device {
         requires fits { AreFitting (standing false memory.old self.old) }
         ensures turns { Turns (standing false memory.old self.old) (AnEvent.Direct number) result (standing false memory.new self.new) }
         ensures size { length memory.new ≡ length memory.old }
-<<<<<<< HEAD
-=======
     {
         self.direct_in(memory, number)
     }
@@ -269,18 +208,13 @@ impl Device {
         requires fits { FitsIn (M.extent memory.old) self.old }
         ensures turns { TurnsIn M.shared (M.may_be memory.old) (M.may_be memory.new) self.old (AnEvent.Direct number) result self.new }
         ensures size { M.extent memory.new ≡ M.extent memory.old }
->>>>>>> 48268e53733eb4334d0daa1a162b82212713cc2a
     {
         let at = number as usize;
         if at >= self.bays.len() || !self.bays[at].is_direct() {
             return false;
         }
         let bay = &mut self.bays[at];
-<<<<<<< HEAD
-        phase_direct(&mut bay.queue, &mut bay.slot, memory).is_some()
-=======
         phase_direct_in(&mut bay.queue, &mut bay.slot, memory).is_some()
->>>>>>> 48268e53733eb4334d0daa1a162b82212713cc2a
     }
 
     /// Has a seat hand its next job off, or keep it where its list of the hand-off is full.
@@ -340,17 +274,12 @@ impl Device {
     }
 
     /// Answers the job in a seat's hand.
-<<<<<<< HEAD
-=======
     #[inline(always)]
->>>>>>> 48268e53733eb4334d0daa1a162b82212713cc2a
     pub(crate) fn answer(&mut self, memory: &mut GuestMem, number: u16) -> bool
         requires sound { IsSound (standing false memory.old self.old) }
         requires fits { AreFitting (standing false memory.old self.old) }
         ensures turns { Turns (standing false memory.old self.old) (AnEvent.Answer number) result (standing false memory.new self.new) }
         ensures size { length memory.new ≡ length memory.old }
-<<<<<<< HEAD
-=======
     {
         self.answer_in(memory, number)
     }
@@ -361,7 +290,6 @@ impl Device {
         requires fits { FitsIn (M.extent memory.old) self.old }
         ensures turns { TurnsIn M.shared (M.may_be memory.old) (M.may_be memory.new) self.old (AnEvent.Answer number) result self.new }
         ensures size { M.extent memory.new ≡ M.extent memory.old }
->>>>>>> 48268e53733eb4334d0daa1a162b82212713cc2a
     {
         let at = number as usize;
         if at >= self.seats.len() {
@@ -458,17 +386,12 @@ impl Device {
     }
 
     /// Answers the open function.
-<<<<<<< HEAD
-=======
     #[inline(always)]
->>>>>>> 48268e53733eb4334d0daa1a162b82212713cc2a
     pub(crate) fn answer_tmf(&mut self, memory: &mut GuestMem) -> bool
         requires sound { IsSound (standing false memory.old self.old) }
         requires fits { AreFitting (standing false memory.old self.old) }
         ensures turns { Turns (standing false memory.old self.old) AnEvent.AnswerTmf result (standing false memory.new self.new) }
         ensures size { length memory.new ≡ length memory.old }
-<<<<<<< HEAD
-=======
     {
         self.answer_tmf_in(memory)
     }
@@ -479,16 +402,11 @@ impl Device {
         requires fits { FitsIn (M.extent memory.old) self.old }
         ensures turns { TurnsIn M.shared (M.may_be memory.old) (M.may_be memory.new) self.old AnEvent.AnswerTmf result self.new }
         ensures size { M.extent memory.new ≡ M.extent memory.old }
->>>>>>> 48268e53733eb4334d0daa1a162b82212713cc2a
     {
         if self.bays.is_empty() {
             return false;
         }
-<<<<<<< HEAD
-        phase_answer_tmf(&mut self.bays[0].queue, memory, &mut self.function)
-=======
         phase_answer_tmf_in(&mut self.bays[0].queue, memory, &mut self.function)
->>>>>>> 48268e53733eb4334d0daa1a162b82212713cc2a
     }
 
     /// Resets a unit for the operator.
@@ -538,10 +456,7 @@ impl Device {
     }
 
     /// Gives the oldest event that waits to the guest, or misses it.
-<<<<<<< HEAD
-=======
     #[inline(always)]
->>>>>>> 48268e53733eb4334d0daa1a162b82212713cc2a
     pub(crate) fn raise(&mut self, memory: &mut GuestMem) -> bool
         requires sound { IsSound (standing false memory.old self.old) }
         requires fits { AreFitting (standing false memory.old self.old) }

@@ -1,16 +1,3 @@
-<<<<<<< HEAD
-use Rattle.std.proofs.Common.{◌<◌, ℕ, false, refl}
-use Rattle.std.proofs.lemmas.Option.{slice_get_read}
-use Rattle.world.specs.Apart.{standing}
-use Rattle.world.specs.contracts.device.Device.{the_view}
-use Rattle.world.proofs.Fetches.{control_turns}
-use Rattle.world.proofs.Placing.{some_there}
-use Rattle.world.proofs.Setting.{sound_seen, fits_seen}
-use Rattle.world.proofs.device.Device.fetch_control.Goals as goal
-
-pub returns-clause-turns : goal.returns-clause-turns
-returns-clause-turns c =
-=======
 use Rattle.std.proofs.Common.{◌<◌, ℕ, refl, arith}
 use Rattle.std.specs.Prelude.{slice_set}
 use Rattle.std.proofs.lemmas.Option.{slice_get_read}
@@ -28,21 +15,12 @@ use Rattle.world.proofs.device.Device.fetch_control.Goals as goal
 
 pub returns-clause-turns : goal.returns-clause-turns
 returns-clause-turns g c =
->>>>>>> 48268e53733eb4334d0daa1a162b82212713cc2a
     let d = c.self.inside in
-    let m = c.args.memory.now in
     let k : ℕ = 0 in
     let within : k < d.bays.len = some_there d.bays.len c.if-is_empty.ensures in
     let at = slice_get_read d.bays.items d.bays.len k c.index_mut-bay.result.now d.bays.ok.0 within
     c.index_mut-bay.ensures.value in
     let here = rw (← c.bay.view_is) at at in
-<<<<<<< HEAD
-    let sound = sound_seen false m _ _ c.self.view_is c.requires.sound in
-    let fits = fits_seen false m _ _ c.self.view_is c.requires.fits in
-    rw (← c.self.view_is)
-    (control_turns (standing false m (the_view d)) 0 _ _ _ c.phase_fetch_control.result sound refl here (fits k _ here)
-    c.phase_fetch_control.ensures)
-=======
     let fetch = c.phase_fetch_control_in in
     let q' = with_slot (slot_of fetch.new.slot) fetch.new.queue in
     let shared = g.M.Memory.shared in
@@ -59,4 +37,3 @@ returns-clause-turns g c =
     (control_turns (standing shared m (the_view d)) k _ _ _ fetch.result
     (sound_seen shared m _ _ c.self.view_is (c.requires.sound m was)) refl here (fits k _ here)
     (fetch.ensures.fetches m may))))
->>>>>>> 48268e53733eb4334d0daa1a162b82212713cc2a

@@ -1,11 +1,3 @@
-<<<<<<< HEAD
-use Rattle.std.proofs.Common.{◌<◌, false, refl, ◌∙◌, arith}
-use Rattle.std.proofs.lemmas.Option.{slice_get_read}
-use Rattle.world.specs.Apart.{standing}
-use Rattle.world.specs.contracts.device.Device.{the_view}
-use Rattle.world.proofs.Buffering.{event_turns, event_limit, may_hold}
-use Rattle.world.proofs.Setting.{sound_seen, fits_seen}
-=======
 use Rattle.std.proofs.Common.{◌<◌, refl, ◌∙◌, arith}
 use Rattle.std.specs.Prelude.{slice_set}
 use Rattle.std.proofs.lemmas.Option.{slice_get_read}
@@ -18,38 +10,23 @@ use Rattle.world.specs.contracts.device.Device.{the_view}
 use Rattle.world.proofs.Buffering.{with_port, event_turns, event_limit, may_hold}
 use Rattle.world.proofs.Setting.{sound_seen}
 use Rattle.world.proofs.InMemory.{each_from, few_in, fits_at}
->>>>>>> 48268e53733eb4334d0daa1a162b82212713cc2a
 use Rattle.world.proofs.device.Device.fetch_event.Goals as goal
 
 pub invariant_of-self : goal.invariant_of-self
 invariant_of-self g c =
     let d = c.self.inside in
-<<<<<<< HEAD
-    record {
-      limits = c.self.invariant.limits;
-      port = event_limit _ _ c.args.memory.now _ d.port _ c.phase_fetch_event.result c.phase_fetch_event.ensures.fetches
-=======
     let some = c.size-bytes.ensures.some in
     let r = c.phase_fetch_event_in-fetched.ensures.fetches some.0 some.1 in
     record {
       limits = c.self.invariant.limits;
       port = event_limit g.M.Memory.shared _ _ r.0 r.2.0 some.0 d.port _ c.phase_fetch_event_in-fetched.result r.2.2
->>>>>>> 48268e53733eb4334d0daa1a162b82212713cc2a
           ∙ c.self.invariant.port;
     }
 
 pub returns-clause-turns : goal.returns-clause-turns
-<<<<<<< HEAD
-returns-clause-turns c =
-    let d = c.self.inside in
-    let m = c.args.memory.now in
-    let sound = sound_seen false m _ _ c.self.view_is c.requires.sound in
-    let fits = fits_seen false m _ _ c.self.view_is c.requires.fits in
-=======
 returns-clause-turns g c =
     let d = c.self.inside in
     let fetch = c.phase_fetch_event_in-fetched in
->>>>>>> 48268e53733eb4334d0daa1a162b82212713cc2a
     let few = rw (← c.self.view_is) at c.requires.few in
     let within : 1 < d.bays.len = omega (arith, few.several, d.bays.ok.0) in
     let at = slice_get_read d.bays.items d.bays.len 1 c.index_mut-bay.result.now d.bays.ok.0 within
@@ -60,12 +37,6 @@ returns-clause-turns g c =
     let q' = with_slot slot fetch.new.queue in
     let shared = g.M.Memory.shared in
     rw (← c.self.view_is)
-<<<<<<< HEAD
-    (event_turns (standing false m (the_view d)) 1 _ _ _ _ _ refl here refl refl c.phase_fetch_event.result sound (fits 1 _ here)
-    (may_hold (standing false m (the_view d)) 1 _ d.port sound few refl here refl c.self.invariant.port
-    c.log-log.ensures.sound c.log-log.ensures.few)
-    c.phase_fetch_event.ensures.fetches)
-=======
     (each_from shared (g.M.Memory.may_be c.args.memory.now) (g.M.Memory.may_be fetch.new.memory)
     (λ m left n. FetchesEventIn shared q m d.port fetch.result q' left n fetch.new.port)
     (λ m left n.
@@ -81,4 +52,3 @@ returns-clause-turns g c =
     c.log-log.ensures.sound c.log-log.ensures.few)
     h)
     fetch.ensures.fetches)
->>>>>>> 48268e53733eb4334d0daa1a162b82212713cc2a
