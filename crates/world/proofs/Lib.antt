@@ -31,4 +31,5 @@ pub mod Raising
 pub mod Promising
 pub mod AtOnce
 pub mod Portions
+pub mod Lively
 pub mod Looks

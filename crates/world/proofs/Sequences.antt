@@ -31,7 +31,7 @@ pub take_next : {X : Type 0} (n : ℕ) (xs : List X) (x : X) → slice_get xs n 
 take_next n xs x e = ap (λ k. take k xs) (next_number n) ∙ take_suc n xs x e
 
 -- one event more
-events_next : (xs : List declared.Event) (e : declared.Event) → events_of (xs ++ e ∷ []) ≡ plain_event e ∷ events_of xs
+pub events_next : (xs : List declared.Event) (e : declared.Event) → events_of (xs ++ e ∷ []) ≡ plain_event e ∷ events_of xs
 events_next xs e =
     ap (λ ys. reverse ys) (map-append plain_event xs (e ∷ []))
     ∙ reverse-append (map plain_event xs) (plain_event e ∷ [])
@@ -43,7 +43,7 @@ abbrev pub bit : Bool → ℕ
 bit b = if b then 1 else 0
 
 -- what an action counts beside those before it
-count_on : (c b : Bool) (k n : ℕ) → c ≡ b → k ≡ n → (if c then 1 else 0) + k ≡ n + bit b
+pub count_on : (c b : Bool) (k n : ℕ) → c ≡ b → k ≡ n → (if c then 1 else 0) + k ≡ n + bit b
 count_on true true k n e f = omega (arith, f)
 count_on false false k n e f = omega (arith, f)
 count_on true false k n e f = absurd (true≢false e)

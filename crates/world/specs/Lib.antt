@@ -10,3 +10,4 @@ pub mod Opening
 pub mod Views
 pub mod Notifications
 pub mod Promise
+pub mod LiveWorld

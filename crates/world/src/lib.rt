@@ -5,6 +5,7 @@ mod bay;
 mod cursor;
 mod device;
 mod handed_off;
+mod live_world;
 mod notifications;
 mod opening;
 mod pending;
@@ -20,6 +21,7 @@ pub use config::{
     LayoutFault, RING_PACKED, StartFault, UnitSpec, VERSION_1, form,
 };
 pub use device_model::Event;
+pub use live_world::LiveWorld;
 pub use notifications::Notifications;
 pub use phases::{
     Cause, DirectChain, Hand, JobInHand, Note, OpenFunction, ReceiptOrNote, Refusal, ResetFault,

@@ -18,7 +18,7 @@ use block_store::{NoMemory, PagedStore, Store};
 use config::{Config, MOST_DESCRIPTORS, form, tells_changes};
 use decisions::{Inventory, UnitSpec};
 use event_queue::{EventPort, WaitingEvents};
-use guest_mem::GuestMem;
+use guest_mem::Memory;
 use queues::Queue;
 use ring_core::{Form, Layout};
 use std::alloc::Global;
@@ -26,16 +26,16 @@ use task_set::MOST_TASKS;
 use unit_history::{JobList, UnitState};
 
 /// Opens the queues of these layouts, for a driver that agreed to these features.
-fn open_bays(
+fn open_bays<M: Memory>(
     alloc: Global,
     form: Form,
     features: u64,
     layouts: &[Layout],
-    memory: &GuestMem,
+    memory: &M,
 ) -> Result<Vec<Bay>, NoMemory>
     requires few { length layouts.now ≤ 18 }
-    requires placed { list_all (is_queue form (length memory.now)) layouts.now ≡ true }
-    ensures { IfOk result (λ bays. AreOpening form (length memory.now) (features_of features) layouts.now bays.items) }
+    requires placed { list_all (is_queue form (M.extent memory.now)) layouts.now ≡ true }
+    ensures { IfOk result (λ bays. AreOpening form (M.extent memory.now) (features_of features) layouts.now bays.items) }
 {
     let mut bays = Vec::new(alloc);
     for number in 0..layouts.len() {
@@ -97,15 +97,15 @@ fn open_seats(alloc: Global, count: usize, limit: usize) -> Result<Vec<Seat>, No
     Ok(seats)
 }
 
-/// Makes the parts of the device of a configuration that is valid, whose queues lie in a memory of zeros.
-pub(crate) fn open_device(
+/// Makes the parts of the device of a configuration that is valid, whose queues lie in a memory of its size.
+pub(crate) fn open_device<M: Memory>(
     alloc: Global,
     config: &Config,
-    memory: &GuestMem,
+    memory: &M,
 ) -> Result<Device, NoMemory>
     requires taken { is_config config.now ≡ true }
-    requires zeros { memory.now ≡ replicate (size_of config.now) 0 }
-    ensures { IfOk result (λ d. IsOpening config.now (standing false memory.now d)) }
+    requires size { M.extent memory.now ≡ size_of config.now }
+    ensures { IfOk result (λ d. IsOpening config.now (standing false (replicate (size_of config.now) 0) d)) }
 {
     let Some(form) = form(config.features) else {
         unreachable!()

@@ -8,9 +8,9 @@ use Rattle.phases.specs.Queue.{with_slot}
 use Rattle.world.proofs.opening.open_bays.Given as goal
 
 abbrev pub invariant-loop-number : goal.invariant-loop-number
-invariant-loop-number l =
+invariant-loop-number g l =
     record {
       count : length l.bays.items ≡ l.number;
       each : (k : ℕ) (p : Layout) → k < l.number → slice_get l.layouts k ≡ Some p
-          → slice_get l.bays.items k ≡ Some (with_slot Slot.Empty (opening_queue l.form (length l.memory) k p (features_of l.features)));
+          → slice_get l.bays.items k ≡ Some (with_slot Slot.Empty (opening_queue l.form (g.M.Memory.extent l.memory) k p (features_of l.features)));
     }

@@ -1,18 +1,17 @@
 use Rattle.std.proofs.Common.{◌≡◌, ℕ, ◌+◌, ◌*◌, List, map, length, refl, sym, ap, ◌∙◌, subst, arith}
-use Rattle.std.proofs.lemmas.List.{length-replicate, length-map}
+use Rattle.std.proofs.lemmas.List.{length-map}
 use Rattle.decisions.specs.Inventory.{address_of}
 use Rattle.decisions.specs.declared.inventory.UnitSpec.{UnitSpec}
 use Rattle.ring_core.specs.State.{features_of}
 use Rattle.ring_core.specs.declared.layout.Layout.{Layout}
 use Rattle.event_queue.specs.Port.{PlainPort}
-use Rattle.config.specs.Config.{size_of}
 use Rattle.world.specs.Kept.{seat_of}
 use Rattle.world.specs.Opening.{AreOpening, AreFresh, AreSeats}
 use Rattle.world.proofs.AtOpening.{lists_open, seats_idle, seats_many}
 use Rattle.world.proofs.opening.open_device.Goals as goal
 
 pub invariant_of-result : goal.invariant_of-result
-invariant_of-result c =
+invariant_of-result g c =
     let is : AreSeats (c.args.config.now.workers + 1) (64 * c.len.result + 64) c.in_ok-seats.seats.items =
     c.in_ok-seats.ensures in
     let lists = lists_open c.in_ok-units.units.items (c.args.config.now.workers + 1) c.in_ok-seats.seats.items
@@ -21,17 +20,17 @@ invariant_of-result c =
     record { limits = lists.limits; port = ap (λ (p : PlainPort). p.limit) c.in-Ok.ensures }
 
 pub returns : goal.returns
-returns c =
-    let size : length c.args.memory.now ≡ size_of c.args.config.now = rw c.requires.zeros (length-replicate _ _) in
+returns g c =
+    let size = c.requires.size in
     record {
       form = c.in-Some.form;
       agreed = sym c.form.ensures ∙ c.in-Some.is;
-      memory = c.requires.zeros;
+      memory = refl;
       own = refl;
       inventory = c.new-inventory.ensures ∙ ap (λ (us : List UnitSpec). map address_of us) c.as_slice-2.ensures.value;
       queues =
           subst (λ (n : ℕ). AreOpening c.in-Some.form n (features_of c.args.config.now.features) c.args.config.now.queues.items c.in_ok-bays.bays.items) size
-          (subst (λ (ls : List Layout). AreOpening c.in-Some.form (length c.args.memory.now) (features_of c.args.config.now.features) ls c.in_ok-bays.bays.items)
+          (subst (λ (ls : List Layout). AreOpening c.in-Some.form (g.M.Memory.extent c.args.memory.now) (features_of c.args.config.now.features) ls c.in_ok-bays.bays.items)
           c.as_slice.ensures.value c.in_ok-bays.ensures);
       units =
           subst (λ (us : List UnitSpec). AreFresh us c.in_ok-units.units.items) c.as_slice-3.ensures.value c.in_ok-units.ensures;

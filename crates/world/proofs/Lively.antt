@@ -1,0 +1,265 @@
+-- A device on a memory that its guest writes at any time goes on as its traces do.
+use Rattle.std.proofs.Common.{◌≡◌, ℕ, ◌+◌, Bool, true, false, List, [], ◌∷◌, ◌++◌, length, map, if◌then◌else◌, Result, Ok, Err, refl, sym, ap, ◌∙◌, subst, take, Some, true≢false, arith}
+use Rattle.std.specs.Prelude.{◌↔◌, IsTrue, IsErr, slice_get}
+use Rattle.guest_mem.specs.Memory.{LiesIn}
+use Rattle.block_store.specs.declared.NoMemory.{NoMemory}
+use Rattle.device_model.specs.Parts.{IsSeen}
+use Rattle.device_model.specs.World.{PlainQueue, PlainWorld, Opens, Everywhere}
+use Rattle.device_model.specs.Events.{Event, plain_event}
+use Rattle.device_model.specs.declared.event.Event as declared
+use Rattle.device_model.specs.Happens.{Occurrence, Reached, Runs, occurrence_of}
+use Rattle.device_model.specs.Turns.{Turns, IsStep, count_changes}
+use Rattle.device_model.specs.Live.{with_memory, refill, IsRefilled, LiveRuns}
+use Rattle.device_model.proofs.Turning.{step_of}
+use Rattle.phases.specs.InMemory.{EachSeen}
+use Rattle.world.specs.Apart.{PlainDevice, standing, IsSoundIn, FitsIn, HasFew, TurnsInOrWants}
+use Rattle.world.specs.LiveWorld.{GoesOnFrom, GoesOnLive, IsSteadyIn, RanFrom, RanLive, RunsPromised, StepRan, StepsAll, StepsEach, StepsPromised}
+use Rattle.world.specs.Sound.{AreSound, IsSteady}
+use Rattle.world.proofs.InMemory.{turned, turned_or, few_in, has_few}
+use Rattle.world.proofs.Promising.{AllArePromised, AllGoOn}
+use Rattle.world.proofs.Reaching.{steady_by_result}
+use Rattle.world.specs.Steps.{events_of}
+use Rattle.world.proofs.Sequences.{bit, count_on, events_next}
+
+-- any bytes may come to stand in memory
+abbrev pub AnyStand : Type 0
+AnyStand =
+    (old : PlainWorld) (trace : List Occurrence) (w : PlainWorld) (m : List ℕ) → length m ≡ length w.memory
+    → Reached old trace w → Reached old (occurrence_of (refill m) ∷ trace) (with_memory m w)
+
+-- a run with such writes is a run
+abbrev pub AllLiveRuns : Type 0
+AllLiveRuns =
+    (old : PlainWorld) (trace : List Occurrence) (w : PlainWorld) → LiveRuns old trace w
+    → (full : List Occurrence) × IsRefilled trace full × Runs old full w
+
+-- memory is as long as it is seen
+pub seen_long : (shared : Bool) (left seen : List ℕ) → IsSeen shared left seen → length seen ≡ length left
+seen_long false left seen is = ap (λ m. length m) is
+seen_long true left seen is = is
+
+truth : IsTrue true
+truth = refl
+
+no_truth : IsTrue false → ⊥
+no_truth e = absurd (cc)
+
+-- bytes lie inside as a test says, and the test isn't negated
+pub lies_at : (extent size addr many : ℕ) (b : Bool) → size ≡ extent → (IsTrue b ↔ LiesIn size addr many) → b ≡ true
+    → LiesIn extent addr many
+lies_at extent size addr many b e is on = subst (λ n. LiesIn n addr many) e (is.0 (subst (λ z. IsTrue z) (sym on) truth))
+
+pub lies_not : (extent size addr many : ℕ) (b : Bool) → size ≡ extent → (IsTrue b ↔ LiesIn size addr many) → b ≡ false
+    → LiesIn extent addr many → ⊥
+lies_not extent size addr many b e is off lies =
+    no_truth (subst (λ z. IsTrue z) off (is.1 (subst (λ n. LiesIn n addr many) (sym e) lies)))
+
+-- Steadiness
+
+-- what is steady with some bytes is so with any
+pub any_steady : AnyStand → (shared : Bool) (a b : List ℕ) (d : PlainDevice) → length b ≡ length a → IsSteady (standing shared a d)
+    → IsSteady (standing shared b d)
+any_steady any shared a b d long h =
+    let r = h.whole.reached in
+    record {
+      whole = record {
+        reached = record {
+          old = r.old;
+          trace = occurrence_of (refill b) ∷ r.trace;
+          reached = any r.old r.trace (standing shared a d) b long r.reached;
+        };
+        few = few_in shared b d (has_few shared a d h.whole.few);
+      };
+      fits = λ i q at. h.fits i q at ∙ sym long;
+    }
+
+-- an event leaves it so
+pub steady_live : AnyStand → (shared : Bool) (size : ℕ) (before after : List ℕ → Type 0) (d : PlainDevice) (e : Event)
+    (r : Result Bool NoMemory) (d' : PlainDevice) → ((m : List ℕ) → before m → length m ≡ size)
+    → ((m : List ℕ) → after m → length m ≡ size) → ((m : List ℕ) × after m) → IsSteadyIn shared size d
+    → TurnsInOrWants shared before after d e r d' → IsSteadyIn shared size d'
+steady_live any shared size before after d e r d' sized sized' some h t =
+    let (found, was, rest) = t some.0 some.1 in
+    let (left, is, turn) = rest in
+    let long : length left ≡ size = sym (seen_long shared left some.0 is) ∙ sized' some.0 some.1 in
+    let there = sized found was in
+    let s = steady_by_result (standing shared found d) e r (standing shared left d') (long ∙ sym there) (h found there)
+    (turned_or some.0 (standing shared found d) e r (standing shared left d') turn) in
+    λ m size_m. any_steady any shared left m d' (size_m ∙ sym long) s
+
+-- so it is sound whatever memory may be
+pub sound_live : AreSound → (shared : Bool) (size : ℕ) (may_be : List ℕ → Type 0) (d : PlainDevice)
+    → ((m : List ℕ) → may_be m → length m ≡ size) → IsSteadyIn shared size d → IsSoundIn shared may_be d
+sound_live are shared size may_be d sized h = λ m may. are (standing shared m d) (h m (sized m may)).whole.reached
+
+pub fits_live : (shared : Bool) (size : ℕ) (d : PlainDevice) (m : List ℕ) → length m ≡ size → IsSteadyIn shared size d
+    → FitsIn size d
+fits_live shared size d m long h = λ i q at. (h m long).fits i q at ∙ long
+
+pub few_live : (shared : Bool) (size : ℕ) (d : PlainDevice) (m : List ℕ) → length m ≡ size → IsSteadyIn shared size d → HasFew d
+few_live shared size d m long h = has_few shared m d (h m long).whole.few
+
+-- Runs
+
+-- nothing ran yet
+pub ran_none : (shared : Bool) (size : ℕ) (d : PlainDevice) → RanLive shared size d [] 0 d
+ran_none shared size d =
+    λ a b la lb. record { more = []; told = refl; counted = refl; runs = (b, lb ∙ sym la, refl) }
+
+-- one turn more
+ran_next : (shared : Bool) (size : ℕ) (d : PlainDevice) (es : List Event) (n : ℕ) (v : PlainDevice) (found left : List ℕ)
+    (e : Event) (b : Bool) (u : PlainDevice) → RanLive shared size d es n v → length found ≡ size → length left ≡ size
+    → Turns (standing shared found v) e b (standing shared left u) → RanLive shared size d (e ∷ es) (n + bit b) u
+ran_next shared size d es n v found left e changed u ran before behind t =
+    let step = step_of (standing shared found v) e changed (standing shared left u) t in
+    λ a b la lb.
+    let r = ran a found la before in
+    record {
+      more = record { event = e; action = step.action } ∷ r.more;
+      told = ap (λ xs. e ∷ xs) r.told;
+      counted = count_on step.action.changed changed (count_changes r.more) n step.told r.counted;
+      runs = (standing shared found v, standing shared left u, b, r.runs, step.step, lb ∙ sym behind, refl);
+    }
+
+-- one event more
+pub ran_on : (shared : Bool) (size : ℕ) (before after : List ℕ → Type 0) (d : PlainDevice) (es : List Event) (n : ℕ)
+    (v : PlainDevice) (e : Event) (b : Bool) (u : PlainDevice) → ((m : List ℕ) → before m → length m ≡ size)
+    → ((m : List ℕ) → after m → length m ≡ size) → ((m : List ℕ) × after m) → RanLive shared size d es n v
+    → TurnsInOrWants shared before after v e (Ok b) u → RanLive shared size d (e ∷ es) (n + bit b) u
+ran_on shared size before after d es n v e b u sized sized' some ran t =
+    let (found, was, rest) = t some.0 some.1 in
+    let (left, is, turn) = rest in
+    ran_next shared size d es n v found left e b u ran (sized found was)
+    (sym (seen_long shared left some.0 is) ∙ sized' some.0 some.1)
+    (turned some.0 (standing shared found v) e b (standing shared left u) turn)
+
+-- a run goes on, and the promise is kept
+pub goes_on_live : AllArePromised → AllGoOn → AllLiveRuns → (shared : Bool) (size : ℕ) (d : PlainDevice) (es : List Event)
+    (n : ℕ) (d' : PlainDevice) → RanLive shared size d es n d' → GoesOnLive shared size d es n d'
+goes_on_live promised go live shared size d es n d' ran =
+    λ a b la lb.
+    let r = ran a b la lb in
+    let w = standing shared a d in
+    let w' = standing shared b d' in
+    let full = live w r.more w' r.runs in
+    let reaches : (old : PlainWorld) (past : List Occurrence) → Reached old past w → Reached old (full.0 ++ past) w' =
+    λ old past h. go old past full.0 w w' h full.2 in
+    record {
+      more = r.more;
+      told = r.told;
+      counted = r.counted;
+      full = full.0;
+      refilled = full.1;
+      reaches = reaches;
+      kept = λ old past h. promised old (full.0 ++ past) w' (reaches old past h);
+    }
+
+-- One event
+
+abbrev device_of : PlainWorld → PlainDevice
+device_of w =
+    record {
+      inventory = w.inventory;
+      queues = w.queues;
+      units = w.units;
+      seats = w.seats;
+      workers = w.workers;
+      handed_off = w.handed_off;
+      limit = w.limit;
+      function = w.function;
+      buffers = w.buffers;
+      missed = w.missed;
+      waiting = w.waiting;
+      tells_changes = w.tells_changes;
+    }
+
+pub step_ran : (shared : Bool) (size : ℕ) (before after : List ℕ → Type 0) (d : PlainDevice) (e : Event)
+    (r : Result Bool NoMemory) (d' : PlainDevice) → ((m : List ℕ) → before m → length m ≡ size)
+    → ((m : List ℕ) → after m → length m ≡ size) → ((m : List ℕ) × after m) → TurnsInOrWants shared before after d e r d'
+    → StepRan shared size d e r d'
+step_ran shared size before after d e (Ok b) d' sized sized' some t =
+    λ first es n ran. ran_on shared size before after first es n d e b d' sized sized' some ran t
+step_ran shared size before after d e (Err x) d' sized sized' some t =
+    let (found, was, rest) = t some.0 some.1 in
+    let (left, is, turn) = rest in ap device_of turn.1
+
+one_count : (b : Bool) → 0 + bit b ≡ bit b
+one_count b = omega (arith)
+
+pub step_promised : AllArePromised → AllGoOn → AllLiveRuns → (shared : Bool) (size : ℕ) (d : PlainDevice) (e : Event)
+    (r : Result Bool NoMemory) (d' : PlainDevice) → StepRan shared size d e r d' → StepsPromised shared size d e r d'
+step_promised promised go live shared size d e (Ok b) d' ran =
+    goes_on_live promised go live shared size d (e ∷ []) (bit b) d'
+    (subst (λ n. RanLive shared size d (e ∷ []) n d') (one_count b) (ran d [] 0 (ran_none shared size d)))
+step_promised promised go live shared size d e (Err x) d' same = same
+
+-- Lists of events
+
+-- nothing was done yet
+pub each_none : {X : Type 0} (Does : X → Event → Result Bool NoMemory → X → Type 0) (x : X) → StepsEach Does x [] 0 x
+each_none Does x = (refl, refl)
+
+-- one event more
+pub each_next : {X : Type 0} (Does : X → Event → Result Bool NoMemory → X → Type 0) (x y z : X) (xs : List declared.Event)
+    (n : ℕ) (e : declared.Event) (b : Bool) → StepsEach Does x (events_of xs) n y → Does y (plain_event e) (Ok b) z
+    → StepsEach Does x (events_of (xs ++ e ∷ [])) (n + bit b) z
+each_next Does x y z xs n e b h k =
+    subst (λ es. StepsEach Does x es (n + bit b) z) (sym (events_next xs e)) (y, n, b, h, k, refl)
+
+-- memory was refused for the next, by whatever it is said
+pub all_refused : {X : Type 0} (Does : X → Event → Result Bool NoMemory → X → Type 0) (x z y : X) (events : List declared.Event)
+    (k : ℕ) (e : declared.Event) (count : ℕ) (r : Result ℕ NoMemory) → IsErr r → slice_get events k ≡ Some e
+    → StepsEach Does x (events_of (take k events)) count z → ((fault : NoMemory) → Does z (plain_event e) (Err fault) y)
+    → StepsAll Does x events r y
+all_refused Does x z y events k e count (Ok n) is at did wants = absurd (true≢false (sym is))
+all_refused Does x z y events k e count (Err fault) is at did wants = (k, e, count, z, at, did, wants fault)
+
+pub run_refused : (shared : Bool) (size : ℕ) (d : PlainDevice) (events : List declared.Event) (k : ℕ) (e : declared.Event)
+    (count : ℕ) (r : Result ℕ NoMemory) (d' : PlainDevice) → IsErr r → slice_get events k ≡ Some e
+    → GoesOnLive shared size d (events_of (take k events)) count d' → RunsPromised shared size d events r d'
+run_refused shared size d events k e count (Ok n) d' is at on = absurd (true≢false (sym is))
+run_refused shared size d events k e count (Err fault) d' is at on = (k, e, count, at, on)
+
+pub ran_step : (shared : Bool) (size : ℕ) (first d : PlainDevice) (xs : List declared.Event) (n : ℕ) (e : declared.Event)
+    (b : Bool) (d' : PlainDevice) → RanLive shared size first (events_of xs) n d
+    → StepRan shared size d (plain_event e) (Ok b) d' → RanLive shared size first (events_of (xs ++ e ∷ [])) (n + bit b) d'
+ran_step shared size first d xs n e b d' ran step =
+    subst (λ es. RanLive shared size first es (n + bit b) d') (sym (events_next xs e)) (step first (events_of xs) n ran)
+
+-- Opening
+
+-- nothing has happened yet, whatever stands in memory
+pub opens_in : (shared : Bool) (a b : List ℕ) (d : PlainDevice) → Opens (standing false a d) → Opens (standing shared b d)
+opens_in shared a b d o =
+    record {
+      queues = o.queues;
+      units = o.units;
+      there = o.there;
+      addressed = o.addressed;
+      seats = o.seats;
+      working = o.working;
+      seated = o.seated;
+      handed_off = o.handed_off;
+      lists = o.lists;
+      function = o.function;
+      buffers = o.buffers;
+      missed = o.missed;
+      waiting = o.waiting;
+    }
+
+-- an opening is reached by the empty trace, and steady
+pub steady_in : (shared : Bool) (a b : List ℕ) (d : PlainDevice) → length b ≡ length a → Opens (standing false a d)
+    → IsSteady (standing false a d) → IsSteady (standing shared b d)
+steady_in shared a b d long o h =
+    let opens = opens_in shared a b d o in
+    record {
+      whole = record {
+        reached = record {
+          old = standing shared b d;
+          trace = [];
+          reached = record { opens = opens; runs = refl };
+        };
+        few = few_in shared b d (has_few false a d h.whole.few);
+      };
+      fits = λ i q at. h.fits i q at ∙ sym long;
+    }

@@ -1,0 +1,102 @@
+use Rattle.std.proofs.Common.{◌≡◌, ◌+◌, ◌∙◌, Err, Ok, ℕ, take, length, refl, sym, subst, arith}
+use Rattle.std.proofs.lemmas.List.{take_all}
+use Rattle.world.specs.Steps.{events_of}
+use Rattle.world.specs.LiveWorld.{StepsEach, StepsLive, StepRan, RanLive}
+use Rattle.device_model.specs.Events.{plain_event}
+use Rattle.world.proofs.Sequences.{bit, read_there, take_next, counts_one, counts_none}
+use Rattle.world.proofs.Lively.{each_next, each_none, ran_step, ran_none, goes_on_live, all_refused, run_refused}
+use Rattle.world.proofs.live_world.LiveWorld.run.Goals.{then-branch, else-branch}
+use Rattle.world.proofs.live_world.LiveWorld.run.Goals as goal
+
+pub loop-place-init : goal.loop-place-init
+loop-place-init g c =
+    record {
+      runs = each_none (StepsLive g.M.Memory.shared g.M.Memory.begins g.M.Memory.may_be) c.args.self.now;
+      ran = ran_none g.M.Memory.shared (g.M.Memory.extent c.args.self.now.memory) c.args.self.now.device;
+      size = refl;
+      all = refl;
+      few = omega (arith);
+    }
+
+pub loop-place-preserved : goal.loop-place-preserved
+loop-place-preserved g c =
+    let e = c.index-events-place.result in
+    let b = c.in_ok-step_by.field-0 in
+    let n = c.loop-place.count in
+    let xs = take c.loop-place.place c.args.events.now in
+    let ys = take (c.loop-place.place + 1) c.args.events.now in
+    let shared = g.M.Memory.shared in
+    let size = g.M.Memory.extent c.args.self.now.memory in
+    let old = c.args.self.now in
+    let mid = c.loop-place.self in
+    let new = c.step_by.new.self in
+    let there = read_there c.args.events.now c.loop-place.place e
+    (omega (arith, c.loop-place-test.true, c.loop-place.invariant.all)) c.index-events-place.is in
+    let next = sym (take_next c.loop-place.place c.args.events.now e there) in
+    let long : g.M.Memory.extent new.memory ≡ size = c.in_ok-step_by.ensures.size ∙ c.loop-place.invariant.size in
+    let did : StepsEach (StepsLive shared g.M.Memory.begins g.M.Memory.may_be) old (events_of ys) (n + bit b) new =
+    subst (λ zs. StepsEach (StepsLive shared g.M.Memory.begins g.M.Memory.may_be) old (events_of zs) (n + bit b) new) next
+    (each_next (StepsLive shared g.M.Memory.begins g.M.Memory.may_be) old mid new xs n e b c.loop-place.invariant.runs c.in_ok-step_by.ensures.steps) in
+    let on = subst (λ k. StepRan shared k mid.device (plain_event e) (Ok b) new.device) c.loop-place.invariant.size
+    c.in_ok-step_by.ensures.ran in
+    let ran : RanLive shared size old.device (events_of ys) (n + bit b) new.device =
+    subst (λ zs. RanLive shared size old.device (events_of zs) (n + bit b) new.device) next
+    (ran_step shared size old.device mid.device xs n e b new.device c.loop-place.invariant.ran on) in
+    elim c.if-branch.branch [
+      | then-branch t ↦ record {
+        runs = subst (λ k. StepsEach (StepsLive shared g.M.Memory.begins g.M.Memory.may_be) old (events_of ys) k new)
+            (counts_one n c.if-branch.count b t.if-branch.true t.count-is) did;
+        ran = subst (λ k. RanLive shared size old.device (events_of ys) k new.device)
+            (counts_one n c.if-branch.count b t.if-branch.true t.count-is) ran;
+        size = long;
+        all = c.loop-place.invariant.all;
+        few = omega (arith, t.count-is, c.loop-place.invariant.few);
+      }
+      | else-branch t ↦ record {
+        runs = subst (λ k. StepsEach (StepsLive shared g.M.Memory.begins g.M.Memory.may_be) old (events_of ys) k new)
+            (counts_none n c.if-branch.count b t.if-branch.false t.count-is) did;
+        ran = subst (λ k. RanLive shared size old.device (events_of ys) k new.device)
+            (counts_none n c.if-branch.count b t.if-branch.false t.count-is) ran;
+        size = long;
+        all = c.loop-place.invariant.all;
+        few = omega (arith, t.count-is, c.loop-place.invariant.few);
+      }
+    ]
+
+pub returns-in_err-step_by-clause-runs : goal.returns-in_err-step_by-clause-runs
+returns-in_err-step_by-clause-runs g c =
+    let e = c.index-events-place.result in
+    let there = read_there c.args.events.now c.loop-place.place e
+    (omega (arith, c.loop-place-test.true, c.loop-place.invariant.all)) c.index-events-place.is in
+    all_refused (StepsLive g.M.Memory.shared g.M.Memory.begins g.M.Memory.may_be) c.args.self.now c.loop-place.self
+    c.step_by.new.self c.args.events.now c.loop-place.place e c.loop-place.count c.from_residual.result
+    c.from_residual.ensures.0 there c.loop-place.invariant.runs (λ fault. c.in_err-step_by.ensures.steps)
+
+pub returns-in_err-step_by-clause-promise : goal.returns-in_err-step_by-clause-promise
+returns-in_err-step_by-clause-promise g c =
+    let e = c.index-events-place.result in
+    let shared = g.M.Memory.shared in
+    let size = g.M.Memory.extent c.args.self.now.memory in
+    let first = c.args.self.now.device in
+    let es = events_of (take c.loop-place.place c.args.events.now) in
+    let there = read_there c.args.events.now c.loop-place.place e
+    (omega (arith, c.loop-place-test.true, c.loop-place.invariant.all)) c.index-events-place.is in
+    let ran : RanLive shared size first es c.loop-place.count c.step_by.new.self.device =
+    subst (λ d. RanLive shared size first es c.loop-place.count d) (sym c.in_err-step_by.ensures.ran) c.loop-place.invariant.ran in
+    run_refused shared size first c.args.events.now c.loop-place.place e c.loop-place.count c.from_residual.result
+    c.step_by.new.self.device c.from_residual.ensures.0 there
+    (goes_on_live c.the_promise_is_kept.ensures c.every_run_goes_on.ensures.run c.a_live_run_is_a_run.ensures shared size first
+    es c.loop-place.count c.step_by.new.self.device ran)
+
+pub returns-clause-promise : goal.returns-clause-promise
+returns-clause-promise g c =
+    let shared = g.M.Memory.shared in
+    let size = g.M.Memory.extent c.args.self.now.memory in
+    let first = c.args.self.now.device in
+    let whole = take_all c.loop-place.place c.args.events.now
+    (omega (arith, c.loop-place-test.false, c.loop-place.invariant.all)) in
+    let ran : RanLive shared size first (events_of c.args.events.now) c.loop-place.count c.loop-place.self.device =
+    subst (λ xs. RanLive shared size first (events_of xs) c.loop-place.count c.loop-place.self.device) whole
+    c.loop-place.invariant.ran in
+    goes_on_live c.the_promise_is_kept.ensures c.every_run_goes_on.ensures.run c.a_live_run_is_a_run.ensures shared size first
+    (events_of c.args.events.now) c.loop-place.count c.loop-place.self.device ran
