@@ -1,19 +1,18 @@
 -- A device on a memory that its guest writes at any time goes on as its traces do.
-use Rattle.std.proofs.Common.{◌≡◌, ℕ, ◌+◌, Bool, true, false, List, [], ◌∷◌, ◌++◌, length, map, if◌then◌else◌, Result, Ok, Err, refl, sym, ap, ◌∙◌, subst, take, Some, true≢false, arith}
+use Rattle.std.proofs.Common.{◌≡◌, ℕ, ◌+◌, Bool, true, false, List, [], ◌∷◌, ◌++◌, length, Result, Ok, Err, refl, sym, ap, ◌∙◌, subst, take, Some, true≢false, arith}
 use Rattle.std.specs.Prelude.{◌↔◌, IsTrue, IsErr, slice_get}
 use Rattle.guest_mem.specs.Memory.{LiesIn}
 use Rattle.block_store.specs.declared.NoMemory.{NoMemory}
 use Rattle.device_model.specs.Parts.{IsSeen}
-use Rattle.device_model.specs.World.{PlainQueue, PlainWorld, Opens, Everywhere}
+use Rattle.device_model.specs.World.{PlainWorld, Opens}
 use Rattle.device_model.specs.Events.{Event, plain_event}
 use Rattle.device_model.specs.declared.event.Event as declared
 use Rattle.device_model.specs.Happens.{Occurrence, Reached, Runs, occurrence_of}
-use Rattle.device_model.specs.Turns.{Turns, IsStep, count_changes}
+use Rattle.device_model.specs.Turns.{Turns, count_changes}
 use Rattle.device_model.specs.Live.{with_memory, refill, IsRefilled, LiveRuns}
 use Rattle.device_model.proofs.Turning.{step_of}
-use Rattle.phases.specs.InMemory.{EachSeen}
 use Rattle.world.specs.Apart.{PlainDevice, standing, IsSoundIn, FitsIn, HasFew, TurnsInOrWants}
-use Rattle.world.specs.LiveWorld.{GoesOnFrom, GoesOnLive, IsSteadyIn, RanFrom, RanLive, RunsPromised, StepRan, StepsAll, StepsEach, StepsPromised}
+use Rattle.world.specs.LiveWorld.{GoesOnLive, IsSteadyIn, RanLive, RunsPromised, StepRan, StepsAll, StepsEach, StepsPromised}
 use Rattle.world.specs.Sound.{AreSound, IsSteady}
 use Rattle.world.proofs.InMemory.{turned, turned_or, few_in, has_few}
 use Rattle.world.proofs.Promising.{AllArePromised, AllGoOn}

@@ -1,7 +1,6 @@
 -- The open function marks its next unit, or looks at it.
-use Rattle.std.proofs.Common.{◌≡◌, ◌+◌, ◌*◌, ℕ, Bool, true, false, List, [], ◌∷◌, length, Option, Some, refl, sym, ap, ◌∙◌, subst, inl, inr, ◌<◌, arith}
+use Rattle.std.proofs.Common.{◌≡◌, ◌+◌, ◌*◌, ℕ, Bool, true, false, List, [], ◌∷◌, length, Option, Some, refl, sym, ap, ◌∙◌, subst, inl, inr}
 use Rattle.std.specs.Prelude.{slice_get, slice_set, map}
-use Rattle.std.proofs.lemmas.List.{length-map}
 use Rattle.scsi_codec.specs.declared.lun.Address.{Address}
 use Rattle.unit_model.specs.Steps.{alive}
 use Rattle.unit_model.specs.Seen.{any_met}
@@ -41,13 +40,6 @@ limit_stays inventory f (place ∷ later) u out true v g out' h =
 limit_stays inventory f (place ∷ later) u out false v g out' h = ap (λ (j : Jobs). j.limit) h.1.jobs
 limit_stays inventory f [] u out true v g out' h = absurd h
 limit_stays inventory f [] u out false v g out' h = ap (λ (j : Jobs). j.limit) h.jobs
-
--- there is a seat
-pub some_seat : (w : PlainWorld) (kept : List KeptSeat) → w.seats ≡ map seat_of kept
-    → length w.seats ≡ w.workers + 1 → 0 < length kept
-some_seat w kept are many =
-    let same_count : length w.seats ≡ length kept = ap (λ (l : List Seat). length l) are ∙ length-map kept seat_of in
-    omega (arith, same_count, many)
 
 -- three parts of the device
 abbrev parts : PlainWorld → List PlainUnit → List Seat → Option Opened → PlainWorld

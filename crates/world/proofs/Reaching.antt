@@ -73,12 +73,6 @@ whole_by_next asked most w (Err x) w' h t = subst IsWhole (sym t.0) h
 pub whole_by_step : (asked : ℕ → Bool) (w : PlainWorld) (c : Cursor) (w' : PlainWorld) → IsWhole w → StepsNext asked w c w' → IsWhole w'
 whole_by_step asked w c w' h t = whole_by w (event_of t.0) true w' h (t.0, refl, t.1, t.3)
 
--- by the turn of an event, or where memory was refused
-pub whole_by_result : (w : PlainWorld) (e : Event) (r : Result Bool NoMemory) (w' : PlainWorld) → IsWhole w
-    → TurnsOrWants w e r w' → IsWhole w'
-whole_by_result w e (Ok b) w' h t = whole_by w e b w' h t
-whole_by_result w e (Err x) w' h t = subst IsWhole (sym t.1) h
-
 -- a turn of an event, or want of memory, is a step
 pub steps_by_result : (w : PlainWorld) (e : Event) (r : Result Bool NoMemory) (w' : PlainWorld) → TurnsOrWants w e r w'
     → Steps w e r w'

@@ -1,5 +1,4 @@
--- The device apart from its memory, and what an event does to it whatever stands there. Only private functions and models
--- cite it: no promise stands on it.
+-- The device apart from its memory, and what an event does to it whatever stands there.
 use Rattle.std.specs.Prelude.{ℕ, ◌≡◌, Bool, true, false, List, [], Option, Result, Ok, Err}
 use Rattle.block_store.specs.declared.NoMemory.{NoMemory}
 use Rattle.scsi_codec.specs.declared.lun.Address.{Address}

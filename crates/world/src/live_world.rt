@@ -1,6 +1,6 @@
 //! The device on a memory that its guest writes at any time.
 
-ghost use Rattle.std.specs.Prelude.{◌≡◌, ◌≤◌, ◌+◌, ◌↔◌, ℕ, List, length, true, IsTrue, IsFalse, IfOk, MatchResult};
+ghost use Rattle.std.specs.Prelude.{◌≡◌, ◌≤◌, ◌+◌, ◌↔◌, length, true, IsTrue, IsFalse, IfOk, MatchResult};
 ghost use Rattle.guest_mem.specs.Memory.{LiesIn};
 ghost use Rattle.config.specs.Config.{is_config, size_of};
 ghost use Rattle.device_model.specs.Events.{Event as AnEvent, plain_event};

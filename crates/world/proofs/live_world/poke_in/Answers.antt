@@ -1,4 +1,4 @@
-use Rattle.std.proofs.Common.{◌≡◌, ◌∙◌, false, length, refl, sym, ap, subst, arith}
+use Rattle.std.proofs.Common.{false, length, refl, sym, ap, subst}
 use Rattle.guest_mem.specs.Memory.{LiesIn}
 use Rattle.ring_core.specs.Writes.{Write}
 use Rattle.device_model.specs.Events.{Event}
@@ -24,13 +24,14 @@ returns-then-not-lies_in-clause-turns g c =
     λ d.
     each_read shared may_be may_be
     (λ found left seen. TurnsSeen seen (standing shared found d) (Event.Poke x) false (standing shared left d)) (λ m may. may)
-    (λ m may.
-        (refl,
-        (λ lies.
-            lies_not (g.M.Memory.extent c.args.memory.now) c.size.result c.args.addr (length c.args.bytes.now) c.lies_in.result
-            c.size.ensures.size c.lies_in.ensures c.if-not-lies_in.true
-            (subst (λ n. LiesIn n c.args.addr (length c.args.bytes.now)) (g.met.M.Memory.sized c.args.memory.now m may) lies)),
-        refl))
+    (λ m may. (
+      refl,
+      (λ lies.
+          lies_not (g.M.Memory.extent c.args.memory.now) c.size.result c.args.addr (length c.args.bytes.now) c.lies_in.result
+          c.size.ensures.size c.lies_in.ensures c.if-not-lies_in.true
+          (subst (λ n. LiesIn n c.args.addr (length c.args.bytes.now)) (g.met.M.Memory.sized c.args.memory.now m may) lies)),
+      refl,
+    ))
 
 pub returns-clause-turns : goal.returns-clause-turns
 returns-clause-turns g c =
@@ -41,6 +42,12 @@ returns-clause-turns g c =
     λ d seen may.
     let (before, was, is) = c.write.ensures.written seen may in
     let lies = subst (λ n. LiesIn n c.args.addr (length c.args.bytes.now)) (sym (g.met.M.Memory.sized c.args.memory.now before was))
-    inside in
-    (before, was, (seen, seen_as_left shared seen,
-    (Transition.Poke x, refl, lies, ap (λ m. standing shared m d) is, refl)))
+    inside in (
+      before,
+      was,
+      (
+        seen,
+        seen_as_left shared seen,
+        (Transition.Poke x, refl, lies, ap (λ m. standing shared m d) is, refl),
+      ),
+    )

@@ -1,7 +1,7 @@
-use Rattle.std.proofs.Common.{◌≡◌, ◌∙◌, true, false, length, refl, sym}
+use Rattle.std.proofs.Common.{◌∙◌, false, length, refl, sym}
 use Rattle.std.proofs.lemmas.List.{length-replicate}
 use Rattle.std.specs.Prelude.{replicate}
-use Rattle.config.specs.Config.{is_config, size_of}
+use Rattle.config.specs.Config.{size_of}
 use Rattle.world.specs.Apart.{standing}
 use Rattle.world.proofs.AtOpening.{opens, opens_steady}
 use Rattle.world.proofs.Lively.{opens_in, steady_in}
