@@ -228,3 +228,22 @@ void test_order_of_control(void) {
     load_end(&front, &disks);
   }
 }
+
+void test_costs(void) {
+  enum { WARM = 40, TURNS = 200, MOST_POKED = 1000 };
+  for (unsigned number = 0; number < WAYS; number++) {
+    static const uint8_t ready[6] = {0};
+    struct disks disks;
+    struct front front;
+    load_make(&disks, "64G", "");
+    load_begin(&front, &disks, number);
+    // The first requests take room that is kept for those that come later.
+    for (unsigned i = 0; i < WARM; i++) MUST(command(&front, Q, ready, sizeof ready, NULL, 0, NULL, 0) == 0);
+    costs = (struct costs){.counts = true};
+    for (unsigned i = 0; i < TURNS; i++) MUST(command(&front, Q, ready, sizeof ready, NULL, 0, NULL, 0) == 0);
+    costs.counts = false;
+    // A ring has 8 KiB of descriptors, of which a request is a few.
+    MUST(!costs.allocations && !costs.texts && costs.poked && costs.poked < TURNS * MOST_POKED);
+    load_end(&front, &disks);
+  }
+}

@@ -333,25 +333,32 @@ void test_reset(void) {
   }
 }
 
+// Has the session go on until a request of queue 3 is answered. Returns whether it was GOOD.
+static bool await_ready(struct front *front) {
+  uint32_t length;
+  put_request(front, 0x200000, ready, sizeof ready);
+  const struct part parts[] = {{0x200000, 51, false}, {0x201000, 108, true}};
+  driver_put(front, 3, parts, 2);
+  driver_kick(front, 3);
+  for (uint64_t begun = clock_now(); clock_now() - begun < PATIENCE; usleep(200)) {
+    turn(front);
+    if (driver_next(front, 3, 2, &length)) return front->alive && front->memory[0x201000 + 10] == 0;
+  }
+  return false;
+}
+
 void test_refused(void) {
   for (unsigned number = 0; number < WAYS; number++) {
     struct disks disks;
     struct front front;
-    uint32_t length;
     begin(&front, &disks, number);
     front_agree(&front);
+    // There is no memory for the device, and then none for what it serves.
+    faults.creations = 2;
+    MUST(await_ready(&front) && !faults.creations);
     MUST(write_block(&front));
-    put_request(&front, 0x200000, ready, sizeof ready);
-    const struct part parts[] = {{0x200000, 51, false}, {0x201000, 108, true}};
-    driver_put(&front, 3, parts, 2);
-    driver_kick(&front, 3);
     faults.refusals = 2;
-    bool answered = false;
-    for (uint64_t begun = clock_now(); !answered && clock_now() - begun < PATIENCE; usleep(200)) {
-      turn(&front);
-      answered = driver_next(&front, 3, 2, &length);
-    }
-    MUST(answered && front.alive && !faults.refusals && front.memory[0x201000 + 10] == 0);
+    MUST(await_ready(&front) && !faults.refusals);
     MUST(has_block(&front));
     end(&front, &disks);
   }

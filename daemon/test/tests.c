@@ -306,6 +306,7 @@ int main(int count, char **words) {
                {"shared", test_shared}, {"cuts", test_cuts}, {"fields", test_fields}, {"rings", test_rings},
                {"scattered", test_scattered}, {"slow", test_slow}, {"full", test_full}, {"forgetful", test_forgetful},
                {"abandoned", test_abandoned}, {"zeros", test_zeros}, {"turns", test_turns}, {"order of control", test_order_of_control},
+               {"costs", test_costs},
                {"apart", test_apart}, {"overtaken", test_overtaken}, {"stopped", test_stopped}, {"waiting", test_waiting},
                {"moved", test_moved}, {"slots", test_slots}, {"regions", test_regions}, {"short", test_short},
                {"forms", test_forms}, {"stale", test_stale}, {"kicks", test_kicks}, {"waits", test_waits}, {"reset", test_reset},

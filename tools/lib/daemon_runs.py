@@ -288,6 +288,28 @@ def test_new_images(room):
     assert disk.stat().st_blocks == 0
 
 
+def test_folders_are_synced(room):
+    """The entry of a new image stands on the disk before the daemon serves: where its folder can't be synced it is refused."""
+    if not room.shim:
+        return "needs a program without sanitizers"
+    disk = room.folder / "new.img"
+    room.refuses("--disk", f"0:0=1M,file={disk}", says="new.img: Input/output error", env={"LD_PRELOAD": str(room.shim), "UNSYNCED": "1"})
+    assert not disk.exists()
+    room.file("new.img")
+    with room.runs("--disk", f"0:0=1M,file={disk}", env={"LD_PRELOAD": str(room.shim), "UNSYNCED": "1"}):
+        assert serves(room.socket)
+    return None
+
+
+def test_log_is_no_disk(room):
+    """A disk's file isn't taken for the log, by whatever path."""
+    disk, link = room.file("disk.img"), room.folder / "link"
+    link.symlink_to(disk)
+    for log in (disk, link, f"{room.folder}/./disk.img"):
+        room.ends("--socket", room.socket, "--disk", f"0:0=file={disk}", "--log", log, status=2, says="a disk is kept there")
+    assert disk.read_bytes() == b"\x5a" * MIB
+
+
 def test_nothing_is_made_in_vain(room):
     """Where the daemon can't serve, it leaves no new image, and none that grew."""
     new, small = room.folder / "new.img", room.file("small.img")
@@ -414,13 +436,15 @@ def test_locks(room):
 
 def test_qemu_tools(room):
     """QEMU's own tools refuse what the daemon has, and the other way round."""
-    if not shutil.which("qemu-io"):
-        return "no qemu-io (qemu-utils)"
+    if not shutil.which("qemu-io") or not shutil.which("qemu-img"):
+        return "no qemu-io and qemu-img (qemu-utils)"
     disk = room.file("disk.img")
     writes = ["qemu-io", "-f", "raw", "-c", "write -P 1 0 512", disk]
     with room.runs("--disk", f"0:0=1M,file={disk}"):
-        run = subprocess.run(writes, capture_output=True, text=True)
-        assert run.returncode and "lock" in run.stderr, run.stderr
+        copies = ["qemu-img", "convert", "-f", "raw", "-O", "raw", disk, room.folder / "copy.img"]
+        for words in (writes, copies, ["qemu-img", "resize", "-f", "raw", disk, "2M"]):
+            run = subprocess.run(words, capture_output=True, text=True)
+            assert run.returncode and "lock" in run.stderr, (words, run.stderr)
     assert disk.read_bytes() == b"\x5a" * MIB
     assert subprocess.run(writes, capture_output=True).returncode == 0
     with subprocess.Popen(["qemu-io", "-f", "raw", disk], stdin=subprocess.PIPE, stdout=subprocess.PIPE, text=True) as run:
@@ -627,12 +651,16 @@ def test_held(room):
             limit_files(run, MIB)
             front.write(8192, b"b" * 4096)
             wait_for(lambda: str(image) in log.read_text(), "a line that names the file")
+            # It is tried again several times meanwhile, and said once.
+            time.sleep(1)
             assert front.asks() and front.answered() == 1 and run.poll() is None
+            assert log.read_text().count("can't be written") == 1
             if goes_on:
                 limit_files(run, resource.RLIM_INFINITY)
                 wait_for(lambda: front.answered() == 2, "the second WRITE")
         text, kept = log.read_text(), image.read_bytes()
         assert os.strerror(errno.EFBIG) in text and ("aren't kept" in text) == (not goes_on)
+        assert text.count("can be written again") == goes_on
         assert kept[:4096] == b"a" * 4096 and (not goes_on or kept[4 * MIB :][:4096] == b"b" * 4096)
         log.unlink()
 
@@ -854,6 +882,7 @@ SHIM = r"""
 #include <fcntl.h>
 #include <stdlib.h>
 #include <sys/epoll.h>
+#include <sys/stat.h>
 #include <sys/syscall.h>
 #include <unistd.h>
 
@@ -865,6 +894,14 @@ int epoll_wait(int epoll, struct epoll_event *events, int most, int wait) {
   if (getenv("REMOVE")) _exit(100 + (unlinkat(AT_FDCWD, getenv("REMOVE"), 0) < 0 ? errno : 0));
   if (getenv("CALL")) syscall(atol(getenv("CALL")), -1, NULL, NULL, NULL, NULL);
   return (int)syscall(SYS_epoll_pwait, epoll, events, most, wait, NULL, 8);
+}
+
+// No folder is synced, where the environment asks for that.
+int fsync(int fd) {
+  struct stat stat;
+  if (!getenv("UNSYNCED") || fstat(fd, &stat) || !S_ISDIR(stat.st_mode)) return (int)syscall(SYS_fsync, fd);
+  errno = EIO;
+  return -1;
 }
 
 ssize_t pread(int fd, void *to, size_t count, off_t at) {
