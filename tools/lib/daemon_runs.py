@@ -176,7 +176,9 @@ def test_one_of_many_gets_a_path(room):
         stale.bind(str(room.socket))
         stale.close()
         words = [room.program, "--socket", room.socket, "--disk", "0:0=1M", "--quiet"]
-        runs = [subprocess.Popen(words, stderr=subprocess.DEVNULL) for _ in range(6)]
+        # All look at the stale socket before the first one takes it away.
+        slowly = {"LD_PRELOAD": str(room.shim), "SLOW": "1"} if room.shim else None
+        runs = [subprocess.Popen(words, stderr=subprocess.DEVNULL, env=slowly) for _ in range(6)]
         try:
             wait_for(lambda: sum(run.poll() is None for run in runs) <= 1, "five to be refused")
             wait_for(lambda: listens(room.socket), "one to listen")
@@ -894,6 +896,11 @@ int epoll_wait(int epoll, struct epoll_event *events, int most, int wait) {
   if (getenv("REMOVE")) _exit(100 + (unlinkat(AT_FDCWD, getenv("REMOVE"), 0) < 0 ? errno : 0));
   if (getenv("CALL")) syscall(atol(getenv("CALL")), -1, NULL, NULL, NULL, NULL);
   return (int)syscall(SYS_epoll_pwait, epoll, events, most, wait, NULL, 8);
+}
+
+int unlink(const char *path) {
+  if (getenv("SLOW")) usleep(100000);
+  return (int)syscall(SYS_unlinkat, AT_FDCWD, path, 0);
 }
 
 // No folder is synced, where the environment asks for that.
