@@ -1,6 +1,7 @@
 #include "connection.h"
 
 #include <poll.h>
+#include <signal.h>
 #include <stdio.h>
 #include <stdlib.h>
 #include <string.h>
@@ -76,6 +77,8 @@ static unsigned open_descriptors(void) {
 }
 
 static void make_memory(void) {
+  // As the daemon has it: a pipe that nobody reads any more may be a queue's descriptor.
+  signal(SIGPIPE, SIG_IGN);
   memory_fd = memfd_create("guest", MFD_CLOEXEC);
   must(memory_fd >= 0 && !ftruncate(memory_fd, GUEST_BYTES), "no memory for a guest");
   void *at = mmap(NULL, GUEST_BYTES, PROT_READ | PROT_WRITE, MAP_SHARED, memory_fd, 0);

@@ -20,11 +20,11 @@ import subprocess
 import time
 from pathlib import Path
 
-from front_end import FrontEnd
+from front_end import QUEUE, FrontEnd
 
 DOCS = Path(__file__).resolve().parent.parent.parent / "docs"
 MIB = 1 << 20
-GET_FEATURES, SET_OWNER = 1, 3
+GET_FEATURES, SET_OWNER, SET_VRING_CALL = 1, 3, 13
 # QEMU's bytes: a permission that is used is 100 and its bit, one that isn't shared 200 and its bit.
 READS, WRITES, RESIZES = 0, 1, 3
 
@@ -625,6 +625,19 @@ def test_silence(room):
             with connected(room.socket) as refused:
                 assert is_over(refused, 3)
             assert is_served(front)
+
+
+def test_calls_that_nobody_reads(room):
+    """A pipe whose other end is closed, given as a queue's call, ends nothing."""
+    ours, theirs = os.pipe()
+    os.close(ours)
+    with room.runs("--disk", "0:0=1M") as run, FrontEnd(connected(room.socket)) as front:
+        front.say(SET_VRING_CALL, struct.pack("<Q", QUEUE), [theirs])
+        os.close(theirs)
+        for i in range(3):
+            front.write(8 * i, b"a" * 4096)
+            wait_for(lambda: front.answered() == 1 + i, "a WRITE")  # noqa: B023
+        assert front.asks() and run.poll() is None
 
 
 # Files that can't be written for a time.
