@@ -177,26 +177,36 @@ static void serve(struct front *front) {
   MUST(served == SERVED || served == MORE);
 }
 
+// Has a queue always have many requests of so many bytes, and another one of them. It is answered within so many rounds.
+static void take_turns(unsigned number, unsigned many, unsigned one, uint32_t bytes, unsigned most) {
+  static const uint8_t ready[6] = {0};
+  struct disks disks;
+  struct front front;
+  uint32_t length;
+  load_make(&disks, "64G", "");
+  load_begin(&front, &disks, number);
+  // The device is made by the first request.
+  MUST(command(&front, 4, ready, sizeof ready, NULL, 0, NULL, 0) == 0);
+  for (unsigned i = 0; i < MANY; i++) put(&front, many, i, ready, sizeof ready, bytes);
+  put(&front, one, MANY, ready, sizeof ready, bytes);
+  unsigned rounds = 0, served = 0;
+  for (; !driver_next(&front, one, 3, &length); rounds++) {
+    MUST(rounds < most);
+    serve(&front);
+    for (; driver_next(&front, many, 3, &length); served++) put(&front, many, served % MANY, ready, sizeof ready, bytes);
+  }
+  MUST((served || many > one) && is_good(&front, MANY));
+  load_end(&front, &disks);
+}
+
 void test_turns(void) {
+  // A queue's share has its request answered at once, and where the requests of one queue take all room its turn does.
+  enum { ALL_ROOM = 1 << 20 };
   for (unsigned number = 0; number < WAYS; number++) {
-    static const uint8_t ready[6] = {0};
-    struct disks disks;
-    struct front front;
-    uint32_t length;
-    load_make(&disks, "64G", "");
-    load_begin(&front, &disks, number);
-    // The device is made by the first request.
-    MUST(command(&front, 4, ready, sizeof ready, NULL, 0, NULL, 0) == 0);
-    for (unsigned i = 0; i < MANY; i++) put(&front, Q, i, ready, sizeof ready, 0);
-    put(&front, 3, MANY, ready, sizeof ready, 0);
-    unsigned rounds = 0, served = 0;
-    for (; !driver_next(&front, 3, 3, &length); rounds++) {
-      MUST(rounds < 4);
-      serve(&front);
-      for (; driver_next(&front, Q, 3, &length); served++) put(&front, Q, served % MANY, ready, sizeof ready, 0);
-    }
-    MUST(served && is_good(&front, MANY));
-    load_end(&front, &disks);
+    take_turns(number, Q, 3, 0, 1);
+    take_turns(number, 3, Q, 0, 1);
+    take_turns(number, Q, 3, ALL_ROOM, 4);
+    take_turns(number, 3, Q, ALL_ROOM, 4);
   }
 }
 

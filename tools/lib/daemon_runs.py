@@ -749,7 +749,7 @@ def test_users(room):
         return "the tests don't run as root: the change of user is not tried"
     room.folder.chmod(0o777)
     disk = room.folder / "new.img"
-    with room.runs("--disk", f"0:0=1M,file={disk}", "--user", "nobody", "--group", "daemon", "--mode", "660") as run:
+    with room.runs("--disk", f"0:0=1M,file={disk}", "--user", "nobody", "--group", "daemon", "--mode", "660", extra_groups=[0, 4]) as run:
         # It listens before it becomes another.
         assert serves(room.socket)
         told = facts(run)
