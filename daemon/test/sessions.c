@@ -146,6 +146,13 @@ void test_regions(void) {
       front_region(&front, &sent, ADD_MEM_REG, it);
       MUST(front_ask(&front, &sent) == tries[i].taken);
     }
+    // No region ends behind the last address, of the guest's or of the front end's own.
+    for (uint64_t size = PAGE; size <= 2 * PAGE; size += PAGE) {
+      front_region(&front, &sent, ADD_MEM_REG, (struct area){UINT64_C(0) - PAGE, size, UINT64_C(1) << 62, 0});
+      MUST(!front_ask(&front, &sent));
+      front_region(&front, &sent, ADD_MEM_REG, (struct area){UINT64_C(1) << 62, size, UINT64_C(0) - PAGE, 0});
+      MUST(!front_ask(&front, &sent));
+    }
     it = (struct area){UINT64_C(0) - 2 * PAGE, PAGE, UINT64_C(1) << 62, 0};
     front_region(&front, &sent, ADD_MEM_REG, it);
     MUST(front_ask(&front, &sent) && write_block(&front) && has_block(&front));
