@@ -126,7 +126,9 @@ static void look_at_file(struct connection *connection) {
   static uint8_t store[FILE_BYTES], file[FILE_BYTES];
   struct vscsi_disk *disk = &connection->disks.stores[0];
   char why[300];
-  must(blocks_finish(&connection->disks, why, sizeof why), why);
+  unsigned tries = 0;
+  // On a machine that is busy the time that it has may be too short once.
+  while (!blocks_finish(&connection->disks, why, sizeof why)) must(++tries < MOST_TURNS, why);
   if (connection->file < 0 || !store_stands(disk)) return;
   enum vscsi_answer saved = vscsi_disk_save(disk, 0, FILE_BYTES / DEVICE_BLOCK, store, sizeof store);
   must(saved == VSCSI_DONE && pread(connection->file, file, sizeof file, 0) == FILE_BYTES, "a disk can't be read");
