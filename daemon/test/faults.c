@@ -22,6 +22,9 @@ static struct {
 } written[MOST_WRITTEN];
 static unsigned written_count;
 
+// What the library takes by itself isn't the daemon's.
+static bool is_serving;
+
 void faults_clear(void) {
   faults = (struct faults){.passed = faults.passed};
   written_count = 0;
@@ -70,23 +73,24 @@ void *__wrap_realloc(void *at, size_t size);
 int __wrap_snprintf(char *into, size_t room, const char *format, ...);
 
 void *__wrap_malloc(size_t size) {
-  costs.allocations += costs.counts;
+  costs.allocations += costs.counts && !is_serving;
   return __real_malloc(size);
 }
 
 void *__wrap_calloc(size_t count, size_t size) {
-  costs.allocations += costs.counts;
+  costs.allocations += costs.counts && !is_serving;
   return __real_calloc(count, size);
 }
 
 void *__wrap_realloc(void *at, size_t size) {
-  costs.allocations += costs.counts;
+  costs.allocations += costs.counts && !is_serving;
+  if (faults.most && size > faults.most && !is_serving) return errno = ENOMEM, NULL;
   return __real_realloc(at, size);
 }
 
 int __wrap_snprintf(char *into, size_t room, const char *format, ...) {
   va_list list;
-  costs.texts += costs.counts;
+  costs.texts += costs.counts && !is_serving;
   va_start(list, format);
   int length = vsnprintf(into, room, format, list);
   va_end(list);
@@ -117,11 +121,9 @@ enum vscsi_answer __wrap_vscsi_serve(struct vscsi *device, uint32_t queues, uint
 
 enum vscsi_answer __wrap_vscsi_serve(struct vscsi *device, uint32_t queues, uint64_t most, uint64_t *steps, bool *more) {
   if (faults.refusals) return faults.refusals--, VSCSI_NO_MEMORY;
-  // What the library takes by itself isn't the daemon's.
-  bool counts = costs.counts;
-  costs.counts = false;
+  is_serving = true;
   enum vscsi_answer answer = __real_vscsi_serve(device, queues, most, steps, more);
-  costs.counts = counts;
+  is_serving = false;
   *more = *more || faults.endless;
   if (faults.endless) usleep(100);
   return answer;

@@ -5,6 +5,7 @@
 #define DAEMON_TEST_FAULTS_H
 
 #include <stdbool.h>
+#include <stddef.h>
 #include <stdint.h>
 
 struct faults {
@@ -15,6 +16,7 @@ struct faults {
   unsigned bad_syncs;   // how many fail
   unsigned refusals;    // how many calls of vscsi_serve are refused memory
   unsigned creations;   // and how many of vscsi_create_with
+  size_t most;          // the most bytes that realloc gives the daemon, or 0 where it gives any
   bool endless;         // vscsi_serve says that something is left
   unsigned slow;        // microseconds that pwrite takes
   uint64_t bytes;       // that pwrite wrote

@@ -87,6 +87,29 @@ void test_full(void) {
   }
 }
 
+void test_crowded(void) {
+  // Blocks between two WRITEs, and a byte less than room for more ranges takes.
+  enum { BETWEEN = 40, MOST = 2 * FEW_RANGES * sizeof(struct vscsi_range) - 1 };
+  for (unsigned number = 0; number < WAYS; number++) {
+    struct disks disks;
+    struct front front;
+    load_make(&disks, "64G", "");
+    load_begin(&front, &disks, number);
+    // The device is made by the first request.
+    MUST(command(&front, 4, (const uint8_t[6]){0}, 6, NULL, 0, NULL, 0) == 0);
+    faults.write_error = ENOSPC;
+    faults.most = MOST;
+    for (unsigned i = 0; i < MANY; i++) put_write(&front, Q, i * 7 % MANY, i * 7 % MANY * BETWEEN);
+    driver_kick(&front, Q);
+    MUST(await_error(&front, Q));
+    MUST(await(&front, Q, 1, 40) == 0 && !disks.disks[0].backlog.ranges && disks.disks[0].backlog.count <= FEW_RANGES);
+    faults_clear();
+    MUST(await(&front, Q, MANY, PATIENCE) == MANY);
+    for (unsigned i = 0; i < MANY; i++) MUST(is_good(&front, i) && has(i, (uint64_t)i * BETWEEN, false) && has(0, (uint64_t)i * BETWEEN + 16, true));
+    load_end(&front, &disks);
+  }
+}
+
 void test_forgetful(void) {
   for (unsigned number = 0; number < WAYS; number++) {
     struct disks disks;
