@@ -98,6 +98,7 @@ void test_crowded(void) {
     // The device is made by the first request.
     MUST(command(&front, 4, (const uint8_t[6]){0}, 6, NULL, 0, NULL, 0) == 0);
     faults.write_error = ENOSPC;
+    faults.writes = 2 * number;
     faults.most = MOST;
     for (unsigned i = 0; i < MANY; i++) put_write(&front, Q, i * 7 % MANY, i * 7 % MANY * BETWEEN);
     driver_kick(&front, Q);
