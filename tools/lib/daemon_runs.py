@@ -657,10 +657,12 @@ def limit_files(run, most):
 
 
 def test_held(room):
-    """A request whose file can't be written waits; messages and signals don't; and it goes on once the file can be written."""
-    for goes_on in (True, False):
+    """A request whose file can't be written waits; messages and signals don't; and it goes on once the file can be written. Also a quiet
+    daemon says so.
+    """
+    for goes_on, quiet in ((True, []), (False, ["--quiet"])):
         image = room.folder / f"image{goes_on}"
-        with driven(room, "--disk", f"0:0=16M,file={image}", ends=0 if goes_on else 1) as (run, front, log):
+        with driven(room, "--disk", f"0:0=16M,file={image}", *quiet, ends=0 if goes_on else 1) as (run, front, log):
             front.write(0, b"a" * 4096)
             wait_for(lambda: front.answered() == 1, "the first WRITE")
             limit_files(run, MIB)
