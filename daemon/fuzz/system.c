@@ -1,6 +1,7 @@
 #include "system.h"
 
 #include <errno.h>
+#include <malloc.h>
 #include <stdbool.h>
 #include <stddef.h>
 #include <string.h>
@@ -21,7 +22,7 @@
 #define ASAN_UNPOISON_MEMORY_REGION(at, size) ((void)(at), (void)(size))
 #endif
 
-enum { PAGE = 4096, GUARD = 4 << 20, MOST_MAPPINGS = 4096, MOST_UNSYNCED = 4096 };
+enum { LARGE = 1 << 20, PAGE = 4096, GUARD = 4 << 20, MOST_MAPPINGS = 4096, MOST_UNSYNCED = 4096 };
 
 struct refusals refusals;
 unsigned mappings_standing;
@@ -51,6 +52,10 @@ enum vscsi_answer __real_vscsi_create_with(struct vscsi *device, const struct vs
                                            struct vscsi_fault *fault);
 void *__real_calloc(size_t count, size_t size);
 void *__real_realloc(void *at, size_t size);
+void *__real_malloc(size_t size);
+void __real_free(void *at);
+void *__wrap_malloc(size_t size);
+void __wrap_free(void *at);
 void *__wrap_calloc(size_t count, size_t size);
 void *__wrap_realloc(void *at, size_t size);
 void *__wrap_mmap(void *at, size_t size, int protection, int flags, int fd, off_t offset);
@@ -137,6 +142,34 @@ int __wrap_fdatasync(int fd) {
   }
   unsynced_count = 0;
   return refused ? -1 : __real_fdatasync(fd);
+}
+
+// A device's memory that was given back is kept for the next device, and nobody may touch it meanwhile. To have it from the system each
+// time would take longer than all else that an input does.
+static struct {
+  void *at;
+  size_t size;
+} spare;
+
+static void *take_spare(void) {
+  void *at = spare.at;
+  spare.at = NULL;
+  ASAN_UNPOISON_MEMORY_REGION(at, spare.size);
+  return at;
+}
+
+void *__wrap_malloc(size_t size) { return spare.at && size == spare.size ? take_spare() : __real_malloc(size); }
+
+void __wrap_free(void *at) {
+  size_t size = at ? malloc_usable_size(at) : 0;
+  if (size < LARGE) {
+    __real_free(at);
+    return;
+  }
+  if (spare.at) __real_free(take_spare());
+  spare.at = at;
+  spare.size = size;
+  ASAN_POISON_MEMORY_REGION(at, size);
 }
 
 void *__wrap_calloc(size_t count, size_t size) { return is_refused(&refusals.allocations, ENOMEM) ? NULL : __real_calloc(count, size); }
