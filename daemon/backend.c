@@ -41,6 +41,7 @@ static enum served put_off(struct backend *backend) {
 }
 
 enum served backend_begin(struct backend *backend, char *why, size_t room) {
+  bool is_first = !backend->pause;
   if (backend->pause && clock_now() < backend->due) return LATER;
   for (unsigned q = 0; q < backend->count; q++) {
     backend->queues[q].taken = 0;
@@ -54,7 +55,9 @@ enum served backend_begin(struct backend *backend, char *why, size_t room) {
   backend->starved = false;
   backend->shadow = backend->only_shadow || !direct_fits(backend);
   bool begun = backend->shadow ? shadow_begin(backend, why, room) : direct_begin(backend, why, room);
-  if (!begun) return backend->starved ? put_off(backend) : FAILED;
+  if (!begun && !backend->starved) return FAILED;
+  if (!begun && !is_first) *why = 0;
+  if (!begun) return put_off(backend);
   backend->pause = 0;
   return MORE;
 }

@@ -55,7 +55,8 @@ struct backend {
 // guest.
 enum served { SERVED, MORE, BUSY, LATER, FAILED };
 
-// Makes the device for the queues that are ready, and returns MORE; or LATER, where memory is refused; or FAILED, and says why.
+// Makes the device for the queues that are ready, and returns MORE; or LATER, where memory is refused, and the first time says why; or
+// FAILED, and says why.
 enum served backend_begin(struct backend *backend, char *why, size_t room);
 
 // Lets go of the device, and takes its disks back. The rings stand where their oldest chain was fetched. A round that isn't

@@ -334,6 +334,7 @@ static enum served make_device(struct session *session, uint32_t queues, char *w
   if (!backend_has(backend, queues)) return SERVED;
   enum served begun = backend_begin(backend, why, room);
   if (begun == MORE) say(session, "a device", backend->shadow ? "shadow mode" : "direct mode");
+  if (begun == LATER && *why) log_say(LOG_ERROR, NULL, "%s; it is tried again", why);
   return begun;
 }
 
