@@ -29,10 +29,20 @@ bool backend_make(struct backend *backend, const struct vscsi_queue *queues, uin
                                       .unit_count = backend->disks->count,
                                       .pages = pages};
   memset(backend->noted, 0, sizeof backend->noted);
-  return blocks_load(backend->disks, why, room) && device_create(&backend->device, &config, backend->disks->stores, why, room);
+  return blocks_load(backend->disks, why, room) &&
+         device_create(&backend->device, &config, backend->disks->stores, &backend->starved, why, room);
 }
 
-bool backend_begin(struct backend *backend, char *why, size_t room) {
+// Puts what is refused memory off, each time for twice as long.
+static enum served put_off(struct backend *backend) {
+  backend->pause = !backend->pause ? LEAST_PAUSE : backend->pause > MOST_PAUSE / 2 ? MOST_PAUSE : 2 * backend->pause;
+  backend->due = clock_now() + backend->pause;
+  return LATER;
+}
+
+enum served backend_begin(struct backend *backend, char *why, size_t room) {
+  bool is_first = !backend->pause;
+  if (backend->pause && clock_now() < backend->due) return LATER;
   for (unsigned q = 0; q < backend->count; q++) {
     backend->queues[q].taken = 0;
     backend->queues[q].used = 0;
@@ -42,8 +52,14 @@ bool backend_begin(struct backend *backend, char *why, size_t room) {
   backend->control_waits = false;
   backend->stopping = false;
   backend->heaviest = 0;
+  backend->starved = false;
   backend->shadow = backend->only_shadow || !direct_fits(backend);
-  return backend->shadow ? shadow_begin(backend, why, room) : direct_begin(backend, why, room);
+  bool begun = backend->shadow ? shadow_begin(backend, why, room) : direct_begin(backend, why, room);
+  if (!begun && !backend->starved) return FAILED;
+  if (!begun && !is_first) *why = 0;
+  if (!begun) return put_off(backend);
+  backend->pause = 0;
+  return MORE;
 }
 
 void backend_end(struct backend *backend) {
@@ -133,13 +149,6 @@ static enum ran run(struct backend *backend) {
   if (backend->stopping) return run_queues(backend, NO_QUEUES, until);
   enum ran ran = run_queues(backend, ALL_QUEUES & ~CONTROL, until);
   return ran == RAN && backend->queues[0].ring.outstanding ? run_queues(backend, ALL_QUEUES, until) : ran;
-}
-
-// Puts the round off, each time for twice as long.
-static enum served put_off(struct backend *backend) {
-  backend->pause = !backend->pause ? LEAST_PAUSE : backend->pause > MOST_PAUSE / 2 ? MOST_PAUSE : 2 * backend->pause;
-  backend->due = clock_now() + backend->pause;
-  return LATER;
 }
 
 // Runs the round on, until its answers may be shown, but for those that are held. Returns SERVED then.

@@ -41,10 +41,10 @@ struct backend {
   enum phase phase;
   uint64_t steps;         // that the device may have taken in the round
   unsigned heaviest;      // the most ranges that one command of the round changes
-  unsigned pause;         // milliseconds until a round that is refused memory is tried again, and the time of that
+  unsigned pause;         // milliseconds until what is refused memory is tried again, and the time of that
   uint64_t due;           // of that, or of the next try of a file that can't be written
   bool stopping;          // the device takes no more chains
-  bool starved;           // a chain wasn't fetched for want of memory
+  bool starved;           // a chain wasn't fetched, or the device not made, for want of memory
   unsigned turn;          // of shadow mode: which request queue comes first
   bool control_waits;     // of shadow mode: `due` of each queue holds for the chains that the control queue had then
   bool held[SLOTS];       // of shadow mode: event buffers
@@ -55,8 +55,9 @@ struct backend {
 // guest.
 enum served { SERVED, MORE, BUSY, LATER, FAILED };
 
-// Makes the device for the queues that are ready. Returns false, and says why, where it couldn't.
-bool backend_begin(struct backend *backend, char *why, size_t room);
+// Makes the device for the queues that are ready, and returns MORE; or LATER, where memory is refused, and the first time says why; or
+// FAILED, and says why.
+enum served backend_begin(struct backend *backend, char *why, size_t room);
 
 // Lets go of the device, and takes its disks back. The rings stand where their oldest chain was fetched. A round that isn't
 // answered is forgotten, but what it changed stays in the backlogs of the disks: backend_stop comes first where a front end may go on

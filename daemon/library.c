@@ -19,12 +19,13 @@ bool store_stands(const struct vscsi_disk *store) {
   return vscsi_disk_blocks(store, &blocks) == VSCSI_DONE;
 }
 
-bool device_create(struct device *device, const struct vscsi_config *config, struct vscsi_disk *stores, char *why, size_t room) {
+bool device_create(struct device *device, const struct vscsi_config *config, struct vscsi_disk *stores, bool *starved, char *why, size_t room) {
   struct vscsi_fault fault = {0};
   enum vscsi_answer answer = vscsi_create_with(&device->vscsi, config, stores, &fault);
   device->live = answer == VSCSI_DONE;
-  if (answer == VSCSI_BAD_CONFIG) snprintf(why, room, "cause %u, detail %u, place %llu", fault.cause, fault.detail, (unsigned long long)fault.place);
-  else if (!device->live) snprintf(why, room, "%s", answer == VSCSI_NO_MEMORY ? "no memory" : "the call was refused");
+  *starved = answer == VSCSI_NO_MEMORY;
+  if (answer == VSCSI_BAD_CONFIG) snprintf(why, room, "no device: cause %u, detail %u, place %llu", fault.cause, fault.detail, (unsigned long long)fault.place);
+  else if (!device->live) snprintf(why, room, "no device: %s", *starved ? "no memory" : "the call was refused");
   return device->live;
 }
 

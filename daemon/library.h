@@ -22,8 +22,9 @@ bool store_save(struct vscsi_disk *store, uint64_t first, uint32_t count, void *
 void store_drop(struct vscsi_disk *store);
 bool store_stands(const struct vscsi_disk *store);
 
-// Makes a device of a configuration over disks, which are the device's then. Returns false where it can't be, and says why in `why`.
-bool device_create(struct device *device, const struct vscsi_config *config, struct vscsi_disk *stores, char *why, size_t room);
+// Makes a device of a configuration over disks, which are the device's then. Returns false where it can't be, and says why in `why`. Where
+// memory was refused `starved` is true, and another try may go well.
+bool device_create(struct device *device, const struct vscsi_config *config, struct vscsi_disk *stores, bool *starved, char *why, size_t room);
 
 // Ends a device, if there is one, and takes its disks back. Returns false where memory was refused: they are lost.
 bool device_end(struct device *device, struct vscsi_disk *stores, size_t count);

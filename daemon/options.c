@@ -6,6 +6,7 @@
 #include <stdio.h>
 #include <stdlib.h>
 #include <string.h>
+#include <sys/stat.h>
 #include <unistd.h>
 
 #include "backend.h"
@@ -106,13 +107,19 @@ static void take_activation(struct options *options) {
   if (strtol(process, NULL, 10) == (long)getpid() && !strcmp(count, "1")) options->fd = STDERR_FILENO + 1;
 }
 
+// Returns whether two paths name one file.
+static bool is_same(const char *a, const char *b) {
+  struct stat first, second;
+  return !strcmp(a, b) || (!stat(a, &first) && !stat(b, &second) && first.st_dev == second.st_dev && first.st_ino == second.st_ino);
+}
+
 static bool is_whole(const struct options *options, const struct disks *disks) {
   if (!options->path == (options->fd < 0)) return fputs("say one of --socket PATH and --fd N\n", stderr), false;
   if (options->mode >= 0 && !options->path) return fputs("--mode is of the socket that --socket makes\n", stderr), false;
   if (!disks_are_whole(disks)) return fputs("there is no disk, or a target without LUN 0\n", stderr), false;
   for (size_t i = 0; options->log && i < disks->count; i++) {
     const char *image = disks->disks[i].path;
-    if (image && !strcmp(image, options->log)) return fprintf(stderr, "--log %s: a disk is kept there\n", image), false;
+    if (image && is_same(image, options->log)) return fprintf(stderr, "--log %s: a disk is kept there\n", image), false;
   }
   return true;
 }

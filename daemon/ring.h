@@ -8,6 +8,9 @@
 #include "library.h"
 #include "memory.h"
 
+// Indices and flags of rings are loaded and stored as they lie in memory.
+_Static_assert(__BYTE_ORDER__ == __ORDER_LITTLE_ENDIAN__, "rings are little-endian");
+
 // The entries that a table may have in shadow mode, and the bytes of a descriptor.
 enum { MOST_ENTRIES = 8192, DESCRIPTOR = 16 };
 

@@ -328,14 +328,14 @@ static void set_next(const struct session *session, enum served served) {
   if (served == LATER || is_polled(session)) set_timer(session, left);
 }
 
-// Makes the device where something is available for it. Returns false where it can't be.
-static bool make_device(struct session *session, uint32_t queues) {
-  char why[WHY] = "";
+// Makes the device where something is available for it. Returns MORE where there is one then.
+static enum served make_device(struct session *session, uint32_t queues, char *why, size_t room) {
   struct backend *backend = &session->backend;
-  if (!backend_has(backend, queues)) return true;
-  if (!backend_begin(backend, why, sizeof why)) return log_say(LOG_ERROR, NULL, "no device: %s", why), false;
-  say(session, "a device", backend->shadow ? "shadow mode" : "direct mode");
-  return true;
+  if (!backend_has(backend, queues)) return SERVED;
+  enum served begun = backend_begin(backend, why, room);
+  if (begun == MORE) say(session, "a device", backend->shadow ? "shadow mode" : "direct mode");
+  if (begun == LATER && *why) log_say(LOG_ERROR, NULL, "%s; it is tried again", why);
+  return begun;
 }
 
 // Says how a session that was served goes on. Returns false where it has to end.
@@ -370,8 +370,7 @@ static bool serve(void *with) {
   for (unsigned q = 0; q < backend->count; q++)
     if (session->queues[q].started && session->queues[q].enabled) queues |= UINT32_C(1) << q;
   session->more = false;
-  if (!backend->device.live && !make_device(session, queues)) return false;
-  enum served served = backend->device.live ? MORE : SERVED;
+  enum served served = backend->device.live ? MORE : make_device(session, queues, why, sizeof why);
   uint64_t until = clock_now() + LONGEST;
   for (unsigned i = 0; served == MORE && (!i || clock_now() < until); i++) {
     owed = 0;

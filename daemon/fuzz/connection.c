@@ -1,6 +1,7 @@
 #include "connection.h"
 
 #include <poll.h>
+#include <signal.h>
 #include <stdio.h>
 #include <stdlib.h>
 #include <string.h>
@@ -76,6 +77,8 @@ static unsigned open_descriptors(void) {
 }
 
 static void make_memory(void) {
+  // As the daemon has it: a pipe that nobody reads any more may be a queue's descriptor.
+  signal(SIGPIPE, SIG_IGN);
   memory_fd = memfd_create("guest", MFD_CLOEXEC);
   must(memory_fd >= 0 && !ftruncate(memory_fd, GUEST_BYTES), "no memory for a guest");
   void *at = mmap(NULL, GUEST_BYTES, PROT_READ | PROT_WRITE, MAP_SHARED, memory_fd, 0);
@@ -123,7 +126,9 @@ static void look_at_file(struct connection *connection) {
   static uint8_t store[FILE_BYTES], file[FILE_BYTES];
   struct vscsi_disk *disk = &connection->disks.stores[0];
   char why[300];
-  must(blocks_finish(&connection->disks, why, sizeof why), why);
+  unsigned tries = 0;
+  // On a machine that is busy the time that it has may be too short once.
+  while (!blocks_finish(&connection->disks, why, sizeof why)) must(++tries < MOST_TURNS, why);
   if (connection->file < 0 || !store_stands(disk)) return;
   enum vscsi_answer saved = vscsi_disk_save(disk, 0, FILE_BYTES / DEVICE_BLOCK, store, sizeof store);
   must(saved == VSCSI_DONE && pread(connection->file, file, sizeof file, 0) == FILE_BYTES, "a disk can't be read");

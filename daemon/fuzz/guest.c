@@ -10,6 +10,7 @@
 #include "requests.h"
 #include "sent.h"
 #include "system.h"
+#include "watch.h"
 
 // How often a guest kicks where another thread writes its memory.
 enum { RACE_KICKS = 16, LONGEST_TABLE = 10000 };
@@ -191,11 +192,13 @@ int LLVMFuzzerTestOneInput(const uint8_t *data, size_t size);
 
 int LLVMFuzzerTestOneInput(const uint8_t *data, size_t size) {
   static struct guest guest;
+  watch_begin(data, size);
   guest.input = (struct input){data, size};
   connection_begin(&guest.connection, way_take(&guest.input));
   set_up(&guest);
   while (guest.input.left && guest.connection.alive) steps[input_below(&guest.input, sizeof steps / sizeof *steps)](&guest);
   kick_all(&guest);
   connection_end(&guest.connection);
+  watch_end();
   return 0;
 }

@@ -8,6 +8,7 @@
 #include "descriptors.h"
 #include "requests.h"
 #include "sent.h"
+#include "watch.h"
 
 struct stream {
   struct connection connection;
@@ -125,6 +126,7 @@ int LLVMFuzzerTestOneInput(const uint8_t *data, size_t size);
 
 int LLVMFuzzerTestOneInput(const uint8_t *data, size_t size) {
   static struct stream stream;
+  watch_begin(data, size);
   stream.input = (struct input){data, size};
   connection_begin(&stream.connection, way_take(&stream.input));
   driver_begin(&stream.driver, stream.connection.way);
@@ -136,5 +138,6 @@ int LLVMFuzzerTestOneInput(const uint8_t *data, size_t size) {
   connection_pump(&stream.connection);
   request(&stream);
   connection_end(&stream.connection);
+  watch_end();
   return 0;
 }

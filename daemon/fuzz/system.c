@@ -1,6 +1,7 @@
 #include "system.h"
 
 #include <errno.h>
+#include <malloc.h>
 #include <stdbool.h>
 #include <stddef.h>
 #include <string.h>
@@ -21,7 +22,7 @@
 #define ASAN_UNPOISON_MEMORY_REGION(at, size) ((void)(at), (void)(size))
 #endif
 
-enum { PAGE = 4096, GUARD = 4 << 20, MOST_MAPPINGS = 4096, MOST_UNSYNCED = 4096 };
+enum { LARGE = 1 << 20, PAGE = 4096, GUARD = 4 << 20, MOST_MAPPINGS = 4096, MOST_UNSYNCED = 4096 };
 
 struct refusals refusals;
 unsigned mappings_standing;
@@ -47,8 +48,14 @@ int __real_fdatasync(int fd);
 int __real_fallocate(int fd, int mode, off_t offset, off_t size);
 int __real_clock_gettime(clockid_t clock, struct timespec *now);
 enum vscsi_answer __real_vscsi_serve(struct vscsi *device, uint32_t queues, uint64_t most, uint64_t *steps, bool *more);
+enum vscsi_answer __real_vscsi_create_with(struct vscsi *device, const struct vscsi_config *config, struct vscsi_disk *disks,
+                                           struct vscsi_fault *fault);
 void *__real_calloc(size_t count, size_t size);
 void *__real_realloc(void *at, size_t size);
+void *__real_malloc(size_t size);
+void __real_free(void *at);
+void *__wrap_malloc(size_t size);
+void __wrap_free(void *at);
 void *__wrap_calloc(size_t count, size_t size);
 void *__wrap_realloc(void *at, size_t size);
 void *__wrap_mmap(void *at, size_t size, int protection, int flags, int fd, off_t offset);
@@ -58,6 +65,8 @@ int __wrap_fdatasync(int fd);
 int __wrap_fallocate(int fd, int mode, off_t offset, off_t size);
 int __wrap_clock_gettime(clockid_t clock, struct timespec *now);
 enum vscsi_answer __wrap_vscsi_serve(struct vscsi *device, uint32_t queues, uint64_t most, uint64_t *steps, bool *more);
+enum vscsi_answer __wrap_vscsi_create_with(struct vscsi *device, const struct vscsi_config *config, struct vscsi_disk *disks,
+                                           struct vscsi_fault *fault);
 
 static size_t pages(size_t size) { return (size + PAGE - 1) / PAGE * PAGE; }
 
@@ -135,11 +144,44 @@ int __wrap_fdatasync(int fd) {
   return refused ? -1 : __real_fdatasync(fd);
 }
 
+// A device's memory that was given back is kept for the next device, and nobody may touch it meanwhile. To have it from the system each
+// time would take longer than all else that an input does.
+static struct {
+  void *at;
+  size_t size;
+} spare;
+
+static void *take_spare(void) {
+  void *at = spare.at;
+  spare.at = NULL;
+  ASAN_UNPOISON_MEMORY_REGION(at, spare.size);
+  return at;
+}
+
+void *__wrap_malloc(size_t size) { return spare.at && size == spare.size ? take_spare() : __real_malloc(size); }
+
+void __wrap_free(void *at) {
+  size_t size = at ? malloc_usable_size(at) : 0;
+  if (size < LARGE) {
+    __real_free(at);
+    return;
+  }
+  if (spare.at) __real_free(take_spare());
+  spare.at = at;
+  spare.size = size;
+  ASAN_POISON_MEMORY_REGION(at, size);
+}
+
 void *__wrap_calloc(size_t count, size_t size) { return is_refused(&refusals.allocations, ENOMEM) ? NULL : __real_calloc(count, size); }
 void *__wrap_realloc(void *at, size_t size) { return is_refused(&refusals.allocations, ENOMEM) ? NULL : __real_realloc(at, size); }
 
 enum vscsi_answer __wrap_vscsi_serve(struct vscsi *device, uint32_t queues, uint64_t most, uint64_t *steps, bool *more) {
   return is_refused(&refusals.serves, ENOMEM) ? VSCSI_NO_MEMORY : __real_vscsi_serve(device, queues, most, steps, more);
+}
+
+enum vscsi_answer __wrap_vscsi_create_with(struct vscsi *device, const struct vscsi_config *config, struct vscsi_disk *disks,
+                                           struct vscsi_fault *fault) {
+  return is_refused(&refusals.serves, ENOMEM) ? VSCSI_NO_MEMORY : __real_vscsi_create_with(device, config, disks, fault);
 }
 
 void system_begin(void) {

@@ -1,6 +1,8 @@
 #include "faults.h"
 
 #include <errno.h>
+#include <stdarg.h>
+#include <stdio.h>
 #include <string.h>
 #include <sys/syscall.h>
 #include <time.h>
@@ -11,6 +13,7 @@
 enum { MOST_WRITTEN = 4096 };
 
 struct faults faults;
+struct costs costs;
 
 // What was written since fdatasync last went well.
 static struct {
@@ -18,6 +21,9 @@ static struct {
   size_t count;
 } written[MOST_WRITTEN];
 static unsigned written_count;
+
+// What the library takes by itself isn't the daemon's.
+static bool is_serving;
 
 void faults_clear(void) {
   faults = (struct faults){.passed = faults.passed};
@@ -58,12 +64,66 @@ int fdatasync(int fd) {
   return errno = faults.sync_error, -1;
 }
 
+void *__real_malloc(size_t size);
+void *__real_calloc(size_t count, size_t size);
+void *__real_realloc(void *at, size_t size);
+void *__wrap_malloc(size_t size);
+void *__wrap_calloc(size_t count, size_t size);
+void *__wrap_realloc(void *at, size_t size);
+int __wrap_snprintf(char *into, size_t room, const char *format, ...);
+
+void *__wrap_malloc(size_t size) {
+  costs.allocations += costs.counts && !is_serving;
+  return __real_malloc(size);
+}
+
+void *__wrap_calloc(size_t count, size_t size) {
+  costs.allocations += costs.counts && !is_serving;
+  return __real_calloc(count, size);
+}
+
+void *__wrap_realloc(void *at, size_t size) {
+  costs.allocations += costs.counts && !is_serving;
+  if (faults.most && size > faults.most && !is_serving) return errno = ENOMEM, NULL;
+  return __real_realloc(at, size);
+}
+
+int __wrap_snprintf(char *into, size_t room, const char *format, ...) {
+  va_list list;
+  costs.texts += costs.counts && !is_serving;
+  va_start(list, format);
+  int length = vsnprintf(into, room, format, list);
+  va_end(list);
+  return length;
+}
+
+enum vscsi_answer __real_vscsi_poke(struct vscsi *device, uint64_t addr, const void *bytes, size_t count);
+enum vscsi_answer __wrap_vscsi_poke(struct vscsi *device, uint64_t addr, const void *bytes, size_t count);
+
+enum vscsi_answer __wrap_vscsi_poke(struct vscsi *device, uint64_t addr, const void *bytes, size_t count) {
+  if (costs.counts) costs.poked += count;
+  return __real_vscsi_poke(device, addr, bytes, count);
+}
+
+enum vscsi_answer __real_vscsi_create_with(struct vscsi *device, const struct vscsi_config *config, struct vscsi_disk *disks,
+                                           struct vscsi_fault *fault);
+enum vscsi_answer __wrap_vscsi_create_with(struct vscsi *device, const struct vscsi_config *config, struct vscsi_disk *disks,
+                                           struct vscsi_fault *fault);
+
+enum vscsi_answer __wrap_vscsi_create_with(struct vscsi *device, const struct vscsi_config *config, struct vscsi_disk *disks,
+                                           struct vscsi_fault *fault) {
+  if (faults.creations) return faults.creations--, VSCSI_NO_MEMORY;
+  return __real_vscsi_create_with(device, config, disks, fault);
+}
+
 enum vscsi_answer __real_vscsi_serve(struct vscsi *device, uint32_t queues, uint64_t most, uint64_t *steps, bool *more);
 enum vscsi_answer __wrap_vscsi_serve(struct vscsi *device, uint32_t queues, uint64_t most, uint64_t *steps, bool *more);
 
 enum vscsi_answer __wrap_vscsi_serve(struct vscsi *device, uint32_t queues, uint64_t most, uint64_t *steps, bool *more) {
   if (faults.refusals) return faults.refusals--, VSCSI_NO_MEMORY;
+  is_serving = true;
   enum vscsi_answer answer = __real_vscsi_serve(device, queues, most, steps, more);
+  is_serving = false;
   *more = *more || faults.endless;
   if (faults.endless) usleep(100);
   return answer;

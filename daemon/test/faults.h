@@ -1,9 +1,11 @@
-// Files that can't be written, memory that is refused, and time that passes: the tests' own pwrite, fdatasync, clock_gettime and
-// vscsi_serve, which fail where they are told to. Calls of vscsi_serve come here by the linker's word --wrap.
+// Files that can't be written, memory that is refused, and time that passes: the tests' own pwrite, fdatasync, clock_gettime,
+// vscsi_serve and vscsi_create_with, which fail where they are told to. And what serving costs. Calls of the library's, of malloc and the
+// like and of snprintf come here by the linker's word --wrap.
 #ifndef DAEMON_TEST_FAULTS_H
 #define DAEMON_TEST_FAULTS_H
 
 #include <stdbool.h>
+#include <stddef.h>
 #include <stdint.h>
 
 struct faults {
@@ -13,6 +15,8 @@ struct faults {
   int sync_error;       // by which fdatasync fails, or 0; then what was written since it last went well is garbage
   unsigned bad_syncs;   // how many fail
   unsigned refusals;    // how many calls of vscsi_serve are refused memory
+  unsigned creations;   // and how many of vscsi_create_with
+  size_t most;          // the most bytes that realloc gives the daemon, or 0 where it gives any
   bool endless;         // vscsi_serve says that something is left
   unsigned slow;        // microseconds that pwrite takes
   uint64_t bytes;       // that pwrite wrote
@@ -20,6 +24,15 @@ struct faults {
 };
 
 extern struct faults faults;
+
+// What was done outside of vscsi_serve, for as long as `counts` is true.
+struct costs {
+  bool counts;
+  unsigned allocations, texts;
+  uint64_t poked;  // bytes that were copied into the device's memory
+};
+
+extern struct costs costs;
 
 // Begins anew, with no fault.
 void faults_clear(void);

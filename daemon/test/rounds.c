@@ -87,6 +87,30 @@ void test_full(void) {
   }
 }
 
+void test_crowded(void) {
+  // Blocks between two WRITEs, and a byte less than room for more ranges takes.
+  enum { BETWEEN = 40, MOST = 2 * FEW_RANGES * sizeof(struct vscsi_range) - 1 };
+  for (unsigned number = 0; number < WAYS; number++) {
+    struct disks disks;
+    struct front front;
+    load_make(&disks, "64G", "");
+    load_begin(&front, &disks, number);
+    // The device is made by the first request.
+    MUST(command(&front, 4, (const uint8_t[6]){0}, 6, NULL, 0, NULL, 0) == 0);
+    faults.write_error = ENOSPC;
+    faults.writes = 2 * number;
+    faults.most = MOST;
+    for (unsigned i = 0; i < MANY; i++) put_write(&front, Q, i * 7 % MANY, i * 7 % MANY * BETWEEN);
+    driver_kick(&front, Q);
+    MUST(await_error(&front, Q));
+    MUST(await(&front, Q, 1, 40) == 0 && !disks.disks[0].backlog.ranges && disks.disks[0].backlog.count <= FEW_RANGES);
+    faults_clear();
+    MUST(await(&front, Q, MANY, PATIENCE) == MANY);
+    for (unsigned i = 0; i < MANY; i++) MUST(is_good(&front, i) && has(i, (uint64_t)i * BETWEEN, false) && has(0, (uint64_t)i * BETWEEN + 16, true));
+    load_end(&front, &disks);
+  }
+}
+
 void test_forgetful(void) {
   for (unsigned number = 0; number < WAYS; number++) {
     struct disks disks;
@@ -177,26 +201,36 @@ static void serve(struct front *front) {
   MUST(served == SERVED || served == MORE);
 }
 
+// Has a queue always have many requests of so many bytes, and another one of them. It is answered within so many rounds.
+static void take_turns(unsigned number, unsigned many, unsigned one, uint32_t bytes, unsigned most) {
+  static const uint8_t ready[6] = {0};
+  struct disks disks;
+  struct front front;
+  uint32_t length;
+  load_make(&disks, "64G", "");
+  load_begin(&front, &disks, number);
+  // The device is made by the first request.
+  MUST(command(&front, 4, ready, sizeof ready, NULL, 0, NULL, 0) == 0);
+  for (unsigned i = 0; i < MANY; i++) put(&front, many, i, ready, sizeof ready, bytes);
+  put(&front, one, MANY, ready, sizeof ready, bytes);
+  unsigned rounds = 0, served = 0;
+  for (; !driver_next(&front, one, 3, &length); rounds++) {
+    MUST(rounds < most);
+    serve(&front);
+    for (; driver_next(&front, many, 3, &length); served++) put(&front, many, served % MANY, ready, sizeof ready, bytes);
+  }
+  MUST((served || many > one) && is_good(&front, MANY));
+  load_end(&front, &disks);
+}
+
 void test_turns(void) {
+  // A queue's share has its request answered at once, and where the requests of one queue take all room its turn does.
+  enum { ALL_ROOM = 1 << 20 };
   for (unsigned number = 0; number < WAYS; number++) {
-    static const uint8_t ready[6] = {0};
-    struct disks disks;
-    struct front front;
-    uint32_t length;
-    load_make(&disks, "64G", "");
-    load_begin(&front, &disks, number);
-    // The device is made by the first request.
-    MUST(command(&front, 4, ready, sizeof ready, NULL, 0, NULL, 0) == 0);
-    for (unsigned i = 0; i < MANY; i++) put(&front, Q, i, ready, sizeof ready, 0);
-    put(&front, 3, MANY, ready, sizeof ready, 0);
-    unsigned rounds = 0, served = 0;
-    for (; !driver_next(&front, 3, 3, &length); rounds++) {
-      MUST(rounds < 4);
-      serve(&front);
-      for (; driver_next(&front, Q, 3, &length); served++) put(&front, Q, served % MANY, ready, sizeof ready, 0);
-    }
-    MUST(served && is_good(&front, MANY));
-    load_end(&front, &disks);
+    take_turns(number, Q, 3, 0, 1);
+    take_turns(number, 3, Q, 0, 1);
+    take_turns(number, Q, 3, ALL_ROOM, 4);
+    take_turns(number, 3, Q, ALL_ROOM, 4);
   }
 }
 
@@ -225,6 +259,25 @@ void test_order_of_control(void) {
     for (unsigned i = 0; i < MANY - 1; i++) MUST(is_good(&front, i));
     // The next command is told of it.
     MUST(command(&front, 4, ready, sizeof ready, NULL, 0, NULL, 0) == 2 || answer_of(&front, MANY - 1)[10] == 2);
+    load_end(&front, &disks);
+  }
+}
+
+void test_costs(void) {
+  enum { WARM = 40, TURNS = 200, MOST_POKED = 1000 };
+  for (unsigned number = 0; number < WAYS; number++) {
+    static const uint8_t ready[6] = {0};
+    struct disks disks;
+    struct front front;
+    load_make(&disks, "64G", "");
+    load_begin(&front, &disks, number);
+    // The first requests take room that is kept for those that come later.
+    for (unsigned i = 0; i < WARM; i++) MUST(command(&front, Q, ready, sizeof ready, NULL, 0, NULL, 0) == 0);
+    costs = (struct costs){.counts = true};
+    for (unsigned i = 0; i < TURNS; i++) MUST(command(&front, Q, ready, sizeof ready, NULL, 0, NULL, 0) == 0);
+    costs.counts = false;
+    // A ring has 8 KiB of descriptors, of which a request is a few.
+    MUST(!costs.allocations && !costs.texts && costs.poked && costs.poked < TURNS * MOST_POKED);
     load_end(&front, &disks);
   }
 }

@@ -11,6 +11,9 @@ void test_slow(void);
 // A file that can't be written for a time: nothing is answered, and nothing is lost.
 void test_full(void);
 
+// A file that can't be written, whose backlog gets no room for what is to be written.
+void test_crowded(void);
+
 // A file whose fdatasync fails, and which then hasn't got what was written.
 void test_forgetful(void);
 
@@ -25,5 +28,8 @@ void test_turns(void);
 
 // Task management behind WRITEs that weren't fetched.
 void test_order_of_control(void);
+
+// What a request costs beside the device: no memory, no text, and far fewer bytes than its ring has.
+void test_costs(void);
 
 #endif

@@ -146,6 +146,13 @@ void test_regions(void) {
       front_region(&front, &sent, ADD_MEM_REG, it);
       MUST(front_ask(&front, &sent) == tries[i].taken);
     }
+    // No region ends behind the last address, of the guest's or of the front end's own.
+    for (uint64_t size = PAGE; size <= 2 * PAGE; size += PAGE) {
+      front_region(&front, &sent, ADD_MEM_REG, (struct area){UINT64_C(0) - PAGE, size, UINT64_C(1) << 62, 0});
+      MUST(!front_ask(&front, &sent));
+      front_region(&front, &sent, ADD_MEM_REG, (struct area){UINT64_C(1) << 62, size, UINT64_C(0) - PAGE, 0});
+      MUST(!front_ask(&front, &sent));
+    }
     it = (struct area){UINT64_C(0) - 2 * PAGE, PAGE, UINT64_C(1) << 62, 0};
     front_region(&front, &sent, ADD_MEM_REG, it);
     MUST(front_ask(&front, &sent) && write_block(&front) && has_block(&front));
@@ -333,25 +340,32 @@ void test_reset(void) {
   }
 }
 
+// Has the session go on until a request of queue 3 is answered. Returns whether it was GOOD.
+static bool await_ready(struct front *front) {
+  uint32_t length;
+  put_request(front, 0x200000, ready, sizeof ready);
+  const struct part parts[] = {{0x200000, 51, false}, {0x201000, 108, true}};
+  driver_put(front, 3, parts, 2);
+  driver_kick(front, 3);
+  for (uint64_t begun = clock_now(); clock_now() - begun < PATIENCE; usleep(200)) {
+    turn(front);
+    if (driver_next(front, 3, 2, &length)) return front->alive && front->memory[0x201000 + 10] == 0;
+  }
+  return false;
+}
+
 void test_refused(void) {
   for (unsigned number = 0; number < WAYS; number++) {
     struct disks disks;
     struct front front;
-    uint32_t length;
     begin(&front, &disks, number);
     front_agree(&front);
+    // There is no memory for the device, and then none for what it serves.
+    faults.creations = 2;
+    MUST(await_ready(&front) && !faults.creations);
     MUST(write_block(&front));
-    put_request(&front, 0x200000, ready, sizeof ready);
-    const struct part parts[] = {{0x200000, 51, false}, {0x201000, 108, true}};
-    driver_put(&front, 3, parts, 2);
-    driver_kick(&front, 3);
     faults.refusals = 2;
-    bool answered = false;
-    for (uint64_t begun = clock_now(); !answered && clock_now() - begun < PATIENCE; usleep(200)) {
-      turn(&front);
-      answered = driver_next(&front, 3, 2, &length);
-    }
-    MUST(answered && front.alive && !faults.refusals && front.memory[0x201000 + 10] == 0);
+    MUST(await_ready(&front) && !faults.refusals);
     MUST(has_block(&front));
     end(&front, &disks);
   }

@@ -29,7 +29,7 @@ void test_waits(void);
 // A reset, behind which the front end gives some descriptors no more.
 void test_reset(void);
 
-// A device that is refused memory for a time, and one that always has something left to do.
+// A device that is refused memory for a time, as it is made and as it serves, and one that always has something left to do.
 void test_refused(void);
 void test_endless(void);
 

@@ -20,11 +20,11 @@ import subprocess
 import time
 from pathlib import Path
 
-from front_end import FrontEnd
+from front_end import QUEUE, FrontEnd
 
 DOCS = Path(__file__).resolve().parent.parent.parent / "docs"
 MIB = 1 << 20
-GET_FEATURES, SET_OWNER = 1, 3
+GET_FEATURES, SET_OWNER, SET_VRING_CALL = 1, 3, 13
 # QEMU's bytes: a permission that is used is 100 and its bit, one that isn't shared 200 and its bit.
 READS, WRITES, RESIZES = 0, 1, 3
 
@@ -176,7 +176,9 @@ def test_one_of_many_gets_a_path(room):
         stale.bind(str(room.socket))
         stale.close()
         words = [room.program, "--socket", room.socket, "--disk", "0:0=1M", "--quiet"]
-        runs = [subprocess.Popen(words, stderr=subprocess.DEVNULL) for _ in range(6)]
+        # All look at the stale socket before the first one takes it away.
+        slowly = {"LD_PRELOAD": str(room.shim), "SLOW": "1"} if room.shim else None
+        runs = [subprocess.Popen(words, stderr=subprocess.DEVNULL, env=slowly) for _ in range(6)]
         try:
             wait_for(lambda: sum(run.poll() is None for run in runs) <= 1, "five to be refused")
             wait_for(lambda: listens(room.socket), "one to listen")
@@ -286,6 +288,28 @@ def test_new_images(room):
     with room.runs("--disk", f"0:0=3M,file={disk}", umask=0):
         assert stat.S_IMODE(disk.stat().st_mode) == 0o600 and disk.stat().st_size == 3 * MIB
     assert disk.stat().st_blocks == 0
+
+
+def test_folders_are_synced(room):
+    """The entry of a new image stands on the disk before the daemon serves: where its folder can't be synced it is refused."""
+    if not room.shim:
+        return "needs a program without sanitizers"
+    disk = room.folder / "new.img"
+    room.refuses("--disk", f"0:0=1M,file={disk}", says="new.img: Input/output error", env={"LD_PRELOAD": str(room.shim), "UNSYNCED": "1"})
+    assert not disk.exists()
+    room.file("new.img")
+    with room.runs("--disk", f"0:0=1M,file={disk}", env={"LD_PRELOAD": str(room.shim), "UNSYNCED": "1"}):
+        assert serves(room.socket)
+    return None
+
+
+def test_log_is_no_disk(room):
+    """A disk's file isn't taken for the log, by whatever path."""
+    disk, link = room.file("disk.img"), room.folder / "link"
+    link.symlink_to(disk)
+    for log in (disk, link, f"{room.folder}/./disk.img"):
+        room.ends("--socket", room.socket, "--disk", f"0:0=file={disk}", "--log", log, status=2, says="a disk is kept there")
+    assert disk.read_bytes() == b"\x5a" * MIB
 
 
 def test_nothing_is_made_in_vain(room):
@@ -414,13 +438,15 @@ def test_locks(room):
 
 def test_qemu_tools(room):
     """QEMU's own tools refuse what the daemon has, and the other way round."""
-    if not shutil.which("qemu-io"):
-        return "no qemu-io (qemu-utils)"
+    if not shutil.which("qemu-io") or not shutil.which("qemu-img"):
+        return "no qemu-io and qemu-img (qemu-utils)"
     disk = room.file("disk.img")
     writes = ["qemu-io", "-f", "raw", "-c", "write -P 1 0 512", disk]
     with room.runs("--disk", f"0:0=1M,file={disk}"):
-        run = subprocess.run(writes, capture_output=True, text=True)
-        assert run.returncode and "lock" in run.stderr, run.stderr
+        copies = ["qemu-img", "convert", "-f", "raw", "-O", "raw", disk, room.folder / "copy.img"]
+        for words in (writes, copies, ["qemu-img", "resize", "-f", "raw", disk, "2M"]):
+            run = subprocess.run(words, capture_output=True, text=True)
+            assert run.returncode and "lock" in run.stderr, (words, run.stderr)
     assert disk.read_bytes() == b"\x5a" * MIB
     assert subprocess.run(writes, capture_output=True).returncode == 0
     with subprocess.Popen(["qemu-io", "-f", "raw", disk], stdin=subprocess.PIPE, stdout=subprocess.PIPE, text=True) as run:
@@ -601,6 +627,19 @@ def test_silence(room):
             assert is_served(front)
 
 
+def test_calls_that_nobody_reads(room):
+    """A pipe whose other end is closed, given as a queue's call, ends nothing."""
+    ours, theirs = os.pipe()
+    os.close(ours)
+    with room.runs("--disk", "0:0=1M") as run, FrontEnd(connected(room.socket)) as front:
+        front.say(SET_VRING_CALL, struct.pack("<Q", QUEUE), [theirs])
+        os.close(theirs)
+        for i in range(3):
+            front.write(8 * i, b"a" * 4096)
+            wait_for(lambda: front.answered() == 1 + i, "a WRITE")  # noqa: B023
+        assert front.asks() and run.poll() is None
+
+
 # Files that can't be written for a time.
 
 
@@ -618,21 +657,27 @@ def limit_files(run, most):
 
 
 def test_held(room):
-    """A request whose file can't be written waits; messages and signals don't; and it goes on once the file can be written."""
-    for goes_on in (True, False):
+    """A request whose file can't be written waits; messages and signals don't; and it goes on once the file can be written. Also a quiet
+    daemon says so.
+    """
+    for goes_on, quiet in ((True, []), (False, ["--quiet"])):
         image = room.folder / f"image{goes_on}"
-        with driven(room, "--disk", f"0:0=16M,file={image}", ends=0 if goes_on else 1) as (run, front, log):
+        with driven(room, "--disk", f"0:0=16M,file={image}", *quiet, ends=0 if goes_on else 1) as (run, front, log):
             front.write(0, b"a" * 4096)
             wait_for(lambda: front.answered() == 1, "the first WRITE")
             limit_files(run, MIB)
             front.write(8192, b"b" * 4096)
             wait_for(lambda: str(image) in log.read_text(), "a line that names the file")
+            # It is tried again several times meanwhile, and said once.
+            time.sleep(1)
             assert front.asks() and front.answered() == 1 and run.poll() is None
+            assert log.read_text().count("can't be written") == 1
             if goes_on:
                 limit_files(run, resource.RLIM_INFINITY)
                 wait_for(lambda: front.answered() == 2, "the second WRITE")
         text, kept = log.read_text(), image.read_bytes()
         assert os.strerror(errno.EFBIG) in text and ("aren't kept" in text) == (not goes_on)
+        assert text.count("can be written again") == goes_on
         assert kept[:4096] == b"a" * 4096 and (not goes_on or kept[4 * MIB :][:4096] == b"b" * 4096)
         log.unlink()
 
@@ -706,7 +751,7 @@ def test_users(room):
         return "the tests don't run as root: the change of user is not tried"
     room.folder.chmod(0o777)
     disk = room.folder / "new.img"
-    with room.runs("--disk", f"0:0=1M,file={disk}", "--user", "nobody", "--group", "daemon", "--mode", "660") as run:
+    with room.runs("--disk", f"0:0=1M,file={disk}", "--user", "nobody", "--group", "daemon", "--mode", "660", extra_groups=[0, 4]) as run:
         # It listens before it becomes another.
         assert serves(room.socket)
         told = facts(run)
@@ -854,6 +899,7 @@ SHIM = r"""
 #include <fcntl.h>
 #include <stdlib.h>
 #include <sys/epoll.h>
+#include <sys/stat.h>
 #include <sys/syscall.h>
 #include <unistd.h>
 
@@ -865,6 +911,19 @@ int epoll_wait(int epoll, struct epoll_event *events, int most, int wait) {
   if (getenv("REMOVE")) _exit(100 + (unlinkat(AT_FDCWD, getenv("REMOVE"), 0) < 0 ? errno : 0));
   if (getenv("CALL")) syscall(atol(getenv("CALL")), -1, NULL, NULL, NULL, NULL);
   return (int)syscall(SYS_epoll_pwait, epoll, events, most, wait, NULL, 8);
+}
+
+int unlink(const char *path) {
+  if (getenv("SLOW")) usleep(100000);
+  return (int)syscall(SYS_unlinkat, AT_FDCWD, path, 0);
+}
+
+// No folder is synced, where the environment asks for that.
+int fsync(int fd) {
+  struct stat stat;
+  if (!getenv("UNSYNCED") || fstat(fd, &stat) || !S_ISDIR(stat.st_mode)) return (int)syscall(SYS_fsync, fd);
+  errno = EIO;
+  return -1;
 }
 
 ssize_t pread(int fd, void *to, size_t count, off_t at) {
