@@ -27,7 +27,7 @@ FOLDERS = ("must-fail", "edits")
 CLAUSE, NAME, LIMIT, PROVED, BAD, UNKNOWN = "clause", "name", "limit", "proved", "bad", "unknown"
 
 # How many edits are tried together at most.
-TOGETHER = 16
+TOGETHER = 40
 
 PARTS = ("src", "specs", "proofs")
 FUNCTION = re.compile(r"( *)(?:pub(?:\([a-z]+\))? )?(?:const )?(?:final )?(?:unsafe )?(?:extern \"C\" )?fn (\w+)")
