@@ -21,10 +21,10 @@ ROOT = Path(__file__).resolve().parent.parent.parent
 # The folders of a crate that hold edits: those that `rt ci` tries, and all others.
 FOLDERS = ("must-fail", "edits")
 
-# What became of a try. A clause or a law refused it: something is not proved of the edited body. Only the text of a proof did,
-# a name that it cites or a term that it gives, which says little. The prover met a limit of its own; nothing refused it; it
-# can't be applied or read; nothing is known.
-CLAUSE, NAME, LIMIT, PROVED, BAD, UNKNOWN = "clause", "name", "limit", "proved", "bad", "unknown"
+# What became of a try. A clause refused it: the prover found no proof of a goal. An answer did, written by hand, whose type is
+# another than that of the goal. Only a name did, which a proof cites and which is gone: that says little. The prover met a
+# limit of its own; nothing refused it; it can't be applied or read; nothing is known.
+CLAUSE, ANSWER, NAME, LIMIT, PROVED, BAD, UNKNOWN = "clause", "answer", "name", "limit", "proved", "bad", "unknown"
 
 # How many edits are tried together at most.
 TOGETHER = 40
@@ -35,11 +35,12 @@ OWNER = re.compile(r"(?:unsafe )?(?:impl(?:<.*?>)? (?:(\w+)(?:<.*>)? for )?&?(?:
 TYPE = re.compile(r"^(?:pub(?:\([a-z]+\))? )?(?:struct|enum|trait) (\w+)", re.M)
 # What a check says of a function or another item, below what it says isn't proved of it.
 ITEM = re.compile(r"(?:fn|struct|enum|trait|impl|closure) (\S+): ")
-# What isn't proved; what is wrong in the text of a proof, by its folder, which is its function's path, or of a definition; and
-# whether that is what a tactic looked for and didn't find, or merely a name that is missing or a term of another type.
+# What isn't proved; what is wrong in the text of a proof, by its folder, which is its function's path, or of a definition;
+# whether that is what a tactic looked for and didn't find; and whether it is a name that is gone.
 OPEN = re.compile(r"note: src/\S+:\d+:\d+: it is not proved that ")
 WRONG = re.compile(r"(?:\./)?(?:proofs/(?:(\S+)/)?|specs/(?:\S+/)?)[\w+]+\.antt:\d+:\d+: error")
 SOUGHT = re.compile(r"`(?:search|grind|omega)`: (?:no proof of|the goal)|the goal fails at")
+OF_NAMES = re.compile(r"has no field|is not in scope|has no `|was not admitted")
 LIMITS = re.compile(r"ran out of (stack|the (steps|memory) that)|(outgrew the memory limit|stopped at the step limit) \(")
 
 
@@ -140,8 +141,11 @@ def kit():
 
 def refused_by(lines):
     """What refused an edit of which a check says this, and the first line that says so."""
-    first = next((line for line in lines if OPEN.match(line) or SOUGHT.search(line)), None)
-    return (CLAUSE, first) if first else (NAME, lines[0])
+    for came, says in ((CLAUSE, lambda line: OPEN.match(line) or SOUGHT.search(line)), (ANSWER, lambda line: not OF_NAMES.search(line))):
+        first = next(filter(says, lines), None)
+        if first:
+            return came, first
+    return NAME, lines[0]
 
 
 def verdict(status, lines):
@@ -183,7 +187,7 @@ def tried(edit):
     paths = functions(crate, texts)
     if paths:
         came, why = verdict(*check(crate.name, texts, paths))
-        if came in (CLAUSE, NAME, LIMIT):
+        if came in (CLAUSE, ANSWER, NAME, LIMIT):
             return came, why
     return verdict(*check(crate.name, texts, []))
 
@@ -234,20 +238,23 @@ def tried_together(group):
 
 SELF_TEST = """\
 ./proofs/base/Base/accept/Answers.antt:21:59: error: `invariant_of-self`: record `After` has no field `number`
+./proofs/chain/kept/Answers.antt:8:37: error: `returns`: as printed, the two types differ only where one has `1`
 ./proofs/chain/narrowed/Answers.antt:12:98: error: `returns`: `search`: no proof of `c.items ≡ few`
 note: src/base.rt:180:5: it is not proved that what the function ensures holds when it returns (`returns`)
 fn low::base::Base::is_broken: no proof: expected answers in ./proofs/base/Base/is_broken/Answers.antt; `search` did not prove `returns`
 fn low::base::Base::accept: not proved; it calls `low::base::Base::is_broken`, which is not proved
 fn low::base::Base::keep: no proof: it calls `low::base::Base::accept`, which is not proved
+fn low::chain::kept: not proved
 fn low::chain::narrowed: not proved
 fn low::chain::parts: proved
-only=5 proved=1"""
+only=6 proved=1"""
 
 
 def self_test():
     """Whether what a check says of several edits is told of each."""
     said = {path: lines and refused_by(lines)[0] for path, lines in by_function("low", SELF_TEST.splitlines()).items()}
-    wanted = {"base::Base::is_broken": CLAUSE, "base::Base::accept": NAME, "base::Base::keep": [], "chain::narrowed": CLAUSE, "chain::parts": []}
+    wanted = {"base::Base::is_broken": CLAUSE, "base::Base::accept": NAME, "base::Base::keep": [], "chain::kept": ANSWER,
+              "chain::narrowed": CLAUSE, "chain::parts": []}
     assert said == wanted, said
     both = merged([{"src/a.rt": ("one\ntwo\n", "1\ntwo\n")}, {"src/a.rt": ("one\ntwo\n", "one\n2\n")}])
     assert both == {"src/a.rt": ("one\ntwo\n", "1\n2\n")}, both
