@@ -37,7 +37,7 @@ TYPE = re.compile(r"^(?:pub(?:\([a-z]+\))? )?(?:struct|enum|trait) (\w+)", re.M)
 ITEM = re.compile(r"(?:fn|struct|enum|trait|impl|closure) (\S+): ")
 # What isn't proved; what is wrong in the text of a proof, by its folder, which is its function's path, or of a definition;
 # whether that is what a tactic looked for and didn't find; and whether it is a name that is gone.
-OPEN = re.compile(r"note: src/\S+:\d+:\d+: it is not proved that ")
+OPEN = re.compile(r"note: src/\S+:\d+:\d+: (?:it is not proved that|`search` found no proof) ")
 WRONG = re.compile(r"(?:\./)?(?:proofs/(?:(\S+)/)?|specs/(?:\S+/)?)[\w+]+\.antt:\d+:\d+: error")
 SOUGHT = re.compile(r"`(?:search|grind|omega)`: (?:no proof of|the goal)|the goal fails at")
 OF_NAMES = re.compile(r"has no field|is not in scope|has no `|was not admitted")
@@ -245,16 +245,18 @@ fn low::base::Base::is_broken: no proof: expected answers in ./proofs/base/Base/
 fn low::base::Base::accept: not proved; it calls `low::base::Base::is_broken`, which is not proved
 fn low::base::Base::keep: no proof: it calls `low::base::Base::accept`, which is not proved
 fn low::chain::kept: not proved
+note: src/chain.rt:148:9: `search` found no proof (`invariant_of-self`); `search` gave up at one of its limits
+fn low::chain::Chain::begin: no proof: expected answers in ./proofs/chain/Chain/begin/Answers.antt; `search` did not prove `invariant_of-self`
 fn low::chain::narrowed: not proved
 fn low::chain::parts: proved
-only=6 proved=1"""
+only=7 proved=1"""
 
 
 def self_test():
     """Whether what a check says of several edits is told of each."""
     said = {path: lines and refused_by(lines)[0] for path, lines in by_function("low", SELF_TEST.splitlines()).items()}
     wanted = {"base::Base::is_broken": CLAUSE, "base::Base::accept": NAME, "base::Base::keep": [], "chain::kept": ANSWER,
-              "chain::narrowed": CLAUSE, "chain::parts": []}
+              "chain::Chain::begin": CLAUSE, "chain::narrowed": CLAUSE, "chain::parts": []}
     assert said == wanted, said
     both = merged([{"src/a.rt": ("one\ntwo\n", "1\ntwo\n")}, {"src/a.rt": ("one\ntwo\n", "one\n2\n")}])
     assert both == {"src/a.rt": ("one\ntwo\n", "1\n2\n")}, both
