@@ -2,6 +2,10 @@
 
 An edit is tried on a copy of its crate, over the libraries that `rt ci` left below it. The functions that it changes are
 checked alone, and the whole crate where these are still proved or where no function holds the change.
+
+Edits of different functions can be tried together, in one check of all these functions. What it says of a function is then
+of that function's edit: a proof rests on what the functions that it calls promise, and not on their bodies. An edit that
+such a check says nothing of its own about is tried alone.
 """
 
 import re
@@ -9,6 +13,7 @@ import shutil
 import subprocess
 import sys
 import tempfile
+from functools import cache
 from pathlib import Path
 
 ROOT = Path(__file__).resolve().parent.parent.parent
@@ -16,16 +21,26 @@ ROOT = Path(__file__).resolve().parent.parent.parent
 # The folders of a crate that hold edits: those that `rt ci` tries, and all others.
 FOLDERS = ("must-fail", "edits")
 
-# What became of a try. The clause of a function refused it; only a proof's names did, which says little; the prover met a limit of
-# its own; nothing refused it; it can't be applied or read; nothing is known.
-CLAUSE, NAME, LIMIT, PROVED, BAD, UNKNOWN = "clause", "name", "limit", "proved", "bad", "unknown"
+# What became of a try. A clause refused it: the prover found no proof of a goal. An answer did, written by hand, whose type is
+# another than that of the goal. Only a name did, which a proof cites and which is gone: that says little. The prover met a
+# limit of its own; nothing refused it; it can't be applied or read; nothing is known.
+CLAUSE, ANSWER, NAME, LIMIT, PROVED, BAD, UNKNOWN = "clause", "answer", "name", "limit", "proved", "bad", "unknown"
+
+# How many edits are tried together at most.
+TOGETHER = 40
 
 PARTS = ("src", "specs", "proofs")
 FUNCTION = re.compile(r"( *)(?:pub(?:\([a-z]+\))? )?(?:const )?(?:final )?(?:unsafe )?(?:extern \"C\" )?fn (\w+)")
 OWNER = re.compile(r"(?:unsafe )?(?:impl(?:<.*?>)? (?:(\w+)(?:<.*>)? for )?&?(?:mut )?(\w+)|(?:pub(?:\([a-z]+\))? )?trait (\w+))")
-NOT_SO = re.compile(r"(note: )?\S+:\d+:\d+:")
-# A proof file that names what the edit took away, and what cites that proof.
-OF_NAMES = re.compile(r"(note: )?(\./)?proofs/.*(has no field|is not in scope|has no `|was not admitted)")
+TYPE = re.compile(r"^(?:pub(?:\([a-z]+\))? )?(?:struct|enum|trait) (\w+)", re.M)
+# What a check says of a function or another item, below what it says isn't proved of it.
+ITEM = re.compile(r"(?:fn|struct|enum|trait|impl|closure) (\S+): ")
+# What isn't proved; what is wrong in the text of a proof, by its folder, which is its function's path, or of a definition;
+# whether that is what a tactic looked for and didn't find; and whether it is a name that is gone.
+OPEN = re.compile(r"note: src/\S+:\d+:\d+: (?:it is not proved that|`search` found no proof) ")
+WRONG = re.compile(r"(?:\./)?(?:proofs/(?:(\S+)/)?|specs/(?:\S+/)?)[\w+]+\.antt:\d+:\d+: error")
+SOUGHT = re.compile(r"`(?:search|grind|omega)`: (?:no proof of|the goal)|the goal fails at")
+OF_NAMES = re.compile(r"has no field|is not in scope|has no `|was not admitted")
 LIMITS = re.compile(r"ran out of (stack|the (steps|memory) that)|(outgrew the memory limit|stopped at the step limit) \(")
 
 
@@ -77,16 +92,27 @@ def function_at(lines, number):
     return f"{owner[2] or owner[3]}{owner[1] or ''}::{found[2]}" if owner else None
 
 
-def functions(texts):
-    """The paths of the functions that an edit changes, or none where something else is changed."""
+def module(path):
+    """The path of the module that a file of src/ is, and `::` where there is one."""
+    names = [it for it in path.removesuffix(".rt").split("/")[1:] if it not in ("lib", "main")]
+    return "".join(f"{name}::" for name in names)
+
+
+@cache
+def homes(crate):
+    """The module that declares each type of a crate, which is where the prover has its methods, by the type's name."""
+    files = sorted((crate / "src").rglob("*.rt"))
+    return {name: module(str(path.relative_to(crate))) for path in files for name in TYPE.findall(path.read_text())}
+
+
+def functions(crate, texts):
+    """The paths of the functions of a crate that an edit changes, or none where something else is changed."""
     found = []
     for path, (was, now) in texts.items():
-        module = "::".join(it for it in path.removesuffix(".rt").split("/")[1:] if it not in ("lib", "main"))
-        numbers = changed_lines(was, now)
-        names = [function_at(was.splitlines(), number) for number in numbers]
+        names = [function_at(was.splitlines(), number) for number in changed_lines(was, now)]
         if not path.startswith("src/") or not names or None in names:
             return []
-        found += [f"{module}::{name}" if module else name for name in names]
+        found += [homes(crate).get(name.split("::")[0] if "::" in name else "", module(path)) + name for name in names]
     return sorted(set(found))
 
 
@@ -113,16 +139,23 @@ def kit():
     return Path(subprocess.run(["rt", "doc"], capture_output=True, text=True, check=True).stdout.strip()).parent
 
 
+def refused_by(lines):
+    """What refused an edit of which a check says this, and the first line that says so."""
+    for came, says in ((CLAUSE, lambda line: OPEN.match(line) or SOUGHT.search(line)), (ANSWER, lambda line: not OF_NAMES.search(line))):
+        first = next(filter(says, lines), None)
+        if first:
+            return came, first
+    return NAME, lines[0]
+
+
 def verdict(status, lines):
-    """What a check says of an edit."""
-    told = [line for line in lines if NOT_SO.match(line)]
-    told = [line for line in told if ": error" in line or line.startswith("note: ")] or told
+    """What a check of one edit says of it."""
     last = lines[-1] if lines else ""
+    found = [line for line in lines if OPEN.match(line) or WRONG.match(line)]
     if status == 0:
         return PROVED, ""
-    if status == 1 and re.match(r"only=|logic=not-proved", last):
-        first = next((line for line in told if not OF_NAMES.match(line)), "")
-        return (CLAUSE if first or not told else NAME), first or (told[0] if told else "")
+    if status == 1 and found and re.match(r"only=|logic=not-proved", last):
+        return refused_by(found)
     if status == 3 and any(LIMITS.search(line) for line in lines):
         return LIMIT, next(line for line in lines if LIMITS.search(line))
     if status == 1 and any(re.search(r"\berror\[[\w-]+\]", line) for line in lines):
@@ -130,15 +163,100 @@ def verdict(status, lines):
     return UNKNOWN, f"its check ended with status {status}: {last}"
 
 
+def by_function(crate, lines):
+    """What a check says isn't right of each function of a crate."""
+    said, waiting, texts = {}, [], {}
+    for line in lines:
+        item, wrong = ITEM.match(line), WRONG.match(line)
+        if item:
+            said[item[1].removeprefix(f"{crate}::")] = waiting
+            waiting = []
+        elif OPEN.match(line):
+            waiting.append(line)
+        elif wrong and wrong[1]:
+            texts.setdefault(wrong[1].replace("/", "::"), []).append(line)
+    return {path: found + texts.get(path, []) for path, found in said.items()}
+
+
 def tried(edit):
     """Tries an edit: what became of it, and the first line that says why."""
     texts, why = applied(edit)
     if why:
         return BAD, why
-    crate, paths = edit.parent.parent.name, functions(texts)
+    crate = edit.parent.parent
+    paths = functions(crate, texts)
     if paths:
-        status, lines = check(crate, texts, paths)
-        came, why = verdict(status, lines)
-        if came in (CLAUSE, NAME, LIMIT):
+        came, why = verdict(*check(crate.name, texts, paths))
+        if came in (CLAUSE, ANSWER, NAME, LIMIT):
             return came, why
-    return verdict(*check(crate, texts, []))
+    return verdict(*check(crate.name, texts, []))
+
+
+def groups(edits):
+    """The edits of a crate in groups that can be tried together, no two of which change the same function."""
+    found, alone = [], []
+    changed = {edit: functions(edit.parent.parent, applied(edit)[0] or {}) for edit in edits}
+    for edit in sorted(edits, key=lambda edit: changed[edit]):
+        if not changed[edit]:
+            alone.append([edit])
+            continue
+        fits = (group for group in found if len(group) < TOGETHER and not any({*changed[it]} & {*changed[edit]} for it in group))
+        group = next(fits, None)
+        if group is None:
+            found.append([edit])
+        else:
+            group.append(edit)
+    return found + alone
+
+
+def merged(several):
+    """The texts of several edits of different lines as one edit."""
+    found = {}
+    for path, (was, now) in (pair for texts in several for pair in texts.items()):
+        lines = found.setdefault(path, (was, was))[1].splitlines(keepends=True)
+        for number in changed_lines(was, now):
+            lines[number] = now.splitlines(keepends=True)[number]
+        found[path] = was, "".join(lines)
+    return found
+
+
+def tried_together(group):
+    """Tries a group of edits, and gives what became of each, with why."""
+    if len(group) == 1:
+        return {group[0]: tried(group[0])}
+    crate, texts = group[0].parent.parent, {edit: applied(edit)[0] for edit in group}
+    paths = {edit: functions(crate, texts[edit]) for edit in group}
+    status, lines = check(crate.name, merged(texts.values()), sorted(path for edit in group for path in paths[edit]))
+    said = by_function(crate.name, lines)
+    if status != 1 or not said:
+        # One of them can't be read, or meets a limit.
+        half = len(group) // 2
+        return {**tried_together(group[:half]), **tried_together(group[half:])}
+    own = {edit: [line for path in paths[edit] for line in said.get(path, [])] for edit in group}
+    return {edit: refused_by(own[edit]) if own[edit] else tried(edit) for edit in group}
+
+
+SELF_TEST = """\
+./proofs/base/Base/accept/Answers.antt:21:59: error: `invariant_of-self`: record `After` has no field `number`
+./proofs/chain/kept/Answers.antt:8:37: error: `returns`: as printed, the two types differ only where one has `1`
+./proofs/chain/narrowed/Answers.antt:12:98: error: `returns`: `search`: no proof of `c.items ≡ few`
+note: src/base.rt:180:5: it is not proved that what the function ensures holds when it returns (`returns`)
+fn low::base::Base::is_broken: no proof: expected answers in ./proofs/base/Base/is_broken/Answers.antt; `search` did not prove `returns`
+fn low::base::Base::accept: not proved; it calls `low::base::Base::is_broken`, which is not proved
+fn low::base::Base::keep: no proof: it calls `low::base::Base::accept`, which is not proved
+fn low::chain::kept: not proved
+note: src/chain.rt:148:9: `search` found no proof (`invariant_of-self`); `search` gave up at one of its limits
+fn low::chain::Chain::begin: no proof: expected answers in ./proofs/chain/Chain/begin/Answers.antt; `search` did not prove `invariant_of-self`
+fn low::chain::narrowed: not proved
+fn low::chain::parts: proved
+only=7 proved=1"""
+
+
+def self_test():
+    """Whether what a check says of several edits is told of each."""
+    said = {path: lines and refused_by(lines)[0] for path, lines in by_function("low", SELF_TEST.splitlines()).items()}
+    wanted = {"base::Base::is_broken": CLAUSE, "base::Base::accept": NAME, "base::Base::keep": [], "chain::kept": ANSWER,
+              "chain::Chain::begin": CLAUSE, "chain::narrowed": CLAUSE, "chain::parts": []}
+    assert said == wanted, said
+    both = merged([{"src/a.rt": ("one\ntwo\n", "1\ntwo\n")}, {"src/a.rt": ("one\ntwo\n", "one\n2\n")}])
+    assert both == {"src/a.rt": ("one\ntwo\n", "1\n2\n")}, both
