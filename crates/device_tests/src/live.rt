@@ -145,29 +145,57 @@ fn serves_same(
     Ok(count == 7 && run(alloc, world, WAY)? == 7 && are_same(live.memory(), world.memory()))
 }
 
+/// Takes events that don't apply and serves two commands. Returns true if both memories have the same bytes throughout.
+fn go_alike(
+    alloc: Global,
+    live: &mut LiveWorld<GuestMem>,
+    world: &mut World,
+) -> Result<bool, NoMemory> {
+    Ok(
+        !moves_early(live)?
+            && are_same(live.memory(), world.memory())
+            && serves_same(alloc, live, world)?
+            && serves_same(alloc, live, world)?,
+    )
+}
+
+/// Opens a device on a memory with the bytes of another's. Returns true if both go alike.
+fn follows(alloc: Global, world: &mut World) -> Result<bool, Fail> {
+    let mut live = open(alloc, NUMBERS, copy(alloc, world.memory())?)?;
+    Ok(go_alike(alloc, &mut live, world)?)
+}
+
+/// Returns true if the available index, a descriptor and the request of the READ were loaded, and are others now.
+fn was_changed(bytes: &GuestMem) -> bool {
+    has(bytes, 9218, &[0x82, 0])
+        && has(bytes, 8192, &[0x80, 0x60])
+        && has(bytes, 24576, &[0x81, 0, 0x40])
+}
+
+/// Returns true if the READ was answered, with GOOD, by 620 bytes.
+fn was_served(bytes: &GuestMem) -> bool {
+    has(bytes, 10242, &[1, 0, 0, 0, 0, 0, 0x6c, 2, 0, 0]) && has(bytes, 24640, &[0; 12])
+}
+
+/// Returns a memory in which a guest made a READ available.
+fn sent(alloc: Global) -> Result<GuestMem, Fail> {
+    let world = begun(alloc)?;
+    Ok(copy(alloc, world.memory())?)
+}
+
 #[test]
 fn serves_memory_that_stands_still(rt: HostRuntime) -> Result<(), Fail> {
     let mut world = begun(rt.alloc())?;
-    let mut live = open(rt.alloc(), NUMBERS, copy(rt.alloc(), world.memory())?)?;
-    assert!(rt; !moves_early(&mut live)?);
-    assert!(rt; are_same(live.memory(), world.memory()));
-    assert!(rt; serves_same(rt.alloc(), &mut live, &mut world)?);
-    assert!(rt; serves_same(rt.alloc(), &mut live, &mut world)?);
+    let goes = follows(rt.alloc(), &mut world)?;
+    assert!(rt; goes);
     Ok(())
 }
 
 #[test]
 fn serves_memory_that_changes(rt: HostRuntime) -> Result<(), Fail> {
-    let world = begun(rt.alloc())?;
-    let mut bytes = copy(rt.alloc(), world.memory())?;
-    assert_eq!(rt; serve_over(rt.alloc(), &mut bytes)?, 7);
-    // The available index, a descriptor and the request were loaded, and are others now.
-    assert!(rt; has(&bytes, 9218, &[0x82, 0]));
-    assert!(rt; has(&bytes, 8192, &[0x80, 0x60]));
-    assert!(rt; has(&bytes, 24576, &[0x81, 0, 0x40]));
-    // The READ was answered, with GOOD, by 620 bytes.
-    assert!(rt; has(&bytes, 10242, &[1, 0, 0, 0, 0, 0, 0x6c, 2, 0, 0]));
-    assert!(rt; has(&bytes, 24640, &[0; 12]));
+    let mut bytes = sent(rt.alloc())?;
+    let count = serve_over(rt.alloc(), &mut bytes)?;
+    assert!(rt; count == 7 && was_changed(&bytes) && was_served(&bytes));
     Ok(())
 }
 
