@@ -9,6 +9,8 @@ mod disks;
 #[cfg(test)]
 mod guest;
 #[cfg(test)]
+mod live;
+#[cfg(test)]
 mod moves;
 #[cfg(test)]
 mod opening;

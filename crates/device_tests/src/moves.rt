@@ -52,7 +52,7 @@ fn event(alloc: Global, named: Move) -> Result<Event, NoMemory> {
 }
 
 /// Returns the events that moves name.
-fn events(alloc: Global, moves: &[Move]) -> Result<Vec<Event>, NoMemory> {
+pub(crate) fn events(alloc: Global, moves: &[Move]) -> Result<Vec<Event>, NoMemory> {
     let mut events = Vec::new(alloc);
     for named in moves {
         let event = event(alloc, *named)?;
