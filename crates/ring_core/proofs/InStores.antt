@@ -4,7 +4,7 @@ use Rattle.std.proofs.Math.Nat.{min_comm}
 use Rattle.std.proofs.lemmas.Bool.{cases_lt, lt-ltb, le-ltb}
 use Rattle.std.proofs.lemmas.List.{drop_all, take_all, take-append-le, drop-append-le, length-drop, at_drop_more, drop_min}
 use Rattle.guest_mem.specs.Stores.{Store, stores_at}
-use Rattle.ring_core.specs.Writes.{scatter_writes, stores_of}
+use Rattle.ring_core.specs.Writes.{Write, scatter_writes, stores_of}
 use Rattle.ring_core.specs.declared.descriptor.Part.{Part}
 use Rattle.ring_core.proofs.Scattering.{true_or_false, no_writes, take_over, drop_over}
 
@@ -141,3 +141,15 @@ module _ {S : Type 0} (storing : S → List Store → S) (both : (s : S) (a b : 
   -- some, and others behind them
   pub in_turn : (s s₁ s₂ : S) (a b c : List Store) → s₁ ≡ storing s a → s₂ ≡ storing s₁ b → a ++ b ≡ c → s₂ ≡ storing s c
   in_turn s s₁ s₂ a b c is then all = then ∙ ap (λ (u : S). storing u b) is ∙ both s a b ∙ ap (storing s) all
+
+  -- one write
+  pub one_made : (s s₁ : S) (w : Write) (ws : List Write) → s₁ ≡ storing s (stores_at w.addr w.bytes) → ws ≡ w ∷ [] → s₁ ≡ storing s (stores_of ws)
+  one_made s s₁ w ws is are = is ∙ ap (storing s) (sym (append-nil (stores_at w.addr w.bytes))) ∙ ap (λ (vs : List Write). storing s (stores_of vs)) (sym are)
+
+  -- two writes, one behind the other
+  pub two_made : (s s₁ s₂ : S) (w v : Write) (ws : List Write) → s₁ ≡ storing s (stores_at w.addr w.bytes) → s₂ ≡ storing s₁ (stores_at v.addr v.bytes)
+      → ws ≡ w ∷ v ∷ [] → s₂ ≡ storing s (stores_of ws)
+  two_made s s₁ s₂ w v ws is then are =
+      in_turn s s₁ s₂ (stores_at w.addr w.bytes) (stores_at v.addr v.bytes) (stores_of (w ∷ v ∷ [])) is then
+      (ap (λ (ss : List Store). stores_at w.addr w.bytes ++ ss) (sym (append-nil (stores_at v.addr v.bytes))))
+      ∙ ap (λ (vs : List Write). storing s (stores_of vs)) (sym are)
