@@ -1,7 +1,8 @@
 //! What the device asks of a guest's memory, whether it stands still or changes while the guest runs.
 
-ghost use Rattle.std.specs.Prelude.{◌≡◌, ◌+◌, ◌≤◌, ◌^◌, Bool, false, List, ℕ, length, OnOk, ◌++◌};
+ghost use Rattle.std.specs.Prelude.{◌≡◌, ◌+◌, ◌≤◌, ◌^◌, Bool, false, [], List, ℕ, length, OnOk, ◌++◌};
 ghost use Rattle.guest_mem.specs.Memory.{bytes_at, with_bytes, LiesIn};
+ghost use Rattle.guest_mem.specs.Stores.{Store, stores_at};
 
 use std::alloc::AllocError;
 
@@ -24,11 +25,21 @@ pub trait Memory {
     /// Says that others may write the memory too: between two phases, and within one.
     ghost shared: { Bool };
 
+    /// Is what the memory knows of all that was stored in it.
+    ghost Stores: { Type 0 };
+
+    /// Says what it knows of that now.
+    ghost stored: { Self → Stores };
+
+    /// Says what it knows of that once these bytes were stored besides, in this order.
+    ghost storing: { Stores → List Store → Stores };
+
     /// Begins a phase: forgets what was read before, which may have changed.
     fn begin(&mut self)
         ensures size { extent self.new ≡ extent self.old }
         ensures reading { is_open self.new }
-        ensures begun { begins self.old self.new };
+        ensures begun { begins self.old self.new }
+        ensures stores { stored self.new ≡ stored self.old };
 
     /// Returns how many bytes there are, at most 2^52. There always is a list that the memory may be.
     fn size(&self) -> u64
@@ -43,6 +54,7 @@ pub trait Memory {
         ensures reading { is_open self.new }
         ensures size { extent self.new ≡ extent self.old }
         ensures stays { (m : List ℕ) → may_be self.new m → may_be self.old m }
+        ensures stores { stored self.new ≡ stored self.old }
         ensures read { (m : List ℕ) → may_be self.new m → out.new ≡ bytes_at m addr (length out.old) };
 
     /// Reads `len` bytes from `addr` on, and appends them to `out`. Called as `read` is. An error where memory for them is refused.
@@ -52,6 +64,7 @@ pub trait Memory {
         ensures reading { is_open self.new }
         ensures size { extent self.new ≡ extent self.old }
         ensures stays { (m : List ℕ) → may_be self.new m → may_be self.old m }
+        ensures stores { stored self.new ≡ stored self.old }
         ensures len { OnOk result (length out.new.items ≡ length out.old.items + len) }
         ensures read { OnOk result ((m : List ℕ) → may_be self.new m
             → out.new.items ≡ out.old.items ++ bytes_at m addr len) };
@@ -64,6 +77,12 @@ pub trait Memory {
 
     /// Proves that the memory is of one list of bytes, where nobody else may write.
     ghost one: { (x : Self) (m n : List ℕ) → shared ≡ false → may_be x m → may_be x n → m ≡ n };
+
+    /// Proves that no stores change nothing of what it knows.
+    ghost none: { (s : Stores) → storing s [] ≡ s };
+
+    /// Proves that stores behind others are known as all of them in order.
+    ghost both: { (s : Stores) (a b : List Store) → storing (storing s a) b ≡ storing s (a ++ b) };
 }
 
 /// Writes a guest's memory too, behind what a phase reads.
@@ -73,5 +92,6 @@ pub trait WritableMemory: Memory {
         requires inside { LiesIn (Self.extent self.old) addr (length bytes.now) }
         ensures size { Self.extent self.new ≡ Self.extent self.old }
         ensures written { (m : List ℕ) → Self.may_be self.new m
-            → (before : List ℕ) × Self.may_be self.old before × (m ≡ with_bytes before addr bytes.now) };
+            → (before : List ℕ) × Self.may_be self.old before × (m ≡ with_bytes before addr bytes.now) }
+        ensures stores { Self.stored self.new ≡ Self.storing (Self.stored self.old) (stores_at addr bytes.now) };
 }

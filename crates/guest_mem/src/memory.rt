@@ -2,7 +2,8 @@
 
 ghost use Rattle.std.specs.Prelude.{◌≡◌, ◌+◌, ◌*◌, ◌≤◌, ◌<◌, ◌^◌, List, ℕ, length, replicate, IfOk, OnOk, OnErr, IsOk, IfErr, ◌↔◌, ⊤, false};
 ghost use Rattle.guest_mem.specs.Memory.{bytes_at, with_bytes, LiesIn};
-ghost use Rattle.std.proofs.Common.{ap, sym, ◌∙◌};
+ghost use Rattle.guest_mem.specs.Stores.{all_stored, stored_in_order};
+ghost use Rattle.std.proofs.Common.{ap, sym, refl, ◌∙◌};
 
 use crate::access::{Memory, WritableMemory};
 use std::alloc::{AllocError, Global};
@@ -163,6 +164,12 @@ impl Memory for GuestMem {
 
     ghost shared = { false };
 
+    ghost Stores = { List ℕ };
+
+    ghost stored = { λ x. x };
+
+    ghost storing = { all_stored };
+
     #[inline(always)]
     fn begin(&mut self) {}
 
@@ -186,10 +193,15 @@ impl Memory for GuestMem {
     ghost own = { λ x y m alone begun e. e ∙ begun };
 
     ghost one = { λ x m n alone a b. a ∙ sym b };
+
+    ghost none = { λ s. refl };
+
+    ghost both = { stored_in_order };
 }
 
 impl WritableMemory for GuestMem {
     #[inline(always)]
+    #[tactic(auto, using(crate::proofs::Storing::stored_whole))]
     fn write(&mut self, addr: u64, bytes: &[u8]) {
         self.put(addr, bytes);
     }
@@ -222,6 +234,12 @@ impl<'a> Memory for StillMem<'a> {
 
     ghost shared = { false };
 
+    ghost Stores = { List ℕ };
+
+    ghost stored = { λ x. x.memory.now };
+
+    ghost storing = { all_stored };
+
     #[inline(always)]
     fn begin(&mut self) {}
 
@@ -245,4 +263,8 @@ impl<'a> Memory for StillMem<'a> {
     ghost own = { λ x y m alone begun e. e ∙ ap (λ k. k.memory.now) begun };
 
     ghost one = { λ x m n alone a b. a ∙ sym b };
+
+    ghost none = { λ s. refl };
+
+    ghost both = { stored_in_order };
 }

@@ -1,7 +1,8 @@
 -- What was asked of a bus, the latest first, and what the latest phase knows by it: the bytes that it loaded, and the bytes
 -- that it stored. A phase begins at the latest Begins.
-use Rattle.std.specs.Prelude.{ℕ, ◌≡◌, ◌+◌, ◌-◌, ◌<◌, ◌&&◌, nat_le, nat_lt, Bool, true, false, cond, List, [], ◌∷◌, length, get_or}
+use Rattle.std.specs.Prelude.{ℕ, ◌≡◌, ◌+◌, ◌-◌, ◌<◌, ◌&&◌, nat_le, nat_lt, Bool, true, false, cond, List, [], ◌∷◌, ◌++◌, length, get_or}
 use Rattle.guest_mem.specs.Memory.{with_bytes}
+use Rattle.guest_mem.specs.Stores.{Store, stores_at}
 
 pub data Access : Type 0 where
   Begins : Access
@@ -26,6 +27,13 @@ stored [] m = m
 stored (Begins ∷ past) m = m
 stored (Loads a bs ∷ past) m = stored past m
 stored (Stores a bs ∷ past) m = with_bytes (stored past m) a bs
+
+-- all that was stored, the first one first, in whatever phase
+abbrev pub all_stores : List Access → List Store
+all_stores [] = []
+all_stores (Begins ∷ past) = all_stores past
+all_stores (Loads a bs ∷ past) = all_stores past
+all_stores (Stores a bs ∷ past) = all_stores past ++ stores_at a bs
 
 -- each element is a byte
 abbrev pub AreBytes : List ℕ → Type 0

@@ -2,9 +2,11 @@
 
 ghost use Rattle.std.specs.Prelude.{ℕ, ◌≡◌, ◌+◌, ◌<◌, ◌≤◌, ◌^◌, ◌++◌, ◌∷◌, [], List, length, get_or, true, false, IfOk, OnOk};
 ghost use Rattle.guest_mem.specs.Memory.{bytes_at, with_bytes, LiesIn};
-ghost use Rattle.live_mem.specs.Access.{Access, loaded, stored, AreBytes, Asks, LoadsThere, MayBe, StoredNothing};
+ghost use Rattle.guest_mem.specs.Stores.{Store, stores_at};
+ghost use Rattle.live_mem.specs.Access.{Access, loaded, stored, all_stores, AreBytes, Asks, LoadsThere, MayBe, StoredNothing};
 ghost use Rattle.live_mem.specs.Heard.{heard};
 ghost use Rattle.live_mem.specs.Kept.{valued};
+ghost use Rattle.std.proofs.Common.{append-nil, append_assoc};
 ghost use Rattle.std.proofs.lemmas.Bool.{true≢false};
 
 use crate::bus::Bus;
@@ -88,6 +90,7 @@ impl<B: Bus> LiveMem<B> {
         requires room { HasRoom self.old 1 (length out.old) }
         ensures len { length out.new ≡ length out.old }
         ensures loads { LoadsThere (heard self.old.bus) (heard self.new.bus) addr out.new }
+        ensures stores { all_stores (heard self.new.bus) ≡ all_stores (heard self.old.bus) }
         ensures size { self.new.size ≡ self.old.size }
         ensures room { (reads bytes : ℕ) → HasRoom self.old (reads + 1) (bytes + length out.old) → HasRoom self.new reads bytes }
         ensures blind { self.new.blind ≡ self.old.blind }
@@ -106,6 +109,7 @@ impl<B: Bus> LiveMem<B> {
         ensures size { self.new.size ≡ self.old.size }
         ensures reading { StoredNothing (heard self.new.bus) }
         ensures stays { (m : List ℕ) → MayBeLive self.new m → MayBeLive self.old m }
+        ensures stores { all_stores (heard self.new.bus) ≡ all_stores (heard self.old.bus) }
         ensures read { (m : List ℕ) → MayBeLive self.new m → out.new ≡ bytes_at m addr (length out.old) }
         ensures asks { Asks (heard self.old.bus) (heard self.new.bus) addr (length out.old) self.new.blind }
         ensures sees { HasRoom self.old 1 (length out.old) → self.new.blind ≡ self.old.blind }
@@ -123,7 +127,7 @@ impl<B: Bus> LiveMem<B> {
 }
 
 impl<B: Bus> Memory for LiveMem<B> {
-    ghost use Rattle.live_mem.specs.Live.{MayBeLive};
+    ghost use Rattle.live_mem.specs.Live.{MayBeLive, stored_live};
     ghost use Rattle.live_mem.specs.Room.{HasRoom};
 
     ghost may_be = { λ x m. MayBe x.size (heard x.bus) x.blind m };
@@ -136,9 +140,16 @@ impl<B: Bus> Memory for LiveMem<B> {
 
     ghost shared = { true };
 
+    ghost Stores = { List Store };
+
+    ghost stored = { λ x. all_stores (heard x.bus) };
+
+    ghost storing = { λ ss more. ss ++ more };
+
     fn begin(&mut self)
         ensures size { self.new.size ≡ self.old.size }
         ensures reading { StoredNothing (heard self.new.bus) }
+        ensures stores { stored_live self.new ≡ stored_live self.old }
         ensures begun { heard self.new.bus ≡ Access.Begins ∷ heard self.old.bus }
         ensures sees { self.new.blind ≡ false }
         ensures room { (reads bytes : ℕ) → HasRoom self.old reads bytes → HasRoom self.new reads bytes }
@@ -160,6 +171,7 @@ impl<B: Bus> Memory for LiveMem<B> {
         ensures reading { StoredNothing (heard self.new.bus) }
         ensures size { self.new.size ≡ self.old.size }
         ensures stays { (m : List ℕ) → MayBeLive self.new m → MayBeLive self.old m }
+        ensures stores { stored_live self.new ≡ stored_live self.old }
         ensures read { (m : List ℕ) → MayBeLive self.new m → out.new ≡ bytes_at m addr (length out.old) }
         ensures asks { Asks (heard self.old.bus) (heard self.new.bus) addr (length out.old) self.new.blind }
         ensures sees { HasRoom self.old 1 (length out.old) → self.new.blind ≡ self.old.blind }
@@ -175,6 +187,7 @@ impl<B: Bus> Memory for LiveMem<B> {
         ensures reading { StoredNothing (heard self.new.bus) }
         ensures size { self.new.size ≡ self.old.size }
         ensures stays { (m : List ℕ) → MayBeLive self.new m → MayBeLive self.old m }
+        ensures stores { stored_live self.new ≡ stored_live self.old }
         ensures len { OnOk result (length out.new.items ≡ length out.old.items + len) }
         ensures read { OnOk result ((m : List ℕ) → MayBeLive self.new m → out.new.items ≡ out.old.items ++ bytes_at m addr len) }
         ensures asks { OnOk result (Asks (heard self.old.bus) (heard self.new.bus) addr len self.new.blind) }
@@ -192,16 +205,21 @@ impl<B: Bus> Memory for LiveMem<B> {
     ghost own = { λ x y m alone begun b. absurd (true≢false alone) };
 
     ghost one = { λ x m n alone a b. absurd (true≢false alone) };
+
+    ghost none = { append-nil };
+
+    ghost both = { append_assoc };
 }
 
 impl<B: Bus> WritableMemory for LiveMem<B> {
-    ghost use Rattle.live_mem.specs.Live.{MayBeLive};
+    ghost use Rattle.live_mem.specs.Live.{MayBeLive, stored_live};
 
     fn write(&mut self, addr: u64, bytes: &[u8])
         requires inside { LiesIn self.old.size addr (length bytes.now) }
         ensures size { self.new.size ≡ self.old.size }
         ensures written { (m : List ℕ) → MayBeLive self.new m
             → (before : List ℕ) × MayBeLive self.old before × (m ≡ with_bytes before addr bytes.now) }
+        ensures adds { stored_live self.new ≡ stored_live self.old ++ stores_at addr bytes.now }
         ensures stores { heard self.new.bus ≡ Access.Stores addr bytes.now ∷ heard self.old.bus }
     {
         self.bus.store(addr, bytes);

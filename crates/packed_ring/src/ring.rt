@@ -108,6 +108,7 @@ impl PackedRing {
         requires fits { M.extent memory.old ≡ self.now.memory }
         ensures size { M.extent memory.new ≡ M.extent memory.old }
         ensures stays { (m : List ℕ) → M.may_be memory.new m → M.may_be memory.old m }
+        ensures stores { M.stored memory.new ≡ M.stored memory.old }
         ensures reading { M.is_open memory.new }
         ensures next { (m : List ℕ) → M.may_be memory.new m → result ≡ is_available_in self.now m }
     {
@@ -124,6 +125,7 @@ impl PackedRing {
         requires some { (m : List ℕ) → M.may_be memory.old m → is_available_in self.old m ≡ true }
         ensures size { M.extent memory.new ≡ M.extent memory.old }
         ensures stays { (m : List ℕ) → M.may_be memory.new m → M.may_be memory.old m }
+        ensures stores { M.stored memory.new ≡ M.stored memory.old }
         ensures reading { M.is_open memory.new }
         ensures finds { (m : List ℕ) → M.may_be memory.new m → PackedFinds self.old m result }
         ensures same { self.new ≡ self.old }
@@ -144,6 +146,7 @@ impl PackedRing {
         requires empty { draft ≡ [] }
         ensures size { M.extent memory.new ≡ M.extent memory.old }
         ensures stays { (m : List ℕ) → M.may_be memory.new m → M.may_be memory.old m }
+        ensures stores { M.stored memory.new ≡ M.stored memory.old }
         ensures reading { M.is_open memory.new }
         ensures finds { (m : List ℕ) → M.may_be memory.new m → PackedFinds self.now m result }
     {
@@ -172,6 +175,7 @@ impl PackedRing {
         requires some { (m : List ℕ) → M.may_be memory.old m → is_available_in self.old m ≡ true }
         ensures size { M.extent memory.new ≡ M.extent memory.old }
         ensures stays { (m : List ℕ) → M.may_be memory.new m → M.may_be memory.old m }
+        ensures stores { M.stored memory.new ≡ M.stored memory.old }
         ensures reading { M.is_open memory.new }
         ensures fetches { (m : List ℕ) → M.may_be memory.new m → Fetches self.old m result self.new }
     {
@@ -197,6 +201,7 @@ impl PackedRing {
         requires found { (m : List ℕ) → M.may_be memory.old m → PackedOffers self.old m (Found candidate.id candidate.slots candidate.draft) }
         ensures size { M.extent memory.new ≡ M.extent memory.old }
         ensures stays { (m : List ℕ) → M.may_be memory.new m → M.may_be memory.old m }
+        ensures stores { M.stored memory.new ≡ M.stored memory.old }
         ensures reading { M.is_open memory.new }
         ensures fetches { (m : List ℕ) → M.may_be memory.new m → Fetches self.old m result self.new }
     {

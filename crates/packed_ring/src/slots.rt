@@ -2,6 +2,7 @@
 
 ghost use Rattle.std.specs.Prelude.{◌≡◌, ◌+◌, ◌*◌, ◌%◌, ◌<◌, ◌≤◌, ◌^◌, ◌++◌, ◌&&◌, not, cond, List, ℕ};
 ghost use Rattle.guest_mem.specs.Memory.{bytes_at, with_bytes};
+ghost use Rattle.guest_mem.specs.Stores.{stores_at};
 ghost use Rattle.byteorder.specs.Endian.{little_number, little_bytes};
 ghost use Rattle.ring_core.specs.Packed.{slot_at, packed_descriptor, passed_at as passed_at_index, names_one as names_one_of, wrap_counter, avail_bit, used_bit, used_flags};
 
@@ -25,6 +26,7 @@ pub(crate) fn number_at<M: Memory>(memory: &mut M, addr: u64) -> u16
     requires fits { addr + 2 ≤ M.extent memory.old }
     ensures size { M.extent memory.new ≡ M.extent memory.old }
     ensures stays { (m : List ℕ) → M.may_be memory.new m → M.may_be memory.old m }
+    ensures stores { M.stored memory.new ≡ M.stored memory.old }
     ensures reading { M.is_open memory.new }
     ensures number { (m : List ℕ) → M.may_be memory.new m → result ≡ little_number 2 (bytes_at m addr 2) }
 {
@@ -96,6 +98,7 @@ fn read_descriptor<M: Memory>(memory: &mut M, addr: u64) -> Descriptor
     requires fits { addr + 16 ≤ M.extent memory.old }
     ensures size { M.extent memory.new ≡ M.extent memory.old }
     ensures stays { (m : List ℕ) → M.may_be memory.new m → M.may_be memory.old m }
+    ensures stores { M.stored memory.new ≡ M.stored memory.old }
     ensures reading { M.is_open memory.new }
     ensures descriptor { (m : List ℕ) → M.may_be memory.new m → result ≡ packed_descriptor (bytes_at m addr 16) }
 {
@@ -118,6 +121,7 @@ pub(crate) fn in_slot<M: Memory>(memory: &mut M, layout: &Layout, slot: u16) -> 
     requires small { M.extent memory.old ≤ 2 ^ 52 }
     ensures size { M.extent memory.new ≡ M.extent memory.old }
     ensures stays { (m : List ℕ) → M.may_be memory.new m → M.may_be memory.old m }
+    ensures stores { M.stored memory.new ≡ M.stored memory.old }
     ensures reading { M.is_open memory.new }
     ensures descriptor { (m : List ℕ) → M.may_be memory.new m → result ≡ packed_descriptor (bytes_at m (layout.now.desc + 16 * slot) 16) }
 {
@@ -132,6 +136,7 @@ pub(crate) fn descriptor_at<M: Memory>(memory: &mut M, layout: &Layout, passed: 
     requires small { M.extent memory.old ≤ 2 ^ 52 }
     ensures size { M.extent memory.new ≡ M.extent memory.old }
     ensures stays { (m : List ℕ) → M.may_be memory.new m → M.may_be memory.old m }
+    ensures stores { M.stored memory.new ≡ M.stored memory.old }
     ensures reading { M.is_open memory.new }
     ensures descriptor { (m : List ℕ) → M.may_be memory.new m → result ≡ slot_at layout.now m passed }
 {
@@ -145,6 +150,7 @@ pub(crate) fn entry_at<M: Memory>(memory: &mut M, addr: u64, place: u32) -> Desc
     requires small { M.extent memory.old ≤ 2 ^ 52 }
     ensures size { M.extent memory.new ≡ M.extent memory.old }
     ensures stays { (m : List ℕ) → M.may_be memory.new m → M.may_be memory.old m }
+    ensures stores { M.stored memory.new ≡ M.stored memory.old }
     ensures reading { M.is_open memory.new }
     ensures descriptor { (m : List ℕ) → M.may_be memory.new m → result ≡ packed_descriptor (bytes_at m (addr + 16 * place) 16) }
 {
@@ -193,6 +199,8 @@ pub(crate) fn put_used<M: WritableMemory>(memory: &mut M, addr: u64, len: u32, i
     requires { addr + 8 ≤ M.extent memory.old }
     ensures memory { (m : List ℕ) → M.may_be memory.new m → (m₀ : List ℕ) × M.may_be memory.old m₀
         × (m ≡ with_bytes m₀ addr (little_bytes 4 len ++ little_bytes 2 id ++ little_bytes 2 flags)) }
+    ensures stores { M.stored memory.new
+        ≡ M.storing (M.stored memory.old) (stores_at addr (little_bytes 4 len ++ little_bytes 2 id ++ little_bytes 2 flags)) }
     ensures size { M.extent memory.new ≡ M.extent memory.old }
 {
     let mut bytes = [0; 8];

@@ -59,6 +59,7 @@ pub(crate) fn fault_without_room<M: Memory>(
     requires small { M.extent memory.old ≤ 2 ^ 52 }
     ensures size { M.extent memory.new ≡ M.extent memory.old }
     ensures stays { (m : List ℕ) → M.may_be memory.new m → M.may_be memory.old m }
+    ensures stores { M.stored memory.new ≡ M.stored memory.old }
     ensures reading { M.is_open memory.new }
     ensures fails { (m : List ℕ) → M.may_be memory.new m → PackedFailsOrLacks features m layout.now passed result }
 {
@@ -88,6 +89,7 @@ fn walk_table<M: Memory>(
     requires total { first.total ≤ 2 ^ 32 }
     ensures size { M.extent memory.new ≡ M.extent memory.old }
     ensures stays { (m : List ℕ) → M.may_be memory.new m → M.may_be memory.old m }
+    ensures stores { M.stored memory.new ≡ M.stored memory.old }
     ensures reading { M.is_open memory.new }
     ensures walked { (m : List ℕ) → M.may_be memory.new m → MatchResult result
         (λ parts. EndsInTable m named first draft parts)
@@ -128,6 +130,7 @@ pub(crate) fn walk<M: Memory>(
     requires empty { draft ≡ [] }
     ensures size { M.extent memory.new ≡ M.extent memory.old }
     ensures stays { (m : List ℕ) → M.may_be memory.new m → M.may_be memory.old m }
+    ensures stores { M.stored memory.new ≡ M.stored memory.old }
     ensures reading { M.is_open memory.new }
     ensures walked { (m : List ℕ) → M.may_be memory.new m → MatchResult result
         (λ found. IsFound features m layout.now passed found)

@@ -1,15 +1,17 @@
 -- Bytes over the writable parts of a chain, where they all lie in the first of these.
-use Rattle.std.proofs.Common.{◌≡◌, ℕ, ◌+◌, ◌-◌, ◌<◌, ◌≤◌, true, false, cond, List, [], ◌∷◌, ◌++◌, length, take, drop, Some, None, refl, sym, ◌∙◌, ap, subst, arith}
+use Rattle.std.proofs.Common.{◌≡◌, ℕ, ◌+◌, ◌-◌, ◌<◌, ◌≤◌, true, false, cond, List, [], ◌∷◌, ◌++◌, length, take, drop, Some, None, refl, sym, ◌∙◌, ap, subst, arith, append-nil}
 use Rattle.std.proofs.lemmas.Bool.Decides.{nat_tests}
 use Rattle.std.proofs.lemmas.Grind.{common_steps}
 use Rattle.std.proofs.lemmas.List.{take-append-drop, drop_all, take_all}
 use Rattle.std.proofs.lemmas.List.Elements.{All-head, All-tail}
 use Rattle.std.specs.List.{AllPass}
 use Rattle.guest_mem.specs.Memory.{with_bytes}
+use Rattle.guest_mem.specs.Stores.{Store, stores_at}
 use Rattle.ring_core.specs.Parts.{PartsFit, inside}
-use Rattle.ring_core.specs.Writes.{all_written, scatter_writes}
+use Rattle.ring_core.specs.Writes.{all_written, scatter_writes, stores_of}
 use Rattle.ring_core.specs.declared.descriptor.Part.{Part}
 use Rattle.ring_core.proofs.Scattering.{scattered, scatter_nothing, scattered_into, scattered_over, scatter_in_two_lem}
+use Rattle.ring_core.proofs.InStores.{in_stores, stores_none, stores_into, stores_over}
 use Rattle.queues.specs.FirstPart.{first_open}
 
 some_same : (p q : Part) → Some p ≡ Some q → p ≡ q
@@ -71,3 +73,36 @@ all_in size (q ∷ ps) p all is =
 pub first_lies_in : (size : ℕ) (parts : List Part) (p : Part) → PartsFit size parts → first_open parts ≡ Some p → 0 < p.len
     → p.addr + p.len ≤ size
 first_lies_in size parts p fit is some = lies_in size p (all_in size parts p fit.inside is) some
+
+-- As stores:
+-- the part is filled from a byte of it on
+stores_there_into : (p : Part) (ps : List Part) (at : ℕ) (bs : List ℕ) → p.writable ≡ true → at + length bs ≤ p.len
+    → in_stores (p ∷ ps) at bs ≡ stores_at (p.addr + at) bs
+stores_there_into p ps at [] w le = stores_none (p ∷ ps) at
+stores_there_into p ps at (b ∷ bs) w le =
+    let t : take (p.len - at) (b ∷ bs) ≡ b ∷ bs = take_all (p.len - at) (b ∷ bs) (omega arith) in
+    let d : drop (p.len - at) (b ∷ bs) ≡ [] = drop_all (p.len - at) (b ∷ bs) (omega arith) in
+    stores_into p ps at (b ∷ bs) w (omega arith)
+    ∙ ap (λ (x : List ℕ). stores_at (p.addr + at) x ++ in_stores ps 0 (drop (p.len - at) (b ∷ bs))) t
+    ∙ ap (λ (x : List ℕ). stores_at (p.addr + at) (b ∷ bs) ++ in_stores ps 0 x) d
+    ∙ ap (λ (ss : List Store). stores_at (p.addr + at) (b ∷ bs) ++ ss) (stores_none ps 0)
+    ∙ append-nil (stores_at (p.addr + at) (b ∷ bs))
+
+stores_there : (parts : List Part) (p : Part) (at : ℕ) (bs : List ℕ) → first_open parts ≡ Some p
+    → at + length bs ≤ p.len → in_stores parts at bs ≡ stores_at (p.addr + at) bs
+stores_there [] p at bs is le = absurd (nothing is)
+stores_there (q ∷ ps) p at bs is le =
+    (elim q.writable as (λ b. (q.writable ≡ b) → cond b (Some q) (first_open ps) ≡ Some p
+    → in_stores (q ∷ ps) at bs ≡ stores_at (p.addr + at) bs) [
+      | true ↦ λ w e.
+          let same : q ≡ p = some_same q p e in
+          stores_there_into q ps at bs w (subst (λ (r : Part). at + length bs ≤ r.len) (sym same) le)
+          ∙ ap (λ (r : Part). stores_at (r.addr + at) bs) same
+      | false ↦ λ r e. stores_over q ps at bs r ∙ stores_there ps p at bs e le
+    ]) refl is
+
+-- bytes that lie in the first writable part
+pub stores_whole : (parts : List Part) (p : Part) (bs : List ℕ) → first_open parts ≡ Some p → length bs ≤ p.len
+    → stores_at p.addr bs ≡ stores_of (scatter_writes parts 0 bs)
+stores_whole parts p bs is le =
+    ap (λ (x : ℕ). stores_at x bs) (let e : p.addr ≡ p.addr + 0 = omega arith in e) ∙ sym (stores_there parts p 0 bs is (omega (arith, le)))

@@ -129,7 +129,7 @@ impl Queue {
     ghost use Rattle.queues.specs.Queue.{opening_queue, placement_of, completing, MayComplete};
     ghost use Rattle.ring_core.specs.State.{Owns, features_of};
     ghost use Rattle.ring_core.specs.Sound.{IsSound, IsLeastOutstanding, outstanding_count};
-    ghost use Rattle.ring_core.specs.Writes.{Wrote, all_written};
+    ghost use Rattle.ring_core.specs.Writes.{Wrote, all_written, stores_of};
     ghost use Rattle.ring_core.specs.Offer.{used_writes};
     ghost use Rattle.queues.specs.Looking.{IsIdle, Looks};
     ghost use Rattle.queues.specs.Completing.{SeenBehind};
@@ -207,6 +207,7 @@ impl Queue {
         requires fits { M.extent memory.old ≡ self.now.ring.memory }
         ensures size { M.extent memory.new ≡ M.extent memory.old }
         ensures stays { (m : List ℕ) → M.may_be memory.new m → M.may_be memory.old m }
+        ensures stores { M.stored memory.new ≡ M.stored memory.old }
         ensures reading { M.is_open memory.new }
         ensures idle { (m : List ℕ) → M.may_be memory.new m → (IsTrue result ↔ IsIdle self.now.ring m) }
     {
@@ -233,6 +234,7 @@ impl Queue {
         requires fits { M.extent memory.old ≡ self.old.ring.memory }
         ensures size { M.extent memory.new ≡ M.extent memory.old }
         ensures stays { (m : List ℕ) → M.may_be memory.new m → M.may_be memory.old m }
+        ensures stores { M.stored memory.new ≡ M.stored memory.old }
         ensures reading { M.is_open memory.new }
         ensures looks { (m : List ℕ) → M.may_be memory.new m → Looks self.old m result self.new }
     {
@@ -284,6 +286,8 @@ impl Queue {
         ensures reading { M.is_open memory.new }
         ensures queue { (m : List ℕ) → M.may_be memory.new m → self.new ≡ completing m chain self.old }
         ensures seen { SeenBehind M.shared (M.may_be memory.old) (M.may_be memory.new) (used_writes self.old.ring chain.id len) }
+        ensures stores { M.stored memory.new
+            ≡ M.storing (M.stored memory.old) (stores_of (used_writes self.old.ring chain.id len)) }
     {
         let answered = self.ring.complete(memory, chain, len);
         let _bytes = memory.size();

@@ -2,8 +2,9 @@
 
 ghost use Rattle.std.specs.Prelude.{◌≡◌, ◌+◌, ◌≤◌, ◌<◌, ◌-◌, ◌^◌, ◌++◌, List, ℕ, Some, length, IfSome};
 ghost use Rattle.guest_mem.specs.Memory.{with_bytes};
+ghost use Rattle.guest_mem.specs.Stores.{stores_at};
 ghost use Rattle.ring_core.specs.Parts.{writable_total};
-ghost use Rattle.ring_core.specs.Writes.{Wrote, scatter_writes};
+ghost use Rattle.ring_core.specs.Writes.{Wrote, scatter_writes, stores_of};
 ghost use Rattle.replies.specs.PlainReply.{good_data, plain_of};
 ghost use Rattle.decisions.specs.Answers.{answer_of_reply};
 ghost use Rattle.queues.specs.FirstPart.{first_open};
@@ -57,6 +58,8 @@ fn write_whole<M: WritableMemory>(
     ensures written { result ≡ RESPONSE_BYTES + length payload.now }
     ensures memory { (m : List ℕ) → M.may_be memory.new m → (m₀ : List ℕ) × M.may_be memory.old m₀
         × (m ≡ with_bytes (with_bytes m₀ part.now.addr head.now) (part.now.addr + RESPONSE_BYTES) payload.now) }
+    ensures stores { M.stored memory.new
+        ≡ M.storing (M.stored memory.old) (stores_at part.now.addr (head.now ++ payload.now)) }
     ensures size { M.extent memory.new ≡ M.extent memory.old }
 {
     let _size = memory.size();
@@ -82,6 +85,8 @@ fn write_scattered<M: WritableMemory>(
     requires less { RESPONSE_BYTES + length payload.now < 2 ^ 32 }
     ensures written { result ≡ RESPONSE_BYTES + length payload.now }
     ensures memory { Wrote (M.may_be memory.old) (M.may_be memory.new) (scatter_writes chain.now.parts 0 (head.now ++ payload.now)) }
+    ensures stores { M.stored memory.new
+        ≡ M.storing (M.stored memory.old) (stores_of (scatter_writes chain.now.parts 0 (head.now ++ payload.now))) }
     ensures size { M.extent memory.new ≡ M.extent memory.old }
 {
     let _parts = chain.parts();
@@ -102,6 +107,8 @@ fn write_response<M: WritableMemory>(
     requires less { RESPONSE_BYTES + length payload.now < 2 ^ 32 }
     ensures written { result ≡ RESPONSE_BYTES + length payload.now }
     ensures memory { Wrote (M.may_be memory.old) (M.may_be memory.new) (scatter_writes chain.now.parts 0 (head.now ++ payload.now)) }
+    ensures stores { M.stored memory.new
+        ≡ M.storing (M.stored memory.old) (stores_of (scatter_writes chain.now.parts 0 (head.now ++ payload.now))) }
     ensures size { M.extent memory.new ≡ M.extent memory.old }
 {
     match whole_part(chain.parts(), RESPONSE_BYTES + payload.len()) {
@@ -127,6 +134,8 @@ pub fn write_reply_in<M: WritableMemory>(
     requires payload { length reply.now.payload.items ≤ lengths.now.writable - RESPONSE_BYTES }
     ensures written { result ≡ length (answer_of_reply lengths.now (plain_of reply.now)) }
     ensures memory { Wrote (M.may_be memory.old) (M.may_be memory.new) (scatter_writes chain.now.parts 0 (answer_of_reply lengths.now (plain_of reply.now))) }
+    ensures stores { M.stored memory.new
+        ≡ M.storing (M.stored memory.old) (stores_of (scatter_writes chain.now.parts 0 (answer_of_reply lengths.now (plain_of reply.now)))) }
     ensures size { M.extent memory.new ≡ M.extent memory.old }
 {
     let mut head = [0; RESPONSE_BYTES];
@@ -151,6 +160,8 @@ pub fn write_read_in<M: WritableMemory>(
     requires data { length data.now ≤ lengths.now.writable - RESPONSE_BYTES }
     ensures written { result ≡ length (answer_of_reply lengths.now (good_data data.now)) }
     ensures memory { Wrote (M.may_be memory.old) (M.may_be memory.new) (scatter_writes chain.now.parts 0 (answer_of_reply lengths.now (good_data data.now))) }
+    ensures stores { M.stored memory.new
+        ≡ M.storing (M.stored memory.old) (stores_of (scatter_writes chain.now.parts 0 (answer_of_reply lengths.now (good_data data.now)))) }
     ensures size { M.extent memory.new ≡ M.extent memory.old }
 {
     let mut head = [0; RESPONSE_BYTES];
@@ -169,6 +180,8 @@ pub fn write_direct_in<M: WritableMemory>(
     requires room { length answer.now ≤ writable_total chain.now.parts }
     ensures written { result ≡ length answer.now }
     ensures memory { Wrote (M.may_be memory.old) (M.may_be memory.new) (scatter_writes chain.now.parts 0 answer.now) }
+    ensures stores { M.stored memory.new
+        ≡ M.storing (M.stored memory.old) (stores_of (scatter_writes chain.now.parts 0 answer.now)) }
     ensures size { M.extent memory.new ≡ M.extent memory.old }
 {
     scatter(memory, chain, 0, answer.bytes().as_slice())

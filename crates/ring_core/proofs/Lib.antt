@@ -14,3 +14,4 @@ pub mod RightChains
 pub mod ChainProperties
 pub mod Cases
 pub mod Walking
+pub mod InStores

@@ -13,7 +13,7 @@ use Rattle.ring_core.specs.Parts.{PartsFit, inside, writable_total}
 use Rattle.ring_core.specs.Writes.{Write, all_written, scatter_writes}
 use Rattle.ring_core.specs.declared.descriptor.Part.{Part}
 
-true_or_false : (b : Bool) → (b ≡ true) ⊎ (b ≡ false)
+pub true_or_false : (b : Bool) → (b ≡ true) ⊎ (b ≡ false)
 true_or_false true = inl refl
 true_or_false false = inr refl
 
@@ -100,11 +100,11 @@ same_size : (m : List ℕ) (p : Part) (at : ℕ) (bs : List ℕ) → inside (len
 same_size m p at bs is lt = length-with m (p.addr + at) (take (p.len - at) bs) (here_fits p at (length m) bs lt (room (length m) p at is lt))
 
 -- more than the first of two lists
-take_over : (a b : List ℕ) (n : ℕ) → take (length a + n) (a ++ b) ≡ a ++ take n b
+pub take_over : (a b : List ℕ) (n : ℕ) → take (length a + n) (a ++ b) ≡ a ++ take n b
 take_over [] b n = let e : 0 + n ≡ n = omega arith in rw e refl
 take_over (x ∷ a) b n = let e : suc (length a) + n ≡ suc (length a + n) = omega arith in rw e (ap (λ (l : List ℕ). x ∷ l) (take_over a b n))
 
-drop_over : (a b : List ℕ) (n : ℕ) → drop (length a + n) (a ++ b) ≡ drop n b
+pub drop_over : (a b : List ℕ) (n : ℕ) → drop (length a + n) (a ++ b) ≡ drop n b
 drop_over [] b n = let e : 0 + n ≡ n = omega arith in rw e refl
 drop_over (x ∷ a) b n = let e : suc (length a) + n ≡ suc (length a + n) = omega arith in rw e (drop_over a b n)
 

@@ -1,6 +1,7 @@
 -- Writes into memory, as a list: what a device leaves there is such a list applied in order.
-use Rattle.std.specs.Prelude.{ℕ, ◌≡◌, ◌+◌, ◌-◌, ◌&&◌, nat_lt, cond, List, [], ◌∷◌, length, take, drop}
+use Rattle.std.specs.Prelude.{ℕ, ◌≡◌, ◌+◌, ◌-◌, ◌&&◌, nat_lt, cond, List, [], ◌∷◌, ◌++◌, length, take, drop}
 use Rattle.guest_mem.specs.Memory.{with_bytes}
+use Rattle.guest_mem.specs.Stores.{Store, stores_at}
 use Rattle.ring_core.specs.declared.descriptor.Part.{Part}
 
 -- bytes that are written at an address
@@ -12,6 +13,11 @@ pub record Write : Type 0 where
 abbrev pub all_written : List ℕ → List Write → List ℕ
 all_written m [] = m
 all_written m (w ∷ ws) = all_written (with_bytes m w.addr w.bytes) ws
+
+-- the stores that make these writes, byte by byte
+abbrev pub stores_of : List Write → List Store
+stores_of [] = []
+stores_of (w ∷ ws) = stores_at w.addr w.bytes ++ stores_of ws
 
 -- bs over the writable parts in order, from their byte `at` on: one write for each part that gets some of them. Where
 -- parts overlap the later write wins.

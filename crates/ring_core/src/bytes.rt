@@ -2,8 +2,9 @@
 
 ghost use Rattle.std.specs.Prelude.{◌≡◌, ◌+◌, ◌≤◌, ◌<◌, ◌^◌, ◌-◌, ◌++◌, List, ℕ, length, take, min, true, IfOk, OnOk};
 ghost use Rattle.guest_mem.specs.Memory.{with_bytes};
+ghost use Rattle.guest_mem.specs.Stores.{stores_at};
 ghost use Rattle.ring_core.specs.Parts.{PartsFit, inside, readable_of, readable_bytes, writable_total};
-ghost use Rattle.ring_core.specs.Writes.{Wrote, scatter_writes};
+ghost use Rattle.ring_core.specs.Writes.{Wrote, scatter_writes, stores_of};
 
 use crate::chain::{Chain, Draft};
 use crate::descriptor::Part;
@@ -27,6 +28,7 @@ fn append_part<M: Memory>(
     requires room { length bytes.old.items ≤ most }
     ensures size { M.extent memory.new ≡ M.extent memory.old }
     ensures stays { (m : List ℕ) → M.may_be memory.new m → M.may_be memory.old m }
+    ensures stores { M.stored memory.new ≡ M.stored memory.old }
     ensures reading { M.is_open memory.new }
     ensures few { OnOk result (length bytes.new.items ≤ most) }
     ensures read { OnOk result ((m : List ℕ) → M.may_be memory.new m →
@@ -52,6 +54,7 @@ pub fn gather<M: Memory>(
     requires most { most < 2 ^ 32 }
     ensures size { M.extent memory.new ≡ M.extent memory.old }
     ensures stays { (m : List ℕ) → M.may_be memory.new m → M.may_be memory.old m }
+    ensures stores { M.stored memory.new ≡ M.stored memory.old }
     ensures reading { M.is_open memory.new }
     ensures bytes { IfOk result (λ bytes. (m : List ℕ) → M.may_be memory.new m → bytes.items ≡ take most (readable_bytes m draft.old)) }
     ensures same { draft.new ≡ draft.old }
@@ -73,6 +76,8 @@ fn fill_part<M: WritableMemory>(memory: &mut M, part: &Part, skip: u64, bytes: &
     ensures written { result ≡ min (length bytes.now) (part.now.len - skip) }
     ensures memory { (m : List ℕ) → M.may_be memory.new m → (m₀ : List ℕ) × M.may_be memory.old m₀
         × (m ≡ with_bytes m₀ (part.now.addr + skip) (take (part.now.len - skip) bytes.now)) }
+    ensures stores { M.stored memory.new
+        ≡ M.storing (M.stored memory.old) (stores_at (part.now.addr + skip) (take (part.now.len - skip) bytes.now)) }
     ensures size { M.extent memory.new ≡ M.extent memory.old }
 {
     let _size = memory.size();
@@ -91,6 +96,8 @@ pub fn scatter<M: WritableMemory>(memory: &mut M, chain: &Chain, at: u32, bytes:
     requires small { at + length bytes.now < 2 ^ 32 }
     ensures written { result ≡ length bytes.now }
     ensures memory { Wrote (M.may_be memory.old) (M.may_be memory.new) (scatter_writes chain.now.parts at bytes.now) }
+    ensures stores { M.stored memory.new
+        ≡ M.storing (M.stored memory.old) (stores_of (scatter_writes chain.now.parts at bytes.now)) }
     ensures size { M.extent memory.new ≡ M.extent memory.old }
 {
     let mut skip = at as u64;

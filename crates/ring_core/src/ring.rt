@@ -3,7 +3,7 @@
 ghost use Rattle.std.specs.Prelude.{◌≡◌, ◌↔◌, ◌<◌, ◌≤◌, List, ℕ, IsTrue};
 ghost use Rattle.ring_core.specs.State.{RingState, Owns, using};
 ghost use Rattle.ring_core.specs.Sound.{IsSound, IsLeastOutstanding, outstanding_count};
-ghost use Rattle.ring_core.specs.Writes.{Wrote};
+ghost use Rattle.ring_core.specs.Writes.{Wrote, stores_of};
 ghost use Rattle.ring_core.specs.Offer.{Offers, Nothing, used_writes, wants_notice};
 ghost use Rattle.ring_core.specs.Fetch.{Fetches};
 
@@ -28,6 +28,7 @@ pub trait Ring {
         requires fits { M.extent memory.old ≡ (state self.old).memory }
         ensures size { M.extent memory.new ≡ M.extent memory.old }
         ensures stays { (m : List ℕ) → M.may_be memory.new m → M.may_be memory.old m }
+        ensures stores { M.stored memory.new ≡ M.stored memory.old }
         ensures reading { M.is_open memory.new }
         ensures fetches { (m : List ℕ) → M.may_be memory.new m → Fetches (state self.old) m result (state self.new) };
 
@@ -38,6 +39,7 @@ pub trait Ring {
         requires fits { M.extent memory.old ≡ (state self.now).memory }
         ensures size { M.extent memory.new ≡ M.extent memory.old }
         ensures stays { (m : List ℕ) → M.may_be memory.new m → M.may_be memory.old m }
+        ensures stores { M.stored memory.new ≡ M.stored memory.old }
         ensures reading { M.is_open memory.new }
         ensures idle { (m : List ℕ) → M.may_be memory.new m → IsTrue result ↔ Offers (state self.now) m Nothing };
 
@@ -54,6 +56,8 @@ pub trait Ring {
         ensures ticket { result ≡ chain.ticket }
         ensures state { state self.new ≡ using (state self.old) chain }
         ensures memory { Wrote (M.may_be memory.old) (M.may_be memory.new) (used_writes (state self.old) chain.id len) }
+        ensures stores { M.stored memory.new
+            ≡ M.storing (M.stored memory.old) (stores_of (used_writes (state self.old) chain.id len)) }
         ensures size { M.extent memory.new ≡ M.extent memory.old };
 
     /// Gives a chain back to the driver, into which `len` bytes were written: writes its used
@@ -70,6 +74,8 @@ pub trait Ring {
         ensures ticket { result ≡ chain.ticket }
         ensures state { state self.new ≡ using (state self.old) chain }
         ensures memory { Wrote (M.may_be memory.old) (M.may_be memory.new) (used_writes (state self.old) chain.id len) }
+        ensures stores { M.stored memory.new
+            ≡ M.storing (M.stored memory.old) (stores_of (used_writes (state self.old) chain.id len)) }
         ensures size { M.extent memory.new ≡ M.extent memory.old }
     {
         Answered::of(self.finish(memory, chain, len, Completion::begin()))
@@ -82,6 +88,7 @@ pub trait Ring {
         requires fits { M.extent memory.old ≡ (state self.now).memory }
         ensures size { M.extent memory.new ≡ M.extent memory.old }
         ensures stays { (m : List ℕ) → M.may_be memory.new m → M.may_be memory.old m }
+        ensures stores { M.stored memory.new ≡ M.stored memory.old }
         ensures reading { M.is_open memory.new }
         ensures wants { (m : List ℕ) → M.may_be memory.new m → result ≡ wants_notice (state self.now) m };
 

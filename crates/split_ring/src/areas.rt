@@ -2,6 +2,7 @@
 
 ghost use Rattle.std.specs.Prelude.{◌≡◌, ◌+◌, ◌*◌, ◌≤◌, ◌^◌, ◌++◌, List, ℕ};
 ghost use Rattle.guest_mem.specs.Memory.{bytes_at, with_bytes};
+ghost use Rattle.guest_mem.specs.Stores.{stores_at};
 ghost use Rattle.byteorder.specs.Endian.{little_number, little_bytes};
 ghost use Rattle.ring_core.specs.Split.{in_table};
 
@@ -16,6 +17,7 @@ pub(crate) fn number_at<M: Memory>(memory: &mut M, addr: u64) -> u16
     requires fits { addr + 2 ≤ M.extent memory.old }
     ensures size { M.extent memory.new ≡ M.extent memory.old }
     ensures stays { (m : List ℕ) → M.may_be memory.new m → M.may_be memory.old m }
+    ensures stores { M.stored memory.new ≡ M.stored memory.old }
     ensures reading { M.is_open memory.new }
     ensures number { (m : List ℕ) → M.may_be memory.new m → result ≡ little_number 2 (bytes_at m addr 2) }
 {
@@ -32,6 +34,7 @@ pub(crate) fn descriptor_at<M: Memory>(memory: &mut M, table: u64, number: u16) 
     requires small { M.extent memory.old ≤ 2 ^ 52 }
     ensures size { M.extent memory.new ≡ M.extent memory.old }
     ensures stays { (m : List ℕ) → M.may_be memory.new m → M.may_be memory.old m }
+    ensures stores { M.stored memory.new ≡ M.stored memory.old }
     ensures reading { M.is_open memory.new }
     ensures descriptor { (m : List ℕ) → M.may_be memory.new m → result ≡ in_table m table number }
 {
@@ -50,6 +53,8 @@ pub(crate) fn put_number<M: WritableMemory>(memory: &mut M, addr: u64, number: u
     requires fits { addr + 2 ≤ M.extent memory.old }
     ensures memory { (m : List ℕ) → M.may_be memory.new m → (m₀ : List ℕ) × M.may_be memory.old m₀
         × (m ≡ with_bytes m₀ addr (little_bytes 2 number)) }
+    ensures stores { M.stored memory.new
+        ≡ M.storing (M.stored memory.old) (stores_at addr (little_bytes 2 number)) }
     ensures size { M.extent memory.new ≡ M.extent memory.old }
 {
     let mut bytes = [0; 2];
@@ -62,6 +67,8 @@ pub(crate) fn put_element<M: WritableMemory>(memory: &mut M, addr: u64, head: u3
     requires { addr + 8 ≤ M.extent memory.old }
     ensures memory { (m : List ℕ) → M.may_be memory.new m → (m₀ : List ℕ) × M.may_be memory.old m₀
         × (m ≡ with_bytes m₀ addr (little_bytes 4 head ++ little_bytes 4 len)) }
+    ensures stores { M.stored memory.new
+        ≡ M.storing (M.stored memory.old) (stores_at addr (little_bytes 4 head ++ little_bytes 4 len)) }
     ensures size { M.extent memory.new ≡ M.extent memory.old }
 {
     let mut bytes = [0; 8];

@@ -100,6 +100,7 @@ impl SplitRing {
         requires fits { M.extent memory.old ≡ self.now.memory }
         ensures size { M.extent memory.new ≡ M.extent memory.old }
         ensures stays { (m : List ℕ) → M.may_be memory.new m → M.may_be memory.old m }
+        ensures stores { M.stored memory.new ≡ M.stored memory.old }
         ensures reading { M.is_open memory.new }
         ensures ahead { (m : List ℕ) → M.may_be memory.new m → result ≡ ahead_of self.now m }
     {
@@ -114,6 +115,7 @@ impl SplitRing {
         requires some { (m : List ℕ) → M.may_be memory.old m → ahead ≡ ahead_of self.now m }
         ensures size { M.extent memory.new ≡ M.extent memory.old }
         ensures stays { (m : List ℕ) → M.may_be memory.new m → M.may_be memory.old m }
+        ensures stores { M.stored memory.new ≡ M.stored memory.old }
         ensures reading { M.is_open memory.new }
         ensures entry { (m : List ℕ) → M.may_be memory.new m → MatchResult result
             (λ head. (entry_wrong self.now m ≡ None) × (head ≡ next_head self.now m))
@@ -144,6 +146,7 @@ impl SplitRing {
         requires some { ahead ≢ 0 }
         ensures size { M.extent memory.new ≡ M.extent memory.old }
         ensures stays { (m : List ℕ) → M.may_be memory.new m → M.may_be memory.old m }
+        ensures stores { M.stored memory.new ≡ M.stored memory.old }
         ensures reading { M.is_open memory.new }
         ensures finds { (m : List ℕ) → M.may_be memory.new m → SplitFinds self.old m result }
         ensures same { self.new ≡ self.old }
@@ -182,6 +185,7 @@ impl SplitRing {
         requires some { ahead ≢ 0 }
         ensures size { M.extent memory.new ≡ M.extent memory.old }
         ensures stays { (m : List ℕ) → M.may_be memory.new m → M.may_be memory.old m }
+        ensures stores { M.stored memory.new ≡ M.stored memory.old }
         ensures reading { M.is_open memory.new }
         ensures fetches { (m : List ℕ) → M.may_be memory.new m → Fetches self.old m result self.new }
     {
@@ -207,6 +211,7 @@ impl SplitRing {
         requires found { (m : List ℕ) → M.may_be memory.old m → SplitOffers self.old m (Found candidate.head 1 candidate.draft) }
         ensures size { M.extent memory.new ≡ M.extent memory.old }
         ensures stays { (m : List ℕ) → M.may_be memory.new m → M.may_be memory.old m }
+        ensures stores { M.stored memory.new ≡ M.stored memory.old }
         ensures reading { M.is_open memory.new }
         ensures fetches { (m : List ℕ) → M.may_be memory.new m → Fetches self.old m result self.new }
     {

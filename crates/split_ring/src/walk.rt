@@ -82,6 +82,7 @@ pub(crate) fn fault_without_room<M: Memory>(
     requires head { head < layout.now.size }
     ensures size { M.extent memory.new ≡ M.extent memory.old }
     ensures stays { (m : List ℕ) → M.may_be memory.new m → M.may_be memory.old m }
+    ensures stores { M.stored memory.new ≡ M.stored memory.old }
     ensures reading { M.is_open memory.new }
     ensures fails { (m : List ℕ) → M.may_be memory.new m → SplitFailsOrLacks features m layout.now head result }
 {
@@ -112,6 +113,7 @@ fn walk_run<M: Memory>(
     requires total { first.total ≤ 2 ^ 32 }
     ensures size { M.extent memory.new ≡ M.extent memory.old }
     ensures stays { (m : List ℕ) → M.may_be memory.new m → M.may_be memory.old m }
+    ensures stores { M.stored memory.new ≡ M.stored memory.old }
     ensures reading { M.is_open memory.new }
     ensures walked { (m : List ℕ) → M.may_be memory.new m → MatchResult result
         (λ run. Walks (path_of m table.now head) table.now.entries first draft run)
@@ -158,6 +160,7 @@ pub(crate) fn walk<M: Memory>(
     requires empty { draft ≡ [] }
     ensures size { M.extent memory.new ≡ M.extent memory.old }
     ensures stays { (m : List ℕ) → M.may_be memory.new m → M.may_be memory.old m }
+    ensures stores { M.stored memory.new ≡ M.stored memory.old }
     ensures reading { M.is_open memory.new }
     ensures walked { (m : List ℕ) → M.may_be memory.new m → MatchResult result
         (λ draft. SplitChain features m layout.now.desc layout.now.size head draft)

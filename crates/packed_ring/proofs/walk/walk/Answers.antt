@@ -12,6 +12,7 @@ along-init g c =
     record {
       size = refl;
       stays = λ m s. s;
+      stores = refl;
       reading = c.requires.reading;
       on = λ m s. rw (c.requires.empty, c.nothing-before.ensures)
           (walked_start (packed_slots c.args.features m c.args.layout.now c.args.passed) c.args.layout.now.size (packed_walk c.args.features m c.args.layout.now c.args.passed) nothing_before [] c.requires.some (omega arith));
@@ -98,6 +99,7 @@ along-preserved g c =
     record {
       size = c.in_slot-d.ensures.size ∙ c.along.invariant.size;
       stays = λ m s. c.along.invariant.stays m (c.in_slot-d.ensures.stays m s);
+      stores = c.in_slot-d.ensures.stores ∙ c.along.invariant.stores;
       reading = c.in_slot-d.ensures.reading;
       on = λ m s.
           let s₀ = c.in_slot-d.ensures.stays m s in

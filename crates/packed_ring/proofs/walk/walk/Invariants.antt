@@ -9,6 +9,7 @@ invariant-along g l =
     record {
       size : g.M.Memory.extent l.memory ≡ g.M.Memory.extent l.fn.memory;
       stays : (m : List ℕ) → g.M.Memory.may_be l.memory m → g.M.Memory.may_be l.fn.memory m;
+      stores : g.M.Memory.stored l.memory ≡ g.M.Memory.stored l.fn.memory;
       reading : g.M.Memory.is_open l.memory;
       on : (m : List ℕ) → g.M.Memory.may_be l.memory m → Walked (packed_slots l.features m l.layout l.passed) l.layout.size nothing_before [] l.step l.before l.draft;
       slot : l.slot ≡ (l.passed + l.step) % l.layout.size;

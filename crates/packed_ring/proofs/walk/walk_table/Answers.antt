@@ -11,6 +11,7 @@ along-init g c =
     record {
       size = refl;
       stays = λ m s. s;
+      stores = refl;
       reading = c.requires.reading;
       on = λ m s. rw c.anew-before.ensures
           (walked_start (packed_table m c.args.named) (c.args.named.len / 16) (entries_walk m c.args.named) c.args.first c.args.draft c.requires.some c.requires.total);
@@ -54,6 +55,7 @@ along-preserved g c =
     record {
       size = c.entry_at-d.ensures.size ∙ c.along.invariant.size;
       stays = λ m s. c.along.invariant.stays m (c.entry_at-d.ensures.stays m s);
+      stores = c.entry_at-d.ensures.stores ∙ c.along.invariant.stores;
       reading = c.entry_at-d.ensures.reading;
       on = λ m s.
           let s₀ = c.entry_at-d.ensures.stays m s in

@@ -8,6 +8,7 @@ invariant-along g l =
     record {
       size : g.M.Memory.extent l.memory ≡ g.M.Memory.extent l.fn.memory;
       stays : (m : List ℕ) → g.M.Memory.may_be l.memory m → g.M.Memory.may_be l.fn.memory m;
+      stores : g.M.Memory.stored l.memory ≡ g.M.Memory.stored l.fn.memory;
       reading : g.M.Memory.is_open l.memory;
       on : (m : List ℕ) → g.M.Memory.may_be l.memory m → Walked (packed_table m l.named) (l.named.len / 16) l.fn.first l.fn.draft l.place l.before l.draft;
     }

@@ -1,8 +1,9 @@
-use Rattle.std.proofs.Common.{rules, ◌≡◌, ◌+◌, ◌∙◌, ap, length, arith, ℕ, Some}
+use Rattle.std.proofs.Common.{rules, ◌≡◌, ◌+◌, ◌∙◌, ◌++◌, ap, length, length-append, arith, List, ℕ, Some}
 use Rattle.guest_mem.specs.Memory.{with_bytes}
+use Rattle.guest_mem.specs.Stores.{Store}
 use Rattle.ring_core.specs.Parts.{PartsFit}
 use Rattle.queues.specs.FirstPart.{first_open}
-use Rattle.queues.proofs.FirstPart.{written_whole, first_lies_in}
+use Rattle.queues.proofs.FirstPart.{written_whole, stores_whole, first_lies_in}
 use Rattle.queues.proofs.writing.write_response.Goals as goal
 
 pub write_whole-requires-clause-inside : goal.write_whole-requires-clause-inside
@@ -29,3 +30,14 @@ returns-in-Some-clause-memory g c = λ m₁ s₁.
           ∙ ap (λ (n : ℕ). with_bytes (with_bytes m part.addr head) (part.addr + n) payload) long
           ∙ written_whole m parts part head payload fit is (omega (arith, c.in-Some.ensures.1, long)),
     )
+
+pub returns-in-Some-clause-stores : goal.returns-in-Some-clause-stores
+returns-in-Some-clause-stores g c =
+    let parts = c.args.chain.now.parts in
+    let head = c.args.head.now in
+    let payload = c.args.payload.now in
+    let part = c.in-Some.part in
+    let is : first_open parts ≡ Some part = rw c.parts.ensures.parts at c.in-Some.ensures.0 in
+    let long : 108 ≡ length head = search rules in
+    c.write_whole.ensures.stores
+    ∙ ap (λ (ss : List Store). g.M.Memory.storing (g.M.Memory.stored c.args.memory.now) ss) (stores_whole parts part (head ++ payload) is (omega (arith, c.in-Some.ensures.1, long, length-append head payload)))

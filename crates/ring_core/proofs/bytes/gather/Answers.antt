@@ -8,6 +8,7 @@ loop-part-preserved g c =
     record {
       size = c.append_part.ensures.size ∙ c.loop-part.invariant.size;
       stays = λ m s. c.loop-part.invariant.stays m (c.append_part.ensures.stays m s);
+      stores = c.append_part.ensures.stores ∙ c.loop-part.invariant.stores;
       reading = c.append_part.ensures.reading;
       few = c.in_ok-append_part.ensures.few;
       read = λ m s.

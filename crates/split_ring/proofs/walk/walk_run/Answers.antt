@@ -8,6 +8,7 @@ along-init g c =
     record {
       size = refl;
       stays = λ m s. s;
+      stores = refl;
       reading = c.requires.reading;
       on = λ m s. rw c.anew-before.ensures (path_start m c.args.table.now c.args.head c.args.first c.args.draft c.requires.head c.requires.total);
     }
@@ -42,6 +43,7 @@ along-preserved g c =
     record {
       size = c.descriptor_at-d.ensures.size ∙ c.along.invariant.size;
       stays = λ m s. c.along.invariant.stays m (c.descriptor_at-d.ensures.stays m s);
+      stores = c.descriptor_at-d.ensures.stores ∙ c.along.invariant.stores;
       reading = c.descriptor_at-d.ensures.reading;
       on = λ m s.
           let s₀ = c.descriptor_at-d.ensures.stays m s in
