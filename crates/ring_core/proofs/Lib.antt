@@ -13,4 +13,5 @@ pub mod Narrowing
 pub mod RightChains
 pub mod ChainProperties
 pub mod Cases
+pub mod Notifying
 pub mod Walking
