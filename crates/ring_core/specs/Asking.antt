@@ -31,7 +31,7 @@ abbrev pub used_ring_flags : Notify → ℕ
 used_ring_flags Next = 0
 used_ring_flags Never = 1
 
--- where event indices were agreed, flags stay 0 (2.7.10.2)
+-- what asks the driver of a split queue: with event indices avail_event, and flags stay 0 (2.7.10.2); else flags
 abbrev pub split_asking : RingState → Notify → Write
 split_asking s notify =
     cond s.features.event_index
@@ -54,6 +54,7 @@ abbrev pub suppression_flags : Features → Notify → ℕ
 suppression_flags features Next = cond features.event_index 2 0
 suppression_flags features Never = 1
 
+-- what asks the driver of a packed queue: its whole area, in one write
 abbrev pub packed_asking : RingState → Notify → Write
 packed_asking s notify =
     record {
@@ -65,11 +66,11 @@ abbrev pub asking_in_form : Form → RingState → Notify → Write
 asking_in_form Split s notify = split_asking s notify
 asking_in_form Packed s notify = packed_asking s notify
 
--- what the device of a queue writes to ask for this; one that is broken asks for nothing
+-- what the device writes to ask the driver of a queue; where a fault broke the queue it is nothing
 abbrev pub asking : RingState → Notify → Option Write
 asking s notify = cond (is_some s.broken) None (Some (asking_in_form s.form s notify))
 
--- The driver's side: it looks there once it made a chain available
+-- The driver's side
 
 abbrev pub avail_event : RingState → List ℕ → ℕ
 avail_event s m = little_number 2 (bytes_at m (avail_event_at s.layout) 2)
@@ -78,7 +79,7 @@ avail_event s m = little_number 2 (bytes_at m (avail_event_at s.layout) 2)
 abbrev pub split_notifies_always : RingState → List ℕ → Bool
 split_notifies_always s m = not (bit_and (little_number 2 (bytes_at m s.layout.device 2)) 1 == 1)
 
--- it notifies the device of an available entry at this index (2.7.10.1)
+-- the driver notifies the device of the entry at this index, once it made that available (2.7.10.1)
 abbrev pub split_notifies : RingState → List ℕ → ℕ → Bool
 split_notifies s m index = cond s.features.event_index (avail_event s m == index) (split_notifies_always s m)
 
@@ -88,7 +89,8 @@ device_event_flags s m = little_number 2 (bytes_at m (s.layout.device + 2) 2) % 
 abbrev pub device_event_place : RingState → List ℕ → ℕ
 device_event_place s m = little_number 2 (bytes_at m s.layout.device 2)
 
--- it notifies the device of an available chain of so many slots, from where t were passed (2.8.10)
+-- the driver notifies the device of a chain of so many slots, from where t were passed, once it made that available
+-- (2.8.10)
 abbrev pub packed_notifies : RingState → List ℕ → ℕ → ℕ → Bool
 packed_notifies s m t slots =
     cond (s.features.event_index && (device_event_flags s m == 2))

@@ -16,7 +16,7 @@ abbrev pub asking_of : Option PlainQueue → Notify → Option Write
 asking_of None notify = None
 asking_of (Some q) notify = asking q.ring notify
 
--- that for the queue of this number
+-- what is written for the queue of this number
 abbrev pub asking_at : List PlainQueue → ℕ → Notify → Option Write
 asking_at queues number notify = asking_of (slice_get queues number) notify
 
@@ -25,20 +25,21 @@ abbrev pub Asks : PlainWorld → Option Write → Bool → PlainWorld → Type 0
 Asks w (Some x) asked w' = (asked ≡ true) × Turns w (Event.Poke x) true w'
 Asks w None asked w' = (asked ≡ false) × (w' ≡ w)
 
--- the promise is kept by it
+-- the promise is kept by what was asked
 abbrev pub AsksAsPromised : PlainWorld → Option Write → PlainWorld → Type 0
 AsksAsPromised w (Some x) w' = StepsAsPromised w (Event.Poke x) (Ok true) w'
 AsksAsPromised w None w' = w' ≡ w
 
 -- In a memory that its guest writes at any time
 
--- the same, in a phase of its own
+-- the write was made in a phase of its own, and the call says so; or there is none, and nothing changed
 abbrev pub AsksLive : {X : Type 0} → Bool → (X → X → Type 0) → (X → List ℕ → Type 0) → PlainLive X → Option Write → Bool
     → PlainLive X → Type 0
 AsksLive {X} shared begins may_be x (Some write) asked y = (asked ≡ true)
     × StepsLive shared begins may_be x (Event.Poke write) (Ok true) y
 AsksLive {X} shared begins may_be x None asked y = (asked ≡ false) × (y ≡ x)
 
+-- the promise is kept by it, whatever bytes stand in memory
 abbrev pub AsksPromised : Bool → ℕ → PlainDevice → Option Write → PlainDevice → Type 0
 AsksPromised shared size d (Some write) d' = StepsPromised shared size d (Event.Poke write) (Ok true) d'
 AsksPromised shared size d None d' = d' ≡ d
