@@ -211,7 +211,8 @@ impl<C: Ledger, D: Ledger> Service<C, D> {
             Command::Hard(unit) => self.hard(rt, unit),
             Command::Resize(unit, blocks) => self.resize(rt, unit, blocks),
             Command::Wait(name) => self.wait(rt, name),
-            Command::Settle
+            Command::Ask(_, _)
+            | Command::Settle
             | Command::Step(_)
             | Command::Print(_)
             | Command::Close

@@ -3,7 +3,7 @@
 use crate::allowance::Allowance;
 use crate::machine::Machine;
 use crate::steps::{event_of, order};
-use crate::trace::Trace;
+use crate::trace::{Trace, print_ask};
 use guest_driver::Driver;
 use script_lines::{Command, LineFault, ScriptFault, Step, Stop};
 use script_text::{
@@ -12,7 +12,7 @@ use script_text::{
 use scsi_codec::Address;
 use std::alloc::{AllocError, Global};
 use std::io::{Read, Write};
-use world::{Event, World};
+use world::{Event, Notify, World};
 
 /// Each queue's bit, as `World::serve` takes them.
 const EACH_QUEUE: u32 = u32::MAX;
@@ -133,6 +133,7 @@ impl Session {
             }
             Command::Hard(unit) => self.hard(unit, out),
             Command::Resize(unit, blocks) => self.resize(unit, blocks, out),
+            Command::Ask(queue, notify) => self.ask(queue, notify, out),
             Command::Settle if self.tracing.is_some() => self.settle_by_steps(out),
             Command::Settle => self.settle(),
             Command::Step(step) => {
@@ -218,6 +219,15 @@ impl Session {
             if self.machine.world.step(Event::Hard(place))? {
                 self.print_step(&Event::Hard(place), out)?;
             }
+        }
+        Ok(())
+    }
+
+    /// Asks the driver of a queue for a notification, or for none; where the queue isn't there, or is broken, nothing
+    /// happens.
+    fn ask<W: Write>(&mut self, queue: u16, notify: Notify, out: &mut W) -> Result<(), Stop> {
+        if self.machine.world.ask(queue, notify) && self.tracing.is_some() {
+            return print_ask(out, queue, notify);
         }
         Ok(())
     }

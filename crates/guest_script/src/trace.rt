@@ -8,7 +8,7 @@ use scsi_codec::{Address, CONTROL_QUEUE, EVENT_QUEUE};
 use std::alloc::{AllocError, Global};
 use std::io::Write;
 use unit_history::StepKind;
-use world::{Event, World};
+use world::{Event, Notify, World};
 
 /// A device as it was seen last, so that the next step is known by what it changed.
 #[derive(Drop)]
@@ -197,6 +197,15 @@ fn print_event<W: Write>(out: &mut W, event: &Event) -> Result<(), Stop> {
         Some(number) => written(write!(out, " {place}={number}")),
         None => Ok(()),
     }
+}
+
+/// Prints what the driver of a queue was asked for.
+pub(crate) fn print_ask<W: Write>(out: &mut W, queue: u16, notify: Notify) -> Result<(), Stop> {
+    let word = match notify {
+        Notify::Next => "next",
+        Notify::Never => "never",
+    };
+    written(writeln!(out, "trace: ask queue={queue} {word}"))
 }
 
 /// Returns the queue or the seat of an event, if it has one.

@@ -33,6 +33,7 @@ packed-accept s m id slots parts packed offer lt =
       ids = omega (arith, packed.ids, length-set s.outstanding id (Some new));
       slots = packed.slots;
       driver = packed.driver;
+      device = packed.device;
       small = packed.small;
       each_slots = λ i h e.
           elim (at_set s.outstanding id (Some new) i h lt e) [
@@ -62,6 +63,7 @@ packed-use s c packed sound owns =
       ids = omega (arith, packed.ids, length-set s.outstanding c.id None);
       slots = packed.slots;
       driver = packed.driver;
+      device = packed.device;
       small = packed.small;
       each_slots = λ i h e.
           elim (at_set s.outstanding c.id None i h lt e) [

@@ -18,11 +18,12 @@ right_size m l e =
     let b : l.size ≤ 32768 = grind (arith, common_steps, nat_tests) in
     (a, b)
 
-right_places : (m : ℕ) (l : Layout) → placement_fault m l ≡ None → (l.desc + 16 * l.size ≤ m) × (l.driver + 4 ≤ m)
+right_places : (m : ℕ) (l : Layout) → placement_fault m l ≡ None → (l.desc + 16 * l.size ≤ m) × (l.driver + 4 ≤ m) × (l.device + 4 ≤ m)
 right_places m l e =
     let a : l.desc + 16 * l.size ≤ m = grind (arith, common_steps, nat_tests) in
     let b : l.driver + 4 ≤ m = grind (arith, common_steps, nat_tests) in
-    (a, b)
+    let c : l.device + 4 ≤ m = grind (arith, common_steps, nat_tests) in
+    (a, b, c)
 
 pub fresh : (queue : ℕ) (l : Layout) (features : Features) (m ids : ℕ) → ids ≡ 65536 → placement_fault m l ≡ None → m ≤ 2 ^ 52
     → IsPacked (opening Packed queue l features m ids)
@@ -30,4 +31,4 @@ unfolding opening
 fresh queue l features m ids all fine small =
     let size = right_size m l fine in
     let places = right_places m l fine in
-    record { form = refl; some = size.0; most = size.1; ids = rw (length-replicate, all) refl; slots = places.0; driver = places.1; small = small; each_slots = λ id c e. absurd (let p = none_there ids id in cc); latest = omega arith; among = omega arith; within = omega arith }
+    record { form = refl; some = size.0; most = size.1; ids = rw (length-replicate, all) refl; slots = places.0; driver = places.1; device = places.2; small = small; each_slots = λ id c e. absurd (let p = none_there ids id in cc); latest = omega arith; among = omega arith; within = omega arith }

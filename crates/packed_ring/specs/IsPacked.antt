@@ -11,6 +11,7 @@ pub record IsPacked (s : RingState) : Type 0 where
   pub ids : length s.outstanding ≡ 65536
   pub slots : s.layout.desc + 16 * s.layout.size ≤ s.memory
   pub driver : s.layout.driver + 4 ≤ s.memory
+  pub device : s.layout.device + 4 ≤ s.memory
   pub small : s.memory ≤ 2 ^ 52
   -- a chain has a slot, and the slots of those outstanding are no more than the ring has
   pub each_slots : (id : ℕ) (c : OutstandingChain) → under s id ≡ Some c → 1 ≤ c.slots

@@ -3,23 +3,29 @@
 use crate::placement::check_layout;
 use crate::slots::{
     descriptor_at, flags_of_used, is_available, names_one, number_at, passed_at, place_of,
-    put_used, wrap_at,
+    put_used, slot_after, wrap_at,
 };
 use crate::walk::{Candidate, fault_without_room, walk};
 use guest_mem::{Memory, WritableMemory};
 use ring_core::{
-    Chain, Completion, Draft, FIRST_BYTES, Features, Fetched, Layout, LayoutFault, QueueLog, Ring,
-    RingBase, RingFault, Ticket, gather,
+    Asking, Chain, Completion, Draft, FIRST_BYTES, Features, Fetched, Layout, LayoutFault, Notify,
+    QueueLog, Ring, RingBase, RingFault, Ticket, gather,
 };
 use std::alloc::Global;
 use std::marker::Model;
 
-/// RING_EVENT_FLAGS_DISABLE in the two low bits of the driver's flags: the driver asks for no
-/// notice (VIRTIO 1.2, 2.8.10 and 2.8.14).
+/// RING_EVENT_FLAGS_ENABLE in the two low bits of a side's flags: it asks for every notice (VIRTIO 1.2, 2.8.10 and
+/// 2.8.14).
+const ENABLE: u16 = 0;
+
+/// RING_EVENT_FLAGS_DISABLE: it asks for no notice.
 const DISABLE: u16 = 1;
 
 /// RING_EVENT_FLAGS_DESC: it asks for one of a certain slot, where event indices were agreed.
 const DESC: u16 = 2;
+
+/// The wrap counter in the place of a slot, beside its offset.
+const WRAP: u16 = 32768;
 
 /// The number of ids that a chain may have: any of two bytes.
 const ALL_IDS: usize = 65536;
@@ -78,6 +84,7 @@ impl PackedRing {
 impl PackedRing {
     ghost use Rattle.std.specs.Prelude.{◌≡◌, ◌≤◌, [], List, ℕ, None, true};
     ghost use Rattle.ring_core.specs.Packed.{available_place, used_place, is_available as is_available_in};
+    ghost use Rattle.ring_core.specs.Asking.{wanted_slot, suppression_flags};
     ghost use Rattle.packed_ring.specs.Inner.{PackedFinds};
     ghost use Rattle.ring_core.specs.Offer.{PackedOffers, Found};
     ghost use Rattle.ring_core.specs.Fetch.{Fetches};
@@ -100,6 +107,32 @@ impl PackedRing {
         let layout = self.base.layout();
         let _accepted = self.base.accepted_slots();
         self.base.used_slots() + passed_at(layout.size, layout.first_used) as u128
+    }
+
+    /// Returns the offset and wrap of the slot of which a driver notifies the device, where the flags are DESC.
+    fn wanted_slot(&self, notify: Notify) -> u16
+        ensures { result ≡ wanted_slot self.now notify }
+    {
+        if notify == Notify::Never || !self.base.features().event_index {
+            return 0;
+        }
+        let layout = self.base.layout();
+        let place = self.available_place();
+        let wrap = if wrap_at(layout.size, place) { WRAP } else { 0 };
+        slot_after(place, layout.size) + wrap
+    }
+
+    /// Returns the flags that ask the driver for this.
+    fn suppression_flags(&self, notify: Notify) -> u16
+        ensures { result ≡ suppression_flags self.now.features notify }
+    {
+        if notify == Notify::Never {
+            DISABLE
+        } else if self.base.features().event_index {
+            DESC
+        } else {
+            ENABLE
+        }
     }
 
     /// Returns true if the next slot holds an available descriptor.
@@ -271,6 +304,15 @@ impl Ring for PackedRing {
             self.used_place() - latest as u128,
             latest,
         )
+    }
+
+    fn asking(&self, notify: Notify) -> Option<Asking> {
+        if self.base.is_broken() {
+            return None;
+        }
+        let slot = self.wanted_slot(notify);
+        let flags = self.suppression_flags(notify);
+        Some(Asking::two(self.base.layout().device, slot, flags))
     }
 
     fn log(&self) -> &QueueLog {

@@ -2,7 +2,7 @@
 
 use guest_mem::{Memory, WritableMemory};
 use packed_ring::PackedRing;
-use ring_core::{Chain, Completion, Fetched, QueueLog, Ring, RingFault, Ticket};
+use ring_core::{Asking, Chain, Completion, Fetched, Notify, QueueLog, Ring, RingFault, Ticket};
 use split_ring::SplitRing;
 
 /// A virtqueue of either form.
@@ -53,6 +53,13 @@ impl Ring for AnyRing {
         match self {
             AnyRing::Split(ring) => ring.wants_notice(memory),
             AnyRing::Packed(ring) => ring.wants_notice(memory),
+        }
+    }
+
+    fn asking(&self, notify: Notify) -> Option<Asking> {
+        match self {
+            AnyRing::Split(ring) => ring.asking(notify),
+            AnyRing::Packed(ring) => ring.asking(notify),
         }
     }
 

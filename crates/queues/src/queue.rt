@@ -9,7 +9,9 @@ use crate::any_ring::AnyRing;
 use block_store::NoMemory;
 use guest_mem::{GuestMem, Memory, StillMem, WritableMemory};
 use packed_ring::PackedRing;
-use ring_core::{Answered, Chain, Fetched, Form, Layout, LayoutFault, QueueLog, Ring, RingFault};
+use ring_core::{
+    Answered, Asking, Chain, Fetched, Form, Layout, LayoutFault, Notify, QueueLog, Ring, RingFault,
+};
 use split_ring::SplitRing;
 use std::alloc::Global;
 use std::marker::Model;
@@ -124,13 +126,15 @@ impl Model for Queue {
 }
 
 impl Queue {
-    ghost use Rattle.std.specs.Prelude.{◌≡◌, ◌≤◌, ◌↔◌, List, ℕ, length, is_some, IfOk, IsTrue};
+    ghost use Rattle.std.specs.Prelude.{◌≡◌, ◌≤◌, ◌+◌, ◌↔◌, List, ℕ, length, is_some, IfOk, IsTrue};
+    ghost use Rattle.std.specs.Option.{IfSome};
     ghost use Rattle.std.specs.Prelude.{None};
     ghost use Rattle.queues.specs.Queue.{opening_queue, placement_of, completing, MayComplete};
     ghost use Rattle.ring_core.specs.State.{Owns, features_of};
     ghost use Rattle.ring_core.specs.Sound.{IsSound, IsLeastOutstanding, outstanding_count};
     ghost use Rattle.ring_core.specs.Writes.{Wrote, all_written, stores_of};
     ghost use Rattle.ring_core.specs.Offer.{used_writes};
+    ghost use Rattle.ring_core.specs.Asking.{asking};
     ghost use Rattle.queues.specs.Looking.{IsIdle, Looks};
     ghost use Rattle.queues.specs.Completing.{SeenBehind};
 
@@ -297,6 +301,15 @@ impl Queue {
             self.notices += 1;
         }
         answered
+    }
+
+    /// Returns what the device writes to ask the driver for a notification of the next chain, or for none. It reads no
+    /// memory. The bytes lie in the memory that the queue was made with. A broken queue asks for nothing.
+    pub fn asking(&self, notify: Notify) -> Option<Asking>
+        ensures asks { result ≡ asking self.now.ring notify }
+        ensures inside { IfSome result (λ a. a.addr + length a.bytes ≤ self.now.ring.memory) }
+    {
+        self.ring.asking(notify)
     }
 
     /// Returns how many notices were wanted.

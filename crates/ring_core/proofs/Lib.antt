@@ -13,5 +13,6 @@ pub mod Narrowing
 pub mod RightChains
 pub mod ChainProperties
 pub mod Cases
+pub mod Notifying
 pub mod Walking
 pub mod InStores

@@ -9,6 +9,7 @@ pub mod Walking
 pub mod Split
 pub mod Packed
 pub mod Offer
+pub mod Asking
 pub mod Fetch
 pub mod RightChain
 pub mod Cases

@@ -1,13 +1,16 @@
 //! The contract of every virtqueue, in whatever form it lies in memory.
 
-ghost use Rattle.std.specs.Prelude.{◌≡◌, ◌↔◌, ◌<◌, ◌≤◌, List, ℕ, IsTrue};
+ghost use Rattle.std.specs.Prelude.{◌≡◌, ◌↔◌, ◌+◌, ◌<◌, ◌≤◌, List, ℕ, IsTrue, length};
+ghost use Rattle.std.specs.Option.{IfSome};
 ghost use Rattle.ring_core.specs.State.{RingState, Owns, using};
 ghost use Rattle.ring_core.specs.Sound.{IsSound, IsLeastOutstanding, outstanding_count};
 ghost use Rattle.ring_core.specs.Writes.{Wrote, stores_of};
 ghost use Rattle.ring_core.specs.Offer.{Offers, Nothing, used_writes, wants_notice};
+ghost use Rattle.ring_core.specs.Asking.{asking};
 ghost use Rattle.ring_core.specs.Fetch.{Fetches};
 
 use crate::answered::{Answered, Completion};
+use crate::asking::{Asking, Notify};
 use crate::chain::{Chain, Fetched};
 use crate::fault::RingFault;
 use crate::log::{QueueLog, Ticket};
@@ -91,6 +94,12 @@ pub trait Ring {
         ensures stores { M.stored memory.new ≡ M.stored memory.old }
         ensures reading { M.is_open memory.new }
         ensures wants { (m : List ℕ) → M.may_be memory.new m → result ≡ wants_notice (state self.now) m };
+
+    /// Returns what the device writes to ask the driver for a notification of the next chain, or for none. It reads no
+    /// memory. The bytes lie in the device area, in a memory that `fits`. A broken queue asks for nothing.
+    fn asking(&self, notify: Notify) -> Option<Asking>
+        ensures asks { result ≡ asking (state self.now) notify }
+        ensures inside { IfSome result (λ a. a.addr + length a.bytes ≤ (state self.now).memory) };
 
     /// Returns which chains were accepted, and which were used. The queue's counts and its outstanding chains agree
     /// with it. No more chains are outstanding than the queue has descriptors (VIRTIO 1.2, 2.7 and 2.8).

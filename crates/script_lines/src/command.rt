@@ -5,7 +5,8 @@ use crate::guest_line::GuestLine;
 use crate::header::{HeaderLine, only};
 use crate::print_line::PrintLine;
 use crate::step::Step;
-use crate::values::{capacity, name, unit_pair};
+use crate::values::{capacity, name, number, unit_pair};
+use ring_core::Notify;
 use scsi_codec::Address;
 use std::alloc::Global;
 
@@ -18,6 +19,8 @@ pub enum Command<'a> {
     Hard(Address),
     /// The operator gives a unit, which may be absent, so many blocks, 1 to 2^40 as a line is read.
     Resize(Address, u64),
+    /// The device asks the driver of a queue, which may be absent, for a notification of the next chain, or for none.
+    Ask(u16, Notify),
     /// The device runs until nothing is left to do.
     Settle,
     /// The device takes one step, if it applies.
@@ -49,6 +52,7 @@ impl<'a> Command<'a> {
         match keyword {
             "hard" => Ok(Command::Hard(unit_pair(only(values)?)?)),
             "resize" => Ok(resize(values)?),
+            "ask" => Ok(ask(values)?),
             "settle" => Ok(alone(values, Command::Settle)?),
             "wait" => Ok(Command::Wait(name(only(values)?)?)),
             "close" => Ok(alone(values, Command::Close)?),
@@ -75,6 +79,25 @@ fn resize<'a>(values: &[&str]) -> Result<Command<'a>, LineFault> {
     let unit = unit_pair(unit)?;
     let blocks = capacity(blocks)?;
     Ok(Command::Resize(unit, blocks))
+}
+
+/// Reads what is asked of a driver.
+pub(crate) fn notify(word: &str) -> Result<Notify, LineFault> {
+    match word {
+        "next" => Ok(Notify::Next),
+        "never" => Ok(Notify::Never),
+        _ => Err(LineFault::BadValue),
+    }
+}
+
+/// Reads the values of an ask.
+fn ask<'a>(values: &[&str]) -> Result<Command<'a>, LineFault> {
+    let [queue, word] = values else {
+        return Err(LineFault::BadValue);
+    };
+    let queue = number(queue)?;
+    let notify = notify(word)?;
+    Ok(Command::Ask(queue, notify))
 }
 
 /// Returns a line that has no values; `BadValue` where it has some.

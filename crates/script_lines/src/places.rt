@@ -2,6 +2,7 @@
 
 ghost use Rattle.std.specs.Prelude.{◌≤◌, length, IfOk, IfSome};
 
+use crate::command::notify;
 use crate::fault::Stop;
 use crate::guest_line::{attribute, command_block};
 use crate::header::{Features, LARGEST_SIZE};
@@ -41,6 +42,8 @@ enum Place {
     Feature,
     /// A further feature, if any.
     MoreFeatures,
+    /// What is asked of a driver.
+    Notify,
     /// `calm`, if anything.
     Calm,
     /// `out` or `in`, if anything.
@@ -76,6 +79,7 @@ impl Place {
             Place::Attribute => attribute(word).is_ok(),
             Place::Form => word == "split" || word == "packed",
             Place::Feature | Place::MoreFeatures => Features::NONE.with(word).is_ok(),
+            Place::Notify => notify(word).is_ok(),
             Place::Calm => word == "calm",
             Place::OutOrIn => word == "out" || word == "in",
             Place::In => word == "in",
@@ -161,7 +165,8 @@ fn other_place(keyword: &str, index: usize) -> Place {
         ("resize", 1) => Place::Capacity,
         ("blocks", 1 | 2) => Place::Number64,
         ("wait" | "show", 0) => Place::Name,
-        ("order" | "notices" | "fetch" | "enter" | "direct", 0) => Place::Number16,
+        ("order" | "notices" | "fetch" | "enter" | "direct" | "ask", 0) => Place::Number16,
+        ("ask", 1) => Place::Notify,
         ("put" | "take" | "prepare" | "commit" | "answer" | "leave", 0) => Place::Number16,
         _ => Place::End,
     }

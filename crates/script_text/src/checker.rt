@@ -124,7 +124,7 @@ impl Checker {
             (Kind::Play, Command::Wait(_) | Command::Close | Command::Abandon) => false,
             (Kind::Play, _) => true,
             (Kind::Serve, Command::Print(_)) => self.is_closed,
-            (Kind::Serve, Command::Settle | Command::Step(_)) => false,
+            (Kind::Serve, Command::Settle | Command::Step(_) | Command::Ask(_, _)) => false,
             (Kind::Serve, _) => !self.is_closed,
         }
     }

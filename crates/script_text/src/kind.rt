@@ -40,7 +40,9 @@ impl Kind {
             "settle" | "fetch" | "enter" | "direct" | "put" | "take" | "prepare" | "commit" => {
                 Some(Kind::Play)
             }
-            "answer" | "leave" | "mark" | "check" | "answertmf" | "raise" => Some(Kind::Play),
+            "answer" | "leave" | "mark" | "check" | "answertmf" | "raise" | "ask" => {
+                Some(Kind::Play)
+            }
             "show" | "order" | "blocks" | "history" | "events" | "status" | "notices" => {
                 Some(Kind::Play)
             }

@@ -5,6 +5,7 @@ pub use Rattle.ring_core.specs.Walk
 pub use Rattle.ring_core.specs.Walking
 pub use Rattle.ring_core.specs.Split
 pub use Rattle.ring_core.specs.Offer
+pub use Rattle.ring_core.specs.Asking
 pub use Rattle.ring_core.specs.Fetch
 pub mod Placement
 pub mod IsSplit

@@ -5,14 +5,17 @@ use crate::placement::check_layout;
 use crate::walk::{fault_without_room, walk};
 use guest_mem::{Memory, WritableMemory};
 use ring_core::{
-    Chain, Completion, Draft, FIRST_BYTES, Features, Fetched, Layout, LayoutFault, QueueLog, Ring,
-    RingBase, RingFault, Ticket, gather,
+    Asking, Chain, Completion, Draft, FIRST_BYTES, Features, Fetched, Layout, LayoutFault, Notify,
+    QueueLog, Ring, RingBase, RingFault, Ticket, gather,
 };
 use std::alloc::Global;
 use std::marker::Model;
 
 /// VIRTQ_AVAIL_F_NO_INTERRUPT: the driver asks for no notice (VIRTIO 1.2, 2.7.7).
 const NO_INTERRUPT: u16 = 1;
+
+/// VIRTQ_USED_F_NO_NOTIFY: the device asks for no notification (VIRTIO 1.2, 2.7.10).
+const NO_NOTIFY: u16 = 1;
 
 /// A chain that was found and not accepted yet.
 #[derive(Drop)]
@@ -75,6 +78,7 @@ impl SplitRing {
 impl SplitRing {
     ghost use Rattle.std.specs.Prelude.{◌≡◌, ◌≢◌, ◌<◌, List, ℕ, MatchResult, IfOk, None, Some};
     ghost use Rattle.ring_core.specs.Split.{available_index, ahead as ahead_of, entry_wrong, next_head, used_index_after};
+    ghost use Rattle.ring_core.specs.Asking.{wanted_index};
     ghost use Rattle.split_ring.specs.Inner.{SplitFinds};
 
     /// Returns the index of the available ring's next entry.
@@ -91,6 +95,17 @@ impl SplitRing {
     {
         let first = self.base.layout().first_used.index;
         first.wrapping_add((used % 65536) as u16)
+    }
+
+    /// Returns the index of the entry of which a driver notifies the device, where event indices were agreed.
+    fn wanted_index(&self, notify: Notify) -> u16
+        ensures { result ≡ wanted_index self.now notify }
+    {
+        let next = self.available_index();
+        match notify {
+            Notify::Next => next,
+            Notify::Never => next.wrapping_sub(1),
+        }
     }
 
     /// Returns how many entries of the available ring weren't accepted yet.
@@ -272,6 +287,22 @@ impl Ring for SplitRing {
         let used = self.base.log().used();
         let event = number_at(memory, layout.driver + 4 + 2 * layout.size as u64);
         used != 0 && event == self.used_index_after(used - 1)
+    }
+
+    fn asking(&self, notify: Notify) -> Option<Asking> {
+        if self.base.is_broken() {
+            return None;
+        }
+        let layout = self.base.layout();
+        if self.base.features().event_index {
+            let place = layout.device + 4 + 8 * layout.size as u64;
+            return Some(Asking::one(place, self.wanted_index(notify)));
+        }
+        let flags = match notify {
+            Notify::Next => 0,
+            Notify::Never => NO_NOTIFY,
+        };
+        Some(Asking::one(layout.device, flags))
     }
 
     fn log(&self) -> &QueueLog {

@@ -11,6 +11,7 @@ pub mod Fetches
 pub mod Checks
 pub mod Responds
 pub mod Pokes
+pub mod Asked
 pub mod Off
 pub mod Finding
 pub mod Handing

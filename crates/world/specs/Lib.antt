@@ -11,3 +11,4 @@ pub mod Views
 pub mod Notifications
 pub mod Promise
 pub mod LiveWorld
+pub mod Asking

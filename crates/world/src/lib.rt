@@ -1,6 +1,7 @@
 //! The device: guest memory, its virtqueues, its units and its seats, as a machine of atomic steps.
 #![tactic(auto)]
 
+mod asking;
 mod bay;
 mod cursor;
 mod device;
@@ -30,7 +31,7 @@ pub use phases::{
     phase_mark, phase_prepare, phase_raise, phase_resize, phase_start_pages,
 };
 pub use queues::{AnyRing, Queue};
-pub use ring_core::RingFault;
+pub use ring_core::{Notify, RingFault};
 pub use service::Served;
 pub use unit_attention::Code;
 pub use unit_history::{Changes, StepKind, UnitState};

@@ -6,6 +6,8 @@ ghost use Rattle.config.specs.Config.{is_config, size_of};
 ghost use Rattle.device_model.specs.Events.{Event as AnEvent, plain_event};
 ghost use Rattle.world.specs.Apart.{PlainDevice, TurnsIn, TurnsInOrWants, IsSoundIn, FitsIn, HasFew};
 
+mod asking;
+
 use crate::device::Device;
 use crate::opening::open_device;
 use crate::sound::all_are_sound;
