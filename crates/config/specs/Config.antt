@@ -51,14 +51,24 @@ are_queues None memory queues = false
 are_queues (Some form) memory queues =
     nat_le 3 (length queues) && nat_le (length queues) 18 && list_all (is_queue form memory) queues
 
+-- how many bytes the pages are that it names
 abbrev pub size_of : Config → ℕ
 size_of c = c.pages * 4096
 
-abbrev pub is_config : Config → Bool
-is_config c =
-    nat_le 1 c.pages && nat_le c.pages 65536 && are_queues (form_of c.features) (size_of c) c.queues.items
+-- the device takes it on a memory of this size, whoever owns that: the pages that it names aren't looked at
+abbrev pub is_config_for : ℕ → Config → Bool
+is_config_for size c =
+    are_queues (form_of c.features) size c.queues.items
     && nat_le 1 c.workers && nat_le c.workers 8 && nat_le 1 c.handoff && nat_le c.handoff 4096
     && are_units c.units.items
+
+-- it names 1 to 65,536 pages: as many as a memory of the device's own may have
+abbrev pub has_pages : Config → Bool
+has_pages c = nat_le 1 c.pages && nat_le c.pages 65536
+
+-- the device takes it, on a memory of its own
+abbrev pub is_config : Config → Bool
+is_config c = has_pages c && is_config_for (size_of c) c
 
 -- a configuration is refused as such exactly where the device doesn't take it
 abbrev pub StartRefusedAs : Config → StartFault → Type 0

@@ -85,31 +85,35 @@ abbrev pub IsQueuesFaultOf : Option Form → ℕ → List Layout → ConfigFault
 IsQueuesFaultOf None memory queues f = ⊥
 IsQueuesFaultOf (Some form) memory queues f = IsQueuesFault form memory queues f
 
+-- features and queues are taken on a memory of this size
+abbrev pub HasQueues : ℕ → Config → Type 0
+HasQueues size c = are_queues (form_of c.features) size c.queues.items ≡ true
+
+-- and so are the workers; and the room of the hand-off
+abbrev pub HasWorkers : ℕ → Config → Type 0
+HasWorkers size c = HasQueues size c × (is_within 1 8 c.workers ≡ true)
+
+abbrev pub HasHandoff : ℕ → Config → Type 0
+HasHandoff size c = HasWorkers size c × (is_within 1 4096 c.handoff ≡ true)
+
+-- on a memory of this size each cause where none of those before it holds: features, queues, workers, the hand-off, units
+abbrev pub IsFaultFor : ℕ → Config → ConfigFault → Type 0
+IsFaultFor size c fault.Pages = ⊥
+IsFaultFor size c fault.Features = form_of c.features ≡ None
+IsFaultFor size c fault.QueueCount = IsQueuesFaultOf (form_of c.features) size c.queues.items fault.QueueCount
+IsFaultFor size c (fault.QueueSize place) =
+    IsQueuesFaultOf (form_of c.features) size c.queues.items (fault.QueueSize place)
+IsFaultFor size c (fault.QueueLayout place cause) =
+    IsQueuesFaultOf (form_of c.features) size c.queues.items (fault.QueueLayout place cause)
+IsFaultFor size c fault.Workers = HasQueues size c × (is_within 1 8 c.workers ≡ false)
+IsFaultFor size c fault.Handoff = HasWorkers size c × (is_within 1 4096 c.handoff ≡ false)
+IsFaultFor size c f = HasHandoff size c × IsUnitsFault c.units.items f
+
 -- there are as many pages as there may be
 abbrev pub HasPages : Config → Type 0
 HasPages c = is_within 1 65536 c.pages ≡ true
 
--- pages, features and queues are taken
-abbrev pub HasQueues : Config → Type 0
-HasQueues c = HasPages c × (are_queues (form_of c.features) (size_of c) c.queues.items ≡ true)
-
--- and so are the workers; and the room of the hand-off
-abbrev pub HasWorkers : Config → Type 0
-HasWorkers c = HasQueues c × (is_within 1 8 c.workers ≡ true)
-
-abbrev pub HasHandoff : Config → Type 0
-HasHandoff c = HasWorkers c × (is_within 1 4096 c.handoff ≡ true)
-
--- each cause where none of those before it holds: pages, features, queues, workers, the hand-off, units
+-- on a memory of its own: the pages first, then that cause
 abbrev pub IsFault : Config → ConfigFault → Type 0
 IsFault c fault.Pages = is_within 1 65536 c.pages ≡ false
-IsFault c fault.Features = HasPages c × (form_of c.features ≡ None)
-IsFault c fault.QueueCount =
-    HasPages c × IsQueuesFaultOf (form_of c.features) (size_of c) c.queues.items fault.QueueCount
-IsFault c (fault.QueueSize place) =
-    HasPages c × IsQueuesFaultOf (form_of c.features) (size_of c) c.queues.items (fault.QueueSize place)
-IsFault c (fault.QueueLayout place cause) =
-    HasPages c × IsQueuesFaultOf (form_of c.features) (size_of c) c.queues.items (fault.QueueLayout place cause)
-IsFault c fault.Workers = HasQueues c × (is_within 1 8 c.workers ≡ false)
-IsFault c fault.Handoff = HasWorkers c × (is_within 1 4096 c.handoff ≡ false)
-IsFault c f = HasHandoff c × IsUnitsFault c.units.items f
+IsFault c f = HasPages c × IsFaultFor (size_of c) c f

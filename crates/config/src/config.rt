@@ -1,8 +1,8 @@
 //! The configuration of a device.
 
 ghost use Rattle.std.specs.Prelude.{◌≡◌, ◌&&◌, nat_le, is_none, IfSome};
-ghost use Rattle.config.specs.Config.{form_of, has_bit, is_config};
-ghost use Rattle.config.specs.ConfigFault.{IsFault};
+ghost use Rattle.config.specs.Config.{form_of, has_bit, is_config, is_config_for};
+ghost use Rattle.config.specs.ConfigFault.{IsFault, IsFaultFor};
 
 use crate::config_fault::{ConfigFault, fault_of_queues, fault_of_units};
 use decisions::UnitSpec;
@@ -38,7 +38,8 @@ pub const ACCEPTED_FEATURES: u64 = FEATURES + EVENT_IDX;
 /// A device that is wanted.
 #[derive(Debug, Drop)]
 pub struct Config {
-    /// Guest memory in pages of 4,096 bytes, 1 to 65,536.
+    /// Guest memory in pages of 4,096 bytes, 1 to 65,536, where the device has a memory of its own. A device on a memory
+    /// of the embedder's doesn't look at it: that memory says how many bytes it has.
     pub pages: u32,
     /// The features agreed: `VERSION_1`, and any others of `ACCEPTED_FEATURES`.
     pub features: u64,
@@ -102,8 +103,7 @@ fn lies_within(number: u64, least: u64, most: u64) -> bool
 
 impl Config {
     /// Returns why the device doesn't take it; `None` exactly where it does. Asked before a device is made, to say why
-    /// `World::new` would answer `BadConfig`. Pages are looked at first, then features, queues, workers, the hand-off
-    /// and units.
+    /// `World::new` would answer `BadConfig`. Pages are looked at first, then what `fault_for` looks at.
     pub fn fault(&self) -> Option<ConfigFault>
         ensures none { is_none result ≡ is_config self.now }
         ensures cause { IfSome result (λ fault. IsFault self.now fault) }
@@ -111,10 +111,19 @@ impl Config {
         if !lies_within(self.pages as u64, 1, 65536) {
             return Some(ConfigFault::Pages);
         }
+        self.fault_for(self.pages as u64 * 4096)
+    }
+
+    /// Returns why the device doesn't take it on a memory of so many bytes; `None` exactly where it does. Asked before a
+    /// device is made on a memory of the embedder's, to say why `LiveWorld::new` would answer `BadConfig`. Features are
+    /// looked at first, then queues, workers, the hand-off and units; pages aren't.
+    pub fn fault_for(&self, memory: u64) -> Option<ConfigFault>
+        ensures none { is_none result ≡ is_config_for memory self.now }
+        ensures cause { IfSome result (λ fault. IsFaultFor memory self.now fault) }
+    {
         let Some(form) = form(self.features) else {
             return Some(ConfigFault::Features);
         };
-        let memory = self.pages as u64 * 4096;
         if let Some(fault) = fault_of_queues(form, memory, self.queues.as_slice()) {
             return Some(fault);
         }
@@ -132,5 +141,12 @@ impl Config {
         ensures { result ≡ is_config self.now }
     {
         self.fault().is_none()
+    }
+
+    /// Returns true if the device takes it on a memory of so many bytes.
+    pub fn is_valid_for(&self, memory: u64) -> bool
+        ensures { result ≡ is_config_for memory self.now }
+    {
+        self.fault_for(memory).is_none()
     }
 }

@@ -127,7 +127,7 @@ fn serve_over(alloc: Global, bytes: &mut GuestMem) -> Result<u64, Fail> {
 }
 
 /// Returns true if a device refuses a configuration as bad.
-fn is_refused(alloc: Global, numbers: Numbers, memory: GuestMem) -> bool {
+fn is_refused<M: WritableMemory + Drop>(alloc: Global, numbers: Numbers, memory: M) -> bool {
     match open(alloc, numbers, memory) {
         Err(StartFault::BadConfig) => true,
         Ok(_) | Err(StartFault::NoMemory) => false,
@@ -200,12 +200,20 @@ fn serves_memory_that_changes(rt: HostRuntime) -> Result<(), Fail> {
 }
 
 #[test]
-fn refuses_another_size(rt: HostRuntime) -> Result<(), Fail> {
-    let fewer = Numbers {
-        pages: 15,
+fn takes_memory_of_any_size(rt: HostRuntime) -> Result<(), Fail> {
+    let unnamed = Numbers {
+        pages: 0,
         ..NUMBERS
     };
-    assert!(rt; is_refused(rt.alloc(), fewer, GuestMem::new(rt.alloc(), PAGES)?));
-    assert!(rt; !is_refused(rt.alloc(), NUMBERS, GuestMem::new(rt.alloc(), PAGES)?));
+    let mut bytes = GuestMem::new(rt.alloc(), 1)?;
+    let bus = RestlessBus { bytes: &mut bytes };
+    assert!(rt;
+        !is_refused(
+            rt.alloc(),
+            unnamed,
+            LiveMem::new(rt.alloc(), bus, 1 << 52, 0, 0)?
+        )
+    );
+    assert!(rt; is_refused(rt.alloc(), NUMBERS, GuestMem::new(rt.alloc(), 1)?));
     Ok(())
 }

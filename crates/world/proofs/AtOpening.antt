@@ -1,6 +1,6 @@
 -- The queues, the units and the seats of a device that opens.
 use Rattle.std.proofs.Common.{◌≡◌, ◌≤◌, ◌^◌, ℕ, Bool, true, None, Some, Option, refl, List, [], ◌∷◌, ◌++◌, ◌+◌, ◌*◌, ◌<◌, ◌&&◌, length, zero, suc, arith, ap, sym, ◌∙◌, ◌⊎◌, inl, inr, subst, map}
-use Rattle.std.specs.Prelude.{slice_get, slice_set, nat_le, is_none}
+use Rattle.std.specs.Prelude.{replicate, slice_get, slice_set, nat_le, is_none}
 use Rattle.std.specs.List.{list_all}
 use Rattle.std.proofs.lemmas.Bool.{and_parts}
 use Rattle.std.proofs.lemmas.Bool.Decides.{nat_tests}
@@ -22,10 +22,10 @@ use Rattle.device_model.proofs.Lists.{nothing, same}
 use Rattle.queues.specs.Queue.{opening_ring, opening_queue, placement_of}
 use Rattle.phases.specs.Queue.{with_slot}
 use Rattle.config.specs.declared.config.Config.{Config}
-use Rattle.config.specs.Config.{is_config, is_queue, is_unit, has_lun_0, are_queues, are_units, form_of, size_of}
+use Rattle.config.specs.Config.{is_config, is_config_for, has_pages, is_queue, is_unit, has_lun_0, are_queues, are_units, form_of, size_of}
 use Rattle.block_store.specs.declared.paged.PagedStore.{PagedStore}
 use Rattle.unit_history.specs.Disks.{opening_over, IsDiskOf}
-use Rattle.world.specs.Opening.{AreOpening, AreFresh, AreSeats, IsOpening, AreDisksOf, IsOpeningOver, over_disks, opening_unit}
+use Rattle.world.specs.Opening.{AreOpening, AreFresh, AreSeats, IsOpeningFor, AreDisksOf, over_disks, opening_unit}
 use Rattle.world.specs.Kept.{KeptSeat, seat_of, HasLists}
 use Rattle.world.specs.Sound.{AreFew, AreFitting, IsSteady, IsWhole}
 use Rattle.world.proofs.Setting.{map_get, each_image}
@@ -143,24 +143,28 @@ few_queues (Some form) memory layouts h =
     (and_parts (nat_le 3 (length layouts)) (nat_le (length layouts) 18)
     (and_parts (nat_le 3 (length layouts) && nat_le (length layouts) 18) (list_all (is_queue form memory) layouts) h).0).1
 
--- of eight tests that all hold, the third to the fifth
-three_of : (a b c d e f g h : Bool) → (a && b && c && d && e && f && g && h) ≡ true
-    → (c ≡ true) × (d ≡ true) × (e ≡ true)
-three_of a b c d e f g h is =
-    let p = and_parts (a && b && c && d && e && f && g) h is in
-    let q = and_parts (a && b && c && d && e && f) g p.0 in
-    let r = and_parts (a && b && c && d && e) f q.0 in
-    let s = and_parts (a && b && c && d) e r.0 in
-    let t = and_parts (a && b && c) d s.0 in
-    ((and_parts (a && b) c t.0).1, t.1, s.1)
+-- a configuration that is taken on a memory of this size has few queues, and 1 to 8 workers; its queues and its units are
+-- taken
+record Taken (size : ℕ) (c : Config) : Type 0 where
+  queues : are_queues (form_of c.features) size c.queues.items ≡ true
+  least : 1 ≤ c.workers
+  most : c.workers ≤ 8
+  units : are_units c.units.items ≡ true
 
--- a configuration that is taken has few queues, and 1 to 8 workers
-config_few : (c : Config) → is_config c ≡ true
-    → (length c.queues.items ≤ 18) × (1 ≤ c.workers) × (c.workers ≤ 8)
-config_few c is =
-    let t = three_of (nat_le 1 c.pages) (nat_le c.pages 65536) (are_queues (form_of c.features) (size_of c) c.queues.items)
-    (nat_le 1 c.workers) (nat_le c.workers 8) (nat_le 1 c.handoff) (nat_le c.handoff 4096) (are_units c.units.items) is in
-    (few_queues (form_of c.features) (size_of c) c.queues.items t.0, below 1 c.workers t.1, below c.workers 8 t.2)
+taken : (size : ℕ) (c : Config) → is_config_for size c ≡ true → Taken size c
+taken size c is =
+    let queues = are_queues (form_of c.features) size c.queues.items in
+    let p = and_parts (queues && nat_le 1 c.workers && nat_le c.workers 8 && nat_le 1 c.handoff && nat_le c.handoff 4096)
+    (are_units c.units.items) is in
+    let q = and_parts (queues && nat_le 1 c.workers && nat_le c.workers 8 && nat_le 1 c.handoff) (nat_le c.handoff 4096) p.0 in
+    let r = and_parts (queues && nat_le 1 c.workers && nat_le c.workers 8) (nat_le 1 c.handoff) q.0 in
+    let s = and_parts (queues && nat_le 1 c.workers) (nat_le c.workers 8) r.0 in
+    let t = and_parts queues (nat_le 1 c.workers) s.0 in
+    record { queues = t.0; least = below 1 c.workers t.1; most = below c.workers 8 s.1; units = p.1 }
+
+-- on a memory of its own it is taken on one of the size that it names
+pub taken_own : (c : Config) → is_config c ≡ true → is_config_for (size_of c) c ≡ true
+taken_own c is = (and_parts (has_pages c) (is_config_for (size_of c) c) is).1
 
 -- each unit has the address that stands in the inventory at its place
 addressed_open : (wanted : List UnitSpec) (inventory : List Address) (units : List PlainUnit) → AreFresh wanted units
@@ -185,14 +189,13 @@ over_addresses f (v ∷ units) (disk ∷ disks) is (suc i) u at =
     over_addresses (λ j. f (suc j)) units disks (λ j z e. is (suc j) z e) i u at
 
 -- in the device of a configuration that is taken nothing has happened yet
-pub opens : (c : Config) (w : PlainWorld) → is_config c ≡ true → IsOpening c w → Opens w
-opens c w is o =
-    let few = config_few c is in
+pub opens : (size : ℕ) (c : Config) (w : PlainWorld) → is_config_for size c ≡ true → IsOpeningFor size c w → Opens w
+opens size c w is o =
     record {
       queues =
-          each_made (λ (k : ℕ) (l : Layout). with_slot Slot.Empty (opening_queue o.form (size_of c) k l (features_of c.features)))
+          each_made (λ (k : ℕ) (l : Layout). with_slot Slot.Empty (opening_queue o.form size k l (features_of c.features)))
           IsNewQueue c.queues.items w.queues o.queues.count o.queues.each
-          (λ k l. opens_new o.form (size_of c) k l (features_of c.features));
+          (λ k l. opens_new o.form size k l (features_of c.features));
       units =
           each_made (λ (k : ℕ) (u : UnitSpec). opening_unit (map address_of c.units.items) u)
           (λ (k : ℕ) (u : PlainUnit). IsNewUnit u) c.units.items w.units o.units.count o.units.each
@@ -200,7 +203,7 @@ opens c w is o =
       there = o.units.count ∙ (sym (rw length-map refl) ∙ ap length (sym o.inventory));
       addressed = addressed_open c.units.items w.inventory w.units o.units o.inventory;
       seats = o.idle;
-      working = subst (λ n. 1 ≤ n) (sym o.workers) few.1;
+      working = subst (λ n. 1 ≤ n) (sym o.workers) (taken size c is).least;
       seated = o.seats ∙ ap (λ n. n + 1) (sym o.workers);
       handed_off = o.handed_off;
       lists = o.lists;
@@ -279,44 +282,37 @@ luns_open wanted units is named =
     subst (λ (z : PlainUnit). seen.lun_of z ≤ 16383) (same (sym (is.each k found.0 found.1) ∙ at))
     (named k found.0 found.1))
 
--- the tests of the queues and of the units of a configuration that is taken
-config_tests : (c : Config) → is_config c ≡ true
-    → (are_queues (form_of c.features) (size_of c) c.queues.items ≡ true) × (are_units c.units.items ≡ true)
-config_tests c is =
-    let last = and_parts (nat_le 1 c.pages && nat_le c.pages 65536 && are_queues (form_of c.features) (size_of c) c.queues.items
-    && nat_le 1 c.workers && nat_le c.workers 8 && nat_le 1 c.handoff && nat_le c.handoff 4096) (are_units c.units.items) is in
-    let t = three_of (nat_le 1 c.pages) (nat_le c.pages 65536) (are_queues (form_of c.features) (size_of c) c.queues.items)
-    (nat_le 1 c.workers) (nat_le c.workers 8) (nat_le 1 c.handoff) (nat_le c.handoff 4096) (are_units c.units.items) is in
-    (t.0, last.1)
-
 -- and so it is whole
-opens_whole : (c : Config) (w : PlainWorld) → is_config c ≡ true → IsOpening c w → IsWhole w
-opens_whole c w is o =
-    let few = config_few c is in
-    let tests = config_tests c is in
-    let units = units_named c.units.items tests.1 in
+opens_whole : (size : ℕ) (c : Config) (w : PlainWorld) → is_config_for size c ≡ true → IsOpeningFor size c w → IsWhole w
+opens_whole size c w is o =
+    let t = taken size c is in
+    let units = units_named c.units.items t.units in
     record {
-      reached = record { old = w; trace = []; reached = record { opens = opens c w is o; runs = refl } };
+      reached = record { old = w; trace = []; reached = record { opens = opens size c w is o; runs = refl } };
       few = record {
-        several = omega (arith, some_queues (form_of c.features) (size_of c) c.queues.items tests.0, o.queues.count);
-        queues = omega (arith, few.0, o.queues.count);
-        seats = omega (arith, few.2, o.seats);
+        several = omega (arith, some_queues (form_of c.features) size c.queues.items t.queues, o.queues.count);
+        queues = omega (arith, few_queues (form_of c.features) size c.queues.items t.queues, o.queues.count);
+        seats = omega (arith, t.most, o.seats);
         units = omega (arith, units.0, o.units.count);
-        sizes = sizes_open o.form (size_of c) (features_of c.features) c.queues.items w.queues o.queues
-            (layouts_small (form_of c.features) (size_of c) c.queues.items tests.0);
+        sizes = sizes_open o.form size (features_of c.features) c.queues.items w.queues o.queues
+            (layouts_small (form_of c.features) size c.queues.items t.queues);
         luns = luns_open c.units.items w.units o.units units.1;
       };
     }
 
 -- its rings are for its memory
-fits_open : (c : Config) (w : PlainWorld) → IsOpening c w → AreFitting w
-fits_open c w o =
-    let size : size_of c ≡ length w.memory = sym (ap (λ m. length m) o.memory ∙ length-replicate (size_of c) 0) in
-    subst (λ (n : ℕ). Everywhere (λ (k : ℕ) (q : PlainQueue). q.ring.memory ≡ n) w.queues) size
-    (rings_open o.form (features_of c.features) (size_of c) c.queues.items w.queues o.queues)
+fits_open : (size : ℕ) (c : Config) (w : PlainWorld) → length w.memory ≡ size → IsOpeningFor size c w → AreFitting w
+fits_open size c w long o =
+    subst (λ (n : ℕ). Everywhere (λ (k : ℕ) (q : PlainQueue). q.ring.memory ≡ n) w.queues) (sym long)
+    (rings_open o.form (features_of c.features) size c.queues.items w.queues o.queues)
 
-pub opens_steady : (c : Config) (w : PlainWorld) → is_config c ≡ true → IsOpening c w → IsSteady w
-opens_steady c w is o = record { whole = opens_whole c w is o; fits = fits_open c w o }
+pub opens_steady : (size : ℕ) (c : Config) (w : PlainWorld) → length w.memory ≡ size → is_config_for size c ≡ true
+    → IsOpeningFor size c w → IsSteady w
+opens_steady size c w long is o = record { whole = opens_whole size c w is o; fits = fits_open size c w long o }
+
+-- the memory of a device's own has the size that the configuration names
+pub long_own : (c : Config) (m : List ℕ) → m ≡ replicate (size_of c) 0 → length m ≡ size_of c
+long_own c m is = ap (λ (z : List ℕ). length z) is ∙ length-replicate (size_of c) 0
 
 -- units of which no step was taken have none over their disks
 new_over : (units : List PlainUnit) (disks : List PagedStore)
@@ -358,47 +354,48 @@ over_last (z ∷ units) [] disk u v at is =
 over_last (z ∷ units) (first ∷ disks) disk u v at is =
     ap (λ (xs : List PlainUnit). record z { opening = opening_over first z.opening } ∷ xs) (over_last units disks disk u v at is)
 
--- in a device that opens over disks nothing has happened yet
-pub opens_over : (c : Config) (disks : List PagedStore) (w : PlainWorld) → is_config c ≡ true → IsOpeningOver c disks w → Opens w
-opens_over c disks w is o =
-    let bare = opens c o.bare is o.opening in
-    subst Opens (sym o.is) (record {
-      queues = bare.queues;
-      units = new_over o.bare.units disks bare.units;
-      there = over_length o.bare.units disks ∙ bare.there;
-      addressed = over_addresses (λ i. slice_get o.bare.inventory i) o.bare.units disks bare.addressed;
-      seats = bare.seats;
-      working = bare.working;
-      seated = bare.seated;
-      handed_off = bare.handed_off;
-      lists = bare.lists;
-      function = bare.function;
-      buffers = bare.buffers;
-      missed = bare.missed;
-      waiting = bare.waiting;
-    })
+-- A device that opens, with these units, opens over the disks:
+module _ (size : ℕ) (c : Config) (disks : List PagedStore) (bare w : PlainWorld) (is : is_config_for size c ≡ true)
+    (o : IsOpeningFor size c bare) (over : w ≡ record bare { units = over_disks bare.units disks }) where
+  -- nothing has happened yet
+  pub opens_over : Opens w
+  opens_over =
+      let b = opens size c bare is o in
+      subst Opens (sym over) (record {
+        queues = b.queues;
+        units = new_over bare.units disks b.units;
+        there = over_length bare.units disks ∙ b.there;
+        addressed = over_addresses (λ i. slice_get bare.inventory i) bare.units disks b.addressed;
+        seats = b.seats;
+        working = b.working;
+        seated = b.seated;
+        handed_off = b.handed_off;
+        lists = b.lists;
+        function = b.function;
+        buffers = b.buffers;
+        missed = b.missed;
+        waiting = b.waiting;
+      })
 
--- and so it is whole
-opens_over_whole : (c : Config) (disks : List PagedStore) (w : PlainWorld) → is_config c ≡ true → IsOpeningOver c disks w
-    → IsWhole w
-opens_over_whole c disks w is o =
-    let few = (opens_whole c o.bare is o.opening).few in
-    record {
-      reached = record { old = w; trace = []; reached = record { opens = opens_over c disks w is o; runs = refl } };
-      few = subst AreFew (sym o.is) (record {
-        several = few.several;
-        queues = few.queues;
-        seats = few.seats;
-        units = subst (λ (n : ℕ). n ≤ 64) (sym (over_length o.bare.units disks)) few.units;
-        sizes = few.sizes;
-        luns = subst (λ (ns : List ℕ). Everywhere (λ k (n : ℕ). n ≤ 16383) ns) (sym (over_luns o.bare.units disks)) few.luns;
-      });
-    }
+  -- and so it is whole
+  opens_over_whole : IsWhole w
+  opens_over_whole =
+      let few = (opens_whole size c bare is o).few in
+      record {
+        reached = record { old = w; trace = []; reached = record { opens = opens_over; runs = refl } };
+        few = subst AreFew (sym over) (record {
+          several = few.several;
+          queues = few.queues;
+          seats = few.seats;
+          units = subst (λ (n : ℕ). n ≤ 64) (sym (over_length bare.units disks)) few.units;
+          sizes = few.sizes;
+          luns = subst (λ (ns : List ℕ). Everywhere (λ k (n : ℕ). n ≤ 16383) ns) (sym (over_luns bare.units disks)) few.luns;
+        });
+      }
 
-pub opens_over_steady : (c : Config) (disks : List PagedStore) (w : PlainWorld) → is_config c ≡ true
-    → IsOpeningOver c disks w → IsSteady w
-opens_over_steady c disks w is o =
-    record { whole = opens_over_whole c disks w is o; fits = subst AreFitting (sym o.is) (fits_open c o.bare o.opening) }
+  pub opens_over_steady : length bare.memory ≡ size → IsSteady w
+  opens_over_steady long =
+      record { whole = opens_over_whole; fits = subst AreFitting (sym over) (fits_open size c bare long o) }
 
 -- the disks of one more unit
 pub disks_more : (units : List PlainUnit) (disks : List PagedStore) (u : PlainUnit) (disk : PagedStore) → AreDisksOf units disks
@@ -426,9 +423,3 @@ lists_over units over seats limit many lists =
       limits = λ k s at. lists.limits k s at ∙ ap (λ (n : ℕ). 64 * n + 64) (sym many);
       port = lists.port;
     }
-
--- a device that opens, with these units, opens over the disks
-pub is_over : (c : Config) (disks : List PagedStore) (bare w : PlainWorld) (units : List PlainUnit) → IsOpening c bare
-    → w ≡ record bare { units = units } → units ≡ over_disks bare.units disks → IsOpeningOver c disks w
-is_over c disks bare w units opening is over =
-    record { bare = bare; opening = opening; is = is ∙ ap (λ (us : List PlainUnit). record bare { units = us }) over }

@@ -4,7 +4,7 @@ use Rattle.std.specs.Prelude.{◌↔◌, IsTrue, IsErr, slice_get}
 use Rattle.guest_mem.specs.Memory.{LiesIn}
 use Rattle.block_store.specs.declared.NoMemory.{NoMemory}
 use Rattle.device_model.specs.Parts.{IsSeen}
-use Rattle.device_model.specs.World.{PlainWorld, Opens}
+use Rattle.device_model.specs.World.{PlainWorld}
 use Rattle.device_model.specs.Events.{Event, plain_event}
 use Rattle.device_model.specs.declared.event.Event as declared
 use Rattle.device_model.specs.Happens.{Occurrence, Reached, Runs, occurrence_of}
@@ -224,41 +224,3 @@ pub ran_step : (shared : Bool) (size : ℕ) (first d : PlainDevice) (xs : List d
     → StepRan shared size d (plain_event e) (Ok b) d' → RanLive shared size first (events_of (xs ++ e ∷ [])) (n + bit b) d'
 ran_step shared size first d xs n e b d' ran step =
     subst (λ es. RanLive shared size first es (n + bit b) d') (sym (events_next xs e)) (step first (events_of xs) n ran)
-
--- Opening
-
--- nothing has happened yet, whatever stands in memory
-pub opens_in : (shared : Bool) (a b : List ℕ) (d : PlainDevice) → Opens (standing false a d) → Opens (standing shared b d)
-opens_in shared a b d o =
-    record {
-      queues = o.queues;
-      units = o.units;
-      there = o.there;
-      addressed = o.addressed;
-      seats = o.seats;
-      working = o.working;
-      seated = o.seated;
-      handed_off = o.handed_off;
-      lists = o.lists;
-      function = o.function;
-      buffers = o.buffers;
-      missed = o.missed;
-      waiting = o.waiting;
-    }
-
--- an opening is reached by the empty trace, and steady
-pub steady_in : (shared : Bool) (a b : List ℕ) (d : PlainDevice) → length b ≡ length a → Opens (standing false a d)
-    → IsSteady (standing false a d) → IsSteady (standing shared b d)
-steady_in shared a b d long o h =
-    let opens = opens_in shared a b d o in
-    record {
-      whole = record {
-        reached = record {
-          old = standing shared b d;
-          trace = [];
-          reached = record { opens = opens; runs = refl };
-        };
-        few = few_in shared b d (has_few false a d h.whole.few);
-      };
-      fits = λ i q at. h.fits i q at ∙ sym long;
-    }

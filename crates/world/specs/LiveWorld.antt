@@ -1,8 +1,9 @@
 -- The device on a memory that its guest writes at any time. What stood there at one event tells nothing of what stands
 -- there at the next; so a trace of its events has a write of the guest before the first of them and behind each.
-use Rattle.std.specs.Prelude.{ℕ, ◌≡◌, ◌+◌, Bool, true, if◌then◌else◌, List, [], ◌∷◌, ◌++◌, length, map, replicate, false, take, Some, slice_get, Result, Ok, Err}
+use Rattle.std.specs.Prelude.{ℕ, ◌≡◌, ◌+◌, Bool, true, if◌then◌else◌, List, [], ◌∷◌, ◌++◌, length, map, false, take, Some, slice_get, Result, Ok, Err}
 use Rattle.block_store.specs.declared.NoMemory.{NoMemory}
-use Rattle.config.specs.Config.{is_config, size_of}
+use Rattle.block_store.specs.declared.paged.PagedStore.{PagedStore}
+use Rattle.config.specs.Config.{is_config_for}
 use Rattle.config.specs.declared.config.Config.{Config}
 use Rattle.config.specs.declared.config.StartFault.{StartFault}
 use Rattle.config.specs.declared.config.StartFault.TheVariants as start
@@ -14,9 +15,9 @@ use Rattle.device_model.specs.Turns.{count_changes}
 use Rattle.device_model.specs.Promise.{IsPromised}
 use Rattle.device_model.specs.Live.{IsRefilled, LiveRuns}
 use Rattle.world.specs.Apart.{PlainDevice, standing, TurnsInOrWants}
-use Rattle.world.specs.Opening.{IsOpening}
+use Rattle.world.specs.Opening.{IsOpeningFor, AreDisksFor, over_disks}
 use Rattle.world.specs.Steps.{events_of}
-use Rattle.world.specs.Sound.{IsSteady}
+use Rattle.world.specs.Sound.{IsReached, IsSteady}
 
 -- a memory, and the device without any
 pub record PlainLive (X : Type 0) : Type 0 where
@@ -29,9 +30,9 @@ IsSteadyIn shared size d = (m : List ℕ) → length m ≡ size → IsSteady (st
 
 -- Opening
 
--- but for its memory, it is the device that the configuration opens as
-abbrev pub IsOpeningApart : Config → PlainDevice → Type 0
-IsOpeningApart c d = IsOpening c (standing false (replicate (size_of c) 0) d)
+-- whichever bytes stand there, it is the device that the configuration opens as on a memory of this size
+abbrev pub IsOpeningApart : ℕ → Config → PlainDevice → Type 0
+IsOpeningApart size c d = (shared : Bool) (m : List ℕ) → IsOpeningFor size c (standing shared m d)
 
 -- it opens whichever bytes stand in a memory of this size
 abbrev pub OpensIn : Bool → ℕ → PlainDevice → Type 0
@@ -41,11 +42,41 @@ OpensIn shared size d = (m : List ℕ) → length m ≡ size → Opens (standing
 abbrev pub BeginsIn : Bool → ℕ → PlainDevice → Type 0
 BeginsIn shared size d = (m : List ℕ) → length m ≡ size → Reached (standing shared m d) [] (standing shared m d)
 
--- a configuration with a memory of this size is refused as such exactly where the device doesn't take it, or it names
--- another size
-abbrev pub InRefusedAs : Config → ℕ → StartFault → Type 0
-InRefusedAs c size start.BadConfig = is_config c ≡ true → size ≡ size_of c → ⊥
-InRefusedAs c size start.NoMemory = (is_config c ≡ true) × (size ≡ size_of c)
+-- a configuration is refused as such exactly where the device doesn't take it on a memory of this size
+abbrev pub InRefusedAs : ℕ → Config → StartFault → Type 0
+InRefusedAs size c start.BadConfig = is_config_for size c ≡ false
+InRefusedAs size c start.NoMemory = is_config_for size c ≡ true
+
+-- Disks
+
+-- a device as it opens, but with the blocks of disks
+pub record IsOpeningOverApart (size : ℕ) (c : Config) (disks : List PagedStore) (d : PlainDevice) : Type 0 where
+  pub bare : PlainDevice
+  pub opening : IsOpeningApart size c bare
+  pub is : d ≡ record bare { units = over_disks bare.units disks }
+
+-- on a memory of this size, the device of some configuration, of which nothing has happened yet, whose disks these may be
+pub record OpensForIn (size : ℕ) (d : PlainDevice) (disks : List PagedStore) : Type 0 where
+  pub config : Config
+  pub taken : is_config_for size config ≡ true
+  pub opening : IsOpeningApart size config d
+  pub are : AreDisksFor config.units.items disks
+
+-- of whichever configuration it was the device, now it is that over these disks
+abbrev pub OpensAnewIn : ℕ → PlainDevice → List PagedStore → PlainDevice → Type 0
+OpensAnewIn size old disks new = (c : Config) → IsOpeningApart size c old → IsOpeningOverApart size c disks new
+
+-- a configuration with disks is refused as such exactly where the device doesn't take it on a memory of this size, or they
+-- aren't its disks
+abbrev pub OverRefusedIn : ℕ → Config → List PagedStore → StartFault → Type 0
+OverRefusedIn size c disks start.BadConfig = is_config_for size c ≡ true → AreDisksFor c.units.items disks → ⊥
+OverRefusedIn size c disks start.NoMemory = (is_config_for size c ≡ true) × AreDisksFor c.units.items disks
+
+-- Laws
+
+-- some trace reached it from an opening, whichever bytes stand in a memory of this size
+abbrev pub IsReachedIn : Bool → ℕ → PlainDevice → Type 0
+IsReachedIn shared size d = (m : List ℕ) → length m ≡ size → IsReached (standing shared m d)
 
 -- What a call did
 

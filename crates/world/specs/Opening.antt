@@ -57,14 +57,13 @@ pub record AreSeats (count limit : ℕ) (seats : List KeptSeat) : Type 0 where
   pub many : length seats ≡ count
   pub each : Everywhere (λ (k : ℕ) (s : KeptSeat). s ≡ record { hand = Hand.Empty; jobs = []; limit = limit }) seats
 
--- memory is zeros, of each queue nothing was fetched, of each unit no step was taken, and no seat has anything
-pub record IsOpening (c : Config) (w : PlainWorld) : Type 0 where
+-- for a memory of this size, whatever stands there: of each queue nothing was fetched, of each unit no step was taken, and
+-- no seat has anything
+pub record IsOpeningFor (size : ℕ) (c : Config) (w : PlainWorld) : Type 0 where
   pub form : Form
   pub agreed : form_of c.features ≡ Some form
-  pub memory : w.memory ≡ replicate (size_of c) 0
-  pub own : w.shared ≡ false
   pub inventory : w.inventory ≡ map address_of c.units.items
-  pub queues : AreOpening form (size_of c) (features_of c.features) c.queues.items w.queues
+  pub queues : AreOpening form size (features_of c.features) c.queues.items w.queues
   pub units : AreFresh c.units.items w.units
   pub workers : w.workers ≡ c.workers
   pub limit : w.limit ≡ c.handoff
@@ -77,6 +76,13 @@ pub record IsOpening (c : Config) (w : PlainWorld) : Type 0 where
   pub missed : w.missed ≡ false
   pub waiting : w.waiting ≡ []
   pub tells_changes : w.tells_changes ≡ has_bit c.features 2
+
+-- memory is the device's own, and zeros; of each queue nothing was fetched, of each unit no step was taken, and no seat has
+-- anything
+pub record IsOpening (c : Config) (w : PlainWorld) : Type 0 where
+  pub memory : w.memory ≡ replicate (size_of c) 0
+  pub own : w.shared ≡ false
+  pub parts : IsOpeningFor (size_of c) c w
 
 -- there is a disk for each unit, of its capacity
 pub record AreDisksFor (wanted : List UnitSpec) (disks : List PagedStore) : Type 0 where

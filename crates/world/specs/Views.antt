@@ -9,31 +9,43 @@ use Rattle.unit_history.specs.Changes.{PlainChanges, AreUnchanged}
 use Rattle.ring_core.specs.declared.fault.RingFault.{RingFault}
 use Rattle.device_model.specs.World.{PlainQueue, PlainWorld}
 
--- the unit of an address
+-- the unit of an address among these
+abbrev pub unit_of : List PlainUnit → ℕ → ℕ → Option PlainUnit
+unit_of units target lun = find (λ u. (u.opening.target == target) && (u.opening.lun == lun)) units
+
+-- the unit of an address among the device's
 abbrev pub unit_at : PlainWorld → ℕ → ℕ → Option PlainUnit
-unit_at w target lun = find (λ u. (u.opening.target == target) && (u.opening.lun == lun)) w.units
+unit_at w target lun = unit_of w.units target lun
 
--- a unit of the address stands at the place; or none has it
+-- of these units one of the address stands at the place; or none has it
+abbrev pub IsPlaceAmong : List PlainUnit → ℕ → ℕ → Option ℕ → Type 0
+IsPlaceAmong units target lun (Some place) =
+    (u : PlainUnit) × (slice_get units place ≡ Some u) × (u.opening.target ≡ target) × (u.opening.lun ≡ lun)
+IsPlaceAmong units target lun None =
+    (place : ℕ) (u : PlainUnit) → slice_get units place ≡ Some u → u.opening.target ≡ target → u.opening.lun ≡ lun → ⊥
+
+-- one of the device's units stands at the place and has the address; or none has it
 abbrev pub IsPlaceOf : PlainWorld → ℕ → ℕ → Option ℕ → Type 0
-IsPlaceOf w target lun (Some place) =
-    (u : PlainUnit) × (slice_get w.units place ≡ Some u) × (u.opening.target ≡ target) × (u.opening.lun ≡ lun)
-IsPlaceOf w target lun None =
-    (place : ℕ) (u : PlainUnit) → slice_get w.units place ≡ Some u → u.opening.target ≡ target → u.opening.lun ≡ lun → ⊥
+IsPlaceOf w target lun place = IsPlaceAmong w.units target lun place
 
--- that of the address which `unit_at` is stands at the place, or there is none
-abbrev pub FindsUnit : PlainWorld → ℕ → ℕ → Option ℕ → Type 0
-FindsUnit w target lun (Some place) =
-    (u : PlainUnit) × (slice_get w.units place ≡ Some u) × (unit_at w target lun ≡ Some u)
-FindsUnit w target lun None = unit_at w target lun ≡ None
+-- that of the address which `unit_of` is stands at the place, or there is none
+abbrev pub FindsUnit : List PlainUnit → ℕ → ℕ → Option ℕ → Type 0
+FindsUnit units target lun (Some place) =
+    (u : PlainUnit) × (slice_get units place ≡ Some u) × (unit_of units target lun ≡ Some u)
+FindsUnit units target lun None = unit_of units target lun ≡ None
 
 -- the fault that broke a queue, if it is there
 abbrev pub fault_of : Option PlainQueue → Option RingFault
 fault_of None = None
 fault_of (Some q) = q.ring.broken
 
--- DEVICE_NEEDS_RESET (VIRTIO 1.2, 2.1) where a queue is broken
+-- DEVICE_NEEDS_RESET (VIRTIO 1.2, 2.1) where one of these queues is broken
+abbrev pub status_of : List PlainQueue → ℕ
+status_of queues = cond (list_any (λ q. is_some q.ring.broken) queues) 64 0
+
+-- 64 where one of the device's queues is broken, else 0
 abbrev pub device_status : PlainWorld → ℕ
-device_status w = cond (list_any (λ q. is_some q.ring.broken) w.queues) 64 0
+device_status w = status_of w.queues
 
 -- blocks of a unit, if it is there and they lie below its capacity
 abbrev pub GivesBlocks : Option PlainUnit → ℕ → ℕ → List ℕ → Result Bool NoMemory → List ℕ → Type 0

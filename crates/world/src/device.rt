@@ -7,7 +7,7 @@ use decisions::Inventory;
 use event_queue::{EventPort, WaitingEvents};
 use phases::OpenFunction;
 use std::marker::Model;
-use unit_history::{Changes, UnitState};
+use unit_history::UnitState;
 
 /// The parts of the device but memory: queues with their slots, units, seats, the hand-off, the function, the event
 /// port and the events that wait for it.
@@ -49,55 +49,4 @@ impl Model for Device {
     } };
 
     ghost invariant = { λ d. HasLists d.units.items d.seats.items d.port.limit };
-}
-
-ghost use Rattle.std.specs.Prelude.{◌≡◌, ◌≤◌, ◌↔◌, ◌==◌, ◌&&◌, ℕ, Bool, false, List, [], IsTrue, length};
-
-/// Returns true if a unit has this address.
-fn has_address(unit: &UnitState, target: u8, lun: u16) -> bool
-    ensures is { IsTrue result ↔ ((unit.now.opening.target ≡ target) × (unit.now.opening.lun ≡ lun)) }
-    ensures test { result ≡ ((unit.now.opening.target == target) && (unit.now.opening.lun == lun)) }
-{
-    unit.target() == target && unit.lun() == lun
-}
-
-impl Device {
-    ghost use Rattle.world.specs.Apart.{standing};
-    ghost use Rattle.world.specs.Views.{IsPlaceOf, FindsUnit, unit_at, GivesChanges};
-
-    /// Returns the place of the unit of an address.
-    pub(crate) fn place(&self, target: u8, lun: u16) -> Option<u16>
-        requires few { length self.now.units ≤ 64 }
-        ensures { (shared : Bool) (m : List ℕ) → IsPlaceOf (standing shared m self.now) target lun result }
-    {
-        for place in 0..self.units.len() {
-            if has_address(&self.units[place], target, lun) {
-                return Some(place as u16);
-            }
-        }
-        None
-    }
-
-    /// Returns where the first unit of an address stands.
-    fn unit_place(&self, target: u8, lun: u16) -> Option<usize>
-        ensures { FindsUnit (standing false [] self.now) target lun result }
-    {
-        for place in 0..self.units.len() {
-            if has_address(&self.units[place], target, lun) {
-                return Some(place);
-            }
-        }
-        None
-    }
-
-    /// Returns which blocks of the unit of an address may have changed, and starts anew.
-    pub(crate) fn take_changes(&mut self, target: u8, lun: u16) -> Option<Changes>
-        ensures same { self.new ≡ self.old }
-        ensures changes { GivesChanges (unit_at (standing false [] self.old) target lun) result }
-    {
-        match self.unit_place(target, lun) {
-            Some(place) => Some(self.units[place].take_changes()),
-            None => None,
-        }
-    }
 }

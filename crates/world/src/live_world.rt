@@ -1,23 +1,25 @@
 //! The device on a memory that its guest writes at any time.
 
-ghost use Rattle.std.specs.Prelude.{◌≡◌, ◌≤◌, ◌+◌, ◌↔◌, length, true, IsTrue, IsFalse, IfOk, MatchResult};
+ghost use Rattle.std.specs.Prelude.{◌≡◌, ◌≤◌, ◌+◌, ◌↔◌, [], length, true, IsTrue, IfOk, MatchResult};
+ghost use Rattle.std.specs.Vec.{vec_capacity};
 ghost use Rattle.guest_mem.specs.Memory.{LiesIn};
-ghost use Rattle.config.specs.Config.{is_config, size_of};
+ghost use Rattle.config.specs.Config.{is_config_for};
 ghost use Rattle.device_model.specs.Events.{Event as AnEvent, plain_event};
+ghost use Rattle.world.specs.Opening.{AreDisksFor, AreDisksOf};
 ghost use Rattle.world.specs.Apart.{PlainDevice, TurnsIn, TurnsInOrWants, IsSoundIn, FitsIn, HasFew};
 
 mod asking;
 
 use crate::device::Device;
-use crate::opening::open_device;
+use crate::opening::{are_disks_for, open_device};
 use crate::sound::all_are_sound;
-use block_store::NoMemory;
+use block_store::{NoMemory, PagedStore};
 use config::{Config, StartFault};
 use device_model::Event;
 use device_model::laws::every_run_goes_on;
 use device_model::live_laws::{a_live_run_is_a_run, any_bytes_may_stand_there};
 use device_model::trace_laws::the_promise_is_kept;
-use guest_mem::{Memory, WritableMemory};
+use guest_mem::WritableMemory;
 use std::alloc::Global;
 use std::marker::Model;
 
@@ -84,8 +86,8 @@ impl Device {
 /// two calls. Of its memory nothing is known then but its size.
 #[derive(Drop)]
 pub struct LiveWorld<M: WritableMemory> {
-    memory: M,
-    device: Device,
+    pub(crate) memory: M,
+    pub(crate) device: Device,
 }
 
 impl<M: WritableMemory> Model for LiveWorld<M> {
@@ -98,33 +100,23 @@ impl<M: WritableMemory> Model for LiveWorld<M> {
     ghost invariant = { λ w. IsSteadyIn M.shared (M.extent w.memory) w.device };
 }
 
-/// Returns true if the device takes a configuration, which names the size of the memory.
-fn suits<M: Memory>(config: &Config, memory: &M) -> bool
-    ensures yes { IsTrue result → (is_config config.now ≡ true) × (M.extent memory.now ≡ size_of config.now) }
-    ensures no { IsFalse result → is_config config.now ≡ true → M.extent memory.now ≡ size_of config.now → ⊥ }
-{
-    if !config.is_valid() {
-        return false;
-    }
-    memory.size() == config.pages as u64 * 4096
-}
-
 impl<M: WritableMemory + Drop> LiveWorld<M> {
-    ghost use Rattle.world.specs.LiveWorld.{IsOpeningApart, OpensIn, BeginsIn, InRefusedAs};
+    ghost use Rattle.world.specs.LiveWorld.{IsOpeningApart, IsOpeningOverApart, OpensIn, BeginsIn, InRefusedAs, OverRefusedIn};
 
-    /// Opens the device of a configuration on a memory of the embedder's, whatever stands there. Nothing has happened to
-    /// the device yet. `BadConfig` exactly where the configuration isn't valid, or names another size than that of the
-    /// memory; else `NoMemory` where a growth was refused. Whatever stands in memory, the empty trace leads from the device
-    /// to itself: here every trace begins.
+    /// Opens the device of a configuration on a memory of the embedder's, whatever stands there. The memory has any number
+    /// of bytes, up to 2^52, in which the queues lie; the configuration's `pages` isn't looked at. Nothing has happened to
+    /// the device yet. `BadConfig` exactly where the device doesn't take the configuration on a memory of this size
+    /// ([`Config::fault_for`] says why); else `NoMemory` where a growth was refused. Whatever stands in memory, the empty
+    /// trace leads from the device to itself: here every trace begins.
     pub fn new(alloc: Global, config: &Config, memory: M) -> Result<LiveWorld<M>, StartFault>
         ensures opening { MatchResult result
-            (λ w. (is_config config.now ≡ true) × (w.memory ≡ memory) × (M.extent memory ≡ size_of config.now)
-            × IsOpeningApart config.now w.device)
-            (λ fault. InRefusedAs config.now (M.extent memory) fault) }
+            (λ w. (is_config_for (M.extent memory) config.now ≡ true) × (w.memory ≡ memory)
+            × IsOpeningApart (M.extent memory) config.now w.device)
+            (λ fault. InRefusedAs (M.extent memory) config.now fault) }
         ensures opens { IfOk result (λ w. OpensIn M.shared (M.extent w.memory) w.device) }
         ensures reaches { IfOk result (λ w. BeginsIn M.shared (M.extent w.memory) w.device) }
     {
-        if !suits(config, &memory) {
+        if !config.is_valid_for(memory.size()) {
             return Err(StartFault::BadConfig);
         }
         match open_device(alloc, config, &memory) {
@@ -132,16 +124,88 @@ impl<M: WritableMemory + Drop> LiveWorld<M> {
             Err(NoMemory) => Err(StartFault::NoMemory),
         }
     }
+
+    /// Opens a device as `new` does, but over disks: each unit, in the order of the configuration, has the blocks of
+    /// its disk in place of zeros. Called for disks that outlive their devices, as [`LiveWorld::close`] gives them; the
+    /// device takes them all. `BadConfig` exactly where the device doesn't take the configuration on a memory of this
+    /// size, or the disks aren't as many as its units, each of its unit's capacity; else `NoMemory` where a growth was
+    /// refused. Then the disks are as they were.
+    pub fn new_with(
+        alloc: Global,
+        config: &Config,
+        memory: M,
+        disks: &mut Vec<PagedStore>,
+    ) -> Result<LiveWorld<M>, StartFault>
+        ensures opening { MatchResult result
+            (λ w. (is_config_for (M.extent memory) config.now ≡ true) × AreDisksFor config.now.units.items disks.old.items
+            × (w.memory ≡ memory) × IsOpeningOverApart (M.extent memory) config.now disks.old.items w.device
+            × (disks.new.items ≡ []))
+            (λ fault. OverRefusedIn (M.extent memory) config.now disks.old.items fault
+            × (disks.new.items ≡ disks.old.items)) }
+        ensures opens { IfOk result (λ w. OpensIn M.shared (M.extent w.memory) w.device) }
+        ensures reaches { IfOk result (λ w. BeginsIn M.shared (M.extent w.memory) w.device) }
+    {
+        if !are_disks_for(config.units.as_slice(), disks.as_slice()) {
+            return Err(StartFault::BadConfig);
+        }
+        match LiveWorld::new(alloc, config, memory) {
+            Ok(mut world) => {
+                world.hand_in(disks);
+                Ok(world)
+            }
+            Err(fault) => Err(fault),
+        }
+    }
 }
 
 impl<M: WritableMemory> LiveWorld<M> {
-    ghost use Rattle.world.specs.LiveWorld.{StepsLive, StepsAll, StepsPromised, RunsPromised, StepRan};
+    ghost use Rattle.world.specs.LiveWorld.{OpensIn, BeginsIn, OpensForIn, OpensAnewIn, StepsLive, StepsAll, StepsPromised, RunsPromised, StepRan};
 
     /// Returns the memory.
     pub fn memory(&self) -> &M
         ensures { result.now ≡ self.now.memory }
     {
         &self.memory
+    }
+
+    /// Gives each unit its disk, in the order of the configuration, in place of zeros. Called once, with disks of its
+    /// units' capacities, on a device that [`LiveWorld::new`] opened and to which nothing has happened yet.
+    /// [`LiveWorld::new_with`] does both. A caller that must keep the disks until nothing can be refused takes these two
+    /// calls. The device takes the disks, and no memory.
+    pub fn hand_in(&mut self, disks: &mut Vec<PagedStore>)
+        requires opening { OpensForIn (M.extent self.old.memory) self.old.device disks.old.items }
+        ensures memory { self.new.memory ≡ self.old.memory }
+        ensures over { OpensAnewIn (M.extent self.old.memory) self.old.device disks.old.items self.new.device }
+        ensures none { disks.new.items ≡ [] }
+        ensures opens { OpensIn M.shared (M.extent self.new.memory) self.new.device }
+        ensures reaches { BeginsIn M.shared (M.extent self.new.memory) self.new.device }
+    {
+        self.device.hand_in(disks);
+    }
+
+    /// Ends the device. Returns its memory, and the disks of its units, in their order, as its histories left them: blocks
+    /// and capacities. Queues, tasks and attentions are gone. Gives the device back as it was where memory for the list of
+    /// disks was refused.
+    pub fn close(self, alloc: Global) -> Result<(M, Vec<PagedStore>), LiveWorld<M>>
+        ensures disks { MatchResult result
+            (λ ended. (ended.0 ≡ self.memory) × AreDisksOf self.device.units ended.1.items) (λ left. left ≡ self) }
+    {
+        match self.device.room_for_disks(alloc) {
+            Ok(empty) => Ok(self.into_disks(empty)),
+            Err(_) => Err(self),
+        }
+    }
+
+    /// Ends the device as [`LiveWorld::close`] does, and puts the disks into an empty list that has room for them. Takes
+    /// no memory.
+    pub fn into_disks(self, empty: Vec<PagedStore>) -> (M, Vec<PagedStore>)
+        requires empty { empty.items ≡ [] }
+        requires room { length self.device.units ≤ vec_capacity empty }
+        ensures memory { result.0 ≡ self.memory }
+        ensures disks { AreDisksOf self.device.units result.1.items }
+    {
+        let LiveWorld { memory, device } = self;
+        (memory, device.into_disks(empty))
     }
 
     /// Takes one event, by reference, in a phase of its own.

@@ -4,7 +4,9 @@ ghost use Rattle.std.specs.Prelude.{◌≡◌, ◌<◌, ◌≤◌, ◌^◌, leng
 ghost use Rattle.world.specs.Notifications.{binary, owed_of, notices_at, IsAsked};
 
 use crate::bay::Bay;
+use crate::live_world::LiveWorld;
 use crate::world::World;
+use guest_mem::WritableMemory;
 use std::marker::Model;
 
 /// The most queues that a device has.
@@ -69,6 +71,17 @@ impl Notifications {
         }
     }
 
+    /// Returns which of these queues have more notices than when they were last asked, and notes that they were asked now.
+    fn ask(&mut self, bays: &[Bay]) -> u32
+        requires { length bays.now ≤ 18 }
+        ensures owed { result ≡ binary (owed_of self.old bays.now) }
+        ensures asked { IsAsked self.old bays.now self.new }
+    {
+        let owed = owed_now(&self.asked, bays);
+        note(&mut self.asked, bays);
+        owed
+    }
+
     /// Returns whose drivers are owed a notification: bit 0 is queue 0's. A bit is set exactly where the queue has more
     /// notices than when this was last asked. A driver that is notified looks at all that was used, so one notification
     /// is enough for all of them (VIRTIO 1.2, 2.7.10 and 2.8.21.3).
@@ -76,9 +89,14 @@ impl Notifications {
         ensures owed { result ≡ binary (owed_of self.old world.now.queues) }
         ensures asked { IsAsked self.old world.now.queues self.new }
     {
-        let bays = world.bays();
-        let owed = owed_now(&self.asked, bays);
-        note(&mut self.asked, bays);
-        owed
+        self.ask(world.bays())
+    }
+
+    /// Returns whose drivers are owed a notification, as `owed` does, of a device in a memory of the embedder's.
+    pub fn owed_in<M: WritableMemory>(&mut self, world: &LiveWorld<M>) -> u32
+        ensures owed { result ≡ binary (owed_of self.old world.now.device.queues) }
+        ensures asked { IsAsked self.old world.now.device.queues self.new }
+    {
+        self.ask(world.bays())
     }
 }

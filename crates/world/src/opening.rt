@@ -1,14 +1,14 @@
 //! The opening of the device.
 
-ghost use Rattle.std.specs.Prelude.{◌≡◌, ◌≤◌, [], length, map, replicate, IfOk, IsFalse, IsTrue, true, false};
+ghost use Rattle.std.specs.Prelude.{◌≡◌, ◌≤◌, [], length, map, IfOk, IsFalse, IsTrue, true};
 ghost use Rattle.decisions.specs.Inventory.{address_of};
 ghost use Rattle.std.specs.List.{list_all};
-ghost use Rattle.config.specs.Config.{is_config, is_queue, size_of};
+ghost use Rattle.config.specs.Config.{is_config_for, is_queue};
 ghost use Rattle.ring_core.specs.State.{features_of};
 ghost use Rattle.device_model.specs.World.{Everywhere};
 ghost use Rattle.std.specs.Vec.{vec_capacity};
-ghost use Rattle.world.specs.Apart.{standing};
-ghost use Rattle.world.specs.Opening.{AreOpening, AreFresh, AreSeats, IsOpening, AreDisksOf, opening_unit, AreDisksFor, over_disks};
+ghost use Rattle.world.specs.LiveWorld.{IsOpeningApart};
+ghost use Rattle.world.specs.Opening.{AreOpening, AreFresh, AreSeats, AreDisksOf, opening_unit, AreDisksFor, over_disks};
 
 use crate::bay::Bay;
 use crate::device::Device;
@@ -97,15 +97,14 @@ fn open_seats(alloc: Global, count: usize, limit: usize) -> Result<Vec<Seat>, No
     Ok(seats)
 }
 
-/// Makes the parts of the device of a configuration that is valid, whose queues lie in a memory of its size.
+/// Makes the parts of the device of a configuration that is valid on this memory.
 pub(crate) fn open_device<M: Memory>(
     alloc: Global,
     config: &Config,
     memory: &M,
 ) -> Result<Device, NoMemory>
-    requires taken { is_config config.now ≡ true }
-    requires size { M.extent memory.now ≡ size_of config.now }
-    ensures { IfOk result (λ d. IsOpening config.now (standing false (replicate (size_of config.now) 0) d)) }
+    requires taken { is_config_for (M.extent memory.now) config.now ≡ true }
+    ensures { IfOk result (λ d. IsOpeningApart (M.extent memory.now) config.now d) }
 {
     let Some(form) = form(config.features) else {
         unreachable!()
@@ -195,5 +194,26 @@ impl Device {
         ensures none { disks.new.items ≡ [] }
     {
         hand_in(&mut self.units, disks);
+    }
+
+    /// Returns an empty list that has room for its disks.
+    pub(crate) fn room_for_disks(&self, alloc: Global) -> Result<Vec<PagedStore>, NoMemory>
+        ensures empty { IfOk result (λ disks. disks.items ≡ []) }
+        ensures room { IfOk result (λ disks. length self.now.units ≤ vec_capacity disks) }
+    {
+        match Vec::with_capacity(alloc, self.units.len()) {
+            Ok(empty) => Ok(empty),
+            Err(_) => Err(NoMemory),
+        }
+    }
+
+    /// Returns the disks of its units, in an empty list that has room for them.
+    pub(crate) fn into_disks(self, empty: Vec<PagedStore>) -> Vec<PagedStore>
+        requires empty { empty.items ≡ [] }
+        requires room { length self.units ≤ vec_capacity empty }
+        ensures { AreDisksOf self.units result.items }
+    {
+        let Device { units, .. } = self;
+        disks_of(units, empty)
     }
 }

@@ -5,7 +5,7 @@ ghost use Rattle.std.specs.Vec.{vec_capacity};
 
 use crate::cursor::{Cursor, Progress};
 use crate::device::Device;
-use crate::opening::{are_disks_for, disks_of, open_device};
+use crate::opening::{are_disks_for, open_device};
 use crate::service::Served;
 use crate::sound::all_are_sound;
 use crate::steps::poke;
@@ -123,7 +123,7 @@ impl World {
     pub fn close(self, alloc: Global) -> Result<Vec<PagedStore>, World>
         ensures disks { MatchResult result (λ disks. AreDisksOf self.units disks.items) (λ left. left ≡ self) }
     {
-        match Vec::with_capacity(alloc, self.device.units.len()) {
+        match self.device.room_for_disks(alloc) {
             Ok(empty) => Ok(self.into_disks(empty)),
             Err(_) => Err(self),
         }
@@ -137,8 +137,7 @@ impl World {
         ensures { AreDisksOf self.units result.items }
     {
         let World { device, .. } = self;
-        let Device { units, .. } = device;
-        disks_of(units, empty)
+        device.into_disks(empty)
     }
 
     /// Shows that some trace led here from an opening: every law over reached traces holds of it.

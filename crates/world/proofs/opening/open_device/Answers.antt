@@ -1,4 +1,4 @@
-use Rattle.std.proofs.Common.{ℕ, ◌+◌, ◌*◌, List, map, length, refl, sym, ap, ◌∙◌, subst, arith}
+use Rattle.std.proofs.Common.{ℕ, ◌+◌, ◌*◌, List, map, refl, sym, ap, ◌∙◌, subst, arith}
 use Rattle.std.proofs.lemmas.List.{length-map}
 use Rattle.decisions.specs.Inventory.{address_of}
 use Rattle.decisions.specs.declared.inventory.UnitSpec.{UnitSpec}
@@ -21,17 +21,14 @@ invariant_of-result g c =
 
 pub returns : goal.returns
 returns g c =
-    let size = c.requires.size in
+    λ shared m.
     record {
       form = c.in-Some.form;
       agreed = sym c.form.ensures ∙ c.in-Some.is;
-      memory = refl;
-      own = refl;
       inventory = c.new-inventory.ensures ∙ ap (λ (us : List UnitSpec). map address_of us) c.as_slice-2.ensures.value;
       queues =
-          subst (λ (n : ℕ). AreOpening c.in-Some.form n (features_of c.args.config.now.features) c.args.config.now.queues.items c.in_ok-bays.bays.items) size
-          (subst (λ (ls : List Layout). AreOpening c.in-Some.form (g.M.Memory.extent c.args.memory.now) (features_of c.args.config.now.features) ls c.in_ok-bays.bays.items)
-          c.as_slice.ensures.value c.in_ok-bays.ensures);
+          subst (λ (ls : List Layout). AreOpening c.in-Some.form (g.M.Memory.extent c.args.memory.now) (features_of c.args.config.now.features) ls c.in_ok-bays.bays.items)
+          c.as_slice.ensures.value c.in_ok-bays.ensures;
       units =
           subst (λ (us : List UnitSpec). AreFresh us c.in_ok-units.units.items) c.as_slice-3.ensures.value c.in_ok-units.ensures;
       workers = refl;

@@ -1,46 +1,41 @@
-use Rattle.std.proofs.Common.{◌∙◌, false, length, refl, sym}
-use Rattle.std.proofs.lemmas.List.{length-replicate}
-use Rattle.std.specs.Prelude.{replicate}
-use Rattle.config.specs.Config.{size_of}
+use Rattle.std.proofs.Common.{◌≡◌, ◌∙◌, true, refl, sym, subst}
+use Rattle.config.specs.Config.{is_config_for}
 use Rattle.world.specs.Apart.{standing}
 use Rattle.world.proofs.AtOpening.{opens, opens_steady}
-use Rattle.world.proofs.Lively.{opens_in, steady_in}
 use Rattle.world.proofs.live_world.LiveWorld.new.Goals as goal
 
 pub open_device-requires : goal.open_device-requires
 open_device-requires g c =
-    let fits = c.suits.ensures.yes c.if-not-suits.false in
-    record { taken = fits.0; size = fits.1 }
+    record {
+      taken =
+          subst (λ n. is_config_for n c.args.config.now ≡ true) c.size.ensures.size
+          (sym c.is_valid_for.ensures ∙ c.if-not-is_valid_for.false);
+    }
 
 pub invariant_of-result : goal.invariant_of-result
 invariant_of-result g c =
-    let fits = c.suits.ensures.yes c.if-not-suits.false in
-    let zeros = replicate (size_of c.args.config.now) 0 in
-    let w = standing false zeros c.in-Ok.device in
-    let taken = fits.0 in
+    let size = g.M.Memory.extent c.args.memory in
+    let taken = subst (λ n. is_config_for n c.args.config.now ≡ true) c.size.ensures.size
+    (sym c.is_valid_for.ensures ∙ c.if-not-is_valid_for.false) in
     λ m long.
-    steady_in g.M.Memory.shared zeros m c.in-Ok.device (long ∙ fits.1 ∙ sym (length-replicate _ _))
-    (opens c.args.config.now w taken c.in-Ok.ensures) (opens_steady c.args.config.now w taken c.in-Ok.ensures)
+    opens_steady size c.args.config.now (standing g.M.Memory.shared m c.in-Ok.device) long taken
+    (c.in-Ok.ensures g.M.Memory.shared m)
 
 pub returns-in-Ok-clause-opening : goal.returns-in-Ok-clause-opening
-returns-in-Ok-clause-opening g c =
-    let fits = c.suits.ensures.yes c.if-not-suits.false in
-    (fits.0, refl, fits.1, c.in-Ok.ensures)
+returns-in-Ok-clause-opening g c = (
+  subst (λ n. is_config_for n c.args.config.now ≡ true) c.size.ensures.size
+      (sym c.is_valid_for.ensures ∙ c.if-not-is_valid_for.false),
+  refl,
+  c.in-Ok.ensures,
+)
 
 pub returns-in-Ok-clause-opens : goal.returns-in-Ok-clause-opens
 returns-in-Ok-clause-opens g c =
-    let fits = c.suits.ensures.yes c.if-not-suits.false in
-    let zeros = replicate (size_of c.args.config.now) 0 in
-    let w = standing false zeros c.in-Ok.device in
-    λ m long. opens_in g.M.Memory.shared zeros m c.in-Ok.device (opens c.args.config.now w fits.0 c.in-Ok.ensures)
+    let size = g.M.Memory.extent c.args.memory in
+    let taken = subst (λ n. is_config_for n c.args.config.now ≡ true) c.size.ensures.size
+    (sym c.is_valid_for.ensures ∙ c.if-not-is_valid_for.false) in
+    λ m long.
+    opens size c.args.config.now (standing g.M.Memory.shared m c.in-Ok.device) taken (c.in-Ok.ensures g.M.Memory.shared m)
 
 pub returns-in-Ok-clause-reaches : goal.returns-in-Ok-clause-reaches
-returns-in-Ok-clause-reaches g c =
-    let fits = c.suits.ensures.yes c.if-not-suits.false in
-    let zeros = replicate (size_of c.args.config.now) 0 in
-    let w = standing false zeros c.in-Ok.device in
-    λ m long.
-    record {
-      opens = opens_in g.M.Memory.shared zeros m c.in-Ok.device (opens c.args.config.now w fits.0 c.in-Ok.ensures);
-      runs = refl;
-    }
+returns-in-Ok-clause-reaches g c = λ m long. record { opens = returns-in-Ok-clause-opens g c m long; runs = refl }

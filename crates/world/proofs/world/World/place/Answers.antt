@@ -1,5 +1,4 @@
-use Rattle.std.proofs.Common.{false}
 use Rattle.world.proofs.world.World.place.Goals as goal
 
 pub returns : goal.returns
-returns c = rw (← c.self.view_is) (c.place.ensures false c.self.inside.memory)
+returns c = rw (← c.self.view_is) c.place.ensures
