@@ -4,10 +4,12 @@ pub mod Sound
 pub mod Steps
 pub mod Apart
 pub mod Settling
-pub mod Cursors
 pub mod Stages
 pub mod Opening
 pub mod Views
 pub mod Notifications
 pub mod Promise
 pub mod LiveWorld
+pub mod LiveServing
+pub mod Cursors
+pub mod Rounds

@@ -5,6 +5,7 @@ mod bay;
 mod cursor;
 mod device;
 mod handed_off;
+mod live_serving;
 mod live_world;
 mod notifications;
 mod opening;

@@ -82,8 +82,8 @@ impl Device {
 /// two calls. Of its memory nothing is known then but its size.
 #[derive(Drop)]
 pub struct LiveWorld<M: WritableMemory> {
-    memory: M,
-    device: Device,
+    pub(crate) memory: M,
+    pub(crate) device: Device,
 }
 
 impl<M: WritableMemory> Model for LiveWorld<M> {
