@@ -9,7 +9,7 @@ use guest_mem::{GuestMem, MemFault, WritableMemory};
 use live_mem::{Bus, LiveMem};
 use std::alloc::Global;
 use std::test::Fail;
-use world::{Event, LiveWorld, StartFault, World};
+use world::{Event, LiveWorld, Served, StartFault, World};
 
 /// The pages of memory.
 const PAGES: u32 = 16;
@@ -27,6 +27,18 @@ const WAY: &[Move] = &[
     Move::Answer(0),
     Move::Leave(0),
 ];
+
+/// What three steps of a command are.
+const PART: Served = Served {
+    steps: 3,
+    more: true,
+};
+
+/// What follows them.
+const REST: Served = Served {
+    steps: 4,
+    more: false,
+};
 
 /// A bus to bytes that change: behind a load, the first byte that it gave has its highest bit set.
 #[derive(Drop)]
@@ -108,6 +120,21 @@ fn step_live<M: WritableMemory>(world: &mut LiveWorld<M>, event: Event) -> Resul
     Ok(world.step(event)?)
 }
 
+/// Serves all queues in some steps. It has no contract, so that what `serve` promises is read once.
+fn serve_live<M: WritableMemory>(world: &mut LiveWorld<M>, most: u64) -> Result<Served, NoMemory> {
+    Ok(world.serve(u32::MAX, most)?)
+}
+
+/// Serves all queues in some steps. It has no contract, so that what `serve` promises is read once.
+fn serve_own(world: &mut World, most: u64) -> Result<Served, NoMemory> {
+    Ok(world.serve(u32::MAX, most)?)
+}
+
+/// Settles. It has no contract, so that what `settle` promises is read once.
+fn settle_live<M: WritableMemory>(world: &mut LiveWorld<M>) -> Result<u64, NoMemory> {
+    Ok(world.settle()?)
+}
+
 /// Returns true if some event that doesn't apply yet changes something.
 fn moves_early<M: WritableMemory>(world: &mut LiveWorld<M>) -> Result<bool, NoMemory> {
     Ok(
@@ -118,12 +145,14 @@ fn moves_early<M: WritableMemory>(world: &mut LiveWorld<M>) -> Result<bool, NoMe
     )
 }
 
-/// Serves the first command over a bus to these bytes. Returns how many events changed something.
-fn serve_over(alloc: Global, bytes: &mut GuestMem) -> Result<u64, Fail> {
+/// Serves the first command over a bus to these bytes, at once, and then what the other indices became. Returns how many
+/// events changed something then, and in all.
+fn serve_over(alloc: Global, bytes: &mut GuestMem) -> Result<(u64, u64), Fail> {
     let memory = LiveMem::new(alloc, RestlessBus { bytes }, SIZE as u64, 64, 4096)?;
     let mut live = open(alloc, NUMBERS, memory)?;
-    let events = events(alloc, WAY)?;
-    Ok(run_live(&mut live, events.as_slice())?)
+    let first = serve_live(&mut live, 7)?;
+    let rest = settle_live(&mut live)?;
+    Ok((first.steps, rest))
 }
 
 /// Returns true if a device refuses a configuration as bad.
@@ -132,6 +161,24 @@ fn is_refused<M: WritableMemory + Drop>(alloc: Global, numbers: Numbers, memory:
         Err(StartFault::BadConfig) => true,
         Ok(_) | Err(StartFault::NoMemory) => false,
     }
+}
+
+/// Serves what is left on both memories, in so many steps. Returns true if both did the same.
+fn serve_alike(
+    live: &mut LiveWorld<GuestMem>,
+    world: &mut World,
+    most: u64,
+    wanted: Served,
+) -> Result<bool, NoMemory> {
+    let here = serve_live(live, most)?;
+    let there = serve_own(world, most)?;
+    Ok(
+        here.steps == wanted.steps
+            && here.more == wanted.more
+            && there.steps == wanted.steps
+            && there.more == wanted.more
+            && are_same(live.memory(), world.memory()),
+    )
 }
 
 /// Serves a command on both memories. Returns true if as many events changed something, and left the same bytes.
@@ -145,7 +192,8 @@ fn serves_same(
     Ok(count == 7 && run(alloc, world, WAY)? == 7 && are_same(live.memory(), world.memory()))
 }
 
-/// Takes events that don't apply and serves two commands. Returns true if both memories have the same bytes throughout.
+/// Takes events that don't apply and serves two commands, one event by event and one in two portions. Returns true if both
+/// memories have the same bytes throughout.
 fn go_alike(
     alloc: Global,
     live: &mut LiveWorld<GuestMem>,
@@ -155,7 +203,8 @@ fn go_alike(
         !moves_early(live)?
             && are_same(live.memory(), world.memory())
             && serves_same(alloc, live, world)?
-            && serves_same(alloc, live, world)?,
+            && serve_alike(live, world, 3, PART)?
+            && serve_alike(live, world, 9, REST)?,
     )
 }
 
@@ -194,8 +243,8 @@ fn serves_memory_that_stands_still(rt: HostRuntime) -> Result<(), Fail> {
 #[test]
 fn serves_memory_that_changes(rt: HostRuntime) -> Result<(), Fail> {
     let mut bytes = sent(rt.alloc())?;
-    let count = serve_over(rt.alloc(), &mut bytes)?;
-    assert!(rt; count == 7 && was_changed(&bytes) && was_served(&bytes));
+    let (first, rest) = serve_over(rt.alloc(), &mut bytes)?;
+    assert!(rt; first == 7 && rest == 3 && was_changed(&bytes) && was_served(&bytes));
     Ok(())
 }
 

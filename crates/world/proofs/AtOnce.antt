@@ -1,12 +1,15 @@
 -- A request that is served at once: seven events, each the first that applies, one after another.
 use Rattle.std.proofs.Common.{◌≡◌, ◌≤◌, ◌<◌, ◌+◌, ◌*◌, ℕ, zero, suc, Bool, true, false, List, [], ◌∷◌, length, Option, Some, None, Ok, refl, sym, ap, ◌∙◌, subst, inl, inr, arith}
-use Rattle.std.specs.Prelude.{slice_get, slice_set, map, drop}
+use Rattle.std.specs.Prelude.{slice_get, slice_set, map, drop, ⊤}
+use Rattle.std.specs.List.{AllByRecursion}
 use Rattle.std.proofs.lemmas.Option.{slice_get_within}
 use Rattle.unit_model.specs.Jobs.{PlainJob, Jobs}
 use Rattle.unit_model.specs.Unit.{PlainUnit}
 use Rattle.device_model.specs.Parts.{Slot, Hand}
 use Rattle.device_model.specs.World.{PlainQueue, PlainWorld, Seat, Everywhere, IsBefore, change}
 use Rattle.device_model.specs.Events.{Event}
+use Rattle.device_model.specs.Transitions.{Transition, event_of, completion_of}
+use Rattle.device_model.specs.Waking.{IsFetch}
 use Rattle.device_model.specs.After.{slotted, with_job}
 use Rattle.device_model.specs.Applies.{Applies, MayPut, MayTake}
 use Rattle.device_model.specs.Phases.{HasHand}
@@ -19,12 +22,14 @@ use Rattle.phases.specs.Queue.{with_slot}
 use Rattle.phases.specs.DoingUnit.{with_more}
 use Rattle.phases.specs.Fetching.{FetchesRequest}
 use Rattle.phases.specs.Units as phases
-use Rattle.phases.specs.Serving.{ServesAtOnce, OnlyEnters, Serves}
+use Rattle.phases.specs.EventsInMemory.{SeesBy}
+use Rattle.phases.specs.ServingInMemory.{ServesAtOnceIn, OnlyEntersIn, ServesIn}
 use Rattle.world.specs.Kept.{KeptSeat, seat_of}
 use Rattle.world.specs.Sound.{AreSound, IsSound, IsWhole}
 use Rattle.world.specs.Settling.{ServesBy}
-use Rattle.world.specs.declared.cursor.Progress.{Progress}
-use Rattle.world.specs.Cursors.{MayServe, served_of, StepsNext, ServesNext, TurnsFirst, NoneBefore, NoneBeforeFetch, NoFetchBelow, NoSeat, NoEnter, NoSeatBelow}
+use Rattle.world.specs.LiveServing.{IsNoticedBy, CompletesNone, TakesNoChain, FollowsSeen}
+use Rattle.world.specs.Cursors.{MayServe, served_of, StepsNext, Sees, TurnsBy, TurnsFirst, NoneBefore, NoneBeforeFetch, NoFetchBelow, NoSeat, NoEnter, NoSeatBelow}
+use Rattle.world.specs.declared.cursor.Cursor.{Cursor}
 use Rattle.world.specs.declared.cursor.Cursor.TheVariants as cursor
 use Rattle.world.proofs.Placing.{everywhere_set}
 use Rattle.world.proofs.Setting.{set_length, listing}
@@ -33,13 +38,15 @@ use Rattle.world.proofs.Fetches.{request_turns, request_memory}
 use Rattle.world.proofs.Entering.{enters, entered_in}
 use Rattle.world.proofs.Handing.{puts, takes, no_item}
 use Rattle.world.proofs.Commit.{commits}
-use Rattle.world.proofs.Answer.{answers_own}
+use Rattle.world.proofs.Answer as answering
 use Rattle.world.proofs.Leave.{leaves, seat_with, keeps_limit}
 use Rattle.world.proofs.Stages as stages
 use Rattle.world.proofs.Choosing.{taken}
 use Rattle.world.proofs.Woken.{fetch_next, enter_next, seat_next}
 use Rattle.world.proofs.Reaching.{whole_by_step}
-use Rattle.world.proofs.Sequences.{serves_one, serves_next, next_one}
+use Rattle.world.proofs.Sequences.{serves_none, serves_next}
+use Rattle.world.proofs.InMemory.{NeedsNone, fetch_seen}
+use Rattle.world.proofs.EachTurn.{noticed, seen_left}
 
 -- what is set stands there
 pub get_set : {X : Type 0} (xs : List X) (k : ℕ) (y : X) → k < length xs → slice_get (slice_set xs k y) k ≡ Some y
@@ -88,21 +95,132 @@ set_all w m i q p u kept s =
       seats = map seat_of (slice_set kept 0 s);
     }
 
+-- What follows a chain that was taken
+
+-- a transition that takes no chain; by this memory the notice of what it completes is decided
+abbrev Follows : List ℕ → Transition → Type 0
+Follows seen t = IsNoticedBy seen (completion_of t) × TakesNoChain t
+
+-- events that need no memory complete nothing
+quiet : (t : Transition) → NeedsNone (event_of t) → completion_of t ≡ None
+quiet (Transition.UseBuffer f xs) none = absurd none
+quiet (Transition.Direct c o xs) none = absurd none
+quiet (Transition.Answer k x o xs) none = absurd none
+quiet (Transition.Respond c r xs) none = absurd none
+quiet (Transition.Give r c xs) none = absurd none
+quiet t none = refl
+
+no_fetch : (e : Event) → NeedsNone e → IsFetch e → ⊥
+no_fetch (Event.Fetch i) none is = absurd none
+no_fetch e none is = absurd is
+
+by_quiet : (seen : List ℕ) (w : PlainWorld) (e : Event) (w' : PlainWorld) → NeedsNone e → Turns w e true w'
+    → TurnsBy (Follows seen) w e w'
+by_quiet seen w e w' none t =
+    let needs : NeedsNone (event_of t.0) = subst NeedsNone (sym t.1) none in (
+      t.0,
+      t.1,
+      t.2,
+      t.3,
+      (subst (λ o. IsNoticedBy seen o) (sym (quiet t.0 needs)) tt, λ is. no_fetch (event_of t.0) needs is),
+    )
+
+no_answer : (k : ℕ) → IsFetch (Event.Answer k) → ⊥
+no_answer k h = h
+
+-- some events follow
+record Followed (asked : ℕ → Bool) (seen : List ℕ) (w : PlainWorld) (n : ℕ) (v : PlainWorld) : Type 0 where
+  serves : ServesBy asked w n v
+  each : AllByRecursion (λ t. IsNoticedBy seen (completion_of t)) serves.transitions
+  no_chain : AllByRecursion TakesNoChain serves.transitions
+
+followed_none : (asked : ℕ → Bool) (seen : List ℕ) (w : PlainWorld) → Followed asked seen w 0 w
+followed_none asked seen w = record { serves = serves_none asked w; each = tt; no_chain = tt }
+
+followed_next : (asked : ℕ → Bool) (seen : List ℕ) (w v : PlainWorld) (n : ℕ) (c : Cursor) (u : PlainWorld)
+    → Followed asked seen w n v → StepsNext asked (Follows seen) v c u → Followed asked seen w (n + 1) u
+followed_next asked seen w v n c u h t =
+    record {
+      serves = serves_next asked (Follows seen) w v n c u h.serves t;
+      each = (t.5.0, h.each);
+      no_chain = (t.5.1, h.no_chain);
+    }
+
+-- one that is seen besides
+abbrev SeenToo : List ℕ → List ℕ → Transition → Type 0
+SeenToo left seen t = Sees left seen t × TakesNoChain t
+
+followed_seen : (asked : ℕ → Bool) (seen : List ℕ) (w v : PlainWorld) (n : ℕ) (c : Cursor) (u : PlainWorld)
+    → Followed asked seen w n v → StepsNext asked (SeenToo u.memory seen) v c u → FollowsSeen asked seen w (n + 1) u
+followed_seen asked seen w v n c u h t =
+    record {
+      serves = serves_next asked (SeenToo u.memory seen) w v n c u h.serves t;
+      notices = record {
+        each = (noticed u.memory seen (completion_of t.0) t.5.0, h.each);
+        none = λ all. seen_left u.memory seen (completion_of t.0) t.5.0 all.0;
+      };
+      no_chain = (t.5.1, h.no_chain);
+    }
+
+-- and one behind it that leaves memory as it was
+followed_behind : (asked : ℕ → Bool) (seen : List ℕ) (w v : PlainWorld) (n : ℕ) (c : Cursor) (u : PlainWorld)
+    → FollowsSeen asked seen w n v → u.memory ≡ v.memory → StepsNext asked (Follows seen) v c u
+    → FollowsSeen asked seen w (n + 1) u
+followed_behind asked seen w v n c u h kept t =
+    record {
+      serves = serves_next asked (Follows seen) w v n c u h.serves t;
+      notices = record { each = (t.5.0, h.notices.each); none = λ all. h.notices.none all.1 ∙ sym kept };
+      no_chain = (t.5.1, h.no_chain);
+    }
+
+-- the same device, by another name
+follows_at : (asked : ℕ → Bool) (seen : List ℕ) (w : PlainWorld) (n : ℕ) (v u : PlainWorld) → v ≡ u
+    → FollowsSeen asked seen w n v → FollowsSeen asked seen w n u
+follows_at asked seen w n v u is h = subst (λ z. FollowsSeen asked seen w n z) is h
+
 -- the first seat's first event, where its hand is empty
-first_put : (w w' : PlainWorld) → HasHand w 0 Hand.Empty → Turns w (Event.Put 0) true w' → TurnsFirst (of_seat 0) w true w'
-first_put w w' there t =
+first_put : (Q : Transition → Type 0) (w w' : PlainWorld) → HasHand w 0 Hand.Empty → TurnsBy Q w (Event.Put 0) w'
+    → TurnsFirst Q (of_seat 0) w w'
+first_put Q w w' there t =
     let idle = stages.free w 0 there in
-    taken (of_seat 0) (Event.Put 0) w w'
+    taken Q (of_seat 0) (Event.Put 0) w w'
     (λ a. inr (idle.leave, inr (idle.answer, inr (idle.commit, inl (a, refl))))) t
 
-first_take : (w w' : PlainWorld) → slice_get w.seats 0 ≡ Some (record { hand = Hand.Empty; out = [] })
-    → Turns w (Event.Take 0) true w' → TurnsFirst (of_seat 0) w true w'
-first_take w w' there t =
+first_take : (Q : Transition → Type 0) (w w' : PlainWorld)
+    → slice_get w.seats 0 ≡ Some (record { hand = Hand.Empty; out = [] }) → TurnsBy Q w (Event.Take 0) w'
+    → TurnsFirst Q (of_seat 0) w w'
+first_take Q w w' there t =
     let idle = stages.free w 0 ([], there) in
     let no_put : Applies w (Event.Put 0) → ⊥ =
     λ (m : MayPut w 0). no_item (ap (λ (z : Seat). z.out) (same (sym there ∙ m.seat))) in
-    taken (of_seat 0) (Event.Take 0) w w'
+    taken Q (of_seat 0) (Event.Take 0) w w'
     (λ a. inr (idle.leave, inr (idle.answer, inr (idle.commit, inr (no_put, inl (a, refl)))))) t
+
+-- a fetch alone is one event, whatever comes behind it
+pub fetches_only : (asked : ℕ → Bool) (w : PlainWorld) (i : ℕ) (q q' : PlainQueue) → IsSound w → MayServe i w
+    → slice_get w.queues i ≡ Some q → q.ring.memory ≡ length w.memory → NoneBeforeFetch w → NoFetchBelow asked i w
+    → asked i ≡ true → FetchesRequest w.inventory w.memory q (Ok true) q'
+    → StepsNext asked (Sees w.memory w.memory) w cursor.Start (record w { queues = slice_set w.queues i q' })
+fetches_only asked w i q q' sound may at fits before below is_asked fetched =
+    let w' = record w { queues = slice_set w.queues i q' } in
+    let turn = fetch_seen w i (Ok true) w' (λ one. omega (arith, one, may.request))
+    (request_turns w i q q' (Ok true) sound may.request at fits fetched) in
+    fetch_next asked (Sees w.memory w.memory) w w' i cursor.Start before below may.there is_asked turn (inl refl)
+
+-- and where a request arrives, it comes to its unit next
+pub takes_next : (sound : AreSound) (asked : ℕ → Bool) (w : PlainWorld) → IsWhole w → (i : ℕ) (q : PlainQueue)
+    → Everywhere (λ j (z : PlainQueue). z.ring.memory ≡ length w.memory) w.queues → MayServe i w → slice_get w.queues i ≡ Some q
+    → NoneBeforeFetch w → NoFetchBelow asked i w → asked i ≡ true → (x : PlainJob) (lent : BareQueue)
+    → FetchesRequest w.inventory w.memory q (Ok true) (with_slot (Slot.Arrived x) lent)
+    → StepsNext asked (Sees w.memory w.memory) w (cursor.Enter i)
+    (record w { queues = slice_set w.queues i (with_slot (Slot.Arrived x) lent) })
+takes_next sound asked w whole i q fits may at before below on x lent fetched =
+    let q1 = with_slot (Slot.Arrived x) lent in
+    let w1 = record w { queues = slice_set w.queues i q1 } in
+    let turn = fetch_seen w i (Ok true) w1 (λ one. omega (arith, one, may.request))
+    (request_turns w i q q1 (Ok true) (sound w whole.reached) may.request at (fits i q at) fetched) in
+    fetch_next asked (Sees w.memory w.memory) w w1 i (cursor.Enter i) before below may.there on turn
+    (inr (refl, may.closed, (x, (q1, get_set w.queues i q1 may.there, refl))))
 
 module _ (sound : AreSound) (asked : ℕ → Bool) (w : PlainWorld) (whole : IsWhole w) (i : ℕ) (q : PlainQueue) (limit : ℕ)
     (rest : List KeptSeat)
@@ -122,14 +240,11 @@ module _ (sound : AreSound) (asked : ℕ → Bool) (w : PlainWorld) (whole : IsW
   at1 : slice_get w1.queues i ≡ Some q1
   at1 = get_set w.queues i q1 may.there
 
-  next1 : StepsNext asked w (cursor.Enter i) w1
-  next1 =
-      let turn = request_turns w i q q1 (Ok true) (sound w whole.reached) may.request q_at (fits i q q_at) fetched in
-      fetch_next asked w w w1 i true (cursor.Enter i) refl refl before below may.there is_asked turn
-      (inr (refl, may.closed, (x, (q1, at1, refl))))
+  next1 : StepsNext asked (Sees w.memory w.memory) w (cursor.Enter i) w1
+  next1 = takes_next sound asked w whole i q fits may q_at before below is_asked x lent fetched
 
   whole1 : IsWhole w1
-  whole1 = whole_by_step asked w (cursor.Enter i) w1 whole next1
+  whole1 = whole_by_step asked (Sees w.memory w.memory) w (cursor.Enter i) w1 whole next1
 
   lt1 : i < length w1.queues
   lt1 = omega (arith, set_length i w.queues q1, may.there)
@@ -142,7 +257,8 @@ module _ (sound : AreSound) (asked : ℕ → Bool) (w : PlainWorld) (whole : IsW
   own : x.chain.ticket.queue ≡ i
   own = let owns : SlotOwns w1 i (Slot.Arrived x) = (sound w1 whole1.reached).owned.slots i q1 at1 in owns.0
 
-  module _ (u u' : PlainUnit) (u_at : slice_get w.units x.unit ≡ Some u) (s' : Slot) (q' : BareQueue) (m' : List ℕ) (out' : Jobs) where
+  module _ (u u' : PlainUnit) (u_at : slice_get w.units x.unit ≡ Some u) (s' : Slot) (q' : BareQueue) (m' seen : List ℕ)
+      (out' : Jobs) where
     enter_turn : (v : PlainUnit) (slot : Slot) (out : Jobs) → phases.EntersAs x u (none limit) v slot out
         → Turns w1 (Event.Enter i) true
         (entered_in w1 (bare Hand.Empty limit ∷ rest) i (slotted slot q1) x.unit v 0 (listing out (bare Hand.Empty limit)))
@@ -150,14 +266,19 @@ module _ (sound : AreSound) (asked : ℕ → Bool) (w : PlainWorld) (whole : IsW
         enters w1 (bare Hand.Empty limit ∷ rest) are (sound w1 whole1.reached) limits i x.unit 0 q1 u
         (bare Hand.Empty limit) (sym may.own) at1 u_at refl slot v out (Slot.Arrived x) refl refl true e
 
-    module _ (s : OnlyEnters x u lent w.memory (none limit) u' q' m' s' out') where
+    module _ (s : OnlyEntersIn x u lent w.memory (none limit) u' q' m' seen s' out') where
       abbrev e2 : PlainWorld
       e2 = entered_in w1 (bare Hand.Empty limit ∷ rest) i (slotted s' q1) x.unit u' 0 (bare Hand.Empty limit)
 
-      only_next : StepsNext asked w1 cursor.Start e2
+      only_next : StepsNext asked (SeenToo w.memory seen) w1 cursor.Start e2
       only_next =
-          enter_next asked w1 w1 e2 i true cursor.Start refl refl next1.4.0 next1.4.1 next1.4.2 next1.4.3 lt1
-          (enter_turn u' s' (none limit) (s.enters (none limit))) (inl refl)
+          let t = enter_turn u' s' (none limit) (s.enters (none limit)) in
+          let q = by_quiet seen w1 (Event.Enter i) e2 tt t in
+          let needs : NeedsNone (event_of q.0) = subst NeedsNone (sym q.1) tt in
+          let sees : Sees w.memory seen q.0 =
+          subst (λ o. SeesBy o w.memory seen) (sym (quiet q.0 needs)) s.at_queue.seen in
+          enter_next asked (SeenToo w.memory seen) w1 e2 i cursor.Start next1.4.0 next1.4.1 next1.4.2 next1.4.3 lt1
+          (q.0, q.1, q.2, q.3, (sees, q.4.1)) (inl refl)
 
       pub only_is : e2 ≡ set_all w m' i (with_slot s' q') x.unit u' (bare Hand.Empty limit ∷ rest) (seat_with Hand.Empty out')
       only_is =
@@ -166,23 +287,24 @@ module _ (sound : AreSound) (asked : ℕ → Bool) (w : PlainWorld) (whole : IsW
           ap (λ (qs : List PlainQueue). record w { queues = qs; units = units; seats = seats })
           (set_twice w.queues i q1 (with_slot s' lent))
           ∙ ap (λ (l : BareQueue). record w { queues = slice_set w.queues i (with_slot s' l); units = units; seats = seats })
-          (sym s.queue)
+          (sym s.at_queue.queue)
           ∙ ap (λ (m : List ℕ). record w {
             memory = m;
             queues = slice_set w.queues i (with_slot s' q');
             units = units;
             seats = seats;
-          }) (sym s.memory)
+          }) (sym s.at_queue.memory)
           ∙ ap (λ (o : Jobs). set_all w m' i (with_slot s' q') x.unit u' (bare Hand.Empty limit ∷ rest) (seat_with Hand.Empty o))
           (sym s.jobs)
 
-      pub only_serves : ServesBy asked w 2
+      pub only_follows : FollowsSeen asked seen w1 1
           (set_all w m' i (with_slot s' q') x.unit u' (bare Hand.Empty limit ∷ rest) (seat_with Hand.Empty out'))
-      only_serves =
-          subst (λ z. ServesBy asked w 2 z) only_is
-          (serves_next asked w w1 1 cursor.Start e2 (serves_one asked w (cursor.Enter i) w1 next1) only_next)
+      only_follows =
+          follows_at asked seen w1 1 e2
+          (set_all w m' i (with_slot s' q') x.unit u' (bare Hand.Empty limit ∷ rest) (seat_with Hand.Empty out')) only_is
+          (followed_seen asked seen w1 w1 0 cursor.Start e2 (followed_none asked seen w1) only_next)
 
-    module _ (left : Bool) (s : ServesAtOnce x u lent w.memory (none limit) left u' q' m' out') where
+    module _ (gone : Bool) (s : ServesAtOnceIn w.shared x u lent w.memory (none limit) gone u' q' m' seen out') where
       abbrev w2 : PlainWorld
       w2 =
           entered_in w1 (bare Hand.Empty limit ∷ rest) i (slotted Slot.Empty q1) x.unit s.entered 0
@@ -191,14 +313,15 @@ module _ (sound : AreSound) (asked : ℕ → Bool) (w : PlainWorld) (whole : IsW
       at2 : slice_get w2.queues i ≡ Some (slotted Slot.Empty q1)
       at2 = get_set w1.queues i (slotted Slot.Empty q1) lt1
 
-      next2 : StepsNext asked w1 cursor.Seats w2
+      next2 : StepsNext asked (Follows seen) w1 cursor.Seats w2
       next2 =
-          enter_next asked w1 w1 w2 i true cursor.Seats refl refl next1.4.0 next1.4.1 next1.4.2 next1.4.3 lt1
-          (enter_turn s.entered Slot.Empty (with_more (x ∷ []) (none limit)) (s.enters (none limit)))
+          enter_next asked (Follows seen) w1 w2 i cursor.Seats next1.4.0 next1.4.1 next1.4.2 next1.4.3 lt1
+          (by_quiet seen w1 (Event.Enter i) w2 tt
+          (enter_turn s.entered Slot.Empty (with_more (x ∷ []) (none limit)) (s.enters (none limit))))
           (inr (refl, (slotted Slot.Empty q1, at2, refl)))
 
       whole2 : IsWhole w2
-      whole2 = whole_by_step asked w1 cursor.Seats w2 whole1 next2
+      whole2 = whole_by_step asked (Follows seen) w1 cursor.Seats w2 whole1 next2
 
       abbrev w3 : PlainWorld
       w3 =
@@ -208,17 +331,17 @@ module _ (sound : AreSound) (asked : ℕ → Bool) (w : PlainWorld) (whole : IsW
             limit = w.limit;
           }
 
-      next3 : StepsNext asked w2 cursor.Seats w3
+      next3 : StepsNext asked (Follows seen) w2 cursor.Seats w3
       next3 =
           let put = puts w2 (record { hand = Hand.Empty; jobs = x ∷ []; limit = limit } ∷ rest) refl 0
           (record { hand = Hand.Empty; jobs = x ∷ []; limit = limit }) (bare Hand.Empty limit) refl x
           (record { lists = change (with_job x) 0 w.handed_off; limit = w.limit }) refl refl refl
           (record { off = []; there = may.handed_off; room = may.room; after = refl }) in
-          seat_next asked w2 w2 w3 0 true cursor.Seats refl refl next2.4.0 next2.4.1 (none_below w2) (omega arith)
-          (first_put w2 w3 (x ∷ [], refl) put) (inr (refl, may.closed))
+          seat_next asked (Follows seen) w2 w3 0 cursor.Seats next2.4.0 next2.4.1 (none_below w2) (omega arith)
+          (first_put (Follows seen) w2 w3 (x ∷ [], refl) (by_quiet seen w2 (Event.Put 0) w3 tt put)) (inr (refl, may.closed))
 
       whole3 : IsWhole w3
-      whole3 = whole_by_step asked w2 cursor.Seats w3 whole2 next3
+      whole3 = whole_by_step asked (Follows seen) w2 cursor.Seats w3 whole2 next3
 
       abbrev w4 : PlainWorld
       w4 =
@@ -228,7 +351,7 @@ module _ (sound : AreSound) (asked : ℕ → Bool) (w : PlainWorld) (whole : IsW
             limit = w.limit;
           }
 
-      next4 : StepsNext asked w3 cursor.Seats w4
+      next4 : StepsNext asked (Follows seen) w3 cursor.Seats w4
       next4 =
           let worker : 0 < w.workers = omega (arith, (sound w whole.reached).working) in
           let take = takes w3 (bare Hand.Empty limit ∷ rest) refl 0 (bare Hand.Empty limit) (bare (Hand.Taken x) limit) refl x
@@ -240,11 +363,11 @@ module _ (sound : AreSound) (asked : ℕ → Bool) (w : PlainWorld) (whole : IsW
             first = λ i jobs before there. absurd (none_before i before);
             after = refl;
           }) in
-          seat_next asked w3 w3 w4 0 true cursor.Seats refl refl next3.4.0 next3.4.1 (none_below w3) (omega arith)
-          (first_take w3 w4 refl take) (inr (refl, may.closed))
+          seat_next asked (Follows seen) w3 w4 0 cursor.Seats next3.4.0 next3.4.1 (none_below w3) (omega arith)
+          (first_take (Follows seen) w3 w4 refl (by_quiet seen w3 (Event.Take 0) w4 tt take)) (inr (refl, may.closed))
 
       whole4 : IsWhole w4
-      whole4 = whole_by_step asked w3 cursor.Seats w4 whole3 next4
+      whole4 = whole_by_step asked (Follows seen) w3 cursor.Seats w4 whole3 next4
 
       unit_there : x.unit < length w.units
       unit_there = slice_get_within w.units x.unit u u_at
@@ -254,33 +377,37 @@ module _ (sound : AreSound) (asked : ℕ → Bool) (w : PlainWorld) (whole : IsW
           with_unit_and_seat w4 x.unit s.committed (bare (Hand.Taken x) limit ∷ rest) 0
           (bare (Hand.Done x s.outcome) limit)
 
-      next5 : StepsNext asked w4 cursor.Seats w5
+      next5 : StepsNext asked (Follows seen) w4 cursor.Seats w5
       next5 =
           let commit = commits w4 (bare (Hand.Taken x) limit ∷ rest) 0 x.unit (Hand.Taken x) [] limit s.entered s.committed
           (Hand.Done x s.outcome) true (sound w4 whole4.reached) refl refl refl
           (get_set w.units x.unit s.entered unit_there) s.commits in
-          seat_next asked w4 w4 w5 0 true cursor.Seats refl refl next4.4.0 next4.4.1 (none_below w4) (omega arith)
-          (stages.commits w4 w5 0 (Hand.Taken x) true ([], refl) refl commit) (inr (refl, may.closed))
+          seat_next asked (Follows seen) w4 w5 0 cursor.Seats next4.4.0 next4.4.1 (none_below w4) (omega arith)
+          (taken (Follows seen) (of_seat 0) (Event.Commit 0) w4 w5 (λ a. stages.commits_first w4 0 (Hand.Taken x) ([], refl) refl)
+          (by_quiet seen w4 (Event.Commit 0) w5 tt commit)) (inr (refl, may.closed))
 
       whole5 : IsWhole w5
-      whole5 = whole_by_step asked w4 cursor.Seats w5 whole4 next5
+      whole5 = whole_by_step asked (Follows seen) w4 cursor.Seats w5 whole4 next5
 
       abbrev w6 : PlainWorld
       w6 =
           with_queue_and_seat w5 m' i (with_slot Slot.Empty q') (bare (Hand.Done x s.outcome) limit ∷ rest) 0
           (bare (Hand.Answered x.unit x.chain.ticket) limit)
 
-      next6 : StepsNext asked w5 cursor.Seats w6
+      next6 : StepsNext asked (SeenToo m' seen) w5 cursor.Seats w6
       next6 =
-          let answer = answers_own w5 (bare (Hand.Done x s.outcome) limit ∷ rest) 0 i (Hand.Done x s.outcome) [] limit Slot.Empty
-          lent q' m' (Hand.Answered x.unit x.chain.ticket) true (sound w5 whole5.reached)
+          let answer = answering.answers w5 (bare (Hand.Done x s.outcome) limit ∷ rest) 0 i (Hand.Done x s.outcome) [] limit
+          Slot.Empty lent q' m' seen (Hand.Answered x.unit x.chain.ticket) true (sound w5 whole5.reached)
           (everywhere_set (λ j (z : PlainQueue). z.ring.memory ≡ length w.memory) i w1.queues (slotted Slot.Empty q1) fits1
           (fits1 i q1 at1)) refl refl (ap (λ (k : ℕ). Some k) own) at2 s.answers in
-          seat_next asked w5 w5 w6 0 true cursor.Seats refl refl next5.4.0 next5.4.1 (none_below w5) (omega arith)
-          (stages.answers w5 w6 0 (Hand.Done x s.outcome) true ([], refl) refl answer) (inr (refl, may.closed))
+          let by : TurnsBy (SeenToo m' seen) w5 (Event.Answer 0) w6 =
+          (answer.0, answer.1, answer.2, answer.3, (answer.4, λ is. no_answer 0 (subst IsFetch answer.1 is))) in
+          seat_next asked (SeenToo m' seen) w5 w6 0 cursor.Seats next5.4.0 next5.4.1 (none_below w5) (omega arith)
+          (taken (SeenToo m' seen) (of_seat 0) (Event.Answer 0) w5 w6
+          (λ a. stages.answers_first w5 0 (Hand.Done x s.outcome) ([], refl) refl) by) (inr (refl, may.closed))
 
       whole6 : IsWhole w6
-      whole6 = whole_by_step asked w5 cursor.Seats w6 whole5 next6
+      whole6 = whole_by_step asked (SeenToo m' seen) w5 cursor.Seats w6 whole5 next6
 
       limits6 : Everywhere (λ k (z : KeptSeat). z.limit ≡ 64 * length w6.units + 64)
           (bare (Hand.Answered x.unit x.chain.ticket) limit ∷ rest)
@@ -297,12 +424,12 @@ module _ (sound : AreSound) (asked : ℕ → Bool) (w : PlainWorld) (whole : IsW
           with_unit_and_seat w6 x.unit u' (bare (Hand.Answered x.unit x.chain.ticket) limit ∷ rest) 0
           (seat_with Hand.Empty out')
 
-      leave_turn : Turns w6 (Event.Leave 0) left w7
+      leave_turn : Turns w6 (Event.Leave 0) gone w7
       leave_turn =
           let there : x.unit < length (slice_set w.units x.unit s.entered) =
           omega (arith, set_length x.unit w.units s.entered, unit_there) in
           leaves w6 (bare (Hand.Answered x.unit x.chain.ticket) limit ∷ rest) 0 x.unit
-          (Hand.Answered x.unit x.chain.ticket) s.committed u' (none limit) out' Hand.Empty left (sound w6 whole6.reached)
+          (Hand.Answered x.unit x.chain.ticket) s.committed u' (none limit) out' Hand.Empty gone (sound w6 whole6.reached)
           limits6 refl refl refl (get_set (slice_set w.units x.unit s.entered) x.unit s.committed there) s.leaves
 
       -- the task is known, so that it leaves
@@ -310,11 +437,12 @@ module _ (sound : AreSound) (asked : ℕ → Bool) (w : PlainWorld) (whole : IsW
       left_so true t = t
       left_so false t = absurd (t.1 (x.unit, x.chain.ticket, ([], refl)))
 
-      next7 : StepsNext asked w6 cursor.Seats w7
+      next7 : StepsNext asked (Follows seen) w6 cursor.Seats w7
       next7 =
-          seat_next asked w6 w6 w7 0 true cursor.Seats refl refl next6.4.0 next6.4.1 (none_below w6) (omega arith)
-          (stages.leaves w6 w7 0 (Hand.Answered x.unit x.chain.ticket) true ([], refl) refl (left_so left leave_turn))
-          (inr (refl, may.closed))
+          seat_next asked (Follows seen) w6 w7 0 cursor.Seats next6.4.0 next6.4.1 (none_below w6) (omega arith)
+          (taken (Follows seen) (of_seat 0) (Event.Leave 0) w6 w7
+          (λ a. stages.leaves_first w6 0 (Hand.Answered x.unit x.chain.ticket) ([], refl) refl)
+          (by_quiet seen w6 (Event.Leave 0) w7 tt (left_so gone leave_turn))) (inr (refl, may.closed))
 
       abbrev last : PlainWorld
       last = set_all w m' i (with_slot Slot.Empty q') x.unit u' (bare Hand.Empty limit ∷ rest) (seat_with Hand.Empty out')
@@ -330,16 +458,15 @@ module _ (sound : AreSound) (asked : ℕ → Bool) (w : PlainWorld) (whole : IsW
           ∙ set_twice w.units x.unit s.entered u')
           ∙ ap (λ (l : List (List PlainJob)). record last { handed_off = l }) (put_taken x w.handed_off may.handed_off)
 
-      pub served : ServesBy asked w 7 last
-      served =
-          subst (λ z. ServesBy asked w 7 z) last_is
-          (serves_next asked w w6 6 cursor.Seats w7
-          (serves_next asked w w5 5 cursor.Seats w6
-          (serves_next asked w w4 4 cursor.Seats w5
-          (serves_next asked w w3 3 cursor.Seats w4
-          (serves_next asked w w2 2 cursor.Seats w3
-          (serves_next asked w w1 1 cursor.Seats w2 (serves_one asked w (cursor.Enter i) w1 next1) next2) next3) next4) next5)
-          next6) next7)
+      pub follows : FollowsSeen asked seen w1 6 last
+      follows =
+          let f5 = followed_next asked seen w1 w4 3 cursor.Seats w5
+          (followed_next asked seen w1 w3 2 cursor.Seats w4
+          (followed_next asked seen w1 w2 1 cursor.Seats w3
+          (followed_next asked seen w1 w1 0 cursor.Seats w2 (followed_none asked seen w1) next2) next3) next4) next5 in
+          follows_at asked seen w1 6 w7 last last_is
+          (followed_behind asked seen w1 w6 5 cursor.Seats w7
+          (followed_seen asked seen w1 w5 4 cursor.Seats w6 f5 next6) refl next7)
 
       pub before_seats : NoneBefore cursor.Seats last
       before_seats = subst (NoneBefore cursor.Seats) last_is next7.4
@@ -391,17 +518,6 @@ module _ (sound : AreSound) (asked : ℕ → Bool) (w : PlainWorld) (whole : IsW
       before_fetch empty =
           (before_seats.0, before_seats.1, still_seat last.seats (seats_are empty), no_enter)
 
--- a fetch alone is one event, whatever comes behind it
-pub fetches_only : (asked : ℕ → Bool) (most : ℕ) (w : PlainWorld) (i : ℕ) (q q' : PlainQueue) (r : Progress) → IsSound w → 7 ≤ most → MayServe i w
-    → slice_get w.queues i ≡ Some q → q.ring.memory ≡ length w.memory → NoneBeforeFetch w
-    → NoFetchBelow asked i w → asked i ≡ true → FetchesRequest w.inventory w.memory q (Ok true) q' → r ≡ record { next = cursor.Start; steps = 1 }
-    → ServesNext asked most w r (record w { queues = slice_set w.queues i q' })
-fetches_only asked most w i q q' r sound few may at fits before below is_asked fetched is =
-    let w' = record w { queues = slice_set w.queues i q' } in
-    let turn = request_turns w i q q' (Ok true) sound may.request at fits fetched in
-    next_one asked most w cursor.Start r w' (omega (arith, few)) is
-    (fetch_next asked w w w' i true cursor.Start refl refl before below may.there is_asked turn (inl refl))
-
 -- the first seat has nothing in its hand and no jobs
 pub seat_bare : (w : PlainWorld) (i : ℕ) (kept : List KeptSeat) (s : KeptSeat) → w.seats ≡ map seat_of kept
     → slice_get kept 0 ≡ Some s → MayServe i w → s ≡ bare Hand.Empty s.limit
@@ -416,64 +532,84 @@ has_room s n is many =
     omega (arith, none, many)
 
 -- what is served keeps the room of the list
-pub serves_keeps : (x : PlainJob) (u u' : PlainUnit) (q q' : BareQueue) (m m' : List ℕ) (s s' : Slot) (out out' : Jobs)
-    (done : Option Bool) → Serves x u q m s out done u' q' m' s' out' → out'.limit ≡ out.limit
-serves_keeps x u u' q q' m m' s s' out out' None h = ap (λ (z : Jobs). z.limit) h.jobs
-serves_keeps x u u' q q' m m' s s' out out' (Some left) h =
-    keeps_limit (Hand.Answered x.unit x.chain.ticket) h.0.committed u' out out' left Hand.Empty h.0.leaves
+pub serves_keeps : (shared : Bool) (x : PlainJob) (u u' : PlainUnit) (q q' : BareQueue) (m m' seen : List ℕ) (s s' : Slot)
+    (out out' : Jobs) (done : Option Bool) → ServesIn shared x u q m s out done u' q' m' seen s' out'
+    → out'.limit ≡ out.limit
+serves_keeps shared x u u' q q' m m' seen s s' out out' None h = ap (λ (z : Jobs). z.limit) h.jobs
+serves_keeps shared x u u' q q' m m' seen s s' out out' (Some gone) h =
+    keeps_limit (Hand.Answered x.unit x.chain.ticket) h.0.committed u' out out' gone Hand.Empty h.0.leaves
+
+-- how many events follow its chain
+abbrev pub later_of : Option Bool → ℕ
+later_of None = 1
+later_of (Some gone) = 6
+
+pub steps_are : (done : Option Bool) (n : ℕ) → (served_of done n).steps ≡ 1 + later_of done
+steps_are None n = refl
+steps_are (Some gone) zero = refl
+steps_are (Some gone) (suc n) = refl
+
+pub some_steps : (done : Option Bool) → 1 ≤ 1 + later_of done
+some_steps None = omega arith
+some_steps (Some gone) = omega arith
+
+pub few_steps : (done : Option Bool) (most : ℕ) → 7 ≤ most → 1 + later_of done ≤ most
+few_steps None most few = omega (arith, few)
+few_steps (Some gone) most few = omega (arith, few)
 
 -- where to look then
-looks_so : (asked : ℕ → Bool) (most : ℕ) (w v : PlainWorld) (n : ℕ) (left : Bool) (jobs : List PlainJob) → 7 ≤ most → n ≡ length jobs → ServesBy asked w 7 v
-    → NoneBefore cursor.Seats v → (jobs ≡ [] → NoneBefore cursor.Fetch v) → ServesNext asked most w (served_of (Some left) n) v
-looks_so asked most w v zero left [] few is serves seats fetch =
-    record { some = omega arith; few = few; serves = serves; before = fetch refl }
-looks_so asked most w v zero left (j ∷ jobs) few is serves seats fetch = absurd (omega (arith, is))
-looks_so asked most w v (suc n) left jobs few is serves seats fetch =
-    record { some = omega arith; few = few; serves = serves; before = seats }
+looks_so : (v : PlainWorld) (n : ℕ) (gone : Bool) (jobs : List PlainJob) → n ≡ length jobs → NoneBefore cursor.Seats v
+    → (jobs ≡ [] → NoneBefore cursor.Fetch v) → NoneBefore (served_of (Some gone) n).next v
+looks_so v zero gone [] is seats fetch = fetch refl
+looks_so v zero gone (j ∷ jobs) is seats fetch = absurd (omega (arith, is))
+looks_so v (suc n) gone jobs is seats fetch = seats
 
--- what is done of a request at once are the first events that apply, one after another
-pub serves_kept : (sound : AreSound) (asked : ℕ → Bool) (w : PlainWorld) → IsWhole w → (i : ℕ) (q : PlainQueue) (limit : ℕ) (kept rest : List KeptSeat)
-    → kept ≡ bare Hand.Empty limit ∷ rest → w.seats ≡ map seat_of kept
+-- what follows of a request that was taken: so many events, each the first that applies; and where to look then
+pub record ServedKept (asked : ℕ → Bool) (seen : List ℕ) (w v : PlainWorld) (done : Option Bool) (n : ℕ) : Type 0 where
+  pub follows : FollowsSeen asked seen w (later_of done) v
+  pub before : NoneBefore (served_of done n).next v
+
+pub serves_kept : (sound : AreSound) (asked : ℕ → Bool) (w : PlainWorld) → IsWhole w → (i : ℕ) (q : PlainQueue) (limit : ℕ)
+    (kept rest : List KeptSeat) → kept ≡ bare Hand.Empty limit ∷ rest → w.seats ≡ map seat_of kept
     → Everywhere (λ j (z : PlainQueue). z.ring.memory ≡ length w.memory) w.queues
     → Everywhere (λ k (s : KeptSeat). s.limit ≡ 64 * length w.units + 64) kept
-    → MayServe i w → slice_get w.queues i ≡ Some q → NoneBeforeFetch w
-    → NoFetchBelow asked i w → asked i ≡ true → (x : PlainJob) (lent : BareQueue) → FetchesRequest w.inventory w.memory q (Ok true) (with_slot (Slot.Arrived x) lent)
-    → (u u' : PlainUnit) → slice_get w.units x.unit ≡ Some u → (s s' : Slot) (q' : BareQueue) (m' : List ℕ) (out' : Jobs)
+    → MayServe i w → slice_get w.queues i ≡ Some q → NoneBeforeFetch w → NoFetchBelow asked i w → asked i ≡ true
+    → (x : PlainJob) (lent : BareQueue) → FetchesRequest w.inventory w.memory q (Ok true) (with_slot (Slot.Arrived x) lent)
+    → (u u' : PlainUnit) → slice_get w.units x.unit ≡ Some u → (s s' : Slot) (q' : BareQueue) (m' seen : List ℕ) (out' : Jobs)
     → s ≡ Slot.Empty → (done : Option Bool)
-    → Serves x u lent w.memory s (record { jobs = []; limit = limit }) done u' q' m' s' out' → (most : ℕ) → 7 ≤ most
-    → (n : ℕ) → n ≡ length out'.jobs
-    → ServesNext asked most w (served_of done n) (set_all w m' i (with_slot s' q') x.unit u' kept (seat_with Hand.Empty out'))
-serves_kept a asked w b i q l kept rest ka are f g may at bf bl is_asked x t ft u u' ut s s' q' m' out' e None h most few n is =
+    → ServesIn w.shared x u lent w.memory s (record { jobs = []; limit = limit }) done u' q' m' seen s' out' → (n : ℕ)
+    → n ≡ length out'.jobs
+    → ServedKept asked seen (record w { queues = slice_set w.queues i (with_slot (Slot.Arrived x) lent) })
+    (set_all w m' i (with_slot s' q') x.unit u' kept (seat_with Hand.Empty out')) done n
+serves_kept a asked w b i q l kept rest ka are f g may at bf bl on x t ft u u' ut s s' q' m' seen out' e None h n is =
     let are' = are ∙ ap (λ (ks : List KeptSeat). map seat_of ks) ka in
     let limits' = subst (λ (ks : List KeptSeat). Everywhere (λ k (z : KeptSeat). z.limit ≡ 64 * length w.units + 64) ks) ka
     g in
+    let w1 = record w { queues = slice_set w.queues i (with_slot (Slot.Arrived x) t) } in
     subst (λ (ks : List KeptSeat).
-    ServesNext asked most w (served_of None n) (set_all w m' i (with_slot s' q') x.unit u' ks (seat_with Hand.Empty out'))) (sym ka)
+    ServedKept asked seen w1 (set_all w m' i (with_slot s' q') x.unit u' ks (seat_with Hand.Empty out')) None n) (sym ka)
     (record {
-      some = omega arith;
-      few = omega (arith, few);
-      serves = only_serves a asked w b i q l rest are' f limits' may at bf bl is_asked x t ft u u' ut s' q'
-          m' out' h;
+      follows = only_follows a asked w b i q l rest are' f limits' may at bf bl on x t ft u u' ut s' q' m' seen out' h;
       before = tt;
     })
-serves_kept a asked w b i q l kept rest ka are f g may at bf bl is_asked x t ft u u' ut s s' q' m' out' e (Some left) h most few n is =
+serves_kept a asked w b i q l kept rest ka are f g may at bf bl on x t ft u u' ut s s' q' m' seen out' e (Some gone) h n is =
     let are' = are ∙ ap (λ (ks : List KeptSeat). map seat_of ks) ka in
     let limits' = subst (λ (ks : List KeptSeat). Everywhere (λ k (z : KeptSeat). z.limit ≡ 64 * length w.units + 64) ks) ka
     g in
     let slot : Slot.Empty ≡ s' = sym (h.1 ∙ e) in
+    let w1 = record w { queues = slice_set w.queues i (with_slot (Slot.Arrived x) t) } in
     let v = set_all w m' i (with_slot Slot.Empty q') x.unit u' (bare Hand.Empty l ∷ rest) (seat_with Hand.Empty out') in
-    let serves : ServesBy asked w 7 v =
-    served a asked w b i q l rest are' f limits' may at bf bl is_asked x t ft u u' ut s' q' m' out' left h.0 in
     let seats : NoneBefore cursor.Seats v =
-    before_seats a asked w b i q l rest are' f limits' may at bf bl is_asked x t ft u u' ut s' q' m' out'
-    left h.0 in
+    before_seats a asked w b i q l rest are' f limits' may at bf bl on x t ft u u' ut s' q' m' seen out' gone h.0 in
     let fetch : out'.jobs ≡ [] → NoneBefore cursor.Fetch v =
-    before_fetch a asked w b i q l rest are' f limits' may at bf bl is_asked x t ft u u' ut s' q' m' out'
-    left h.0 in
+    before_fetch a asked w b i q l rest are' f limits' may at bf bl on x t ft u u' ut s' q' m' seen out' gone h.0 in
+    let base : ServedKept asked seen w1 v (Some gone) n =
+    record {
+      follows = follows a asked w b i q l rest are' f limits' may at bf bl on x t ft u u' ut s' q' m' seen out' gone h.0;
+      before = looks_so v n gone out'.jobs is seats fetch;
+    } in
     subst (λ (ks : List KeptSeat).
-    ServesNext asked most w (served_of (Some left) n) (set_all w m' i (with_slot s' q') x.unit u' ks (seat_with Hand.Empty out')))
-    (sym ka)
+    ServedKept asked seen w1 (set_all w m' i (with_slot s' q') x.unit u' ks (seat_with Hand.Empty out')) (Some gone) n) (sym ka)
     (subst (λ (z : Slot).
-    ServesNext asked most w (served_of (Some left) n)
-    (set_all w m' i (with_slot z q') x.unit u' (bare Hand.Empty l ∷ rest) (seat_with Hand.Empty out'))) slot
-    (looks_so asked most w v n left out'.jobs few is serves seats fetch))
+    ServedKept asked seen w1 (set_all w m' i (with_slot z q') x.unit u' (bare Hand.Empty l ∷ rest) (seat_with Hand.Empty out'))
+    (Some gone) n) slot base)

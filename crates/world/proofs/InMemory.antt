@@ -150,7 +150,7 @@ unseen_alone w w' (Transition.Give r c xs) none next = absurd none
 unseen_alone w w' (Transition.Poke x) none next = absurd none
 unseen_alone w w' t none next = sym (ap (λ (z : PlainWorld). z.memory) next)
 
-alone_seen : (w : PlainWorld) (e : Event) (b : Bool) (w' : PlainWorld) → NeedsNone e → Turns w e b w'
+pub alone_seen : (w : PlainWorld) (e : Event) (b : Bool) (w' : PlainWorld) → NeedsNone e → Turns w e b w'
     → TurnsSeen w.memory w e b w'
 alone_seen w e true w' none t =
     (t.0, t.1, t.2, t.3, unseen_alone w w' t.0 (subst NeedsNone (sym t.1) none) t.3)

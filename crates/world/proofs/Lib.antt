@@ -32,5 +32,9 @@ pub mod Raising
 pub mod Promising
 pub mod AtOnce
 pub mod Portions
+pub mod AnyMemory
+pub mod EachTurn
 pub mod Lively
 pub mod Looks
+pub mod Rounds
+pub mod Whole

@@ -69,7 +69,7 @@ refused asked w most n u v r s few t =
 -- Each queue
 
 -- a mask with each bit set asks each queue below 32
-asks_each : (q : ℕ) → q < 32 → asks 4294967295 q ≡ asks_all q
+pub asks_each : (q : ℕ) → q < 32 → asks 4294967295 q ≡ asks_all q
 asks_each q lt = ap (λ n. n == 1) (bit_at_ones 32 q lt)
 
 -- there are as many queues as before
@@ -101,7 +101,7 @@ serves_alike w n v few s =
     record { transitions = s.transitions; settles = settles_alike w s.transitions few s.settles; is = s.is; counted = s.counted }
 
 -- the order is the one that asks each queue
-order_all : (queues seats : ℕ) → order_by asks_all queues seats ≡ order queues seats
+pub order_all : (queues seats : ℕ) → order_by asks_all queues seats ≡ order queues seats
 unfolding order order_by
 order_all queues seats = refl
 
@@ -114,7 +114,7 @@ order_is w v n few s =
     ∙ order_all (length v.queues) (length v.seats)
 
 -- at rest
-rests_whole : (v : PlainWorld) → AskAlike (asks 4294967295) asks_all (length v.queues) → IsAtRestOf (asks 4294967295) v
+pub rests_whole : (v : PlainWorld) → AskAlike (asks 4294967295) asks_all (length v.queues) → IsAtRestOf (asks 4294967295) v
     → IsAtRest v
 rests_whole v same r =
     record {

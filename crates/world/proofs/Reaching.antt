@@ -70,8 +70,9 @@ whole_by_next asked most w (Ok None) w' h t = subst IsWhole (sym t.0) h
 whole_by_next asked most w (Err x) w' h t = subst IsWhole (sym t.0) h
 
 -- by one event
-pub whole_by_step : (asked : ℕ → Bool) (w : PlainWorld) (c : Cursor) (w' : PlainWorld) → IsWhole w → StepsNext asked w c w' → IsWhole w'
-whole_by_step asked w c w' h t = whole_by w (event_of t.0) true w' h (t.0, refl, t.1, t.3)
+pub whole_by_step : (asked : ℕ → Bool) (Q : Transition → Type 0) (w : PlainWorld) (c : Cursor) (w' : PlainWorld) → IsWhole w
+    → StepsNext asked Q w c w' → IsWhole w'
+whole_by_step asked Q w c w' h t = whole_by w (event_of t.0) true w' h (t.0, refl, t.1, t.3)
 
 -- a turn of an event, or want of memory, is a step
 pub steps_by_result : (w : PlainWorld) (e : Event) (r : Result Bool NoMemory) (w' : PlainWorld) → TurnsOrWants w e r w'
@@ -85,12 +86,12 @@ steps_by w e b w' t = step_of w e b w' t
 
 -- Each ring keeps the size of its memory
 
-rooms_along : (w : PlainWorld) (ds : List Transition) → map room_of (world_of w ds).queues ≡ map room_of w.queues
+pub rooms_along : (w : PlainWorld) (ds : List Transition) → map room_of (world_of w ds).queues ≡ map room_of w.queues
 rooms_along w [] = refl
 rooms_along w (d ∷ ds) = rooms_stay d (world_of w ds) ∙ rooms_along w ds
 
 -- so it fits a memory that is as long as before
-fits_by : (w w' : PlainWorld) → map room_of w'.queues ≡ map room_of w.queues → length w'.memory ≡ length w.memory
+pub fits_by : (w w' : PlainWorld) → map room_of w'.queues ≡ map room_of w.queues → length w'.memory ≡ length w.memory
     → AreFitting w → AreFitting w'
 fits_by w w' rooms size fits i q at =
     let all = each_image room_of (λ n. n ≡ length w.memory) w.queues fits in

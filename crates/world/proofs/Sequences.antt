@@ -14,9 +14,8 @@ use Rattle.device_model.specs.Order.{IsNextOf}
 use Rattle.device_model.specs.Settling.{SettlesOf}
 use Rattle.world.specs.Steps.{IsRun, events_of}
 use Rattle.world.specs.Settling.{ServesBy}
-use Rattle.world.specs.Cursors.{StepsNext, ServesNext}
+use Rattle.world.specs.Cursors.{StepsNext}
 use Rattle.world.specs.declared.cursor.Cursor.{Cursor}
-use Rattle.world.specs.declared.cursor.Progress.{Progress}
 
 -- one item more
 take_suc : {X : Type 0} (n : ℕ) (xs : List X) (x : X) → slice_get xs n ≡ Some x → take (suc n) xs ≡ take n xs ++ x ∷ []
@@ -36,7 +35,7 @@ events_next xs e =
     ap (λ ys. reverse ys) (map-append plain_event xs (e ∷ []))
     ∙ reverse-append (map plain_event xs) (plain_event e ∷ [])
 
-next_length : (k n : ℕ) → k ≡ n → suc k ≡ n + 1
+pub next_length : (k n : ℕ) → k ≡ n → suc k ≡ n + 1
 next_length k n e = omega (arith, e)
 
 abbrev pub bit : Bool → ℕ
@@ -70,7 +69,7 @@ world_on w ds [] = refl
 world_on w ds (e ∷ es) = ap (λ z. after e z) (world_on w ds es)
 
 -- one transition more that was first
-pub serves_on : (asked : ℕ → Bool) (w v : PlainWorld) (n : ℕ) (u : PlainWorld) (d : Transition) → ServesBy asked w n v → Happens d v
+abbrev pub serves_on : (asked : ℕ → Bool) (w v : PlainWorld) (n : ℕ) (u : PlainWorld) (d : Transition) → ServesBy asked w n v → Happens d v
     → IsNextOf asked v (event_of d) → u ≡ after d v → ServesBy asked w (n + 1) u
 serves_on asked w v n u d r h next is =
     record {
@@ -105,24 +104,18 @@ serves_more asked w v u n m r s =
     }
 
 -- nothing was served yet
-pub serves_none : (asked : ℕ → Bool) (w : PlainWorld) → ServesBy asked w 0 w
+abbrev pub serves_none : (asked : ℕ → Bool) (w : PlainWorld) → ServesBy asked w 0 w
 serves_none asked w = record { transitions = []; settles = tt; is = refl; counted = refl }
 
 -- one transition
-pub serves_one : (asked : ℕ → Bool) (w : PlainWorld) (c : Cursor) (u : PlainWorld) → StepsNext asked w c u → ServesBy asked w 1 u
-serves_one asked w c u t = serves_on asked w w 0 u t.0 (serves_none asked w) t.1 t.2 t.3
+abbrev pub serves_one : (asked : ℕ → Bool) (Q : Transition → Type 0) (w : PlainWorld) (c : Cursor) (u : PlainWorld)
+    → StepsNext asked Q w c u → ServesBy asked w 1 u
+serves_one asked Q w c u t = serves_on asked w w 0 u t.0 (serves_none asked w) t.1 t.2 t.3
 
 -- one transition more
-pub serves_next : (asked : ℕ → Bool) (w v : PlainWorld) (n : ℕ) (c : Cursor) (u : PlainWorld) → ServesBy asked w n v → StepsNext asked v c u
-    → ServesBy asked w (n + 1) u
-serves_next asked w v n c u r t = serves_on asked w v n u t.0 r t.1 t.2 t.3
-
--- it was one event of the order
-pub next_one : (asked : ℕ → Bool) (most : ℕ) (w : PlainWorld) (c : Cursor) (s : Progress) (w' : PlainWorld) → 1 ≤ most → s ≡ record { next = c; steps = 1 }
-    → StepsNext asked w c w' → ServesNext asked most w s w'
-next_one asked most w c s w' few is t =
-    subst (λ z. ServesNext asked most w z w') (sym is)
-    (record { some = omega arith; few = few; serves = serves_one asked w c w' t; before = t.4 })
+abbrev pub serves_next : (asked : ℕ → Bool) (Q : Transition → Type 0) (w v : PlainWorld) (n : ℕ) (c : Cursor) (u : PlainWorld)
+    → ServesBy asked w n v → StepsNext asked Q v c u → ServesBy asked w (n + 1) u
+serves_next asked Q w v n c u r t = serves_on asked w v n u t.0 r t.1 t.2 t.3
 
 -- what a step counts, where it changed something and where not
 pub counts_one : (n m : ℕ) (b : Bool) → b ≡ true → m ≡ n + 1 → n + bit b ≡ m

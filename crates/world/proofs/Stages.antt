@@ -6,14 +6,11 @@ use Rattle.device_model.specs.World.{PlainWorld, Seat}
 use Rattle.device_model.specs.Events.{Event}
 use Rattle.device_model.specs.Applies.{Applies}
 use Rattle.device_model.specs.Phases.{HasHand}
-use Rattle.device_model.specs.Turns.{Turns}
 use Rattle.device_model.proofs.Lists.{same, nothing}
 use Rattle.device_model.specs.Order.{of_seat, IsFirstOf, NoneApplies}
-use Rattle.world.specs.Cursors.{TurnsFirst}
 use Rattle.world.specs.Stages.{stage_of}
 use Rattle.world.specs.declared.seat.Stage.{Stage}
 use Rattle.world.specs.declared.seat.Stage.TheVariants as stage
-use Rattle.world.proofs.Choosing.{taken}
 
 abbrev Never : PlainWorld → Event → Type 0
 Never w e = Applies w e → ⊥
@@ -73,51 +70,44 @@ free_committing : stage.Empty ≡ stage.Taken → ⊥
 free_committing e = cc
 
 -- the event of a stage applies
-leave_there : (w : PlainWorld) (k : ℕ) (h : Hand) → HasHand w k h → stage_of h ≡ stage.Answered
+pub leave_there : (w : PlainWorld) (k : ℕ) (h : Hand) → HasHand w k h → stage_of h ≡ stage.Answered
     → Applies w (Event.Leave k)
 leave_there w k Hand.Empty there is = absurd (cc)
 leave_there w k (Hand.Taken x) there is = absurd (cc)
 leave_there w k (Hand.Done x o) there is = absurd (cc)
 leave_there w k (Hand.Answered place t) there is = (place, t, there)
 
-answer_there : (w : PlainWorld) (k : ℕ) (h : Hand) → HasHand w k h → stage_of h ≡ stage.Done
+pub answer_there : (w : PlainWorld) (k : ℕ) (h : Hand) → HasHand w k h → stage_of h ≡ stage.Done
     → Applies w (Event.Answer k)
 answer_there w k Hand.Empty there is = absurd (cc)
 answer_there w k (Hand.Taken x) there is = absurd (cc)
 answer_there w k (Hand.Done x o) there is = (x, o, there)
 answer_there w k (Hand.Answered place t) there is = absurd (cc)
 
-commit_there : (w : PlainWorld) (k : ℕ) (h : Hand) → HasHand w k h → stage_of h ≡ stage.Taken
+pub commit_there : (w : PlainWorld) (k : ℕ) (h : Hand) → HasHand w k h → stage_of h ≡ stage.Taken
     → Applies w (Event.Commit k)
 commit_there w k Hand.Empty there is = absurd (cc)
 commit_there w k (Hand.Taken x) there is = (x, there)
 commit_there w k (Hand.Done x o) there is = absurd (cc)
 commit_there w k (Hand.Answered place t) there is = absurd (cc)
 
--- and so it changes something, and is first where those before it don't apply
-only : (xs : List Event) (e : Event) (w w' : PlainWorld) (b : Bool) → (Applies w e → IsFirstOf w xs e) → Applies w e
-    → Turns w e b w' → TurnsFirst xs w b w'
-only xs e w w' true first a t = taken xs e w w' first t
-only xs e w w' false first a t = absurd (t.1 a)
+-- and so it is first where those before it don't apply
+pub leaves_first : (w : PlainWorld) (k : ℕ) (h : Hand) → HasHand w k h → stage_of h ≡ stage.Answered
+    → IsFirstOf w (of_seat k) (Event.Leave k)
+leaves_first w k h there is = inl (leave_there w k h there is, refl)
 
-pub leaves : (w w' : PlainWorld) (k : ℕ) (h : Hand) (b : Bool) → HasHand w k h → stage_of h ≡ stage.Answered
-    → Turns w (Event.Leave k) b w' → TurnsFirst (of_seat k) w b w'
-leaves w w' k h b there is t =
-    only (of_seat k) (Event.Leave k) w w' b (λ a. inl (a, refl)) (leave_there w k h there is) t
-
-pub answers : (w w' : PlainWorld) (k : ℕ) (h : Hand) (b : Bool) → HasHand w k h → stage_of h ≡ stage.Done
-    → Turns w (Event.Answer k) b w' → TurnsFirst (of_seat k) w b w'
-answers w w' k h b there is t =
+pub answers_first : (w : PlainWorld) (k : ℕ) (h : Hand) → HasHand w k h → stage_of h ≡ stage.Done
+    → IsFirstOf w (of_seat k) (Event.Answer k)
+answers_first w k h there is =
     let leave = no_leave w k h there stage.Done is answering_leaving in
-    only (of_seat k) (Event.Answer k) w w' b (λ a. inr (leave, inl (a, refl))) (answer_there w k h there is) t
+    inr (leave, inl (answer_there w k h there is, refl))
 
-pub commits : (w w' : PlainWorld) (k : ℕ) (h : Hand) (b : Bool) → HasHand w k h → stage_of h ≡ stage.Taken
-    → Turns w (Event.Commit k) b w' → TurnsFirst (of_seat k) w b w'
-commits w w' k h b there is t =
+pub commits_first : (w : PlainWorld) (k : ℕ) (h : Hand) → HasHand w k h → stage_of h ≡ stage.Taken
+    → IsFirstOf w (of_seat k) (Event.Commit k)
+commits_first w k h there is =
     let leave = no_leave w k h there stage.Taken is committing_leaving in
     let answer = no_answer w k h there stage.Taken is committing_answering in
-    only (of_seat k) (Event.Commit k) w w' b (λ a. inr (leave, inr (answer, inl (a, refl))))
-    (commit_there w k h there is) t
+    inr (leave, inr (answer, inl (commit_there w k h there is, refl)))
 
 -- where nothing is in hand, no job is committed or answered, and no task leaves
 pub record IsIdle (w : PlainWorld) (k : ℕ) : Type 0 where

@@ -13,20 +13,19 @@ use Rattle.device_model.specs.Happens.{Happens, MayWant}
 use Rattle.device_model.specs.Applies.{Applies}
 use Rattle.device_model.specs.Phases.{SlotIs}
 use Rattle.device_model.specs.Lawful.{KeepsParts}
-use Rattle.device_model.specs.Turns.{Turns}
 use Rattle.device_model.proofs.Applying.{applies}
 use Rattle.device_model.proofs.Lists.{same}
 use Rattle.device_model.proofs.Staying.{transition_stays}
-use Rattle.device_model.specs.Order.{of_seat, IsFirstOf, IsNextOf, IsQuietOf, NoneApplies}
+use Rattle.device_model.specs.Order.{of_seat, IsFirstOf, IsNextOf, NoneApplies}
 use Rattle.device_model.specs.Waking.{IsAmong, IsFetch, IsTake, IsOwn, Wakes}
 use Rattle.phases.specs.Slots.{arrived_unit}
 use Rattle.device_model.proofs.Waking.{wakes}
-use Rattle.world.specs.Cursors.{TurnsFirst, of_function, NoStart, NoDirectBelow, NoDirect, NoSeatBelow, NoSeat, NoEnterBelow, NoFetchBelow, NoFetch, NoneBefore, NoneBeforeFetch, LeavesNext, EntersNext, FetchesNext, StepsNext, direct_from, seat_from, enter_from}
+use Rattle.world.specs.Cursors.{TurnsBy, TurnsFirst, of_function, NoStart, NoDirectBelow, NoDirect, NoSeatBelow, NoSeat, NoEnterBelow, NoFetchBelow, NoneBefore, NoneBeforeFetch, LeavesNext, EntersNext, FetchesNext, StepsNext, direct_from, seat_from, enter_from}
 use Rattle.world.specs.Settling.{order_for, MayWantFirst}
 use Rattle.world.specs.declared.cursor.Cursor.{Cursor}
 use Rattle.world.specs.declared.cursor.Cursor.TheVariants as cursor
 use Rattle.world.proofs.Choosing.{none_open}
-use Rattle.world.proofs.Ordering.{Is, is_first, of_first, wants_first, Wants, first_function, first_raise, first_direct, first_seat, first_enter, first_fetch, none_left}
+use Rattle.world.proofs.Ordering.{Is, is_first, of_first, wants_first, Wants, first_function, first_raise, first_direct, first_seat, first_enter, first_fetch}
 
 abbrev Never : PlainWorld → Event → Type 0
 Never w e = Applies w e → ⊥
@@ -256,40 +255,34 @@ after_fetch w d i y is m none lt closed arrived =
 -- What is first was done, and where to look next
 
 -- an event of the function
-pub function_next : (asked : ℕ → Bool) (w w' : PlainWorld) (b : Bool) → b ≡ true → TurnsFirst of_function w b w'
-    → StepsNext asked w cursor.Start w'
-function_next asked w w' b on t =
-    let u : TurnsFirst of_function w true w' = rw on at t in
+pub function_next : (asked : ℕ → Bool) (Q : Transition → Type 0) (w w' : PlainWorld) → TurnsFirst Q of_function w w'
+    → StepsNext asked Q w cursor.Start w'
+function_next asked Q w w' u =
     let e = event_of u.0 in
-    (u.0, u.1, is_first w e (order_for asked w) (first_function asked (Is w e) w (of_first w e of_function u.2)), u.3, tt)
+    (u.0, u.1, is_first w e (order_for asked w) (first_function asked (Is w e) w (of_first w e of_function u.2)), u.3, tt, u.4)
 
--- an event changed something, where those before it changed nothing
-turned : (w v w' : PlainWorld) (e : Event) (b : Bool) → b ≡ true → v ≡ w → Turns v e b w' → Turns w e true w'
-turned w v w' e b on same t = subst (λ z. Turns z e true w') same (rw on at t)
-
--- it applied, and is first where it is so by its name
+-- what changed something applied, and is first where it is so by its name
 next_by : (asked : ℕ → Bool) (w : PlainWorld) (d : Transition) (e : Event) → event_of d ≡ e → Happens d w
     → (Is w e e → IsNextOf asked w e) → IsNextOf asked w (event_of d)
 next_by asked w d e is m f =
     subst (λ x. IsNextOf asked w x) (sym is) (f (subst (λ x. Applies w x) is (applies d w m), refl))
 
 -- the oldest event that waits
-pub raise_next : (asked : ℕ → Bool) (w v w' : PlainWorld) (b : Bool) → b ≡ true → v ≡ w → NoneApplies w of_function
-    → Turns v Event.Raise b w' → StepsNext asked w cursor.Start w'
-raise_next asked w v w' b on same none t =
-    let u = turned w v w' Event.Raise b on same t in
+pub raise_next : (asked : ℕ → Bool) (Q : Transition → Type 0) (w w' : PlainWorld) → NoneApplies w of_function
+    → TurnsBy Q w Event.Raise w' → StepsNext asked Q w cursor.Start w'
+raise_next asked Q w w' none u =
     let next = next_by asked w u.0 Event.Raise u.1 u.2
     (λ a. is_first w Event.Raise (order_for asked w) (first_raise asked (Is w Event.Raise) w none a)) in
-    (u.0, u.2, next, u.3, tt)
+    (u.0, u.2, next, u.3, tt, u.4)
 
 -- the answer that is ready on a queue
-pub direct_next : (asked : ℕ → Bool) (w v w' : PlainWorld) (i : ℕ) (b : Bool) → b ≡ true → v ≡ w → NoStart w → NoDirectBelow i w
-    → i < length w.queues → Turns v (Event.Direct i) b w' → StepsNext asked w (cursor.Direct i) w'
-direct_next asked w v w' i b on same s below lt t =
+pub direct_next : (asked : ℕ → Bool) (Q : Transition → Type 0) (w w' : PlainWorld) (i : ℕ) → NoStart w → NoDirectBelow i w
+    → i < length w.queues → TurnsBy Q w (Event.Direct i) w' → StepsNext asked Q w (cursor.Direct i) w'
+direct_next asked Q w w' i s below lt u =
     let e = Event.Direct i in
-    let u = turned w v w' e b on same t in
-    let next = next_by asked w u.0 e u.1 u.2 (λ a. is_first w e (order_for asked w) (first_direct asked (Is w e) w i s below lt a)) in
-    (u.0, u.2, next, u.3, subst (NoneBefore (cursor.Direct i)) (sym u.3) (after_direct w u.0 i u.1 u.2 s below))
+    let next = next_by asked w u.0 e u.1 u.2
+    (λ a. is_first w e (order_for asked w) (first_direct asked (Is w e) w i s below lt a)) in
+    (u.0, u.2, next, u.3, subst (NoneBefore (cursor.Direct i)) (sym u.3) (after_direct w u.0 i u.1 u.2 s below), u.4)
 
 -- where the cursor is the beginning, nothing is asked
 at_start : (w : PlainWorld) (c : Cursor) → c ≡ cursor.Start → NoneBefore c w
@@ -299,11 +292,9 @@ at_other : (w v : PlainWorld) (c x : Cursor) → c ≡ x → v ≡ w → NoneBef
 at_other w v c x e f h = subst (λ z. NoneBefore z v) (sym e) (subst (λ z. NoneBefore x z) (sym f) h)
 
 -- an event of a seat
-pub seat_next : (asked : ℕ → Bool) (w v w' : PlainWorld) (k : ℕ) (b : Bool) (c : Cursor) → b ≡ true → v ≡ w → NoStart w → NoDirect w
-    → NoSeatBelow k w → k < length w.seats → TurnsFirst (of_seat k) v b w' → LeavesNext w' c
-    → StepsNext asked w c w'
-seat_next asked w v w' k b c on same s direct below lt t leaves =
-    let u : TurnsFirst (of_seat k) w true w' = subst (λ z. TurnsFirst (of_seat k) z true w') same (rw on at t) in
+pub seat_next : (asked : ℕ → Bool) (Q : Transition → Type 0) (w w' : PlainWorld) (k : ℕ) (c : Cursor) → NoStart w → NoDirect w
+    → NoSeatBelow k w → k < length w.seats → TurnsFirst Q (of_seat k) w w' → LeavesNext w' c → StepsNext asked Q w c w'
+seat_next asked Q w w' k c s direct below lt u leaves =
     let e = event_of u.0 in
     let next = is_first w e (order_for asked w)
     (first_seat asked (Is w e) w k s direct below lt (of_first w e (of_seat k) u.2)) in
@@ -313,15 +304,14 @@ seat_next asked w v w' k b c on same s direct below lt t leaves =
           let closed = ap (λ (z : PlainWorld). z.function) (sym u.3) ∙ p.1 in
           at_other (after u.0 w) w' c cursor.Seats p.0 u.3 (after_seat w u.0 k u.2 u.1 s direct closed)
     ] in
-    (u.0, u.1, next, u.3, before)
+    (u.0, u.1, next, u.3, before, u.4)
 
 -- a request that arrived
-pub enter_next : (asked : ℕ → Bool) (w v w' : PlainWorld) (i : ℕ) (b : Bool) (c : Cursor) → b ≡ true → v ≡ w → NoStart w → NoDirect w
-    → NoSeat w → NoEnterBelow i w → i < length w.queues → Turns v (Event.Enter i) b w' → EntersNext i w' c
-    → StepsNext asked w c w'
-enter_next asked w v w' i b c on same s direct seat below lt t enters =
+pub enter_next : (asked : ℕ → Bool) (Q : Transition → Type 0) (w w' : PlainWorld) (i : ℕ) (c : Cursor) → NoStart w → NoDirect w
+    → NoSeat w → NoEnterBelow i w → i < length w.queues → TurnsBy Q w (Event.Enter i) w' → EntersNext i w' c
+    → StepsNext asked Q w c w'
+enter_next asked Q w w' i c s direct seat below lt u enters =
     let e = Event.Enter i in
-    let u = turned w v w' e b on same t in
     let next = next_by asked w u.0 e u.1 u.2
     (λ a. is_first w e (order_for asked w) (first_enter asked (Is w e) w i s direct seat below lt a)) in
     let before : NoneBefore c w' = elim enters [
@@ -330,15 +320,14 @@ enter_next asked w v w' i b c on same s direct seat below lt t enters =
           let empty = subst (λ z. SlotIs z i Slot.Empty) u.3 p.1 in
           at_other (after u.0 w) w' c cursor.Seats p.0 u.3 (after_enter w u.0 i u.1 u.2 s direct empty)
     ] in
-    (u.0, u.2, next, u.3, before)
+    (u.0, u.2, next, u.3, before, u.4)
 
 -- a queue's next chain
-pub fetch_next : (asked : ℕ → Bool) (w v w' : PlainWorld) (i : ℕ) (b : Bool) (c : Cursor) → b ≡ true → v ≡ w → NoneBeforeFetch w
-    → NoFetchBelow asked i w → i < length w.queues → asked i ≡ true → Turns v (Event.Fetch i) b w' → FetchesNext i w' c
-    → StepsNext asked w c w'
-fetch_next asked w v w' i b c on same none below lt is_asked t fetches =
+pub fetch_next : (asked : ℕ → Bool) (Q : Transition → Type 0) (w w' : PlainWorld) (i : ℕ) (c : Cursor) → NoneBeforeFetch w
+    → NoFetchBelow asked i w → i < length w.queues → asked i ≡ true → TurnsBy Q w (Event.Fetch i) w' → FetchesNext i w' c
+    → StepsNext asked Q w c w'
+fetch_next asked Q w w' i c none below lt is_asked u fetches =
     let e = Event.Fetch i in
-    let u = turned w v w' e b on same t in
     let next = next_by asked w u.0 e u.1 u.2
     (λ a. is_first w e (order_for asked w) (first_fetch asked (Is w e) w i none below lt is_asked a)) in
     let before : NoneBefore c w' = elim fetches [
@@ -349,20 +338,13 @@ fetch_next asked w v w' i b c on same none below lt is_asked t fetches =
           at_other (after u.0 w) w' c (cursor.Enter i) p.0 u.3
           (after_fetch w u.0 i p.2.0 u.1 u.2 none lt closed arrived)
     ] in
-    (u.0, u.2, next, u.3, before)
+    (u.0, u.2, next, u.3, before, u.4)
 
 -- memory was refused for a queue's next chain
-pub queue_wants : (asked : ℕ → Bool) (w v w' : PlainWorld) (i : ℕ) → v ≡ w → NoneBeforeFetch w → NoFetchBelow asked i w
-    → i < length w.queues → (w' ≡ v) × (asked i ≡ true) × MayWant (Event.Fetch i) v
-    → (w' ≡ w) × MayWantFirst w (order_for asked w)
-queue_wants asked w v w' i same none below lt t =
-    let want : MayWant (Event.Fetch i) w = subst (λ z. MayWant (Event.Fetch i) z) same t.2 in
-    (t.0 ∙ same, wants_first w (order_for asked w) (first_fetch asked (Wants w) w i none below lt t.1 want))
-
--- nothing was left
-pub nothing_next : (asked : ℕ → Bool) (w v : PlainWorld) → v ≡ w → NoneBeforeFetch w → NoFetch asked w
-    → (v ≡ w) × IsQuietOf asked w
-nothing_next asked w v same none below = (same, none_left asked w none below)
+pub queue_wants : (asked : ℕ → Bool) (w : PlainWorld) (i : ℕ) → NoneBeforeFetch w → NoFetchBelow asked i w → i < length w.queues
+    → (asked i ≡ true) × MayWant (Event.Fetch i) w → MayWantFirst w (order_for asked w)
+queue_wants asked w i none below lt t =
+    wants_first w (order_for asked w) (first_fetch asked (Wants w) w i none below lt t.0 t.1)
 
 -- a slot with a unit has a request that arrived
 pub arrived_there : (s : Slot) → is_some (arrived_unit s) ≡ true → (x : PlainJob) × (s ≡ Slot.Arrived x)
@@ -408,15 +390,14 @@ enters_from w cursor.Fetch before = before.3
 -- Past the last of a kind
 
 -- no queue has an answer ready
-pub directs_past : (w v : PlainWorld) (n : ℕ) → v ≡ w → length w.queues ≤ n → NoDirectBelow n w → NoDirect v
-directs_past w v n same le below = subst NoDirect (sym same) (λ i lt. below i (omega (arith, lt, le)))
+pub directs_past : (w : PlainWorld) (n : ℕ) → length w.queues ≤ n → NoDirectBelow n w → NoDirect w
+directs_past w n le below = λ i lt. below i (omega (arith, lt, le))
 
 -- no seat has an event
-pub seats_past : (w v : PlainWorld) (n : ℕ) → v ≡ w → length w.seats ≤ n → NoSeatBelow n w → NoSeat v
-seats_past w v n same le below = subst NoSeat (sym same) (λ k lt. below k (omega (arith, lt, le)))
+pub seats_past : (w : PlainWorld) (n : ℕ) → length w.seats ≤ n → NoSeatBelow n w → NoSeat w
+seats_past w n le below = λ k lt. below k (omega (arith, lt, le))
 
 -- no request arrived
-pub enters_past : (w v : PlainWorld) (n : ℕ) → v ≡ w → length w.queues ≤ n → NoStart w → NoDirect w → NoSeat w
-    → NoEnterBelow n w → NoneBeforeFetch v
-enters_past w v n same le s direct seat below =
-    subst NoneBeforeFetch (sym same) (s, direct, seat, λ i lt. below i (omega (arith, lt, le)))
+pub enters_past : (w : PlainWorld) (n : ℕ) → length w.queues ≤ n → NoStart w → NoDirect w → NoSeat w → NoEnterBelow n w
+    → NoneBeforeFetch w
+enters_past w n le s direct seat below = (s, direct, seat, λ i lt. below i (omega (arith, lt, le)))

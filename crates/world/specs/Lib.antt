@@ -4,7 +4,6 @@ pub mod Sound
 pub mod Steps
 pub mod Apart
 pub mod Settling
-pub mod Cursors
 pub mod Stages
 pub mod Opening
 pub mod Views
@@ -12,3 +11,6 @@ pub mod Notifications
 pub mod Promise
 pub mod LiveWorld
 pub mod Asking
+pub mod LiveServing
+pub mod Cursors
+pub mod Rounds

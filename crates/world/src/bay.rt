@@ -1,6 +1,6 @@
 //! A virtqueue with its slot.
 
-use guest_mem::GuestMem;
+use guest_mem::Memory;
 use phases::Slot;
 use queues::Queue;
 use std::marker::Model;
@@ -23,7 +23,7 @@ impl Model for Bay {
 }
 
 impl Bay {
-    ghost use Rattle.std.specs.Prelude.{◌≡◌, ◌↔◌, IsTrue, is_some, length};
+    ghost use Rattle.std.specs.Prelude.{◌≡◌, ◌↔◌, ℕ, List, IsTrue, is_some};
     ghost use Rattle.device_model.specs.Parts as plain;
     ghost use Rattle.queues.specs.Looking.{IsIdle};
     ghost use Rattle.phases.specs.Slots.{arrived_unit, is_direct};
@@ -61,11 +61,17 @@ impl Bay {
         self.slot.unit().is_some()
     }
 
-    /// Returns true if its slot is empty and a fetch would find a chain, or a fault.
-    pub(crate) fn has_chain(&self, memory: &GuestMem) -> bool
-        requires { length memory.now ≡ self.now.ring.memory }
-        ensures { IsTrue result ↔ ((self.now.slot ≡ plain.Slot.Empty) × (IsIdle self.now.ring memory.now → ⊥)) }
+    /// Returns true if its slot is empty and a fetch from any memory would find a chain, or a fault. Called in a phase
+    /// that wrote nothing yet.
+    pub(crate) fn has_chain_in<M: Memory>(&self, memory: &mut M) -> bool
+        requires reading { M.is_open memory.old }
+        requires fits { M.extent memory.old ≡ self.now.ring.memory }
+        ensures chain { (m : List ℕ) → M.may_be memory.new m
+            → (IsTrue result ↔ ((self.now.slot ≡ plain.Slot.Empty) × (IsIdle self.now.ring m → ⊥))) }
+        ensures stays { (m : List ℕ) → M.may_be memory.new m → M.may_be memory.old m }
+        ensures reading { M.is_open memory.new }
+        ensures size { M.extent memory.new ≡ M.extent memory.old }
     {
-        self.slot.is_empty() && !self.queue.is_idle(memory)
+        self.slot.is_empty() && !self.queue.is_idle_in(memory)
     }
 }

@@ -6,6 +6,7 @@ mod bay;
 mod cursor;
 mod device;
 mod handed_off;
+mod live_serving;
 mod live_views;
 mod live_world;
 mod notifications;

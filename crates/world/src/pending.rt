@@ -5,21 +5,23 @@ ghost use Rattle.device_model.specs.Order.{of_seat, IsQuietOf, NoneApplies};
 ghost use Rattle.device_model.specs.Events.{Event as AnEvent};
 ghost use Rattle.device_model.specs.Applies.{Applies};
 ghost use Rattle.device_model.specs.Happens.{IsOpenTo};
-ghost use Rattle.world.specs.Cursors.{Denies, of_function, NoDirect, NoSeat, NoEnter, NoFetch};
+ghost use Rattle.world.specs.Cursors.{Denies, FindsIn, of_function, NoDirect, NoSeat, NoEnter, NoFetch};
 ghost use Rattle.world.specs.Settling.{asks};
-ghost use Rattle.world.specs.Apart.{standing};
-ghost use Rattle.world.specs.Sound.{AreFew, AreFitting};
+ghost use Rattle.world.specs.Apart.{standing, FitsIn, HasFew};
 
 use crate::device::Device;
 use crate::service::is_asked;
-use guest_mem::GuestMem;
+use guest_mem::Memory;
 
 impl Device {
     /// Returns true if an event of the order applies, with new chains of the queues alone that are asked.
-    pub(crate) fn has_step(&self, memory: &GuestMem, queues: u32) -> bool
-        requires few { AreFew (standing false memory.now self.now) }
-        requires fits { AreFitting (standing false memory.now self.now) }
-        ensures { Denies (IsQuietOf (asks queues) (standing false memory.now self.now)) result }
+    pub(crate) fn has_step<M: Memory>(&self, memory: &mut M, queues: u32) -> bool
+        requires reading { M.is_open memory.old }
+        requires few { HasFew self.now }
+        requires fits { FitsIn (M.extent memory.old) self.now }
+        ensures denies { FindsIn M.shared (M.may_be memory.old) (M.may_be memory.new)
+            (λ w. Denies (IsQuietOf (asks queues) w) result) self.now }
+        ensures size { M.extent memory.new ≡ M.extent memory.old }
     {
         if self.function_goes_on() {
             return true;
@@ -114,10 +116,13 @@ impl Device {
     }
 
     /// Returns true if a queue that is asked has a chain for the device.
-    fn has_chain(&self, memory: &GuestMem, queues: u32) -> bool
-        requires few { AreFew (standing false memory.now self.now) }
-        requires fits { AreFitting (standing false memory.now self.now) }
-        ensures { Denies (NoFetch (asks queues) (standing false memory.now self.now)) result }
+    fn has_chain<M: Memory>(&self, memory: &mut M, queues: u32) -> bool
+        requires reading { M.is_open memory.old }
+        requires few { HasFew self.now }
+        requires fits { FitsIn (M.extent memory.old) self.now }
+        ensures denies { FindsIn M.shared (M.may_be memory.old) (M.may_be memory.new)
+            (λ w. Denies (NoFetch (asks queues) w) result) self.now }
+        ensures size { M.extent memory.new ≡ M.extent memory.old }
     {
         for number in 0..self.bays.len() {
             if self.queue_goes_on(memory, number as u16, queues) {
@@ -138,11 +143,15 @@ impl Device {
     }
 
     /// Returns true if this queue is asked and has a chain for the device.
-    fn queue_goes_on(&self, memory: &GuestMem, number: u16, queues: u32) -> bool
-        requires few { AreFew (standing false memory.now self.now) }
-        requires fits { AreFitting (standing false memory.now self.now) }
+    fn queue_goes_on<M: Memory>(&self, memory: &mut M, number: u16, queues: u32) -> bool
+        requires reading { M.is_open memory.old }
+        requires few { HasFew self.now }
+        requires fits { FitsIn (M.extent memory.old) self.now }
         requires there { number < length self.now.queues }
-        ensures { Denies (asks queues number ≡ true → Applies (standing false memory.now self.now) (AnEvent.Fetch number) → ⊥) result }
+        ensures denies { FindsIn M.shared (M.may_be memory.old) (M.may_be memory.new)
+            (λ w. Denies (asks queues number ≡ true → Applies w (AnEvent.Fetch number) → ⊥) result) self.now }
+        ensures reading { M.is_open memory.new }
+        ensures size { M.extent memory.new ≡ M.extent memory.old }
     {
         if !is_asked(queues, number) {
             return false;
@@ -150,6 +159,6 @@ impl Device {
         if self.is_closed_to(number) {
             return false;
         }
-        self.bays[number as usize].has_chain(memory)
+        self.bays[number as usize].has_chain_in(memory)
     }
 }

@@ -1,15 +1,15 @@
 //! The order in which a device serves what is there: the first event of it that applies, one after another. It doesn't
 //! look again at what a step can't have woken.
 
-ghost use Rattle.std.specs.Prelude.{◌≡◌, ◌≤◌, ◌<◌, ℕ, Bool, List, IsTrue, Some, true, false, slice_get, length};
+ghost use Rattle.std.specs.Prelude.{◌≡◌, ◌≤◌, ◌<◌, ℕ, Bool, List, [], IsTrue, true, false, length};
 ghost use Rattle.device_model.specs.Order.{of_seat};
 ghost use Rattle.device_model.specs.Parts.{Hand};
 ghost use Rattle.device_model.specs.Phases.{HasHand};
-ghost use Rattle.world.specs.Cursors.{TurnsFirst, of_function, TurnsNext, FetchesOn, MayServe, NoneBefore, NoneBeforeFetch, NoFetchBelow, EntersNext, FetchesNext, LeavesNext};
-ghost use Rattle.world.specs.Cursors.{NoStart, NoDirect, NoSeat};
+ghost use Rattle.world.specs.Cursors.{TurnsFirstIn, of_function, TurnsNextIn, FetchesOn, MayServe, NoneBefore, NoneBeforeFetch, NoFetchBelow, EntersNext, FetchesNext, LeavesNext};
+ghost use Rattle.world.specs.Cursors.{NoStart, NoDirect, NoSeat, IsReadyIn, AtEach, FindsIn, TurnsFirstAlone};
 ghost use Rattle.world.specs.Settling.{asks, asks_all};
-ghost use Rattle.world.specs.Apart.{standing};
-ghost use Rattle.world.specs.Sound.{AreFew, AreFitting, IsSound, IsWhole};
+ghost use Rattle.world.specs.Apart.{standing, FitsIn};
+ghost use Rattle.world.specs.Sound.{IsSound};
 
 use crate::cursor::{
     AT_ONCE, Cursor, Progress, first_direct, first_enter, first_seat, is_fetch, is_start, one,
@@ -20,8 +20,8 @@ use crate::seat::Stage;
 use crate::sound::all_are_sound;
 use crate::steps::owner;
 use block_store::NoMemory;
-use guest_mem::GuestMem;
-use phases::{Slot, Taken, serve_request, take_request};
+use guest_mem::{Memory, WritableMemory};
+use phases::{Slot, Taken, serve_request_in, take_request_in};
 use scsi_codec::{CONTROL_QUEUE, EVENT_QUEUE, FIRST_REQUEST_QUEUE};
 
 /// The outcome of a call of `World::serve`.
@@ -44,16 +44,18 @@ pub(crate) fn is_asked(queues: u32, number: u16) -> bool
 
 impl Device {
     /// Takes a step of the open function.
-    fn turn_function(&mut self, memory: &mut GuestMem) -> bool
-        requires sound { IsSound (standing false memory.old self.old) }
-        requires fits { AreFitting (standing false memory.old self.old) }
-        ensures turns { TurnsFirst of_function (standing false memory.old self.old) result (standing false memory.new self.new) }
-        ensures size { length memory.new ≡ length memory.old }
+    fn turn_function<M: WritableMemory>(&mut self, memory: &mut M) -> bool
+        requires ready { IsReadyIn (M.is_open memory.old) M.shared (M.may_be memory.old) (M.extent memory.old) self.old }
+        ensures turns { TurnsFirstIn M.shared (M.may_be memory.old) (M.may_be memory.new) of_function self.old result self.new }
+        ensures reading { M.is_open memory.new }
+        ensures size { M.extent memory.new ≡ M.extent memory.old }
     {
         if self.function.is_none() {
             return false;
         }
-        if self.answer_tmf(memory) {
+        let answered = self.answer_tmf_in(memory);
+        let _bytes = memory.size();
+        if answered {
             return true;
         }
         if self.check() {
@@ -63,11 +65,11 @@ impl Device {
     }
 
     /// Takes a step of a seat: which one is seen by its hand alone, unless that is empty.
-    fn turn_seat(&mut self, memory: &mut GuestMem, number: u16) -> bool
-        requires sound { IsSound (standing false memory.old self.old) }
-        requires fits { AreFitting (standing false memory.old self.old) }
-        ensures turns { TurnsFirst (of_seat number) (standing false memory.old self.old) result (standing false memory.new self.new) }
-        ensures size { length memory.new ≡ length memory.old }
+    fn turn_seat<M: WritableMemory>(&mut self, memory: &mut M, number: u16) -> bool
+        requires ready { IsReadyIn (M.is_open memory.old) M.shared (M.may_be memory.old) (M.extent memory.old) self.old }
+        ensures turns { TurnsFirstIn M.shared (M.may_be memory.old) (M.may_be memory.new) (of_seat number) self.old result self.new }
+        ensures reading { M.is_open memory.new }
+        ensures size { M.extent memory.new ≡ M.extent memory.old }
     {
         let at = number as usize;
         if at >= self.seats.len() {
@@ -75,19 +77,21 @@ impl Device {
         }
         match self.seats[at].stage() {
             Stage::Answered => self.leave(number),
-            Stage::Done => self.answer(memory, number),
+            Stage::Done => {
+                let answered = self.answer_in(memory, number);
+                let _bytes = memory.size();
+                answered
+            }
             Stage::Taken => self.commit(number),
-            Stage::Empty => self.turn_free(memory, number),
+            Stage::Empty => self.turn_free(number),
         }
     }
 
     /// Takes a step of a seat that has nothing in hand.
-    fn turn_free(&mut self, memory: &mut GuestMem, number: u16) -> bool
-        requires sound { IsSound (standing false memory.old self.old) }
-        requires fits { AreFitting (standing false memory.old self.old) }
-        requires free { HasHand (standing false memory.old self.old) number Hand.Empty }
-        ensures turns { TurnsFirst (of_seat number) (standing false memory.old self.old) result (standing false memory.new self.new) }
-        ensures size { length memory.new ≡ length memory.old }
+    fn turn_free(&mut self, number: u16) -> bool
+        requires sound { (shared : Bool) × ((m : List ℕ) × IsSound (standing shared m self.old)) }
+        requires free { HasHand (standing false [] self.old) number Hand.Empty }
+        ensures { TurnsFirstAlone (of_seat number) self.old result self.new }
     {
         if self.put(number) {
             return true;
@@ -98,21 +102,19 @@ impl Device {
     /// Takes the first event of the order that applies, from a place on. Returns from where on to look then; `None`
     /// where none applies.
     #[inline(always)]
-    pub(crate) fn turn(
+    pub(crate) fn turn<M: WritableMemory>(
         &mut self,
-        memory: &mut GuestMem,
+        memory: &mut M,
         cursor: Cursor,
         queues: u32,
         most: u64,
     ) -> Result<Option<Progress>, NoMemory>
         requires most { 1 ≤ most }
-        requires whole { IsWhole (standing false memory.old self.old) }
-        requires sound { IsSound (standing false memory.old self.old) }
-        requires fits { AreFitting (standing false memory.old self.old) }
-        requires few { AreFew (standing false memory.old self.old) }
-        requires before { NoneBefore cursor (standing false memory.old self.old) }
-        ensures turns { TurnsNext (asks queues) most (standing false memory.old self.old) result (standing false memory.new self.new) }
-        ensures size { length memory.new ≡ length memory.old }
+        requires ready { IsReadyIn (M.is_open memory.old) M.shared (M.may_be memory.old) (M.extent memory.old) self.old }
+        requires before { AtEach M.shared (M.may_be memory.old) (NoneBefore cursor) self.old }
+        ensures turns { TurnsNextIn M.shared M.may_be (asks queues) most memory.old self.old result memory.new self.new }
+        ensures reading { M.is_open memory.new }
+        ensures size { M.extent memory.new ≡ M.extent memory.old }
     {
         if is_fetch(cursor) {
             return self.from_fetch(memory, queues, most);
@@ -122,54 +124,74 @@ impl Device {
 
     /// Does the same where more than the queues is to be looked at, apart so that requests served at once pass it by.
     #[inline(never)]
-    fn from_start(
+    fn from_start<M: WritableMemory>(
         &mut self,
-        memory: &mut GuestMem,
+        memory: &mut M,
         cursor: Cursor,
         queues: u32,
         most: u64,
     ) -> Result<Option<Progress>, NoMemory>
         requires most { 1 ≤ most }
-        requires whole { IsWhole (standing false memory.old self.old) }
-        requires sound { IsSound (standing false memory.old self.old) }
-        requires fits { AreFitting (standing false memory.old self.old) }
-        requires few { AreFew (standing false memory.old self.old) }
-        requires before { NoneBefore cursor (standing false memory.old self.old) }
-        ensures turns { TurnsNext (asks queues) most (standing false memory.old self.old) result (standing false memory.new self.new) }
-        ensures size { length memory.new ≡ length memory.old }
+        requires ready { IsReadyIn (M.is_open memory.old) M.shared (M.may_be memory.old) (M.extent memory.old) self.old }
+        requires before { AtEach M.shared (M.may_be memory.old) (NoneBefore cursor) self.old }
+        ensures turns { TurnsNextIn M.shared M.may_be (asks queues) most memory.old self.old result memory.new self.new }
+        ensures reading { M.is_open memory.new }
+        ensures size { M.extent memory.new ≡ M.extent memory.old }
     {
         if is_start(cursor) {
-            if self.turn_function(memory) {
-                return Ok(Some(one(Cursor::Start)));
-            }
-            if self.raise(memory) {
-                return Ok(Some(one(Cursor::Start)));
-            }
+            return self.from_function(memory, queues, most);
         }
         self.from_direct(memory, cursor, queues, most)
     }
 
+    /// Goes on from the beginning: the function, and the events that wait.
+    #[inline(always)]
+    fn from_function<M: WritableMemory>(
+        &mut self,
+        memory: &mut M,
+        queues: u32,
+        most: u64,
+    ) -> Result<Option<Progress>, NoMemory>
+        requires most { 1 ≤ most }
+        requires ready { IsReadyIn (M.is_open memory.old) M.shared (M.may_be memory.old) (M.extent memory.old) self.old }
+        ensures turns { TurnsNextIn M.shared M.may_be (asks queues) most memory.old self.old result memory.new self.new }
+        ensures reading { M.is_open memory.new }
+        ensures size { M.extent memory.new ≡ M.extent memory.old }
+    {
+        let turned = self.turn_function(memory);
+        let _function = memory.size();
+        if turned {
+            return Ok(Some(one(Cursor::Start)));
+        }
+        let raised = self.raise_in(memory);
+        let _event = memory.size();
+        if raised {
+            return Ok(Some(one(Cursor::Start)));
+        }
+        self.from_direct(memory, Cursor::Start, queues, most)
+    }
+
     /// Goes on from the answers that are ready, where the cursor isn't past them.
     #[inline(always)]
-    fn from_direct(
+    fn from_direct<M: WritableMemory>(
         &mut self,
-        memory: &mut GuestMem,
+        memory: &mut M,
         cursor: Cursor,
         queues: u32,
         most: u64,
     ) -> Result<Option<Progress>, NoMemory>
         requires most { 1 ≤ most }
-        requires whole { IsWhole (standing false memory.old self.old) }
-        requires sound { IsSound (standing false memory.old self.old) }
-        requires fits { AreFitting (standing false memory.old self.old) }
-        requires few { AreFew (standing false memory.old self.old) }
-        requires start { NoStart (standing false memory.old self.old) }
-        requires before { NoneBefore cursor (standing false memory.old self.old) }
-        ensures turns { TurnsNext (asks queues) most (standing false memory.old self.old) result (standing false memory.new self.new) }
-        ensures size { length memory.new ≡ length memory.old }
+        requires ready { IsReadyIn (M.is_open memory.old) M.shared (M.may_be memory.old) (M.extent memory.old) self.old }
+        requires start { AtEach M.shared (M.may_be memory.old) NoStart self.old }
+        requires before { AtEach M.shared (M.may_be memory.old) (NoneBefore cursor) self.old }
+        ensures turns { TurnsNextIn M.shared M.may_be (asks queues) most memory.old self.old result memory.new self.new }
+        ensures reading { M.is_open memory.new }
+        ensures size { M.extent memory.new ≡ M.extent memory.old }
     {
         for number in first_direct(cursor, self.bays.len())..self.bays.len() {
-            if self.direct(memory, number as u16) {
+            let answered = self.direct_in(memory, number as u16);
+            let _bytes = memory.size();
+            if answered {
                 return Ok(Some(one(Cursor::Direct(number as u16))));
             }
         }
@@ -178,26 +200,26 @@ impl Device {
 
     /// Goes on from the seats, where the cursor isn't past them.
     #[inline(always)]
-    fn from_seats(
+    fn from_seats<M: WritableMemory>(
         &mut self,
-        memory: &mut GuestMem,
+        memory: &mut M,
         cursor: Cursor,
         queues: u32,
         most: u64,
     ) -> Result<Option<Progress>, NoMemory>
         requires most { 1 ≤ most }
-        requires whole { IsWhole (standing false memory.old self.old) }
-        requires sound { IsSound (standing false memory.old self.old) }
-        requires fits { AreFitting (standing false memory.old self.old) }
-        requires few { AreFew (standing false memory.old self.old) }
-        requires start { NoStart (standing false memory.old self.old) }
-        requires direct { NoDirect (standing false memory.old self.old) }
-        requires before { NoneBefore cursor (standing false memory.old self.old) }
-        ensures turns { TurnsNext (asks queues) most (standing false memory.old self.old) result (standing false memory.new self.new) }
-        ensures size { length memory.new ≡ length memory.old }
+        requires ready { IsReadyIn (M.is_open memory.old) M.shared (M.may_be memory.old) (M.extent memory.old) self.old }
+        requires start { AtEach M.shared (M.may_be memory.old) NoStart self.old }
+        requires direct { AtEach M.shared (M.may_be memory.old) NoDirect self.old }
+        requires before { AtEach M.shared (M.may_be memory.old) (NoneBefore cursor) self.old }
+        ensures turns { TurnsNextIn M.shared M.may_be (asks queues) most memory.old self.old result memory.new self.new }
+        ensures reading { M.is_open memory.new }
+        ensures size { M.extent memory.new ≡ M.extent memory.old }
     {
         for number in first_seat(cursor, self.seats.len())..self.seats.len() {
-            if self.turn_seat(memory, number as u16) {
+            let turned = self.turn_seat(memory, number as u16);
+            let _bytes = memory.size();
+            if turned {
                 return Ok(Some(one(self.after_seat())));
             }
         }
@@ -206,24 +228,22 @@ impl Device {
 
     /// Goes on from the requests that arrived, where the cursor isn't past them.
     #[inline(always)]
-    fn from_enter(
+    fn from_enter<M: WritableMemory>(
         &mut self,
-        memory: &mut GuestMem,
+        memory: &mut M,
         cursor: Cursor,
         queues: u32,
         most: u64,
     ) -> Result<Option<Progress>, NoMemory>
         requires most { 1 ≤ most }
-        requires whole { IsWhole (standing false memory.old self.old) }
-        requires sound { IsSound (standing false memory.old self.old) }
-        requires fits { AreFitting (standing false memory.old self.old) }
-        requires few { AreFew (standing false memory.old self.old) }
-        requires start { NoStart (standing false memory.old self.old) }
-        requires direct { NoDirect (standing false memory.old self.old) }
-        requires seat { NoSeat (standing false memory.old self.old) }
-        requires before { NoneBefore cursor (standing false memory.old self.old) }
-        ensures turns { TurnsNext (asks queues) most (standing false memory.old self.old) result (standing false memory.new self.new) }
-        ensures size { length memory.new ≡ length memory.old }
+        requires ready { IsReadyIn (M.is_open memory.old) M.shared (M.may_be memory.old) (M.extent memory.old) self.old }
+        requires start { AtEach M.shared (M.may_be memory.old) NoStart self.old }
+        requires direct { AtEach M.shared (M.may_be memory.old) NoDirect self.old }
+        requires seat { AtEach M.shared (M.may_be memory.old) NoSeat self.old }
+        requires before { AtEach M.shared (M.may_be memory.old) (NoneBefore cursor) self.old }
+        ensures turns { TurnsNextIn M.shared M.may_be (asks queues) most memory.old self.old result memory.new self.new }
+        ensures reading { M.is_open memory.new }
+        ensures size { M.extent memory.new ≡ M.extent memory.old }
     {
         for number in first_enter(cursor, self.bays.len())..self.bays.len() {
             if self.enter(number as u16) {
@@ -235,24 +255,26 @@ impl Device {
 
     /// Looks for a chain on the queues that are asked, by rising number.
     #[inline(always)]
-    fn from_fetch(
+    fn from_fetch<M: WritableMemory>(
         &mut self,
-        memory: &mut GuestMem,
+        memory: &mut M,
         queues: u32,
         most: u64,
     ) -> Result<Option<Progress>, NoMemory>
         requires most { 1 ≤ most }
-        requires whole { IsWhole (standing false memory.old self.old) }
-        requires sound { IsSound (standing false memory.old self.old) }
-        requires fits { AreFitting (standing false memory.old self.old) }
-        requires few { AreFew (standing false memory.old self.old) }
-        requires before { NoneBeforeFetch (standing false memory.old self.old) }
-        ensures turns { TurnsNext (asks queues) most (standing false memory.old self.old) result (standing false memory.new self.new) }
-        ensures size { length memory.new ≡ length memory.old }
+        requires ready { IsReadyIn (M.is_open memory.old) M.shared (M.may_be memory.old) (M.extent memory.old) self.old }
+        requires before { AtEach M.shared (M.may_be memory.old) NoneBeforeFetch self.old }
+        ensures turns { TurnsNextIn M.shared M.may_be (asks queues) most memory.old self.old result memory.new self.new }
+        ensures reading { M.is_open memory.new }
+        ensures size { M.extent memory.new ≡ M.extent memory.old }
     {
-        for number in self.first_fetch(memory)..self.bays.len() {
+        let first = self.first_fetch(memory);
+        let _looked = memory.size();
+        for number in first..self.bays.len() {
             match self.serve_queue(memory, number as u16, queues, most) {
-                Ok(None) => {}
+                Ok(None) => {
+                    let _bytes = memory.size();
+                }
                 Ok(Some(served)) => return Ok(Some(served)),
                 Err(NoMemory) => return Err(NoMemory),
             }
@@ -262,14 +284,16 @@ impl Device {
 
     /// Returns the first queue that may have a chain, as far as the control queue and the event queue tell.
     #[inline(always)]
-    fn first_fetch(&self, memory: &GuestMem) -> usize
-        requires sound { IsSound (standing false memory.now self.now) }
-        requires fits { AreFitting (standing false memory.now self.now) }
-        ensures below { NoFetchBelow asks_all result (standing false memory.now self.now) }
+    fn first_fetch<M: WritableMemory>(&self, memory: &mut M) -> usize
+        requires reading { M.is_open memory.old }
+        requires fits { FitsIn (M.extent memory.old) self.now }
+        ensures below { FindsIn M.shared (M.may_be memory.old) (M.may_be memory.new) (NoFetchBelow asks_all result) self.now }
+        ensures reading { M.is_open memory.new }
+        ensures size { M.extent memory.new ≡ M.extent memory.old }
     {
         if self.bays.len() >= 2
-            && self.is_idle(memory, CONTROL_QUEUE)
-            && self.is_idle(memory, EVENT_QUEUE)
+            && self.is_idle_in(memory, CONTROL_QUEUE)
+            && self.is_idle_in(memory, EVENT_QUEUE)
         {
             FIRST_REQUEST_QUEUE as usize
         } else {
@@ -280,28 +304,28 @@ impl Device {
     /// Takes a queue's next chain, where the queue is asked and no event before it applies, and does at once what may
     /// be done of it.
     #[inline(always)]
-    fn serve_queue(
+    fn serve_queue<M: WritableMemory>(
         &mut self,
-        memory: &mut GuestMem,
+        memory: &mut M,
         number: u16,
         queues: u32,
         most: u64,
     ) -> Result<Option<Progress>, NoMemory>
         requires most { 1 ≤ most }
-        requires whole { IsWhole (standing false memory.old self.old) }
-        requires sound { IsSound (standing false memory.old self.old) }
-        requires fits { AreFitting (standing false memory.old self.old) }
-        requires few { AreFew (standing false memory.old self.old) }
-        requires before { NoneBeforeFetch (standing false memory.old self.old) }
-        requires below { NoFetchBelow (asks queues) number (standing false memory.old self.old) }
+        requires ready { IsReadyIn (M.is_open memory.old) M.shared (M.may_be memory.old) (M.extent memory.old) self.old }
+        requires before { AtEach M.shared (M.may_be memory.old) NoneBeforeFetch self.old }
+        requires below { AtEach M.shared (M.may_be memory.old) (NoFetchBelow (asks queues) number) self.old }
         requires there { number < length self.old.queues }
-        ensures turns { FetchesOn (asks queues) most number (standing false memory.old self.old) result (standing false memory.new self.new) }
-        ensures size { length memory.new ≡ length memory.old }
+        ensures turns { FetchesOn M.shared M.may_be (asks queues) most number memory.old self.old result memory.new self.new }
+        ensures reading { M.is_open memory.new }
+        ensures size { M.extent memory.new ≡ M.extent memory.old }
     {
         if !is_asked(queues, number) {
             return Ok(None);
         }
-        if self.is_idle(memory, number) {
+        let idle = self.is_idle_in(memory, number);
+        let _bytes = memory.size();
+        if idle {
             return Ok(None);
         }
         self.serve_next(memory, number, queues, most)
@@ -310,29 +334,29 @@ impl Device {
     /// Takes the next chain of a queue that is asked, and does at once what may be done of it.
     // Apart, so that a look at a silent queue costs no call.
     #[inline(never)]
-    fn serve_next(
+    fn serve_next<M: WritableMemory>(
         &mut self,
-        memory: &mut GuestMem,
+        memory: &mut M,
         number: u16,
         queues: u32,
         most: u64,
     ) -> Result<Option<Progress>, NoMemory>
         requires most { 1 ≤ most }
-        requires whole { IsWhole (standing false memory.old self.old) }
-        requires sound { IsSound (standing false memory.old self.old) }
-        requires fits { AreFitting (standing false memory.old self.old) }
-        requires few { AreFew (standing false memory.old self.old) }
-        requires before { NoneBeforeFetch (standing false memory.old self.old) }
-        requires below { NoFetchBelow (asks queues) number (standing false memory.old self.old) }
+        requires ready { IsReadyIn (M.is_open memory.old) M.shared (M.may_be memory.old) (M.extent memory.old) self.old }
+        requires before { AtEach M.shared (M.may_be memory.old) NoneBeforeFetch self.old }
+        requires below { AtEach M.shared (M.may_be memory.old) (NoFetchBelow (asks queues) number) self.old }
         requires there { number < length self.old.queues }
         requires asked { asks queues number ≡ true }
-        ensures turns { FetchesOn (asks queues) most number (standing false memory.old self.old) result (standing false memory.new self.new) }
-        ensures size { length memory.new ≡ length memory.old }
+        ensures turns { FetchesOn M.shared M.may_be (asks queues) most number memory.old self.old result memory.new self.new }
+        ensures reading { M.is_open memory.new }
+        ensures size { M.extent memory.new ≡ M.extent memory.old }
     {
         if most >= AT_ONCE && self.serves_at_once(number) {
             return self.serve(memory, number, queues, most);
         }
-        match self.fetch(memory, number) {
+        let fetched = self.fetch_in(memory, number);
+        let _bytes = memory.size();
+        match fetched {
             Ok(false) => Ok(None),
             Ok(true) => Ok(Some(one(self.after_fetch(number)))),
             Err(NoMemory) => Err(NoMemory),
@@ -357,26 +381,28 @@ impl Device {
 
     /// Takes a request queue's next chain, and serves its request to the end, if nothing blocks it.
     #[inline(always)]
-    fn serve(
+    fn serve<M: WritableMemory>(
         &mut self,
-        memory: &mut GuestMem,
+        memory: &mut M,
         number: u16,
         queues: u32,
         most: u64,
     ) -> Result<Option<Progress>, NoMemory>
         requires most { AT_ONCE ≤ most }
-        requires whole { IsWhole (standing false memory.old self.old) }
-        requires fits { AreFitting (standing false memory.old self.old) }
-        requires before { NoneBeforeFetch (standing false memory.old self.old) }
-        requires below { NoFetchBelow (asks queues) number (standing false memory.old self.old) }
+        requires ready { IsReadyIn (M.is_open memory.old) M.shared (M.may_be memory.old) (M.extent memory.old) self.old }
+        requires before { AtEach M.shared (M.may_be memory.old) NoneBeforeFetch self.old }
+        requires below { AtEach M.shared (M.may_be memory.old) (NoFetchBelow (asks queues) number) self.old }
         requires asked { asks queues number ≡ true }
-        requires at_once { MayServe number (standing false memory.old self.old) }
-        ensures turns { FetchesOn (asks queues) most number (standing false memory.old self.old) result (standing false memory.new self.new) }
-        ensures size { length memory.new ≡ length memory.old }
+        requires at_once { AtEach M.shared (M.may_be memory.old) (MayServe number) self.old }
+        ensures turns { FetchesOn M.shared M.may_be (asks queues) most number memory.old self.old result memory.new self.new }
+        ensures reading { M.is_open memory.new }
+        ensures size { M.extent memory.new ≡ M.extent memory.old }
     {
         all_are_sound();
         let bay = &mut self.bays[number as usize];
-        match take_request(&mut bay.queue, &mut bay.slot, memory, &self.inventory) {
+        let taken = take_request_in(&mut bay.queue, &mut bay.slot, memory, &self.inventory);
+        let _read = memory.size();
+        match taken {
             Err(NoMemory) => Err(NoMemory),
             Ok(Taken::Nothing) => Ok(None),
             Ok(Taken::Other) => Ok(Some(one(Cursor::Start))),
@@ -386,7 +412,7 @@ impl Device {
                     bay.slot = Slot::Arrived(arrival);
                     return Ok(Some(one(Cursor::Start)));
                 }
-                let done = serve_request(
+                let done = serve_request_in(
                     &mut self.units[place],
                     &mut bay.queue,
                     memory,
@@ -394,6 +420,7 @@ impl Device {
                     arrival,
                     &mut self.seats[0].out,
                 );
+                let _bytes = memory.size();
                 Ok(Some(served_so(done, self.seats[0].out.len())))
             }
         }

@@ -41,18 +41,9 @@ pub(crate) fn poke(memory: &mut GuestMem, addr: u64, bytes: &[u8]) -> bool
 }
 
 impl Device {
-    /// Returns true if a queue has nothing to take, by which little more than its index is looked at.
-    pub(crate) fn is_idle(&self, memory: &GuestMem, number: u16) -> bool
-        requires sound { IsSound (standing false memory.now self.now) }
-        requires fits { AreFitting (standing false memory.now self.now) }
-        ensures { IsTrue result → Applies (standing false memory.now self.now) (AnEvent.Fetch number) → ⊥ }
-    {
-        let at = number as usize;
-        at >= self.bays.len() || self.bays[at].queue.is_idle(memory)
-    }
-
-    /// Returns true if a queue has nothing to take from any memory, as `is_idle` does.
-    fn is_idle_in<M: WritableMemory>(&self, memory: &mut M, number: u16) -> bool
+    /// Returns true if a queue has nothing to take from any memory, by which little more than its index is looked at. Called
+    /// in a phase that wrote nothing yet.
+    pub(crate) fn is_idle_in<M: WritableMemory>(&self, memory: &mut M, number: u16) -> bool
         requires reading { M.is_open memory.old }
         requires fits { FitsIn (M.extent memory.old) self.now }
         ensures idle { (m : List ℕ) → M.may_be memory.new m → IsTrue result
@@ -90,6 +81,7 @@ impl Device {
         requires few { HasFew self.old }
         ensures turns { TurnsInOrWants M.shared (M.may_be memory.old) (M.may_be memory.new) self.old
             (AnEvent.Fetch number) result self.new }
+        ensures reading { M.is_open memory.new }
         ensures size { M.extent memory.new ≡ M.extent memory.old }
     {
         if self.is_idle_in(memory, number) {
@@ -114,6 +106,7 @@ impl Device {
         requires request { 2 ≤ number }
         ensures turns { TurnsInOrWants M.shared (M.may_be memory.old) (M.may_be memory.new) self.old
             (AnEvent.Fetch number) result self.new }
+        ensures reading { M.is_open memory.new }
         ensures size { M.extent memory.new ≡ M.extent memory.old }
     {
         let at = number as usize;
@@ -131,6 +124,7 @@ impl Device {
         requires fits { FitsIn (M.extent memory.old) self.old }
         ensures turns { TurnsInOrWants M.shared (M.may_be memory.old) (M.may_be memory.new) self.old (AnEvent.Fetch 0)
             result self.new }
+        ensures reading { M.is_open memory.new }
         ensures size { M.extent memory.new ≡ M.extent memory.old }
     {
         if self.bays.is_empty() {
@@ -154,6 +148,7 @@ impl Device {
         requires few { HasFew self.old }
         ensures turns { TurnsInOrWants M.shared (M.may_be memory.old) (M.may_be memory.new) self.old (AnEvent.Fetch 1)
             result self.new }
+        ensures reading { M.is_open memory.new }
         ensures size { M.extent memory.new ≡ M.extent memory.old }
     {
         let bay = &mut self.bays[1];
@@ -207,6 +202,7 @@ impl Device {
         requires sound { IsSoundIn M.shared (M.may_be memory.old) self.old }
         requires fits { FitsIn (M.extent memory.old) self.old }
         ensures turns { TurnsIn M.shared (M.may_be memory.old) (M.may_be memory.new) self.old (AnEvent.Direct number) result self.new }
+        ensures reading { M.is_open memory.old → M.is_open memory.new }
         ensures size { M.extent memory.new ≡ M.extent memory.old }
     {
         let at = number as usize;
@@ -289,6 +285,7 @@ impl Device {
         requires sound { IsSoundIn M.shared (M.may_be memory.old) self.old }
         requires fits { FitsIn (M.extent memory.old) self.old }
         ensures turns { TurnsIn M.shared (M.may_be memory.old) (M.may_be memory.new) self.old (AnEvent.Answer number) result self.new }
+        ensures reading { M.is_open memory.old → M.is_open memory.new }
         ensures size { M.extent memory.new ≡ M.extent memory.old }
     {
         let at = number as usize;
@@ -401,6 +398,7 @@ impl Device {
         requires sound { IsSoundIn M.shared (M.may_be memory.old) self.old }
         requires fits { FitsIn (M.extent memory.old) self.old }
         ensures turns { TurnsIn M.shared (M.may_be memory.old) (M.may_be memory.new) self.old AnEvent.AnswerTmf result self.new }
+        ensures reading { M.is_open memory.old → M.is_open memory.new }
         ensures size { M.extent memory.new ≡ M.extent memory.old }
     {
         if self.bays.is_empty() {
@@ -473,6 +471,7 @@ impl Device {
         requires fits { FitsIn (M.extent memory.old) self.old }
         requires few { HasFew self.old }
         ensures turns { TurnsIn M.shared (M.may_be memory.old) (M.may_be memory.new) self.old AnEvent.Raise result self.new }
+        ensures reading { M.is_open memory.old → M.is_open memory.new }
         ensures size { M.extent memory.new ≡ M.extent memory.old }
     {
         let raised = phase_raise_in(

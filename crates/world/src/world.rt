@@ -14,7 +14,7 @@ use config::{Config, StartFault};
 use device_model::Event;
 use device_model::laws::every_run_goes_on;
 use device_model::trace_laws::the_promise_is_kept;
-use guest_mem::GuestMem;
+use guest_mem::{GuestMem, Memory, StillMem};
 use std::alloc::Global;
 use std::marker::Model;
 
@@ -308,6 +308,7 @@ impl World {
         ensures { TurnsNext (asks queues) most self.old result self.new }
     {
         self.is_sound();
+        all_are_sound();
         self.device.turn(&mut self.memory, cursor, queues, most)
     }
 
@@ -317,7 +318,10 @@ impl World {
         ensures { Denies (IsQuietOf (asks queues) self.now) result }
     {
         self.is_sound();
-        self.device.has_step(&self.memory, queues)
+        let mut still = StillMem::of(&self.memory);
+        let has = self.device.has_step(&mut still, queues);
+        let _bytes = still.size();
+        has
     }
 
     /// Writes bytes as the guest at an address. Returns false, with nothing changed, where one of them would lie

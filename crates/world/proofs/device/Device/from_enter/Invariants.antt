@@ -1,12 +1,11 @@
-use Rattle.std.proofs.Common.{◌≡◌, false, length}
-use Rattle.world.specs.Apart.{standing}
-use Rattle.world.specs.Cursors.{NoEnterBelow}
+use Rattle.std.proofs.Common.{◌≡◌, length}
+use Rattle.world.specs.Cursors.{NoEnterBelow, AtEach}
 use Rattle.world.proofs.device.Device.from_enter.Given as goal
 
 abbrev pub invariant-loop-number : goal.invariant-loop-number
-invariant-loop-number l =
+invariant-loop-number g l =
     record {
-      same : standing false l.fn.memory l.self ≡ standing false l.fn.memory l.fn.self;
-      below : NoEnterBelow l.number (standing false l.fn.memory l.fn.self);
+      same : l.self ≡ l.fn.self;
+      below : AtEach g.M.Memory.shared (g.M.Memory.may_be l.fn.memory) (NoEnterBelow l.number) l.fn.self;
       all : l.number-end ≡ length l.fn.self.queues;
     }

@@ -1,13 +1,15 @@
-use Rattle.std.proofs.Common.{◌≡◌, false, length}
-use Rattle.world.specs.Apart.{standing}
-use Rattle.world.specs.Cursors.{NoSeatBelow}
+use Rattle.std.proofs.Common.{◌≡◌, List, ℕ, length}
+use Rattle.world.specs.Cursors.{NoSeatBelow, AtEach}
 use Rattle.world.proofs.device.Device.from_seats.Given as goal
 
 abbrev pub invariant-loop-number : goal.invariant-loop-number
-invariant-loop-number l =
+invariant-loop-number g l =
     record {
-      same : standing false l.memory l.self ≡ standing false l.fn.memory l.fn.self;
-      size : length l.memory ≡ length l.fn.memory;
-      below : NoSeatBelow l.number (standing false l.fn.memory l.fn.self);
+      same : l.self ≡ l.fn.self;
+      some : (m : List ℕ) × g.M.Memory.may_be l.memory m;
+      stays : (m : List ℕ) → g.M.Memory.may_be l.memory m → g.M.Memory.may_be l.fn.memory m;
+      reading : g.M.Memory.is_open l.memory;
+      size : g.M.Memory.extent l.memory ≡ g.M.Memory.extent l.fn.memory;
+      below : AtEach g.M.Memory.shared (g.M.Memory.may_be l.memory) (NoSeatBelow l.number) l.fn.self;
       all : l.number-end ≡ length l.fn.self.seats;
     }

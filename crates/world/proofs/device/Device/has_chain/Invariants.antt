@@ -1,12 +1,14 @@
-use Rattle.std.proofs.Common.{◌≡◌, false, length}
-use Rattle.world.specs.Apart.{standing}
-use Rattle.world.specs.Cursors.{NoFetchBelow}
+use Rattle.std.proofs.Common.{◌≡◌, List, ℕ, length}
+use Rattle.world.specs.Cursors.{NoFetchBelow, AtEach}
 use Rattle.world.specs.Settling.{asks}
 use Rattle.world.proofs.device.Device.has_chain.Given as goal
 
 abbrev pub invariant-loop-number : goal.invariant-loop-number
-invariant-loop-number l =
+invariant-loop-number g l =
     record {
-      below : NoFetchBelow (asks l.queues) l.number (standing false l.fn.memory l.fn.self);
+      stays : (m : List ℕ) → g.M.Memory.may_be l.memory m → g.M.Memory.may_be l.fn.memory m;
+      reading : g.M.Memory.is_open l.memory;
+      size : g.M.Memory.extent l.memory ≡ g.M.Memory.extent l.fn.memory;
+      below : AtEach g.M.Memory.shared (g.M.Memory.may_be l.memory) (NoFetchBelow (asks l.queues) l.number) l.fn.self;
       all : l.number-end ≡ length l.fn.self.queues;
     }

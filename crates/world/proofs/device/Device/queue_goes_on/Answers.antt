@@ -1,43 +1,48 @@
-use Rattle.std.proofs.Common.{◌≡◌, ◌<◌, false, refl, sym, ◌∙◌, subst, length, Some}
+use Rattle.std.proofs.Common.{◌≡◌, ◌<◌, false, [], refl, sym, ◌∙◌, subst, length, Some}
 use Rattle.std.specs.Prelude.{slice_get}
-use Rattle.world.specs.Apart.{PlainDevice, standing}
+use Rattle.world.specs.Apart.{PlainDevice, standing, FitsIn}
 use Rattle.device_model.specs.Happens.{IsOpenTo}
 use Rattle.world.specs.Settling.{asks}
 use Rattle.world.specs.contracts.device.Device.{the_view}
-use Rattle.world.proofs.Setting.{fits_seen}
 use Rattle.world.proofs.Looks.{false_true, chain_look, queue_read}
 use Rattle.world.proofs.device.Device.queue_goes_on.Goals as goal
 
-pub returns-then-not-is_asked : goal.returns-then-not-is_asked
-returns-then-not-is_asked c = λ on applies. false_true (c.if-not-is_asked.ensures ∙ on)
+pub returns-then-not-is_asked-clause-denies : goal.returns-then-not-is_asked-clause-denies
+returns-then-not-is_asked-clause-denies g c = λ m may. (may, λ on applies. false_true (c.if-not-is_asked.ensures ∙ on))
 
-pub returns-then-is_closed_to : goal.returns-then-is_closed_to
-returns-then-is_closed_to c = λ on applies. c.if-is_closed_to.ensures false c.args.memory.now applies.opened
+pub returns-then-is_closed_to-clause-denies : goal.returns-then-is_closed_to-clause-denies
+returns-then-is_closed_to-clause-denies g c =
+    λ m may. (may, λ on applies. c.if-is_closed_to.ensures g.M.Memory.shared m applies.opened)
 
-pub has_chain-requires : goal.has_chain-requires
-has_chain-requires c =
+pub has_chain_in-requires : goal.has_chain_in-requires
+has_chain_in-requires g c =
     let d = c.self.inside in
-    let m = c.args.memory.now in
-    let w = standing false m (the_view d) in
+    let w = standing false [] (the_view d) in
     let n = c.args.number in
     let there : n < length w.queues =
     subst (λ (z : PlainDevice). n < length z.queues) (sym c.self.view_is) c.requires.there in
     let at : slice_get d.bays.items n ≡ Some c.index.result.now =
     queue_read w d.bays.items d.bays.len n c.index.result.now refl d.bays.ok.0 there c.index.ensures in
-    sym (fits_seen false m _ _ c.self.view_is c.requires.fits n c.index.result.now at)
+    let fits : FitsIn (g.M.Memory.extent c.args.memory.now) (the_view d) =
+    subst (λ z. FitsIn (g.M.Memory.extent c.args.memory.now) z) (sym c.self.view_is) c.requires.fits in
+    record { reading = c.requires.reading; fits = sym (fits n c.index.result.now at) }
 
-pub returns : goal.returns
-returns c =
+pub returns-clause-denies : goal.returns-clause-denies
+returns-clause-denies g c =
     let d = c.self.inside in
-    let m = c.args.memory.now in
-    let w = standing false m (the_view d) in
+    let shared = g.M.Memory.shared in
     let n = c.args.number in
-    let there : n < length w.queues =
+    let there : n < length (the_view d).queues =
     subst (λ (z : PlainDevice). n < length z.queues) (sym c.self.view_is) c.requires.there in
-    let at : slice_get w.queues n ≡ Some c.index.result.now =
-    queue_read w d.bays.items d.bays.len n c.index.result.now refl d.bays.ok.0 there c.index.ensures in
-    let opened : IsOpenTo w n =
-    subst (λ (z : PlainDevice). IsOpenTo (standing false m z) n) (sym c.self.view_is) (c.if-is_closed_to.ensures false m) in
+    let at : slice_get d.bays.items n ≡ Some c.index.result.now =
+    queue_read (standing false [] (the_view d)) d.bays.items d.bays.len n c.index.result.now refl d.bays.ok.0 there
+    c.index.ensures in
+    let look = c.has_chain_in.ensures in
     rw (← c.self.view_is)
-    (chain_look w n c.index.result.now (asks c.args.queues n) c.has_chain.result at
-    (sym c.if-not-is_asked.ensures) opened c.has_chain.ensures)
+    (λ m may.
+    let opened : IsOpenTo (standing shared m (the_view d)) n =
+    subst (λ (z : PlainDevice). IsOpenTo (standing shared m z) n) (sym c.self.view_is) (c.if-is_closed_to.ensures shared m) in (
+      look.stays m may,
+      chain_look (standing shared m (the_view d)) n c.index.result.now (asks c.args.queues n) c.has_chain_in.result at
+          (sym c.if-not-is_asked.ensures) opened (look.chain m may),
+    ))

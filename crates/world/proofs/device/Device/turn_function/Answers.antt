@@ -1,42 +1,58 @@
-use Rattle.std.proofs.Common.{false, inl, inr, refl, sym, ap, ◌∙◌, subst}
+use Rattle.std.proofs.Common.{◌≡◌, List, ℕ, inl, inr, refl, sym, ap, ◌∙◌}
 use Rattle.world.specs.Apart.{PlainDevice, standing}
-use Rattle.world.specs.Sound.{IsSound}
 use Rattle.device_model.specs.Events.{Event}
+use Rattle.device_model.specs.Applies.{Applies}
 use Rattle.world.specs.Cursors.{of_function}
-use Rattle.world.proofs.Choosing.{done, idle, last, option_none, none_open}
+use Rattle.world.proofs.Choosing.{option_none, none_open}
+use Rattle.world.proofs.EachTurn.{did_in, idle_in, alone_idle, first_in, alone_true, alone_first}
 use Rattle.world.proofs.device.Device.turn_function.Goals as goal
 
 pub returns-then-is_none-clause-turns : goal.returns-then-is_none-clause-turns
-returns-then-is_none-clause-turns c =
+returns-then-is_none-clause-turns g c =
     let none = option_none c.self.inside.function c.if-is_none.ensures in
-    (refl, none_open (standing false c.args.memory.now c.args.self.now) (ap (λ (d : PlainDevice). d.function) (sym c.self.view_is) ∙ none))
+    let closed = ap (λ (d : PlainDevice). d.function) (sym c.self.view_is) ∙ none in
+    (refl, λ m may. (may, none_open (standing g.M.Memory.shared m c.args.self.now) closed))
 
-pub returns-then-answer_tmf-clause-turns : goal.returns-then-answer_tmf-clause-turns
-returns-then-answer_tmf-clause-turns c =
-    let w = standing false c.args.memory.now c.args.self.now in
-    done of_function Event.AnswerTmf w w (standing false c.answer_tmf.new.memory c.answer_tmf.new.self) c.answer_tmf.result
-    c.if-answer_tmf.true refl (λ a. inl (a, refl)) c.answer_tmf.ensures.turns
+pub returns-then-answered-clause-turns : goal.returns-then-answered-clause-turns
+returns-then-answered-clause-turns g c =
+    let shared = g.M.Memory.shared in
+    let before = g.M.Memory.may_be c.args.memory.now in
+    let after = g.M.Memory.may_be c.answer_tmf_in-answered.new.memory in
+    let d = c.args.self.now in
+    let d' = c.answer_tmf_in-answered.new.self in
+    first_in shared before before after of_function Event.AnswerTmf d d d' refl (λ m may. (may, λ a. inl (a, refl)))
+    (did_in shared before after d Event.AnswerTmf c.answer_tmf_in-answered.result d' c.if-answered.true
+    c.answer_tmf_in-answered.ensures.turns)
 
 pub returns-then-check-clause-turns : goal.returns-then-check-clause-turns
-returns-then-check-clause-turns c =
-    let m = c.answer_tmf.new.memory in
-    let w = standing false c.args.memory.now c.args.self.now in
-    let u = standing false m c.answer_tmf.new.self in
-    let v = standing false m c.check.new.self in
-    let first = idle Event.AnswerTmf w w u c.answer_tmf.result c.if-answer_tmf.false refl
-    c.answer_tmf.ensures.turns in
-    done of_function Event.Check w u v c.check.result c.if-check.true first.0
-    (λ a. inr (first.1, inl (a, refl))) (c.check.ensures false m (subst IsSound (sym first.0) c.requires.sound))
+returns-then-check-clause-turns g c =
+    let shared = g.M.Memory.shared in
+    let before = g.M.Memory.may_be c.args.memory.now in
+    let after = g.M.Memory.may_be c.answer_tmf_in-answered.new.memory in
+    let d = c.args.self.now in
+    let v = c.answer_tmf_in-answered.new.self in
+    let first = idle_in shared before after d Event.AnswerTmf c.answer_tmf_in-answered.result v c.if-answered.false
+    c.size-bytes.ensures.some c.answer_tmf_in-answered.ensures.turns in
+    alone_true shared before after of_function Event.Check d v c.check.result c.check.new.self c.if-check.true first.0 tt
+    c.requires.ready.sound (λ m may. let f = first.1 m may in (f.0, λ a. inr (f.1, inl (a, refl)))) c.check.ensures
 
 pub returns-clause-turns : goal.returns-clause-turns
-returns-clause-turns c =
-    let m = c.answer_tmf.new.memory in
-    let w = standing false c.args.memory.now c.args.self.now in
-    let u = standing false m c.answer_tmf.new.self in
-    let v = standing false m c.check.new.self in
-    let first = idle Event.AnswerTmf w w u c.answer_tmf.result c.if-answer_tmf.false refl
-    c.answer_tmf.ensures.turns in
-    let second = idle Event.Check w u v c.check.result c.if-check.false first.0
-    (c.check.ensures false m (subst IsSound (sym first.0) c.requires.sound)) in
-    last of_function Event.Mark w v (standing false m c.mark.new.self) c.mark.result second.0
-    (λ a. inr (first.1, inr (second.1, inl (a, refl)))) (λ never. (first.1, (second.1, (never, tt)))) (c.mark.ensures false m (subst IsSound (sym second.0) c.requires.sound))
+returns-clause-turns g c =
+    let shared = g.M.Memory.shared in
+    let before = g.M.Memory.may_be c.args.memory.now in
+    let after = g.M.Memory.may_be c.answer_tmf_in-answered.new.memory in
+    let d = c.args.self.now in
+    let v = c.answer_tmf_in-answered.new.self in
+    let u = c.check.new.self in
+    let some = c.size-bytes.ensures.some in
+    let sound = c.requires.ready.sound in
+    let first = idle_in shared before after d Event.AnswerTmf c.answer_tmf_in-answered.result v c.if-answered.false some
+    c.answer_tmf_in-answered.ensures.turns in
+    let second : (m : List ℕ) → after m → (u ≡ d) × (Applies (standing shared m d) Event.Check → ⊥) =
+    λ m may.
+    alone_idle shared m d v Event.Check c.check.result u c.if-check.false first.0 (sound m (first.1 m may).0) c.check.ensures in
+    alone_first shared before after of_function Event.Mark d u c.mark.result c.mark.new.self (second some.0 some.1).0 tt some sound
+    (λ m may.
+    let f = first.1 m may in
+    let h = (second m may).1 in
+    (f.0, ((λ a. inr (f.1, inr (h, inl (a, refl)))), (λ never. (f.1, (h, (never, tt))))))) c.mark.ensures

@@ -1,0 +1,44 @@
+use Rattle.std.proofs.Common.{◌≡◌, ◌∙◌, ℕ, List, length, refl, sym, subst}
+use Rattle.world.specs.Apart.{FitsIn, standing}
+use Rattle.world.specs.Settling.{asks}
+use Rattle.world.proofs.Lively.{fits_live, few_live}
+use Rattle.world.proofs.Rounds.{leaves_by}
+use Rattle.world.proofs.live_world.LiveWorld.has_step.Goals as goal
+
+pub has_step-has-requires : goal.has_step-has-requires
+has_step-has-requires g c =
+    let shared = g.M.Memory.shared in
+    let d = c.self.inside.device in
+    let now = c.begin.new.self in
+    let size = g.M.Memory.extent c.self.inside.memory in
+    let some = c.size-begun.ensures.some in
+    let there = g.met.M.Memory.sized now some.0 some.1 ∙ c.begin.ensures.size in
+    record {
+      reading = c.begin.ensures.reading;
+      few = few_live shared size d some.0 there c.self.invariant;
+      fits = subst (λ n. FitsIn n d) (sym c.begin.ensures.size) (fits_live shared size d some.0 there c.self.invariant);
+    }
+
+pub invariant_of-self : goal.invariant_of-self
+invariant_of-self g c = λ m long. c.self.invariant m (long ∙ c.has_step-has.ensures.size ∙ c.begin.ensures.size)
+
+pub returns-clause-size : goal.returns-clause-size
+returns-clause-size g c = rw (← c.self.view_is) (c.has_step-has.ensures.size ∙ c.begin.ensures.size)
+
+pub returns-clause-looks : goal.returns-clause-looks
+returns-clause-looks g c =
+    let shared = g.M.Memory.shared in
+    let d = c.self.inside.device in
+    let now = c.begin.new.self in
+    let finds = c.has_step-has.ensures.denies in
+    rw (← c.self.view_is)
+    (record {
+      begun = now;
+      begins_so = c.begin.ensures.begun;
+      same = refl;
+      stays = λ m may. (finds m may).0;
+      finds = λ m may.
+          let f = finds m may in
+          leaves_by (asks c.args.queues) c.has_step-has.result (standing shared m d)
+          (c.self.invariant m (g.met.M.Memory.sized now m f.0 ∙ c.begin.ensures.size)).whole.reached f.1;
+    })

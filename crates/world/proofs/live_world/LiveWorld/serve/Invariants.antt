@@ -1,0 +1,20 @@
+use Rattle.std.proofs.Common.{◌≡◌, ◌≤◌, ℕ, List, length}
+use Rattle.world.specs.Apart.{standing}
+use Rattle.world.specs.Cursors.{NoneBefore}
+use Rattle.world.specs.LiveServing.{ServesLiveBy}
+use Rattle.world.specs.Rounds.{SettledLive}
+use Rattle.world.specs.Settling.{asks}
+use Rattle.world.proofs.live_world.LiveWorld.serve.Given as goal
+
+abbrev pub invariant-loop-turn : goal.invariant-loop-turn
+invariant-loop-turn g l =
+    record {
+      rounds : ServesLiveBy g.M.Memory.shared g.M.Memory.begins g.M.Memory.may_be (asks l.queues) l.fn.self l.steps l.self;
+      settled : (a : List ℕ) → length a ≡ g.M.Memory.extent l.fn.self.memory
+          → SettledLive (asks l.queues) g.M.Memory.shared (g.M.Memory.extent l.fn.self.memory)
+          (standing g.M.Memory.shared a l.fn.self.device) l.steps l.self.device;
+      size : g.M.Memory.extent l.self.memory ≡ g.M.Memory.extent l.fn.self.memory;
+      before : (m : List ℕ) → NoneBefore l.cursor (standing g.M.Memory.shared m l.self.device);
+      counted : l._turn ≤ l.steps;
+      few : l.steps ≤ l.most;
+    }

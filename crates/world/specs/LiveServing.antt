@@ -1,0 +1,199 @@
+-- Serving a device on a memory that its guest writes at any time: in rounds, each in a phase of its own.
+use Rattle.std.specs.Prelude.{ℕ, ◌≡◌, ◌≤◌, ◌<◌, ◌+◌, ◌⊎◌, ◌^◌, Bool, true, false, List, [], ◌∷◌, length, map, Option, Some, None, Result, Ok, Err, ⊤}
+use Rattle.std.specs.List.{AllByRecursion, sum_by}
+use Rattle.block_store.specs.declared.NoMemory.{NoMemory}
+use Rattle.device_model.specs.Parts.{Completion}
+use Rattle.device_model.specs.World.{PlainWorld}
+use Rattle.device_model.specs.Events.{Event}
+use Rattle.device_model.specs.Transitions.{Transition, event_of, completion_of}
+use Rattle.device_model.specs.Order.{IsNextOf, IsQuiet, IsQuietOf, IsAtRest, IsAtRestOf}
+use Rattle.device_model.specs.Waking.{IsFetch}
+use Rattle.device_model.specs.Live.{Turn, with_memory, live_world, transition_at, LiveSettlesOf, IsShortLive}
+use Rattle.phases.specs.InMemory.{EachSeen}
+use Rattle.world.specs.Apart.{PlainDevice, standing}
+use Rattle.world.specs.Settling.{order_for, ServesBy, MayWantFirst}
+use Rattle.world.specs.LiveWorld.{PlainLive, GoesOnFrom}
+use Rattle.world.specs.declared.service.Served.{Served}
+
+-- In one phase
+
+-- the notice of a completion is decided by this memory
+abbrev pub IsNoticedBy : List ℕ → Option Completion → Type 0
+IsNoticedBy seen (Some xs) = xs.seen ≡ seen
+IsNoticedBy seen None = ⊤
+
+abbrev pub CompletesNone : Transition → Type 0
+CompletesNone t = completion_of t ≡ None
+
+-- the notice of each completion was decided by this memory; where nothing was completed, memory was left so
+pub record AreNoticed (ts : List Transition) (left seen : List ℕ) : Type 0 where
+  pub each : AllByRecursion (λ t. IsNoticedBy seen (completion_of t)) ts
+  pub none : AllByRecursion CompletesNone ts → seen ≡ left
+
+-- so many events were done, each the first that applied, with no write of the guest between them
+pub record ServesSeen (asked : ℕ → Bool) (seen : List ℕ) (w : PlainWorld) (count : ℕ) (w' : PlainWorld) : Type 0 where
+  pub serves : ServesBy asked w count w'
+  pub notices : AreNoticed serves.transitions w'.memory seen
+
+abbrev pub TakesNoChain : Transition → Type 0
+TakesNoChain t = IsFetch (event_of t) → ⊥
+
+-- the same, and none of them took a chain
+pub record FollowsSeen (asked : ℕ → Bool) (seen : List ℕ) (w : PlainWorld) (count : ℕ) (w' : PlainWorld) : Type 0 where
+  pub serves : ServesBy asked w count w'
+  pub notices : AreNoticed serves.transitions w'.memory seen
+  pub no_chain : AllByRecursion TakesNoChain serves.transitions
+
+-- whatever may be seen afterwards, it was done on a memory that may have been found
+abbrev pub DoneIn : Bool → (List ℕ → Type 0) → (List ℕ → Type 0) → (List ℕ → PlainWorld → ℕ → PlainWorld → Type 0)
+    → PlainDevice → ℕ → PlainDevice → Type 0
+DoneIn shared before after Does d count d' =
+    EachSeen shared before after (λ found left seen. Does seen (standing shared found d) count (standing shared left d'))
+
+-- A request served at once: its chain was taken, whichever of the bytes that may stand there once it was read; and then
+-- what follows of it was done, with no write of the guest between. Of the memory it is said what it may be.
+pub record TakesAndServes {X : Type 0} (shared : Bool) (may_be : X → List ℕ → Type 0) (asked : ℕ → Bool) (x : X)
+    (d : PlainDevice) (count : ℕ) (y : X) (d' : PlainDevice) : Type 0 where
+  pub read : X
+  pub taken : PlainDevice
+  pub later : ℕ
+  pub counted : count ≡ 1 + later
+  pub stays : (m : List ℕ) → may_be read m → may_be x m
+  pub takes : DoneIn shared (may_be x) (may_be read) (ServesSeen asked) d 1 taken
+  pub follows : DoneIn shared (may_be read) (may_be y) (FollowsSeen asked) taken later d'
+
+-- one event, or a request served at once
+abbrev pub ServesInPhase : {X : Type 0} → Bool → (X → List ℕ → Type 0) → (ℕ → Bool) → X → PlainDevice → ℕ → X → PlainDevice
+    → Type 0
+ServesInPhase {X} shared may_be asked x d count y d' =
+    ((count ≡ 1) × DoneIn shared (may_be x) (may_be y) (ServesSeen asked) d 1 d')
+    ⊎ TakesAndServes shared may_be asked x d count y d'
+
+-- Phase by phase
+
+-- so many events in each round, the newest first; each round in a phase that began with it
+abbrev pub ServesRounds : {X : Type 0} → Bool → (X → X → Type 0) → (X → List ℕ → Type 0) → (ℕ → Bool) → PlainLive X → List ℕ
+    → PlainLive X → Type 0
+ServesRounds {X} shared begins may_be asked x [] y = y ≡ x
+ServesRounds {X} shared begins may_be asked x (count ∷ past) y =
+    (z : PlainLive X) × (begun : X) × ServesRounds shared begins may_be asked x past z × begins z.memory begun
+    × ServesInPhase shared may_be asked begun z.device count y.memory y.device
+
+-- so many events in all
+pub record ServesLiveBy {X : Type 0} (shared : Bool) (begins : X → X → Type 0) (may_be : X → List ℕ → Type 0)
+    (asked : ℕ → Bool) (x : PlainLive X) (count : ℕ) (y : PlainLive X) : Type 0 where
+  pub counts : List ℕ
+  pub rounds : ServesRounds shared begins may_be asked x counts y
+  pub counted : sum_by (λ (n : ℕ). n) counts ≡ count
+
+-- nothing was changed in a phase of its own, by which this holds whichever bytes may stand in memory
+pub record Looks {X : Type 0} (shared : Bool) (begins : X → X → Type 0) (may_be : X → List ℕ → Type 0)
+    (P : PlainWorld → Type 0) (x y : PlainLive X) : Type 0 where
+  pub begun : X
+  pub begins_so : begins x.memory begun
+  pub same : y.device ≡ x.device
+  pub stays : (m : List ℕ) → may_be y.memory m → may_be begun m
+  pub finds : (m : List ℕ) → may_be y.memory m → P (standing shared m y.device)
+
+-- an event is next
+abbrev pub HasNext : (ℕ → Bool) → PlainWorld → Type 0
+HasNext asked w = (e : Event) × IsNextOf asked w e
+
+-- nothing is left but chains of the other queues that weren't accepted
+abbrev pub HasNone : (ℕ → Bool) → PlainWorld → Type 0
+HasNone asked w = IsQuietOf asked w × IsAtRestOf asked w
+
+-- memory may be refused for what is first
+abbrev pub WantsFirst : (ℕ → Bool) → PlainWorld → Type 0
+WantsFirst asked w = MayWantFirst w (order_for asked w)
+
+-- served so far, at most so many events: either all were taken and an event is next, or nothing is left
+pub record ServesLive {X : Type 0} (shared : Bool) (begins : X → X → Type 0) (may_be : X → List ℕ → Type 0)
+    (asked : ℕ → Bool) (x : PlainLive X) (most : ℕ) (s : Served) (y : PlainLive X) : Type 0 where
+  pub behind : PlainLive X
+  pub serves : ServesLiveBy shared begins may_be asked x s.steps behind
+  pub few : s.steps ≤ most
+  pub left : s.more ≡ true → (s.steps ≡ most) × Looks shared begins may_be (HasNext asked) behind y
+  pub none : s.more ≡ false → Looks shared begins may_be (HasNone asked) behind y
+
+-- served until memory was refused for what was first
+pub record ServesLiveUntilRefused {X : Type 0} (shared : Bool) (begins : X → X → Type 0) (may_be : X → List ℕ → Type 0)
+    (asked : ℕ → Bool) (x : PlainLive X) (most : ℕ) (y : PlainLive X) : Type 0 where
+  pub behind : PlainLive X
+  pub count : ℕ
+  pub serves : ServesLiveBy shared begins may_be asked x count behind
+  pub few : count < most
+  pub wants : Looks shared begins may_be (WantsFirst asked) behind y
+
+abbrev pub ServesLiveOrWants : {X : Type 0} → Bool → (X → X → Type 0) → (X → List ℕ → Type 0) → (ℕ → Bool) → PlainLive X → ℕ
+    → Result Served NoMemory → PlainLive X → Type 0
+ServesLiveOrWants {X} shared begins may_be asked x most (Ok s) y = ServesLive shared begins may_be asked x most s y
+ServesLiveOrWants {X} shared begins may_be asked x most (Err fault) y =
+    ServesLiveUntilRefused shared begins may_be asked x most y
+
+-- The promise
+
+abbrev pub event_at : Turn → Event
+event_at t = event_of (transition_at t)
+
+-- With these bytes in memory before, and those behind: so many events, each with what stood in memory then, each next when
+-- it was done, and no more than there was to do. A trace of them, with writes of the guest before the first and behind
+-- each, goes on from the one device to the other, and the promise is kept
+pub record GoesOnServed (asked : ℕ → Bool) (shared : Bool) (d : PlainDevice) (count : ℕ) (d' : PlainDevice)
+    (a b : List ℕ) : Type 0 where
+  pub turns : List Turn
+  pub settles : LiveSettlesOf asked (standing shared a d) turns
+  pub is : standing shared b d' ≡ with_memory b (live_world (standing shared a d) turns)
+  pub counted : length turns ≡ count
+  pub short : IsShortLive (standing shared a d) turns
+  pub goes_on : GoesOnFrom shared d (map event_at turns) count d' a b
+
+-- whatever bytes stand in a memory of this size before and behind
+abbrev pub GoesOnServedLive : (ℕ → Bool) → Bool → ℕ → PlainDevice → ℕ → PlainDevice → Type 0
+GoesOnServedLive asked shared size d count d' =
+    (a b : List ℕ) → length a ≡ size → length b ≡ size → GoesOnServed asked shared d count d' a b
+
+-- as many as were counted; or some, until memory was refused
+abbrev pub ServesPromised : (ℕ → Bool) → Bool → ℕ → PlainDevice → Result Served NoMemory → PlainDevice → Type 0
+ServesPromised asked shared size d (Ok s) d' = GoesOnServedLive asked shared size d s.steps d'
+ServesPromised asked shared size d (Err fault) d' = (count : ℕ) × GoesOnServedLive asked shared size d count d'
+
+-- Each queue, with no bound
+
+-- the device asks each of its queues
+abbrev pub AsksEach : (ℕ → Bool) → PlainDevice → Type 0
+AsksEach asked d = (q : ℕ) → q < length d.queues → asked q ≡ true
+
+-- nothing is left to do: then nothing is left to answer
+abbrev pub HasNothing : PlainWorld → Type 0
+HasNothing w = IsQuiet w × IsAtRest w
+
+-- served until nothing is left to do
+pub record SettlesLive {X : Type 0} (shared : Bool) (begins : X → X → Type 0) (may_be : X → List ℕ → Type 0)
+    (x : PlainLive X) (count : ℕ) (y : PlainLive X) : Type 0 where
+  pub asked : ℕ → Bool
+  pub each : AsksEach asked x.device
+  pub behind : PlainLive X
+  pub serves : ServesLiveBy shared begins may_be asked x count behind
+  pub none : Looks shared begins may_be HasNothing behind y
+
+-- served until memory was refused for what was first, or all events that can be counted were taken
+pub record SettlesLiveInPart {X : Type 0} (shared : Bool) (begins : X → X → Type 0) (may_be : X → List ℕ → Type 0)
+    (x : PlainLive X) (y : PlainLive X) : Type 0 where
+  pub asked : ℕ → Bool
+  pub each : AsksEach asked x.device
+  pub behind : PlainLive X
+  pub count : ℕ
+  pub serves : ServesLiveBy shared begins may_be asked x count behind
+  pub why : Looks shared begins may_be (WantsFirst asked) behind y
+      ⊎ ((count + 1 ≡ 2 ^ 64) × Looks shared begins may_be (HasNext asked) behind y)
+
+abbrev pub SettlesLiveOrWants : {X : Type 0} → Bool → (X → X → Type 0) → (X → List ℕ → Type 0) → PlainLive X
+    → Result ℕ NoMemory → PlainLive X → Type 0
+SettlesLiveOrWants {X} shared begins may_be x (Ok count) y = SettlesLive shared begins may_be x count y
+SettlesLiveOrWants {X} shared begins may_be x (Err fault) y = SettlesLiveInPart shared begins may_be x y
+
+abbrev pub SettlesPromised : Bool → ℕ → PlainDevice → Result ℕ NoMemory → PlainDevice → Type 0
+SettlesPromised shared size d (Ok count) d' = (asked : ℕ → Bool) × AsksEach asked d × GoesOnServedLive asked shared size d count d'
+SettlesPromised shared size d (Err fault) d' =
+    (asked : ℕ → Bool) × AsksEach asked d × ((count : ℕ) × GoesOnServedLive asked shared size d count d')
