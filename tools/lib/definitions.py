@@ -36,6 +36,10 @@ class Definition:
         """Its lines without those of comments and without empty ones."""
         return [line for line in self.lines if line.strip() and not line.strip().startswith("--")]
 
+    def constructors(self):
+        """The constructors of a data type, where it is one."""
+        return re.findall(r"^ +(?:pub )?(\w+) :", "\n".join(self.lines), re.M) if re.search(r"\bdata ", self.lines[0]) else []
+
 
 def file_of(module):
     """The file of specs/ that a module's name stands for."""
@@ -90,7 +94,7 @@ def declared(module):
     """The type of the code that a module of `declared` stands for."""
     parts = module.split(".")
     crate, rest = parts[1], parts[4:]
-    if rest and rest[-1] == "TheVariants":
+    if rest and rest[-1] in ("TheVariants", "TheInside"):
         rest = rest[:-1]
     for file in sorted((CRATES / crate / "src").rglob("*.rt")):
         text = file.read_text()
@@ -114,7 +118,7 @@ class Specs:
             self.heads[file], brought[file], found = read(file)
             self.order += found
             for definition in found:
-                for name in definition.names:
+                for name in [*definition.names, *definition.constructors()]:
                     self.by_name[file, name] = definition
         for definition in self.order:
             words = {word for line in definition.code() for word in WORD.findall(line)}
