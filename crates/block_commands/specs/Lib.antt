@@ -15,5 +15,4 @@ pub use Rattle.replies.specs.Luns
 pub use Rattle.replies.specs.Replies
 pub use Rattle.replies.specs.UnmapList
 pub mod Prepared
-pub mod Steps
-pub mod Told
+pub mod Inner

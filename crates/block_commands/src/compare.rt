@@ -5,7 +5,7 @@ ghost use Rattle.block_store.specs.Blocks.{run, overwritten};
 ghost use Rattle.replies.specs.Capacity.{is_in_range};
 ghost use Rattle.replies.specs.Comparing.{first_unequal, to_compare, to_write};
 ghost use Rattle.replies.specs.Replies.{within, compared};
-ghost use Rattle.block_commands.specs.Steps.{Gives, Wants};
+ghost use Rattle.block_commands.specs.Inner.Steps.{Gives, Wants};
 
 use crate::capacity::is_in_range;
 use crate::failure::Failure;

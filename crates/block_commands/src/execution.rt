@@ -6,10 +6,10 @@ ghost use Rattle.cdb.specs.Need.{need_of};
 ghost use Rattle.replies.specs.Data.{data_of};
 ghost use Rattle.replies.specs.PlainReply.{plain_of};
 ghost use Rattle.replies.specs.Effects.{block_after, given};
-ghost use Rattle.block_commands.specs.Told.{facts_of};
+ghost use Rattle.block_commands.specs.Inner.Told.{facts_of};
 ghost use Rattle.replies.specs.Memory.{may_want, wants};
 ghost use Rattle.replies.specs.Replies.{reply_of, answer_of};
-ghost use Rattle.block_commands.specs.Steps.{Gives, Replies, Wants};
+ghost use Rattle.block_commands.specs.Inner.Steps.{Gives, Replies, Wants};
 
 use crate::attention::met_attention;
 use crate::capacity::{capacity_10, capacity_16};

@@ -6,7 +6,7 @@ ghost use Rattle.replies.specs.Effects.{block_after};
 ghost use Rattle.replies.specs.PlainReply.{success};
 ghost use Rattle.replies.specs.Replies.{reply_of};
 ghost use Rattle.replies.specs.Statuses.{good};
-ghost use Rattle.block_commands.specs.Told.{facts_of};
+ghost use Rattle.block_commands.specs.Inner.Told.{facts_of};
 
 use crate::capacity::is_in_range;
 use crate::facts::UnitFacts;

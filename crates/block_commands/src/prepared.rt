@@ -11,7 +11,7 @@ ghost use Rattle.replies.specs.Attention.{met};
 ghost use Rattle.replies.specs.Capacity.{is_in_range};
 ghost use Rattle.replies.specs.Effects.{block_after};
 ghost use Rattle.replies.specs.Replies.{reply_of};
-ghost use Rattle.block_commands.specs.Told.{facts_of};
+ghost use Rattle.block_commands.specs.Inner.Told.{facts_of};
 ghost use Rattle.replies.specs.Memory.{may_want};
 ghost use Rattle.block_commands.specs.Prepared.{IsOf};
 

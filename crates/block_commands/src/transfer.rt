@@ -4,7 +4,7 @@ ghost use Rattle.std.specs.Prelude.{◌≡◌, ◌&&◌, nat_lt, ℕ, ◌*◌, �
 ghost use Rattle.block_store.specs.Blocks.{run, overwritten, filled};
 ghost use Rattle.replies.specs.Capacity.{is_in_range};
 ghost use Rattle.replies.specs.Replies.{within, done};
-ghost use Rattle.block_commands.specs.Steps.{Gives, Ends, Wants};
+ghost use Rattle.block_commands.specs.Inner.Steps.{Gives, Ends, Wants};
 
 use crate::capacity::is_in_range;
 use crate::failure::Failure;

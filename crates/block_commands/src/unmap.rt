@@ -4,7 +4,7 @@ ghost use Rattle.std.specs.Prelude.{◌≡◌, ℕ, ◌*◌, ◌≤◌, length, 
 ghost use Rattle.block_store.specs.Blocks.{zero_block};
 ghost use Rattle.replies.specs.Replies.{unmap_answer};
 ghost use Rattle.replies.specs.UnmapList.{descriptors_in, descriptors, blocks_named, are_in_range, is_named};
-ghost use Rattle.block_commands.specs.Steps.{Ends};
+ghost use Rattle.block_commands.specs.Inner.Steps.{Ends};
 
 use crate::capacity::is_in_range;
 use crate::extents::{UNMAP_HEADER_BYTES, extent_at, taken_descriptors};

@@ -6,7 +6,7 @@ use Rattle.std.proofs.Math.Seq.{drop-append-add}
 use Rattle.std.specs.Prelude.{IsTrue, ◌↔◌, nat_lt, nat_le}
 use Rattle.std.specs.Bool.{Decides}
 use Rattle.block_store.specs.Blocks.{Blocks, is_within, run}
-use Rattle.block_store.specs.Pages.{is_beside}
+use Rattle.block_store.specs.Inner.Pages.{is_beside}
 use Rattle.block_store.proofs.Runs.{run-same}
 use Rattle.block_store.proofs.Within.{Standing, before, inside, behind, standing, is_within-before, is_within-inside, is_within-behind}
 

@@ -5,8 +5,9 @@ use Rattle.std.proofs.lemmas.Bool.Decides.{leb_tells}
 use Rattle.std.proofs.lemmas.Option.{slice_get_past, slice_get-get_or}
 use Rattle.block_store.specs.Blocks.{Blocks, nth_block, zero_block, zeroed, is_within}
 use Rattle.block_store.specs.Pages.{covered, blocks_in, paged}
-use Rattle.block_store.specs.Whole.{length-nth_block}
-use Rattle.block_store.specs.Kept.{bytes_of, row_kept, row_blocks, is_made_in}
+use Rattle.block_store.specs.Inner.Whole.{length-nth_block}
+use Rattle.block_store.specs.Kept.{bytes_of, row_kept}
+use Rattle.block_store.specs.Inner.Kept.{row_blocks, is_made_in}
 use Rattle.block_store.specs.declared.page.Page.{Page}
 use Rattle.block_store.proofs.Within.{Standing, before, inside, behind, standing, is_within-before, is_within-inside, is_within-behind}
 use Rattle.block_store.proofs.CutSlots.{get-set-same, get-set-other}

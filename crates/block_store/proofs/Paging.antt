@@ -3,12 +3,12 @@ use Rattle.std.proofs.Common.{◌≡◌, ℕ, true, false, nat_lt, ◌∷◌, �
 use Rattle.std.proofs.lemmas.Bool.{cases_eq}
 use Rattle.std.proofs.lemmas.Nat.{div-add-mod', div-mul-add, mod_below}
 use Rattle.std.proofs.lemmas.Bool.Decides.{nat_tests}
-use Rattle.block_store.specs.Whole.{length-nth_block}
+use Rattle.block_store.specs.Inner.Whole.{length-nth_block}
 use Rattle.std.proofs.lemmas.List.{take_all, take-append-le, take-take, drop-take, drop-drop, length-take-le, length-replicate}
 use Rattle.std.proofs.Math.Seq.{drop-nil}
 use Rattle.block_store.specs.Blocks.{Blocks, block_count, nth_block, zero_block, is_within, overwritten, zeroed, run}
 use Rattle.block_store.specs.Pages.{covered, blocks_in, paged}
-use Rattle.block_store.specs.Padding.{length-zero_block}
+use Rattle.block_store.specs.Inner.Padding.{length-zero_block}
 use Rattle.block_store.proofs.Within.{Standing, before, inside, behind, standing, is_within-before, is_within-inside, is_within-behind}
 use Rattle.block_store.proofs.Written.{nth_block-replicate}
 use Rattle.block_store.proofs.Runs.{run-same, run-whole}

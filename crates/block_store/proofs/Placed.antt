@@ -5,7 +5,8 @@ use Rattle.std.proofs.lemmas.Bool.{cases_eq}
 use Rattle.std.proofs.lemmas.Bool.Decides.{nat_tests, leb_tells}
 use Rattle.block_store.specs.Blocks.{Blocks, is_within, run}
 use Rattle.block_store.specs.Pages.{covered, paged}
-use Rattle.block_store.specs.Kept.{row_kept, row_blocks, kept_in, kept_from, kept_at_ends}
+use Rattle.block_store.specs.Kept.{row_kept, kept_in, kept_from, kept_at_ends}
+use Rattle.block_store.specs.Inner.Kept.{row_blocks}
 use Rattle.block_store.specs.declared.page.Page.{Page}
 use Rattle.block_store.proofs.Agreeing.{both, both-true}
 use Rattle.block_store.proofs.Rows.{Changed, at-row}

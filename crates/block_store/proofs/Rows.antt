@@ -3,7 +3,8 @@ use Rattle.std.proofs.Common.{◌≡◌, ◌≢◌, ◌⊎◌, ℕ, ◌+◌, ◌
 use Rattle.std.proofs.lemmas.Bool.{cases_eq}
 use Rattle.block_store.specs.Blocks.{Blocks, run, is_within}
 use Rattle.block_store.specs.Pages.{covered, paged}
-use Rattle.block_store.specs.Kept.{row_kept, row_blocks, is_made_in, kept_in}
+use Rattle.block_store.specs.Kept.{row_kept, kept_in}
+use Rattle.block_store.specs.Inner.Kept.{row_blocks, is_made_in}
 use Rattle.block_store.specs.declared.page.Page.{Page}
 use Rattle.block_store.proofs.Paging.{pieces-covered}
 use Rattle.block_store.proofs.Runs.{run-same}

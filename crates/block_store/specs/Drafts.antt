@@ -1,7 +1,7 @@
 -- Blocks that are prepared away from a store.
-use Rattle.std.specs.Prelude.{◌≡◌, ℕ, ◌+◌, ◌/◌, IsTrue}
+use Rattle.std.specs.Prelude.{ℕ, ◌+◌, ◌/◌}
 use Rattle.block_store.specs.Blocks.{Blocks}
-use Rattle.block_store.specs.Pages.{is_beside, paged}
+use Rattle.block_store.specs.Pages.{paged}
 use Rattle.block_store.specs.Kept.{kept_at_ends, kept_from}
 use Rattle.block_store.specs.declared.edges.Edges.{Edges}
 use Rattle.block_store.specs.declared.edges.Prepared.{Prepared}
@@ -11,10 +11,6 @@ pub record Draft : Type 0 where
   pub first : ℕ
   pub count : ℕ
   pub blocks : Blocks
-
--- beside the range these are the blocks of the draft
-abbrev pub IsAsCopied : Draft → Blocks → Type 0
-IsAsCopied draft blocks = (b : ℕ) → IsTrue (is_beside draft.first draft.count b) → blocks b ≡ draft.blocks b
 
 -- what edges have
 abbrev pub edges_draft : Edges → Draft

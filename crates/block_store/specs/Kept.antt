@@ -1,5 +1,5 @@
 -- What pages keep.
-use Rattle.std.specs.Prelude.{ℕ, ◌-◌, ◌/◌, ◌%◌, ◌&&◌, ◌==◌, Bool, true, false, List, [], Option, Some, None, nat_lt, length, if◌then◌else◌}
+use Rattle.std.specs.Prelude.{ℕ, ◌-◌, ◌/◌, ◌%◌, ◌==◌, List, [], Option, Some, None, nat_lt, if◌then◌else◌}
 use Rattle.std.specs.List.{slice_get}
 use Rattle.block_store.specs.Blocks.{Blocks}
 use Rattle.block_store.specs.Pages.{paged}
@@ -17,14 +17,6 @@ bytes_of (Some page) = page.bytes.items
 -- the bytes that are kept of page p of a row
 abbrev pub row_kept : List Page → ℕ → List ℕ
 row_kept row p = bytes_of (slice_get row p)
-
--- the blocks of a row
-abbrev pub row_blocks : List Page → Blocks
-row_blocks row b = paged (row_kept row) b
-
--- whether page p of a row keeps bytes
-abbrev pub is_made_in : List Page → ℕ → Bool
-is_made_in row p = nat_lt 0 (length (row_kept row p))
 
 -- the bytes that are kept of page p of rows of 64 pages
 abbrev pub kept_in : (ℕ → List Page) → ℕ → List ℕ
@@ -46,10 +38,6 @@ in_tree at none tree n =
 abbrev pub tree_row : Tree → ℕ → List Page
 tree_row tree n = in_tree (λ row _. row.pages.items) [] tree n
 
--- whether row n has a place
-abbrev pub tree_has : Tree → ℕ → Bool
-tree_has tree n = in_tree (λ _ _. true) false tree n
-
 -- the bytes that are kept of page p
 abbrev pub kept : Pages → ℕ → List ℕ
 kept pages p = kept_in (tree_row pages.held) p
@@ -57,14 +45,6 @@ kept pages p = kept_in (tree_row pages.held) p
 -- the blocks of the pages
 abbrev pub blocks_of : Pages → Blocks
 blocks_of pages b = paged (kept pages) b
-
--- whether page p keeps bytes
-abbrev pub is_made : Pages → ℕ → Bool
-is_made pages p = nat_lt 0 (length (kept pages p))
-
--- whether there is a place for page p
-abbrev pub has_place : Pages → ℕ → Bool
-has_place pages p = tree_has pages.held (p / 64) && nat_lt (p % 64) (length (tree_row pages.held (p / 64)))
 
 -- the bytes that are kept of page p, where a row begins at page `start`
 abbrev pub kept_from : ℕ → List Page → ℕ → List ℕ

@@ -1,7 +1,6 @@
 pub mod Blocks
 pub mod Drafts
 pub mod Kept
-pub mod Padding
 pub mod Pages
 pub mod Tables
-pub mod Whole
+pub mod Inner

@@ -1,5 +1,5 @@
 -- Blocks in pages of 8.
-use Rattle.std.specs.Prelude.{ℕ, ◌+◌, ◌-◌, ◌/◌, ◌%◌, ◌&&◌, not, Bool, List, ◌++◌, take, if◌then◌else◌, nat_le, nat_lt}
+use Rattle.std.specs.Prelude.{ℕ, ◌+◌, ◌/◌, ◌%◌, List, ◌++◌, take, if◌then◌else◌}
 use Rattle.block_store.specs.Blocks.{Blocks, nth_block, zero_block, is_within}
 
 -- the blocks with those that `given` has in the count blocks from first on
@@ -13,9 +13,3 @@ blocks_in bytes k = take 512 (nth_block bytes k ++ zero_block)
 -- the blocks of pages, by the bytes that each keeps
 abbrev pub paged : (ℕ → List ℕ) → Blocks
 paged pages b = blocks_in (pages (b / 8)) (b % 8)
-
--- whether block b shares a page with one of the count blocks from first on, and is none of them
-abbrev pub is_beside : ℕ → ℕ → ℕ → Bool
-is_beside first count b =
-    nat_lt 0 count && nat_le (first / 8) (b / 8) && nat_le (b / 8) ((first + count - 1) / 8)
-    && not (is_within first count b)

@@ -1,7 +1,5 @@
 -- What stands in slots.
-use Rattle.std.specs.Prelude.{ℕ, ◌*◌, ◌<◌, ◌/◌, ◌%◌, List, Option, Some, None, min}
-use Rattle.std.proofs.Common.{arith}
-use Rattle.std.proofs.lemmas.Bool.Decides.{nat_tests}
+use Rattle.std.specs.Prelude.{ℕ, ◌*◌, ◌/◌, ◌%◌, List, Option, Some, None, min}
 use Rattle.std.specs.List.{slice_get}
 
 -- what has number n in a slot, if there is one
@@ -16,6 +14,3 @@ in_slots rows at none slots n = in_slot at none (slice_get slots (n / rows)) (n 
 -- how many rows a slot has for a table whose slots have n for theirs
 abbrev pub more_rows : ℕ → ℕ
 more_rows n = min (n * 64) 18446744073709551615
-
-pub some-rows : (n : ℕ) → 0 < n → 0 < more_rows n
-some-rows n some = grind (arith, nat_tests)

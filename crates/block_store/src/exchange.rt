@@ -2,8 +2,10 @@
 
 ghost use Rattle.std.specs.Prelude.{◌≡◌, ℕ, ◌+◌, ◌-◌, ◌/◌, ◌%◌, ◌^◌, ◌<◌, ◌≤◌, ◌==◌, ◌&&◌, ◌↔◌, [], nat_le, nat_lt, vec_len, IfOk, OnOk, IsTrue, if◌then◌else◌};
 ghost use Rattle.block_store.specs.Blocks.{is_within};
-ghost use Rattle.block_store.specs.Pages.{is_beside, paged};
-ghost use Rattle.block_store.specs.Kept.{kept, kept_at_ends, kept_from, blocks_of, has_place};
+ghost use Rattle.block_store.specs.Pages.{paged};
+ghost use Rattle.block_store.specs.Inner.Pages.{is_beside};
+ghost use Rattle.block_store.specs.Kept.{kept, kept_at_ends, kept_from, blocks_of};
+ghost use Rattle.block_store.specs.Inner.Kept.{has_place};
 
 use crate::numbers::{PAGE_BLOCKS, ROW_PAGES, page_of, place_of};
 use crate::page::Page;

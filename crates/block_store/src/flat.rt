@@ -45,7 +45,7 @@ impl FlatStore {
 }
 
 impl Store for FlatStore {
-    ghost use Rattle.block_store.specs.Whole.{length-nth_block};
+    ghost use Rattle.block_store.specs.Inner.Whole.{length-nth_block};
 
     ghost size = { block_count };
 

@@ -3,7 +3,8 @@
 ghost use Rattle.std.specs.Prelude.{◌≡◌, ℕ, ◌+◌, ◌^◌, ◌<◌, ◌≤◌, ◌↔◌, IsTrue, IfOk, OnErr, if◌then◌else◌};
 ghost use Rattle.block_store.specs.Blocks.{zero_block, is_within};
 ghost use Rattle.block_store.specs.Pages.{covered};
-ghost use Rattle.block_store.specs.Drafts.{IsAsCopied, edges_draft, prepared_draft};
+ghost use Rattle.block_store.specs.Drafts.{edges_draft, prepared_draft};
+ghost use Rattle.block_store.specs.Inner.Drafts.{IsAsCopied};
 
 use crate::edges::{Edges, Prepared};
 use crate::numbers::{PAGE_BLOCKS, in_page, in_row, page_end, page_from, page_of, place_of};
@@ -136,7 +137,7 @@ impl PagedStore {
 impl Store for PagedStore {
     ghost use Rattle.std.specs.Prelude.{◌/◌, ◌%◌};
     ghost use Rattle.block_store.specs.Kept.{kept, blocks_of};
-    ghost use Rattle.block_store.specs.Padding.{length-blocks_in};
+    ghost use Rattle.block_store.specs.Inner.Padding.{length-blocks_in};
 
     ghost size = { λ s. s.capacity };
 

@@ -2,7 +2,8 @@
 
 ghost use Rattle.std.specs.Prelude.{◌≡◌, ◌≢◌, ℕ, ◌+◌, ◌-◌, ◌*◌, ◌/◌, ◌%◌, ◌^◌, ◌<◌, ◌≤◌, ◌++◌, [], length, vec_len, vec_capacity, OnOk, IsTrue, IsFalse, if◌then◌else◌};
 ghost use Rattle.block_store.specs.Blocks.{block_count, overwritten, filled, zeroed, run, is_within};
-ghost use Rattle.block_store.specs.Kept.{kept, blocks_of, is_made, tree_row, tree_has};
+ghost use Rattle.block_store.specs.Kept.{kept, blocks_of, tree_row};
+ghost use Rattle.block_store.specs.Inner.Kept.{is_made, tree_has};
 
 use crate::numbers::{in_page, in_row, in_row_of, row_of};
 use crate::page::Page;

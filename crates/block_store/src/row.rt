@@ -2,7 +2,8 @@
 
 ghost use Rattle.std.specs.Prelude.{◌≡◌, ℕ, ◌+◌, ◌-◌, ◌*◌, ◌/◌, ◌%◌, ◌^◌, ◌<◌, ◌≤◌, ◌++◌, ◌==◌, [], length, take, max, vec_len, vec_capacity, IfOk, OnOk, OnErr, IsTrue, IsFalse, if◌then◌else◌};
 ghost use Rattle.block_store.specs.Blocks.{block_count, overwritten, filled, zeroed, run, is_within};
-ghost use Rattle.block_store.specs.Kept.{row_kept, row_blocks, is_made_in};
+ghost use Rattle.block_store.specs.Kept.{row_kept};
+ghost use Rattle.block_store.specs.Inner.Kept.{row_blocks, is_made_in};
 
 use crate::numbers::{PAGE_BLOCKS, in_page, page_of, place_of};
 use crate::page::{PAGE_BYTES, Page, zeros};

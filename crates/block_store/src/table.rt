@@ -6,7 +6,7 @@
 
 ghost use Rattle.std.specs.Prelude.{◌≡◌, ◌≢◌, ℕ, ◌+◌, ◌-◌, ◌%◌, ◌^◌, ◌<◌, take, List, [], Bool, true, false, length, nat_lt, OnOk, IsTrue, IsFalse, if◌then◌else◌};
 ghost use Rattle.block_store.specs.Blocks.{block_count, overwritten};
-ghost use Rattle.block_store.specs.Kept.{row_blocks};
+ghost use Rattle.block_store.specs.Inner.Kept.{row_blocks};
 ghost use Rattle.block_store.specs.Tables.{in_slots, more_rows};
 ghost use Rattle.block_store.specs.declared.page.Page.{Page};
 
@@ -214,7 +214,7 @@ impl<T: Table> Level<T> {
 
 impl<T: Table> Table for Level<T> {
     ghost use Rattle.std.specs.Prelude.{refl};
-    ghost use Rattle.block_store.specs.Tables.{some-rows};
+    ghost use Rattle.block_store.specs.Inner.Tables.{some-rows};
 
     ghost rows = { more_rows T.rows };
 

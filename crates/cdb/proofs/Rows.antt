@@ -3,7 +3,8 @@ use Rattle.std.proofs.Common.{arith, ◌≢◌, ◌≡◌, ℕ, List, Bool, true
 use Rattle.std.proofs.lemmas.Bool.Decides.{nat_tests}
 use Rattle.cdb.specs.Fields.{byte, bit}
 use Rattle.cdb.specs.Profile.{Row}
-use Rattle.cdb.specs.Decoding.{any, row_of, naca, command_by, command, unless}
+use Rattle.cdb.specs.Decoding.{any, row_of, naca, command_by, command}
+use Rattle.cdb.specs.Inner.Decoding.{unless}
 use Rattle.cdb.specs.declared.commands.Command.{Command}
 use Rattle.cdb.specs.declared.commands.Command.TheVariants.{Bad, Unknown}
 

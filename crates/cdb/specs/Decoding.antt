@@ -27,15 +27,3 @@ command_by (Some row) cdb =
 -- the command: unknown where the opcode has no row
 unfoldable pub command : List ℕ → Command
 command cdb = command_by (row_of (byte 0 cdb)) cdb
-
--- something, unless a cause holds
-abbrev pub unless : {A : Type 0} → List Bool → A → Option A
-unless causes meaning = if any causes then None else Some meaning
-
--- what the fields of a CDB say by the row of an opcode, whatever the control byte
-abbrev pub fields_by : Option Row → List ℕ → Option Command
-fields_by None cdb = None
-fields_by (Some row) cdb = unless (row.causes cdb) (row.meaning cdb)
-
-abbrev pub fields_of : ℕ → List ℕ → Option Command
-fields_of opcode cdb = fields_by (row_of opcode) cdb

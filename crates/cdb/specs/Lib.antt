@@ -3,3 +3,4 @@ pub mod Fields
 pub mod Need
 pub mod Opcodes
 pub mod Profile
+pub mod Inner

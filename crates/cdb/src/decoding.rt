@@ -3,7 +3,8 @@
 ghost use Rattle.std.specs.Prelude.{◌≡◌, ◌<◌, ◌≤◌, ◌==◌, [], ◌∷◌, if◌then◌else◌, unwrap_or, IfSome};
 ghost use Rattle.cdb.specs.Fields.{bit, bits, byte, is_over, is_set};
 ghost use Rattle.cdb.specs.Profile.{page_of, protect};
-ghost use Rattle.cdb.specs.Decoding.{command, fields_of, unless};
+ghost use Rattle.cdb.specs.Decoding.{command};
+ghost use Rattle.cdb.specs.Inner.Decoding.{fields_of, unless};
 ghost use Rattle.cdb.specs.Need.{need_of};
 
 use crate::commands::{

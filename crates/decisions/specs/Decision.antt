@@ -1,5 +1,5 @@
 -- What is decided of a request when it is fetched: the first case that holds.
-use Rattle.std.specs.Prelude.{ℕ, ◌+◌, ◌-◌, ◌<◌, ◌≤◌, ◌==◌, ◌&&◌, ◌||◌, nat_lt, Bool, List, [], length, drop, Option, Some, None, Result, Ok, Err, if◌then◌else◌}
+use Rattle.std.specs.Prelude.{ℕ, ◌-◌, ◌==◌, ◌&&◌, ◌||◌, nat_lt, Bool, List, [], drop, Option, Some, None, Result, Ok, Err, if◌then◌else◌}
 use Rattle.sense.specs.Conditions.{invalid_message_error}
 use Rattle.cdb.specs.Decoding.{command}
 use Rattle.cdb.specs.Need.{need_of}
@@ -73,15 +73,3 @@ decide_reading (Ok r) units n bytes =
 -- what is decided of the first bytes of a chain with these lengths, where these units are there
 abbrev pub decided : List Address → List ℕ → ChainLengths → Decision
 decided units bytes n = decide_reading (reading bytes n.writable) units n bytes
-
--- the answer fits into the chain; the unit is there, the data that the command takes are, and there is room for those
--- that it gives
-abbrev pub Suits : ℕ → ChainLengths → Decision → Type 0
-Suits units n (Direct answer) = length answer ≤ n.writable
-Suits units n (Enter place r) =
-    (place < units) × (51 + (need_of r.command).out ≤ n.readable) × (108 + (need_of r.command).into ≤ n.writable)
-
--- of an answer that needs no unit
-abbrev pub IfDirect : (List ℕ → Type 0) → Decision → Type 0
-IfDirect p (Direct answer) = p answer
-IfDirect p (Enter place r) = Unit {0}

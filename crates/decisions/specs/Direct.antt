@@ -1,6 +1,5 @@
 -- What is told without a unit, and its bytes.
-use Rattle.std.specs.Prelude.{ℕ, ◌≤◌, ◌+◌, ◌^◌, List, [], ⊤}
-use Rattle.cdb.specs.Need.{need_of}
+use Rattle.std.specs.Prelude.{ℕ, List, []}
 use Rattle.replies.specs.Absent.{absent_reply}
 use Rattle.replies.specs.PlainReply.{refusal}
 use Rattle.scsi_codec.specs.ControlQueue.{function_bytes, notification_bytes}
@@ -18,18 +17,3 @@ told_bytes n (told.Refused sense) = answer_of_reply n (refusal sense)
 told_bytes n (told.Absent command) = answer_of_reply n (absent_reply command)
 told_bytes n (told.Function response) = function_bytes response
 told_bytes n (told.Notification response) = notification_bytes 0 response
-
--- a chain of these lengths has room for a response and so many bytes
-pub record HasRoomFor (n : ChainLengths) (bytes : ℕ) : Type 0 where
-  pub sum : n.readable + n.writable ≤ 2 ^ 32
-  pub room : 108 + bytes ≤ n.writable
-
--- it can be told over a chain of these lengths
-abbrev pub CanTell : ChainLengths → Told → Type 0
-CanTell n told.Nothing = ⊤
-CanTell n (told.Failed code) = ⊤
-CanTell n (told.Status status) = HasRoomFor n 0
-CanTell n (told.Refused sense) = HasRoomFor n 0
-CanTell n (told.Absent command) = HasRoomFor n (need_of command).into
-CanTell n (told.Function response) = ⊤
-CanTell n (told.Notification response) = ⊤

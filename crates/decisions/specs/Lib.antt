@@ -3,3 +3,4 @@ pub mod Answers
 pub mod Direct
 pub mod UnitRequest
 pub mod Decision
+pub mod Inner

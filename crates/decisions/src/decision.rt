@@ -2,7 +2,8 @@
 
 ghost use Rattle.std.specs.Prelude.{◌≡◌, ◌+◌, ◌<◌, ◌≤◌, ◌^◌, length, min};
 ghost use Rattle.cdb.specs.Decoding.{command};
-ghost use Rattle.decisions.specs.Decision.{decided, goes_both_ways, decide_command, fails, IfDirect, Suits};
+ghost use Rattle.decisions.specs.Decision.{decided, goes_both_ways, decide_command, fails};
+ghost use Rattle.decisions.specs.Inner.Decision.{IfDirect, Suits};
 
 use crate::answer::ChainLengths;
 use crate::attribute::attribute_of;

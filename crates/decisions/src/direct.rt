@@ -53,7 +53,8 @@ pub struct DirectAnswer {
 
 impl Model for DirectAnswer {
     ghost use Rattle.std.specs.Prelude.{List, ℕ};
-    ghost use Rattle.decisions.specs.Direct.{told_bytes, CanTell};
+    ghost use Rattle.decisions.specs.Direct.{told_bytes};
+    ghost use Rattle.decisions.specs.Inner.Direct.{CanTell};
 
     ghost Value = { List ℕ };
 

@@ -20,10 +20,12 @@ use Rattle.device_model.specs.World.{PlainWorld, Opens}
 use Rattle.device_model.specs.Transitions.{Transition}
 use Rattle.device_model.specs.Happens.{world_of, Leads}
 use Rattle.device_model.specs.Places.{only}
-use Rattle.device_model.specs.Worths.{directs, ends, answers}
+use Rattle.device_model.specs.Worths.{directs, answers}
+use Rattle.device_model.specs.Inner.Worths.{ends}
 use Rattle.device_model.proofs.Lists.{same}
 use Rattle.device_model.proofs.Working.{all_work}
-use Rattle.device_model.specs.Happened.{Happened, IsBeginning, IsFetch, IsCommit, IsAbort, IsAnswer}
+use Rattle.device_model.specs.Happened.{Happened, IsBeginning, IsFetch, IsAnswer}
+use Rattle.device_model.specs.Inner.Happened.{IsCommit, IsAbort}
 use Rattle.device_model.specs.Histories.{step_of, pushed, history_of}
 use Rattle.device_model.specs.Entering.{IsSent}
 use Rattle.device_model.specs.Answering.{HasEnded, IsTrue, IsAnsweredSo, NeverRan, AreAnswered}

@@ -22,7 +22,8 @@ use Rattle.decisions.specs.declared.answer.ChainLengths.{ChainLengths}
 use Rattle.decisions.specs.declared.attribute.TaskAttribute.{TaskAttribute}
 use Rattle.decisions.specs.declared.decision.Decision.{Decision}
 use Rattle.decisions.specs.declared.decision.Decision.TheVariants as decision
-use Rattle.task_mgmt.specs.Control.{decided_of_function, decided_of, decided_with_room, Suits}
+use Rattle.task_mgmt.specs.Control.{decided_of_function, decided_of, decided_with_room}
+use Rattle.task_mgmt.specs.Inner.Control.{Suits}
 use Rattle.task_mgmt.specs.Demands.{demanded, begun}
 use Rattle.task_mgmt.specs.declared.kind.Kind.{Kind}
 use Rattle.task_mgmt.specs.Functions.{PlainFunction}

@@ -7,7 +7,8 @@ use Rattle.device_model.specs.World.{PlainWorld, Opens}
 use Rattle.device_model.specs.Transitions.{Transition}
 use Rattle.device_model.specs.Happens.{May, Finds, world_of, Leads}
 use Rattle.device_model.specs.Places.{only}
-use Rattle.device_model.specs.Happened.{IsFetch, IsEnter}
+use Rattle.device_model.specs.Happened.{IsFetch}
+use Rattle.device_model.specs.Inner.Happened.{IsEnter}
 use Rattle.device_model.specs.Histories.{history_of, Stands}
 use Rattle.device_model.specs.Entering.{IsEntered, AreEntered}
 use Rattle.device_model.proofs.Traces.{leads_beginning, told_there}

@@ -27,7 +27,8 @@ use Rattle.device_model.specs.Happens.{May, Comes, handed_out, Occurrence, Runs,
 use Rattle.device_model.specs.Places.{of_chain, of_job, of_function, at_unit, accepted_worth, only, log_accepted, log_used}
 use Rattle.device_model.specs.Lawful.{AreNumbered}
 use Rattle.device_model.specs.Standing.{AreOwned, SlotOwns}
-use Rattle.device_model.specs.Worths.{Worths, in_slot, in_hand, in_queue, in_seat, held, takes, gives, fetches, uses, enters, directs, ends, answers, leaves, enter_worth, entered_worth, living_worth, counts_in, was_accepted, IsFlowing, chains, tasks, slots, jobs, dones, tolds, Tallies}
+use Rattle.device_model.specs.Worths.{Worths, in_slot, in_hand, in_queue, in_seat, held, fetches, uses, directs, answers, enter_worth, entered_worth, counts_in, was_accepted}
+use Rattle.device_model.specs.Inner.Worths.{takes, gives, enters, ends, leaves, living_worth, IsFlowing, chains, tasks, slots, jobs, dones, tolds, Tallies}
 use Rattle.device_model.proofs.Jobs.{sum_change}
 use Rattle.device_model.proofs.Places.{moves, nothing_counts}
 use Rattle.device_model.proofs.Owning.{owned}

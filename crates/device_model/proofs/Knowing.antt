@@ -23,7 +23,8 @@ use Rattle.device_model.proofs.Lists.{nothing, same}
 use Rattle.device_model.proofs.Staying.{run_keeps, run_stays, units_listed}
 use Rattle.device_model.proofs.Floors.{AreOrdered, new_ordered, transition_orders, all_behind}
 use Rattle.device_model.proofs.Working.{Works, run_works, all_work}
-use Rattle.device_model.specs.Happened.{Happened, IsFetch, IsEnter, IsLoss, NoneIsLost}
+use Rattle.device_model.specs.Happened.{Happened, IsFetch, IsLoss, NoneIsLost}
+use Rattle.device_model.specs.Inner.Happened.{IsEnter}
 use Rattle.device_model.specs.Histories.{history_of, Stands, AreHistories}
 use Rattle.device_model.specs.Entering.{IsSent}
 use Rattle.device_model.proofs.Traces.{in_run, leads_run, leads_beginning, told_at, beginning_tail, told_on}

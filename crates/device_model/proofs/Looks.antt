@@ -17,7 +17,8 @@ use Rattle.device_model.specs.Transitions.{Transition}
 use Rattle.device_model.specs.After.{on_function, after}
 use Rattle.device_model.specs.Applies.{Applies}
 use Rattle.device_model.specs.Happens.{May}
-use Rattle.device_model.specs.Standing.{FunctionIsThere, AreLooks, LooksAreFree, IsToCheck}
+use Rattle.device_model.specs.Standing.{FunctionIsThere, IsToCheck}
+use Rattle.device_model.specs.Inner.Standing.{AreLooks, LooksAreFree}
 use Rattle.device_model.proofs.Deciding.{opened_there}
 use Rattle.device_model.proofs.Functions.{all_drop, all_push, same_function}
 use Rattle.device_model.proofs.Rooms.{below_found}

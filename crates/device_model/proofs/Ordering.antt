@@ -10,8 +10,10 @@ use Rattle.device_model.specs.World.{PlainWorld, Opens}
 use Rattle.device_model.specs.Transitions.{Transition}
 use Rattle.device_model.specs.Happens.{Leads}
 use Rattle.device_model.specs.Places.{only}
-use Rattle.device_model.specs.Worths.{fetches, directs, ends, answers}
-use Rattle.device_model.specs.Happened.{Happened, IsFetch, IsAnswer, IsCommit}
+use Rattle.device_model.specs.Worths.{fetches, directs, answers}
+use Rattle.device_model.specs.Inner.Worths.{ends}
+use Rattle.device_model.specs.Happened.{Happened, IsFetch, IsAnswer}
+use Rattle.device_model.specs.Inner.Happened.{IsCommit}
 use Rattle.device_model.specs.Histories.{step_of, history_of, Stands}
 use Rattle.device_model.specs.Ordering.{AreInOrder}
 use Rattle.device_model.proofs.Traces.{leads_beginning, beginning_tail, told_on, told_there}

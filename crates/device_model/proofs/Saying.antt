@@ -20,7 +20,8 @@ use Rattle.device_model.specs.Happens.{May, DecidesRequest, IsDirect, handed_out
 use Rattle.device_model.proofs.Lists.{at_other}
 use Rattle.device_model.proofs.Staying.{everywhere}
 use Rattle.device_model.proofs.Named.{all_filter, all_push}
-use Rattle.device_model.specs.Happened.{Happened, IsFetch, IsEnter, IsFull, IsShed, IsCommit, IsBusy, IsAbort, IsLoss}
+use Rattle.device_model.specs.Happened.{Happened, IsFetch, IsShed, IsLoss}
+use Rattle.device_model.specs.Inner.Happened.{IsEnter, IsFull, IsCommit, IsBusy, IsAbort}
 use Rattle.device_model.specs.Histories.{at_place, pushed, history_of, IsToldOf}
 use Rattle.device_model.specs.Entering.{IsJobOf, IsSent}
 use Rattle.device_model.proofs.Off.{each_put, each_taken, none_off}

@@ -1,8 +1,6 @@
 -- What the transitions of a trace tell. The newest stands first.
 use Rattle.std.specs.Prelude.{ℕ, ◌≡◌, ◌⊎◌, ⊤, true, List, [], ◌∷◌}
-use Rattle.replies.specs.PlainReply.{PlainReply}
 use Rattle.ring_core.specs.declared.log.Ticket.{Ticket}
-use Rattle.unit_model.specs.declared.reason.Reason.{Reason}
 use Rattle.unit_model.specs.Jobs.{PlainJob}
 use Rattle.task_mgmt.specs.declared.function.Mark.{Mark as Place}
 use Rattle.device_model.specs.Parts.{PlainFetch}
@@ -28,32 +26,11 @@ IsFetch f d = ⊥
 
 -- of the Enter of a job: its task entered, its unit was full, or it was refused memory
 
-abbrev pub IsEnter : PlainJob → Transition → Type 0
-IsEnter x (Transition.Run y) = y ≡ x
-IsEnter x (Transition.Park y) = y ≡ x
-IsEnter x d = ⊥
-
-abbrev pub IsFull : PlainJob → Transition → Type 0
-IsFull x (Transition.EnterFull y) = y ≡ x
-IsFull x d = ⊥
-
 abbrev pub IsShed : PlainJob → Transition → Type 0
 IsShed x (Transition.EnterBusy y) = y ≡ x
 IsShed x d = ⊥
 
 -- of its Commit: its command ran, it was refused memory, or its task was marked
-
-abbrev pub IsCommit : PlainJob → PlainReply → Transition → Type 0
-IsCommit x r (Transition.Commit k y q) = (y ≡ x) × (q ≡ r)
-IsCommit x r d = ⊥
-
-abbrev pub IsBusy : PlainJob → Transition → Type 0
-IsBusy x (Transition.CommitBusy k y) = y ≡ x
-IsBusy x d = ⊥
-
-abbrev pub IsAbort : PlainJob → Reason → Transition → Type 0
-IsAbort x why (Transition.CommitAborted k y q) = (y ≡ x) × (q ≡ why)
-IsAbort x why d = ⊥
 
 -- the chain of a ticket is answered, from its queue's slot or from a hand
 abbrev pub IsAnswer : Ticket → Transition → Type 0

@@ -26,3 +26,4 @@ pub mod Functions
 pub mod EventBuffers
 pub mod Promise
 pub mod Live
+pub mod Inner

@@ -80,10 +80,3 @@ pub record TurnsAt (found left seen : List ℕ) (w : PlainWorld) (e : Event) (w'
   pub happens : Happens transition (with_memory found w)
   pub is : with_memory left w' ≡ after transition (with_memory found w)
   pub notice : (xs : Completion) → completion_of transition ≡ Some xs → xs.seen ≡ seen
-
--- One event on a memory of which this is known: what may stand there as it begins, what its writes may leave, and what may
--- stand there behind it, by which a notice is decided. Whatever stands there behind it, the event did a turn.
-abbrev pub TurnsLive : (Before Left After : List ℕ → Type 0) → PlainWorld → Event → PlainWorld → Type 0
-TurnsLive Before Left After w e w' =
-    (seen : List ℕ) → After seen
-    → (found : List ℕ) × (left : List ℕ) × Before found × Left left × TurnsAt found left seen w e w'

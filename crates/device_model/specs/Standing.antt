@@ -11,8 +11,7 @@ use Rattle.unit_model.specs.Jobs.{PlainJob}
 use Rattle.unit_model.specs.Unit.{PlainUnit}
 use Rattle.unit_model.specs.Asking.{IsNamed}
 use Rattle.unit_model.specs.declared.rule.Rule.{Rule}
-use Rattle.task_mgmt.specs.declared.kind.Kind.{Kind}
-use Rattle.task_mgmt.specs.declared.kind.Kind.TheVariants.{Marking, Querying}
+use Rattle.task_mgmt.specs.declared.kind.Kind.TheVariants.{Querying}
 use Rattle.task_mgmt.specs.declared.function.Mark.{Mark as Place}
 use Rattle.device_model.specs.Parts.{Slot, Hand}
 use Rattle.device_model.specs.World.{PlainQueue, Opened, PlainWorld, Everywhere, all_off}
@@ -140,15 +139,6 @@ FunctionIsThere units None = ⊤
 FunctionIsThere units (Some o) =
     AllByRecursion (λ place. place < units) o.function.left
     × AllByRecursion (λ (p : Place). p.unit < units) o.function.waits
-
--- a query's checks are of no step
-abbrev pub AreLooks : Kind → List Place → Type 0
-AreLooks (Marking m) waits = ⊤
-AreLooks (Querying rule) waits = AllByRecursion (λ (p : Place). p.place ≡ 0) waits
-
-abbrev pub LooksAreFree : Option Opened → Type 0
-LooksAreFree None = ⊤
-LooksAreFree (Some o) = AreLooks o.function.kind o.function.waits
 
 -- the open function is a query that has looked at all its units, and has not checked all of them
 pub record IsToCheck (w : PlainWorld) : Type 0 where

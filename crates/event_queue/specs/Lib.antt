@@ -1,3 +1,3 @@
 pub mod Port
-pub mod Held
 pub mod Reported
+pub mod Inner

@@ -1,9 +1,7 @@
 -- The event port as a plain value, and what a call gives and leaves (VIRTIO 1.2, 5.6.6.3).
-use Rattle.std.specs.Prelude.{ℕ, ◌≤◌, ◌<◌, Bool, true, false, if◌then◌else◌, List, [], ◌∷◌, ◌++◌, Option, Some, None}
-use Rattle.std.specs.Option.{ForSome}
+use Rattle.std.specs.Prelude.{ℕ, Bool, true, false, if◌then◌else◌, List, [], ◌∷◌, ◌++◌, Option, Some, None}
 use Rattle.scsi_codec.specs.declared.event_queue.Event.{Event}
 use Rattle.scsi_codec.specs.EventQueue.{event_bytes, missed_event}
-use Rattle.ring_core.specs.Parts.{writable_total}
 use Rattle.ring_core.specs.State.{PlainChain}
 
 -- the buffers that are held, oldest first, whether an event was missed since a buffer last came, and how many may be
@@ -44,11 +42,3 @@ abbrev pub after : Happening → PlainPort → PlainPort
 after (Happening.Raised e) p = raised_to p.buffers p
 after (Happening.Came c) p =
     if p.missed then record p { missed = false } else record p { buffers = p.buffers ++ c ∷ [] }
-
--- the least room for an event
-abbrev pub HoldsEvent : PlainChain → Type 0
-HoldsEvent c = 16 ≤ writable_total c.parts
-
--- an event is about no unit, or about one of a LUN that can be written
-abbrev pub HasAddress : Event → Type 0
-HasAddress e = ForSome e.address (λ a. a.lun < 16384)

@@ -3,9 +3,8 @@ use Rattle.std.specs.Prelude.{ℕ, Bool, true, false, nat_lt, List, [], ◌∷�
 use Rattle.std.specs.List.{zip}
 use Rattle.scsi_codec.specs.declared.event_queue.Event.{Event}
 use Rattle.ring_core.specs.State.{PlainChain}
-use Rattle.scsi_codec.specs.EventQueue.{event_bytes}
+use Rattle.scsi_codec.specs.EventQueue.{event_bytes, missed_event}
 use Rattle.event_queue.specs.Port.{PlainPort, Happening, Gift, opening_port, gives, after}
-use Rattle.scsi_codec.specs.EventQueue.{missed_event}
 
 -- the buffers that came, oldest first
 abbrev pub came : List Happening → List PlainChain

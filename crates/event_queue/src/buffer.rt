@@ -16,7 +16,7 @@ pub struct EventBuffer {
 
 impl Model for EventBuffer {
     ghost use Rattle.ring_core.specs.State.{PlainChain};
-    ghost use Rattle.event_queue.specs.Held.{IsHeldOf};
+    ghost use Rattle.event_queue.specs.Inner.Held.{IsHeldOf};
 
     ghost Value = { PlainChain };
 
@@ -29,8 +29,8 @@ impl EventBuffer {
     ghost use Rattle.std.specs.Prelude.{◌≡◌, ◌≤◌, ℕ, List, length};
     ghost use Rattle.ring_core.specs.Parts.{writable_total};
     ghost use Rattle.ring_core.specs.Writes.{scatter_writes};
-    ghost use Rattle.ring_core.specs.Narrow.{narrowed};
-    ghost use Rattle.event_queue.specs.Port.{HoldsEvent};
+    ghost use Rattle.ring_core.specs.Inner.Narrow.{narrowed};
+    ghost use Rattle.event_queue.specs.Inner.Port.{HoldsEvent};
 
     /// Makes a buffer of a chain into which an event fits, and gives back the memory of what isn't held. It takes none.
     pub(crate) fn of(chain: Chain) -> EventBuffer

@@ -45,7 +45,8 @@ fn missed_bytes() -> [u8; EVENT_BYTES]
 impl EventPort {
     ghost use Rattle.std.specs.Prelude.{◌≡◌, ◌<◌, ◌↔◌, [], length, None, Some, IfOk, IfSome, IsTrue, slice_get};
     ghost use Rattle.std.specs.Option.{ForSome};
-    ghost use Rattle.event_queue.specs.Port.{Happening, HoldsEvent, opening_port, gives, after};
+    ghost use Rattle.event_queue.specs.Port.{Happening, opening_port, gives, after};
+    ghost use Rattle.event_queue.specs.Inner.Port.{HoldsEvent};
 
     /// Makes a port that holds no buffer, with room for `size`. Only this call takes memory.
     pub fn new(alloc: Global, size: usize) -> Result<EventPort, AllocError>

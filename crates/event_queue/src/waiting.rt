@@ -15,7 +15,7 @@ impl Model for WaitingEvents {
     ghost use Rattle.std.specs.Prelude.{List};
     ghost use Rattle.std.specs.List.{All};
     ghost use Rattle.scsi_codec.specs.declared.event_queue.Event.{Event};
-    ghost use Rattle.event_queue.specs.Port.{HasAddress};
+    ghost use Rattle.event_queue.specs.Inner.Port.{HasAddress};
 
     ghost Value = { List Event };
 
@@ -27,7 +27,7 @@ impl Model for WaitingEvents {
 impl WaitingEvents {
     ghost use Rattle.std.specs.Prelude.{◌≡◌, ◌++◌, List, [], ◌∷◌, length, drop, OnOk, OnErr, IfSome, slice_get};
     ghost use Rattle.scsi_codec.specs.declared.event_queue.Event.{Event};
-    ghost use Rattle.event_queue.specs.Port.{HasAddress};
+    ghost use Rattle.event_queue.specs.Inner.Port.{HasAddress};
 
     /// Makes a list of no event.
     pub fn new(alloc: Global) -> WaitingEvents

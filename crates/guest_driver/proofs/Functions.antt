@@ -2,7 +2,7 @@
 use Rattle.std.proofs.Common.{◌≡◌, ℕ, ◌<◌, ◌^◌, List, [], ◌∷◌, ◌++◌, length, take, drop, sym, ◌∙◌, ap, subst, arith, length-append}
 use Rattle.std.specs.Int.{w32, w64, to_le_bytes}
 use Rattle.scsi_codec.specs.Lun.{IsAddress}
-use Rattle.guest_driver.specs.Requests.{IsFunction}
+use Rattle.guest_driver.specs.Inner.Requests.{IsFunction}
 use Rattle.guest_driver.proofs.Heads.{take_first, drop_first}
 use Rattle.guest_driver.proofs.Numbers.{number_from, reads_4, reads_8}
 use Rattle.script_lines.specs.declared.send.TaskManagement.{TaskManagement}

@@ -4,7 +4,7 @@ use Rattle.std.proofs.Math.Seq.{take_all, take-append_seam, drop-append-add, get
 use Rattle.std.proofs.lemmas.List.{drop_all}
 use Rattle.std.specs.Int.{w64, to_le_bytes}
 use Rattle.scsi_codec.specs.Lun.{IsAddress}
-use Rattle.guest_driver.specs.Requests.{IsHead}
+use Rattle.guest_driver.specs.Inner.Requests.{IsHead}
 use Rattle.guest_driver.proofs.Numbers.{number_from, reads_8}
 use Rattle.script_lines.specs.declared.send.Send.{Send}
 

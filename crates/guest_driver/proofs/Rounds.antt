@@ -5,7 +5,7 @@ use Rattle.std.proofs.lemmas.Bool.Decides.{nat_tests}
 use Rattle.std.proofs.Math.Nat.{mod-lt}
 use Rattle.std.proofs.lemmas.Nat.{div-mul-add, mod-mul-add, div-add-mod'}
 use Rattle.ring_core.specs.Packed.{used_flags}
-use Rattle.guest_driver.specs.Places.{HasPassed}
+use Rattle.guest_driver.specs.Inner.Places.{HasPassed}
 use Rattle.guest_driver.specs.declared.packed_queue.Position.{Position}
 
 meets : (r size : ℕ) → r < size → size ≤ r + 1 → r + 1 ≡ size

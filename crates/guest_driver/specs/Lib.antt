@@ -1,3 +1,1 @@
-pub mod Guest
-pub mod Places
-pub mod Requests
+pub mod Inner

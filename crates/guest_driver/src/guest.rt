@@ -2,7 +2,7 @@
 
 ghost use Rattle.std.specs.Prelude.{◌≡◌, ◌⊎◌, List, ℕ, length, OnOk, OnErr, IfErr};
 ghost use Rattle.std.specs.Int.{w16, w32, from_le_bytes};
-ghost use Rattle.guest_driver.specs.Guest.{IsDescriptor};
+ghost use Rattle.guest_driver.specs.Inner.Guest.{IsDescriptor};
 
 use crate::memory::GuestMemory;
 use script_lines::{Bytes, Item, LineFault, Stop};

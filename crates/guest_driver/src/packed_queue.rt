@@ -2,7 +2,7 @@
 
 ghost use Rattle.std.specs.Prelude.{◌≡◌, ◌<◌, ◌+◌, ℕ, Bool, true, false, IsTrue, ◌↔◌, not};
 ghost use Rattle.ring_core.specs.Packed.{used_flags};
-ghost use Rattle.guest_driver.specs.Places.{HasPassed, avail_flag, used_flag};
+ghost use Rattle.guest_driver.specs.Inner.Places.{HasPassed, avail_flag, used_flag};
 
 use crate::areas::layout_of;
 use crate::guest::{descriptor, put, u16_at, u32_at};

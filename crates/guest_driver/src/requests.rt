@@ -2,7 +2,7 @@
 
 ghost use Rattle.std.specs.Prelude.{◌≡◌, ◌≤◌, ◌<◌, ◌+◌, ◌^◌, ℕ, IsOk, IfOk, OnOk, IfErr, OnErr, ◌↔◌};
 ghost use Rattle.guest_mem.specs.Memory.{LiesIn};
-ghost use Rattle.guest_driver.specs.Requests.{IsFunction, IsHead, IsNextPlace};
+ghost use Rattle.guest_driver.specs.Inner.Requests.{IsFunction, IsHead, IsNextPlace};
 
 use crate::guest::{Buffer, put};
 use crate::memory::GuestMemory;

@@ -7,8 +7,10 @@ use Rattle.std.specs.Prelude.{◌==◌, if◌then◌else◌, slice_get}
 use Rattle.std.specs.List.{sum_by, filter}
 use Rattle.unit_model.specs.Jobs.{PlainJob}
 use Rattle.unit_model.specs.Tasks.{same_ticket}
-use Rattle.handoff.specs.Moves.{Move, jobs_of, jobs_by, is_by, IsBelow}
-use Rattle.handoff.specs.Seats.{Hub, PlainSeat, AreSeatsFrom, HandedOver, all_put, all_taken, all_left, IsEven, IsEvenByTicket, AreGathered}
+use Rattle.handoff.specs.Moves.{Move}
+use Rattle.handoff.specs.Inner.Moves.{jobs_of, jobs_by, is_by, IsBelow}
+use Rattle.handoff.specs.Seats.{Hub, PlainSeat}
+use Rattle.handoff.specs.Inner.Seats.{AreSeatsFrom, HandedOver, all_put, all_taken, all_left, IsEven, IsEvenByTicket, AreGathered}
 use Rattle.handoff.proofs.Gathering.{AreBelow}
 
 -- the moves of these seats, weighed

@@ -6,11 +6,14 @@ use Rattle.std.specs.Prelude.{slice_get, ⊤}
 use Rattle.unit_model.specs.Jobs.{PlainJob}
 use Rattle.handoff.specs.declared.rule.Account.{Account}
 use Rattle.handoff.specs.declared.rule.View.{View}
-use Rattle.handoff.specs.Moves.{Move, Moves, jobs_of, jobs_by, IsBelow, Fits, AllFit, AreSettled}
-use Rattle.handoff.specs.Rule.{joined}
-use Rattle.handoff.specs.Places.{PlainPlace, knowing}
-use Rattle.handoff.specs.Seats.{Hub, PlainSeat, AreSeatsFrom, put_at, account_at, view_at, IsSeated, HandedOver}
-use Rattle.handoff.specs.Lanes.{AreAt, AreChiefs, KnowAll}
+use Rattle.handoff.specs.Moves.{Move}
+use Rattle.handoff.specs.Inner.Moves.{Moves, jobs_of, jobs_by, IsBelow, Fits, AllFit, AreSettled}
+use Rattle.handoff.specs.Inner.Rule.{joined}
+use Rattle.handoff.specs.Places.{PlainPlace}
+use Rattle.handoff.specs.Inner.Places.{knowing}
+use Rattle.handoff.specs.Seats.{Hub, PlainSeat}
+use Rattle.handoff.specs.Inner.Seats.{AreSeatsFrom, put_at, account_at, view_at, IsSeated, HandedOver}
+use Rattle.handoff.specs.Inner.Lanes.{AreAt, AreChiefs, KnowAll}
 use Rattle.handoff.proofs.Lists.{nothing, same, stands_at, at_or_not}
 use Rattle.handoff.proofs.Seating.{own_put, no_put}
 

@@ -6,10 +6,12 @@ use Rattle.crossbeam_queue.specs.Fifo.{Held}
 use Rattle.handoff.specs.declared.rule.Account.{Account}
 use Rattle.handoff.specs.declared.rule.View.{View}
 use Rattle.handoff.specs.declared.seat.Taken.{Taken}
-use Rattle.handoff.specs.Moves.{Balances}
+use Rattle.handoff.specs.Inner.Moves.{Balances}
 use Rattle.handoff.specs.Places.{PlainLane, PlainPlace}
-use Rattle.handoff.specs.Seats.{Hub, PlainSeat, IsSeatOf, IsSameSeat, putting, taking, account_at, seat_of, view_at, WasEmpty, TakesNearest}
-use Rattle.handoff.specs.Lanes.{hub_of, TakesBetween}
+use Rattle.handoff.specs.Seats.{Hub, PlainSeat, IsSeatOf, IsSameSeat, seat_of}
+use Rattle.handoff.specs.Inner.Seats.{putting, taking, account_at, view_at, WasEmpty, TakesNearest}
+use Rattle.handoff.specs.Lanes.{hub_of}
+use Rattle.handoff.specs.Inner.Lanes.{TakesBetween}
 use Rattle.handoff.proofs.Lists.{same, map_get, set_same}
 
 module _ (number capacity : ℕ) (places : List PlainPlace) (taken : List Taken) (lanes : List PlainLane) (s : PlainSeat) (h : Hub)

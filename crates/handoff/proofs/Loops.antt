@@ -4,11 +4,13 @@ use Rattle.std.proofs.lemmas.List.{length-map, map-append}
 use Rattle.std.specs.Prelude.{slice_get, slice_set, ◌==◌, if◌then◌else◌}
 use Rattle.atomic_table.specs.Seated.{TableId}
 use Rattle.unit_model.specs.Jobs.{PlainJob}
-use Rattle.handoff.specs.Moves.{AreSettled}
-use Rattle.handoff.specs.Rule.{joined}
-use Rattle.handoff.specs.Places.{PlainLane, PlainPlace, knowing}
+use Rattle.handoff.specs.Inner.Moves.{AreSettled}
+use Rattle.handoff.specs.Inner.Rule.{joined}
+use Rattle.handoff.specs.Places.{PlainLane, PlainPlace}
+use Rattle.handoff.specs.Inner.Places.{knowing}
 use Rattle.handoff.specs.Seats.{Hub}
-use Rattle.handoff.specs.Lanes.{AreAt, hub_of, HaveCapacity, placed, at_each, lead}
+use Rattle.handoff.specs.Lanes.{hub_of}
+use Rattle.handoff.specs.Inner.Lanes.{AreAt, HaveCapacity, placed, at_each, lead}
 use Rattle.handoff.proofs.Lists.{nothing, same, get_here, get_else, map_set_same, below_or_at}
 
 -- the rest of a list, from a place on

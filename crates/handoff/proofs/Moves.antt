@@ -6,7 +6,8 @@ use Rattle.std.specs.List.{filter}
 use mathlib.Core.Option.{some, some-injective, some-ne-none}
 use lib.ListN.{get_elem?}
 use Rattle.unit_model.specs.Jobs.{PlainJob}
-use Rattle.handoff.specs.Moves.{Move, move, Moves, jobs_of, jobs_by, is_by, IsBelow, AreBelow}
+use Rattle.handoff.specs.Moves.{Move, move}
+use Rattle.handoff.specs.Inner.Moves.{Moves, jobs_of, jobs_by, is_by, IsBelow, AreBelow}
 
 pub jobs_of_append : (xs ys : List Move) → jobs_of (xs ++ ys) ≡ jobs_of xs ++ jobs_of ys
 jobs_of_append xs ys = map-append (λ m. m.job) xs ys

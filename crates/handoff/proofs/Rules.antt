@@ -8,8 +8,9 @@ use Rattle.crossbeam_queue.proofs.Lists.{at_set}
 use Rattle.unit_model.specs.Jobs.{PlainJob}
 use Rattle.handoff.specs.declared.rule.Account.{Account}
 use Rattle.handoff.specs.declared.rule.View.{View}
-use Rattle.handoff.specs.Moves.{Move, move, Moves, jobs_of, jobs_by, IsInOrder, IsBelow, AreBelow, account, Fits, AllFit, Balances, AreSettled}
-use Rattle.handoff.specs.Rule.{AreWith, IsRight, Agree, opening, one_more, newcomer, joined, spent, after_put, after_take}
+use Rattle.handoff.specs.Moves.{Move, move}
+use Rattle.handoff.specs.Inner.Moves.{Moves, jobs_of, jobs_by, IsInOrder, IsBelow, AreBelow, account, Fits, AllFit, Balances, AreSettled}
+use Rattle.handoff.specs.Inner.Rule.{AreWith, IsRight, Agree, opening, one_more, newcomer, joined, spent, after_put, after_take}
 use Rattle.handoff.proofs.Moves.{jobs_of_append, jobs_by_append, jobs_by_own, jobs_by_other, jobs_by_none, below_append, all_below_more, front, at_end}
 
 abbrev EachView : (ℕ → View → Type 0) → List View → Type 0

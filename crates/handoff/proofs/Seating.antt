@@ -7,11 +7,14 @@ use Rattle.atomic_table.specs.Seated.{TableId}
 use Rattle.unit_model.specs.Jobs.{PlainJob}
 use Rattle.handoff.specs.declared.rule.View.{View}
 use Rattle.handoff.specs.declared.seat.Taken.{Taken}
-use Rattle.handoff.specs.Moves.{move, jobs_by, IsBelow, account}
-use Rattle.handoff.specs.Rule.{newcomer, after_put, after_take}
-use Rattle.handoff.specs.Places.{PlainLane, PlainPlace, HasOne, knowing}
-use Rattle.handoff.specs.Seats.{Hub, PlainSeat, IsSeatOf, AreSeatsFrom, AreNew, putting, taking, put_at, account_at, put_there, first_put, move_of, seat_of, view_at, IsSeated}
-use Rattle.handoff.specs.Lanes.{placed, at_each, lead}
+use Rattle.handoff.specs.Moves.{move}
+use Rattle.handoff.specs.Inner.Moves.{jobs_by, IsBelow, account}
+use Rattle.handoff.specs.Inner.Rule.{newcomer, after_put, after_take}
+use Rattle.handoff.specs.Places.{PlainLane, PlainPlace}
+use Rattle.handoff.specs.Inner.Places.{HasOne, knowing}
+use Rattle.handoff.specs.Seats.{Hub, PlainSeat, IsSeatOf, put_there, first_put, move_of, seat_of}
+use Rattle.handoff.specs.Inner.Seats.{AreSeatsFrom, AreNew, putting, taking, put_at, account_at, view_at, IsSeated}
+use Rattle.handoff.specs.Inner.Lanes.{placed, at_each, lead}
 use Rattle.handoff.proofs.Moves.{below_append}
 use Rattle.handoff.proofs.Rules.{own_grows, other_stays}
 use Rattle.handoff.proofs.Lists.{same_list, get_set, map_set_same, set_length, map_back, stands_at, at_or_not}

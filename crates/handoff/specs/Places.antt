@@ -1,7 +1,6 @@
 -- One queue, and the places that seats have at it.
-use Rattle.std.specs.Prelude.{◌≡◌, ℕ, [], ◌∷◌}
+use Rattle.std.specs.Prelude.{ℕ}
 use Rattle.atomic_table.specs.Seated.{TableId}
-use Rattle.handoff.specs.declared.rule.Account.{Account}
 use Rattle.handoff.specs.declared.rule.View.{View}
 
 -- own: which queue, and how many jobs it holds at most
@@ -13,15 +12,3 @@ pub record PlainLane : Type 0 where
 pub record PlainPlace : Type 0 where
   pub queue : TableId
   pub knows : View
-
--- own: the place is at this queue
-abbrev pub IsAt : PlainLane → PlainPlace → Type 0
-IsAt l p = p.queue ≡ l.queue
-
--- own: it has the account of one seat
-abbrev pub HasOne : View → Type 0
-HasOne v = (a : Account) × (v.accounts ≡ a ∷ [])
-
--- own: the place once it knows this
-abbrev pub knowing : View → PlainPlace → PlainPlace
-knowing v p = record { queue = p.queue; knows = v }

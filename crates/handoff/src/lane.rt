@@ -45,9 +45,9 @@ impl Lane {
     ghost use Rattle.std.specs.Prelude.{◌≡◌, ◌<◌, length, true, OnOk, OnErr, IfOk, IfErr, IfSome, IfNone, List};
     ghost use Rattle.crossbeam_queue.specs.Fifo.{Held};
     ghost use Rattle.unit_model.specs.Jobs.{PlainJob};
-    ghost use Rattle.handoff.specs.Moves.{Balances, AreSettled};
-    ghost use Rattle.handoff.specs.Rule.{opening, one_more, newcomer, joined, after_put, after_take};
-    ghost use Rattle.handoff.specs.Places.{IsAt, HasOne, knowing};
+    ghost use Rattle.handoff.specs.Inner.Moves.{Balances, AreSettled};
+    ghost use Rattle.handoff.specs.Inner.Rule.{opening, one_more, newcomer, joined, after_put, after_take};
+    ghost use Rattle.handoff.specs.Inner.Places.{IsAt, HasOne, knowing};
 
     /// Makes an empty queue that holds at most so many jobs, and the first place at it, the chief.
     pub(crate) fn new(alloc: Global, capacity: usize) -> Result<(Lane, Place), NoMemory>

@@ -21,7 +21,8 @@ pub struct Handoff {
 
 impl Model for Handoff {
     ghost use Rattle.handoff.specs.Seats.{Hub};
-    ghost use Rattle.handoff.specs.Lanes.{hub_of, HaveCapacity};
+    ghost use Rattle.handoff.specs.Lanes.{hub_of};
+    ghost use Rattle.handoff.specs.Inner.Lanes.{HaveCapacity};
 
     ghost Value = { Hub };
 
@@ -31,8 +32,8 @@ impl Model for Handoff {
 }
 
 ghost use Rattle.std.specs.Prelude.{◌≡◌, ◌+◌, ◌<◌, ◌≤◌, length, IfOk};
-ghost use Rattle.handoff.specs.Rule.{newcomer};
-ghost use Rattle.handoff.specs.Lanes.{HaveCapacity, at_each, lead};
+ghost use Rattle.handoff.specs.Inner.Rule.{newcomer};
+ghost use Rattle.handoff.specs.Inner.Lanes.{HaveCapacity, at_each, lead};
 
 /// Makes so many empty queues, each of this capacity, and the chief of each.
 fn open(alloc: Global, capacity: usize, count: usize) -> Result<(Vec<Lane>, Vec<Place>), NoMemory>
@@ -73,11 +74,13 @@ impl Handoff {
     ghost use Rattle.std.specs.Prelude.{ℕ, Some, slice_get, true, OnOk, OnErr, IfErr, IfSome, IfNone, List};
     ghost use Rattle.crossbeam_queue.specs.Fifo.{Held};
     ghost use Rattle.unit_model.specs.Jobs.{PlainJob};
-    ghost use Rattle.handoff.specs.Moves.{AreSettled};
-    ghost use Rattle.handoff.specs.Rule.{joined};
-    ghost use Rattle.handoff.specs.Places.{PlainPlace, knowing};
-    ghost use Rattle.handoff.specs.Lanes.{AreAt, AreChiefs, KnowAll, TakesBetween};
-    ghost use Rattle.handoff.specs.Seats.{IsSeatOf, IsSameSeat, AreAllSeats, AreNew, putting, taking, BalancesAt, WasEmpty, TakesNearest, AreGathered};
+    ghost use Rattle.handoff.specs.Inner.Moves.{AreSettled};
+    ghost use Rattle.handoff.specs.Inner.Rule.{joined};
+    ghost use Rattle.handoff.specs.Places.{PlainPlace};
+    ghost use Rattle.handoff.specs.Inner.Places.{knowing};
+    ghost use Rattle.handoff.specs.Inner.Lanes.{AreAt, AreChiefs, KnowAll, TakesBetween};
+    ghost use Rattle.handoff.specs.Seats.{IsSeatOf, IsSameSeat};
+    ghost use Rattle.handoff.specs.Inner.Seats.{AreAllSeats, AreNew, putting, taking, BalancesAt, WasEmpty, TakesNearest, AreGathered};
 
     /// Makes an empty hand-off and all its seats, 2 to 9, in order: seat 0 stands first. Each seat has a queue, which
     /// holds at most `capacity` jobs, 1 to 4,096. Called once, where a device is opened. Only this call

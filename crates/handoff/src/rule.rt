@@ -23,7 +23,7 @@ pub(crate) struct View {
 pub(crate) struct InOrder;
 
 impl Protocol<Job, View> for InOrder {
-    ghost use Rattle.handoff.specs.Rule.{Agree, opening};
+    ghost use Rattle.handoff.specs.Inner.Rule.{Agree, opening};
 
     ghost holds = { λ items views. Agree items views };
 
@@ -34,7 +34,7 @@ impl Protocol<Job, View> for InOrder {
 pub(crate) struct Seats;
 
 impl Split<View> for Seats {
-    ghost use Rattle.handoff.specs.Rule.{one_more, newcomer};
+    ghost use Rattle.handoff.specs.Inner.Rule.{one_more, newcomer};
 
     ghost left = { λ v. one_more v };
 
@@ -42,7 +42,7 @@ impl Split<View> for Seats {
 }
 
 impl Join<View> for Seats {
-    ghost use Rattle.handoff.specs.Rule.{joined, spent};
+    ghost use Rattle.handoff.specs.Inner.Rule.{joined, spent};
 
     ghost both = { λ v w. joined v w };
 
@@ -54,13 +54,13 @@ pub(crate) struct Puts;
 
 impl Outcome<Job, View> for Puts {
     ghost use Rattle.std.specs.Prelude.{◌≡◌};
-    ghost use Rattle.handoff.specs.Rule.{after_put};
+    ghost use Rattle.handoff.specs.Inner.Rule.{after_put};
 
     ghost then = { λ v job w. w ≡ after_put v job };
 }
 
 impl Lesson<Job, View> for Puts {
-    ghost use Rattle.handoff.specs.Moves.{Balances};
+    ghost use Rattle.handoff.specs.Inner.Moves.{Balances};
 
     ghost fact = { λ v items. Balances v.accounts items };
 }
@@ -70,13 +70,13 @@ pub(crate) struct Takes;
 
 impl Outcome<Job, View> for Takes {
     ghost use Rattle.std.specs.Prelude.{◌≡◌};
-    ghost use Rattle.handoff.specs.Rule.{after_take};
+    ghost use Rattle.handoff.specs.Inner.Rule.{after_take};
 
     ghost then = { λ v job w. w ≡ after_take v job };
 }
 
 impl Lesson<Job, View> for Takes {
-    ghost use Rattle.handoff.specs.Moves.{Balances};
+    ghost use Rattle.handoff.specs.Inner.Moves.{Balances};
 
     ghost fact = { λ v items. Balances v.accounts items };
 }
@@ -85,7 +85,7 @@ impl Lesson<Job, View> for Takes {
 pub(crate) struct All;
 
 impl Lesson<Job, View> for All {
-    ghost use Rattle.handoff.specs.Moves.{AreSettled};
+    ghost use Rattle.handoff.specs.Inner.Moves.{AreSettled};
 
     ghost fact = { λ v items. AreSettled v.accounts items };
 }

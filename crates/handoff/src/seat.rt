@@ -24,7 +24,8 @@ pub struct Seat {
 }
 
 impl Model for Seat {
-    ghost use Rattle.handoff.specs.Seats.{PlainSeat, seat_of, IsSeated};
+    ghost use Rattle.handoff.specs.Seats.{PlainSeat, seat_of};
+    ghost use Rattle.handoff.specs.Inner.Seats.{IsSeated};
 
     ghost Value = { PlainSeat };
 

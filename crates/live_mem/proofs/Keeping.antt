@@ -3,7 +3,8 @@ use Rattle.std.proofs.Common.{◌≡◌, ℕ, ◌+◌, ◌-◌, ◌<◌, ◌≤�
 use Rattle.std.proofs.lemmas.List.{get_or-append_right, length-append}
 use Rattle.std.proofs.lemmas.List.Elements.{All-push}
 use Rattle.live_mem.specs.Access.{Access, spans, loaded}
-use Rattle.live_mem.specs.Kept.{covers, byte_of, valued, AreKept, IsFree, Keeps}
+use Rattle.live_mem.specs.Kept.{covers, byte_of, valued, AreKept, IsFree}
+use Rattle.live_mem.specs.Inner.Kept.{Keeps}
 use Rattle.live_mem.specs.declared.span.Span.{Span}
 use Rattle.live_mem.proofs.Spans.{In, Out, lies, behind, valued_push, valued_more, valued_next}
 

@@ -2,7 +2,8 @@
 use Rattle.std.proofs.Common.{◌≡◌, ℕ, ◌+◌, ◌-◌, ◌<◌, ◌≤◌, List, [], ◌∷◌, length, take, drop, get_or, cond, true, false, Bool, refl, sym, ap, ◌∙◌, arith, ◌⊎◌, inl, inr}
 use Rattle.std.proofs.lemmas.List.{ext_get_or, get_or-take, get_or-drop, length-take-le, length-drop}
 use Rattle.guest_mem.specs.Memory.{bytes_at}
-use Rattle.live_mem.specs.Access.{Access, Begins, Loads, Stores, spans, loaded, AreBytes, Agrees, MayBe, StoredNothing, LoadsThere}
+use Rattle.live_mem.specs.Access.{Access, Begins, Loads, Stores, spans, loaded, AreBytes, Agrees, MayBe, StoredNothing}
+use Rattle.live_mem.specs.Inner.Access.{LoadsThere}
 use Rattle.live_mem.proofs.Spans.{In, Out, lies, within}
 
 -- where no load has an address any byte stays; where one has it, it doesn't matter which stood there

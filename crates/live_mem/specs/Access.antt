@@ -61,13 +61,6 @@ Asks log new_log addr n blind =
     (blind ≡ true → new_log ≡ log)
     × (blind ≡ false → (fresh : List ℕ) × (length fresh ≡ n) × (new_log ≡ Loads addr fresh ∷ log))
 
--- a read of the bytes from addr on: the bus was asked for them all, and each is the first that the phase loaded of it
-pub record LoadsThere (log new_log : List Access) (addr : ℕ) (out : List ℕ) : Type 0 where
-  pub fresh : List ℕ
-  pub long : length fresh ≡ length out
-  pub asked : new_log ≡ Loads addr fresh ∷ log
-  pub are : (i : ℕ) → i < length out → get_or out i 0 ≡ loaded log (addr + i) (get_or fresh i 0)
-
 -- no load of the phase has the address
 abbrev pub WasNotRead : List Access → ℕ → Type 0
 WasNotRead log p = (d : ℕ) → loaded log p d ≡ d

@@ -1,5 +1,5 @@
 -- What a phase keeps of its reads: spans, the earliest first, and their bytes one behind the other.
-use Rattle.std.specs.Prelude.{ℕ, ◌≡◌, ◌+◌, ◌-◌, ◌≤◌, ◌<◌, Bool, cond, List, [], ◌∷◌, ◌++◌, length, get_or, All}
+use Rattle.std.specs.Prelude.{ℕ, ◌≡◌, ◌+◌, ◌-◌, ◌≤◌, ◌<◌, Bool, cond, List, [], ◌∷◌, get_or, All}
 use Rattle.live_mem.specs.Access.{spans}
 use Rattle.live_mem.specs.declared.span.Span.{Span}
 
@@ -23,8 +23,3 @@ AreKept ss many = All (λ s. s.start + s.len ≤ many) ss
 -- no span has an address from low up to high
 abbrev pub IsFree : List Span → List ℕ → ℕ → ℕ → Type 0
 IsFree ss kept low high = (p d : ℕ) → low ≤ p → p < high → valued ss kept p d ≡ d
-
--- these bytes, read from an address on, are kept besides
-pub record Keeps (ss : List Span) (kept : List ℕ) (addr : ℕ) (out : List ℕ) (new_ss : List Span) (new_kept : List ℕ) : Type 0 where
-  pub spans_are : new_ss ≡ ss ++ record { addr = addr; start = length kept; len = length out } ∷ []
-  pub kept_are : new_kept ≡ kept ++ out

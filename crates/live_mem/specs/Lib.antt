@@ -4,3 +4,4 @@ pub mod Heard
 pub mod Kept
 pub mod Live
 pub mod Room
+pub mod Inner

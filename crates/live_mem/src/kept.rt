@@ -2,7 +2,8 @@
 
 ghost use Rattle.std.specs.Prelude.{ℕ, ◌≡◌, ◌+◌, ◌<◌, ◌≤◌, ◌^◌, [], List, length, cond, get_or, IfOk, IsOk};
 ghost use Rattle.guest_mem.specs.Memory.{bytes_at, with_bytes};
-ghost use Rattle.live_mem.specs.Kept.{covers, byte_of, valued, AreKept, IsFree, Keeps};
+ghost use Rattle.live_mem.specs.Kept.{covers, byte_of, valued, AreKept, IsFree};
+ghost use Rattle.live_mem.specs.Inner.Kept.{Keeps};
 
 use crate::span::Span;
 use std::alloc::{AllocError, Global};

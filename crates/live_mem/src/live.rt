@@ -3,7 +3,8 @@
 ghost use Rattle.std.specs.Prelude.{ℕ, ◌≡◌, ◌+◌, ◌<◌, ◌≤◌, ◌^◌, ◌++◌, ◌∷◌, [], List, length, get_or, true, false, IfOk, OnOk};
 ghost use Rattle.guest_mem.specs.Memory.{bytes_at, with_bytes, LiesIn};
 ghost use Rattle.guest_mem.specs.Stores.{Store, stores_at};
-ghost use Rattle.live_mem.specs.Access.{Access, loaded, stored, all_stores, AreBytes, Asks, LoadsThere, MayBe, StoredNothing};
+ghost use Rattle.live_mem.specs.Access.{Access, loaded, stored, all_stores, AreBytes, Asks, MayBe, StoredNothing};
+ghost use Rattle.live_mem.specs.Inner.Access.{LoadsThere};
 ghost use Rattle.live_mem.specs.Heard.{heard};
 ghost use Rattle.live_mem.specs.Kept.{valued};
 ghost use Rattle.std.proofs.Common.{append-nil, append_assoc};

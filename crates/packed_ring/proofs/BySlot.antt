@@ -4,7 +4,7 @@ use Rattle.std.proofs.lemmas.Grind.{common_steps}
 use Rattle.std.proofs.Math.Nat.{suc-mod}
 use Rattle.guest_mem.specs.Memory.{bytes_at}
 use Rattle.ring_core.specs.Walk.{nothing_before, goes_on, is_indirect, part_of, amount, table_wrong, Sequence, IsRun, IsChain}
-use Rattle.ring_core.specs.Walking.{Walks, RunFailsOrLacks, ChainFailsOrLacks}
+use Rattle.ring_core.specs.Inner.Walking.{Walks, RunFailsOrLacks, ChainFailsOrLacks}
 use Rattle.ring_core.specs.Packed.{packed_descriptor, slot_at, packed_wrong, packed_slots, packed_table, PackedChain}
 use Rattle.ring_core.specs.declared.layout.Features.{Features}
 use Rattle.ring_core.specs.declared.layout.Layout.{Layout}
@@ -18,7 +18,7 @@ use Rattle.ring_core.proofs.Along.{run_last}
 use Rattle.ring_core.proofs.RightChains.{packed_names}
 use Rattle.ring_core.proofs.ChainProperties.{names_table, some_entry}
 use Rattle.ring_core.proofs.Walking.{Walked, packed_walk, walked_end, table_fails, chain_direct, chain_table}
-use Rattle.packed_ring.specs.Inner.{EndsInTable, PackedFailsOrLacks}
+use Rattle.packed_ring.specs.Inner.Answers.{EndsInTable, PackedFailsOrLacks}
 
 entries_inside : (addr len memory : ℕ) → len % 16 ≡ 0 → addr + len ≤ memory → addr + 16 * (len / 16) ≤ memory
 entries_inside addr len memory whole inside = omega (arith, whole, inside)

@@ -10,7 +10,7 @@ use Rattle.ring_core.proofs.RightChains.{chain_right, packed_tests, packed_table
 use Rattle.ring_core.specs.declared.descriptor.Part.{Part}
 use Rattle.ring_core.specs.declared.fault.RingFault.{RingFault}
 use Rattle.ring_core.specs.declared.fault.RingFault.TheVariants.{NoMemory}
-use Rattle.packed_ring.specs.Inner.{PackedFailsOrLacks, PackedFaultFound}
+use Rattle.packed_ring.specs.Inner.Answers.{PackedFailsOrLacks, PackedFaultFound}
 use Rattle.ring_core.specs.declared.layout.Form.TheVariants.{Packed}
 
 pub offer_fits : (s : RingState) (m : List ℕ) (id slots : ℕ) (parts : List Part) → PackedOffers s m (Found id slots parts) → PartsFit (length m) parts

@@ -11,7 +11,7 @@ use Rattle.ring_core.proofs.Few.{few_by_slots}
 use Rattle.ring_core.proofs.Sound.{at_set, is_within}
 use Rattle.ring_core.specs.declared.descriptor.Part.{Part}
 use Rattle.ring_core.specs.declared.outstanding.OutstandingChain.{OutstandingChain}
-use Rattle.packed_ring.specs.IsPacked.{IsPacked}
+use Rattle.packed_ring.specs.Inner.IsPacked.{IsPacked}
 
 -- what is right of a chain that is found
 right_slots : (s : RingState) (id slots : ℕ) → whole_wrong s id slots ≡ None → s.accepted_slots - s.used_slots + slots ≤ s.layout.size

@@ -5,7 +5,7 @@ use Rattle.std.proofs.lemmas.Bool.Decides.{nat_tests}
 use Rattle.std.proofs.lemmas.List.{length-replicate}
 use Rattle.ring_core.specs.State.{opening}
 use Rattle.ring_core.proofs.Sound.{none_there}
-use Rattle.packed_ring.specs.IsPacked.{IsPacked}
+use Rattle.packed_ring.specs.Inner.IsPacked.{IsPacked}
 use Rattle.packed_ring.specs.Placement.{placement_fault}
 use Rattle.ring_core.specs.declared.layout.Layout.{Layout}
 use Rattle.ring_core.specs.declared.layout.Features.{Features}

@@ -2,11 +2,10 @@ pub use Rattle.guest_mem.specs.Memory
 pub use Rattle.ring_core.specs.State
 pub use Rattle.ring_core.specs.Parts
 pub use Rattle.ring_core.specs.Walk
-pub use Rattle.ring_core.specs.Walking
+pub use Rattle.ring_core.specs.Inner.Walking
 pub use Rattle.ring_core.specs.Packed
 pub use Rattle.ring_core.specs.Offer
 pub use Rattle.ring_core.specs.Asking
 pub use Rattle.ring_core.specs.Fetch
 pub mod Placement
-pub mod IsPacked
 pub mod Inner

@@ -1,8 +1,6 @@
 -- Where a packed queue may lie (VIRTIO 1.2, 2.8: sizes and alignments of its areas).
-use Rattle.std.specs.Prelude.{ℕ, ◌≡◌, ◌+◌, ◌*◌, ◌%◌, ◌&&◌, ◌==◌, not, nat_le, nat_lt, cond, Bool, Option, Some, None}
-use Rattle.ring_core.specs.State.{RingState, features_of, opening}
+use Rattle.std.specs.Prelude.{ℕ, ◌+◌, ◌*◌, ◌%◌, ◌&&◌, ◌==◌, not, nat_le, nat_lt, cond, Bool, Option, Some, None}
 use Rattle.ring_core.specs.declared.layout.Layout.{Layout}
-use Rattle.ring_core.specs.declared.layout.Form.TheVariants.{Packed}
 use Rattle.ring_core.specs.declared.layout.LayoutFault.{LayoutFault}
 use Rattle.ring_core.specs.declared.layout.LayoutFault.TheVariants.{BadSize, BadAlignment, Outside, BadStart}
 
@@ -28,13 +26,3 @@ placement_fault memory l =
     (cond (not (is_aligned l)) (Some BadAlignment)
     (cond (not (lies_in_memory memory l)) (Some Outside)
     (cond (not (begins_inside l)) (Some BadStart) None)))
-
--- this is the first thing wrong with it
-abbrev pub IsMisplaced : ℕ → Layout → LayoutFault → Type 0
-IsMisplaced memory l f = placement_fault memory l ≡ Some f
-
--- a fresh queue with this number at a place where nothing is wrong, with what it looks at of the features, whose ids are
--- any of two bytes
-abbrev pub OpensPacked : ℕ → ℕ → Layout → ℕ → RingState → Type 0
-OpensPacked memory queue l features s =
-    (placement_fault memory l ≡ None) × (s ≡ opening Packed queue l (features_of features) memory 65536)

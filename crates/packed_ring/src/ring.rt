@@ -39,7 +39,7 @@ pub struct PackedRing {
 
 impl Model for PackedRing {
     ghost use Rattle.ring_core.specs.State.{RingState};
-    ghost use Rattle.packed_ring.specs.IsPacked.{IsPacked};
+    ghost use Rattle.packed_ring.specs.Inner.IsPacked.{IsPacked};
 
     ghost Value = { RingState };
 
@@ -50,7 +50,7 @@ impl Model for PackedRing {
 
 impl PackedRing {
     ghost use Rattle.std.specs.Prelude.{MatchResult};
-    ghost use Rattle.packed_ring.specs.Placement.{OpensPacked, IsMisplaced};
+    ghost use Rattle.packed_ring.specs.Inner.Placement.{OpensPacked, IsMisplaced};
 
     /// Makes a queue with this number at this place, of which nothing was fetched yet. Called once for each queue,
     /// where a device is opened, with the memory that all later calls get. It looks at two of the features that were
@@ -85,7 +85,7 @@ impl PackedRing {
     ghost use Rattle.std.specs.Prelude.{◌≡◌, ◌≤◌, [], List, ℕ, None, true};
     ghost use Rattle.ring_core.specs.Packed.{available_place, used_place, is_available as is_available_in};
     ghost use Rattle.ring_core.specs.Asking.{wanted_slot, suppression_flags};
-    ghost use Rattle.packed_ring.specs.Inner.{PackedFinds};
+    ghost use Rattle.packed_ring.specs.Inner.Answers.{PackedFinds};
     ghost use Rattle.ring_core.specs.Offer.{PackedOffers, Found};
     ghost use Rattle.ring_core.specs.Fetch.{Fetches};
 

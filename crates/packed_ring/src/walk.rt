@@ -2,9 +2,9 @@
 //! names.
 
 ghost use Rattle.std.specs.Prelude.{◌≡◌, ◌+◌, ◌*◌, ◌/◌, ◌<◌, ◌≤◌, ◌^◌, List, ℕ, [], MatchResult, None, Some};
-ghost use Rattle.ring_core.specs.Walking.{RunFailsOrLacks};
+ghost use Rattle.ring_core.specs.Inner.Walking.{RunFailsOrLacks};
 ghost use Rattle.ring_core.specs.Packed.{packed_wrong, packed_table};
-ghost use Rattle.packed_ring.specs.Inner.{EndsInTable, IsFound, PackedFailsOrLacks};
+ghost use Rattle.packed_ring.specs.Inner.Answers.{EndsInTable, IsFound, PackedFailsOrLacks};
 
 use crate::slots::{descriptor_at, entry_at, in_slot, slot_after, slot_behind};
 use guest_mem::Memory;

@@ -17,9 +17,11 @@ use Rattle.queues.specs.Completing.{SeenBehind}
 use Rattle.phases.specs.Queue.{with_slot}
 use Rattle.phases.specs.Answering.{Answers}
 use Rattle.phases.specs.Direct.{decided_writes}
-use Rattle.phases.specs.InMemory.{EachSeen, DoesQueueIn, AnswersIn, as_seen}
-use Rattle.phases.specs.Outcomes.{WritesWholeIn, WritesEndingIn}
-use Rattle.phases.specs.Parts.{hand_with, job_held}
+use Rattle.phases.specs.InMemory.{EachSeen}
+use Rattle.phases.specs.Inner.InMemory.{DoesQueueIn, AnswersIn, as_seen}
+use Rattle.phases.specs.Inner.Outcomes.{WritesWholeIn, WritesEndingIn}
+use Rattle.phases.specs.Parts.{hand_with}
+use Rattle.phases.specs.Inner.Parts.{job_held}
 use Rattle.phases.proofs.Behind.{is_seen, behind_both, each_read, does_own}
 use Rattle.phases.proofs.Directed.{stays_so, lets_go_so}
 

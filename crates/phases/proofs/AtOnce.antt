@@ -3,7 +3,8 @@ use Rattle.std.proofs.Common.{◌≡◌, ℕ, ◌+◌, Bool, true, false, List, 
 use Rattle.cdb.specs.declared.commands.Command.{Command}
 use Rattle.cdb.specs.Need.{need_of}
 use Rattle.replies.specs.Statuses.{good}
-use Rattle.replies.specs.PlainReply.{good_data, success}
+use Rattle.replies.specs.PlainReply.{success}
+use Rattle.replies.specs.Inner.PlainReply.{good_data}
 use Rattle.decisions.specs.declared.answer.ChainLengths.{ChainLengths}
 use Rattle.ring_core.specs.Parts.{readable_total, writable_total}
 use Rattle.ring_core.specs.declared.log.Ticket.{Ticket}
@@ -25,10 +26,10 @@ use Rattle.queues.specs.Queue.{BareQueue, completing}
 use Rattle.queues.specs.Completing.{SeenBehind}
 use Rattle.phases.specs.Units.{EntersAs, Commits, Leaves}
 use Rattle.phases.specs.DoingUnit.{with_more}
-use Rattle.phases.specs.Serving.{Serves}
+use Rattle.phases.specs.Inner.Serving.{Serves}
 use Rattle.phases.specs.InMemory.{EachSeen}
-use Rattle.phases.specs.Outcomes.{WritesWholeIn}
-use Rattle.phases.specs.ServingInMemory.{ServesAtOnceIn, ServesIn}
+use Rattle.phases.specs.Inner.Outcomes.{WritesWholeIn}
+use Rattle.phases.specs.Inner.ServingInMemory.{ServesAtOnceIn, ServesIn}
 use Rattle.phases.proofs.Answered.{AnswersJob, answers_job, answers_own, both_lengths}
 use Rattle.phases.proofs.Behind.{each_read, each_maps}
 use Rattle.phases.proofs.Commits.{committed}

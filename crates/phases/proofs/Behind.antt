@@ -10,7 +10,8 @@ use Rattle.device_model.specs.Phases.{AsksQueue}
 use Rattle.device_model.proofs.Seeing.{seen_as_left}
 use Rattle.queues.specs.Completing.{SeenAs, SeenBehind}
 use Rattle.phases.specs.DoingQueue.{DoesQueue}
-use Rattle.phases.specs.InMemory.{EachSeen, DoesQueueIn}
+use Rattle.phases.specs.InMemory.{EachSeen}
+use Rattle.phases.specs.Inner.InMemory.{DoesQueueIn}
 
 -- memory that was left so is seen so
 pub is_seen : (shared : Bool) (left seen : List ℕ) → SeenAs shared left seen → IsSeen shared left seen

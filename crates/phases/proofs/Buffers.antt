@@ -13,8 +13,8 @@ use Rattle.queues.specs.Queue.{BareQueue, completing}
 use Rattle.phases.specs.Queue.{with_slot}
 use Rattle.queues.specs.Looking.{Breaks}
 use Rattle.phases.specs.EventQueue.{IsEventFetch}
-use Rattle.phases.specs.InMemory.{as_seen}
-use Rattle.phases.specs.EventsInMemory.{DoesAtPortIn, TakesBuffer}
+use Rattle.phases.specs.Inner.InMemory.{as_seen}
+use Rattle.phases.specs.Inner.EventsInMemory.{DoesAtPortIn, TakesBuffer}
 
 -- what one lock lends is the same where its parts are
 same_lent : (q : BareQueue) (r : RingState) (n : ℕ) → q.ring ≡ r → q.notices ≡ n → q ≡ record { ring = r; notices = n }

@@ -3,7 +3,8 @@ use Rattle.std.proofs.Common.{◌≡◌, ℕ, List, false, Option, Some, None, i
 use Rattle.scsi_codec.specs.declared.lun.Address.{Address}
 use Rattle.scsi_codec.specs.declared.control_queue.Control.{Control}
 use Rattle.scsi_codec.specs.ControlQueue.{IsControl}
-use Rattle.task_mgmt.specs.Control.{Decides, decided_of}
+use Rattle.task_mgmt.specs.Control.{decided_of}
+use Rattle.task_mgmt.specs.Inner.Control.{Decides}
 use Rattle.task_mgmt.specs.declared.control.ControlDecision.{ControlDecision}
 use Rattle.ring_core.specs.State.{PlainChain}
 use Rattle.ring_core.specs.Parts.{writable_total}

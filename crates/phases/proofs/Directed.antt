@@ -14,7 +14,8 @@ use Rattle.queues.specs.Completing.{SeenBehind}
 use Rattle.phases.specs.Queue.{with_slot}
 use Rattle.phases.specs.Slots.{is_direct}
 use Rattle.phases.specs.Direct.{decided_writes, Directs, Responds, RespondsWhere}
-use Rattle.phases.specs.InMemory.{EachSeen, as_seen, DoesQueueIn, StaysQueueIn, LetsGoIn, DirectsIn, RespondsIn, RespondsWhereIn}
+use Rattle.phases.specs.InMemory.{EachSeen}
+use Rattle.phases.specs.Inner.InMemory.{as_seen, DoesQueueIn, StaysQueueIn, LetsGoIn, DirectsIn, RespondsIn, RespondsWhereIn}
 use Rattle.phases.proofs.Behind.{is_seen, each_read, does_own}
 
 -- nothing is done

@@ -14,8 +14,8 @@ use Rattle.phases.specs.Queue.{with_slot}
 use Rattle.phases.specs.Direct.{StaysQueue}
 use Rattle.phases.specs.DoingQueue.{AtQueue}
 use Rattle.phases.specs.EventQueue.{StaysRaised, FetchesEvent, RaisesTo, RaisesNext}
-use Rattle.phases.specs.InMemory.{StaysQueueIn, as_seen}
-use Rattle.phases.specs.EventsInMemory.{StaysRaisedIn, FetchesEventIn, RaisesToIn, RaisesNextIn}
+use Rattle.phases.specs.Inner.InMemory.{StaysQueueIn, as_seen}
+use Rattle.phases.specs.Inner.EventsInMemory.{StaysRaisedIn, FetchesEventIn, RaisesToIn, RaisesNextIn}
 use Rattle.phases.proofs.Behind.{asks_any, does_own}
 
 -- a queue that stays

@@ -15,7 +15,8 @@ use Rattle.queues.specs.Queue.{BareQueue}
 use Rattle.phases.specs.Queue.{with_slot}
 use Rattle.phases.specs.DoingQueue.{DoesQueue}
 use Rattle.queues.specs.Looking.{Breaks}
-use Rattle.phases.specs.Fetching.{Arrives, IsDecided, IsRequestFetch, IsControlFetch, opens}
+use Rattle.phases.specs.Fetching.{IsRequestFetch, IsControlFetch, opens}
+use Rattle.phases.specs.Inner.Fetching.{Arrives, IsDecided}
 
 -- a direct answer to a chain of a request queue is decided as that of a request
 request_direct : (inventory : List Address) (n : ℕ) (f : PlainFetch) (a : List ℕ) → 2 ≤ n

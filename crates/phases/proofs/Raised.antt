@@ -10,9 +10,9 @@ use Rattle.event_queue.specs.Port.{PlainPort, Gift, Happening, gives, after as p
 use Rattle.device_model.specs.Parts.{answer_writes, is_short}
 use Rattle.queues.specs.Queue.{BareQueue, completing}
 use Rattle.queues.specs.Completing.{SeenBehind}
-use Rattle.phases.specs.EventQueue.{MayRaise}
+use Rattle.phases.specs.Inner.EventQueue.{MayRaise}
 use Rattle.phases.specs.InMemory.{EachSeen}
-use Rattle.phases.specs.EventsInMemory.{RaisesToIn, RaisesNextIn, UsesWith, TakesBuffer, TakesBufferOf}
+use Rattle.phases.specs.Inner.EventsInMemory.{RaisesToIn, RaisesNextIn, UsesWith, TakesBuffer, TakesBufferOf}
 use Rattle.phases.proofs.Behind.{is_seen, behind_both, each_read}
 
 -- bytes that were written over a chain that was then used

@@ -1,5 +1,5 @@
 -- What the phases do that work on the event queue: a fetch from it, and the raising of an event.
-use Rattle.std.specs.Prelude.{ℕ, ◌≡◌, ◌<◌, ◌&&◌, ◌++◌, Bool, true, false, List, [], ◌∷◌, length, drop, Result, Ok, Err, ⊤}
+use Rattle.std.specs.Prelude.{ℕ, ◌≡◌, ◌<◌, ◌&&◌, ◌++◌, Bool, true, false, List, [], ◌∷◌, length, drop, Result, Ok, Err}
 use Rattle.block_store.specs.declared.NoMemory.{NoMemory}
 use Rattle.scsi_codec.specs.declared.lun.Address.{Address}
 use Rattle.scsi_codec.specs.declared.event_queue.Event.{Event as Report}
@@ -89,10 +89,3 @@ abbrev pub RaisesNext : List Report → BareQueue → List ℕ → PlainPort →
 RaisesNext (e ∷ later) q m p result q' m' p' w' = RaisesTo p.buffers e later q m p result q' m' p' w'
 RaisesNext [] q m p true q' m' p' w' = ⊥
 RaisesNext [] q m p false q' m' p' w' = StaysRaised q m p [] q' m' p' w'
-
--- Only a private function cites what follows.
-
--- the oldest buffer, if there is one, may be completed
-abbrev pub MayRaise : List PlainChain → BareQueue → List ℕ → Type 0
-MayRaise [] q m = ⊤
-MayRaise (c ∷ more) q m = MayComplete q m c

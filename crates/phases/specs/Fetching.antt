@@ -1,14 +1,9 @@
 -- What a fetch does: of a request queue, and of the control queue.
-use Rattle.std.specs.Prelude.{ℕ, ◌≡◌, ◌≤◌, ◌⊎◌, Bool, true, false, List, length, Option, Some, None, slice_get, Result, Ok, Err}
+use Rattle.std.specs.Prelude.{ℕ, ◌≡◌, ◌≤◌, Bool, true, false, List, length, Option, Some, None, Result, Ok, Err}
 use Rattle.block_store.specs.declared.NoMemory.{NoMemory}
 use Rattle.scsi_codec.specs.declared.lun.Address.{Address}
 use Rattle.ring_core.specs.Offer.{Offers, Nothing, MayLackMemory}
-use Rattle.ring_core.specs.State.{PlainChain}
-use Rattle.decisions.specs.declared.decision.Decision.TheVariants as decision
-use Rattle.task_mgmt.specs.Functions.{PlainFunction}
-use Rattle.task_mgmt.specs.declared.control.ControlDecision.TheVariants as managed
-use Rattle.device_model.specs.Parts.{Outcome, Slot, request_of}
-use Rattle.device_model.specs.Happens.{DecidesRequest, DecidesControl}
+use Rattle.device_model.specs.Parts.{Slot}
 use Rattle.device_model.specs.World.{PlainQueue, Opened}
 use Rattle.device_model.specs.Transitions.{Transition}
 use Rattle.phases.specs.DoingQueue.{DoesQueue}
@@ -23,17 +18,6 @@ pub record HasSome (q : PlainQueue) (m : List ℕ) : Type 0 where
   pub free : IsFree q m
   pub whole : q.ring.broken ≡ None
   pub has_some : Offers q.ring m Nothing → ⊥
-
--- what was decided of a chain of a request queue with these bytes stands in the slot
-abbrev pub Arrives : List Address → PlainChain → List ℕ → Slot → Type 0
-Arrives inventory c bytes Slot.Empty = ⊥
-Arrives inventory c bytes (Slot.Arrived x) =
-    (x.chain ≡ c) × (x.entry.ticket ≡ c.ticket)
-    × DecidesRequest inventory (record { chain = c; bytes = bytes }) (decision.Enter x.unit (request_of x.entry))
-    × (slice_get inventory x.unit ≡ Some x.address)
-Arrives inventory c bytes (Slot.Direct d o) =
-    (a : List ℕ) × (d ≡ c) × (o ≡ Outcome.Decided a)
-    × DecidesRequest inventory (record { chain = c; bytes = bytes }) (decision.Direct a)
 
 -- a transition of a fetch from a request queue
 abbrev pub IsRequestFetch : ℕ → Transition → Type 0
@@ -61,14 +45,6 @@ IsControlFetch d = ⊥
 abbrev pub opens : Transition → Option Opened
 opens (Transition.Open f g) = Some (record { chain = f.chain; function = g })
 opens d = None
-
--- what was decided of a chain of the control queue with these bytes stands in the slot, or opens
-abbrev pub IsDecided : List Address → PlainChain → List ℕ → Slot → Option Opened → Slot → Option Opened → Type 0
-IsDecided inventory c bytes s f s' f' =
-    ((a : List ℕ) × (s' ≡ Slot.Direct c (Outcome.Decided a)) × (f' ≡ f)
-    × DecidesControl inventory (record { chain = c; bytes = bytes }) (managed.Direct a))
-    ⊎ ((g : PlainFunction) × (f' ≡ Some (record { chain = c; function = g })) × (s' ≡ s)
-    × DecidesControl inventory (record { chain = c; bytes = bytes }) (managed.Opens g))
 
 -- a function opened, a request was answered directly, or a fault broke the queue; nothing was there, or a function is
 -- open; or memory was refused

@@ -4,7 +4,6 @@ pub mod Slots
 pub mod Notes
 pub mod DirectChain
 pub mod Fetching
-pub mod Taking
 pub mod Direct
 pub mod EventQueue
 pub mod Giving
@@ -15,7 +14,6 @@ pub mod Units
 pub mod Answering
 pub mod Resetting
 pub mod Resizing
-pub mod Serving
 pub mod InMemory
 pub mod EventsInMemory
-pub mod ServingInMemory
+pub mod Inner

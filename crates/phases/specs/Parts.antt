@@ -23,13 +23,6 @@ outcome_in hand.Empty = None
 outcome_in (hand.Job h) = h.outcome
 outcome_in (hand.Answered place t) = None
 
--- the job in the hand
-abbrev pub job_held : Hand → Option PlainJob
-job_held Hand.Empty = None
-job_held (Hand.Taken x) = Some x
-job_held (Hand.Done x o) = Some x
-job_held (Hand.Answered place t) = None
-
 -- the unit at which the hand's job is to be committed
 abbrev pub committing_unit : Hand → Option ℕ
 committing_unit Hand.Empty = None

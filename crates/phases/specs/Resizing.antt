@@ -4,19 +4,12 @@ use Rattle.scsi_codec.specs.declared.lun.Address.{Address}
 use Rattle.scsi_codec.specs.declared.event_queue.Event.{Event as Report}
 use Rattle.unit_model.specs.Unit.{PlainUnit}
 use Rattle.unit_model.specs.Contents.{is_capacity}
-use Rattle.unit_history.specs.declared.outcomes.ResizeFault as of_unit
-use Rattle.unit_history.specs.declared.outcomes.ResizeFault.TheVariants as unit_fault
 use Rattle.phases.specs.declared.resizing.ResizeFault.{ResizeFault}
 use Rattle.phases.specs.declared.resizing.ResizeFault.TheVariants as fault
 use Rattle.device_model.specs.Addressed.{IsAddressed}
 use Rattle.device_model.specs.Transitions.{Transition}
 use Rattle.device_model.specs.After.{change_reports}
 use Rattle.phases.specs.DoingUnit.{DoesUnit}
-
--- own: why the unit itself refuses it
-abbrev pub resize_fault_of : of_unit.ResizeFault → ResizeFault
-resize_fault_of unit_fault.BadCapacity = fault.BadCapacity
-resize_fault_of unit_fault.NoMemory = fault.NoMemory
 
 -- a resize is refused where the unit is another than the one at this place of the inventory, else where no unit may have
 -- so many blocks, and memory only where one may

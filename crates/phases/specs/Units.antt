@@ -1,17 +1,15 @@
 -- What the phases do that work on a unit.
-use Rattle.std.specs.Prelude.{ℕ, ◌≡◌, ◌⊎◌, Bool, true, false, List, [], ◌∷◌, length, Result, Ok, Err}
+use Rattle.std.specs.Prelude.{ℕ, ◌≡◌, ◌⊎◌, Bool, true, false, List, [], ◌∷◌, length}
 use Rattle.scsi_codec.specs.declared.lun.Address.{Address}
-use Rattle.block_store.specs.declared.NoMemory.{NoMemory}
 use Rattle.unit_model.specs.Tasks.{task_of}
 use Rattle.unit_model.specs.Steps.{Step, alive}
 use Rattle.unit_model.specs.Endings.{Ending}
 use Rattle.unit_model.specs.Clearing.{is_clear}
 use Rattle.unit_model.specs.Seen.{any_met}
 use Rattle.unit_model.specs.Jobs.{PlainJob, Jobs}
-use Rattle.unit_model.specs.Unit.{PlainUnit, after as stepped}
+use Rattle.unit_model.specs.Unit.{PlainUnit}
 use Rattle.unit_history.specs.Calls.{CannotLeave}
 use Rattle.task_mgmt.specs.Functions.{marking, asking, failing, checking, step_by}
-use Rattle.task_mgmt.specs.declared.kind.MarkBy.{MarkBy}
 use Rattle.task_mgmt.specs.declared.kind.Kind.{Kind}
 use Rattle.task_mgmt.specs.declared.kind.Kind.TheVariants.{Marking, Querying}
 use Rattle.task_mgmt.specs.declared.function.Mark.{Mark as Place}
@@ -103,12 +101,6 @@ pub record StaysMark (u u' : PlainUnit) (f f' : Opened) (out out' : Jobs) : Type
   pub unit : u' ≡ u
   pub function : f' ≡ f
   pub jobs : out' ≡ out
-
--- the tasks of a unit are marked, or memory was refused
-abbrev pub MarksBy : MarkBy → PlainUnit → Jobs → Result ℕ NoMemory → PlainUnit → Jobs → Type 0
-MarksBy m u out (Ok place) u' out' =
-    (place ≡ length u.steps) × (u' ≡ stepped (step_by m) u) × (out' ≡ with_more (handed_out u (step_by m)) out)
-MarksBy m u out (Err e) u' out' = (u' ≡ u) × (out' ≡ out)
 
 -- a mark of a unit stands behind all its steps
 abbrev pub mark_at : ℕ → PlainUnit → Place

@@ -4,11 +4,13 @@ ghost use Rattle.std.specs.Prelude.{◌≡◌, ◌<◌, List, ℕ, length, true,
 ghost use Rattle.ring_core.specs.State.{Owns};
 ghost use Rattle.queues.specs.Queue.{MayComplete};
 ghost use Rattle.device_model.specs.Parts as plain;
-ghost use Rattle.phases.specs.Parts.{hand_of, job_held, outcome_in};
+ghost use Rattle.phases.specs.Parts.{hand_of, outcome_in};
+ghost use Rattle.phases.specs.Inner.Parts.{job_held};
 ghost use Rattle.phases.specs.Giving.{given_for, given_in};
-ghost use Rattle.phases.specs.Outcomes.{WritesEndingIn};
+ghost use Rattle.phases.specs.Inner.Outcomes.{WritesEndingIn};
 ghost use Rattle.phases.specs.Answering.{Answers};
-ghost use Rattle.phases.specs.InMemory.{EachSeen, AnswersIn};
+ghost use Rattle.phases.specs.InMemory.{EachSeen};
+ghost use Rattle.phases.specs.Inner.InMemory.{AnswersIn};
 
 use crate::hand::Hand;
 use crate::job_in_hand::JobInHand;

@@ -9,7 +9,8 @@ ghost use Rattle.queues.specs.Completing.{SeenBehind};
 ghost use Rattle.phases.specs.Slots.{slot_of};
 ghost use Rattle.phases.specs.DirectChain.{note_in};
 ghost use Rattle.phases.specs.Direct.{Directs, Responds};
-ghost use Rattle.phases.specs.InMemory.{EachSeen, DirectsIn, RespondsIn};
+ghost use Rattle.phases.specs.InMemory.{EachSeen};
+ghost use Rattle.phases.specs.Inner.InMemory.{DirectsIn, RespondsIn};
 
 use crate::function::OpenFunction;
 use crate::note::Note;

@@ -36,7 +36,7 @@ impl Model for JobInHand {
 impl JobInHand {
     ghost use Rattle.std.specs.Prelude.{None, true};
     ghost use Rattle.phases.specs.Giving.{is_reply};
-    ghost use Rattle.phases.specs.Outcomes.{WritesEndingIn};
+    ghost use Rattle.phases.specs.Inner.Outcomes.{WritesEndingIn};
     ghost use Rattle.unit_history.specs.declared.outcomes.Outcome as answers;
 
     /// Makes a job that is to be committed.

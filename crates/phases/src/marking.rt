@@ -1,8 +1,9 @@
 //! The steps of the open function on its units.
 
 ghost use Rattle.phases.specs.DoingUnit.{HasPlaces};
-ghost use Rattle.task_mgmt.specs.Functions.{IsKnownMark};
-ghost use Rattle.phases.specs.Units.{Marks, MarksBy, Checks};
+ghost use Rattle.task_mgmt.specs.Inner.Functions.{IsKnownMark};
+ghost use Rattle.phases.specs.Units.{Marks, Checks};
+ghost use Rattle.phases.specs.Inner.Units.{MarksBy};
 
 use crate::entering::has_places;
 use crate::function::OpenFunction;

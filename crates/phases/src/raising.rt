@@ -5,9 +5,10 @@ ghost use Rattle.ring_core.specs.Parts.{writable_total};
 ghost use Rattle.ring_core.specs.State.{Owns};
 ghost use Rattle.phases.specs.Queue.{with_slot};
 ghost use Rattle.phases.specs.Slots.{slot_of};
-ghost use Rattle.phases.specs.EventQueue.{FetchesEvent, RaisesNext, MayHold, MayRaise};
+ghost use Rattle.phases.specs.EventQueue.{FetchesEvent, RaisesNext, MayHold};
+ghost use Rattle.phases.specs.Inner.EventQueue.{MayRaise};
 ghost use Rattle.phases.specs.InMemory.{EachSeen};
-ghost use Rattle.phases.specs.EventsInMemory.{FetchesEventIn, RaisesNextIn, LooksAtPort, IsHeldBy, UsesWith, TakesBufferOf, MayRaiseIn};
+ghost use Rattle.phases.specs.Inner.EventsInMemory.{FetchesEventIn, RaisesNextIn, LooksAtPort, IsHeldBy, UsesWith, TakesBufferOf, MayRaiseIn};
 
 use crate::slot::Slot;
 use block_store::NoMemory;

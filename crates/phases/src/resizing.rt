@@ -2,7 +2,8 @@
 
 ghost use Rattle.std.specs.Prelude.{◌≡◌};
 ghost use Rattle.device_model.specs.After.{change_report};
-ghost use Rattle.phases.specs.Resizing.{ResizesUnit, resize_fault_of};
+ghost use Rattle.phases.specs.Resizing.{ResizesUnit};
+ghost use Rattle.phases.specs.Inner.Resizing.{resize_fault_of};
 
 use crate::naming::is_addressed;
 use crate::resetting::LUNS;

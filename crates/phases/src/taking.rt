@@ -3,7 +3,7 @@
 ghost use Rattle.std.specs.Prelude.{◌≡◌, List, ℕ, length, min};
 ghost use Rattle.ring_core.specs.Parts.{readable_total};
 ghost use Rattle.phases.specs.Slots.{slot_of};
-ghost use Rattle.phases.specs.Taking.{IsTakenAs, TakesRequest, IsOutstanding, IsOutstandingIn};
+ghost use Rattle.phases.specs.Inner.Taking.{IsTakenAs, TakesRequest, IsOutstanding, IsOutstandingIn};
 
 use crate::direct_chain::DirectChain;
 use crate::fetching::lengths_of_chain;

@@ -21,7 +21,8 @@ use Rattle.bays.specs.Ledgers.{receipts_due, receipts_made, receipts_run}
 use Rattle.bays.specs.Joined.{LeavesEnters, RunsNext, LeavesEntersRuns}
 use Rattle.bays.specs.declared.joined_unit.NextJob.{NextJob}
 use Rattle.bays.specs.declared.joined_unit.NextJob.TheVariants.{Listed, Taken, Committed}
-use Rattle.posts.specs.Tallying.{kept_by, Tallies, HasNoJob}
+use Rattle.posts.specs.Tallying.{kept_by, Tallies}
+use Rattle.posts.specs.Inner.Tallying.{HasNoJob}
 
 -- a hand is to give a receipt only where its job's commit is over
 abbrev HasNone : Hand → Type 0

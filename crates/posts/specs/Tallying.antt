@@ -1,8 +1,7 @@
 -- How the receipts that a seat was given stand to those that were counted for it.
-use Rattle.std.specs.Prelude.{ℕ, ◌≡◌, ◌+◌, length, Option, Some, None, ⊤}
+use Rattle.std.specs.Prelude.{ℕ, ◌≡◌, ◌+◌, length, Option, Some, None}
 use Rattle.ring_core.specs.declared.log.Ticket.{Ticket}
 use Rattle.phases.specs.declared.hand.Hand.{Hand}
-use Rattle.phases.specs.declared.hand.Hand.TheVariants as hand
 use Rattle.report.specs.Keeping.{receipts_in}
 use Rattle.report.specs.declared.kept.Kept.{Kept}
 use Rattle.bays.specs.Ledgers.{receipts_due}
@@ -19,9 +18,3 @@ unless_lost (Some t) n = 0
 -- own: as many receipts were counted for a seat as it kept, with the one that its hand is to give
 abbrev pub Tallies : Option Ticket → ℕ → Kept → Hand → Type 0
 Tallies lost counted kept hand = unless_lost lost counted ≡ unless_lost lost (kept_by kept + receipts_due hand)
-
--- own: no job is in the hand
-abbrev pub HasNoJob : Hand → Type 0
-HasNoJob hand.Empty = ⊤
-HasNoJob (hand.Job held) = ⊥
-HasNoJob (hand.Answered place t) = ⊤

@@ -3,7 +3,8 @@
 ghost use Rattle.std.specs.Prelude.{◌≡◌, ◌<◌, vec_len};
 ghost use Rattle.std.specs.Bool.{OnFalse};
 ghost use Rattle.report.specs.Rooms.{HasRoomForOne};
-ghost use Rattle.posts.specs.Tallying.{HasNoJob, Tallies};
+ghost use Rattle.posts.specs.Tallying.{Tallies};
+ghost use Rattle.posts.specs.Inner.Tallying.{HasNoJob};
 
 use crate::post::{Post, commit, is_long, leave, pass, serve_hand, take_own, ticket_in};
 use crate::requests::{direct, fetch_next};

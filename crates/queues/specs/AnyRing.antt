@@ -1,4 +1,4 @@
--- The plain value of a virtqueue of either form. Only private functions and models cite it: no promise stands on it.
+-- The plain value of a virtqueue of either form.
 use Rattle.ring_core.specs.State.{RingState}
 use Rattle.queues.specs.declared.any_ring.AnyRing.{AnyRing}
 use Rattle.queues.specs.declared.any_ring.AnyRing.TheVariants.{Split, Packed}

@@ -5,6 +5,6 @@ pub use Rattle.ring_core.specs.Parts
 pub use Rattle.ring_core.specs.State
 pub mod AnyRing
 pub mod Completing
-pub mod FirstPart
 pub mod Looking
 pub mod Queue
+pub mod Inner

@@ -3,7 +3,8 @@
 ghost use Rattle.std.specs.Prelude.{◌≡◌, ◌+◌, ◌≤◌, ◌<◌, ◌-◌, ◌^◌, length};
 ghost use Rattle.ring_core.specs.Parts.{writable_total};
 ghost use Rattle.ring_core.specs.Writes.{all_written, scatter_writes};
-ghost use Rattle.replies.specs.PlainReply.{good_data, plain_of};
+ghost use Rattle.replies.specs.PlainReply.{plain_of};
+ghost use Rattle.replies.specs.Inner.PlainReply.{good_data};
 ghost use Rattle.decisions.specs.Answers.{answer_of_reply};
 
 use crate::writing::{write_direct_in, write_read_in, write_reply_in};

@@ -5,9 +5,10 @@ ghost use Rattle.guest_mem.specs.Memory.{with_bytes};
 ghost use Rattle.guest_mem.specs.Stores.{stores_at};
 ghost use Rattle.ring_core.specs.Parts.{writable_total};
 ghost use Rattle.ring_core.specs.Writes.{Wrote, scatter_writes, stores_of};
-ghost use Rattle.replies.specs.PlainReply.{good_data, plain_of};
+ghost use Rattle.replies.specs.PlainReply.{plain_of};
+ghost use Rattle.replies.specs.Inner.PlainReply.{good_data};
 ghost use Rattle.decisions.specs.Answers.{answer_of_reply};
-ghost use Rattle.queues.specs.FirstPart.{first_open};
+ghost use Rattle.queues.specs.Inner.FirstPart.{first_open};
 
 use decisions::{ChainLengths, DirectAnswer, put_response_ok};
 use guest_mem::WritableMemory;

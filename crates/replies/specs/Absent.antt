@@ -1,5 +1,5 @@
 -- What a LUN that a target lacks is answered, SPC-4 §6.6.1, SAM-5 §5.11.
-use Rattle.std.specs.Prelude.{ℕ, ◌==◌, List, [], ◌∷◌, take, length, None, Ok, Err, if◌then◌else◌}
+use Rattle.std.specs.Prelude.{ℕ, ◌==◌, List, [], ◌∷◌, take, Ok, Err, if◌then◌else◌}
 use Rattle.std.specs.List.{list_any}
 use Rattle.sense.specs.declared.Sense.{Sense}
 use Rattle.sense.specs.Conditions.{invalid_field_in_cdb, logical_unit_not_supported}
@@ -11,8 +11,6 @@ use Rattle.cdb.specs.declared.commands.InquiryData.TheVariants.{Standard}
 use Rattle.replies.specs.Data.{Answer}
 use Rattle.replies.specs.PlainReply.{PlainReply, replied}
 use Rattle.replies.specs.StandardData.{standard_data, no_device}
-use Rattle.replies.specs.Statuses.{good}
-use Rattle.replies.specs.declared.absent.AbsentReply.{AbsentReply}
 
 -- the opcodes of REQUEST SENSE and INQUIRY, the commands that such a LUN answers with data
 abbrev pub answered_when_absent : List ℕ
@@ -37,10 +35,3 @@ absent_answer _ = Err logical_unit_not_supported
 
 abbrev pub absent_reply : Command → PlainReply
 absent_reply command = replied command (absent_answer command)
-
--- GOOD with this data, all of which is moved
-abbrev pub returned : List ℕ → PlainReply
-returned bytes = record { status = good; sense = None; payload = bytes; moved = length bytes }
-
-abbrev pub plain_of_absent : AbsentReply → PlainReply
-plain_of_absent r = record { status = r.status; sense = r.sense; payload = r.payload.items; moved = r.moved }

@@ -17,3 +17,4 @@ pub mod Luns
 pub mod Replies
 pub mod UnmapList
 pub mod Memory
+pub mod Inner

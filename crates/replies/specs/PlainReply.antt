@@ -27,10 +27,6 @@ abbrev pub success : Command → List ℕ → PlainReply
 success command bytes =
     record { status = good; sense = None; payload = bytes; moved = (need_of command).out + length bytes }
 
--- GOOD with this data to the driver, of a command that needs none from it
-abbrev pub good_data : List ℕ → PlainReply
-good_data bytes = record { status = good; sense = None; payload = bytes; moved = length bytes }
-
 -- the reply where the command gives this data, or is refused with this sense
 abbrev pub replied : Command → Answer → PlainReply
 replied command (Ok bytes) = success command bytes

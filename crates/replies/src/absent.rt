@@ -3,7 +3,8 @@
 ghost use Rattle.std.specs.Prelude.{◌≡◌, ◌≤◌, length, take};
 ghost use Rattle.arrayvec.specs.ArrayVec.{array_vec_len};
 ghost use Rattle.cdb.specs.Need.{need_of};
-ghost use Rattle.replies.specs.Absent.{absent_reply, plain_of_absent, returned};
+ghost use Rattle.replies.specs.Absent.{absent_reply};
+ghost use Rattle.replies.specs.Inner.Absent.{plain_of_absent, returned};
 ghost use Rattle.replies.specs.PlainReply.{refusal};
 
 use crate::opcodes::{INQUIRY, REQUEST_SENSE};

@@ -10,7 +10,7 @@ use Rattle.phases.specs.declared.note.Cause.{Cause}
 use Rattle.report.specs.declared.tally.Answer.{Answer}
 use Rattle.report.specs.declared.tally.Answer.TheVariants as answer
 use Rattle.report.specs.declared.tally.Tally.{Tally}
-use Rattle.report.specs.Tallies.{joined, with_receipt, with_note}
+use Rattle.report.specs.Inner.Tallies.{joined, with_receipt, with_note}
 use Rattle.report.proofs.Bools.{and_true, and_over}
 
 -- so many answers, of which receipts are right or not, and the notes all pass a test or not

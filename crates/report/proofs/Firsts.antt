@@ -4,7 +4,7 @@ use Rattle.std.proofs.lemmas.Bool.Decides.{nat_tests}
 use Rattle.ring_core.specs.declared.log.Ticket.{Ticket}
 use Rattle.report.specs.Words.{is_before}
 use Rattle.report.specs.Closed.{IsFirst}
-use Rattle.report.specs.Tallies.{lesser_of}
+use Rattle.report.specs.Inner.Tallies.{lesser_of}
 use Rattle.report.proofs.Bools.{or_true}
 
 abbrev before : ℕ → ℕ → ℕ → ℕ → Bool

@@ -14,7 +14,7 @@ use Rattle.unit_model.specs.Receipts.{step_at}
 use Rattle.unit_model.specs.Unit.{PlainUnit}
 use Rattle.unit_history.specs.Kept.{kind_of}
 use Rattle.report.specs.declared.tally.Tally.{Tally}
-use Rattle.report.specs.Tallies.{fact_of_one, fact_of_commit, fact_of_alive, tells, read, read_commits, read_folded, read_alive, with_unit, with_units}
+use Rattle.report.specs.Inner.Tallies.{fact_of_one, fact_of_commit, fact_of_alive, tells, read, read_commits, read_folded, read_alive, with_unit, with_units}
 
 pub fold_step : {A : Type 0} (f : Tally → A → Tally) (xs : List A) (i : ℕ) (d : A) → i < length xs → (o p q : Option Tally)
     → p ≡ option_map (λ s. fold f s (take i xs)) o → q ≡ option_map (λ s. f s (get_or xs i d)) p → q ≡ option_map (λ s. fold f s (take (i + 1) xs)) o

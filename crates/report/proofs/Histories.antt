@@ -9,7 +9,7 @@ use Rattle.report.specs.declared.tally.Fact.TheVariants as fact
 use Rattle.report.specs.declared.tally.TaskStep.TheVariants as step
 use Rattle.report.specs.declared.tally.Tally.{Tally}
 use Rattle.report.specs.Words.{has_busy, has_full, has_run, has_step}
-use Rattle.report.specs.Tallies.{home_at, elsewhere, after, read, read_commits}
+use Rattle.report.specs.Inner.Tallies.{home_at, elsewhere, after, read, read_commits}
 use Rattle.report.proofs.Bools.{or_over}
 
 -- the first unit with a step of the task, once this was read or not

@@ -13,10 +13,10 @@ use Rattle.unit_model.specs.Unit.{PlainUnit}
 use Rattle.report.specs.declared.tally.Tally.{Tally}
 use Rattle.report.specs.Words.{is_before}
 use Rattle.report.specs.Closed.{IsFirst, IsConfirmedBy}
-use Rattle.report.specs.Tallies.{tally_at, lesser_of}
-use Rattle.report.specs.Sources.{stray, stray_one}
-use Rattle.report.specs.Unconfirmed.{Confirms}
-use Rattle.report.specs.Prefix.{ConfirmsTo}
+use Rattle.report.specs.Inner.Tallies.{tally_at, lesser_of}
+use Rattle.report.specs.Inner.Sources.{stray, stray_one}
+use Rattle.report.specs.Inner.Unconfirmed.{Confirms}
+use Rattle.report.specs.Inner.Prefix.{ConfirmsTo}
 use Rattle.report.proofs.Bools.{and_false, and_or, is_false, clash}
 use Rattle.report.proofs.Firsts.{same_first, lesser_first, before_self, before_trans}
 

@@ -8,7 +8,7 @@ use Rattle.std.specs.declared.alloc.Global.{Global}
 use Rattle.ring_core.specs.declared.log.Ticket.{Ticket}
 use Rattle.report.specs.declared.tally.Fact.{Fact}
 use Rattle.report.specs.declared.tally.Tally.{Tally}
-use Rattle.report.specs.Tallies.{after, marking, tally_in, tally_at}
+use Rattle.report.specs.Inner.Tallies.{after, marking, tally_in, tally_at}
 
 -- one number is another, by the test
 pub same_or_other : (i j : ℕ) → ((i ≡ j) × (eqb i j ≡ true)) ⊎ ((i ≢ j) × (eqb i j ≡ false))

@@ -18,9 +18,9 @@ use Rattle.phases.specs.Notes.{PlainNote}
 use Rattle.report.specs.declared.tally.Tally.{Tally}
 use Rattle.report.specs.Settled.{is_asked, is_used, uses, is_request, is_settled, count_accepted, any_folded}
 use Rattle.report.specs.Closed.{IsFirst, is_outstanding}
-use Rattle.report.specs.Tallies.{tally_at, tally_of, fresh, ends_well, ends_amiss, AreTallies, lesser_of}
-use Rattle.report.specs.Sources.{unused_in, amiss_in, amiss_at, amiss_of, stray}
-use Rattle.report.specs.Unconfirmed.{AllStand}
+use Rattle.report.specs.Inner.Tallies.{tally_at, tally_of, fresh, ends_well, ends_amiss, AreTallies, lesser_of}
+use Rattle.report.specs.Inner.Sources.{unused_in, amiss_in, amiss_at, amiss_of, stray}
+use Rattle.report.specs.Inner.Unconfirmed.{AllStand}
 use Rattle.report.proofs.Bools.{and_true, and_false, and_over, and_or, or_over, or_false, is_false}
 use Rattle.report.proofs.Slots.{same_or_other}
 use Rattle.report.proofs.Firsts.{same_first, lesser_first, before_in}

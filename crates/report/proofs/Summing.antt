@@ -20,7 +20,7 @@ use Rattle.report.specs.Words.{has_run}
 use Rattle.report.specs.Settled.{answers, is_asked, is_used, is_request, is_settled, is_astray, has_answer, all_left, where_entered, any_run, has_run_there, is_of, is_founded, is_right, are_right}
 use Rattle.report.specs.Opened.{AreOpenedAs, AreInPlace}
 use Rattle.report.specs.Closed.{IsReport, AreConfirmed, is_outstanding}
-use Rattle.report.specs.Unconfirmed.{AllStand, AllSound}
+use Rattle.report.specs.Inner.Unconfirmed.{AllStand, AllSound}
 use Rattle.report.proofs.Bools.{all_at, split_true, split_false, only_true, unless_true, not_false, is_true, clash, or_true}
 
 any_at : {X : Type 0} (p : X → Bool) (xs : List X) (k : ℕ) (x : X) → p x ≡ true → slice_get xs k ≡ Some x → list_any p xs ≡ true

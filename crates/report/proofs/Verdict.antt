@@ -17,8 +17,8 @@ use Rattle.report.specs.declared.tally.Answer.TheVariants as answer
 use Rattle.report.specs.declared.tally.Tally.{Tally}
 use Rattle.report.specs.Words.{has_busy, has_full, has_run, has_step, in_two}
 use Rattle.report.specs.Settled.{answers, is_folded_in, has_run_in, has_step_in, any_folded, any_entered, any_run, any_full, is_astray, all_left, where_entered, is_of, is_founded, is_right, are_right, has_run_there, is_settled}
-use Rattle.report.specs.Tallies.{fresh, elsewhere, home_at, read, read_commits, read_folded, read_alive, is_ground, is_end, is_fine, ends_well, with_receipt, with_note, with_units, tally_of}
-use Rattle.report.specs.Unconfirmed.{AllStand}
+use Rattle.report.specs.Inner.Tallies.{fresh, elsewhere, home_at, read, read_commits, read_folded, read_alive, is_ground, is_end, is_fine, ends_well, with_receipt, with_note, with_units, tally_of}
+use Rattle.report.specs.Inner.Unconfirmed.{AllStand}
 use Rattle.report.proofs.Bools.{all_at, or_false, or_true, and_true, and_false, not_or, unless_true}
 use Rattle.report.proofs.Histories.{home_by, shut, closed, read_closed, commits_closed, shut_both, entered_step, run_step, busy_step}
 use Rattle.report.proofs.StepsKept.{none_run, run_kept, busy_kept, marked_kept, entered_latest, gone_is}

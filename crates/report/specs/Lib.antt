@@ -1,14 +1,8 @@
 pub mod Words
 pub mod Settled
 pub mod Opened
-pub mod Belonging
 pub mod Closed
-pub mod Tallies
-pub mod Opening
-pub mod Sources
-pub mod Unconfirmed
-pub mod Finding
 pub mod Views
-pub mod Prefix
 pub mod Rooms
 pub mod Keeping
+pub mod Inner

@@ -2,7 +2,7 @@
 
 ghost use Rattle.std.specs.Prelude.{◌≡◌, ◌≤◌, ◌↔◌, IsTrue, length};
 ghost use Rattle.report.specs.Opened.{IsOpenedAs, AreOpenedAs};
-ghost use Rattle.report.specs.Belonging.{Misplaces, FindsForeign};
+ghost use Rattle.report.specs.Inner.Belonging.{Misplaces, FindsForeign};
 
 use decisions::UnitSpec;
 use queues::Queue;

@@ -5,7 +5,7 @@ ghost use Rattle.unit_model.specs.Unit.{IsUnit};
 ghost use Rattle.ring_core.specs.Sound.{IsSound};
 ghost use Rattle.report.specs.Words.{is_before as comes_before};
 ghost use Rattle.report.specs.Closed.{IsConfirmedBy, ConfirmsOne, has_commits};
-ghost use Rattle.report.specs.Unconfirmed.{Confirms, with_unconfirmed, AllStand, AllSound};
+ghost use Rattle.report.specs.Inner.Unconfirmed.{Confirms, with_unconfirmed, AllStand, AllSound};
 
 use crate::least::lesser;
 use queues::Queue;

@@ -3,8 +3,8 @@
 ghost use Rattle.std.specs.Prelude.{◌≡◌, ◌≤◌, ◌||◌, IfOk, length, vec_len, Option};
 ghost use Rattle.ring_core.specs.declared.log.Ticket.{Ticket as ATicket};
 ghost use Rattle.report.specs.Closed.{Examines, IsFirst, is_outstanding};
-ghost use Rattle.report.specs.Finding.{Finds};
-ghost use Rattle.report.specs.Unconfirmed.{AllStand};
+ghost use Rattle.report.specs.Inner.Finding.{Finds};
+ghost use Rattle.report.specs.Inner.Unconfirmed.{AllStand};
 
 use crate::belonging::first_foreign;
 use crate::confirming::{are_sound, first_unconfirmed, stand};

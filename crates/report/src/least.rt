@@ -5,8 +5,8 @@ ghost use Rattle.std.specs.List.{list_any};
 ghost use Rattle.ring_core.specs.Sound.{IsSound};
 ghost use Rattle.report.specs.Words.{is_before as comes_before};
 ghost use Rattle.report.specs.Closed.{IsFirst};
-ghost use Rattle.report.specs.Tallies.{lesser_of, tally_at};
-ghost use Rattle.report.specs.Sources.{unused_in, unsettled_in, amiss_in, amiss_of};
+ghost use Rattle.report.specs.Inner.Tallies.{lesser_of, tally_at};
+ghost use Rattle.report.specs.Inner.Sources.{unused_in, unsettled_in, amiss_in, amiss_of};
 
 use crate::tables::Tables;
 use queues::Queue;

@@ -8,8 +8,8 @@ ghost use Rattle.report.specs.Closed.{IsFirst};
 ghost use Rattle.unit_model.specs.Base.{base_of, kept_steps};
 ghost use Rattle.unit_model.specs.Steps.{alive};
 ghost use Rattle.report.specs.Settled.{any_folded};
-ghost use Rattle.report.specs.Tallies.{read, read_folded, read_alive, with_receipt, with_note, with_units, tally_at};
-ghost use Rattle.report.specs.Sources.{stray, stray_one};
+ghost use Rattle.report.specs.Inner.Tallies.{read, read_folded, read_alive, with_receipt, with_note, with_units, tally_at};
+ghost use Rattle.report.specs.Inner.Sources.{stray, stray_one};
 
 use crate::least::lesser;
 use crate::tables::Tables;

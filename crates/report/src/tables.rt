@@ -4,8 +4,8 @@ ghost use Rattle.std.specs.Prelude.{◌≡◌, ◌+◌, ◌<◌, ◌==◌, ℕ, 
 ghost use Rattle.std.specs.Option.{option_map};
 ghost use Rattle.ring_core.specs.declared.log.Ticket.{Ticket as ATicket};
 ghost use Rattle.queues.specs.Queue.{BareQueue};
-ghost use Rattle.report.specs.Tallies.{fresh, after, marking, tells, tally_in, tally_at, ends_amiss};
-ghost use Rattle.report.specs.Opening.{asked_count, Opens};
+ghost use Rattle.report.specs.Inner.Tallies.{fresh, after, marking, tells, tally_in, tally_at, ends_amiss};
+ghost use Rattle.report.specs.Inner.Opening.{asked_count, Opens};
 
 use crate::tally::{Fact, Tally, TicketFact};
 use block_store::NoMemory;

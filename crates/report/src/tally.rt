@@ -1,7 +1,7 @@
 //! The tally of a request, while a report is examined.
 
 ghost use Rattle.std.specs.Prelude.{◌≡◌, Option};
-ghost use Rattle.report.specs.Tallies.{joined, fresh, home_at, elsewhere, visited, stepped, after, is_ground, is_end, is_fine, ends_well, told, fact_of, fact_of_one, fact_of_commit, fact_of_alive};
+ghost use Rattle.report.specs.Inner.Tallies.{joined, fresh, home_at, elsewhere, visited, stepped, after, is_ground, is_end, is_fine, ends_well, told, fact_of, fact_of_one, fact_of_commit, fact_of_alive};
 
 use phases::Cause;
 use ring_core::Ticket;

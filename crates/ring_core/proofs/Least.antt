@@ -1,7 +1,7 @@
 -- The least number of what is outstanding, head by head or id by id.
 use Rattle.std.proofs.Common.{◌≡◌, ℕ, ◌+◌, ◌<◌, List, [], ◌∷◌, length, zero, suc, get_or, min, Option, Some, None, refl, sym, ap, ◌∙◌, arith, ◌⊎◌, inl, inr}
 use Rattle.std.proofs.lemmas.Option.{same_Some}
-use Rattle.ring_core.specs.Table.{IsLeastBelow, lesser_of}
+use Rattle.ring_core.specs.Inner.Table.{IsLeastBelow, lesser_of}
 use Rattle.ring_core.specs.declared.outstanding.OutstandingChain.{OutstandingChain}
 
 below_or_last : (n m : ℕ) → n < m + 1 → (n < m) ⊎ (n ≡ m)

@@ -9,7 +9,7 @@ use Rattle.std.proofs.lemmas.List.Elements.{All-head, All-tail, All-cons, All-ni
 use Rattle.std.specs.List.{AllPass}
 use Rattle.ring_core.specs.Parts.{PartsFit, inside, readable_total, writable_total}
 use Rattle.ring_core.specs.Writes.{Write, scatter_writes}
-use Rattle.ring_core.specs.Narrow.{first_writable}
+use Rattle.ring_core.specs.Inner.Narrow.{first_writable}
 use Rattle.ring_core.specs.declared.descriptor.Part.{Part}
 use Rattle.ring_core.proofs.Scattering.{no_writes}
 

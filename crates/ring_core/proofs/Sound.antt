@@ -7,7 +7,7 @@ use Rattle.std.proofs.lemmas.List.Sums.{sum_by-set}
 use Rattle.std.specs.Prelude.{slice_get}
 use Rattle.ring_core.specs.State.{RingState, Log, PlainChain, Owns, IsLawful, under, next_ticket, accepting, using, breaking, tickets, opening}
 use Rattle.ring_core.specs.Sound.{IsSound, IsLeastOutstanding, outstanding_count, slots_of}
-use Rattle.ring_core.specs.Table.{IsLeastBelow}
+use Rattle.ring_core.specs.Inner.Table.{IsLeastBelow}
 use Rattle.ring_core.specs.declared.log.Ticket.{Ticket}
 use Rattle.ring_core.specs.declared.outstanding.OutstandingChain.{OutstandingChain}
 use Rattle.ring_core.specs.declared.layout.Form.{Form}

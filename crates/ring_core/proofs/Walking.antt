@@ -4,7 +4,7 @@ use Rattle.std.proofs.lemmas.Grind.{common_steps}
 use Rattle.std.proofs.lemmas.Bool.Decides.{nat_tests}
 use Rattle.std.proofs.lemmas.List.{map-append}
 use Rattle.ring_core.specs.Walk.{nothing_before, goes_on, is_writable, is_indirect, part_of, amount, front, first_of, buffer_tests, table_wrong, Sequence, IsRun, IsChain}
-use Rattle.ring_core.specs.Walking.{Walks, RunFailsOrLacks, ChainFailsOrLacks}
+use Rattle.ring_core.specs.Inner.Walking.{Walks, RunFailsOrLacks, ChainFailsOrLacks}
 use Rattle.ring_core.specs.Split.{split_path, split_wrong}
 use Rattle.ring_core.specs.Packed.{packed_slots, packed_table, packed_wrong}
 use Rattle.ring_core.specs.declared.layout.Features.{Features}

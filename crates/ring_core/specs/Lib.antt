@@ -3,9 +3,7 @@ pub mod State
 pub mod Sound
 pub mod Parts
 pub mod Writes
-pub mod Narrow
 pub mod Walk
-pub mod Walking
 pub mod Split
 pub mod Packed
 pub mod Offer
@@ -16,3 +14,4 @@ pub mod Cases
 pub mod Table
 pub mod ChainProperties
 pub mod Base
+pub mod Inner

@@ -7,7 +7,7 @@ use Rattle.std.specs.Str.Parse.{ExplainsUnsignedError, HasUnsignedDigitsIfOk, Pa
 use Rattle.std.proofs.lemmas.Str.Parse.{numerals_by_value, tells_all_ascii_digits, parse_digits}
 use Rattle.std.specs.declared.result.Result.{Result}
 use Rattle.std.specs.declared.num.ParseIntError.{ParseIntError}
-use Rattle.script_lines.specs.Values.{IsNumber, IsUnit, IsUnitPair, is_colon}
+use Rattle.script_lines.specs.Inner.Values.{IsNumber, IsUnit, IsUnitPair, is_colon}
 use Rattle.scsi_codec.specs.declared.lun.Address.{Address}
 
 pub all_digits : (word : List ℕ) → list_all is_ascii_digit word ≡ all_ascii_digits word

@@ -1,6 +1,6 @@
 -- One more item behind the others.
 use Rattle.std.proofs.Common.{◌≡◌, ℕ, ◌+◌, ◌*◌, List, [], ◌∷◌, ◌++◌, length, ap, ◌∙◌, sym, add_assoc, arith}
-use Rattle.script_lines.specs.Values.{total_of}
+use Rattle.script_lines.specs.Inner.Values.{total_of}
 use Rattle.script_lines.specs.declared.values.Item.{Item}
 
 pub total_of_more : (items : List Item) (item : Item) → total_of (items ++ item ∷ []) ≡ total_of items + length item.bytes.items * item.repeat

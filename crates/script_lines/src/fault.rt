@@ -1,7 +1,7 @@
 //! The faults that can end a script.
 
 ghost use Rattle.std.specs.Prelude.{◌≡◌};
-ghost use Rattle.script_lines.specs.Faults.{ending_at};
+ghost use Rattle.script_lines.specs.Inner.Faults.{ending_at};
 ghost use Rattle.script_lines.specs.declared.fault.Stop.{Stop};
 
 use block_store::NoMemory;

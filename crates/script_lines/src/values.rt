@@ -3,7 +3,7 @@
 ghost use Rattle.std.specs.Prelude.{ℕ, ◌≡◌, ◌<◌, ◌*◌, ◌-◌, ◌^◌, ◌++◌, min, length, [], true, false, ◌⊎◌, Ok, Err, IsOk, OnErr, IfOk, OnOk, IfErr, ◌↔◌};
 ghost use Rattle.std.specs.List.{repeat};
 ghost use Rattle.std.specs.Str.{all_ascii_digits};
-ghost use Rattle.script_lines.specs.Values.{IsCapacity, IsName, IsUnit, IsUnitPair, length_of};
+ghost use Rattle.script_lines.specs.Inner.Values.{IsCapacity, IsName, IsUnit, IsUnitPair, length_of};
 
 use crate::fault::{LineFault, Stop};
 use hex::FromHexError;
@@ -146,7 +146,7 @@ pub struct Bytes {
 impl Model for Bytes {
     ghost use Rattle.std.specs.Prelude.{List, ◌≡◌};
     ghost use Rattle.script_lines.specs.declared.values.Item.{Item};
-    ghost use Rattle.script_lines.specs.Values.{length_of};
+    ghost use Rattle.script_lines.specs.Inner.Values.{length_of};
 
     ghost Value = { List Item };
 

@@ -1,7 +1,7 @@
 //! A line's fault, and at which of its words.
 
 ghost use Rattle.std.specs.Prelude.{ℕ, ◌≡◌, ◌+◌, ◌-◌, ◌^◌, min, Some, None};
-ghost use Rattle.script_lines.specs.Faults.{ending_at};
+ghost use Rattle.script_lines.specs.Inner.Faults.{ending_at};
 ghost use Rattle.script_lines.specs.declared.fault.LineFault.{LineFault};
 ghost use Rattle.script_lines.specs.declared.fault.Stop.{Stop};
 ghost use Rattle.script_lines.specs.declared.fault.ScriptFault.{ScriptFault};

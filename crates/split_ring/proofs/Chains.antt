@@ -1,7 +1,7 @@
 -- The chain that a walk along one run, or along two, gives.
 use Rattle.std.proofs.Common.{◌≡◌, ℕ, ◌+◌, ◌*◌, ◌/◌, ◌%◌, ◌≤◌, List, [], ◌∷◌, ◌++◌, length, true, false, map, MatchResult, Result, Ok, Err, None, sym, ap, ◌∙◌, subst, arith}
 use Rattle.ring_core.specs.Walk.{nothing_before, is_indirect, part_of, amount, table_wrong, Sequence, IsRun}
-use Rattle.ring_core.specs.Walking.{Walks, RunFailsOrLacks, ChainFailsOrLacks}
+use Rattle.ring_core.specs.Inner.Walking.{Walks, RunFailsOrLacks, ChainFailsOrLacks}
 use Rattle.ring_core.specs.Split.{number_on, split_table, SplitChain}
 use Rattle.ring_core.specs.declared.layout.Features.{Features}
 use Rattle.ring_core.specs.declared.layout.Layout.{Layout}
@@ -14,7 +14,7 @@ use Rattle.ring_core.proofs.Along.{run_last}
 use Rattle.ring_core.proofs.RightChains.{split_names}
 use Rattle.ring_core.proofs.ChainProperties.{names_table, some_entry}
 use Rattle.ring_core.proofs.Walking.{lacks_first, table_fails, chain_direct, chain_table}
-use Rattle.split_ring.specs.Inner.{queue_path, SplitFailsOrLacks}
+use Rattle.split_ring.specs.Inner.Answers.{queue_path, SplitFailsOrLacks}
 
 entries_inside : (addr len memory : ℕ) → len % 16 ≡ 0 → addr + len ≤ memory → addr + 16 * (len / 16) ≤ memory
 entries_inside addr len memory whole inside = omega (arith, whole, inside)

@@ -3,7 +3,7 @@ use Rattle.std.proofs.Common.{◌≡◌, ℕ, ◌+◌, ◌<◌, ◌≤◌, List,
 use Rattle.std.proofs.lemmas.Grind.{common_steps}
 use Rattle.std.proofs.lemmas.Bool.Decides.{nat_tests}
 use Rattle.ring_core.specs.Walk.{goes_on, is_writable, part_of, Sequence}
-use Rattle.ring_core.specs.Walking.{Walks, RunFailsOrLacks}
+use Rattle.ring_core.specs.Inner.Walking.{Walks, RunFailsOrLacks}
 use Rattle.ring_core.specs.Split.{in_table, number_on, path, split_wrong}
 use Rattle.ring_core.specs.declared.layout.Features.{Features}
 use Rattle.ring_core.specs.declared.descriptor.Part.{Part}
@@ -13,7 +13,7 @@ use Rattle.ring_core.specs.declared.run.Run.{Run}
 use Rattle.ring_core.specs.declared.fault.RingFault.{RingFault}
 use Rattle.ring_core.specs.declared.fault.RingFault.TheVariants.{NoMemory}
 use Rattle.ring_core.proofs.Walking.{Walked, split_walk, walked_start, walked_more, walked_end, walked_first, walked_wrong}
-use Rattle.split_ring.specs.Inner.{path_of}
+use Rattle.split_ring.specs.Inner.Answers.{path_of}
 use Rattle.split_ring.specs.declared.walk.Table.{Table}
 
 right_next : (features : Features) (memory size : ℕ) (b : Before) (d : Descriptor) → split_wrong features memory size b d ≡ None → goes_on d ≡ true → d.next_or_id < size

@@ -1,11 +1,9 @@
 -- Where a split queue may lie (VIRTIO 1.2, 2.7: sizes and alignments of its areas).
-use Rattle.std.specs.Prelude.{ℕ, ◌≡◌, ◌+◌, ◌*◌, ◌%◌, ◌&&◌, ◌==◌, not, nat_le, nat_lt, cond, Bool, Option, Some, None}
+use Rattle.std.specs.Prelude.{ℕ, ◌+◌, ◌*◌, ◌%◌, ◌&&◌, ◌==◌, not, nat_le, nat_lt, cond, Bool, Option, Some, None}
 use Rattle.std.specs.Int.{is_power_of_two}
-use Rattle.ring_core.specs.State.{RingState, features_of, opening}
 use Rattle.ring_core.specs.declared.layout.Layout.{Layout}
-use Rattle.ring_core.specs.declared.layout.Form.TheVariants.{Split}
 use Rattle.ring_core.specs.declared.layout.LayoutFault.{LayoutFault}
-use Rattle.ring_core.specs.declared.layout.LayoutFault.TheVariants.{BadSize, BadAlignment, Outside, NoMemory}
+use Rattle.ring_core.specs.declared.layout.LayoutFault.TheVariants.{BadSize, BadAlignment, Outside}
 
 abbrev pub size_is_right : ℕ → Bool
 size_is_right size = nat_lt 0 size && nat_le size 32768 && is_power_of_two size
@@ -27,13 +25,3 @@ placement_fault memory l =
     cond (not (size_is_right l.size)) (Some BadSize)
     (cond (not (is_aligned l)) (Some BadAlignment)
     (cond (not (lies_in_memory memory l)) (Some Outside) None))
-
--- a refusal names it, or want of memory where nothing is wrong
-abbrev pub LayoutRefusedAs : ℕ → Layout → LayoutFault → Type 0
-LayoutRefusedAs memory l NoMemory = placement_fault memory l ≡ None
-LayoutRefusedAs memory l f = placement_fault memory l ≡ Some f
-
--- a fresh queue with this number at a place where nothing is wrong, with what it looks at of the features
-abbrev pub OpensSplit : ℕ → ℕ → Layout → ℕ → RingState → Type 0
-OpensSplit memory queue l features s =
-    (placement_fault memory l ≡ None) × (s ≡ opening Split queue l (features_of features) memory l.size)

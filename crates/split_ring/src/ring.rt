@@ -33,7 +33,7 @@ pub struct SplitRing {
 
 impl Model for SplitRing {
     ghost use Rattle.ring_core.specs.State.{RingState};
-    ghost use Rattle.split_ring.specs.IsSplit.{IsSplit};
+    ghost use Rattle.split_ring.specs.Inner.IsSplit.{IsSplit};
 
     ghost Value = { RingState };
 
@@ -44,7 +44,7 @@ impl Model for SplitRing {
 
 impl SplitRing {
     ghost use Rattle.std.specs.Prelude.{MatchResult};
-    ghost use Rattle.split_ring.specs.Placement.{OpensSplit, LayoutRefusedAs};
+    ghost use Rattle.split_ring.specs.Inner.Placement.{OpensSplit, LayoutRefusedAs};
 
     /// Makes a queue with this number at this place, of which nothing was fetched yet. Called once for each queue,
     /// where a device is opened, with the memory that all later calls get. It looks at two of the features that were
@@ -79,7 +79,7 @@ impl SplitRing {
     ghost use Rattle.std.specs.Prelude.{◌≡◌, ◌≢◌, ◌<◌, List, ℕ, MatchResult, IfOk, None, Some};
     ghost use Rattle.ring_core.specs.Split.{available_index, ahead as ahead_of, entry_wrong, next_head, used_index_after};
     ghost use Rattle.ring_core.specs.Asking.{wanted_index};
-    ghost use Rattle.split_ring.specs.Inner.{SplitFinds};
+    ghost use Rattle.split_ring.specs.Inner.Answers.{SplitFinds};
 
     /// Returns the index of the available ring's next entry.
     fn available_index(&self) -> u16

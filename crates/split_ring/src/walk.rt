@@ -2,9 +2,9 @@
 
 ghost use Rattle.std.specs.Prelude.{◌≡◌, ◌+◌, ◌*◌, ◌/◌, ◌<◌, ◌≤◌, ◌^◌, List, ℕ, [], MatchResult, None, Some};
 ghost use Rattle.ring_core.specs.State.{no_features};
-ghost use Rattle.ring_core.specs.Walking.{Walks, RunFailsOrLacks};
+ghost use Rattle.ring_core.specs.Inner.Walking.{Walks, RunFailsOrLacks};
 ghost use Rattle.ring_core.specs.Split.{split_wrong, SplitChain};
-ghost use Rattle.split_ring.specs.Inner.{path_of, SplitFailsOrLacks};
+ghost use Rattle.split_ring.specs.Inner.Answers.{path_of, SplitFailsOrLacks};
 
 use crate::areas::descriptor_at;
 use guest_mem::Memory;

@@ -12,7 +12,8 @@ use Rattle.decisions.specs.Inventory.{has_target, place_of}
 use Rattle.task_mgmt.specs.declared.kind.Kind.{Kind}
 use Rattle.task_mgmt.specs.Functions.{kind_of}
 use Rattle.task_mgmt.specs.Demands.{demanded_of_unit, demanded_at, demanded_by, demanded, begun}
-use Rattle.task_mgmt.specs.Control.{decided_of_function, decided_with_room, Suits}
+use Rattle.task_mgmt.specs.Control.{decided_of_function, decided_with_room}
+use Rattle.task_mgmt.specs.Inner.Control.{Suits}
 use Rattle.task_mgmt.proofs.Rising.{places_there}
 
 -- the units of what is demanded are there

@@ -1,7 +1,6 @@
 -- What is decided of a chain of the control queue (VIRTIO 1.2 §5.6.6.2).
-use Rattle.std.specs.Prelude.{ℕ, ◌≡◌, ◌<◌, ◌≤◌, nat_lt, if◌then◌else◌, List, [], length, Result, Ok, Err}
-use Rattle.std.specs.List.{AllByRecursion}
-use Rattle.scsi_codec.specs.ControlQueue.{IsControl, answer_len, function_bytes, notification_bytes}
+use Rattle.std.specs.Prelude.{ℕ, nat_lt, if◌then◌else◌, List, [], Result, Ok, Err}
+use Rattle.scsi_codec.specs.ControlQueue.{answer_len, function_bytes, notification_bytes}
 use Rattle.scsi_codec.specs.declared.lun.Address.{Address}
 use Rattle.scsi_codec.specs.declared.control_queue.Control.{Control}
 use Rattle.scsi_codec.specs.declared.control_queue.Control.TheVariants.{TaskManagement, AsynchronousNotification, MalformedFunction, MalformedNotification}
@@ -30,12 +29,3 @@ decided_with_room units MalformedNotification = Direct (notification_bytes 0 cod
 -- own: without room for the answer the chain is used with length 0, and no function opens
 abbrev pub decided_of : List Address → Control → ℕ → ControlDecision
 decided_of units c writable = if nat_lt writable (answer_len c) then Direct [] else decided_with_room units c
-
--- of these bytes, which ask for exactly one thing
-abbrev pub Decides : List Address → List ℕ → ℕ → ControlDecision → Type 0
-Decides units bytes writable d = (c : Control) → IsControl bytes c → d ≡ decided_of units c writable
-
--- an answer fits into the chain; a function has room for its response, and its units are there
-abbrev pub Suits : ℕ → ℕ → ControlDecision → Type 0
-Suits units writable (Direct answer) = (length answer ≤ 5) × (length answer ≤ writable)
-Suits units writable (Opens f) = (1 ≤ writable) × AllByRecursion (λ place. place < units) f.left

@@ -1,6 +1,6 @@
 -- Task management functions (SAM-5 §7.1): what each does on its units, and how far it has come.
-use Rattle.std.specs.Prelude.{ℕ, Bool, true, false, ◌==◌, ◌&&◌, ◌||◌, if◌then◌else◌, List, [], ◌∷◌, ◌++◌, length, drop, slice_index, Option, Some, None, ⊤}
-use Rattle.unit_attention.specs.Code.{code, IsKnown}
+use Rattle.std.specs.Prelude.{ℕ, Bool, true, false, ◌==◌, ◌&&◌, ◌||◌, if◌then◌else◌, List, [], ◌∷◌, ◌++◌, length, drop, slice_index, Option, Some, None}
+use Rattle.unit_attention.specs.Code.{code}
 use Rattle.unit_model.specs.Steps.{Step}
 use Rattle.unit_model.specs.declared.rule.Rule.TheVariants.{Id, All}
 use Rattle.scsi_codec.specs.declared.control_queue.FunctionResponse.{FunctionResponse}
@@ -15,15 +15,6 @@ use Rattle.task_mgmt.specs.declared.function.Mark.{Mark}
 abbrev pub step_by : MarkBy → Step
 step_by (Abort rule) = Step.Abort rule
 step_by (Reset c) = Step.Reset c
-
--- own: a reset raises a code that is known
-abbrev pub IsKnownMark : MarkBy → Type 0
-IsKnownMark (Abort rule) = ⊤
-IsKnownMark (Reset c) = IsKnown c
-
-abbrev pub IsKnownKind : Kind → Type 0
-IsKnownKind (Marking mark) = IsKnownMark mark
-IsKnownKind (Querying rule) = ⊤
 
 -- what a function does on each of its units, by its subtype (VIRTIO 1.2 §5.6.6.2): ABORT TASK, ABORT TASK SET, CLEAR
 -- TASK SET, I_T NEXUS RESET, LOGICAL UNIT RESET, QUERY TASK, QUERY TASK SET (SAM-5 §7.2, §7.3, §7.5 to §7.9). CLEAR

@@ -1,7 +1,8 @@
 //! Decides on a chain of the control queue.
 
 ghost use Rattle.std.specs.Prelude.{◌≡◌, length};
-ghost use Rattle.task_mgmt.specs.Control.{decided_of, decided_with_room, Decides, Suits};
+ghost use Rattle.task_mgmt.specs.Control.{decided_of, decided_with_room};
+ghost use Rattle.task_mgmt.specs.Inner.Control.{Decides, Suits};
 
 use crate::demand::{TaskManagement, begin};
 use crate::function::Function;

@@ -1,7 +1,8 @@
 //! One task management function, from its beginning to its response.
 
 ghost use Rattle.std.specs.Prelude.{◌≡◌, ◌<◌, ◌≤◌, length, slice_get};
-ghost use Rattle.task_mgmt.specs.Functions.{opened, marking, next_mark, asking, failing, checking, is_over, response_of, IsKnownKind};
+ghost use Rattle.task_mgmt.specs.Functions.{opened, marking, next_mark, asking, failing, checking, is_over, response_of};
+ghost use Rattle.task_mgmt.specs.Inner.Functions.{IsKnownKind};
 
 use crate::kind::Kind;
 use arrayvec::ArrayVec;
@@ -32,7 +33,8 @@ pub struct Function {
 
 impl Model for Function {
     ghost use Rattle.std.specs.Prelude.{◌+◌, ◌≤◌, length};
-    ghost use Rattle.task_mgmt.specs.Functions.{PlainFunction, IsKnownKind};
+    ghost use Rattle.task_mgmt.specs.Functions.{PlainFunction};
+    ghost use Rattle.task_mgmt.specs.Inner.Functions.{IsKnownKind};
 
     ghost Value = { PlainFunction };
 

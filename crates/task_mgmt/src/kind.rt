@@ -1,7 +1,8 @@
 //! The acts of a function on each of its units.
 
 ghost use Rattle.std.specs.Prelude.{◌≡◌, IfSome};
-ghost use Rattle.task_mgmt.specs.Functions.{kind_of, IsKnownKind};
+ghost use Rattle.task_mgmt.specs.Functions.{kind_of};
+ghost use Rattle.task_mgmt.specs.Inner.Functions.{IsKnownKind};
 
 use unit_attention::Code;
 use unit_model::Rule;

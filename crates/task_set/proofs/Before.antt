@@ -8,7 +8,8 @@ use Rattle.decisions.specs.declared.attribute.TaskAttribute.TheVariants.{Simple,
 use Rattle.ring_core.specs.declared.log.Ticket.{Ticket}
 use Rattle.unit_model.specs.Tasks.{Entry, same_ticket, task_of, older, AreDistinct, any_head_of_queue, any_ordered, any_task, is_ordered, blocks, is_blocked}
 use Rattle.unit_model.proofs.Tickets.{itself, apart}
-use Rattle.task_set.specs.Tasks.{PlainTask, entries_of, blocked_where}
+use Rattle.task_set.specs.Tasks.{PlainTask}
+use Rattle.task_set.specs.Inner.Tasks.{entries_of, blocked_where}
 
 clash : true ≡ false → ⊥
 clash e = cc

@@ -9,7 +9,8 @@ use Rattle.unit_model.specs.declared.rule.Rule.{Rule}
 use Rattle.unit_model.specs.declared.reason.Reason.{Reason}
 use Rattle.unit_model.proofs.Tickets.{apart}
 use Rattle.unit_model.proofs.Distinct.{task_push_other}
-use Rattle.task_set.specs.Tasks.{PlainTask, entries_of, moved, without}
+use Rattle.task_set.specs.Tasks.{PlainTask}
+use Rattle.task_set.specs.Inner.Tasks.{entries_of, moved, without}
 
 absent_found : (e : Entry) → Some e ≡ None → ⊥
 absent_found e h = cc

@@ -7,7 +7,8 @@ use Rattle.unit_model.specs.Tasks.{Entry, entry_of, same_ticket, task_of, older,
 use Rattle.decisions.specs.UnitRequest.{PlainRequest}
 use Rattle.unit_model.proofs.Tickets.{itself}
 use Rattle.unit_model.specs.Jobs.{PlainJob}
-use Rattle.task_set.specs.Tasks.{PlainTask, entries_of, entering, run_at_once}
+use Rattle.task_set.specs.Tasks.{PlainTask}
+use Rattle.task_set.specs.Inner.Tasks.{entries_of, entering, run_at_once}
 
 absent_found : (e : Entry) → Some e ≡ None → ⊥
 absent_found e h = cc

@@ -5,7 +5,8 @@ use Rattle.std.specs.Option.{option_to_list}
 use Rattle.unit_model.specs.Tasks.{Entry, is_blocked}
 use Rattle.unit_model.specs.Seen.{Seen, freed}
 use Rattle.unit_model.specs.Jobs.{PlainJob, Jobs}
-use Rattle.task_set.specs.Tasks.{PlainTask, there, moved, given, all_given, enabled_unless}
+use Rattle.task_set.specs.Tasks.{PlainTask, there}
+use Rattle.task_set.specs.Inner.Tasks.{moved, given, all_given, enabled_unless}
 
 front_length : {X : Type 0} (f : X → X) (old : List X) (i : ℕ) → i < length old → length (map f (take i old)) ≡ i
 front_length f old i h = length-map (take i old) f ∙ length-take-le i old (omega arith)

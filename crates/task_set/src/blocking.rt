@@ -2,7 +2,7 @@
 
 ghost use Rattle.std.specs.Prelude.{◌≡◌};
 ghost use Rattle.unit_model.specs.Tasks.{blocks};
-ghost use Rattle.task_set.specs.Tasks.{entries_of};
+ghost use Rattle.task_set.specs.Inner.Tasks.{entries_of};
 
 use crate::task::Task;
 use decisions::TaskAttribute;

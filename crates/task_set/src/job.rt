@@ -5,7 +5,7 @@ ghost use Rattle.std.specs.Prelude.{◌+◌, ◌≤◌, ◌^◌};
 ghost use Rattle.cdb.specs.Need.{need_of};
 ghost use Rattle.ring_core.specs.Parts.{readable_total, writable_total};
 ghost use Rattle.unit_model.specs.Tasks.{entry_of};
-ghost use Rattle.unit_model.specs.Jobs.{HasRoom};
+ghost use Rattle.unit_model.specs.Inner.Jobs.{HasRoom};
 
 use cdb::Command;
 use decisions::{ChainLengths, TaskAttribute, UnitRequest};
@@ -28,7 +28,8 @@ pub struct Arrival {
 
 impl Model for Arrival {
     ghost use Rattle.unit_model.specs.Tasks.{entry_of};
-    ghost use Rattle.unit_model.specs.Jobs.{PlainJob, HasRoom};
+    ghost use Rattle.unit_model.specs.Jobs.{PlainJob};
+    ghost use Rattle.unit_model.specs.Inner.Jobs.{HasRoom};
 
     ghost Value = { PlainJob };
 
@@ -186,7 +187,8 @@ pub struct Job {
 }
 
 impl Model for Job {
-    ghost use Rattle.unit_model.specs.Jobs.{PlainJob, HasRoom};
+    ghost use Rattle.unit_model.specs.Jobs.{PlainJob};
+    ghost use Rattle.unit_model.specs.Inner.Jobs.{HasRoom};
 
     ghost Value = { PlainJob };
 

@@ -4,7 +4,8 @@ ghost use Rattle.std.specs.Prelude.{◌≡◌, ◌+◌, ◌<◌, ◌≤◌, ◌+
 ghost use Rattle.std.specs.Option.{option_copied, option_map};
 ghost use Rattle.unit_model.specs.Tasks.{entry_of, task_of};
 ghost use Rattle.unit_model.specs.Seen.{any_met, any_before, finished, with_mark, freed};
-ghost use Rattle.task_set.specs.Tasks.{PlainTask, entries_of, seen_of, moved, all_given, task_at, without, entering, run_at_once, may_run};
+ghost use Rattle.task_set.specs.Tasks.{PlainTask};
+ghost use Rattle.task_set.specs.Inner.Tasks.{entries_of, seen_of, moved, all_given, task_at, without, entering, run_at_once, may_run};
 
 use crate::blocking::block_next;
 use crate::job::{Arrival, Job, JobList};
@@ -35,7 +36,8 @@ pub struct TaskSet {
 impl Model for TaskSet {
     ghost use Rattle.std.specs.Prelude.{List};
     ghost use Rattle.unit_model.specs.Tasks.{AreDistinct};
-    ghost use Rattle.task_set.specs.Tasks.{PlainTask, entries_of};
+    ghost use Rattle.task_set.specs.Tasks.{PlainTask};
+    ghost use Rattle.task_set.specs.Inner.Tasks.{entries_of};
 
     ghost Value = { List PlainTask };
 

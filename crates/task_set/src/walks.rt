@@ -4,7 +4,8 @@ ghost use Rattle.std.specs.Prelude.{◌≡◌, ◌+◌, ◌<◌, ◌≤◌, ◌+
 ghost use Rattle.std.specs.List.{remove};
 ghost use Rattle.unit_model.specs.Tasks.{AreDistinct, any_head_of_queue, any_ordered, is_ordered};
 ghost use Rattle.unit_model.specs.Seen.{any_met, any_before, finished, with_mark, freed};
-ghost use Rattle.task_set.specs.Tasks.{PlainTask, entries_of, seen_of, moved, all_given, task_at, without, blocked_where};
+ghost use Rattle.task_set.specs.Tasks.{PlainTask};
+ghost use Rattle.task_set.specs.Inner.Tasks.{entries_of, seen_of, moved, all_given, task_at, without, blocked_where};
 
 use crate::job::JobList;
 use crate::task::Task;

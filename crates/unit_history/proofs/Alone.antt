@@ -5,11 +5,12 @@ use Rattle.block_store.specs.Blocks.{Blocks}
 use Rattle.block_store.specs.declared.NoMemory.{NoMemory}
 use Rattle.unit_attention.specs.declared.code.Code.{Code}
 use Rattle.block_commands.specs.declared.facts.UnitFacts.{UnitFacts}
-use Rattle.block_commands.specs.Told.{facts_of}
+use Rattle.block_commands.specs.Inner.Told.{facts_of}
 use Rattle.cdb.specs.declared.commands.Command.{Command}
 use Rattle.cdb.specs.Need.{need_of}
 use Rattle.replies.specs.Attention.{takes}
-use Rattle.replies.specs.PlainReply.{PlainReply, good_data, success}
+use Rattle.replies.specs.PlainReply.{PlainReply, success}
+use Rattle.replies.specs.Inner.PlainReply.{good_data}
 use Rattle.replies.specs.Replies.{reply_of}
 use Rattle.replies.specs.Statuses.{good}
 use Rattle.replies.specs.Facts.{Facts}
@@ -27,15 +28,16 @@ use Rattle.unit_model.specs.Receipts.{unit_address}
 use Rattle.unit_model.proofs.Tickets.{itself}
 use Rattle.scsi_codec.specs.declared.lun.Address.{Address}
 use Rattle.unit_model.specs.Jobs.{PlainJob}
-use Rattle.task_set.specs.Tasks.{PlainTask, entries_of, parked_of, moved, without, task_at, entering, run_at_once}
+use Rattle.task_set.specs.Tasks.{PlainTask, parked_of}
+use Rattle.task_set.specs.Inner.Tasks.{entries_of, moved, without, task_at, entering, run_at_once}
 use Rattle.task_set.proofs.Entering.{blocked_last}
 use Rattle.unit_history.specs.Calls.{Enters}
 use Rattle.unit_history.specs.Endings.{ending_of, ending_of_run}
 use Rattle.unit_history.specs.Changes.{PlainChanges}
-use Rattle.unit_history.specs.Noting.{Notes, AreRecorded}
-use Rattle.unit_history.specs.Parts.{AreKept, AreClear, AreBased}
-use Rattle.unit_history.specs.Performing.{PlainPerformed, Performs, Ran, step_for, taken, told, unkept}
-use Rattle.unit_history.specs.Outcomes.{outcome_for}
+use Rattle.unit_history.specs.Inner.Noting.{Notes, AreRecorded}
+use Rattle.unit_history.specs.Inner.Parts.{AreKept, AreClear, AreBased}
+use Rattle.unit_history.specs.Inner.Performing.{PlainPerformed, Performs, Ran, step_for, taken, told, unkept}
+use Rattle.unit_history.specs.Inner.Outcomes.{outcome_for}
 use Rattle.unit_history.specs.Serving.{ServesAlone}
 use Rattle.unit_model.specs.Unit.{Steps}
 use Rattle.unit_history.specs.declared.outcomes.Entered.TheVariants as entered

@@ -13,9 +13,10 @@ use Rattle.unit_model.specs.Lawful.{IsLawful}
 use Rattle.unit_model.proofs.Waiting.{clear_is, clear_none}
 use Rattle.unit_model.specs.Seen.{Seen, any_before, tasks_of, others}
 use Rattle.unit_model.specs.Jobs.{PlainJob}
-use Rattle.task_set.specs.Tasks.{PlainTask, seen_of, moved, without, entering}
-use Rattle.unit_history.specs.Performing.{PlainPerformed, step_for}
-use Rattle.unit_history.specs.Parts.{AreBehind, AreClear, AreBased}
+use Rattle.task_set.specs.Tasks.{PlainTask}
+use Rattle.task_set.specs.Inner.Tasks.{seen_of, moved, without, entering}
+use Rattle.unit_history.specs.Inner.Performing.{PlainPerformed, step_for}
+use Rattle.unit_history.specs.Inner.Parts.{AreBehind, AreClear, AreBased}
 use Rattle.unit_history.proofs.KeepingSet.{seen_moved, seen_without, seen_push}
 
 -- the place of its Enter stays

@@ -16,14 +16,15 @@ use Rattle.unit_model.specs.Contents.{Opening, facts_after, reply_after}
 use Rattle.unit_model.specs.Lawful.{IsReady}
 use Rattle.unit_model.specs.Receipts.{unit_address, receipt_of}
 use Rattle.unit_model.specs.Jobs.{PlainJob}
-use Rattle.task_set.specs.Tasks.{PlainTask, parked_of, moved, task_at}
+use Rattle.task_set.specs.Tasks.{PlainTask, parked_of}
+use Rattle.task_set.specs.Inner.Tasks.{moved, task_at}
 use Rattle.unit_model.specs.Asking.{IsOf, asked_of, CannotCommit}
 use Rattle.unit_history.specs.Calls.{Commits}
-use Rattle.unit_history.specs.Parts.{AreKept}
+use Rattle.unit_history.specs.Inner.Parts.{AreKept}
 use Rattle.replies.specs.Memory.{may_run_short}
-use Rattle.unit_history.specs.Performing.{PlainPerformed, Performs, step_for}
-use Rattle.unit_history.specs.Outcomes.{outcome_for}
-use Rattle.unit_history.specs.Turns.{Turns}
+use Rattle.unit_history.specs.Inner.Performing.{PlainPerformed, Performs, step_for}
+use Rattle.unit_history.specs.Inner.Outcomes.{outcome_for}
+use Rattle.unit_history.specs.Inner.Turns.{Turns}
 use Rattle.unit_history.specs.declared.turn.Turn.TheVariants as turn
 use Rattle.unit_history.proofs.Entering.{same_unit}
 use Rattle.unit_history.proofs.Keeping.{task_at_alive, task_at_none, ticket_at, replies_after, may_commit, may_busy, keep_commit, keep_busy}

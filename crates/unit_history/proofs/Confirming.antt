@@ -12,8 +12,9 @@ use Rattle.unit_model.specs.Receipts.{step_at, latest_kept, is_kept, Agrees}
 use Rattle.unit_history.specs.declared.kind.StepKind.{StepKind}
 use Rattle.unit_history.specs.declared.kind.StepKind.TheVariants as kind
 use Rattle.unit_history.specs.declared.recorded.RecordedStep.{RecordedStep}
-use Rattle.unit_history.specs.Kept.{kind_of, latest, reply_kept, commit_kind}
-use Rattle.unit_history.specs.Recorded.{kept_there, replies_recorded, reply_of_place, step_recorded, steps_recorded, AreAlike}
+use Rattle.unit_history.specs.Kept.{kind_of}
+use Rattle.unit_history.specs.Inner.Kept.{latest, reply_kept, commit_kind}
+use Rattle.unit_history.specs.Inner.Recorded.{kept_there, replies_recorded, reply_of_place, step_recorded, steps_recorded, AreAlike}
 use Rattle.unit_history.proofs.Places.{at_place, drop_get}
 
 -- what is kept is a Commit of the ticket, with a reply that agrees

@@ -8,10 +8,12 @@ use Rattle.unit_model.specs.Steps.{Step, floor}
 use Rattle.unit_model.specs.Contents.{Opening}
 use Rattle.unit_model.specs.Jobs.{PlainJob}
 use Rattle.unit_model.specs.Receipts.{unit_address}
-use Rattle.task_set.specs.Tasks.{PlainTask, parked_of, entering, run_at_once}
-use Rattle.unit_history.specs.Calls.{Enters, entered_of}
-use Rattle.unit_history.specs.LastTickets.{floor_kept}
-use Rattle.unit_history.specs.Parts.{AreKept}
+use Rattle.task_set.specs.Tasks.{PlainTask, parked_of}
+use Rattle.task_set.specs.Inner.Tasks.{entering, run_at_once}
+use Rattle.unit_history.specs.Calls.{Enters}
+use Rattle.unit_history.specs.Inner.Calls.{entered_of}
+use Rattle.unit_history.specs.Inner.LastTickets.{floor_kept}
+use Rattle.unit_history.specs.Inner.Parts.{AreKept}
 use Rattle.unit_model.specs.Unit.{PlainUnit}
 use Rattle.unit_history.specs.declared.outcomes.Entered.TheVariants as entered
 use Rattle.unit_history.proofs.Keeping.{CameTo, may_enter, may_full}

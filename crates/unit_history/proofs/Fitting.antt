@@ -7,9 +7,10 @@ use Rattle.ring_core.specs.declared.log.Ticket.{Ticket}
 use Rattle.unit_model.specs.Tasks.{Entry, same_ticket, task_of, is_blocked}
 use Rattle.unit_model.specs.Seen.{Seen, waits, seen_at, entries, others}
 use Rattle.unit_model.specs.Jobs.{PlainJob, of_tasks, but_tasks, is_job_of}
-use Rattle.task_set.specs.Tasks.{PlainTask, seen_of, entries_of, there, parked_of, moved, given, all_given, without, entering}
+use Rattle.task_set.specs.Tasks.{PlainTask, there, parked_of}
+use Rattle.task_set.specs.Inner.Tasks.{seen_of, entries_of, moved, given, all_given, without, entering}
 use Rattle.unit_model.specs.Unit.{tasks_of_jobs}
-use Rattle.unit_history.specs.Parts.{AreFit}
+use Rattle.unit_history.specs.Inner.Parts.{AreFit}
 
 -- the task of a job, if there is one
 abbrev pub entry_there : Option PlainJob → Option Entry

@@ -24,9 +24,10 @@ use Rattle.unit_model.proofs.Kept.{entries_tasks, others_map, others_tasks, seen
 use Rattle.unit_model.proofs.Leaving.{leaves_handed}
 use Rattle.unit_model.proofs.Releasing.{released_by_leave, released_by_abort, released_by_reset}
 use Rattle.unit_model.specs.Jobs.{PlainJob, of_tasks, but_tasks}
-use Rattle.task_set.specs.Tasks.{PlainTask, seen_of, entries_of, parked_of, moved, all_given, without, entering, run_at_once}
+use Rattle.task_set.specs.Tasks.{PlainTask, parked_of}
+use Rattle.task_set.specs.Inner.Tasks.{seen_of, entries_of, moved, all_given, without, entering, run_at_once}
 use Rattle.unit_model.specs.Unit.{tasks_of_jobs, IsUnit}
-use Rattle.unit_history.specs.Parts.{AreFit, AreKept}
+use Rattle.unit_history.specs.Inner.Parts.{AreFit, AreKept}
 use Rattle.unit_history.proofs.Fitting.{IsAmong, given_are, stay_are, entries_seen, seen_without, fit_without, parked_without, parked_entering, waiting, jobs_wait}
 
 of_all : {X : Type 0} (P : X → Type 0) (xs : List X) → ((x : X) → P x) → AllByRecursion P xs

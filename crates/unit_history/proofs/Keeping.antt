@@ -12,7 +12,7 @@ use Rattle.replies.specs.PlainReply.{PlainReply, replied}
 use Rattle.replies.specs.Attention.{met}
 use Rattle.replies.specs.Effects.{block_after}
 use Rattle.replies.specs.Facts.{Facts}
-use Rattle.block_commands.specs.Told.{facts_of}
+use Rattle.block_commands.specs.Inner.Told.{facts_of}
 use Rattle.block_commands.specs.declared.facts.UnitFacts.{UnitFacts}
 use Rattle.replies.specs.Replies.{reply_of, reported}
 use Rattle.block_commands.proofs.Ranges.{answer_of-agree}
@@ -33,10 +33,11 @@ use Rattle.unit_model.proofs.Kept.{entries_tasks, length_tasks, seen_at_tasks, s
 use Rattle.unit_model.proofs.Keeping.{tasks_enter, tasks_full, tasks_resize, tasks_commit, tasks_busy, tasks_abort, tasks_reset, tasks_leave}
 use Rattle.unit_model.proofs.Owing.{owed_some, alive_owed, commit_owed, busy_owed, leave_owed}
 use Rattle.unit_model.specs.Jobs.{PlainJob}
-use Rattle.task_set.specs.Tasks.{PlainTask, seen_of, entries_of, moved, without, task_at, entering}
-use Rattle.unit_history.specs.LastTickets.{floor_kept}
-use Rattle.unit_history.specs.Parts.{AreKept}
-use Rattle.unit_history.specs.Performing.{taken, told}
+use Rattle.task_set.specs.Tasks.{PlainTask}
+use Rattle.task_set.specs.Inner.Tasks.{seen_of, entries_of, moved, without, task_at, entering}
+use Rattle.unit_history.specs.Inner.LastTickets.{floor_kept}
+use Rattle.unit_history.specs.Inner.Parts.{AreKept}
+use Rattle.unit_history.specs.Inner.Performing.{taken, told}
 use Rattle.unit_history.proofs.KeepingSet.{entries_seen, length_seen, seen_task, seen_without, seen_moved, seen_push, finished_waits, with_mark_waits, freed_waits, fit_moved, fit_without, fit_entering}
 
 pub keep_new : (o : Opening) (block_at : Blocks) (pending : List Code) (last_tickets : List (Option ℕ)) (room : ℕ)

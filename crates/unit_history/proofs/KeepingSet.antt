@@ -9,8 +9,9 @@ use Rattle.unit_model.specs.Tasks.{Entry, same_ticket, is_blocked, meets}
 use Rattle.unit_model.specs.Marks.{first_mark}
 use Rattle.unit_model.specs.Seen.{Seen, waits, entries, seen_at, others, finished, with_mark, freed}
 use Rattle.unit_model.specs.Jobs.{PlainJob}
-use Rattle.task_set.specs.Tasks.{PlainTask, seen_of, entries_of, moved, without, task_at, entering}
-use Rattle.unit_history.specs.Parts.{AreFit}
+use Rattle.task_set.specs.Tasks.{PlainTask}
+use Rattle.task_set.specs.Inner.Tasks.{seen_of, entries_of, moved, without, task_at, entering}
+use Rattle.unit_history.specs.Inner.Parts.{AreFit}
 
 pub entries_seen : (tasks : List PlainTask) → entries_of tasks ≡ entries (seen_of tasks)
 entries_seen [] = refl

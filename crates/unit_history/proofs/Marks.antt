@@ -5,11 +5,12 @@ use Rattle.std.proofs.lemmas.Option.{slice_get_past}
 use Rattle.unit_model.specs.declared.rule.Rule.{Rule}
 use Rattle.unit_history.specs.declared.folding.FoldedMark.{FoldedMark}
 use Rattle.unit_history.specs.declared.kind.StepKind.{StepKind}
-use Rattle.unit_history.specs.Kept.{met_kind}
-use Rattle.unit_history.specs.Folding.{AreFolded, mark_at, met_one, with_mark, rule_if, Forgets}
+use Rattle.unit_history.specs.Inner.Kept.{met_kind}
+use Rattle.unit_history.specs.Inner.Folding.{AreFolded, mark_at, met_one, with_mark, rule_if, Forgets}
 use Rattle.std.proofs.lemmas.List.{length-map, map-append}
 use Rattle.unit_history.specs.declared.runs.Run.{Run}
-use Rattle.unit_history.specs.Runs.{AreCommits, FoldsOne, committed}
+use Rattle.unit_history.specs.Runs.{committed}
+use Rattle.unit_history.specs.Inner.Runs.{AreCommits, FoldsOne}
 use Rattle.unit_history.proofs.Tables.{folds_one}
 use Rattle.unit_history.proofs.Places.{push_get}
 

@@ -8,9 +8,9 @@ use Rattle.replies.specs.Effects.{given}
 use Rattle.unit_model.specs.Tasks.{Entry, task_of}
 use Rattle.unit_model.specs.Steps.{Step, alive}
 use Rattle.unit_model.specs.Contents.{Opening, blocks_of, block_with, capacity_of}
-use Rattle.unit_history.specs.Performing.{PlainPerformed, step_for}
+use Rattle.unit_history.specs.Inner.Performing.{PlainPerformed, step_for}
 use Rattle.unit_history.specs.Changes.{PlainChanges, is_in, as_of}
-use Rattle.unit_history.specs.Noting.{Notes, AreRecorded}
+use Rattle.unit_history.specs.Inner.Noting.{Notes, AreRecorded}
 
 as_of-more : (p : ℕ) (s : Step) (past : List Step) → p ≤ length past → as_of p (s ∷ past) ≡ as_of p past
 as_of-more p s past le =

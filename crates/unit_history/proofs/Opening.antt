@@ -10,9 +10,10 @@ use Rattle.block_store.proofs.Runs.{length-run}
 use Rattle.unit_attention.specs.declared.code.Code.{Code}
 use Rattle.unit_model.specs.Steps.{Step}
 use Rattle.unit_model.specs.Contents.{Opening, pending_at_start}
-use Rattle.task_set.specs.Tasks.{PlainTask, seen_of}
-use Rattle.unit_history.specs.LastTickets.{floor_kept}
-use Rattle.unit_history.specs.Parts.{AreKept, AreBased}
+use Rattle.task_set.specs.Tasks.{PlainTask}
+use Rattle.task_set.specs.Inner.Tasks.{seen_of}
+use Rattle.unit_history.specs.Inner.LastTickets.{floor_kept}
+use Rattle.unit_history.specs.Inner.Parts.{AreKept, AreBased}
 use Rattle.unit_history.proofs.Keeping.{keep_new}
 
 -- what stands at a place of a run of whole blocks is that block

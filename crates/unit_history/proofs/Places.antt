@@ -10,9 +10,10 @@ use Rattle.unit_model.specs.Receipts.{step_at}
 use Rattle.unit_model.specs.declared.rule.Rule.{Rule}
 use Rattle.unit_history.specs.declared.kind.StepKind.{StepKind}
 use Rattle.unit_history.specs.declared.recorded.RecordedStep.{RecordedStep}
-use Rattle.unit_history.specs.Kept.{kind_of, met_kind}
-use Rattle.unit_history.specs.Folding.{met_one}
-use Rattle.unit_history.specs.Recorded.{kinds_recorded, step_recorded, steps_recorded, AreFirst, Tells}
+use Rattle.unit_history.specs.Kept.{kind_of}
+use Rattle.unit_history.specs.Inner.Kept.{met_kind}
+use Rattle.unit_history.specs.Inner.Folding.{met_one}
+use Rattle.unit_history.specs.Inner.Recorded.{kinds_recorded, step_recorded, steps_recorded, AreFirst, Tells}
 
 unlike : false ≡ true → ⊥
 unlike e = cc

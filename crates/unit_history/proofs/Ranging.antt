@@ -5,7 +5,7 @@ use Rattle.block_store.specs.Blocks.{is_within}
 use Rattle.replies.specs.UnmapList.{descriptors, descriptors_in, descriptor_count, is_named}
 use Rattle.block_commands.proofs.Descriptors.{left, left-none, left-all}
 use Rattle.unit_history.specs.Changes.{PlainChanges, is_in}
-use Rattle.unit_history.specs.Noting.{Notes}
+use Rattle.unit_history.specs.Inner.Noting.{Notes}
 
 neither : (a b : Bool) → (a || b) ≡ false → (a ≡ false) × (b ≡ false)
 neither true b never = absurd (cc)

@@ -4,7 +4,7 @@ use Rattle.std.proofs.lemmas.Bool.{eqb-true, le-leb, leb-true, ltb-true, ltb-fal
 use Rattle.std.proofs.lemmas.Nat.{div-mul-add}
 use Rattle.std.specs.List.Sorted.{IsPartitionedBy, IsPartitionPoint}
 use Rattle.unit_history.specs.declared.runs.Run.{Run}
-use Rattle.unit_history.specs.Runs.{OnRun, InRuns, AreRising, AreNumbered, AreBefore, OneMore, Extends, FindsOn, FindsIn, last_place, last_number}
+use Rattle.unit_history.specs.Inner.Runs.{OnRun, InRuns, AreRising, AreNumbered, AreBefore, OneMore, Extends, FindsOn, FindsIn, last_place, last_number}
 
 times_none : (k x : ℕ) → k ≡ 0 → k * x ≡ 0
 times_none k x e = ap (λ w. w * x) e ∙ omega arith

@@ -9,9 +9,10 @@ use Rattle.unit_model.specs.Contents.{Opening}
 use Rattle.unit_model.specs.Lawful.{May}
 use Rattle.unit_model.specs.Released.{released}
 use Rattle.unit_model.specs.Jobs.{PlainJob, Jobs, but_tasks}
-use Rattle.task_set.specs.Tasks.{PlainTask, task_at}
+use Rattle.task_set.specs.Tasks.{PlainTask}
+use Rattle.task_set.specs.Inner.Tasks.{task_at}
 use Rattle.unit_history.specs.Calls.{CannotLeave}
-use Rattle.unit_history.specs.Parts.{AreKept}
+use Rattle.unit_history.specs.Inner.Parts.{AreKept}
 use Rattle.unit_model.specs.Unit.{PlainUnit, Steps}
 use Rattle.unit_history.proofs.Keeping.{task_at_alive, task_at_none, is_done, is_marked}
 

@@ -6,12 +6,13 @@ use Rattle.std.proofs.lemmas.List.{length-map}
 use Rattle.std.proofs.lemmas.Option.{slice_get_within, slice_get-map}
 use Rattle.ring_core.specs.declared.log.Ticket.{Ticket}
 use Rattle.unit_history.specs.declared.runs.Run.{Run}
-use Rattle.unit_history.specs.Runs.{InRuns, AreRising, AreBefore, OneMore, last_place, runs_of, tables_of, Stands, Finds, Adds, AreCommits, AreNumbered, AllRising, AllNumbered, SameRuns, committed_one, FoldsOne, committed}
+use Rattle.unit_history.specs.Runs.{committed_one, committed}
+use Rattle.unit_history.specs.Inner.Runs.{InRuns, AreRising, AreBefore, OneMore, last_place, runs_of, tables_of, Stands, Finds, Adds, AreCommits, AreNumbered, AllRising, AllNumbered, SameRuns, FoldsOne}
 use Rattle.std.specs.Option.{option_map}
 use Rattle.unit_model.specs.declared.rule.Rule.{Rule}
 use Rattle.unit_history.specs.declared.kind.StepKind.{StepKind}
 use Rattle.unit_history.specs.declared.kind.StepKind.TheVariants as kind
-use Rattle.unit_history.specs.Kept.{met_kind}
+use Rattle.unit_history.specs.Inner.Kept.{met_kind}
 
 -- a list more, which is empty
 pub grown : (q : ℕ) (tables : List (List Run)) → runs_of q (tables ++ [] ∷ []) ≡ runs_of q tables

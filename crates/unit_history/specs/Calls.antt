@@ -18,11 +18,6 @@ use Rattle.unit_history.specs.declared.outcomes.Outcome.TheVariants as outcome
 use Rattle.unit_history.specs.declared.outcomes.ResizeFault.{ResizeFault}
 use Rattle.unit_history.specs.declared.outcomes.ResizeFault.TheVariants as resize_fault
 
--- own: a task entered: its job, where that is to be committed
-abbrev pub entered_of : Option PlainJob → Entered
-entered_of (Some job) = entered.Run job
-entered_of None = entered.Parked
-
 -- a request enters the unit that it names and no other: the job is handed out where nothing blocks its task, and else
 -- kept; TASK SET FULL and want of memory give it back, and so does a unit that isn't named, or that saw a later ticket of
 -- its queue

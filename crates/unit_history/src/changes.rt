@@ -5,7 +5,7 @@ ghost use Rattle.block_store.specs.Blocks.{is_within};
 ghost use Rattle.replies.specs.Effects.{given};
 ghost use Rattle.replies.specs.UnmapList.{descriptors_in, descriptors, is_named};
 ghost use Rattle.unit_history.specs.Changes.{is_in};
-ghost use Rattle.unit_history.specs.Noting.{Notes};
+ghost use Rattle.unit_history.specs.Inner.Noting.{Notes};
 
 use arrayvec::ArrayVec;
 use block_commands::{UNMAP_HEADER_BYTES, extent_at, taken_descriptors};

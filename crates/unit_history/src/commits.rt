@@ -1,7 +1,7 @@
 //! The Commits among folded steps, with their tickets.
 
 ghost use Rattle.std.specs.Prelude.{◌≡◌, ◌<◌, ◌≤◌, ◌↔◌, ℕ, IsTrue, [], List, length, OnOk, OnErr, Option};
-ghost use Rattle.unit_history.specs.Runs.{AreBefore, AreTables, Stands, Finds, Adds, runs_of, tables_of};
+ghost use Rattle.unit_history.specs.Inner.Runs.{AreBefore, AreTables, Stands, Finds, Adds, runs_of, tables_of};
 
 use crate::runs::{Run, add, is_in, number_at};
 use ring_core::Ticket;
@@ -18,7 +18,7 @@ pub(crate) struct Commits {
 impl Model for Commits {
     ghost use Rattle.std.specs.Prelude.{List};
     ghost use Rattle.unit_history.specs.declared.runs.Run.{Run as ARun};
-    ghost use Rattle.unit_history.specs.Runs.{AreTables, tables_of};
+    ghost use Rattle.unit_history.specs.Inner.Runs.{AreTables, tables_of};
 
     ghost Value = { List (List ARun) };
 

@@ -5,9 +5,9 @@ ghost use Rattle.std.specs.Option.{option_map};
 ghost use Rattle.cdb.specs.Need.{need_of};
 ghost use Rattle.unit_history.specs.Endings.{FitsNeed};
 ghost use Rattle.unit_model.specs.Seen.{finished};
-ghost use Rattle.task_set.specs.Tasks.{moved};
-ghost use Rattle.unit_history.specs.Performing.{IsKeptReply, performed_of, step_for};
-ghost use Rattle.unit_history.specs.Outcomes.{outcome_for};
+ghost use Rattle.task_set.specs.Inner.Tasks.{moved};
+ghost use Rattle.unit_history.specs.Inner.Performing.{IsKeptReply, performed_of, step_for};
+ghost use Rattle.unit_history.specs.Inner.Outcomes.{outcome_for};
 
 use crate::log::StepLog;
 use crate::outcomes::{Outcome, Receipt};

@@ -1,9 +1,10 @@
 //! The folded steps of a history, of which the code keeps what it may still be asked.
 
 ghost use Rattle.std.specs.Prelude.{◌≡◌, ◌+◌, ◌^◌, ◌<◌, nat_lt, [], ◌∷◌, ◌++◌, length, max, slice_get, IfSome, IsTrue, ◌↔◌, is_some, true, ℕ, Some, OnOk, OnErr, if◌then◌else◌, None};
-ghost use Rattle.unit_history.specs.Kept.{met_kind, commit_kind};
-ghost use Rattle.unit_history.specs.Runs.{AreBefore, FoldsOne, SameRuns, committed as is_committed, committed_one, runs_of};
-ghost use Rattle.unit_history.specs.Folding.{mark_at, met_one, rule_if, with_mark, Forgets};
+ghost use Rattle.unit_history.specs.Inner.Kept.{met_kind, commit_kind};
+ghost use Rattle.unit_history.specs.Runs.{committed as is_committed, committed_one};
+ghost use Rattle.unit_history.specs.Inner.Runs.{AreBefore, FoldsOne, SameRuns, runs_of};
+ghost use Rattle.unit_history.specs.Inner.Folding.{mark_at, met_one, rule_if, with_mark, Forgets};
 
 use crate::commits::Commits;
 use crate::kind::StepKind;
@@ -35,7 +36,7 @@ pub(crate) struct Folding {
 }
 
 impl Model for Folding {
-    ghost use Rattle.unit_history.specs.Folding.{Folded, AreFolded};
+    ghost use Rattle.unit_history.specs.Inner.Folding.{Folded, AreFolded};
 
     ghost Value = { Folded };
 

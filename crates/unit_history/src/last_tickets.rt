@@ -1,7 +1,7 @@
 //! The last ticket of each queue that entered or was refused as full.
 
 ghost use Rattle.std.specs.Prelude.{◌≡◌, ◌+◌, ◌<◌, nat_lt, ℕ, length, OnOk, if◌then◌else◌, ◌==◌};
-ghost use Rattle.unit_history.specs.LastTickets.{floor_kept};
+ghost use Rattle.unit_history.specs.Inner.LastTickets.{floor_kept};
 
 use ring_core::Ticket;
 use std::alloc::{AllocError, Global};

@@ -3,7 +3,7 @@
 ghost use Rattle.std.specs.Prelude.{◌≡◌, Option, Some, None};
 ghost use Rattle.std.specs.Option.{option_map};
 ghost use Rattle.replies.specs.PlainReply.{plain_of};
-ghost use Rattle.unit_history.specs.Calls.{entered_of};
+ghost use Rattle.unit_history.specs.Inner.Calls.{entered_of};
 
 use replies::Reply;
 use ring_core::Ticket;

@@ -6,12 +6,12 @@ ghost use Rattle.cdb.specs.Need.{need_of};
 ghost use Rattle.replies.specs.PlainReply.{plain_of};
 ghost use Rattle.block_store.specs.Drafts.{prepared_draft};
 ghost use Rattle.block_commands.specs.Prepared.{IsOf};
-ghost use Rattle.block_commands.specs.Told.{facts_of};
+ghost use Rattle.block_commands.specs.Inner.Told.{facts_of};
 ghost use Rattle.sense.specs.Conditions.{unit_attention};
 ghost use Rattle.unit_model.specs.Contents.{pending_at_start};
-ghost use Rattle.unit_history.specs.Kept.{kept_reply};
+ghost use Rattle.unit_history.specs.Inner.Kept.{kept_reply};
 ghost use Rattle.unit_history.specs.Endings.{plain_run};
-ghost use Rattle.unit_history.specs.Performing.{Performs, performed_of, told, taken, unkept};
+ghost use Rattle.unit_history.specs.Inner.Performing.{Performs, performed_of, told, taken, unkept};
 
 use crate::log::LONGEST_KEPT;
 use block_commands::{UnitFacts, exec, exec_prepared, takes_attention};

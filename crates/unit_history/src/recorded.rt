@@ -1,10 +1,11 @@
 //! Steps as proofs see them: with the data of their commands and replies, which no bytes keep.
 
 ghost use Rattle.std.specs.Prelude.{◌≡◌, ◌-◌, ◌^◌, ◌<◌, length};
-ghost use Rattle.replies.specs.PlainReply.{good_data, plain_of};
+ghost use Rattle.replies.specs.PlainReply.{plain_of};
+ghost use Rattle.replies.specs.Inner.PlainReply.{good_data};
 ghost use Rattle.unit_model.specs.Tasks.{entry_of};
 ghost use Rattle.unit_history.specs.Kept.{kind_of};
-ghost use Rattle.unit_history.specs.Recorded.{step_recorded};
+ghost use Rattle.unit_history.specs.Inner.Recorded.{step_recorded};
 
 use crate::kind::StepKind;
 use cdb::Command;

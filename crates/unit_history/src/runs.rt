@@ -1,7 +1,7 @@
 //! The Commits of one queue among folded steps, by runs.
 
 ghost use Rattle.std.specs.Prelude.{◌≡◌, ◌+◌, ◌*◌, ◌^◌, ◌<◌, ◌≤◌, nat_le, ◌↔◌, IsTrue, IfSome, OnOk, OnErr};
-ghost use Rattle.unit_history.specs.Runs.{OnRun, InRuns, AreRising, AreNumbered, AreBefore, OneMore, Extends, FindsOn, FindsIn, last_place, last_number};
+ghost use Rattle.unit_history.specs.Inner.Runs.{OnRun, InRuns, AreRising, AreNumbered, AreBefore, OneMore, Extends, FindsOn, FindsIn, last_place, last_number};
 
 use std::alloc::AllocError;
 

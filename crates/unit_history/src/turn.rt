@@ -2,7 +2,7 @@
 
 ghost use Rattle.std.specs.Prelude.{◌≡◌, ◌≢◌, ◌||◌, is_some, IsTrue, IsFalse};
 ghost use Rattle.unit_model.specs.Asking.{asked_of};
-ghost use Rattle.unit_history.specs.Turns.{Turns};
+ghost use Rattle.unit_history.specs.Inner.Turns.{Turns};
 
 use cdb::Command;
 use task_set::{Job, Task};

@@ -3,9 +3,9 @@
 ghost use Rattle.std.specs.Prelude.{◌≡◌, ◌≢◌, ◌+◌, ◌-◌, ◌<◌, ◌≤◌, length, OnOk, OnErr, IsTrue, IsFalse};
 ghost use Rattle.unit_model.specs.Base.{most_before};
 ghost use Rattle.unit_model.specs.Contents.{is_capacity as may_have};
-ghost use Rattle.task_set.specs.Tasks.{seen_of};
-ghost use Rattle.unit_history.specs.Parts.{AreClear};
-ghost use Rattle.unit_history.specs.Recorded.{most_steps};
+ghost use Rattle.task_set.specs.Inner.Tasks.{seen_of};
+ghost use Rattle.unit_history.specs.Inner.Parts.{AreClear};
+ghost use Rattle.unit_history.specs.Inner.Recorded.{most_steps};
 
 use crate::changes::Changes;
 use crate::last_tickets::LastTickets;
@@ -61,7 +61,8 @@ impl Model for UnitState {
 
     ghost Value = { PlainUnit };
 
-    ghost use Rattle.unit_history.specs.Fields.{plain_unit, IsTold};
+    ghost use Rattle.unit_history.specs.Fields.{plain_unit};
+    ghost use Rattle.unit_history.specs.Inner.Fields.{IsTold};
 
     ghost view = { plain_unit };
 

@@ -1,10 +1,7 @@
 -- Jobs as plain values.
-use Rattle.std.specs.Prelude.{ℕ, ◌+◌, ◌≤◌, ◌<◌, ◌^◌, Bool, not, is_some, List, filter}
+use Rattle.std.specs.Prelude.{ℕ, Bool, not, is_some, List, filter}
 use Rattle.scsi_codec.specs.declared.lun.Address.{Address}
-use Rattle.cdb.specs.declared.commands.Command.{Command}
-use Rattle.cdb.specs.Need.{need_of}
 use Rattle.ring_core.specs.State.{PlainChain}
-use Rattle.ring_core.specs.Parts.{writable_total}
 use Rattle.unit_model.specs.Tasks.{Entry, task_of}
 
 -- own: the index of its unit in the inventory, the address that its request names, its chain, and the task as it entered
@@ -13,11 +10,6 @@ pub record PlainJob : Type 0 where
   pub address : Address
   pub chain : PlainChain
   pub entry : Entry
-
--- the chain has room for the response, 108 bytes (VIRTIO 1.2 §5.6.6.1), and for the data that the command gives
-pub record HasRoom (c : PlainChain) (command : Command) : Type 0 where
-  pub room : 108 + (need_of command).into ≤ writable_total c.parts
-  pub less : writable_total c.parts < 2 ^ 32
 
 -- own: jobs in order, and how many there may be
 pub record Jobs : Type 0 where

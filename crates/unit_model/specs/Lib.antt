@@ -16,3 +16,4 @@ pub mod Unit
 pub mod Asking
 pub mod Counts
 pub mod Cases
+pub mod Inner

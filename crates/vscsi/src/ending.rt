@@ -2,7 +2,7 @@
 
 ghost use Rattle.std.specs.Prelude.{◌≡◌};
 ghost use Rattle.std.specs.Process.{exit_status};
-ghost use Rattle.vscsi.specs.Endings.{status_of};
+ghost use Rattle.vscsi.specs.Inner.Endings.{status_of};
 
 use script_lines::ScriptFault;
 use std::io;

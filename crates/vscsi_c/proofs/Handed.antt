@@ -9,7 +9,8 @@ use Rattle.unit_model.specs.Unit.{PlainUnit}
 use Rattle.unit_history.specs.declared.changes.Range.{Range}
 use Rattle.world.specs.Opening.{AreDisksFor, AreDisksOf}
 use Rattle.vscsi_c.specs.Changes.{range_of}
-use Rattle.vscsi_c.specs.Disks.{Fit, CreatesOver, CreatesOverOf, Closes, ClosesInto}
+use Rattle.vscsi_c.specs.Disks.{CreatesOver, CreatesOverOf, Closes, ClosesInto}
+use Rattle.vscsi_c.specs.Inner.Disks.{Fit}
 use Rattle.vscsi_c.specs.declared.answer.Answer.{Answer}
 use Rattle.vscsi_c.specs.declared.ranges.BlockRange.{BlockRange}
 use Rattle.vscsi_c.specs.declared.served.Served.{Served}

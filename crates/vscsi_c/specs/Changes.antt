@@ -1,5 +1,5 @@
 -- Which blocks of a unit may have changed, as C is told.
-use Rattle.std.specs.Prelude.{ℕ, ◌≡◌, ◌≤◌, ◌<◌, Bool, true, false, List, length, map, take, Option, Some, None}
+use Rattle.std.specs.Prelude.{ℕ, ◌≡◌, ◌≤◌, ◌<◌, false, List, length, map, take, Option, Some, None}
 use Rattle.unit_model.specs.Unit.{PlainUnit}
 use Rattle.unit_history.specs.Changes.{AreUnchanged}
 use Rattle.unit_history.specs.declared.changes.Range.{Range}

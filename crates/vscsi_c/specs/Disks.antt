@@ -92,11 +92,6 @@ abbrev pub Fits : UnitSpec → Option PagedStore → Type 0
 Fits u None = ⊥
 Fits u (Some s) = s.capacity ≡ u.blocks
 
--- each unit has one
-abbrev pub Fit : List UnitSpec → List (Option PagedStore) → Type 0
-Fit units disks = (k : ℕ) (u : UnitSpec) (disk : Option PagedStore) → slice_get units k ≡ Some u → slice_get disks k ≡ Some disk
-    → Fits u disk
-
 -- the first unit that has no disk, or one of another capacity, stands at a place
 abbrev pub Lacks : List UnitSpec → List (Option PagedStore) → ℕ → Type 0
 Lacks units disks place = (u : UnitSpec) × (disk : Option PagedStore) × (slice_get units place ≡ Some u)

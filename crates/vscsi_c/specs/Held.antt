@@ -1,6 +1,5 @@
 -- What a pointer that C keeps owns: a block with a device or a disk, and the right to free it; or nothing.
-use Rattle.std.specs.Prelude.{◌≡◌, ◌⊎◌, Option, Some, None}
-use Rattle.std.specs.Coded.{Coded, code_by, coded⊎}
+use Rattle.std.specs.Prelude.{Option, Some, None}
 use Rattle.std.specs.Box.Ownership.{box_owns}
 use Rattle.std.specs.declared.alloc.Global.{Global}
 use Rattle.std.specs.contracts.impls.GlobalAllocator.TheImpl.{ghosts}
@@ -8,8 +7,6 @@ use Rattle.block_store.specs.declared.paged.PagedStore.{PagedStore}
 use Rattle.block_store.specs.contracts.paged.PagedStore as paged
 use Rattle.vscsi_c.specs.declared.served.Served.{Served}
 use Rattle.vscsi_c.specs.contracts.served.Served as served
-use mathlib.Core.Path.{refl}
-use mathlib.Core.Logic.{inl, inr}
 use base.Fml.{Fml, ftrue}
 use denote.RawPtr.{Ptr}
 
@@ -20,23 +17,6 @@ the_heap = record { memory = record { seal = tt } }
 pub data Content : Type 0 where
   Device : Served → Content
   Disk : PagedStore → Content
-
--- how the logic stores it
-abbrev pub to_sum : Content → Served ⊎ PagedStore
-to_sum (Content.Device d) = inl d
-to_sum (Content.Disk s) = inr s
-
-abbrev pub of_sum : Served ⊎ PagedStore → Content
-of_sum (inl d) = Content.Device d
-of_sum (inr s) = Content.Disk s
-
-pub of_sum-to_sum : (c : Content) → of_sum (to_sum c) ≡ c
-of_sum-to_sum (Content.Device d) = refl
-of_sum-to_sum (Content.Disk s) = refl
-
-abbrev pub content_code : Coded Content
-content_code =
-    code_by (Served ⊎ PagedStore) (coded⊎ served.the_row.coded paged.the_row.coded) to_sum of_sum of_sum-to_sum
 
 abbrev pub held : Ptr → Option Content → Fml
 held at None = ftrue

@@ -1,7 +1,7 @@
 -- The device that C keeps somewhere, if there is one, and the disk.
-use Rattle.std.specs.Prelude.{ℕ, ◌≡◌, Bool, true, false, Option, Some, None, List, map}
+use Rattle.std.specs.Prelude.{Option, List, map}
 use Rattle.block_store.specs.declared.paged.PagedStore.{PagedStore}
-use Rattle.vscsi_c.specs.Held.{Content, device_in, disk_in}
+use Rattle.vscsi_c.specs.Held.{device_in, disk_in}
 use Rattle.vscsi_c.specs.declared.device.Device.{Device}
 use Rattle.vscsi_c.specs.declared.disk.Disk.{Disk}
 use Rattle.vscsi_c.specs.declared.served.Served.{Served}

@@ -7,3 +7,4 @@ pub mod Places
 pub mod Disks
 pub mod Changes
 pub mod Counts
+pub mod Inner

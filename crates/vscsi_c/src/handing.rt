@@ -7,7 +7,8 @@ ghost use Rattle.std.specs.Vec.{vec_capacity};
 ghost use Rattle.std.specs.Result.{MatchResult};
 ghost use Rattle.vscsi_c.specs.Kept.{kept_in, disk_at, disks_at};
 ghost use Rattle.vscsi_c.specs.Calls.{plain_cause};
-ghost use Rattle.vscsi_c.specs.Disks.{Fits, Lacks, Fit, CreatesOver, Closes};
+ghost use Rattle.vscsi_c.specs.Disks.{Fits, Lacks, CreatesOver, Closes};
+ghost use Rattle.vscsi_c.specs.Inner.Disks.{Fit};
 
 use crate::answer::Answer;
 use crate::device::Device;

@@ -2,7 +2,8 @@
 
 ghost use Rattle.std.specs.Prelude.{◌≡◌, Option, Some, None, is_some, true};
 ghost use Rattle.std.specs.Coded.{coded_option};
-ghost use Rattle.vscsi_c.specs.Held.{Content, content_code, device_in, disk_in};
+ghost use Rattle.vscsi_c.specs.Held.{Content, device_in, disk_in};
+ghost use Rattle.vscsi_c.specs.Inner.Held.{content_code};
 
 use crate::loose::Loose;
 use crate::served::Served;

@@ -1,8 +1,10 @@
 -- Lists of threads and of seats.
 use Rattle.std.proofs.Common.{◌≡◌, ℕ, ◌+◌, List, [], ◌∷◌, ◌++◌, length, sym, ap, ◌∙◌, subst, arith}
 use Rattle.std.proofs.lemmas.List.{length-append}
-use Rattle.handoff.specs.Seats.{Hub, PlainSeat, IsSeatOf, AreSeatsFrom, AreAllSeats}
-use Rattle.workers.specs.Crew.{Hand, AreHired, IsLastSeat}
+use Rattle.handoff.specs.Seats.{Hub, PlainSeat, IsSeatOf}
+use Rattle.handoff.specs.Inner.Seats.{AreSeatsFrom, AreAllSeats}
+use Rattle.workers.specs.Crew.{Hand, IsLastSeat}
+use Rattle.workers.specs.Inner.Crew.{AreHired}
 
 pub hired_more : (h : Hub) (k : ℕ) (ps : List Hand) (p : Hand) → AreHired h k ps → p.hub ≡ h → p.number ≡ k + length ps
     → AreHired h k (ps ++ p ∷ [])

@@ -1,16 +1,11 @@
 -- Threads, and the seats that they bring back.
-use Rattle.std.specs.Prelude.{◌≡◌, ℕ, ◌+◌, List, [], ◌∷◌, ⊤}
+use Rattle.std.specs.Prelude.{◌≡◌, ℕ, ◌+◌}
 use Rattle.handoff.specs.Seats.{Hub, PlainSeat, IsSeatOf}
 
 -- own: a thread that brings back the seat of this number of this hand-off
 pub record Hand : Type 0 where
   pub hub : Hub
   pub number : ℕ
-
--- own: threads bring back the seats from a number on, in order
-abbrev pub AreHired : Hub → ℕ → List Hand → Type 0
-AreHired h k [] = ⊤
-AreHired h k (p ∷ ps) = (p.hub ≡ h) × (p.number ≡ k) × AreHired h (k + 1) ps
 
 -- own: the threads that bring back all seats of a hand-off but the last: which hand-off, and how many threads
 pub record Band : Type 0 where

@@ -3,3 +3,4 @@ pub mod Extent
 pub mod Ledgers
 pub mod Resetting
 pub mod Resizing
+pub mod Inner

@@ -3,8 +3,10 @@
 ghost use Rattle.std.specs.Prelude.{◌≡◌, ◌+◌, ◌<◌, ◌≤◌, [], vec_len, IfOk};
 ghost use Rattle.std.specs.Vec.{vec_capacity};
 ghost use Rattle.std.specs.Arc.{arc_value};
-ghost use Rattle.handoff.specs.Seats.{Hub, IsSeatOf, AreSeatsFrom, AreAllSeats};
-ghost use Rattle.workers.specs.Crew.{AreHired, IsLastSeat};
+ghost use Rattle.handoff.specs.Seats.{Hub, IsSeatOf};
+ghost use Rattle.handoff.specs.Inner.Seats.{AreSeatsFrom, AreAllSeats};
+ghost use Rattle.workers.specs.Crew.{IsLastSeat};
+ghost use Rattle.workers.specs.Inner.Crew.{AreHired};
 
 use crate::hired::{Begins, Hired, Worked, Works, hire_one};
 use handoff::{Handoff, Seat};
@@ -23,7 +25,8 @@ pub struct Crew<K: Drop> {
 
 impl<K: Drop> Model for Crew<K> {
     ghost use Rattle.std.specs.Prelude.{◌≡◌, ◌+◌, vec_len};
-    ghost use Rattle.workers.specs.Crew.{Band, AreHired};
+    ghost use Rattle.workers.specs.Crew.{Band};
+    ghost use Rattle.workers.specs.Inner.Crew.{AreHired};
 
     ghost Value = { Band };
 

@@ -16,11 +16,11 @@ use Rattle.queues.specs.Queue.{BareQueue}
 use Rattle.phases.specs.Queue.{with_slot}
 use Rattle.phases.specs.Direct.{decided_writes, StaysQueue}
 use Rattle.phases.specs.Answering.{Answers}
-use Rattle.phases.specs.InMemory.{as_seen, DoesQueueIn, AtQueueIn, AnswersIn, LetsGoIn, StaysQueueIn}
+use Rattle.phases.specs.Inner.InMemory.{as_seen, DoesQueueIn, AtQueueIn, AnswersIn, LetsGoIn, StaysQueueIn}
 use Rattle.world.specs.Kept.{KeptSeat, seat_of}
 use Rattle.device_model.specs.Turns.{Turns}
 use Rattle.world.specs.Apart.{TurnsSeen}
-use Rattle.world.specs.Sound.{IsSound}
+use Rattle.world.specs.Inner.Sound.{IsSound}
 use Rattle.world.proofs.Setting.{set_change}
 use Rattle.world.proofs.Seats.{seat_set, shown, one_there, with_queue_and_seat, moved_queue}
 use Rattle.world.proofs.InMemory.{turned}

@@ -8,7 +8,7 @@ use Rattle.device_model.specs.Applies.{Applies, MayPut, MayTake, MayMark, MayChe
 use Rattle.device_model.specs.Order.{each, of_seat, fetch_of, order_by, IsFirstOf, IsNextOf, IsQuietOf, NoneApplies}
 use Rattle.device_model.specs.Live.{with_memory, IsNextLive}
 use Rattle.world.specs.Apart.{PlainDevice, standing}
-use Rattle.world.specs.Cursors.{of_function, NoStart, NoDirectBelow, NoSeat, NoEnterBelow, NoneBefore}
+use Rattle.world.specs.Inner.Cursors.{of_function, NoStart, NoDirectBelow, NoSeat, NoEnterBelow, NoneBefore}
 use Rattle.world.specs.declared.cursor.Cursor.{Cursor}
 use Rattle.world.specs.declared.cursor.Cursor.TheVariants as cursor
 

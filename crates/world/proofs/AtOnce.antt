@@ -23,12 +23,13 @@ use Rattle.phases.specs.DoingUnit.{with_more}
 use Rattle.phases.specs.Fetching.{FetchesRequest}
 use Rattle.phases.specs.Units as phases
 use Rattle.phases.specs.EventsInMemory.{SeesBy}
-use Rattle.phases.specs.ServingInMemory.{ServesAtOnceIn, OnlyEntersIn, ServesIn}
+use Rattle.phases.specs.Inner.ServingInMemory.{ServesAtOnceIn, OnlyEntersIn, ServesIn}
 use Rattle.world.specs.Kept.{KeptSeat, seat_of}
-use Rattle.world.specs.Sound.{AreSound, IsSound, IsWhole}
+use Rattle.world.specs.Sound.{IsWhole}
+use Rattle.world.specs.Inner.Sound.{AreSound, IsSound}
 use Rattle.world.specs.Settling.{ServesBy}
 use Rattle.world.specs.LiveServing.{IsNoticedBy, CompletesNone, TakesNoChain, FollowsSeen}
-use Rattle.world.specs.Cursors.{MayServe, served_of, StepsNext, Sees, TurnsBy, TurnsFirst, NoneBefore, NoneBeforeFetch, NoFetchBelow, NoSeat, NoEnter, NoSeatBelow}
+use Rattle.world.specs.Inner.Cursors.{MayServe, served_of, StepsNext, Sees, TurnsBy, TurnsFirst, NoneBefore, NoneBeforeFetch, NoFetchBelow, NoSeat, NoEnter, NoSeatBelow}
 use Rattle.world.specs.declared.cursor.Cursor.{Cursor}
 use Rattle.world.specs.declared.cursor.Cursor.TheVariants as cursor
 use Rattle.world.proofs.Placing.{everywhere_set}

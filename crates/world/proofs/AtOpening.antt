@@ -25,8 +25,10 @@ use Rattle.config.specs.declared.config.Config.{Config}
 use Rattle.config.specs.Config.{is_config, is_config_for, has_pages, is_queue, is_unit, has_lun_0, are_queues, are_units, form_of, size_of}
 use Rattle.block_store.specs.declared.paged.PagedStore.{PagedStore}
 use Rattle.unit_history.specs.Disks.{opening_over, IsDiskOf}
-use Rattle.world.specs.Opening.{AreOpening, AreFresh, AreSeats, IsOpeningFor, AreDisksOf, over_disks, opening_unit}
-use Rattle.world.specs.Kept.{KeptSeat, seat_of, HasLists}
+use Rattle.world.specs.Opening.{AreOpening, AreFresh, IsOpeningFor, AreDisksOf, over_disks, opening_unit}
+use Rattle.world.specs.Inner.Opening.{AreSeats}
+use Rattle.world.specs.Kept.{KeptSeat, seat_of}
+use Rattle.world.specs.Inner.Kept.{HasLists}
 use Rattle.world.specs.Sound.{AreFew, AreFitting, IsSteady, IsWhole}
 use Rattle.world.proofs.Setting.{map_get, each_image}
 use Rattle.world.specs.Sound as seen

@@ -15,9 +15,10 @@ use Rattle.device_model.specs.Happens.{IsOpenTo}
 use Rattle.device_model.specs.Phases.{AsksQueue}
 use Rattle.device_model.proofs.Joining.{joins}
 use Rattle.phases.specs.EventQueue.{IsEventFetch, MayHold, port_after}
-use Rattle.phases.specs.EventsInMemory.{DoesAtPortIn, FetchesEventIn, StaysAtPortIn}
+use Rattle.phases.specs.Inner.EventsInMemory.{DoesAtPortIn, FetchesEventIn, StaysAtPortIn}
 use Rattle.world.specs.Apart.{TurnsSeen, TurnsSeenOrWants}
-use Rattle.world.specs.Sound.{IsSound, AreFew, size_of}
+use Rattle.world.specs.Sound.{AreFew, size_of}
+use Rattle.world.specs.Inner.Sound.{IsSound}
 use Rattle.world.proofs.Setting.{map_get, set_same}
 use Rattle.world.proofs.Placing.{set_as}
 use Rattle.world.proofs.Fetches.{at_number, has_some}

@@ -7,7 +7,7 @@ use Rattle.device_model.specs.Transitions.{Transition}
 use Rattle.device_model.proofs.Applying.{applies}
 use Rattle.device_model.proofs.Lists.{nothing}
 use Rattle.device_model.specs.Order.{IsFirstOf, NoneApplies}
-use Rattle.world.specs.Cursors.{TurnsBy, TurnsFirst, of_function}
+use Rattle.world.specs.Inner.Cursors.{TurnsBy, TurnsFirst, of_function}
 
 -- where an event changed something it applied, so it is first where it is behind those that don't apply
 pub taken : (Q : Transition → Type 0) (xs : List Event) (e : Event) (w w' : PlainWorld) → (Applies w e → IsFirstOf w xs e)

@@ -27,7 +27,7 @@ use Rattle.phases.specs.Parts.{committing_unit}
 use Rattle.phases.specs.DoingUnit.{DoesUnit}
 use Rattle.phases.specs.Units.{IsCommitting, ending_after, Commits}
 use Rattle.world.specs.Kept.{KeptSeat, seat_of}
-use Rattle.world.specs.Sound.{IsSound}
+use Rattle.world.specs.Inner.Sound.{IsSound}
 use Rattle.world.proofs.Setting.{set_change, set_same}
 use Rattle.world.proofs.Seats.{seat_set, shown, with_unit_and_seat, moved}
 

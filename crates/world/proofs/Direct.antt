@@ -11,9 +11,9 @@ use Rattle.device_model.proofs.Joining.{joins}
 use Rattle.queues.specs.Queue.{BareQueue}
 use Rattle.phases.specs.Queue.{with_slot}
 use Rattle.phases.specs.Direct.{decided_writes}
-use Rattle.phases.specs.InMemory.{as_seen, DoesQueueIn, DirectsIn, LetsGoIn, StaysQueueIn}
+use Rattle.phases.specs.Inner.InMemory.{as_seen, DoesQueueIn, DirectsIn, LetsGoIn, StaysQueueIn}
 use Rattle.world.specs.Apart.{TurnsSeen}
-use Rattle.world.specs.Sound.{IsSound}
+use Rattle.world.specs.Inner.Sound.{IsSound}
 use Rattle.world.proofs.Setting.{set_change, set_same}
 use Rattle.world.proofs.Seats.{one_there}
 

@@ -13,10 +13,11 @@ use Rattle.phases.specs.InMemory.{EachSeen}
 use Rattle.phases.specs.EventsInMemory.{SeesBy}
 use Rattle.phases.proofs.Behind.{each_own, each_read}
 use Rattle.world.specs.Settling.{order_for, ServesBy, MayWantFirst}
-use Rattle.world.specs.Sound.{IsSound}
-use Rattle.world.specs.Apart.{PlainDevice, standing, FitsIn, TurnsIn, TurnsInOrWants, TurnsAlone}
+use Rattle.world.specs.Inner.Sound.{IsSound}
+use Rattle.world.specs.Apart.{PlainDevice, standing, FitsIn, TurnsInOrWants}
+use Rattle.world.specs.Inner.Apart.{TurnsIn, TurnsAlone}
 use Rattle.world.specs.LiveServing.{IsNoticedBy, CompletesNone, AreNoticed, ServesSeen, FollowsSeen, TakesNoChain, DoneIn, TakesAndServes, ServesInPhase}
-use Rattle.world.specs.Cursors.{TurnsBy, TurnsFirst, StepsNext, ServesNext, TurnsNext, Sees, IsReadyIn, AtEach, FindsIn, TurnsFirstIn, TurnsFirstAlone, ServesNextIn, TurnsNextIn, FetchesOn, NoneBefore}
+use Rattle.world.specs.Inner.Cursors.{TurnsBy, TurnsFirst, StepsNext, ServesNext, TurnsNext, Sees, IsReadyIn, AtEach, FindsIn, TurnsFirstIn, TurnsFirstAlone, ServesNextIn, TurnsNextIn, FetchesOn, NoneBefore}
 use Rattle.world.specs.declared.cursor.Cursor.{Cursor}
 use Rattle.world.specs.declared.cursor.Progress.{Progress}
 use Rattle.world.proofs.InMemory.{each_before, each_from, alone_in, NeedsNone, alone_seen}

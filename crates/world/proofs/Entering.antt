@@ -22,7 +22,7 @@ use Rattle.phases.specs.Slots.{arrived_unit}
 use Rattle.phases.specs.DoingUnit.{DoesUnit, with_more}
 use Rattle.phases.specs.Units.{Enters, IsEntering, slot_after}
 use Rattle.world.specs.Kept.{KeptSeat, seat_of}
-use Rattle.world.specs.Sound.{IsSound}
+use Rattle.world.specs.Inner.Sound.{IsSound}
 use Rattle.world.proofs.Setting.{list_of, listing, slot_change, unit_change, unit_still, seat_there, seat_more, seat_still, none_more, has_places}
 
 -- the list keeps its limit

@@ -15,10 +15,10 @@ use Rattle.device_model.proofs.Joining.{joins}
 use Rattle.device_model.proofs.Lists.{same}
 use Rattle.phases.specs.DoingQueue.{DoesQueue}
 use Rattle.phases.specs.Fetching.{HasSome, IsRequestFetch, FetchesRequest, IsControlFetch, FetchesControl, opens}
-use Rattle.world.specs.Steps.{TurnsOrWants}
+use Rattle.world.specs.Inner.Steps.{TurnsOrWants}
 use Rattle.world.proofs.Setting.{set_same}
 use Rattle.world.proofs.Placing.{set_as}
-use Rattle.world.specs.Sound.{IsSound}
+use Rattle.world.specs.Inner.Sound.{IsSound}
 use Rattle.world.proofs.Memories.{keeps_memory}
 
 -- the world with these queues

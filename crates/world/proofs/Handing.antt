@@ -12,7 +12,8 @@ use Rattle.device_model.specs.Applies.{MayPut, MayTake}
 use Rattle.device_model.specs.Turns.{Turns}
 use Rattle.device_model.proofs.Lists.{same, nothing}
 use Rattle.world.specs.Kept.{KeptSeat, seat_of}
-use Rattle.world.specs.Off.{KeptOff, AreBare, PutsAt, IsFullAt, TakesNearest}
+use Rattle.world.specs.Off.{KeptOff}
+use Rattle.world.specs.Inner.Off.{AreBare, PutsAt, IsFullAt, TakesNearest}
 use Rattle.world.proofs.Setting.{set_same, map_get, seat_change}
 
 -- a list that has a first item begins with it

@@ -12,9 +12,11 @@ use Rattle.device_model.specs.Turns.{Turns}
 use Rattle.phases.specs.InMemory.{EachSeen}
 use Rattle.phases.specs.EventsInMemory.{SeesBy}
 use Rattle.phases.proofs.Behind.{each_own, each_read}
-use Rattle.world.specs.Steps.{TurnsOrWants}
-use Rattle.world.specs.Sound.{AreFew, IsSound}
-use Rattle.world.specs.Apart.{PlainDevice, standing, FitsIn, HasFew, IsSoundIn, TurnsSeen, TurnsSeenOrWants, TurnsIn, TurnsInOrWants, TurnsAlone, TurnsAloneOrWants}
+use Rattle.world.specs.Inner.Steps.{TurnsOrWants}
+use Rattle.world.specs.Sound.{AreFew}
+use Rattle.world.specs.Inner.Sound.{IsSound}
+use Rattle.world.specs.Apart.{PlainDevice, standing, FitsIn, TurnsSeen, TurnsSeenOrWants, TurnsInOrWants}
+use Rattle.world.specs.Inner.Apart.{HasFew, IsSoundIn, TurnsIn, TurnsAlone, TurnsAloneOrWants}
 
 -- what is seen of a turn is one
 pub turned : (n : List ℕ) (w : PlainWorld) (e : Event) (b : Bool) (w' : PlainWorld) → TurnsSeen n w e b w' → Turns w e b w'

@@ -23,7 +23,7 @@ use Rattle.phases.specs.Parts.{leaving_unit}
 use Rattle.phases.specs.DoingUnit.{DoesUnit, with_more}
 use Rattle.phases.specs.Units.{Leaves}
 use Rattle.world.specs.Kept.{KeptSeat, seat_of}
-use Rattle.world.specs.Sound.{IsSound}
+use Rattle.world.specs.Inner.Sound.{IsSound}
 use Rattle.world.proofs.Setting.{set_change}
 use Rattle.world.proofs.Seats.{seat_set, shown, one_there, with_unit_and_seat, moved}
 

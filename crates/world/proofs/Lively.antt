@@ -11,9 +11,12 @@ use Rattle.device_model.specs.Happens.{Occurrence, Reached, Runs, occurrence_of}
 use Rattle.device_model.specs.Turns.{Turns, count_changes}
 use Rattle.device_model.specs.Live.{with_memory, refill, IsRefilled, LiveRuns}
 use Rattle.device_model.proofs.Turning.{step_of}
-use Rattle.world.specs.Apart.{PlainDevice, standing, IsSoundIn, FitsIn, HasFew, TurnsInOrWants}
-use Rattle.world.specs.LiveWorld.{GoesOnLive, IsSteadyIn, RanLive, RunsPromised, StepRan, StepsAll, StepsEach, StepsPromised}
-use Rattle.world.specs.Sound.{AreSound, IsSteady}
+use Rattle.world.specs.Apart.{PlainDevice, standing, FitsIn, TurnsInOrWants}
+use Rattle.world.specs.Inner.Apart.{IsSoundIn, HasFew}
+use Rattle.world.specs.LiveWorld.{GoesOnLive, IsSteadyIn, RunsPromised, StepsAll, StepsEach, StepsPromised}
+use Rattle.world.specs.Inner.LiveWorld.{RanLive, StepRan}
+use Rattle.world.specs.Sound.{IsSteady}
+use Rattle.world.specs.Inner.Sound.{AreSound}
 use Rattle.world.proofs.InMemory.{turned, turned_or, few_in, has_few}
 use Rattle.world.proofs.Promising.{AllArePromised, AllGoOn}
 use Rattle.world.proofs.Reaching.{steady_by_result}

@@ -18,8 +18,8 @@ use Rattle.device_model.specs.Happens.{IsOpenTo, SeatIs}
 use Rattle.device_model.proofs.Lists.{same, nothing}
 use Rattle.device_model.specs.Order.{of_seat, IsQuietOf, NoneApplies}
 use Rattle.device_model.proofs.Quiet.{AllQuiet, all_quiet}
-use Rattle.world.specs.Cursors.{Denies, of_function, NoDirect, NoSeat, NoEnter, NoFetch}
-use Rattle.world.specs.Off.{AreBare}
+use Rattle.world.specs.Inner.Cursors.{Denies, of_function, NoDirect, NoSeat, NoEnter, NoFetch}
+use Rattle.world.specs.Inner.Off.{AreBare}
 use Rattle.world.proofs.Choosing.{option_none}
 use Rattle.world.proofs.Ordering.{none_left}
 use Rattle.world.proofs.Stages as stages

@@ -5,8 +5,9 @@ use Rattle.std.proofs.lemmas.Option.{slice_get_within, slice_get_read}
 use Rattle.unit_model.specs.Jobs.{PlainJob, Jobs}
 use Rattle.device_model.specs.World.{change}
 use Rattle.device_model.specs.After.{with_job}
-use Rattle.world.specs.Cursors.{Denies}
-use Rattle.world.specs.Off.{jobs_of, HaveLimit, AreBare, AreBareBetween, HasJob, IsFirstBetween, IsNearest, PutsAt, Takes}
+use Rattle.world.specs.Inner.Cursors.{Denies}
+use Rattle.world.specs.Off.{jobs_of}
+use Rattle.world.specs.Inner.Off.{HaveLimit, AreBare, AreBareBetween, HasJob, IsFirstBetween, IsNearest, PutsAt, Takes}
 use Rattle.world.proofs.Setting.{set_change, map_set, map_get, everywhere_set}
 
 -- a list that is set as a change has it is that change of the lists

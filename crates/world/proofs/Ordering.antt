@@ -6,7 +6,7 @@ use Rattle.device_model.specs.Happens.{MayWant}
 use Rattle.device_model.specs.Applies.{Applies}
 use Rattle.device_model.specs.Order.{each, of_seat, fetch_of, order_by, IsFirstOf, NoneApplies, IsQuietOf}
 use Rattle.world.specs.Settling.{order_for, MayWantFirst}
-use Rattle.world.specs.Cursors.{of_function, NoStart, NoDirectBelow, NoDirect, NoSeatBelow, NoSeat, NoEnterBelow, NoEnter, NoFetchBelow, NoFetch, NoneBeforeFetch}
+use Rattle.world.specs.Inner.Cursors.{of_function, NoStart, NoDirectBelow, NoDirect, NoSeatBelow, NoSeat, NoEnterBelow, NoEnter, NoFetchBelow, NoFetch, NoneBeforeFetch}
 
 -- of one of these events something holds, and none before it applies
 abbrev pub First : (Event → Type 0) → PlainWorld → List Event → Type 0

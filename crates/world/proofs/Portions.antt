@@ -17,7 +17,7 @@ use Rattle.device_model.proofs.Bounds.{settles_of_short}
 use Rattle.world.specs.declared.service.Served.{Served}
 use Rattle.world.specs.Settling.{asks, asks_all, order_for, ServesBy, MayWantFirst, ServesSome, ServesUntilRefused, ServesSomeOrWants, ServesAll, ServesInPart, ServesOrWants}
 use Rattle.world.specs.Promise.{GoesOnInOrder}
-use Rattle.world.specs.Cursors.{Denies}
+use Rattle.world.specs.Inner.Cursors.{Denies}
 use Rattle.world.specs.Sound.{IsReached}
 use Rattle.world.proofs.Ordering.{AskAlike, order_alike}
 

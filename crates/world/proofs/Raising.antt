@@ -17,10 +17,10 @@ use Rattle.device_model.proofs.Joining.{joins}
 use Rattle.device_model.proofs.Lists.{same}
 use Rattle.queues.specs.Queue.{BareQueue, MayComplete}
 use Rattle.phases.specs.Queue.{with_slot}
-use Rattle.phases.specs.InMemory.{as_seen}
-use Rattle.phases.specs.EventsInMemory.{RaisesNextIn, RaisesToIn, StaysRaisedIn}
+use Rattle.phases.specs.Inner.InMemory.{as_seen}
+use Rattle.phases.specs.Inner.EventsInMemory.{RaisesNextIn, RaisesToIn, StaysRaisedIn}
 use Rattle.world.specs.Apart.{TurnsSeen}
-use Rattle.world.specs.Sound.{IsSound}
+use Rattle.world.specs.Inner.Sound.{IsSound}
 use Rattle.world.proofs.Setting.{set_same}
 use Rattle.world.proofs.Placing.{set_as}
 

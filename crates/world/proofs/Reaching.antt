@@ -13,10 +13,13 @@ use Rattle.device_model.specs.Lawful.{KeepsParts}
 use Rattle.device_model.specs.Turns.{Turns, IsStep}
 use Rattle.device_model.proofs.Staying.{transition_stays}
 use Rattle.device_model.proofs.Turning.{step_of}
-use Rattle.world.specs.Apart.{PlainDevice, standing, TurnsAlone, TurnsAloneOrWants}
-use Rattle.world.specs.Sound.{AreFew, AreFitting, IsReached, IsSound, IsSteady, IsWhole, size_of, lun_of}
-use Rattle.world.specs.Steps.{TurnsOrWants, Steps}
-use Rattle.world.specs.Cursors.{StepsNext, TurnsNext}
+use Rattle.world.specs.Apart.{PlainDevice, standing}
+use Rattle.world.specs.Inner.Apart.{TurnsAlone, TurnsAloneOrWants}
+use Rattle.world.specs.Sound.{AreFew, AreFitting, IsReached, IsSteady, IsWhole, size_of, lun_of}
+use Rattle.world.specs.Inner.Sound.{IsSound}
+use Rattle.world.specs.Steps.{Steps}
+use Rattle.world.specs.Inner.Steps.{TurnsOrWants}
+use Rattle.world.specs.Inner.Cursors.{StepsNext, TurnsNext}
 use Rattle.world.specs.declared.cursor.Cursor.{Cursor}
 use Rattle.world.specs.declared.cursor.Progress.{Progress}
 use Rattle.world.proofs.Keeping.{sizes_stay, luns_stay, room_of, rooms_stay}

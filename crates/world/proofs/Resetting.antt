@@ -21,7 +21,7 @@ use Rattle.phases.specs.declared.resetting.ResetFault.{ResetFault}
 use Rattle.phases.specs.declared.resetting.ResetFault.TheVariants as fault
 use Rattle.phases.specs.Resetting.{Resets}
 use Rattle.world.specs.Kept.{KeptSeat, seat_of}
-use Rattle.world.specs.Steps.{TurnsOrWants}
+use Rattle.world.specs.Inner.Steps.{TurnsOrWants}
 use Rattle.world.specs.Sound.{AreFew, lun_of}
 use Rattle.world.proofs.Setting.{list_of, listing, unit_change, unit_still, map_get, seat_there, seat_more, seat_still, has_places}
 

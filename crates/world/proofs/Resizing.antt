@@ -14,7 +14,7 @@ use Rattle.device_model.specs.After.{change_reports}
 use Rattle.device_model.specs.Addressed.{AreAddressed}
 use Rattle.device_model.proofs.Joining.{joins}
 use Rattle.phases.specs.Resizing.{ResizesUnit}
-use Rattle.world.specs.Steps.{TurnsOrWants}
+use Rattle.world.specs.Inner.Steps.{TurnsOrWants}
 use Rattle.world.specs.Sound.{AreFew, lun_of}
 use Rattle.world.proofs.Setting.{unit_change, unit_still, map_get}
 

@@ -16,9 +16,9 @@ use Rattle.device_model.proofs.Joining.{joins}
 use Rattle.device_model.proofs.Lists.{same, nothing}
 use Rattle.queues.specs.Queue.{BareQueue, MayComplete}
 use Rattle.phases.specs.Queue.{with_slot}
-use Rattle.phases.specs.InMemory.{as_seen, RespondsIn, RespondsWhereIn, StaysQueueIn}
+use Rattle.phases.specs.Inner.InMemory.{as_seen, RespondsIn, RespondsWhereIn, StaysQueueIn}
 use Rattle.world.specs.Apart.{TurnsSeen}
-use Rattle.world.specs.Sound.{IsSound}
+use Rattle.world.specs.Inner.Sound.{IsSound}
 use Rattle.world.proofs.Setting.{set_same}
 use Rattle.world.proofs.Placing.{set_as}
 

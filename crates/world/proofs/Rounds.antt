@@ -19,8 +19,8 @@ use Rattle.world.specs.Apart.{PlainDevice, standing}
 use Rattle.world.specs.Sound.{IsReached, IsSteady}
 use Rattle.world.specs.LiveWorld.{PlainLive, IsSteadyIn}
 use Rattle.world.specs.LiveServing.{ServesInPhase, ServesLiveBy, HasNone, HasNext, Looks, event_at, GoesOnServedLive}
-use Rattle.world.specs.Cursors.{Denies, NoneBefore, TurnsNextIn}
-use Rattle.world.specs.Rounds.{RoundsNext, TurnsRound, LeavesBy, SettledLive, SettlesNext}
+use Rattle.world.specs.Inner.Cursors.{Denies, NoneBefore, TurnsNextIn}
+use Rattle.world.specs.Inner.Rounds.{RoundsNext, TurnsRound, LeavesBy, SettledLive, SettlesNext}
 use Rattle.world.specs.declared.cursor.Cursor.{Cursor}
 use Rattle.world.specs.declared.cursor.Progress.{Progress}
 use Rattle.world.proofs.AnyMemory.{next_live}

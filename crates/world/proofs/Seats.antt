@@ -5,7 +5,8 @@ use Rattle.std.specs.Prelude.{slice_get, slice_set, map}
 use Rattle.unit_model.specs.Unit.{PlainUnit}
 use Rattle.device_model.specs.World.{PlainQueue, Seat, PlainWorld, change}
 use Rattle.device_model.proofs.Lists.{same, nothing}
-use Rattle.world.specs.Kept.{KeptSeat, seat_of, HasLists}
+use Rattle.world.specs.Kept.{KeptSeat, seat_of}
+use Rattle.world.specs.Inner.Kept.{HasLists}
 use Rattle.world.proofs.Setting.{set_change, set_same, map_set, map_get}
 
 -- a list with an item set is as long as it was

@@ -14,7 +14,7 @@ use Rattle.device_model.specs.Order.{IsNextOf}
 use Rattle.device_model.specs.Settling.{SettlesOf}
 use Rattle.world.specs.Steps.{IsRun, events_of}
 use Rattle.world.specs.Settling.{ServesBy}
-use Rattle.world.specs.Cursors.{StepsNext}
+use Rattle.world.specs.Inner.Cursors.{StepsNext}
 use Rattle.world.specs.declared.cursor.Cursor.{Cursor}
 
 -- one item more

@@ -12,8 +12,10 @@ use Rattle.device_model.specs.Standing.{HaveRoom}
 use Rattle.device_model.specs.Turns.{Turns}
 use Rattle.phases.specs.DoingUnit.{HasPlaces, with_more}
 use Rattle.world.specs.Apart.{PlainDevice, standing}
-use Rattle.world.specs.Kept.{KeptSeat, seat_of, HasLists}
-use Rattle.world.specs.Sound.{AreFitting, IsSound}
+use Rattle.world.specs.Kept.{KeptSeat, seat_of}
+use Rattle.world.specs.Inner.Kept.{HasLists}
+use Rattle.world.specs.Sound.{AreFitting}
+use Rattle.world.specs.Inner.Sound.{IsSound}
 use Rattle.device_model.proofs.Lists.{same, nothing}
 
 -- to set what a change gives is the change

@@ -8,7 +8,7 @@ use Rattle.device_model.specs.Applies.{Applies}
 use Rattle.device_model.specs.Phases.{HasHand}
 use Rattle.device_model.proofs.Lists.{same, nothing}
 use Rattle.device_model.specs.Order.{of_seat, IsFirstOf, NoneApplies}
-use Rattle.world.specs.Stages.{stage_of}
+use Rattle.world.specs.Inner.Stages.{stage_of}
 use Rattle.world.specs.declared.seat.Stage.{Stage}
 use Rattle.world.specs.declared.seat.Stage.TheVariants as stage
 

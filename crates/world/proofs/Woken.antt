@@ -20,7 +20,7 @@ use Rattle.device_model.specs.Order.{of_seat, IsFirstOf, IsNextOf, NoneApplies}
 use Rattle.device_model.specs.Waking.{IsAmong, IsFetch, IsTake, IsOwn, Wakes}
 use Rattle.phases.specs.Slots.{arrived_unit}
 use Rattle.device_model.proofs.Waking.{wakes}
-use Rattle.world.specs.Cursors.{TurnsBy, TurnsFirst, of_function, NoStart, NoDirectBelow, NoDirect, NoSeatBelow, NoSeat, NoEnterBelow, NoFetchBelow, NoneBefore, NoneBeforeFetch, LeavesNext, EntersNext, FetchesNext, StepsNext, direct_from, seat_from, enter_from}
+use Rattle.world.specs.Inner.Cursors.{TurnsBy, TurnsFirst, of_function, NoStart, NoDirectBelow, NoDirect, NoSeatBelow, NoSeat, NoEnterBelow, NoFetchBelow, NoneBefore, NoneBeforeFetch, LeavesNext, EntersNext, FetchesNext, StepsNext, direct_from, seat_from, enter_from}
 use Rattle.world.specs.Settling.{order_for, MayWantFirst}
 use Rattle.world.specs.declared.cursor.Cursor.{Cursor}
 use Rattle.world.specs.declared.cursor.Cursor.TheVariants as cursor

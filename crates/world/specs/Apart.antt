@@ -1,5 +1,5 @@
 -- The device apart from its memory, and what an event does to it whatever stands there.
-use Rattle.std.specs.Prelude.{ℕ, ◌≡◌, Bool, true, false, List, [], Option, Result, Ok, Err}
+use Rattle.std.specs.Prelude.{ℕ, ◌≡◌, Bool, true, false, List, Option, Result, Ok, Err}
 use Rattle.block_store.specs.declared.NoMemory.{NoMemory}
 use Rattle.scsi_codec.specs.declared.lun.Address.{Address}
 use Rattle.scsi_codec.specs.declared.event_queue.Event.{Event as Report}
@@ -12,11 +12,8 @@ use Rattle.device_model.specs.Transitions.{Transition, event_of, completion_of}
 use Rattle.device_model.specs.After.{after}
 use Rattle.device_model.specs.Happens.{Happens, MayWant}
 use Rattle.device_model.specs.Applies.{Applies}
-use Rattle.device_model.specs.Turns.{Turns}
 use Rattle.phases.specs.InMemory.{EachSeen}
 use Rattle.phases.specs.EventsInMemory.{SeesBy}
-use Rattle.world.specs.Steps.{TurnsOrWants}
-use Rattle.world.specs.Sound.{AreFew, IsSound}
 
 -- all of the device but memory
 pub record PlainDevice : Type 0 where
@@ -53,18 +50,6 @@ standing shared m d =
       tells_changes = d.tells_changes;
     }
 
--- whatever stands in memory, the event takes its turn there, if the device is sound with it; memory stays as it is
-abbrev pub TurnsAlone : PlainDevice → Event → Bool → PlainDevice → Type 0
-TurnsAlone d e changed d' =
-    (shared : Bool) (m : List ℕ) → IsSound (standing shared m d)
-    → Turns (standing shared m d) e changed (standing shared m d')
-
--- that, or the memory that the event asks the host for was refused
-abbrev pub TurnsAloneOrWants : PlainDevice → Event → Result Bool NoMemory → PlainDevice → Type 0
-TurnsAloneOrWants d e result d' =
-    (shared : Bool) (m : List ℕ) → IsSound (standing shared m d) → AreFew (standing shared m d)
-    → TurnsOrWants (standing shared m d) e result (standing shared m d')
-
 -- each ring was made for a memory of this size
 abbrev pub FitsIn : ℕ → PlainDevice → Type 0
 FitsIn size d = Everywhere (λ i (q : PlainQueue). q.ring.memory ≡ size) d.queues
@@ -83,22 +68,8 @@ abbrev pub TurnsSeenOrWants : List ℕ → PlainWorld → Event → Result Bool 
 TurnsSeenOrWants seen w e (Ok changed) w' = TurnsSeen seen w e changed w'
 TurnsSeenOrWants seen w e (Err x) w' = MayWant e w × (w' ≡ w) × (seen ≡ w.memory)
 
--- whatever may be seen afterwards, the event takes its turn on a memory that may have been found
-abbrev pub TurnsIn : Bool → (List ℕ → Type 0) → (List ℕ → Type 0) → PlainDevice → Event → Bool → PlainDevice → Type 0
-TurnsIn shared before after d e changed d' =
-    EachSeen shared before after
-    (λ found left seen. TurnsSeen seen (standing shared found d) e changed (standing shared left d'))
-
 abbrev pub TurnsInOrWants : Bool → (List ℕ → Type 0) → (List ℕ → Type 0) → PlainDevice → Event → Result Bool NoMemory → PlainDevice
     → Type 0
 TurnsInOrWants shared before after d e result d' =
     EachSeen shared before after
     (λ found left seen. TurnsSeenOrWants seen (standing shared found d) e result (standing shared left d'))
-
--- it has few parts, whatever stands in memory
-abbrev pub HasFew : PlainDevice → Type 0
-HasFew d = AreFew (standing false [] d)
-
--- the device is sound whatever the memory may be
-abbrev pub IsSoundIn : Bool → (List ℕ → Type 0) → PlainDevice → Type 0
-IsSoundIn shared may_be d = (m : List ℕ) → may_be m → IsSound (standing shared m d)

@@ -1,9 +1,8 @@
--- What the device keeps beside its plain value. Only private functions and models cite it: no promise stands on it.
-use Rattle.std.specs.Prelude.{ℕ, ◌≡◌, ◌+◌, ◌*◌, List, length}
+-- What the device keeps beside its plain value.
+use Rattle.std.specs.Prelude.{ℕ, List}
 use Rattle.unit_model.specs.Jobs.{PlainJob}
-use Rattle.unit_model.specs.Unit.{PlainUnit}
 use Rattle.device_model.specs.Parts.{Hand}
-use Rattle.device_model.specs.World.{Seat, Everywhere}
+use Rattle.device_model.specs.World.{Seat}
 
 -- a seat, and how many jobs there is room for
 pub record KeptSeat : Type 0 where
@@ -13,9 +12,3 @@ pub record KeptSeat : Type 0 where
 
 abbrev pub seat_of : KeptSeat → Seat
 seat_of s = record { hand = s.hand; out = s.jobs }
-
--- each seat's list has room for all tasks and 64 more, and the port for one buffer more than the largest queue has
--- descriptors
-pub record HasLists (units : List PlainUnit) (seats : List KeptSeat) (room : ℕ) : Type 0 where
-  pub limits : Everywhere (λ k (s : KeptSeat). s.limit ≡ 64 * length units + 64) seats
-  pub port : room ≡ 1025

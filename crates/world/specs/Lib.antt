@@ -4,7 +4,6 @@ pub mod Sound
 pub mod Steps
 pub mod Apart
 pub mod Settling
-pub mod Stages
 pub mod Opening
 pub mod Views
 pub mod Notifications
@@ -12,5 +11,4 @@ pub mod Promise
 pub mod LiveWorld
 pub mod Asking
 pub mod LiveServing
-pub mod Cursors
-pub mod Rounds
+pub mod Inner

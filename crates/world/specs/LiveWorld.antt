@@ -13,7 +13,7 @@ use Rattle.device_model.specs.declared.event.Event as declared
 use Rattle.device_model.specs.Happens.{Occurrence, Reached}
 use Rattle.device_model.specs.Turns.{count_changes}
 use Rattle.device_model.specs.Promise.{IsPromised}
-use Rattle.device_model.specs.Live.{IsRefilled, LiveRuns}
+use Rattle.device_model.specs.Live.{IsRefilled}
 use Rattle.world.specs.Apart.{PlainDevice, standing, TurnsInOrWants}
 use Rattle.world.specs.Opening.{IsOpeningFor, AreDisksFor, over_disks}
 use Rattle.world.specs.Steps.{events_of}
@@ -136,24 +136,3 @@ RunsPromised shared size d events (Ok count) d' = GoesOnLive shared size d (even
 RunsPromised shared size d events (Err fault) d' =
     (k : ℕ) × (e : declared.Event) × (count : ℕ) × (slice_get events k ≡ Some e)
     × GoesOnLive shared size d (events_of (take k events)) count d'
-
--- Only private functions cite what follows.
-
--- `GoesOnFrom` as a run
-pub record RanFrom (shared : Bool) (d : PlainDevice) (events : List Event) (count : ℕ) (d' : PlainDevice)
-    (a b : List ℕ) : Type 0 where
-  pub more : List Occurrence
-  pub told : map (λ (o : Occurrence). o.event) more ≡ events
-  pub counted : count_changes more ≡ count
-  pub runs : LiveRuns (standing shared a d) more (standing shared b d')
-
-abbrev pub RanLive : Bool → ℕ → PlainDevice → List Event → ℕ → PlainDevice → Type 0
-RanLive shared size d events count d' =
-    (a b : List ℕ) → length a ≡ size → length b ≡ size → RanFrom shared d events count d' a b
-
--- one event goes on from each run that leads to where it begins; or memory was refused for it and nothing changed
-abbrev pub StepRan : Bool → ℕ → PlainDevice → Event → Result Bool NoMemory → PlainDevice → Type 0
-StepRan shared size d e (Ok changed) d' =
-    (first : PlainDevice) (events : List Event) (count : ℕ) → RanLive shared size first events count d
-    → RanLive shared size first (e ∷ events) (count + (if changed then 1 else 0)) d'
-StepRan shared size d e (Err fault) d' = d' ≡ d

@@ -6,9 +6,8 @@ use Rattle.ring_core.specs.declared.layout.Form.{Form}
 use Rattle.ring_core.specs.declared.layout.Layout.{Layout}
 use Rattle.queues.specs.Queue.{opening_queue}
 use Rattle.phases.specs.Queue.{with_slot}
-use Rattle.device_model.specs.Parts.{Slot, Hand}
+use Rattle.device_model.specs.Parts.{Slot}
 use Rattle.device_model.specs.World.{PlainQueue, PlainWorld, IsNewSeat, Everywhere}
-use Rattle.world.specs.Kept.{KeptSeat}
 use Rattle.unit_model.specs.Contents.{Opening}
 use Rattle.unit_model.specs.Jobs.{PlainJob}
 use Rattle.unit_model.specs.Unit.{PlainUnit}
@@ -51,11 +50,6 @@ pub record AreFresh (wanted : List UnitSpec) (units : List PlainUnit) : Type 0 w
   pub count : length units ≡ length wanted
   pub each : (k : ℕ) (u : UnitSpec) → slice_get wanted k ≡ Some u → slice_get units k
       ≡ Some (opening_unit (map address_of wanted) u)
-
--- so many seats, with nothing in hand and room for so many jobs
-pub record AreSeats (count limit : ℕ) (seats : List KeptSeat) : Type 0 where
-  pub many : length seats ≡ count
-  pub each : Everywhere (λ (k : ℕ) (s : KeptSeat). s ≡ record { hand = Hand.Empty; jobs = []; limit = limit }) seats
 
 -- for a memory of this size, whatever stands there: of each queue nothing was fetched, of each unit no step was taken, and
 -- no seat has anything

@@ -1,31 +1,14 @@
--- What holds of the device between two steps. Only private functions and models cite it: no promise stands on it.
-use Rattle.std.specs.Prelude.{ℕ, ◌≡◌, ◌≤◌, ◌+◌, List, length, map}
+-- What holds of the device between two steps.
+use Rattle.std.specs.Prelude.{ℕ, ◌≡◌, ◌≤◌, List, length, map}
 use Rattle.unit_model.specs.Unit.{PlainUnit}
 use Rattle.device_model.specs.World.{PlainQueue, PlainWorld, Everywhere}
 use Rattle.device_model.specs.Happens.{Occurrence, Reached}
-use Rattle.device_model.specs.Lawful.{AreNumbered}
-use Rattle.device_model.specs.Addressed.{AreAddressed}
-use Rattle.device_model.specs.Standing.{AreOwned, AreAtWork, AreBehind, AreNamedThere, HaveRoom, FunctionIsThere, BuffersAreOutstanding}
 
 -- some trace reached it from an opening
 pub record IsReached (w : PlainWorld) : Type 0 where
   pub old : PlainWorld
   pub trace : List Occurrence
   pub reached : Reached old trace w
-
--- what a step rests on
-pub record IsSound (w : PlainWorld) : Type 0 where
-  pub owned : AreOwned w
-  pub works : AreAtWork w
-  pub behind : AreBehind w
-  pub named : AreNamedThere w
-  pub addressed : AreAddressed w
-  pub room : HaveRoom w
-  pub function : FunctionIsThere (length w.units) w.function
-  pub numbered : AreNumbered w
-  pub working : 1 ≤ w.workers
-  pub seated : length w.seats ≡ w.workers + 1
-  pub held : BuffersAreOutstanding w
 
 abbrev pub size_of : PlainQueue → ℕ
 size_of q = q.ring.layout.size
@@ -56,7 +39,3 @@ pub record IsWhole (w : PlainWorld) : Type 0 where
 pub record IsSteady (w : PlainWorld) : Type 0 where
   pub whole : IsWhole w
   pub fits : AreFitting w
-
--- of every device that some trace reached
-abbrev pub AreSound : Type 0
-AreSound = (w : PlainWorld) → IsReached w → IsSound w

@@ -5,12 +5,7 @@ use Rattle.device_model.specs.World.{PlainWorld}
 use Rattle.device_model.specs.Events.{Event, plain_event}
 use Rattle.device_model.specs.declared.event.Event as declared
 use Rattle.device_model.specs.Happens.{MayWant, Occurrence, Runs}
-use Rattle.device_model.specs.Turns.{Turns, IsStep, count_changes}
-
--- a turn, or memory was refused and nothing changed
-abbrev pub TurnsOrWants : PlainWorld → Event → Result Bool NoMemory → PlainWorld → Type 0
-TurnsOrWants w e (Ok changed) w' = Turns w e changed w'
-TurnsOrWants w e (Err x) w' = MayWant e w × (w' ≡ w)
+use Rattle.device_model.specs.Turns.{IsStep, count_changes}
 
 -- a step, or memory was refused and nothing changed
 abbrev pub Steps : PlainWorld → Event → Result Bool NoMemory → PlainWorld → Type 0

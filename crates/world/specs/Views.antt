@@ -28,12 +28,6 @@ IsPlaceAmong units target lun None =
 abbrev pub IsPlaceOf : PlainWorld → ℕ → ℕ → Option ℕ → Type 0
 IsPlaceOf w target lun place = IsPlaceAmong w.units target lun place
 
--- that of the address which `unit_of` is stands at the place, or there is none
-abbrev pub FindsUnit : List PlainUnit → ℕ → ℕ → Option ℕ → Type 0
-FindsUnit units target lun (Some place) =
-    (u : PlainUnit) × (slice_get units place ≡ Some u) × (unit_of units target lun ≡ Some u)
-FindsUnit units target lun None = unit_of units target lun ≡ None
-
 -- the fault that broke a queue, if it is there
 abbrev pub fault_of : Option PlainQueue → Option RingFault
 fault_of None = None

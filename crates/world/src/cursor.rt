@@ -1,7 +1,7 @@
 //! The place in the order of service from which to look next.
 
 ghost use Rattle.std.specs.Prelude.{◌≡◌, ◌↔◌, IsTrue};
-ghost use Rattle.world.specs.Cursors.{served_of, direct_from, seat_from, enter_from};
+ghost use Rattle.world.specs.Inner.Cursors.{served_of, direct_from, seat_from, enter_from};
 
 /// A place in the order before which no event applies.
 #[derive(Clone, Copy)]

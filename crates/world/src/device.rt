@@ -29,7 +29,8 @@ pub(crate) struct Device {
 impl Model for Device {
     ghost use Rattle.std.specs.Prelude.{map};
     ghost use Rattle.world.specs.Apart.{PlainDevice};
-    ghost use Rattle.world.specs.Kept.{seat_of, HasLists};
+    ghost use Rattle.world.specs.Kept.{seat_of};
+    ghost use Rattle.world.specs.Inner.Kept.{HasLists};
 
     ghost Value = { PlainDevice };
 

@@ -14,7 +14,8 @@ pub(crate) struct HandedOff {
 
 impl Model for HandedOff {
     ghost use Rattle.std.specs.Prelude.{map};
-    ghost use Rattle.world.specs.Off.{KeptOff, jobs_of, HaveLimit};
+    ghost use Rattle.world.specs.Off.{KeptOff, jobs_of};
+    ghost use Rattle.world.specs.Inner.Off.{HaveLimit};
 
     ghost Value = { KeptOff };
 
@@ -25,8 +26,8 @@ impl Model for HandedOff {
 
 impl HandedOff {
     ghost use Rattle.std.specs.Prelude.{◌≡◌, ◌<◌, ◌≤◌, ◌↔◌, IsTrue, IfOk, OnOk, OnErr, IfErr, Some, [], length, slice_get};
-    ghost use Rattle.world.specs.Cursors.{Denies};
-    ghost use Rattle.world.specs.Off.{AreBare, PutsAt, IsFullAt, IsFirstBetween, IsNearest, Takes};
+    ghost use Rattle.world.specs.Inner.Cursors.{Denies};
+    ghost use Rattle.world.specs.Inner.Off.{AreBare, PutsAt, IsFullAt, IsFirstBetween, IsNearest, Takes};
 
     /// Makes so many empty lists, each with room for so many jobs. Only this call takes memory.
     pub(crate) fn new(alloc: Global, count: usize, limit: usize) -> Result<HandedOff, NoMemory>

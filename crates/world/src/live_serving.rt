@@ -4,8 +4,8 @@ ghost use Rattle.std.specs.Prelude.{◌≡◌, ◌≤◌, ℕ, List, length};
 ghost use Rattle.world.specs.Apart.{standing};
 ghost use Rattle.world.specs.Sound.{IsReached};
 ghost use Rattle.world.specs.Settling.{asks};
-ghost use Rattle.world.specs.Cursors.{NoneBefore};
-ghost use Rattle.world.specs.Rounds.{TurnsRound, SettlesNext, LeavesBy};
+ghost use Rattle.world.specs.Inner.Cursors.{NoneBefore};
+ghost use Rattle.world.specs.Inner.Rounds.{TurnsRound, SettlesNext, LeavesBy};
 ghost use Rattle.world.specs.LiveServing.{Looks, ServesLiveOrWants, ServesPromised, SettlesLiveOrWants, SettlesPromised};
 
 use crate::cursor::{Cursor, Progress};

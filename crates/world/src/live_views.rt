@@ -7,7 +7,8 @@ ghost use Rattle.ring_core.specs.State.{IsLawful};
 ghost use Rattle.unit_model.specs.Contents.{capacity_of, pending_of};
 ghost use Rattle.device_model.specs.World.{Everywhere};
 ghost use Rattle.device_model.specs.Lawful.{IsNumbered};
-ghost use Rattle.world.specs.Apart.{FitsIn, HasFew};
+ghost use Rattle.world.specs.Apart.{FitsIn};
+ghost use Rattle.world.specs.Inner.Apart.{HasFew};
 ghost use Rattle.world.specs.LiveWorld.{IsReachedIn};
 ghost use Rattle.world.specs.Views.{unit_of, IsPlaceAmong, fault_of, status_of, GivesBlocks, GivesChanges};
 

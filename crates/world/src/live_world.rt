@@ -6,7 +6,8 @@ ghost use Rattle.guest_mem.specs.Memory.{LiesIn};
 ghost use Rattle.config.specs.Config.{is_config_for};
 ghost use Rattle.device_model.specs.Events.{Event as AnEvent, plain_event};
 ghost use Rattle.world.specs.Opening.{AreDisksFor, AreDisksOf};
-ghost use Rattle.world.specs.Apart.{PlainDevice, TurnsIn, TurnsInOrWants, IsSoundIn, FitsIn, HasFew};
+ghost use Rattle.world.specs.Apart.{PlainDevice, TurnsInOrWants, FitsIn};
+ghost use Rattle.world.specs.Inner.Apart.{TurnsIn, IsSoundIn, HasFew};
 
 mod asking;
 
@@ -159,7 +160,8 @@ impl<M: WritableMemory + Drop> LiveWorld<M> {
 }
 
 impl<M: WritableMemory> LiveWorld<M> {
-    ghost use Rattle.world.specs.LiveWorld.{OpensIn, BeginsIn, OpensForIn, OpensAnewIn, StepsLive, StepsAll, StepsPromised, RunsPromised, StepRan};
+    ghost use Rattle.world.specs.LiveWorld.{OpensIn, BeginsIn, OpensForIn, OpensAnewIn, StepsLive, StepsAll, StepsPromised, RunsPromised};
+    ghost use Rattle.world.specs.Inner.LiveWorld.{StepRan};
 
     /// Returns the memory.
     pub fn memory(&self) -> &M

@@ -8,7 +8,8 @@ ghost use Rattle.ring_core.specs.State.{features_of};
 ghost use Rattle.device_model.specs.World.{Everywhere};
 ghost use Rattle.std.specs.Vec.{vec_capacity};
 ghost use Rattle.world.specs.LiveWorld.{IsOpeningApart};
-ghost use Rattle.world.specs.Opening.{AreOpening, AreFresh, AreSeats, AreDisksOf, opening_unit, AreDisksFor, over_disks};
+ghost use Rattle.world.specs.Opening.{AreOpening, AreFresh, AreDisksOf, opening_unit, AreDisksFor, over_disks};
+ghost use Rattle.world.specs.Inner.Opening.{AreSeats};
 
 use crate::bay::Bay;
 use crate::device::Device;

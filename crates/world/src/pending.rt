@@ -5,9 +5,10 @@ ghost use Rattle.device_model.specs.Order.{of_seat, IsQuietOf, NoneApplies};
 ghost use Rattle.device_model.specs.Events.{Event as AnEvent};
 ghost use Rattle.device_model.specs.Applies.{Applies};
 ghost use Rattle.device_model.specs.Happens.{IsOpenTo};
-ghost use Rattle.world.specs.Cursors.{Denies, FindsIn, of_function, NoDirect, NoSeat, NoEnter, NoFetch};
+ghost use Rattle.world.specs.Inner.Cursors.{Denies, FindsIn, of_function, NoDirect, NoSeat, NoEnter, NoFetch};
 ghost use Rattle.world.specs.Settling.{asks};
-ghost use Rattle.world.specs.Apart.{standing, FitsIn, HasFew};
+ghost use Rattle.world.specs.Apart.{standing, FitsIn};
+ghost use Rattle.world.specs.Inner.Apart.{HasFew};
 
 use crate::device::Device;
 use crate::service::is_asked;

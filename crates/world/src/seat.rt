@@ -36,7 +36,7 @@ impl Model for Seat {
 impl Seat {
     ghost use Rattle.std.specs.Prelude.{◌≡◌, ◌↔◌, IsTrue, [], drop, slice_get};
     ghost use Rattle.device_model.specs.Parts as plain;
-    ghost use Rattle.world.specs.Stages.{stage_of};
+    ghost use Rattle.world.specs.Inner.Stages.{stage_of};
 
     /// Makes a seat with nothing in hand and an empty list.
     pub(crate) fn new(out: JobList) -> Seat

@@ -5,11 +5,11 @@ ghost use Rattle.std.specs.Prelude.{◌≡◌, ◌≤◌, ◌<◌, ℕ, Bool, Li
 ghost use Rattle.device_model.specs.Order.{of_seat};
 ghost use Rattle.device_model.specs.Parts.{Hand};
 ghost use Rattle.device_model.specs.Phases.{HasHand};
-ghost use Rattle.world.specs.Cursors.{TurnsFirstIn, of_function, TurnsNextIn, FetchesOn, MayServe, NoneBefore, NoneBeforeFetch, NoFetchBelow, EntersNext, FetchesNext, LeavesNext};
-ghost use Rattle.world.specs.Cursors.{NoStart, NoDirect, NoSeat, IsReadyIn, AtEach, FindsIn, TurnsFirstAlone};
+ghost use Rattle.world.specs.Inner.Cursors.{TurnsFirstIn, of_function, TurnsNextIn, FetchesOn, MayServe, NoneBefore, NoneBeforeFetch, NoFetchBelow, EntersNext, FetchesNext, LeavesNext};
+ghost use Rattle.world.specs.Inner.Cursors.{NoStart, NoDirect, NoSeat, IsReadyIn, AtEach, FindsIn, TurnsFirstAlone};
 ghost use Rattle.world.specs.Settling.{asks, asks_all};
 ghost use Rattle.world.specs.Apart.{standing, FitsIn};
-ghost use Rattle.world.specs.Sound.{IsSound};
+ghost use Rattle.world.specs.Inner.Sound.{IsSound};
 
 use crate::cursor::{
     AT_ONCE, Cursor, Progress, first_direct, first_enter, first_seat, is_fetch, is_start, one,

@@ -1,6 +1,6 @@
 //! Shows what every device is that some trace reached.
 
-ghost use Rattle.world.specs.Sound.{AreSound};
+ghost use Rattle.world.specs.Inner.Sound.{AreSound};
 
 use device_model::laws::{
     functions_find_their_units, held_buffers_are_outstanding, lists_have_room, logs_are_numbered,

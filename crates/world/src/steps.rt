@@ -5,9 +5,11 @@ ghost use Rattle.device_model.specs.World.{owner};
 ghost use Rattle.device_model.specs.Events.{Event as AnEvent};
 ghost use Rattle.device_model.specs.Applies.{Applies};
 ghost use Rattle.device_model.specs.Turns.{Turns};
-ghost use Rattle.world.specs.Steps.{TurnsOrWants};
-ghost use Rattle.world.specs.Apart.{PlainDevice, standing, TurnsAlone, TurnsAloneOrWants, TurnsIn, TurnsInOrWants, IsSoundIn, FitsIn, HasFew};
-ghost use Rattle.world.specs.Sound.{AreFew, AreFitting, IsSound};
+ghost use Rattle.world.specs.Inner.Steps.{TurnsOrWants};
+ghost use Rattle.world.specs.Apart.{PlainDevice, standing, TurnsInOrWants, FitsIn};
+ghost use Rattle.world.specs.Inner.Apart.{TurnsAlone, TurnsAloneOrWants, TurnsIn, IsSoundIn, HasFew};
+ghost use Rattle.world.specs.Sound.{AreFew, AreFitting};
+ghost use Rattle.world.specs.Inner.Sound.{IsSound};
 
 use crate::device::Device;
 use block_store::NoMemory;

@@ -33,7 +33,8 @@ fn has_address(unit: &UnitState, target: u8, lun: u16) -> bool
 impl Device {
     ghost use Rattle.device_model.specs.World.{Everywhere};
     ghost use Rattle.device_model.specs.Lawful.{IsNumbered};
-    ghost use Rattle.world.specs.Views.{unit_of, IsPlaceAmong, FindsUnit, fault_of, status_of, GivesBlocks, GivesChanges};
+    ghost use Rattle.world.specs.Views.{unit_of, IsPlaceAmong, fault_of, status_of, GivesBlocks, GivesChanges};
+    ghost use Rattle.world.specs.Inner.Views.{FindsUnit};
 
     /// Returns how many queues there are.
     pub(crate) fn queues(&self) -> usize

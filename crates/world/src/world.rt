@@ -44,14 +44,15 @@ impl World {
     ghost use Rattle.device_model.specs.World as plain;
     ghost use Rattle.config.specs.Config.{is_config, StartRefusedAs};
     ghost use Rattle.world.specs.Opening.{IsOpening, IsOpeningOver, OpensFor, OpensAnew, OverRefusedAs, AreDisksFor, AreDisksOf};
-    ghost use Rattle.world.specs.Sound.{AreFew, AreFitting, IsReached, IsSound};
+    ghost use Rattle.world.specs.Sound.{AreFew, AreFitting, IsReached};
+    ghost use Rattle.world.specs.Inner.Sound.{IsSound};
     ghost use Rattle.device_model.specs.Happens.{Reached};
     ghost use Rattle.device_model.specs.Turns.{Turns};
     ghost use Rattle.world.specs.Steps.{Steps, RunsAll};
     ghost use Rattle.device_model.specs.Order.{IsQuietOf};
     ghost use Rattle.world.specs.Settling.{asks, ServesSomeOrWants, ServesOrWants};
     ghost use Rattle.world.specs.Promise.{StepsAsPromised, RunsAsPromised, ServesAsPromised, SettlesAsPromised};
-    ghost use Rattle.world.specs.Cursors.{Denies, NoneBefore, TurnsNext};
+    ghost use Rattle.world.specs.Inner.Cursors.{Denies, NoneBefore, TurnsNext};
 
     /// Opens the device of a configuration, of which nothing has happened yet. The embedder calls it once for each
     /// device. `BadConfig` exactly where the configuration isn't valid; else `NoMemory` where a growth was refused. The

@@ -3,7 +3,7 @@
 ghost use Rattle.std.specs.Prelude.{◌≡◌, ◌≤◌, ℕ, List, length, take, min};
 ghost use Rattle.ring_core.specs.Parts.{writable_total};
 ghost use Rattle.ring_core.specs.Writes.{scatter_writes};
-ghost use Rattle.ring_core.specs.Narrow.{first_writable, narrowed};
+ghost use Rattle.ring_core.specs.Inner.Narrow.{first_writable, narrowed};
 
 use crate::chain::{Chain, FEW_PARTS};
 use crate::descriptor::Part;

@@ -3,7 +3,8 @@
 ghost use Rattle.std.specs.Prelude.{◌≡◌, ◌+◌, ◌≤◌, Ok, true, length};
 ghost use Rattle.device_model.specs.Events.{Event as AnEvent};
 ghost use Rattle.world.specs.Asking.{asking_at, AsksLive, AsksPromised};
-ghost use Rattle.world.specs.LiveWorld.{StepsLive, StepRan};
+ghost use Rattle.world.specs.LiveWorld.{StepsLive};
+ghost use Rattle.world.specs.Inner.LiveWorld.{StepRan};
 
 use super::{LiveWorld, poke_in};
 use device_model::laws::every_run_goes_on;

@@ -3,7 +3,7 @@ use mathlib.Core.Path.{fun_ext}
 use Rattle.replies.specs.Data.{data_of}
 use Rattle.block_store.specs.Kept.{blocks_of}
 use Rattle.replies.specs.Replies.{reply_of}
-use Rattle.block_commands.specs.Told.{facts_of}
+use Rattle.block_commands.specs.Inner.Told.{facts_of}
 use Rattle.block_commands.proofs.prepared.exec_prepared.Goals as goal
 
 pub returns-clause-reply : goal.returns-clause-reply

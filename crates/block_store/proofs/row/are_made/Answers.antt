@@ -1,5 +1,5 @@
 use Rattle.std.proofs.Common.{sym, ◌∙◌, arith}
-use Rattle.block_store.specs.Kept.{is_made_in}
+use Rattle.block_store.specs.Inner.Kept.{is_made_in}
 use Rattle.block_store.proofs.Made.{made-next}
 use Rattle.block_store.proofs.row.are_made.Goals as goal
 

@@ -1,6 +1,6 @@
 use Rattle.std.proofs.Common.{ℕ, ◌/◌, ◌-◌, ◌≤◌, IsTrue}
 use Rattle.block_store.specs.Blocks.{is_within}
-use Rattle.block_store.specs.Kept.{is_made_in}
+use Rattle.block_store.specs.Inner.Kept.{is_made_in}
 use Rattle.block_store.proofs.row.are_made.Given as goal
 
 -- the pages of the first blocks keep their bytes

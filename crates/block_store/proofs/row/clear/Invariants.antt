@@ -1,6 +1,6 @@
 use Rattle.std.proofs.Common.{◌≡◌, ℕ, ◌-◌, ◌≤◌, vec_len}
 use Rattle.block_store.specs.Blocks.{zeroed}
-use Rattle.block_store.specs.Kept.{row_blocks}
+use Rattle.block_store.specs.Inner.Kept.{row_blocks}
 use Rattle.block_store.proofs.row.clear.Given as goal
 
 -- the first blocks are zeros

@@ -1,5 +1,5 @@
 use Rattle.std.proofs.Common.{◌∙◌, arith}
-use Rattle.block_store.specs.Kept.{row_blocks}
+use Rattle.block_store.specs.Inner.Kept.{row_blocks}
 use Rattle.block_store.proofs.Paging.{covered-next}
 use Rattle.block_store.proofs.row.fill.Goals as goal
 

@@ -1,6 +1,6 @@
 use Rattle.std.proofs.Common.{◌≡◌, ℕ, ◌-◌, ◌≤◌, vec_len}
 use Rattle.block_store.specs.Blocks.{filled}
-use Rattle.block_store.specs.Kept.{row_blocks, is_made_in}
+use Rattle.block_store.specs.Inner.Kept.{row_blocks, is_made_in}
 use Rattle.block_store.proofs.row.fill.Given as goal
 
 -- the first blocks are filled

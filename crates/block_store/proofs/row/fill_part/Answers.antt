@@ -1,6 +1,6 @@
 use Rattle.std.proofs.Common.{ap, ◌∙◌}
 use Rattle.block_store.proofs.Changes.{part-written, made-same, made-below}
-use Rattle.block_store.specs.Kept.{is_made_in}
+use Rattle.block_store.specs.Inner.Kept.{is_made_in}
 use Rattle.block_store.proofs.row.fill_part.Goals as goal
 
 pub returns-clause-blocks : goal.returns-clause-blocks

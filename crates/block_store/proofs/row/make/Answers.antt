@@ -1,6 +1,6 @@
 use Rattle.std.proofs.Common.{◌≡◌, ◌%◌, ◌/◌, ◌∙◌, false, nat_lt, length, ap, rules}
 use Rattle.block_store.specs.Pages.{blocks_in}
-use Rattle.block_store.specs.Kept.{is_made_in}
+use Rattle.block_store.specs.Inner.Kept.{is_made_in}
 use Rattle.block_store.proofs.Changes.{made-zeros}
 use Rattle.block_store.proofs.row.make.Goals as goal
 

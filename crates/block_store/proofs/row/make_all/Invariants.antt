@@ -1,6 +1,6 @@
 use Rattle.std.proofs.Common.{◌≡◌, ℕ, ◌/◌, ◌-◌, ◌≤◌, IsTrue, vec_len}
 use Rattle.block_store.specs.Blocks.{is_within}
-use Rattle.block_store.specs.Kept.{row_blocks, is_made_in}
+use Rattle.block_store.specs.Inner.Kept.{row_blocks, is_made_in}
 use Rattle.block_store.proofs.row.make_all.Given as goal
 
 -- the pages of the first blocks keep their bytes

@@ -1,7 +1,7 @@
 use Rattle.std.proofs.Common.{◌≡◌, ℕ, ◌-◌, ◌≤◌, vec_len}
 use Rattle.block_store.specs.Blocks.{nth_block}
 use Rattle.block_store.specs.Pages.{covered}
-use Rattle.block_store.specs.Kept.{row_blocks, is_made_in}
+use Rattle.block_store.specs.Inner.Kept.{row_blocks, is_made_in}
 use Rattle.block_store.proofs.row.put.Given as goal
 
 -- the first blocks are written

@@ -1,8 +1,8 @@
 use Rattle.std.proofs.Common.{◌≡◌, ℕ, ◌+◌, ◌-◌, ◌*◌, ◌<◌, ◌≤◌, ap, ◌∙◌, arith, if◌then◌else◌}
 use Rattle.block_store.specs.Blocks.{block_count, nth_block, is_within}
-use Rattle.block_store.specs.Whole.{length-nth_block}
+use Rattle.block_store.specs.Inner.Whole.{length-nth_block}
 use Rattle.block_store.proofs.Changes.{part-written, made-same, made-below}
-use Rattle.block_store.specs.Kept.{is_made_in}
+use Rattle.block_store.specs.Inner.Kept.{is_made_in}
 use Rattle.block_store.proofs.row.put_part.Goals as goal
 
 pub returns-clause-blocks : goal.returns-clause-blocks

@@ -1,8 +1,9 @@
 use Rattle.std.proofs.Common.{◌≡◌, ◌+◌, ◌*◌, ◌/◌, ◌%◌, ◌≤◌, ◌++◌, length, vec_len, vec_capacity, sym, ap, ◌∙◌, append_assoc, arith}
 use Rattle.std.proofs.lemmas.Grind.{common_steps}
 use Rattle.block_store.specs.Blocks.{run}
-use Rattle.block_store.specs.Kept.{row_kept, row_blocks}
-use Rattle.block_store.specs.Padding.{length-blocks_in}
+use Rattle.block_store.specs.Kept.{row_kept}
+use Rattle.block_store.specs.Inner.Kept.{row_blocks}
+use Rattle.block_store.specs.Inner.Padding.{length-blocks_in}
 use Rattle.block_store.proofs.Runs.{run-add, length-run}
 use Rattle.block_store.proofs.row.read.Goals as goal
 

@@ -1,6 +1,6 @@
 use Rattle.std.proofs.Common.{◌≡◌, ◌+◌, ◌-◌, ◌*◌, ◌≤◌, ◌++◌, vec_len, vec_capacity}
 use Rattle.block_store.specs.Blocks.{run}
-use Rattle.block_store.specs.Kept.{row_blocks}
+use Rattle.block_store.specs.Inner.Kept.{row_blocks}
 use Rattle.block_store.proofs.row.read.Given as goal
 
 -- the first blocks are behind what stood there

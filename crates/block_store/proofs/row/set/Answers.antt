@@ -1,6 +1,6 @@
 use Rattle.std.proofs.Common.{◌≡◌, ◌+◌, ◌-◌, ◌*◌, ◌≤◌, ◌∙◌, arith}
 use Rattle.block_store.specs.Blocks.{block_count, nth_block}
-use Rattle.block_store.specs.Kept.{row_blocks}
+use Rattle.block_store.specs.Inner.Kept.{row_blocks}
 use Rattle.block_store.proofs.Paging.{covered-next, chunk-covered}
 use Rattle.block_store.proofs.row.set.Goals as goal
 

@@ -1,7 +1,7 @@
 use Rattle.std.proofs.Common.{◌+◌, arith}
 use Rattle.std.proofs.lemmas.Option.{slice_get_within}
-use Rattle.handoff.specs.Rule.{newcomer}
-use Rattle.handoff.specs.Lanes.{lead}
+use Rattle.handoff.specs.Inner.Rule.{newcomer}
+use Rattle.handoff.specs.Inner.Lanes.{lead}
 use Rattle.handoff.proofs.Seating.{all_made}
 use Rattle.handoff.proofs.queue.another.Goals as goal
 

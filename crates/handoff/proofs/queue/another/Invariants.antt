@@ -1,9 +1,9 @@
 use Rattle.std.proofs.Common.{◌≡◌, ℕ, ◌+◌, ◌<◌, ◌≤◌, Some, length}
 use Rattle.std.specs.Prelude.{slice_get}
 use Rattle.std.specs.Vec.{vec_capacity}
-use Rattle.handoff.specs.Rule.{newcomer}
+use Rattle.handoff.specs.Inner.Rule.{newcomer}
 use Rattle.handoff.specs.Places.{PlainLane}
-use Rattle.handoff.specs.Lanes.{placed, lead}
+use Rattle.handoff.specs.Inner.Lanes.{placed, lead}
 use Rattle.handoff.proofs.queue.another.Given as goal
 
 abbrev pub invariant-loop-at : goal.invariant-loop-at

@@ -1,6 +1,6 @@
 use Rattle.std.proofs.Common.{◌≡◌, ◌≤◌, length}
 use Rattle.std.specs.Vec.{vec_capacity}
-use Rattle.handoff.specs.Lanes.{HaveCapacity, at_each, lead}
+use Rattle.handoff.specs.Inner.Lanes.{HaveCapacity, at_each, lead}
 use Rattle.handoff.proofs.queue.open.Given as goal
 
 abbrev pub invariant-loop-number : goal.invariant-loop-number

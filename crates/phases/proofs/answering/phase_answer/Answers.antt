@@ -1,7 +1,7 @@
 use Rattle.std.proofs.Common.{false}
 use Rattle.std.specs.Prelude.{is_some}
 use Rattle.phases.specs.Parts.{hand_of}
-use Rattle.phases.specs.InMemory.{AnswersIn}
+use Rattle.phases.specs.Inner.InMemory.{AnswersIn}
 use Rattle.phases.proofs.Answered.{answers_own}
 use Rattle.phases.proofs.Behind.{each_own}
 use Rattle.phases.proofs.answering.phase_answer.Goals as goal

@@ -1,5 +1,5 @@
 use Rattle.std.proofs.Common.{false}
-use Rattle.phases.specs.InMemory.{RespondsIn}
+use Rattle.phases.specs.Inner.InMemory.{RespondsIn}
 use Rattle.phases.proofs.Behind.{each_own}
 use Rattle.phases.proofs.Directed.{responds_own}
 use Rattle.phases.proofs.direct.phase_answer_tmf.Goals as goal

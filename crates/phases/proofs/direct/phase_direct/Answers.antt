@@ -1,7 +1,7 @@
 use Rattle.std.proofs.Common.{false}
 use Rattle.std.specs.Prelude.{is_some}
 use Rattle.phases.specs.Slots.{slot_of}
-use Rattle.phases.specs.InMemory.{DirectsIn}
+use Rattle.phases.specs.Inner.InMemory.{DirectsIn}
 use Rattle.phases.proofs.Behind.{each_own}
 use Rattle.phases.proofs.Directed.{directs_own}
 use Rattle.phases.proofs.direct.phase_direct.Goals as goal

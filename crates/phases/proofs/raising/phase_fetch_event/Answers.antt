@@ -1,7 +1,7 @@
 use Rattle.std.proofs.Common.{false}
 use Rattle.phases.specs.Queue.{with_slot}
 use Rattle.phases.specs.Slots.{slot_of}
-use Rattle.phases.specs.EventsInMemory.{FetchesEventIn}
+use Rattle.phases.specs.Inner.EventsInMemory.{FetchesEventIn}
 use Rattle.phases.proofs.Behind.{each_own}
 use Rattle.phases.proofs.EventsOwn.{fetches_own}
 use Rattle.phases.proofs.raising.phase_fetch_event.Goals as goal

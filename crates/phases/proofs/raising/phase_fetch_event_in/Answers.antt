@@ -3,7 +3,7 @@ use Rattle.device_model.specs.Parts.{is_short}
 use Rattle.device_model.specs.Transitions.{Transition}
 use Rattle.phases.specs.Queue.{with_slot}
 use Rattle.phases.specs.Slots.{slot_of}
-use Rattle.phases.specs.EventsInMemory.{FetchesEventIn}
+use Rattle.phases.specs.Inner.EventsInMemory.{FetchesEventIn}
 use Rattle.phases.proofs.Behind.{each_read}
 use Rattle.phases.proofs.Buffers.{buffer_taken, broken_at_port}
 use Rattle.phases.proofs.raising.phase_fetch_event_in.Goals as goal

@@ -1,5 +1,5 @@
 use Rattle.std.proofs.Common.{false}
-use Rattle.phases.specs.EventsInMemory.{RaisesNextIn}
+use Rattle.phases.specs.Inner.EventsInMemory.{RaisesNextIn}
 use Rattle.phases.proofs.Behind.{each_own}
 use Rattle.phases.proofs.EventsOwn.{raises_own}
 use Rattle.phases.proofs.raising.phase_raise.Goals as goal

@@ -1,6 +1,6 @@
 use Rattle.phases.specs.Slots.{slot_of}
 use Rattle.std.proofs.Common.{false}
-use Rattle.phases.specs.ServingInMemory.{ServesIn}
+use Rattle.phases.specs.Inner.ServingInMemory.{ServesIn}
 use Rattle.phases.proofs.Behind.{each_own}
 use Rattle.phases.proofs.AtOnce.{serves_own}
 use Rattle.phases.proofs.serving.serve_request.Goals as goal

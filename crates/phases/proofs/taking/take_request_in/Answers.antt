@@ -1,7 +1,7 @@
 use Rattle.std.proofs.Common.{◌≡◌, ◌≤◌, ℕ, List, length, ap, arith, refl, sym, subst, ◌∙◌, Ok}
 use Rattle.ring_core.specs.State.{RingState, Owns}
 use Rattle.phases.specs.Slots.{slot_of}
-use Rattle.phases.specs.Taking.{IsTakenAs, TakesRequest, IsOutstandingIn}
+use Rattle.phases.specs.Inner.Taking.{IsTakenAs, TakesRequest, IsOutstandingIn}
 use Rattle.phases.specs.declared.taking.Taken.{Taken}
 use Rattle.phases.specs.declared.taking.Taken.TheVariants as taken
 use Rattle.phases.proofs.Reading.{read_of_taken}

@@ -1,6 +1,6 @@
 use Rattle.std.proofs.Common.{subst, ap, arith}
 use Rattle.std.specs.Bool.{OnFalse}
-use Rattle.posts.specs.Tallying.{HasNoJob}
+use Rattle.posts.specs.Inner.Tallying.{HasNoJob}
 use Rattle.posts.proofs.Tallying.{turn_tallies, run_tallies}
 use Rattle.posts.proofs.in_a_row.turn_at.Goals as goal
 

@@ -1,6 +1,6 @@
 use Rattle.ring_core.specs.Writes.{scatter_writes}
 use Rattle.decisions.specs.Answers.{answer_of_reply}
-use Rattle.replies.specs.PlainReply.{good_data}
+use Rattle.replies.specs.Inner.PlainReply.{good_data}
 use Rattle.queues.proofs.Own.{own}
 use Rattle.queues.proofs.still.write_read.Goals as goal
 

@@ -1,5 +1,5 @@
 use Rattle.std.proofs.Common.{◌≡◌, drop}
-use Rattle.queues.specs.FirstPart.{first_open}
+use Rattle.queues.specs.Inner.FirstPart.{first_open}
 use Rattle.queues.proofs.writing.first_writable.Given as goal
 
 abbrev pub invariant-loop-part : goal.invariant-loop-part

@@ -2,7 +2,7 @@ use Rattle.std.proofs.Common.{rules, ◌≡◌, ◌+◌, ◌∙◌, ◌++◌, ap
 use Rattle.guest_mem.specs.Memory.{with_bytes}
 use Rattle.guest_mem.specs.Stores.{Store}
 use Rattle.ring_core.specs.Parts.{PartsFit}
-use Rattle.queues.specs.FirstPart.{first_open}
+use Rattle.queues.specs.Inner.FirstPart.{first_open}
 use Rattle.queues.proofs.FirstPart.{written_whole, stores_whole, first_lies_in}
 use Rattle.queues.proofs.writing.write_response.Goals as goal
 

@@ -1,4 +1,4 @@
-use Rattle.report.specs.Belonging.{AreOpenedTo}
+use Rattle.report.specs.Inner.Belonging.{AreOpenedTo}
 use Rattle.report.proofs.belonging.are_opened_as.Given as goal
 
 abbrev pub invariant-loop-place : goal.invariant-loop-place

@@ -1,7 +1,7 @@
 use Rattle.std.proofs.Common.{◌≡◌, Bool, true, false, sym, ◌∙◌, ◌+◌, refl}
-use Rattle.report.specs.Prefix.{ConfirmsTo}
-use Rattle.report.specs.Tallies.{lesser_of}
-use Rattle.report.specs.Unconfirmed.{with_unconfirmed}
+use Rattle.report.specs.Inner.Prefix.{ConfirmsTo}
+use Rattle.report.specs.Inner.Tallies.{lesser_of}
+use Rattle.report.specs.Inner.Unconfirmed.{with_unconfirmed}
 use Rattle.report.proofs.Bools.{clash}
 use Rattle.report.proofs.Prefixes.{confirms_yes, confirms_no, confirms_all}
 use Rattle.report.proofs.confirming.first_unconfirmed.Goals as goal

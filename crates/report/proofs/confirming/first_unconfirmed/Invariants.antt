@@ -1,4 +1,4 @@
-use Rattle.report.specs.Prefix.{ConfirmsTo}
+use Rattle.report.specs.Inner.Prefix.{ConfirmsTo}
 use Rattle.report.proofs.confirming.first_unconfirmed.Given as goal
 
 abbrev pub invariant-loop-receipt : goal.invariant-loop-receipt

@@ -3,9 +3,9 @@ use Rattle.ring_core.specs.declared.log.Ticket.{Ticket}
 use Rattle.unit_model.specs.Receipts.{Receipt}
 use Rattle.unit_model.specs.Unit.{PlainUnit}
 use Rattle.queues.specs.Queue.{BareQueue}
-use Rattle.report.specs.Belonging.{FindsForeign}
+use Rattle.report.specs.Inner.Belonging.{FindsForeign}
 use Rattle.report.specs.Closed.{IsFirst, AreConfirmed, is_outstanding}
-use Rattle.report.specs.Unconfirmed.{AllStand, AllSound}
+use Rattle.report.specs.Inner.Unconfirmed.{AllStand, AllSound}
 use Rattle.report.proofs.Summing.{adds_up}
 use Rattle.report.proofs.examining.examine.Goals as goal
 

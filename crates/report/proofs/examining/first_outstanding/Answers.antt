@@ -8,8 +8,8 @@ use Rattle.report.specs.declared.tally.Tally.{Tally}
 use Rattle.report.specs.Closed.{IsFirst}
 use Rattle.unit_model.specs.Unit.{PlainUnit}
 use Rattle.report.specs.Settled.{is_request, any_folded}
-use Rattle.report.specs.Sources.{amiss_of, stray}
-use Rattle.report.specs.Tallies.{fresh, AreTallies, tally_at, with_receipt, with_note, with_units}
+use Rattle.report.specs.Inner.Sources.{amiss_of, stray}
+use Rattle.report.specs.Inner.Tallies.{fresh, AreTallies, tally_at, with_receipt, with_note, with_units}
 use Rattle.report.proofs.Folding.{known_kept}
 use Rattle.report.proofs.Sourcing.{found_first, read_on}
 use Rattle.report.proofs.examining.first_outstanding.Goals as goal

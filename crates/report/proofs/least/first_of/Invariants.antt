@@ -1,6 +1,6 @@
 use Rattle.std.proofs.Common.{◌&&◌, ltb}
 use Rattle.report.specs.Closed.{IsFirst}
-use Rattle.report.specs.Sources.{amiss_of}
+use Rattle.report.specs.Inner.Sources.{amiss_of}
 use Rattle.report.proofs.least.first_of.Given as goal
 
 abbrev pub invariant-loop-place : goal.invariant-loop-place

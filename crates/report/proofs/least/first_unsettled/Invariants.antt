@@ -1,5 +1,5 @@
 use Rattle.std.proofs.Common.{◌≡◌, ℕ, ◌<◌, false}
-use Rattle.report.specs.Tallies.{tally_at, ends_amiss}
+use Rattle.report.specs.Inner.Tallies.{tally_at, ends_amiss}
 use Rattle.report.proofs.least.first_unsettled.Given as goal
 
 abbrev pub invariant-loop-number : goal.invariant-loop-number

@@ -4,7 +4,7 @@ use Rattle.std.specs.Option.{option_map}
 use Rattle.unit_model.specs.Tasks.{Entry}
 use Rattle.unit_model.specs.Steps.{alive}
 use Rattle.report.specs.declared.tally.TicketFact.{TicketFact}
-use Rattle.report.specs.Tallies.{read_alive, tells, fact_of_alive, tally_at}
+use Rattle.report.specs.Inner.Tallies.{read_alive, tells, fact_of_alive, tally_at}
 use Rattle.report.proofs.Slots.{map_same}
 use Rattle.report.proofs.Folding.{alive_step}
 use Rattle.report.proofs.reading.read_alive.Goals as goal

@@ -2,7 +2,7 @@ use Rattle.std.proofs.Common.{◌≡◌, take}
 use Rattle.std.specs.Option.{option_map}
 use Rattle.ring_core.specs.declared.log.Ticket.{Ticket}
 use Rattle.unit_model.specs.Steps.{alive}
-use Rattle.report.specs.Tallies.{read_alive, tally_at}
+use Rattle.report.specs.Inner.Tallies.{read_alive, tally_at}
 use Rattle.report.proofs.reading.read_alive.Given as goal
 
 abbrev pub invariant-loop-number : goal.invariant-loop-number

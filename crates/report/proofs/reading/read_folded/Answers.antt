@@ -4,7 +4,7 @@ use Rattle.unit_model.specs.Base.{base_of}
 use Rattle.unit_model.specs.Steps.{Step}
 use Rattle.unit_model.proofs.Base.{base_within}
 use Rattle.report.specs.declared.tally.TicketFact.{TicketFact}
-use Rattle.report.specs.Tallies.{read_commits, tells, fact_of_commit, tally_at}
+use Rattle.report.specs.Inner.Tallies.{read_commits, tells, fact_of_commit, tally_at}
 use Rattle.report.proofs.Slots.{map_same}
 use Rattle.report.proofs.Folding.{none_folded, folded_step, folded_known, folded_unknown}
 use Rattle.report.proofs.reading.read_folded.Goals as goal

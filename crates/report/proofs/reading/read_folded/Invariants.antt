@@ -1,7 +1,7 @@
 use Rattle.std.proofs.Common.{◌≡◌, ◌-◌, length, drop}
 use Rattle.std.specs.Option.{option_map}
 use Rattle.ring_core.specs.declared.log.Ticket.{Ticket}
-use Rattle.report.specs.Tallies.{read_commits, tally_at}
+use Rattle.report.specs.Inner.Tallies.{read_commits, tally_at}
 use Rattle.report.proofs.reading.read_folded.Given as goal
 
 abbrev pub invariant-loop-place : goal.invariant-loop-place

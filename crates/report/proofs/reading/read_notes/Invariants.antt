@@ -4,8 +4,8 @@ use Rattle.std.specs.Option.{option_map}
 use Rattle.ring_core.specs.declared.log.Ticket.{Ticket}
 use Rattle.phases.specs.Notes.{PlainNote}
 use Rattle.report.specs.Closed.{IsFirst}
-use Rattle.report.specs.Tallies.{with_note, tally_at}
-use Rattle.report.specs.Sources.{stray}
+use Rattle.report.specs.Inner.Tallies.{with_note, tally_at}
+use Rattle.report.specs.Inner.Sources.{stray}
 use Rattle.report.proofs.reading.read_notes.Given as goal
 
 abbrev pub invariant-loop-note : goal.invariant-loop-note

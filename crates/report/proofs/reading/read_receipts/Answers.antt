@@ -7,8 +7,8 @@ use Rattle.report.specs.declared.tally.Answer.TheVariants as answer
 use Rattle.report.specs.declared.tally.Fact.TheVariants as fact
 use Rattle.report.specs.declared.tally.Tally.{Tally}
 use Rattle.report.specs.Closed.{IsFirst}
-use Rattle.report.specs.Sources.{stray, stray_one}
-use Rattle.report.specs.Tallies.{with_receipt, marking, tally_at, lesser_of}
+use Rattle.report.specs.Inner.Sources.{stray, stray_one}
+use Rattle.report.specs.Inner.Tallies.{with_receipt, marking, tally_at, lesser_of}
 use Rattle.report.proofs.Folding.{fold_step, known_kept}
 use Rattle.report.proofs.Prefixes.{stray_step}
 use Rattle.report.proofs.reading.read_receipts.Goals as goal

@@ -3,7 +3,7 @@ use Rattle.std.specs.Option.{option_map}
 use Rattle.unit_model.specs.Base.{base_of}
 use Rattle.unit_model.specs.Steps.{Step}
 use Rattle.report.specs.declared.tally.TicketFact.{TicketFact}
-use Rattle.report.specs.Tallies.{read, tells, fact_of_one, tally_at}
+use Rattle.report.specs.Inner.Tallies.{read, tells, fact_of_one, tally_at}
 use Rattle.report.proofs.Slots.{map_same}
 use Rattle.report.proofs.Folding.{between, none_between, all_between, unit_step}
 use Rattle.report.proofs.reading.read_unit.Goals as goal

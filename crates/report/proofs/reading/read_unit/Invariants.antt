@@ -2,7 +2,7 @@ use Rattle.std.proofs.Common.{◌≡◌}
 use Rattle.std.specs.Option.{option_map}
 use Rattle.ring_core.specs.declared.log.Ticket.{Ticket}
 use Rattle.unit_model.specs.Base.{base_of}
-use Rattle.report.specs.Tallies.{read, tally_at}
+use Rattle.report.specs.Inner.Tallies.{read, tally_at}
 use Rattle.report.proofs.Folding.{between}
 use Rattle.report.proofs.reading.read_unit.Given as goal
 

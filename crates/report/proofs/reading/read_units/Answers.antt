@@ -3,7 +3,7 @@ use Rattle.std.specs.Option.{option_map}
 use Rattle.unit_model.specs.Base.{kept_steps}
 use Rattle.unit_model.specs.Steps.{alive}
 use Rattle.unit_model.specs.Unit.{PlainUnit}
-use Rattle.report.specs.Tallies.{read, read_folded, read_alive, tally_at}
+use Rattle.report.specs.Inner.Tallies.{read, read_folded, read_alive, tally_at}
 use Rattle.report.proofs.Folding.{unit_more}
 use Rattle.report.proofs.reading.read_units.Goals as goal
 

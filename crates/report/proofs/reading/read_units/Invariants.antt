@@ -1,7 +1,7 @@
 use Rattle.std.proofs.Common.{◌≡◌, take}
 use Rattle.std.specs.Option.{option_map}
 use Rattle.ring_core.specs.declared.log.Ticket.{Ticket}
-use Rattle.report.specs.Tallies.{with_units, tally_at}
+use Rattle.report.specs.Inner.Tallies.{with_units, tally_at}
 use Rattle.report.proofs.reading.read_units.Given as goal
 
 abbrev pub invariant-loop-index : goal.invariant-loop-index

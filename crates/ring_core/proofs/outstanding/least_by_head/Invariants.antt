@@ -1,4 +1,4 @@
-use Rattle.ring_core.specs.Table.{IsLeastBelow}
+use Rattle.ring_core.specs.Inner.Table.{IsLeastBelow}
 use Rattle.ring_core.proofs.outstanding.least_by_head.Given as goal
 
 abbrev pub invariant-loop-place : goal.invariant-loop-place

@@ -1,6 +1,6 @@
 use Rattle.std.proofs.Common.{rules, ◌≡◌}
 use Rattle.std.specs.List.{after_first, before_first}
-use Rattle.script_lines.specs.Values.{is_colon}
+use Rattle.script_lines.specs.Inner.Values.{is_colon}
 use Rattle.script_lines.proofs.Digits.{not_pair}
 use Rattle.script_lines.proofs.values.unit_pair.Goals as goal
 

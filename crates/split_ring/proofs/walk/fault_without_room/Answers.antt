@@ -4,7 +4,7 @@ use Rattle.ring_core.specs.Split.{split_table}
 use Rattle.ring_core.proofs.Walking.{ring_fails}
 use Rattle.ring_core.specs.declared.fault.RingFault.TheVariants.{NoMemory}
 use Rattle.split_ring.specs.declared.walk.Table.{Table}
-use Rattle.split_ring.specs.Inner.{queue_path}
+use Rattle.split_ring.specs.Inner.Answers.{queue_path}
 use Rattle.split_ring.proofs.Chains.{as_split}
 use Rattle.split_ring.proofs.Path.{path_start, path_first, path_wrong}
 use Rattle.split_ring.proofs.walk.fault_without_room.Goals as goal

@@ -1,9 +1,9 @@
 use Rattle.std.proofs.Common.{[]}
 use Rattle.ring_core.specs.Walk.{nothing_before}
-use Rattle.ring_core.specs.Walking.{Walks}
+use Rattle.ring_core.specs.Inner.Walking.{Walks}
 use Rattle.ring_core.specs.Split.{split_table}
 use Rattle.ring_core.proofs.Walking.{ring_fails}
-use Rattle.split_ring.specs.Inner.{queue_path}
+use Rattle.split_ring.specs.Inner.Answers.{queue_path}
 use Rattle.split_ring.proofs.Chains.{as_split, alone, table_lies, fails, ended}
 use Rattle.split_ring.proofs.walk.walk.Goals as goal
 

@@ -1,6 +1,6 @@
 use Rattle.std.proofs.Common.{arith}
 use Rattle.unit_model.specs.Seen.{finished}
-use Rattle.task_set.specs.Tasks.{moved}
+use Rattle.task_set.specs.Inner.Tasks.{moved}
 use Rattle.task_set.proofs.Lists.{mapped_more}
 use Rattle.task_set.proofs.walks.finish_all.Goals as goal
 

@@ -1,6 +1,6 @@
 use Rattle.std.proofs.Common.{◌≡◌, ◌++◌, drop, take, map}
 use Rattle.unit_model.specs.Seen.{finished}
-use Rattle.task_set.specs.Tasks.{moved}
+use Rattle.task_set.specs.Inner.Tasks.{moved}
 use Rattle.task_set.proofs.walks.finish_all.Given as goal
 
 abbrev pub invariant-loop-task : goal.invariant-loop-task

@@ -1,7 +1,8 @@
 use Rattle.std.proofs.Common.{◌≡◌, ◌∙◌, ◌<◌, length, get_or, nat_lt, ap, sym, arith, ◌||◌}
 use Rattle.unit_model.specs.Tasks.{is_blocked, is_ordered}
 use Rattle.unit_model.specs.Seen.{freed}
-use Rattle.task_set.specs.Tasks.{PlainTask, entries_of, moved, blocked_where}
+use Rattle.task_set.specs.Tasks.{PlainTask}
+use Rattle.task_set.specs.Inner.Tasks.{entries_of, moved, blocked_where}
 use Rattle.task_set.proofs.Before.{blocked_at, ordered_more}
 use Rattle.task_set.proofs.Lists.{mapped_at, mapped_more, given_out, freed_by, given_by}
 use Rattle.task_set.proofs.walks.free_all.Goals as goal

@@ -1,7 +1,7 @@
 use Rattle.std.proofs.Common.{◌≡◌, ◌++◌, ◌+◌, ◌≤◌, length, drop, take, map}
 use Rattle.unit_model.specs.Tasks.{any_head_of_queue, any_ordered}
 use Rattle.unit_model.specs.Seen.{freed}
-use Rattle.task_set.specs.Tasks.{entries_of, moved, all_given}
+use Rattle.task_set.specs.Inner.Tasks.{entries_of, moved, all_given}
 use Rattle.task_set.proofs.walks.free_all.Given as goal
 
 abbrev pub invariant-loop-i : goal.invariant-loop-i

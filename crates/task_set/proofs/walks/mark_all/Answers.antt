@@ -1,6 +1,6 @@
 use Rattle.std.proofs.Common.{◌<◌, length, arith}
 use Rattle.unit_model.specs.Seen.{with_mark}
-use Rattle.task_set.specs.Tasks.{moved}
+use Rattle.task_set.specs.Inner.Tasks.{moved}
 use Rattle.task_set.proofs.Lists.{mapped_at, mapped_more, given_out}
 use Rattle.task_set.proofs.walks.mark_all.Goals as goal
 

@@ -1,6 +1,6 @@
 use Rattle.std.proofs.Common.{◌≡◌, ◌++◌, ◌+◌, ◌≤◌, length, drop, take, map}
 use Rattle.unit_model.specs.Seen.{with_mark}
-use Rattle.task_set.specs.Tasks.{moved, all_given}
+use Rattle.task_set.specs.Inner.Tasks.{moved, all_given}
 use Rattle.task_set.proofs.walks.mark_all.Given as goal
 
 abbrev pub invariant-loop-task : goal.invariant-loop-task

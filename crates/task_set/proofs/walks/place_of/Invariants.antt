@@ -1,5 +1,5 @@
 use Rattle.std.proofs.Common.{◌≡◌, ◌++◌, drop, take}
-use Rattle.task_set.specs.Tasks.{task_at, without}
+use Rattle.task_set.specs.Inner.Tasks.{task_at, without}
 use Rattle.task_set.proofs.walks.place_of.Given as goal
 
 abbrev pub invariant-loop-i : goal.invariant-loop-i

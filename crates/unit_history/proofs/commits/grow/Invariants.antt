@@ -1,5 +1,5 @@
 use Rattle.std.proofs.Common.{◌≡◌, ◌≤◌, ℕ, length}
-use Rattle.unit_history.specs.Runs.{runs_of, tables_of}
+use Rattle.unit_history.specs.Inner.Runs.{runs_of, tables_of}
 use Rattle.unit_history.proofs.commits.grow.Given as goal
 
 abbrev pub invariant-loop : goal.invariant-loop

@@ -1,6 +1,6 @@
 use Rattle.std.proofs.Common.{◌≡◌, ◌<◌, sym, ◌∙◌, subst, arith, List, None}
 use Rattle.unit_history.specs.declared.runs.Run.{Run}
-use Rattle.unit_history.specs.Runs.{AreRising, AreNumbered, FindsIn}
+use Rattle.unit_history.specs.Inner.Runs.{AreRising, AreNumbered, FindsIn}
 use Rattle.unit_history.proofs.Tables.{table_is, none_next}
 use Rattle.unit_history.proofs.commits.ticket_in.Goals as goal
 

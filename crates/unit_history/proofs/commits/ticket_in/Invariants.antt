@@ -1,6 +1,6 @@
 use Rattle.std.proofs.Common.{ℕ, ◌<◌}
 use Rattle.ring_core.specs.declared.log.Ticket.{Ticket}
-use Rattle.unit_history.specs.Runs.{Stands, tables_of}
+use Rattle.unit_history.specs.Inner.Runs.{Stands, tables_of}
 use Rattle.unit_history.proofs.commits.ticket_in.Given as goal
 
 abbrev pub invariant-loop-queue : goal.invariant-loop-queue

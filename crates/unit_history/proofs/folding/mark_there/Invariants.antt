@@ -1,5 +1,5 @@
 use Rattle.std.proofs.Common.{◌≡◌, drop}
-use Rattle.unit_history.specs.Folding.{mark_at}
+use Rattle.unit_history.specs.Inner.Folding.{mark_at}
 use Rattle.unit_history.proofs.folding.mark_there.Given as goal
 
 abbrev pub invariant-loop-at : goal.invariant-loop-at

@@ -1,6 +1,6 @@
 use Rattle.std.proofs.Common.{◌≡◌, true, false, [], ◌∷◌, length, sym, ap, ◌∙◌, subst, arith, length-append}
-use Rattle.unit_history.specs.Folding.{met_one}
-use Rattle.unit_history.specs.Recorded.{AreFirst}
+use Rattle.unit_history.specs.Inner.Folding.{met_one}
+use Rattle.unit_history.specs.Inner.Recorded.{AreFirst}
 use Rattle.unit_history.proofs.Bounds.{first_more}
 use Rattle.unit_history.proofs.log.count_up.Goals as goal
 

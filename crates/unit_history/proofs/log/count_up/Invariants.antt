@@ -1,5 +1,5 @@
 use Rattle.std.proofs.Common.{◌≡◌, length}
-use Rattle.unit_history.specs.Recorded.{AreFirst}
+use Rattle.unit_history.specs.Inner.Recorded.{AreFirst}
 use Rattle.unit_history.proofs.log.count_up.Given as goal
 
 abbrev pub invariant-loop-place : goal.invariant-loop-place

@@ -1,5 +1,5 @@
 use Rattle.std.proofs.Common.{[], ◌∷◌, length, sym, ap, ◌∙◌, subst, arith, length-append}
-use Rattle.unit_history.specs.Recorded.{AreFirst}
+use Rattle.unit_history.specs.Inner.Recorded.{AreFirst}
 use Rattle.unit_history.proofs.Bounds.{first_more}
 use Rattle.unit_history.proofs.log.cover.Goals as goal
 

@@ -1,6 +1,6 @@
 use Rattle.std.proofs.Common.{◌+◌, ◌-◌, ◌<◌, List, sym, ◌∙◌, ap, subst, arith}
 use Rattle.unit_history.specs.declared.runs.Run.{Run}
-use Rattle.unit_history.specs.Runs.{OnRun, InRuns, OneMore, AreRising, AreNumbered, AreBefore}
+use Rattle.unit_history.specs.Inner.Runs.{OnRun, InRuns, OneMore, AreRising, AreNumbered, AreBefore}
 use Rattle.unit_history.proofs.Rising.{stride_at, rising_set, numbered_set, before_set, more_set, rising_push, numbered_push, before_push, more_push}
 use Rattle.unit_history.proofs.runs.add.Goals as goal
 

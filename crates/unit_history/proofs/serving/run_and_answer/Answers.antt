@@ -1,8 +1,8 @@
 use Rattle.std.proofs.Common.{◌≡◌, false, None, subst}
-use Rattle.block_commands.specs.Told.{facts_of}
+use Rattle.block_commands.specs.Inner.Told.{facts_of}
 use Rattle.block_store.specs.Kept as pages
 use Rattle.cdb.specs.declared.commands.Command.{Command}
-use Rattle.unit_history.specs.Performing.{Ran, told}
+use Rattle.unit_history.specs.Inner.Performing.{Ran, told}
 use Rattle.unit_history.proofs.Alone.{ran_in_place}
 use Rattle.unit_history.proofs.serving.run_and_answer.Goals as goal
 

@@ -3,7 +3,8 @@ use Rattle.std.proofs.lemmas.List.{length-map}
 use Rattle.decisions.specs.declared.inventory.UnitSpec.{UnitSpec}
 use Rattle.world.specs.Opening.{IsOpening, OpensFor}
 use Rattle.vscsi_c.specs.Calls.{Cause}
-use Rattle.vscsi_c.specs.Disks.{Fit, Lacks}
+use Rattle.vscsi_c.specs.Disks.{Lacks}
+use Rattle.vscsi_c.specs.Inner.Disks.{Fit}
 use Rattle.vscsi_c.specs.Wanted.{spec_of}
 use Rattle.vscsi_c.specs.Kept.{disk_at, disks_at}
 use Rattle.vscsi_c.proofs.Handed.{absent, created_over, all_there, are_for}

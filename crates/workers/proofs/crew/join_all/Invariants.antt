@@ -1,7 +1,8 @@
 use Rattle.std.specs.Prelude.{◌≡◌, ◌+◌, ◌<◌, vec_len}
 use Rattle.std.specs.Vec.{vec_capacity}
-use Rattle.handoff.specs.Seats.{Hub, AreSeatsFrom}
-use Rattle.workers.specs.Crew.{AreHired}
+use Rattle.handoff.specs.Seats.{Hub}
+use Rattle.handoff.specs.Inner.Seats.{AreSeatsFrom}
+use Rattle.workers.specs.Inner.Crew.{AreHired}
 use Rattle.workers.proofs.crew.join_all.Given as goal
 
 abbrev pub invariant-loop-worker : goal.invariant-loop-worker

@@ -1,6 +1,6 @@
 use Rattle.std.proofs.Common.{◌≡◌, ℕ, ◌+◌, sym, subst, arith, vec_len}
 use Rattle.std.specs.Arc.{arc_value}
-use Rattle.handoff.specs.Seats.{AreSeatsFrom}
+use Rattle.handoff.specs.Inner.Seats.{AreSeatsFrom}
 use Rattle.workers.proofs.Crews.{hired_more, first_seat}
 use Rattle.workers.proofs.crew.start_all.Goals as goal
 

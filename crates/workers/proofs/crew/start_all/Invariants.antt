@@ -1,8 +1,8 @@
 use Rattle.std.specs.Prelude.{◌≡◌, ◌+◌, ◌≤◌, vec_len}
 use Rattle.std.specs.Vec.{vec_capacity}
 use Rattle.std.specs.Arc.{arc_value}
-use Rattle.handoff.specs.Seats.{AreSeatsFrom}
-use Rattle.workers.specs.Crew.{AreHired}
+use Rattle.handoff.specs.Inner.Seats.{AreSeatsFrom}
+use Rattle.workers.specs.Inner.Crew.{AreHired}
 use Rattle.workers.proofs.crew.start_all.Given as goal
 
 abbrev pub invariant-loop-seat : goal.invariant-loop-seat

@@ -6,7 +6,8 @@ use Rattle.ring_core.specs.State.{features_of}
 use Rattle.ring_core.specs.declared.layout.Layout.{Layout}
 use Rattle.event_queue.specs.Port.{PlainPort}
 use Rattle.world.specs.Kept.{seat_of}
-use Rattle.world.specs.Opening.{AreOpening, AreFresh, AreSeats}
+use Rattle.world.specs.Opening.{AreOpening, AreFresh}
+use Rattle.world.specs.Inner.Opening.{AreSeats}
 use Rattle.world.proofs.AtOpening.{lists_open, seats_idle, seats_many}
 use Rattle.world.proofs.opening.open_device.Goals as goal
 

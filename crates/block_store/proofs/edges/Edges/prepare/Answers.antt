@@ -1,7 +1,8 @@
 use Rattle.std.proofs.Common.{◌≡◌, ℕ, ◌+◌, ◌-◌, ◌*◌, ◌/◌, ◌%◌, ◌∙◌, ap, refl, arith, if◌then◌else◌}
 use Rattle.block_store.specs.Blocks.{block_count, nth_block, is_within}
 use Rattle.block_store.specs.Pages.{blocks_in}
-use Rattle.block_store.specs.Kept.{row_blocks, kept_from, kept_at_ends}
+use Rattle.block_store.specs.Kept.{kept_from, kept_at_ends}
+use Rattle.block_store.specs.Inner.Kept.{row_blocks}
 use Rattle.block_store.proofs.Placed.{from-ends, from-covered}
 use Rattle.block_store.proofs.edges.Edges.prepare.Goals as goal
 

@@ -1,6 +1,6 @@
 use Rattle.std.proofs.Common.{sym, ◌∙◌, arith}
 use Rattle.block_store.specs.Blocks.{zero_block}
-use Rattle.block_store.specs.Padding.{length-zero_block}
+use Rattle.block_store.specs.Inner.Padding.{length-zero_block}
 use Rattle.block_store.proofs.Paging.{blocks_in-covered, blocks_in-none, clear-unmade}
 use Rattle.block_store.proofs.Within.{is_within-inside}
 use Rattle.block_store.proofs.page.Page.clear.Goals as goal

@@ -1,6 +1,6 @@
 use Rattle.std.proofs.Common.{◌≡◌, ◌+◌, ◌<◌, ◌≤◌, ◌/◌, ◌%◌, ◌∙◌, ap, length}
 use Rattle.block_store.specs.Kept.{kept, blocks_of}
-use Rattle.block_store.specs.Padding.{length-blocks_in}
+use Rattle.block_store.specs.Inner.Padding.{length-blocks_in}
 use Rattle.block_store.proofs.Runs.{length-run}
 use Rattle.block_store.proofs.paged.PagedStore.blocks_in_place.Goals as goal
 

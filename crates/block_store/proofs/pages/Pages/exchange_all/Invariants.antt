@@ -1,6 +1,7 @@
 use Rattle.std.proofs.Common.{◌≡◌, ℕ, ◌-◌, ◌≤◌, vec_len, if◌then◌else◌}
 use Rattle.block_store.specs.Blocks.{is_within}
-use Rattle.block_store.specs.Kept.{kept, kept_from, has_place}
+use Rattle.block_store.specs.Kept.{kept, kept_from}
+use Rattle.block_store.specs.Inner.Kept.{has_place}
 use Rattle.block_store.proofs.pages.Pages.exchange_all.Given as goal
 
 -- the first pages are exchanged

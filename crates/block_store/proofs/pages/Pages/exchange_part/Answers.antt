@@ -1,5 +1,6 @@
 use Rattle.std.proofs.Common.{◌+◌, ◌/◌, ◌%◌, ◌∙◌, refl, rules}
-use Rattle.block_store.specs.Kept.{tree_row, tree_has}
+use Rattle.block_store.specs.Kept.{tree_row}
+use Rattle.block_store.specs.Inner.Kept.{tree_has}
 use Rattle.block_store.proofs.Placed.{placed-same, long-enough, exchanged-here, exchanged-there}
 use Rattle.block_store.proofs.pages.Pages.exchange_part.Goals as goal
 

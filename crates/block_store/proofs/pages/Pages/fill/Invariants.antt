@@ -1,6 +1,7 @@
 use Rattle.std.proofs.Common.{◌≡◌, ℕ, ◌-◌, ◌≤◌}
 use Rattle.block_store.specs.Blocks.{filled}
-use Rattle.block_store.specs.Kept.{blocks_of, is_made}
+use Rattle.block_store.specs.Kept.{blocks_of}
+use Rattle.block_store.specs.Inner.Kept.{is_made}
 use Rattle.block_store.proofs.pages.Pages.fill.Given as goal
 
 -- the first blocks are filled

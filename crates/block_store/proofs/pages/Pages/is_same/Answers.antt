@@ -3,7 +3,7 @@ use Rattle.std.specs.Cmp.{unsigned_Decides}
 use Rattle.std.proofs.lemmas.Slice.Eq.{slice_eq-Decides}
 use Rattle.block_store.specs.Pages.{paged}
 use Rattle.block_store.specs.Kept.{kept, kept_from, blocks_of}
-use Rattle.block_store.specs.Padding.{length-blocks_in}
+use Rattle.block_store.specs.Inner.Padding.{length-blocks_in}
 use Rattle.block_store.proofs.Agreeing.{agree-by}
 use Rattle.block_store.proofs.Placed.{run-from}
 use Rattle.block_store.proofs.pages.Pages.is_same.Goals as goal

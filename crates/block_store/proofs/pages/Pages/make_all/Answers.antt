@@ -1,5 +1,5 @@
 use Rattle.std.proofs.Common.{◌/◌, ◌∙◌, arith}
-use Rattle.block_store.specs.Kept.{is_made}
+use Rattle.block_store.specs.Inner.Kept.{is_made}
 use Rattle.block_store.proofs.Made.{within-further}
 use Rattle.block_store.proofs.pages.Pages.make_all.Goals as goal
 

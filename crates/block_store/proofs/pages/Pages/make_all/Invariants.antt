@@ -1,6 +1,7 @@
 use Rattle.std.proofs.Common.{◌≡◌, ℕ, ◌/◌, ◌-◌, ◌≤◌, IsTrue}
 use Rattle.block_store.specs.Blocks.{is_within}
-use Rattle.block_store.specs.Kept.{blocks_of, is_made}
+use Rattle.block_store.specs.Kept.{blocks_of}
+use Rattle.block_store.specs.Inner.Kept.{is_made}
 use Rattle.block_store.proofs.pages.Pages.make_all.Given as goal
 
 -- the pages of the first blocks keep their bytes

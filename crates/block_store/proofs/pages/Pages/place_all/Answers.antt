@@ -1,5 +1,5 @@
 use Rattle.std.proofs.Common.{◌∙◌, arith}
-use Rattle.block_store.specs.Kept.{has_place}
+use Rattle.block_store.specs.Inner.Kept.{has_place}
 use Rattle.block_store.proofs.Made.{within-further}
 use Rattle.block_store.proofs.pages.Pages.place_all.Goals as goal
 

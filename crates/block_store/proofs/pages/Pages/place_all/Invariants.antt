@@ -1,7 +1,8 @@
 use Rattle.std.specs.Prelude.{IsTrue}
 use Rattle.std.proofs.Common.{◌≡◌, ℕ, ◌-◌, ◌≤◌}
 use Rattle.block_store.specs.Blocks.{is_within}
-use Rattle.block_store.specs.Kept.{kept, has_place}
+use Rattle.block_store.specs.Kept.{kept}
+use Rattle.block_store.specs.Inner.Kept.{has_place}
 use Rattle.block_store.proofs.pages.Pages.place_all.Given as goal
 
 -- the first pages have their places

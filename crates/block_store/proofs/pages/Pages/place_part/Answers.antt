@@ -1,5 +1,6 @@
 use Rattle.std.proofs.Common.{◌/◌, ◌∙◌, refl, rules}
-use Rattle.block_store.specs.Kept.{tree_row, tree_has}
+use Rattle.block_store.specs.Kept.{tree_row}
+use Rattle.block_store.specs.Inner.Kept.{tree_has}
 use Rattle.block_store.proofs.Placed.{placed-grown}
 use Rattle.block_store.proofs.pages.Pages.place_part.Goals as goal
 

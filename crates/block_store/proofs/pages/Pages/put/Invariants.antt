@@ -1,7 +1,8 @@
 use Rattle.std.proofs.Common.{◌≡◌, ℕ, ◌-◌, ◌≤◌}
 use Rattle.block_store.specs.Blocks.{nth_block}
 use Rattle.block_store.specs.Pages.{covered}
-use Rattle.block_store.specs.Kept.{blocks_of, is_made}
+use Rattle.block_store.specs.Kept.{blocks_of}
+use Rattle.block_store.specs.Inner.Kept.{is_made}
 use Rattle.block_store.proofs.pages.Pages.put.Given as goal
 
 -- the first blocks are written

@@ -2,7 +2,7 @@ use Rattle.std.proofs.Common.{◌≡◌, ◌+◌, ◌*◌, ◌/◌, ◌%◌, ◌
 use Rattle.std.proofs.lemmas.Grind.{common_steps}
 use Rattle.block_store.specs.Blocks.{run}
 use Rattle.block_store.specs.Kept.{kept, blocks_of, tree_row}
-use Rattle.block_store.specs.Padding.{length-blocks_in}
+use Rattle.block_store.specs.Inner.Padding.{length-blocks_in}
 use Rattle.block_store.proofs.Rows.{run-row}
 use Rattle.block_store.proofs.Runs.{run-add, length-run}
 use Rattle.block_store.proofs.pages.Pages.read.Goals as goal

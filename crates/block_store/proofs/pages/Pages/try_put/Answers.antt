@@ -1,6 +1,7 @@
 use Rattle.std.proofs.Common.{◌≡◌, ◌+◌, ◌-◌, ◌*◌, if◌then◌else◌, refl, ap, ◌∙◌, arith}
 use Rattle.block_store.specs.Blocks.{block_count, nth_block, is_within}
-use Rattle.block_store.specs.Kept.{row_blocks, tree_row}
+use Rattle.block_store.specs.Kept.{tree_row}
+use Rattle.block_store.specs.Inner.Kept.{row_blocks}
 use Rattle.block_store.proofs.Rows.{Changed, row-covered, row-same}
 use Rattle.block_store.proofs.pages.Pages.try_put.Goals as goal
 

@@ -2,7 +2,7 @@ use Rattle.std.proofs.Common.{List, sym, subst}
 use Rattle.std.proofs.lemmas.List.Elements.{All-drop}
 use Rattle.std.specs.List.{All}
 use Rattle.scsi_codec.specs.declared.event_queue.Event.{Event}
-use Rattle.event_queue.specs.Port.{HasAddress}
+use Rattle.event_queue.specs.Inner.Port.{HasAddress}
 use Rattle.event_queue.proofs.waiting.WaitingEvents.pop.Goals as goal
 
 pub invariant_of-self : goal.invariant_of-self

@@ -1,7 +1,7 @@
 use Rattle.std.proofs.Common.{List, is_ok, sym, subst}
 use Rattle.std.specs.List.{All}
 use Rattle.scsi_codec.specs.declared.event_queue.Event.{Event}
-use Rattle.event_queue.specs.Port.{HasAddress}
+use Rattle.event_queue.specs.Inner.Port.{HasAddress}
 use Rattle.event_queue.proofs.Fitting.{all_put}
 use Rattle.event_queue.proofs.waiting.WaitingEvents.push.Goals as goal
 

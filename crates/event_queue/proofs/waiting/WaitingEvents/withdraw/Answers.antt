@@ -3,7 +3,7 @@ use Rattle.std.proofs.lemmas.List.Elements.{All-take}
 use Rattle.std.specs.List.{All}
 use Rattle.std.specs.VecDeque.{deque_len}
 use Rattle.scsi_codec.specs.declared.event_queue.Event.{Event}
-use Rattle.event_queue.specs.Port.{HasAddress}
+use Rattle.event_queue.specs.Inner.Port.{HasAddress}
 use Rattle.event_queue.proofs.waiting.WaitingEvents.withdraw.Goals as goal
 
 pub invariant_of-self : goal.invariant_of-self

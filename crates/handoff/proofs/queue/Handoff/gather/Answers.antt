@@ -1,8 +1,9 @@
 use Rattle.std.proofs.Common.{◌≡◌, ◌<◌, ℕ, [], ◌∷◌, length, ap, sym, ◌∙◌, subst, arith}
 use Rattle.std.proofs.lemmas.List.{nil_from_length, length-map}
-use Rattle.handoff.specs.Moves.{AreSettled}
+use Rattle.handoff.specs.Inner.Moves.{AreSettled}
 use Rattle.handoff.specs.Places.{PlainPlace}
-use Rattle.handoff.specs.Seats.{PlainSeat, AreSeatsFrom, IsSeated, HandedOver}
+use Rattle.handoff.specs.Seats.{PlainSeat}
+use Rattle.handoff.specs.Inner.Seats.{AreSeatsFrom, IsSeated, HandedOver}
 use Rattle.handoff.proofs.Lists.{stands_at}
 use Rattle.handoff.proofs.Gathering.{AreBelow, gather_start, gather_more, has_column, knows_all, all_below, handed_over}
 use Rattle.handoff.proofs.Even.{gathered}

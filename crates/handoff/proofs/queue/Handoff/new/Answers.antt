@@ -1,7 +1,8 @@
 use Rattle.std.proofs.Common.{◌≡◌, ◌<◌, ◌+◌, ℕ, length, arith, ap, refl, ◌∙◌}
-use Rattle.handoff.specs.Rule.{newcomer}
+use Rattle.handoff.specs.Inner.Rule.{newcomer}
 use Rattle.handoff.specs.Seats.{PlainSeat}
-use Rattle.handoff.specs.Lanes.{hub_of, at_each, lead}
+use Rattle.handoff.specs.Lanes.{hub_of}
+use Rattle.handoff.specs.Inner.Lanes.{at_each, lead}
 use Rattle.handoff.proofs.Seating.{seats_snoc, new_snoc, newcomer_is, lead_is, made_seat, made_seated}
 use Rattle.handoff.proofs.queue.Handoff.new.Goals as goal
 

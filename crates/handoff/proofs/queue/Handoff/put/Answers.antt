@@ -1,8 +1,9 @@
 use Rattle.std.proofs.Common.{◌≡◌, [], ◌∷◌, length, refl, sym, ap, ◌∙◌, subst, arith}
 use Rattle.std.proofs.lemmas.Option.{slice_get_read}
-use Rattle.handoff.specs.Rule.{after_put}
-use Rattle.handoff.specs.Places.{knowing}
-use Rattle.handoff.specs.Seats.{Hub, PlainSeat, putting, account_at, seat_of, IsSeated}
+use Rattle.handoff.specs.Inner.Rule.{after_put}
+use Rattle.handoff.specs.Inner.Places.{knowing}
+use Rattle.handoff.specs.Seats.{Hub, PlainSeat, seat_of}
+use Rattle.handoff.specs.Inner.Seats.{putting, account_at, IsSeated}
 use Rattle.handoff.proofs.Seating.{has_one, seat_put, put_seated}
 use Rattle.handoff.proofs.Holding.{queues_met, count_met, same_queue, on_either, on_ok, on_err, same_put, same_still, still, held_as, accounts_are}
 use Rattle.handoff.proofs.queue.Handoff.put.Goals as goal

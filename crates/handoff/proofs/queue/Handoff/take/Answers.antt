@@ -1,5 +1,6 @@
 use Rattle.std.proofs.Common.{◌≤◌, ◌<◌, ℕ, ap, subst, arith}
-use Rattle.handoff.specs.Seats.{Hub, PlainSeat, WasEmpty}
+use Rattle.handoff.specs.Seats.{Hub, PlainSeat}
+use Rattle.handoff.specs.Inner.Seats.{WasEmpty}
 use Rattle.handoff.proofs.Holding.{on_some, on_none, between_of, nearest_before, all_empty}
 use Rattle.handoff.proofs.queue.Handoff.take.Goals as goal
 

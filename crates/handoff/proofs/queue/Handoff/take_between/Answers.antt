@@ -1,5 +1,5 @@
 use Rattle.std.proofs.Common.{sym, ◌∙◌, subst, arith, inl, inr}
-use Rattle.handoff.specs.Seats.{WasEmpty}
+use Rattle.handoff.specs.Inner.Seats.{WasEmpty}
 use Rattle.handoff.proofs.Lists.{below_or_at}
 use Rattle.handoff.proofs.queue.Handoff.take_between.Goals as goal
 

@@ -1,5 +1,5 @@
 use Rattle.std.proofs.Common.{◌≡◌, ℕ, ◌<◌, ◌≤◌}
-use Rattle.handoff.specs.Seats.{WasEmpty}
+use Rattle.handoff.specs.Inner.Seats.{WasEmpty}
 use Rattle.handoff.proofs.queue.Handoff.take_between.Given as goal
 
 abbrev pub invariant-loop-at : goal.invariant-loop-at

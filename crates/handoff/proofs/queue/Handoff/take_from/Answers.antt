@@ -1,7 +1,8 @@
 use Rattle.std.proofs.Common.{◌<◌, length, refl, ap, ◌∙◌, arith}
 use Rattle.std.proofs.lemmas.Option.{slice_get_read}
 use Rattle.handoff.specs.Moves.{move}
-use Rattle.handoff.specs.Seats.{Hub, PlainSeat, taking, seat_of}
+use Rattle.handoff.specs.Seats.{Hub, PlainSeat, seat_of}
+use Rattle.handoff.specs.Inner.Seats.{taking}
 use Rattle.handoff.proofs.Seating.{has_one, seat_took, take_seated}
 use Rattle.handoff.proofs.Holding.{queues_met, count_met, same_queue, same_took, held_as, accounts_are}
 use Rattle.handoff.proofs.queue.Handoff.take_from.Goals as goal

@@ -1,5 +1,5 @@
 use Rattle.std.proofs.Common.{◌+◌, length, arith, refl, rules}
-use Rattle.live_mem.specs.Kept.{Keeps}
+use Rattle.live_mem.specs.Inner.Kept.{Keeps}
 use Rattle.live_mem.proofs.Keeping.{all_stay, free_stays}
 use Rattle.live_mem.proofs.kept.Kept.keep.Goals as goal
 

@@ -1,7 +1,8 @@
 use Rattle.std.proofs.Common.{refl, subst}
-use Rattle.replies.specs.PlainReply.{PlainReply, good_data}
+use Rattle.replies.specs.PlainReply.{PlainReply}
+use Rattle.replies.specs.Inner.PlainReply.{good_data}
 use Rattle.unit_model.specs.Endings.{Ending}
-use Rattle.phases.specs.Outcomes.{WritesWholeIn}
+use Rattle.phases.specs.Inner.Outcomes.{WritesWholeIn}
 use Rattle.phases.proofs.AtOnce.{writes_whole, read_as}
 use Rattle.phases.proofs.serving.AnswerAnswering.answer_read.Goals as goal
 

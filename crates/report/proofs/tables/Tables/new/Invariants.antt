@@ -1,7 +1,7 @@
 use Rattle.std.proofs.Common.{◌≡◌, ◌<◌, length, cond, Some, None}
 use Rattle.ring_core.specs.declared.log.Ticket.{Ticket}
 use Rattle.report.specs.Settled.{is_request}
-use Rattle.report.specs.Tallies.{fresh, tally_at}
+use Rattle.report.specs.Inner.Tallies.{fresh, tally_at}
 use Rattle.report.proofs.tables.Tables.new.Given as goal
 
 abbrev pub invariant-loop-queue : goal.invariant-loop-queue

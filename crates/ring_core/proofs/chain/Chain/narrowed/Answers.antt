@@ -1,7 +1,7 @@
 use Rattle.std.proofs.Common.{◌≡◌, ◌≤◌, List, length, min, sym, subst, rules}
 use Rattle.ring_core.specs.Parts.{writable_total}
 use Rattle.ring_core.specs.Writes.{scatter_writes}
-use Rattle.ring_core.specs.Narrow.{first_writable}
+use Rattle.ring_core.specs.Inner.Narrow.{first_writable}
 use Rattle.ring_core.specs.declared.descriptor.Part.{Part}
 use Rattle.ring_core.proofs.Narrowing.{few_first, room_first, same_written, stays_right}
 use Rattle.ring_core.proofs.chain.Chain.narrowed.Goals as goal

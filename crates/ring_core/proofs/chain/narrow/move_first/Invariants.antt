@@ -1,5 +1,5 @@
 use Rattle.std.proofs.Common.{◌≡◌, ◌≤◌, ◌++◌, take, drop}
-use Rattle.ring_core.specs.Narrow.{first_writable}
+use Rattle.ring_core.specs.Inner.Narrow.{first_writable}
 use Rattle.ring_core.proofs.chain.narrow.move_first.Given as goal
 
 abbrev pub invariant-loop-i : goal.invariant-loop-i

@@ -1,7 +1,8 @@
 use Rattle.std.proofs.Common.{◌≡◌, ◌++◌, ◌∷◌, [], true, false, Some, refl, sym, ◌∙◌, ap, arith}
 use Rattle.std.proofs.lemmas.Bool.Decides.{nat_tests}
 use Rattle.unit_model.specs.Tasks.{is_blocked}
-use Rattle.task_set.specs.Tasks.{PlainTask, entries_of, entering}
+use Rattle.task_set.specs.Tasks.{PlainTask}
+use Rattle.task_set.specs.Inner.Tasks.{entries_of, entering}
 use Rattle.task_set.proofs.Distinct.{distinct_entered}
 use Rattle.task_set.proofs.Entering.{blocked_by, entering_by, given_back_by}
 use Rattle.task_set.proofs.set.TaskSet.enter.Goals as goal

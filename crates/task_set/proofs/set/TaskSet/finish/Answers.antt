@@ -1,6 +1,6 @@
 use Rattle.std.proofs.Common.{refl}
 use Rattle.unit_model.specs.Seen.{finished}
-use Rattle.task_set.specs.Tasks.{moved}
+use Rattle.task_set.specs.Inner.Tasks.{moved}
 use Rattle.task_set.proofs.Distinct.{distinct_changed, distinct_finished}
 use Rattle.task_set.proofs.set.TaskSet.finish.Goals as goal
 

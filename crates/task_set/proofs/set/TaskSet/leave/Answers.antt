@@ -1,6 +1,6 @@
 use Rattle.std.proofs.Common.{◌≡◌, length, refl, ap, arith}
 use Rattle.unit_model.specs.Seen.{freed}
-use Rattle.task_set.specs.Tasks.{moved, entries_of, without}
+use Rattle.task_set.specs.Inner.Tasks.{moved, entries_of, without}
 use Rattle.task_set.proofs.Distinct.{distinct_changed, distinct_freed, no_more_without}
 use Rattle.task_set.proofs.set.TaskSet.leave.Goals as goal
 

@@ -1,7 +1,7 @@
 use Rattle.std.proofs.Common.{◌≡◌, ◌<◌, List, Vec, length, get_or, sym, ◌∙◌, ap, subst}
 use Rattle.std.specs.declared.alloc.Global.{Global}
 use Rattle.unit_history.specs.declared.runs.Run.{Run}
-use Rattle.unit_history.specs.Runs.{AreRising}
+use Rattle.unit_history.specs.Inner.Runs.{AreRising}
 use Rattle.unit_history.proofs.Tables.{table_is}
 use Rattle.unit_history.proofs.commits.Commits.stands.Goals as goal
 

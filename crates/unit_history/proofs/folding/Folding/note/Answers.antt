@@ -1,7 +1,8 @@
 use Rattle.std.proofs.Common.{map, refl, sym, ap, ◌∙◌, subst}
 use Rattle.std.proofs.lemmas.List.{length-map}
-use Rattle.unit_history.specs.Runs.{AreBefore, FoldsOne, committed, runs_of}
-use Rattle.unit_history.specs.Folding.{mark_at}
+use Rattle.unit_history.specs.Runs.{committed}
+use Rattle.unit_history.specs.Inner.Runs.{AreBefore, FoldsOne, runs_of}
+use Rattle.unit_history.specs.Inner.Folding.{mark_at}
 use Rattle.unit_history.proofs.Marks.{folded_more}
 use Rattle.unit_history.proofs.Tables.{commits_before, folds_none, folds_same, mark_commits_none}
 use Rattle.unit_history.proofs.folding.Folding.note.Goals as goal

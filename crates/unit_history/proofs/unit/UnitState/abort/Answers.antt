@@ -1,8 +1,8 @@
 use Rattle.std.proofs.Common.{◌≤◌, ◌∷◌, refl, sym, ap, subst, ◌∙◌, arith}
 use Rattle.unit_model.specs.declared.reason.Reason.TheVariants as reason
 use Rattle.unit_model.specs.Seen.{with_mark}
-use Rattle.task_set.specs.Tasks.{seen_of}
-use Rattle.unit_history.specs.Parts.{AreBehind}
+use Rattle.task_set.specs.Inner.Tasks.{seen_of}
+use Rattle.unit_history.specs.Inner.Parts.{AreBehind}
 use Rattle.unit_history.proofs.Basing.{based_way, behind_moved}
 use Rattle.unit_model.specs.Steps.{Step}
 use Rattle.task_set.specs.Tasks.{parked_of}

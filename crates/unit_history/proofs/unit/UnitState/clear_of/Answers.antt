@@ -1,8 +1,8 @@
 use Rattle.std.proofs.Common.{sym, ◌∙◌, ap, subst, not}
 use Rattle.unit_model.specs.Seen.{any_before}
 use Rattle.unit_model.proofs.Waiting.{clear_is}
-use Rattle.unit_history.specs.Recorded.{Tells}
-use Rattle.unit_history.specs.Parts.{AreBehind}
+use Rattle.unit_history.specs.Inner.Recorded.{Tells}
+use Rattle.unit_history.specs.Inner.Parts.{AreBehind}
 use Rattle.unit_history.proofs.Basing.{clear_forgotten_place}
 use Rattle.unit_history.proofs.unit.UnitState.clear_of.Goals as goal
 

@@ -1,13 +1,13 @@
 use Rattle.std.proofs.Common.{◌≡◌, ap, sym, subst, ◌∙◌, refl}
 use Rattle.unit_model.specs.Seen.{finished}
-use Rattle.unit_history.specs.Parts.{AreBehind}
+use Rattle.unit_history.specs.Inner.Parts.{AreBehind}
 use Rattle.unit_history.proofs.Basing.{based_on, behind_moved, ran_folds, ran_sized}
 use Rattle.std.specs.Option.{option_copied, option_map}
 use Rattle.block_store.specs.Kept as pages
-use Rattle.block_commands.specs.Told.{facts_of}
+use Rattle.block_commands.specs.Inner.Told.{facts_of}
 use Rattle.unit_history.specs.Fields.{opening_of}
-use Rattle.unit_history.specs.Performing.{performed_of, told, step_for}
-use Rattle.task_set.specs.Tasks.{task_at, seen_of}
+use Rattle.unit_history.specs.Inner.Performing.{performed_of, told, step_for}
+use Rattle.task_set.specs.Inner.Tasks.{task_at, seen_of}
 use Rattle.unit_history.proofs.Keeping.{has_room, is_ready, told_is, task_at_alive}
 use Rattle.unit_history.proofs.Committing.{cannot_none, cannot_turn, is_of, is_aborted, keep_run, commits_run}
 use Rattle.unit_history.proofs.Noting.{recorded_run}

@@ -3,8 +3,8 @@ use Rattle.ring_core.specs.declared.log.Ticket.{Ticket}
 use Rattle.unit_model.specs.Steps.{Step, floor}
 use Rattle.unit_history.proofs.Keeping.{CameTo, fresh, keep_full, keep_enter}
 use Rattle.unit_history.proofs.Entering.{not_stale, came_then, enters_full, enters_task}
-use Rattle.task_set.specs.Tasks.{seen_of}
-use Rattle.unit_history.specs.Parts.{AreBehind}
+use Rattle.task_set.specs.Inner.Tasks.{seen_of}
+use Rattle.unit_history.specs.Inner.Parts.{AreBehind}
 use Rattle.unit_history.proofs.Basing.{based_way, behind_entering}
 use Rattle.unit_history.proofs.Noting.{recorded_on}
 use Rattle.unit_history.proofs.unit.UnitState.enter.Goals as goal

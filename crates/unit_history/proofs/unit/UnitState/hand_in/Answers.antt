@@ -2,7 +2,7 @@ use Rattle.std.proofs.Common.{◌≡◌, ℕ, length, ◌/◌, ◌%◌, ap, sym,
 use Rattle.block_store.specs.Blocks.{zero_block}
 use Rattle.block_store.specs.Kept as pages
 use Rattle.block_store.specs.Pages.{blocks_in}
-use Rattle.block_store.specs.Padding.{length-blocks_in}
+use Rattle.block_store.specs.Inner.Padding.{length-blocks_in}
 use Rattle.unit_model.specs.Unit.{PlainUnit}
 use Rattle.unit_history.specs.Fields.{content_of}
 use Rattle.unit_history.proofs.Opening.{content_blocks, opens_again}

@@ -1,8 +1,8 @@
 use Rattle.std.proofs.Common.{refl, ap, sym, subst, ◌∙◌, arith}
 use Rattle.unit_model.specs.Steps.{Step}
 use Rattle.unit_model.specs.Seen.{freed}
-use Rattle.task_set.specs.Tasks.{seen_of, entries_of, without}
-use Rattle.unit_history.specs.Parts.{AreBehind}
+use Rattle.task_set.specs.Inner.Tasks.{seen_of, entries_of, without}
+use Rattle.unit_history.specs.Inner.Parts.{AreBehind}
 use Rattle.unit_history.proofs.Basing.{based_on, behind_moved, behind_without}
 use Rattle.std.specs.Option.{option_copied}
 use Rattle.task_set.specs.Tasks.{parked_of}

@@ -3,7 +3,7 @@ use Rattle.block_store.specs.Blocks.{zero_block}
 use Rattle.block_store.specs.Kept as pages
 use Rattle.unit_model.specs.Contents.{is_capacity}
 use Rattle.unit_model.specs.Steps.{Step}
-use Rattle.task_set.specs.Tasks.{seen_of}
+use Rattle.task_set.specs.Inner.Tasks.{seen_of}
 use Rattle.unit_history.proofs.Basing.{based_way}
 use Rattle.unit_history.proofs.Keeping.{may_resize, keep_resize}
 use Rattle.unit_history.proofs.Handing.{parked_resize}

@@ -1,15 +1,15 @@
 use Rattle.std.proofs.Common.{◌≡◌, ◌≤◌, ◌+◌, ◌∷◌, false, ap, sym, ◌∙◌, arith, subst, refl}
-use Rattle.block_commands.specs.Told.{facts_of}
+use Rattle.block_commands.specs.Inner.Told.{facts_of}
 use Rattle.block_store.specs.Kept as pages
 use Rattle.ring_core.specs.declared.log.Ticket.{Ticket}
 use Rattle.unit_model.specs.Endings.{Ending}
 use Rattle.unit_model.specs.Steps.{Step, floor}
 use Rattle.unit_history.specs.Fields.{opening_of}
-use Rattle.unit_history.specs.Performing.{told, unkept, step_for}
+use Rattle.unit_history.specs.Inner.Performing.{told, unkept, step_for}
 use Rattle.unit_history.proofs.Alone.{no_tasks, ends_as, all_steps, based_served, kept_served, recorded_served, serves_alone}
 use Rattle.unit_history.proofs.Entering.{not_stale, came_then}
 use Rattle.unit_history.proofs.Keeping.{CameTo, told_is}
-use Rattle.task_set.specs.Tasks.{seen_of}
+use Rattle.task_set.specs.Inner.Tasks.{seen_of}
 use Rattle.unit_history.proofs.Basing.{ran_sized}
 use Rattle.unit_history.proofs.unit.UnitState.serve_alone.Goals as goal
 

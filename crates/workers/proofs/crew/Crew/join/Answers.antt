@@ -1,5 +1,6 @@
 use Rattle.std.proofs.Common.{◌≡◌, ◌+◌, sym, ap, subst, length, arith}
-use Rattle.handoff.specs.Seats.{Hub, AreAllSeats}
+use Rattle.handoff.specs.Seats.{Hub}
+use Rattle.handoff.specs.Inner.Seats.{AreAllSeats}
 use Rattle.workers.specs.Crew.{IsLastSeat}
 use Rattle.workers.proofs.Crews.{all_back}
 use Rattle.workers.proofs.crew.Crew.join.Goals as goal

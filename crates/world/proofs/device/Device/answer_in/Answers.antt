@@ -1,6 +1,6 @@
 use Rattle.std.proofs.Common.{◌≡◌, is_some, Some, sym, subst, ap, refl, ◌∙◌, length, arith}
 use Rattle.device_model.specs.Events.{Event}
-use Rattle.phases.specs.InMemory.{AnswersIn}
+use Rattle.phases.specs.Inner.InMemory.{AnswersIn}
 use Rattle.phases.specs.Parts.{answering_queue}
 use Rattle.phases.specs.Slots.{slot_of}
 use Rattle.phases.specs.Queue.{with_slot}

@@ -1,6 +1,6 @@
 use Rattle.std.proofs.Common.{◌≡◌, is_some, sym, subst, length, arith}
 use Rattle.device_model.specs.Events.{Event}
-use Rattle.phases.specs.InMemory.{DirectsIn}
+use Rattle.phases.specs.Inner.InMemory.{DirectsIn}
 use Rattle.phases.specs.Slots.{slot_of}
 use Rattle.phases.specs.Queue.{with_slot}
 use Rattle.world.specs.Apart.{standing, TurnsSeen}

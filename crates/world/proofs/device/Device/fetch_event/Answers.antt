@@ -2,7 +2,7 @@ use Rattle.std.proofs.Common.{◌<◌, refl, ◌∙◌, arith}
 use Rattle.std.specs.Prelude.{slice_set}
 use Rattle.std.proofs.lemmas.Option.{slice_get_read}
 use Rattle.device_model.specs.Events.{Event}
-use Rattle.phases.specs.EventsInMemory.{FetchesEventIn}
+use Rattle.phases.specs.Inner.EventsInMemory.{FetchesEventIn}
 use Rattle.phases.specs.Slots.{slot_of}
 use Rattle.phases.specs.Queue.{with_slot}
 use Rattle.world.specs.Apart.{standing, TurnsSeenOrWants}

@@ -1,8 +1,9 @@
 use Rattle.std.proofs.Common.{◌≡◌, false, ◌∙◌, refl, sym, ap, subst, length, arith}
 use Rattle.device_model.specs.Events.{Event}
 use Rattle.device_model.specs.Applies.{Applies}
-use Rattle.world.specs.Apart.{PlainDevice, standing, TurnsIn}
-use Rattle.world.specs.Cursors.{NoStart, NoneBefore, NoDirect, NoDirectBelow, direct_from, StepsNext, Sees, TurnsBy}
+use Rattle.world.specs.Apart.{PlainDevice, standing}
+use Rattle.world.specs.Inner.Apart.{TurnsIn}
+use Rattle.world.specs.Inner.Cursors.{NoStart, NoneBefore, NoDirect, NoDirectBelow, direct_from, StepsNext, Sees, TurnsBy}
 use Rattle.world.proofs.Choosing.{and_next}
 use Rattle.world.specs.declared.cursor.Cursor.TheVariants as cursor
 use Rattle.world.specs.Settling.{asks}

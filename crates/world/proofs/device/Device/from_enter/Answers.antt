@@ -3,7 +3,7 @@ use Rattle.device_model.specs.Events.{Event}
 use Rattle.device_model.specs.Applies.{Applies}
 use Rattle.phases.proofs.Behind.{each_read}
 use Rattle.world.specs.Apart.{PlainDevice, standing}
-use Rattle.world.specs.Cursors.{NoneBeforeFetch, NoEnterBelow, enter_from, StepsNext, Sees}
+use Rattle.world.specs.Inner.Cursors.{NoneBeforeFetch, NoEnterBelow, enter_from, StepsNext, Sees}
 use Rattle.world.specs.Settling.{asks}
 use Rattle.world.proofs.Choosing.{and_next}
 use Rattle.world.proofs.EachTurn.{alone_did, alone_idle, one_in, still_ready, turns_before}

@@ -1,5 +1,5 @@
 use Rattle.std.proofs.Common.{◌≡◌, length}
-use Rattle.world.specs.Cursors.{NoEnterBelow, AtEach}
+use Rattle.world.specs.Inner.Cursors.{NoEnterBelow, AtEach}
 use Rattle.world.proofs.device.Device.from_enter.Given as goal
 
 abbrev pub invariant-loop-number : goal.invariant-loop-number

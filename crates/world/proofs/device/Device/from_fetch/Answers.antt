@@ -2,7 +2,7 @@ use Rattle.std.proofs.Common.{◌≡◌, ◌∙◌, true, refl, sym, subst, ap, 
 use Rattle.device_model.specs.Events.{Event}
 use Rattle.device_model.specs.Happens.{MayWant}
 use Rattle.device_model.specs.Applies.{Applies}
-use Rattle.world.specs.Cursors.{NoneBeforeFetch, NoFetchBelow}
+use Rattle.world.specs.Inner.Cursors.{NoneBeforeFetch, NoFetchBelow}
 use Rattle.world.specs.Apart.{PlainDevice, standing}
 use Rattle.world.specs.Settling.{asks}
 use Rattle.world.proofs.Choosing.{and_next}

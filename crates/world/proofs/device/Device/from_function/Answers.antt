@@ -1,7 +1,8 @@
 use Rattle.std.proofs.Common.{◌≡◌, ◌∙◌, refl, sym, subst}
 use Rattle.device_model.specs.Events.{Event}
-use Rattle.world.specs.Apart.{standing, TurnsIn}
-use Rattle.world.specs.Cursors.{of_function, NoStart, StepsNext, Sees, TurnsBy, TurnsFirst}
+use Rattle.world.specs.Apart.{standing}
+use Rattle.world.specs.Inner.Apart.{TurnsIn}
+use Rattle.world.specs.Inner.Cursors.{of_function, NoStart, StepsNext, Sees, TurnsBy, TurnsFirst}
 use Rattle.world.specs.declared.cursor.Cursor.TheVariants as cursor
 use Rattle.world.specs.Settling.{asks}
 use Rattle.world.proofs.InMemory.{each_before, each_from}

@@ -3,7 +3,7 @@ use Rattle.std.proofs.lemmas.List.{length-map}
 use Rattle.device_model.specs.Order.{of_seat, NoneApplies}
 use Rattle.world.specs.Kept.{seat_of}
 use Rattle.world.specs.Apart.{PlainDevice, standing}
-use Rattle.world.specs.Cursors.{NoStart, NoneBefore, NoDirect, NoSeat, NoSeatBelow, seat_from, StepsNext, Sees, TurnsFirst, TurnsFirstIn}
+use Rattle.world.specs.Inner.Cursors.{NoStart, NoneBefore, NoDirect, NoSeat, NoSeatBelow, seat_from, StepsNext, Sees, TurnsFirst, TurnsFirstIn}
 use Rattle.world.proofs.Choosing.{and_next}
 use Rattle.world.specs.Settling.{asks}
 use Rattle.world.proofs.InMemory.{each_before, each_from}

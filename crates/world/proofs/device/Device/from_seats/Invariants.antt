@@ -1,5 +1,5 @@
 use Rattle.std.proofs.Common.{◌≡◌, List, ℕ, length}
-use Rattle.world.specs.Cursors.{NoSeatBelow, AtEach}
+use Rattle.world.specs.Inner.Cursors.{NoSeatBelow, AtEach}
 use Rattle.world.proofs.device.Device.from_seats.Given as goal
 
 abbrev pub invariant-loop-number : goal.invariant-loop-number

@@ -1,6 +1,6 @@
 use Rattle.std.proofs.Common.{◌≡◌, ℕ, Bool, List, length}
 use Rattle.world.specs.Apart.{standing}
-use Rattle.world.specs.Cursors.{NoEnterBelow}
+use Rattle.world.specs.Inner.Cursors.{NoEnterBelow}
 use Rattle.world.proofs.device.Device.has_arrival.Given as goal
 
 abbrev pub invariant-loop-number : goal.invariant-loop-number

@@ -1,5 +1,5 @@
 use Rattle.std.proofs.Common.{◌≡◌, List, ℕ, length}
-use Rattle.world.specs.Cursors.{NoFetchBelow, AtEach}
+use Rattle.world.specs.Inner.Cursors.{NoFetchBelow, AtEach}
 use Rattle.world.specs.Settling.{asks}
 use Rattle.world.proofs.device.Device.has_chain.Given as goal
 

@@ -2,7 +2,7 @@ use Rattle.std.proofs.Common.{sym, ap, ◌∙◌}
 use Rattle.std.specs.Prelude.{slice_get}
 use Rattle.world.specs.Apart.{PlainDevice, standing}
 use Rattle.device_model.specs.Order.{IsQuietOf, NoneApplies}
-use Rattle.world.specs.Cursors.{of_function, NoDirect, NoSeat, NoEnter}
+use Rattle.world.specs.Inner.Cursors.{of_function, NoDirect, NoSeat, NoEnter}
 use Rattle.world.specs.Settling.{asks}
 use Rattle.world.proofs.Looks.{denied, told, raised, no_raise, function_quiet, raise_quiet, direct_quiet, seat_quiet, enter_quiet, last_look}
 use Rattle.world.proofs.device.Device.has_step.Goals as goal

@@ -1,6 +1,6 @@
 use Rattle.std.proofs.Common.{◌≡◌, ℕ, Bool, List, length}
 use Rattle.world.specs.Apart.{standing}
-use Rattle.world.specs.Cursors.{NoSeatBelow}
+use Rattle.world.specs.Inner.Cursors.{NoSeatBelow}
 use Rattle.world.proofs.device.Device.has_turn.Given as goal
 
 abbrev pub invariant-loop-number : goal.invariant-loop-number

@@ -4,7 +4,7 @@ use Rattle.std.proofs.lemmas.Option.{slice_get_read}
 use Rattle.block_store.specs.declared.NoMemory.{NoMemory}
 use Rattle.phases.specs.declared.resizing.ResizeFault.{ResizeFault}
 use Rattle.device_model.specs.Events.{Event}
-use Rattle.world.specs.Steps.{TurnsOrWants}
+use Rattle.world.specs.Inner.Steps.{TurnsOrWants}
 use Rattle.world.specs.Apart.{standing}
 use Rattle.world.specs.contracts.device.Device as seen
 use Rattle.world.proofs.Setting.{sound_seen}

@@ -7,17 +7,17 @@ use Rattle.device_model.specs.Parts.{Slot, Hand}
 use Rattle.phases.proofs.Behind.{each_read}
 use Rattle.phases.specs.Slots.{slot_of}
 use Rattle.phases.specs.Queue.{with_slot}
-use Rattle.phases.specs.ServingInMemory.{ServesIn}
+use Rattle.phases.specs.Inner.ServingInMemory.{ServesIn}
 use Rattle.world.specs.Kept.{KeptSeat, seat_of}
 use Rattle.unit_model.specs.Jobs.{Jobs}
 use Rattle.world.specs.declared.cursor.Progress.{Progress}
 use Rattle.world.specs.declared.cursor.Cursor.TheVariants as cursor
 use Rattle.device_model.specs.Events.{Event}
-use Rattle.world.specs.Steps.{TurnsOrWants}
+use Rattle.world.specs.Inner.Steps.{TurnsOrWants}
 use Rattle.world.specs.Apart.{PlainDevice, standing, FitsIn}
 use Rattle.world.specs.Sound.{IsWhole}
 use Rattle.world.specs.LiveServing.{ServesSeen, FollowsSeen}
-use Rattle.world.specs.Cursors.{MayServe, StepsNext, Sees, ServesNextIn, NoneBefore, NoneBeforeFetch, NoFetchBelow, served_of}
+use Rattle.world.specs.Inner.Cursors.{MayServe, StepsNext, Sees, ServesNextIn, NoneBefore, NoneBeforeFetch, NoFetchBelow, served_of}
 use Rattle.world.specs.contracts.device.Device.{the_view}
 use Rattle.world.specs.contracts.bay.Bay as bay
 use Rattle.world.specs.contracts.seat.Seat as seat

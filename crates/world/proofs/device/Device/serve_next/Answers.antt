@@ -1,7 +1,7 @@
 use Rattle.std.proofs.Common.{refl}
 use Rattle.device_model.specs.Events.{Event}
 use Rattle.world.specs.Apart.{standing}
-use Rattle.world.specs.Cursors.{StepsNext, Sees, TurnsBy}
+use Rattle.world.specs.Inner.Cursors.{StepsNext, Sees, TurnsBy}
 use Rattle.world.specs.Settling.{asks}
 use Rattle.world.proofs.InMemory.{each_from}
 use Rattle.world.proofs.EachTurn.{did_in, idle_in, wants_in, one_in}

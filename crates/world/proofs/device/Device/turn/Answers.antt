@@ -1,6 +1,6 @@
 use Rattle.std.proofs.Common.{subst}
 use Rattle.world.specs.Apart.{standing}
-use Rattle.world.specs.Cursors.{NoneBefore}
+use Rattle.world.specs.Inner.Cursors.{NoneBefore}
 use Rattle.world.proofs.device.Device.turn.Goals as goal
 
 pub from_fetch-requires-clause-before : goal.from_fetch-requires-clause-before

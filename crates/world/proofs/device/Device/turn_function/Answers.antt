@@ -2,7 +2,7 @@ use Rattle.std.proofs.Common.{◌≡◌, List, ℕ, inl, inr, refl, sym, ap, ◌
 use Rattle.world.specs.Apart.{PlainDevice, standing}
 use Rattle.device_model.specs.Events.{Event}
 use Rattle.device_model.specs.Applies.{Applies}
-use Rattle.world.specs.Cursors.{of_function}
+use Rattle.world.specs.Inner.Cursors.{of_function}
 use Rattle.world.proofs.Choosing.{option_none, none_open}
 use Rattle.world.proofs.EachTurn.{did_in, idle_in, alone_idle, first_in, alone_true, alone_first}
 use Rattle.world.proofs.device.Device.turn_function.Goals as goal

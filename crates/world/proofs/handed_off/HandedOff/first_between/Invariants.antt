@@ -1,5 +1,5 @@
 use Rattle.std.proofs.Common.{◌≤◌}
-use Rattle.world.specs.Off.{AreBareBetween}
+use Rattle.world.specs.Inner.Off.{AreBareBetween}
 use Rattle.world.proofs.handed_off.HandedOff.first_between.Given as goal
 
 abbrev pub invariant-loop-at : goal.invariant-loop-at

@@ -1,6 +1,6 @@
 use Rattle.std.proofs.Common.{sym, subst}
-use Rattle.world.specs.Cursors.{Denies}
-use Rattle.world.specs.Off.{AreBare}
+use Rattle.world.specs.Inner.Cursors.{Denies}
+use Rattle.world.specs.Inner.Off.{AreBare}
 use Rattle.world.proofs.Off.{has_nearest}
 use Rattle.world.proofs.handed_off.HandedOff.has_job.Goals as goal
 

@@ -1,7 +1,8 @@
 use Rattle.std.proofs.Common.{◌<◌, length, Some, refl, sym, subst, arith}
 use Rattle.std.proofs.lemmas.List.{length-map}
 use Rattle.std.proofs.lemmas.Option.{slice_get_read, slice_get_within}
-use Rattle.world.specs.Off.{KeptOff, jobs_of, IsNearest}
+use Rattle.world.specs.Off.{KeptOff, jobs_of}
+use Rattle.world.specs.Inner.Off.{IsNearest}
 use Rattle.world.proofs.Off.{taken_at}
 use Rattle.world.proofs.handed_off.HandedOff.take.Goals as goal
 

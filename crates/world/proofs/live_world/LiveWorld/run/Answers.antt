@@ -1,7 +1,8 @@
 use Rattle.std.proofs.Common.{◌≡◌, ◌+◌, ◌∙◌, Ok, take, refl, sym, subst, arith}
 use Rattle.std.proofs.lemmas.List.{take_all}
 use Rattle.world.specs.Steps.{events_of}
-use Rattle.world.specs.LiveWorld.{StepsEach, StepsLive, StepRan, RanLive}
+use Rattle.world.specs.LiveWorld.{StepsEach, StepsLive}
+use Rattle.world.specs.Inner.LiveWorld.{StepRan, RanLive}
 use Rattle.device_model.specs.Events.{plain_event}
 use Rattle.world.proofs.Sequences.{bit, read_there, take_next, counts_one, counts_none}
 use Rattle.world.proofs.Lively.{each_next, each_none, ran_step, ran_none, goes_on_live, all_refused, run_refused}

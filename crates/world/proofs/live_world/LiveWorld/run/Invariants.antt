@@ -1,6 +1,7 @@
 use Rattle.std.proofs.Common.{◌≡◌, ◌≤◌, take, length}
 use Rattle.world.specs.Steps.{events_of}
-use Rattle.world.specs.LiveWorld.{StepsEach, StepsLive, RanLive}
+use Rattle.world.specs.LiveWorld.{StepsEach, StepsLive}
+use Rattle.world.specs.Inner.LiveWorld.{RanLive}
 use Rattle.world.proofs.live_world.LiveWorld.run.Given as goal
 
 abbrev pub invariant-loop-place : goal.invariant-loop-place

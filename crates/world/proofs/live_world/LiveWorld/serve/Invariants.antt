@@ -1,8 +1,8 @@
 use Rattle.std.proofs.Common.{◌≡◌, ◌≤◌, ℕ, List, length}
 use Rattle.world.specs.Apart.{standing}
-use Rattle.world.specs.Cursors.{NoneBefore}
+use Rattle.world.specs.Inner.Cursors.{NoneBefore}
 use Rattle.world.specs.LiveServing.{ServesLiveBy}
-use Rattle.world.specs.Rounds.{SettledLive}
+use Rattle.world.specs.Inner.Rounds.{SettledLive}
 use Rattle.world.specs.Settling.{asks}
 use Rattle.world.proofs.live_world.LiveWorld.serve.Given as goal
 

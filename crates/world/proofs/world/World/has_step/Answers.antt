@@ -1,7 +1,7 @@
 use Rattle.std.proofs.Common.{List, ℕ, ◌∙◌, false, length, sym, subst}
 use Rattle.device_model.specs.Order.{IsQuietOf}
 use Rattle.world.specs.Apart.{standing, FitsIn}
-use Rattle.world.specs.Cursors.{Denies}
+use Rattle.world.specs.Inner.Cursors.{Denies}
 use Rattle.world.specs.Settling.{asks}
 use Rattle.world.proofs.InMemory.{has_few}
 use Rattle.world.proofs.world.World.has_step.Goals as goal

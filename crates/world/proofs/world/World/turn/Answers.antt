@@ -1,7 +1,7 @@
 use Rattle.std.proofs.Common.{◌∙◌, false, refl, sym, subst}
 use Rattle.world.specs.Apart.{standing}
 use Rattle.world.specs.Sound.{IsWhole}
-use Rattle.world.specs.Cursors.{NoneBefore}
+use Rattle.world.specs.Inner.Cursors.{NoneBefore}
 use Rattle.world.specs.Settling.{asks}
 use Rattle.world.proofs.InMemory.{sound_own, has_few}
 use Rattle.world.proofs.EachTurn.{next_own}

@@ -1,0 +1,14 @@
+-- No public clause of the device, of its hosts or of the library for C, and no law, rests on these.
+pub mod Kept
+pub mod Runs
+pub mod Folding
+pub mod Slots
+pub mod Recorded
+pub mod LastTickets
+pub mod Performing
+pub mod Calls
+pub mod Parts
+pub mod Turns
+pub mod Outcomes
+pub mod Noting
+pub mod Fields

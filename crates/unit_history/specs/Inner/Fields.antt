@@ -1,0 +1,15 @@
+-- Rests on `specs/Fields.antt`; no promise rests on it.
+use Rattle.std.specs.Prelude.{◌≡◌}
+use Rattle.block_store.specs.Kept as pages
+use Rattle.unit_model.specs.Contents.{capacity_of}
+use Rattle.task_set.specs.Inner.Tasks.{seen_of}
+use Rattle.unit_history.specs.Inner.Noting.{AreRecorded}
+use Rattle.unit_history.specs.Inner.Parts.{AreKept, AreBased}
+use Rattle.unit_history.specs.Fields.{opening_of}
+use Rattle.unit_history.specs.declared.unit.UnitState.TheInside.{Inside}
+
+pub record IsTold (u : Inside) : Type 0 where
+  pub kept : AreKept (opening_of u) u.log.steps (pages.blocks_of u.store.pages) u.attentions u.tasks u.last_tickets u.log.room
+  pub based : AreBased u.log.base u.log.forgotten u.log.steps (seen_of u.tasks)
+  pub sized : u.store.capacity ≡ capacity_of (opening_of u) u.log.steps
+  pub noted : AreRecorded (opening_of u) u.log.steps u.changes

@@ -1,0 +1,10 @@
+-- Rests on `specs/Disks.antt`; no promise rests on it.
+use Rattle.std.specs.Prelude.{ℕ, ◌≡◌, List, slice_get, Option, Some}
+use Rattle.vscsi_c.specs.Disks.{Fits}
+use Rattle.block_store.specs.declared.paged.PagedStore.{PagedStore}
+use Rattle.decisions.specs.declared.inventory.UnitSpec.{UnitSpec}
+
+-- each unit has one
+abbrev pub Fit : List UnitSpec → List (Option PagedStore) → Type 0
+Fit units disks = (k : ℕ) (u : UnitSpec) (disk : Option PagedStore) → slice_get units k ≡ Some u → slice_get disks k ≡ Some disk
+    → Fits u disk

@@ -1,0 +1,27 @@
+-- Rests on `specs/Held.antt`; no promise rests on it.
+use Rattle.std.specs.Prelude.{◌≡◌, ◌⊎◌}
+use Rattle.std.specs.Coded.{Coded, code_by, coded⊎}
+use Rattle.block_store.specs.declared.paged.PagedStore.{PagedStore}
+use Rattle.block_store.specs.contracts.paged.PagedStore as paged
+use Rattle.vscsi_c.specs.declared.served.Served.{Served}
+use Rattle.vscsi_c.specs.contracts.served.Served as served
+use Rattle.vscsi_c.specs.Held.{Content}
+use mathlib.Core.Path.{refl}
+use mathlib.Core.Logic.{inl, inr}
+
+-- how the logic stores it
+abbrev pub to_sum : Content → Served ⊎ PagedStore
+to_sum (Content.Device d) = inl d
+to_sum (Content.Disk s) = inr s
+
+abbrev pub of_sum : Served ⊎ PagedStore → Content
+of_sum (inl d) = Content.Device d
+of_sum (inr s) = Content.Disk s
+
+pub of_sum-to_sum : (c : Content) → of_sum (to_sum c) ≡ c
+of_sum-to_sum (Content.Device d) = refl
+of_sum-to_sum (Content.Disk s) = refl
+
+abbrev pub content_code : Coded Content
+content_code =
+    code_by (Served ⊎ PagedStore) (coded⊎ served.the_row.coded paged.the_row.coded) to_sum of_sum of_sum-to_sum
