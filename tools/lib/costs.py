@@ -28,7 +28,7 @@ QUIET = {
     "scsi_codec": 34,
     "cdb": 35,
     "sense": 10,
-    "decisions": 44,
+    "request_intake": 44,
     "event_queue": 22,
 }
 

@@ -11,7 +11,7 @@ from clauses import NAME, Source
 from definitions import CRATES, ROOT, Definition, Specs
 
 # The crates whose clauses are promises: the device, its hosts and their threads, the library for C, memory that a guest writes.
-SURFACE = ("world", "workers", "report", "bays", "posts", "vscsi_c", "live_mem", "host_bus")
+SURFACE = ("world", "workers", "close_audit", "lock_scopes", "worker_steps", "vscsi_c", "live_mem", "host_bus")
 
 WORD = re.compile(r"[A-Za-z_][\w']*(?:\.[A-Za-z_][\w']*)?")
 FIELD = re.compile(r"^ *(?:pub(?:\([^)]*\))? )?(\w+): (.*)", re.M)

@@ -6,7 +6,7 @@ use Rattle.std.proofs.lemmas.Bool.{eq-eqb}
 use Rattle.std.proofs.lemmas.Bool.Decides.{nat_tests}
 use Rattle.std.proofs.lemmas.List.Sums.{prefix_len_is}
 use Rattle.std.proofs.lemmas.Slice.Zip.{length-zip, get_or-zip}
-use Rattle.replies.specs.Comparing.{first_unequal}
+use Rattle.command_model.specs.Comparing.{first_unequal}
 
 -- whether a pair is of equal bytes, as `first_unequal` asks it
 abbrev equal : ℕ × ℕ → Bool

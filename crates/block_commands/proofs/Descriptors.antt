@@ -4,8 +4,8 @@ use Rattle.std.proofs.lemmas.List.{drop-drop}
 use Rattle.std.proofs.lemmas.List.Sums.{sum_by-cons}
 use Rattle.std.specs.Prelude.{◌||◌, ◌&&◌}
 use Rattle.block_store.specs.Blocks.{is_within}
-use Rattle.replies.specs.Capacity.{is_in_range}
-use Rattle.replies.specs.UnmapList.{descriptor, descriptors_in, blocks_named, are_in_range, is_named}
+use Rattle.command_model.specs.Capacity.{is_in_range}
+use Rattle.command_model.specs.UnmapList.{descriptor, descriptors_in, blocks_named, are_in_range, is_named}
 
 -- what is left of n descriptors behind the first k
 abbrev pub left : ℕ → ℕ → List ℕ → List (ℕ × ℕ)

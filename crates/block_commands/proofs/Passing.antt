@@ -1,7 +1,7 @@
 -- An answer that is passed on.
 use Rattle.std.proofs.Common.{◌≡◌, List, ℕ, [], Ok, Err, Result, ap, sym, ◌∙◌, MatchResult}
 use Rattle.std.specs.Prelude.{IsOkAnd}
-use Rattle.replies.specs.Data.{Answer}
+use Rattle.command_model.specs.Data.{Answer}
 use Rattle.block_commands.specs.Inner.Steps.{Gives}
 use Rattle.block_commands.specs.declared.failure.Failure.{Failure}
 use Rattle.block_commands.specs.declared.failure.Failure.TheVariants.{Refused, WantOfMemory}

@@ -5,13 +5,13 @@ use Rattle.sense.specs.declared.Sense.{Sense}
 use Rattle.cdb.specs.declared.commands.Command.{Command}
 use Rattle.cdb.specs.declared.commands.Command.TheVariants.{Read, Write, CompareAndWrite}
 use Rattle.block_store.specs.Blocks.{Blocks, run, overwritten, block_count, is_within}
-use Rattle.replies.specs.Data.{Answer}
-use Rattle.replies.specs.PlainReply.{PlainReply, replied}
-use Rattle.replies.specs.Statuses.{good}
-use Rattle.replies.specs.Comparing.{to_compare, first_unequal}
-use Rattle.replies.specs.Effects.{block_after, where_covered}
-use Rattle.replies.specs.Facts.{Facts}
-use Rattle.replies.specs.Replies.{within, compared, answer_of, reported}
+use Rattle.command_model.specs.Data.{Answer}
+use Rattle.command_model.specs.PlainReply.{PlainReply, replied}
+use Rattle.command_model.specs.Statuses.{good}
+use Rattle.command_model.specs.Comparing.{to_compare, first_unequal}
+use Rattle.command_model.specs.Effects.{block_after, where_covered}
+use Rattle.command_model.specs.Facts.{Facts}
+use Rattle.command_model.specs.Replies.{within, compared, answer_of, reported}
 use Rattle.sense.specs.Conditions.{lba_out_of_range}
 
 -- blocks that agree below a number give the same run below it

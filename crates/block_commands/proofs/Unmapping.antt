@@ -1,16 +1,16 @@
 -- An UNMAP by the tests on its list.
 use Rattle.std.proofs.Common.{◌≡◌, ℕ, ◌≤◌, true, false, Bool, List, [], ◌∷◌, length, drop, if◌then◌else◌, refl, ◌∙◌, Err, arith, eqb, ltb, IsTrue, rules, None, inl, inr}
 use Rattle.std.proofs.lemmas.Bool.Decides.{nat_tests, eqb_tells}
-use Rattle.replies.specs.PlainReply.{replied}
-use Rattle.replies.specs.Statuses.{good}
+use Rattle.command_model.specs.PlainReply.{replied}
+use Rattle.command_model.specs.Statuses.{good}
 use Rattle.block_commands.proofs.Ranges.{reported-good}
 use Rattle.std.specs.Prelude.{◌||◌, ◌&&◌, nat_lt}
 use Rattle.sense.specs.Conditions.{parameter_list_length_error, lba_out_of_range, invalid_field_in_parameter_list}
 use Rattle.cdb.specs.declared.commands.Command.TheVariants.{Unmap}
 use Rattle.block_store.specs.Blocks.{Blocks}
-use Rattle.replies.specs.Facts.{Facts}
-use Rattle.replies.specs.Replies.{done, unmap_answer, reply_of}
-use Rattle.replies.specs.UnmapList.{descriptors, descriptors_in, descriptor_count, blocks_named, are_in_range}
+use Rattle.command_model.specs.Facts.{Facts}
+use Rattle.command_model.specs.Replies.{done, unmap_answer, reply_of}
+use Rattle.command_model.specs.UnmapList.{descriptors, descriptors_in, descriptor_count, blocks_named, are_in_range}
 use Rattle.block_commands.proofs.Descriptors.{length-descriptors_in}
 
 pub descriptors-none : (bytes : List ℕ) → length bytes ≡ 0 → descriptors bytes ≡ []

@@ -1,10 +1,10 @@
 //! Commands that meet a pending unit attention, and those that take it (SAM-5 §5.14).
 
 ghost use Rattle.std.specs.Prelude.{◌≡◌};
-ghost use Rattle.replies.specs.Attention.{takes, met};
+ghost use Rattle.command_model.specs.Attention.{takes, met};
 
 use cdb::Command;
-use replies::{INQUIRY, REQUEST_SENSE};
+use command_model::{INQUIRY, REQUEST_SENSE};
 use sense::Sense;
 
 /// The opcode of REPORT LUNS, which a CDB that is refused still has.

@@ -1,7 +1,7 @@
 //! The capacity of a unit: its data, and the ranges that lie below it.
 
 ghost use Rattle.std.specs.Prelude.{◌≡◌, ◌-◌};
-ghost use Rattle.replies.specs.Capacity.{capacity_10, capacity_16, is_in_range};
+ghost use Rattle.command_model.specs.Capacity.{capacity_10, capacity_16, is_in_range};
 
 use block_store::BLOCK_BYTES;
 
@@ -16,7 +16,7 @@ pub(crate) fn is_in_range(capacity: u64, lba: u64, count: u32) -> bool
 }
 
 /// Returns the data of READ CAPACITY (10): the last address, all ones where it is too large, and the bytes of a block.
-#[tactic(auto, unfolding(replies::specs::Capacity::capacity_10))]
+#[tactic(auto, unfolding(command_model::specs::Capacity::capacity_10))]
 pub(crate) fn capacity_10(capacity: u64) -> [u8; 8]
     ensures { result ≡ capacity_10 capacity }
 {
@@ -28,7 +28,7 @@ pub(crate) fn capacity_10(capacity: u64) -> [u8; 8]
 }
 
 /// Returns the data of READ CAPACITY (16).
-#[tactic(auto, unfolding(replies::specs::Capacity::capacity_16))]
+#[tactic(auto, unfolding(command_model::specs::Capacity::capacity_16))]
 pub(crate) fn capacity_16(capacity: u64) -> [u8; 32]
     ensures { result ≡ capacity_16 capacity }
 {

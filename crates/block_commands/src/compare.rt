@@ -2,9 +2,9 @@
 
 ghost use Rattle.std.specs.Prelude.{◌≡◌, ℕ, ◌*◌, ◌<◌, [], length, OnOk, OnErr, IfSome};
 ghost use Rattle.block_store.specs.Blocks.{run, overwritten};
-ghost use Rattle.replies.specs.Capacity.{is_in_range};
-ghost use Rattle.replies.specs.Comparing.{first_unequal, to_compare, to_write};
-ghost use Rattle.replies.specs.Replies.{within, compared};
+ghost use Rattle.command_model.specs.Capacity.{is_in_range};
+ghost use Rattle.command_model.specs.Comparing.{first_unequal, to_compare, to_write};
+ghost use Rattle.command_model.specs.Replies.{within, compared};
 ghost use Rattle.block_commands.specs.Inner.Steps.{Gives, Wants};
 
 use crate::capacity::is_in_range;

@@ -3,12 +3,12 @@
 ghost use Rattle.std.specs.Prelude.{◌≡◌, ◌≤◌, ◌+◌, ◌<◌, ◌^◌, ℕ, length, vec_len, IfOk, OnOk, OnErr, unwrap_or, MatchResult, IsOkAnd, IsTrue, [], Err};
 ghost use Rattle.std.specs.Result.{ForOk};
 ghost use Rattle.cdb.specs.Need.{need_of};
-ghost use Rattle.replies.specs.Data.{data_of};
-ghost use Rattle.replies.specs.PlainReply.{plain_of};
-ghost use Rattle.replies.specs.Effects.{block_after, given};
+ghost use Rattle.command_model.specs.Data.{data_of};
+ghost use Rattle.command_model.specs.PlainReply.{plain_of};
+ghost use Rattle.command_model.specs.Effects.{block_after, given};
 ghost use Rattle.block_commands.specs.Inner.Told.{facts_of};
-ghost use Rattle.replies.specs.Memory.{may_want, wants};
-ghost use Rattle.replies.specs.Replies.{reply_of, answer_of};
+ghost use Rattle.command_model.specs.Memory.{may_want, wants};
+ghost use Rattle.command_model.specs.Replies.{reply_of, answer_of};
 ghost use Rattle.block_commands.specs.Inner.Steps.{Gives, Replies, Wants};
 
 use crate::attention::met_attention;
@@ -23,7 +23,7 @@ use crate::transfer::{read, synchronize, write, write_same};
 use crate::unmap::unmap;
 use block_store::{NoMemory, Store};
 use cdb::{Command, need};
-use replies::Reply;
+use command_model::Reply;
 use sense::Sense;
 use std::alloc::Global;
 

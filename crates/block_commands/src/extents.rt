@@ -1,7 +1,7 @@
 //! The blocks that the descriptors of an UNMAP's parameter list name (SBC-3 §5.28.2).
 
 ghost use Rattle.std.specs.Prelude.{◌≡◌, ◌+◌, ◌*◌, ◌≤◌, length, drop};
-ghost use Rattle.replies.specs.UnmapList.{descriptor, descriptor_count};
+ghost use Rattle.command_model.specs.UnmapList.{descriptor, descriptor_count};
 
 /// The bytes of an UNMAP's parameter list before its descriptors (SBC-3 §5.28.2).
 pub const UNMAP_HEADER_BYTES: usize = 8;
@@ -21,7 +21,7 @@ pub struct Extent {
 /// Returns how many descriptors of an UNMAP's parameter list are taken: the whole ones in the length that the header
 /// gives, as far as the list has them (SBC-3 §5.28.2). UNMAP calls it where it runs, and a unit where it notes which
 /// blocks that may change.
-#[tactic(auto, unfolding(replies::specs::UnmapList::descriptor_count))]
+#[tactic(auto, unfolding(command_model::specs::UnmapList::descriptor_count))]
 pub fn taken_descriptors(list: &[u8]) -> usize
     requires { 8 ≤ length list.now }
     ensures count { result ≡ descriptor_count list.now }

@@ -2,10 +2,10 @@
 
 ghost use Rattle.std.specs.Prelude.{◌≡◌, ℕ, List, length, None, IfSome};
 ghost use Rattle.cdb.specs.Need.{need_of};
-ghost use Rattle.replies.specs.Effects.{block_after};
-ghost use Rattle.replies.specs.PlainReply.{success};
-ghost use Rattle.replies.specs.Replies.{reply_of};
-ghost use Rattle.replies.specs.Statuses.{good};
+ghost use Rattle.command_model.specs.Effects.{block_after};
+ghost use Rattle.command_model.specs.PlainReply.{success};
+ghost use Rattle.command_model.specs.Replies.{reply_of};
+ghost use Rattle.command_model.specs.Statuses.{good};
 ghost use Rattle.block_commands.specs.Inner.Told.{facts_of};
 
 use crate::capacity::is_in_range;

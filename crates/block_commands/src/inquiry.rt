@@ -1,11 +1,11 @@
 //! The data of INQUIRY (SPC-4 §6.6, §7.8, SBC-3 §6.6).
 
 ghost use Rattle.std.specs.Prelude.{◌≡◌, ◌+◌, ◌*◌, ◌/◌, ◌%◌, ◌<◌, nat_lt, take, IfOk, OnErr, IsTrue};
-ghost use Rattle.replies.specs.Inquiry.{serial, serial_page, identification_page, limits_page, inquiry_data};
+ghost use Rattle.command_model.specs.Inquiry.{serial, serial_page, identification_page, limits_page, inquiry_data};
 
 use crate::data::cut;
 use cdb::InquiryData;
-use replies::standard_data;
+use command_model::standard_data;
 use std::alloc::{AllocError, Global};
 
 /// Byte 0 of the standard data of a block device that is there.
@@ -25,7 +25,7 @@ const SERIAL_HEADER: [u8; 4] = [0x00, 0x80, 0x00, 0x0d];
 const IDENTIFICATION_HEADER: [u8; 16] = *b"\x00\x83\x00\x19\x02\x01\x00\x15VSCSI   ";
 
 /// Returns the data that an INQUIRY asks for, of the unit of this target and LUN, cut to the allocation length.
-#[tactic(auto, unfolding(replies::specs::Inquiry::supported_pages, replies::specs::Inquiry::provisioning_page))]
+#[tactic(auto, unfolding(command_model::specs::Inquiry::supported_pages, command_model::specs::Inquiry::provisioning_page))]
 pub(crate) fn inquiry(
     alloc: Global,
     what: InquiryData,
@@ -49,7 +49,7 @@ pub(crate) fn inquiry(
 }
 
 /// Makes the page Unit Serial Number.
-#[tactic(auto, unfolding(replies::specs::Inquiry::serial_page, replies::specs::Inquiry::serial))]
+#[tactic(auto, unfolding(command_model::specs::Inquiry::serial_page, command_model::specs::Inquiry::serial))]
 fn serial_page(target: u8, lun: u16) -> [u8; 17]
     ensures { result ≡ serial_page target lun }
 {
@@ -60,7 +60,7 @@ fn serial_page(target: u8, lun: u16) -> [u8; 17]
 }
 
 /// Makes the page Device Identification.
-#[tactic(auto, unfolding(replies::specs::Inquiry::identification_page, replies::specs::Inquiry::serial))]
+#[tactic(auto, unfolding(command_model::specs::Inquiry::identification_page, command_model::specs::Inquiry::serial))]
 fn identification_page(target: u8, lun: u16) -> [u8; 29]
     ensures { result ≡ identification_page target lun }
 {
@@ -71,7 +71,7 @@ fn identification_page(target: u8, lun: u16) -> [u8; 29]
 }
 
 /// Returns the serial number of the unit of this target and LUN.
-#[tactic(auto, unfolding(replies::specs::Inquiry::serial))]
+#[tactic(auto, unfolding(command_model::specs::Inquiry::serial))]
 fn serial(target: u8, lun: u16) -> [u8; 13]
     ensures { result ≡ serial target lun }
 {
@@ -102,7 +102,7 @@ fn digit(number: u16, worth: u16) -> u8
 }
 
 /// Makes the page Block Limits: what `cdb` and UNMAP refuse to exceed.
-#[tactic(auto, unfolding(replies::specs::Inquiry::limits_page))]
+#[tactic(auto, unfolding(command_model::specs::Inquiry::limits_page))]
 fn limits_page() -> [u8; 64]
     ensures { result ≡ limits_page }
 {

@@ -1,7 +1,7 @@
 //! The data of REPORT LUNS (SPC-4 §6.33).
 
 ghost use Rattle.std.specs.Prelude.{◌≡◌, ◌≤◌, length, take, IfOk};
-ghost use Rattle.replies.specs.Luns.{listed, lun_entry, lun_list};
+ghost use Rattle.command_model.specs.Luns.{listed, lun_entry, lun_list};
 
 use cdb::SelectReport;
 use std::alloc::{AllocError, Global};

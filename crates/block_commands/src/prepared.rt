@@ -4,15 +4,15 @@ ghost use Rattle.std.specs.Prelude.{◌≡◌, ◌≤◌, ◌+◌, ℕ, [], leng
 ghost use Rattle.block_store.specs.Drafts.{prepared_draft};
 ghost use Rattle.block_store.specs.Pages.{covered};
 ghost use Rattle.cdb.specs.Need.{need_of};
-ghost use Rattle.replies.specs.Data.{data_of};
-ghost use Rattle.replies.specs.PlainReply.{plain_of, success};
-ghost use Rattle.replies.specs.Statuses.{good};
-ghost use Rattle.replies.specs.Attention.{met};
-ghost use Rattle.replies.specs.Capacity.{is_in_range};
-ghost use Rattle.replies.specs.Effects.{block_after};
-ghost use Rattle.replies.specs.Replies.{reply_of};
+ghost use Rattle.command_model.specs.Data.{data_of};
+ghost use Rattle.command_model.specs.PlainReply.{plain_of, success};
+ghost use Rattle.command_model.specs.Statuses.{good};
+ghost use Rattle.command_model.specs.Attention.{met};
+ghost use Rattle.command_model.specs.Capacity.{is_in_range};
+ghost use Rattle.command_model.specs.Effects.{block_after};
+ghost use Rattle.command_model.specs.Replies.{reply_of};
 ghost use Rattle.block_commands.specs.Inner.Told.{facts_of};
-ghost use Rattle.replies.specs.Memory.{may_want};
+ghost use Rattle.command_model.specs.Memory.{may_want};
 ghost use Rattle.block_commands.specs.Prepared.{IsOf};
 
 use crate::attention::met_attention;
@@ -21,7 +21,7 @@ use crate::execution::exec;
 use crate::facts::UnitFacts;
 use block_store::{NoMemory, PagedStore, Prepared, Store};
 use cdb::{Command, need};
-use replies::Reply;
+use command_model::Reply;
 use std::alloc::Global;
 
 /// Runs one command on the blocks of a unit, whole, as [`exec`] does. `prepared` has the new pages of its write, if

@@ -2,8 +2,8 @@
 
 ghost use Rattle.std.specs.Prelude.{◌≡◌, ℕ, ◌*◌, ◌≤◌, length, nat_lt, ◌||◌, IsTrue, OnOk, OnErr, if◌then◌else◌};
 ghost use Rattle.block_store.specs.Blocks.{zero_block};
-ghost use Rattle.replies.specs.Replies.{unmap_answer};
-ghost use Rattle.replies.specs.UnmapList.{descriptors_in, descriptors, blocks_named, are_in_range, is_named};
+ghost use Rattle.command_model.specs.Replies.{unmap_answer};
+ghost use Rattle.command_model.specs.UnmapList.{descriptors_in, descriptors, blocks_named, are_in_range, is_named};
 ghost use Rattle.block_commands.specs.Inner.Steps.{Ends};
 
 use crate::capacity::is_in_range;

@@ -4,9 +4,9 @@ use Rattle.std.specs.List.{list_all, list_any}
 use Rattle.ring_core.specs.declared.layout.Form.{Form}
 use Rattle.ring_core.specs.declared.layout.Form.TheVariants.{Split, Packed}
 use Rattle.ring_core.specs.declared.layout.Layout.{Layout}
-use Rattle.queues.specs.Queue.{placement_of}
-use Rattle.decisions.specs.Inventory.{address_of, is_rising}
-use Rattle.decisions.specs.declared.inventory.UnitSpec.{UnitSpec}
+use Rattle.virtqueue.specs.Queue.{placement_of}
+use Rattle.request_intake.specs.Inventory.{address_of, is_rising}
+use Rattle.request_intake.specs.declared.inventory.UnitSpec.{UnitSpec}
 use Rattle.config.specs.declared.config.Config.{Config}
 use Rattle.config.specs.declared.config.StartFault.{StartFault}
 use Rattle.config.specs.declared.config.StartFault.TheVariants.{BadConfig, NoMemory}

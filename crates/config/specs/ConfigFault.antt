@@ -3,9 +3,9 @@ use Rattle.std.specs.Prelude.{ℕ, ◌-◌, ◌^◌, ◌<◌, ◌≡◌, ◌&&�
 use Rattle.std.specs.List.{list_all}
 use Rattle.ring_core.specs.declared.layout.Form.{Form}
 use Rattle.ring_core.specs.declared.layout.Layout.{Layout}
-use Rattle.queues.specs.Queue.{placement_of}
-use Rattle.decisions.specs.Inventory.{address_of, stands_before, is_rising}
-use Rattle.decisions.specs.declared.inventory.UnitSpec.{UnitSpec}
+use Rattle.virtqueue.specs.Queue.{placement_of}
+use Rattle.request_intake.specs.Inventory.{address_of, stands_before, is_rising}
+use Rattle.request_intake.specs.declared.inventory.UnitSpec.{UnitSpec}
 use Rattle.config.specs.Config.{form_of, size_of, is_queue, is_unit, has_lun_0, are_queues}
 use Rattle.config.specs.declared.config.Config.{Config}
 use Rattle.config.specs.declared.config_fault.ConfigFault.{ConfigFault}

@@ -5,7 +5,7 @@ ghost use Rattle.config.specs.Config.{form_of, has_bit, is_config, is_config_for
 ghost use Rattle.config.specs.ConfigFault.{IsFault, IsFaultFor};
 
 use crate::config_fault::{ConfigFault, fault_of_queues, fault_of_units};
-use decisions::UnitSpec;
+use request_intake::UnitSpec;
 use ring_core::{Form, Layout};
 use std::error::Error;
 use std::fmt;

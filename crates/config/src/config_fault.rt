@@ -1,15 +1,15 @@
 //! The reasons for which a device isn't taken.
 
 ghost use Rattle.std.specs.Prelude.{◌≡◌, not, is_none, false, IfSome, map, position};
-ghost use Rattle.decisions.specs.Inventory.{address_of, stands_before, is_rising};
+ghost use Rattle.request_intake.specs.Inventory.{address_of, stands_before, is_rising};
 ghost use Rattle.config.specs.Config.{is_queue, is_unit, has_lun_0, are_units, are_queues};
 ghost use Rattle.config.specs.ConfigFault.{IsQueueFault, IsQueuesFault, IsUnitFault, IsUnitsFault, Falls};
 
-use decisions::UnitSpec;
-use queues::placement;
+use request_intake::UnitSpec;
 use ring_core::{Form, Layout, LayoutFault};
 use std::error::Error;
 use std::fmt;
+use virtqueue::placement;
 
 /// The most descriptors of a queue, in the profile of this device.
 pub const MOST_DESCRIPTORS: u16 = 1024;

@@ -9,5 +9,5 @@ pub use config::{
     VERSION_1, form, tells_changes,
 };
 pub use config_fault::{ConfigFault, MOST_BLOCKS, MOST_DESCRIPTORS};
-pub use decisions::UnitSpec;
+pub use request_intake::UnitSpec;
 pub use ring_core::{Layout, LayoutFault};

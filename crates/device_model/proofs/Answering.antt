@@ -1,7 +1,7 @@
 -- Each chain of a request queue that is used has one answer, which tells what is so.
 use Rattle.std.proofs.Common.{◌≡◌, ℕ, ◌+◌, ◌≤◌, List, ◌∷◌, Option, Some, None, refl, sym, ◌∙◌, ap, subst, arith, inl, inr, zero, suc}
 use Rattle.std.specs.List.{sum_by}
-use Rattle.replies.specs.PlainReply.{PlainReply}
+use Rattle.command_model.specs.PlainReply.{PlainReply}
 use Rattle.ring_core.specs.State.{PlainChain}
 use Rattle.ring_core.specs.Writes.{Write}
 use Rattle.ring_core.specs.declared.log.Ticket.{Ticket}
@@ -20,8 +20,8 @@ use Rattle.device_model.specs.World.{PlainWorld, Opens}
 use Rattle.device_model.specs.Transitions.{Transition}
 use Rattle.device_model.specs.Happens.{world_of, Leads}
 use Rattle.device_model.specs.Places.{only}
-use Rattle.device_model.specs.Worths.{directs, answers}
-use Rattle.device_model.specs.Inner.Worths.{ends}
+use Rattle.device_model.specs.Weights.{directs, answers}
+use Rattle.device_model.specs.Inner.Weights.{ends}
 use Rattle.device_model.proofs.Lists.{same}
 use Rattle.device_model.proofs.Working.{all_work}
 use Rattle.device_model.specs.Happened.{Happened, IsBeginning, IsFetch, IsAnswer}

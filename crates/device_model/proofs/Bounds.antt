@@ -11,9 +11,9 @@ use Rattle.device_model.specs.World.{PlainQueue, Seat, Opened, PlainWorld, Every
 use Rattle.device_model.specs.Transitions.{Transition, event_of}
 use Rattle.device_model.specs.Happens.{Happens, Occurrence, Reached, world_of}
 use Rattle.device_model.specs.Laws.{in_hand as job_in_hand, at_seat}
-use Rattle.device_model.specs.Places.{of_chain, of_job, of_slot, of_function, at_queue, at_unit, standing, accepted_worth, used_worth}
+use Rattle.device_model.specs.Places.{of_chain, of_job, of_slot, of_function, at_queue, at_unit, standing_count, accepted_count, used_count}
 use Rattle.device_model.specs.Standing.{IsJob, SlotOwns, HandOwns, AreOwned}
-use Rattle.device_model.specs.Worths.{in_slot, in_hand, in_queue, in_seat, held, fetches, nothing}
+use Rattle.device_model.specs.Weights.{in_slot, in_hand, in_queue, in_seat, held, fetches, nothing}
 use Rattle.device_model.proofs.Turning.{may}
 use Rattle.device_model.proofs.Places.{moves, nothing_counts, balanced}
 use Rattle.device_model.proofs.Owning.{owned}
@@ -84,10 +84,10 @@ function_owed : (o : Option Opened) → of_function (λ t. 1) o ≤ of_function 
 function_owed None = omega (arith)
 function_owed (Some o) = some_price o.chain.ticket.queue
 
-no_worths : {X : Type 0} (xs : List X) → sum_by (λ (x : X). 0) xs ≡ 0
-no_worths xs = nothing_counts (λ x. 0) xs (λ i x at. refl)
+no_weights : {X : Type 0} (xs : List X) → sum_by (λ (x : X). 0) xs ≡ 0
+no_weights xs = nothing_counts (λ x. 0) xs (λ i x at. refl)
 
-held_owed : (w : PlainWorld) → AreOwned w → held owed w ≤ standing price w + sum_by answered_hand w.seats
+held_owed : (w : PlainWorld) → AreOwned w → held owed w ≤ standing_count price w + sum_by answered_hand w.seats
 held_owed w h =
     let zero_queue : PlainQueue → ℕ = λ q. 0 in
     let zero_unit : PlainUnit → ℕ = λ u. 0 in
@@ -103,8 +103,8 @@ held_owed w h =
     let d = jobs_owed w 4 (all_off w) (omega (arith)) h.handed_off in
     let e = function_owed w.function in
     let f = nothing_counts (of_chain nothing) w.buffers (λ i x at. refl) in
-    let y = no_worths w.queues in
-    let z = no_worths w.units in
+    let y = no_weights w.queues in
+    let z = no_weights w.units in
     omega (arith, a, b, c, d, e, f, y, z)
 
 whole_few : (qs : List PlainQueue) → sum_by whole qs ≤ length qs
@@ -121,8 +121,8 @@ whole_few (q ∷ qs) =
 
 -- at the start
 pub owed_at_start : (old : PlainWorld) (trace : List Occurrence) (w : PlainWorld) → Reached old trace w
-    → measure w + used_worth price w
-    ≤ accepted_worth price w + sum_by answered_hand w.seats + visits w.function + length w.waiting + length w.queues
+    → measure w + used_count price w
+    ≤ accepted_count price w + sum_by answered_hand w.seats + visits w.function + length w.waiting + length w.queues
 owed_at_start old trace w r =
     let a = held_owed w (owned old trace w r.opens r.runs) in
     let b = balanced price old trace w r.opens r.runs in
@@ -156,7 +156,7 @@ settles_of_own asked w (d ∷ past) s =
     (settles_of_own asked w past s.0, s.1, own_next_of asked (world_of w past) (event_of d) s.2)
 
 accepted_on : (p : Ticket → ℕ) (w : PlainWorld) (more : List Transition) → AreOwnTransitions w more
-    → accepted_worth p (world_of w more) ≡ accepted_worth p w + sum_by (fetches p) more
+    → accepted_count p (world_of w more) ≡ accepted_count p w + sum_by (fetches p) more
 accepted_on p w [] s = omega (arith)
 accepted_on p w (d ∷ past) s =
     let v = world_of w past in

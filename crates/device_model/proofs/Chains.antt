@@ -18,7 +18,7 @@ use Rattle.device_model.specs.Transitions.{Transition}
 use Rattle.device_model.specs.After.{arriving, taking, slotted, broken_by, completing, directing, spending, with_hand, without_first, with_jobs, leaving, on_function, hard_code, after}
 use Rattle.device_model.specs.Happens.{May, Comes, handed_out}
 use Rattle.device_model.specs.Laws.{in_hand, at_seat}
-use Rattle.device_model.specs.Places.{of_chain, of_job, of_slot, of_function, at_queue, at_unit, standing}
+use Rattle.device_model.specs.Places.{of_chain, of_job, of_slot, of_function, at_queue, at_unit, standing_count}
 use Rattle.device_model.specs.Standing.{IsOwned, IsJob, SlotOwns, HandOwns, FunctionOwns}
 use Rattle.device_model.proofs.Lists.{nothing, same}
 use Rattle.device_model.proofs.Places.{nothing_counts}
@@ -47,7 +47,7 @@ all_rest : {X : Type 0} (P : X → Type 0) (xs : List X) → AllByRecursion P xs
 all_rest P [] a = tt
 all_rest P (x ∷ xs) a = a.1
 
--- where nothing is worth anything
+-- where nothing has a weight
 all_turn : {X : Type 0} (P Q : X → Type 0) (f : X → ℕ) (xs : List X) → ((x : X) → P x → f x ≡ 0 → Q x)
     → sum_by f xs ≡ 0 → AllByRecursion P xs → AllByRecursion Q xs
 all_turn P Q f [] t z a = tt
@@ -56,20 +56,20 @@ all_turn P Q f (x ∷ xs) t z a =
     (t x a.0 (omega (arith, s, z)), all_turn P Q f xs t (omega (arith, s, z)) a.1)
 
 -- then none of the items is
-worth_none : {X : Type 0} (f : X → ℕ) (xs : List X) → sum_by f xs ≡ 0 → Everywhere (λ i x. f x ≡ 0) xs
-worth_none f [] z i x at = absurd (nothing at)
-worth_none f (y ∷ xs) z zero x at =
+weight_none : {X : Type 0} (f : X → ℕ) (xs : List X) → sum_by f xs ≡ 0 → Everywhere (λ i x. f x ≡ 0) xs
+weight_none f [] z i x at = absurd (nothing at)
+weight_none f (y ∷ xs) z zero x at =
     let a = ap f (same at) in
     let b = sum_by-cons f y xs in
     omega (arith, a, b, z)
-worth_none f (y ∷ xs) z (suc i) x at =
+weight_none f (y ∷ xs) z (suc i) x at =
     let b = sum_by-cons f y xs in
-    worth_none f xs (omega (arith, b, z)) i x at
+    weight_none f xs (omega (arith, b, z)) i x at
 
 -- so that each turns from P to Q
 every_turn : {X : Type 0} (P Q : ℕ → X → Type 0) (f : X → ℕ) (xs : List X)
     → ((i : ℕ) (x : X) → P i x → f x ≡ 0 → Q i x) → sum_by f xs ≡ 0 → Everywhere P xs → Everywhere Q xs
-every_turn P Q f xs t z a i x at = t i x (a i x at) (worth_none f xs z i x at)
+every_turn P Q f xs t z a i x at = t i x (a i x at) (weight_none f xs z i x at)
 
 -- The places of a world, whose chains are owned in a world v
 
@@ -346,7 +346,7 @@ places v d w m b h = h
 
 -- From one world's owning to another's
 
--- where what stands is worth nothing
+-- where what stands has no weight
 abbrev Turns : (Ticket → ℕ) → PlainWorld → PlainWorld → Type 0
 Turns p u v = (c : PlainChain) → IsOwned u c → p c.ticket ≡ 0 → IsOwned v c
 
@@ -382,7 +382,7 @@ function_turns p u v t None h z = tt
 function_turns p u v t (Some o) h z = (h.0, t o.chain h.1 z)
 
 -- all that stands turns
-pub turn : (p : Ticket → ℕ) (u v w : PlainWorld) → Turns p u v → standing p w ≡ 0 → Stand u w → Stand v w
+pub turn : (p : Ticket → ℕ) (u v w : PlainWorld) → Turns p u v → standing_count p w ≡ 0 → Stand u w → Stand v w
 turn p u v w t z h = (
   every_turn (λ i q. SlotOwns u i q.slot) (λ i q. SlotOwns v i q.slot) (at_queue p) w.queues
       (λ i q. slot_turns p u v t i q.slot) (omega (arith, z)) h.0,
@@ -395,42 +395,42 @@ turn p u v w t z h = (
   all_turn (BufferOwns u) (BufferOwns v) (of_chain p) w.buffers (λ c b n. (b.0, t c b.1 n)) (omega (arith, z)) h.5,
 )
 
--- no ticket is worth anything
+-- no ticket has a weight
 
-abbrev pub worthless : Ticket → ℕ
-worthless t = 0
+abbrev pub weightless : Ticket → ℕ
+weightless t = 0
 
-worthless_slot : (s : Slot) → of_slot worthless s ≡ 0
-worthless_slot Slot.Empty = refl
-worthless_slot (Slot.Arrived x) = refl
-worthless_slot (Slot.Direct c o) = refl
+weightless_slot : (s : Slot) → of_slot weightless s ≡ 0
+weightless_slot Slot.Empty = refl
+weightless_slot (Slot.Arrived x) = refl
+weightless_slot (Slot.Direct c o) = refl
 
-worthless_jobs : (xs : List PlainJob) → sum_by (of_job worthless) xs ≡ 0
-worthless_jobs xs = nothing_counts (of_job worthless) xs (λ i x at. refl)
+weightless_jobs : (xs : List PlainJob) → sum_by (of_job weightless) xs ≡ 0
+weightless_jobs xs = nothing_counts (of_job weightless) xs (λ i x at. refl)
 
-worthless_hand : (s : Hand) → in_hand (of_job worthless) s ≡ 0
-worthless_hand Hand.Empty = refl
-worthless_hand (Hand.Taken x) = refl
-worthless_hand (Hand.Done x o) = refl
-worthless_hand (Hand.Answered place t) = refl
+weightless_hand : (s : Hand) → in_hand (of_job weightless) s ≡ 0
+weightless_hand Hand.Empty = refl
+weightless_hand (Hand.Taken x) = refl
+weightless_hand (Hand.Done x o) = refl
+weightless_hand (Hand.Answered place t) = refl
 
-worthless_seat : (s : Seat) → at_seat (of_job worthless) s ≡ 0
-worthless_seat s =
-    let a = worthless_hand s.hand in
-    let b = worthless_jobs s.out in
+weightless_seat : (s : Seat) → at_seat (of_job weightless) s ≡ 0
+weightless_seat s =
+    let a = weightless_hand s.hand in
+    let b = weightless_jobs s.out in
     omega (arith, a, b)
 
-worthless_function : (o : Option Opened) → of_function worthless o ≡ 0
-worthless_function None = refl
-worthless_function (Some o) = refl
+weightless_function : (o : Option Opened) → of_function weightless o ≡ 0
+weightless_function None = refl
+weightless_function (Some o) = refl
 
 -- so nothing that stands is
-pub no_worth : (w : PlainWorld) → standing worthless w ≡ 0
-no_worth w =
-    let a = nothing_counts (at_queue worthless) w.queues (λ i q at. worthless_slot q.slot) in
-    let b = nothing_counts (at_unit worthless) w.units (λ i u at. worthless_jobs u.parked) in
-    let c = nothing_counts (at_seat (of_job worthless)) w.seats (λ i s at. worthless_seat s) in
-    let d = worthless_jobs (all_off w) in
-    let e = worthless_function w.function in
-    let f = nothing_counts (of_chain worthless) w.buffers (λ i x at. refl) in
+pub no_weight : (w : PlainWorld) → standing_count weightless w ≡ 0
+no_weight w =
+    let a = nothing_counts (at_queue weightless) w.queues (λ i q at. weightless_slot q.slot) in
+    let b = nothing_counts (at_unit weightless) w.units (λ i u at. weightless_jobs u.parked) in
+    let c = nothing_counts (at_seat (of_job weightless)) w.seats (λ i s at. weightless_seat s) in
+    let d = weightless_jobs (all_off w) in
+    let e = weightless_function w.function in
+    let f = nothing_counts (of_chain weightless) w.buffers (λ i x at. refl) in
     omega (arith, a, b, c, d, e, f)

@@ -2,7 +2,7 @@
 use Rattle.std.proofs.Common.{◌≡◌, ℕ, ◌<◌, ◌≤◌, Bool, true, false, if◌then◌else◌, List, [], ◌∷◌, ◌++◌, length, Option, Some, None, refl, sym, ◌∙◌, ap, subst, arith, zero, suc, inl, inr}
 use Rattle.std.specs.Prelude.{slice_get, ◌⊎◌}
 use Rattle.std.specs.List.{AllByRecursion}
-use Rattle.scsi_codec.specs.declared.event_queue.Event.{Event as Report}
+use Rattle.scsi_codec.specs.declared.event_queue.Event.{Event as EventRecord}
 use Rattle.ring_core.specs.State.{RingState, PlainChain}
 use Rattle.ring_core.specs.Offer.{Offer, Nothing, Found, Refused, Offers}
 use Rattle.ring_core.specs.declared.descriptor.Part.{Part}
@@ -331,10 +331,10 @@ check_decided w (Some o) at = check_at w o o.function.left o.function.waits at r
 
 -- The port
 
-no_report : {e : Report} {es : List Report} → [] ≡ e ∷ es → ⊥
+no_report : {e : EventRecord} {es : List EventRecord} → [] ≡ e ∷ es → ⊥
 no_report e = cc
 
-raise_decided : (w : PlainWorld) (l : List Report) → w.waiting ≡ l → Decided w Event.Raise
+raise_decided : (w : PlainWorld) (l : List EventRecord) → w.waiting ≡ l → Decided w Event.Raise
 raise_decided w [] e = inr (λ h. no_report (sym e ∙ h.2))
 raise_decided w (report ∷ later) e = inl (report, later, e)
 

@@ -13,8 +13,8 @@ use Rattle.device_model.specs.After.{bit}
 use Rattle.device_model.specs.Happens.{May, occurrence_of, world_of, Leads}
 use Rattle.device_model.specs.Places.{only}
 use Rattle.device_model.specs.Standing.{AreOwned, FunctionOwns, IsOwned}
-use Rattle.device_model.specs.Worths.{fetches, uses, directs, answers}
-use Rattle.device_model.specs.Inner.Worths.{enters, ends, leaves, IsFlowing}
+use Rattle.device_model.specs.Weights.{fetches, uses, directs, answers}
+use Rattle.device_model.specs.Inner.Weights.{enters, ends, leaves, IsFlowing}
 use Rattle.device_model.proofs.Owning.{owned}
 use Rattle.device_model.proofs.Flowing.{run_flows, tallies, fetched_once}
 use Rattle.device_model.specs.Happened.{Happened, IsBeginning}

@@ -15,13 +15,13 @@ use Rattle.scsi_codec.specs.declared.responses.ResponseCode.TheVariants as code
 use Rattle.scsi_codec.specs.declared.control_queue.Control.{Control}
 use Rattle.scsi_codec.specs.declared.control_queue.Control.TheVariants.{TaskManagement, AsynchronousNotification, MalformedFunction, MalformedNotification}
 use Rattle.scsi_codec.specs.declared.control_queue.FunctionResponse.{FunctionResponse}
-use Rattle.decisions.specs.Inventory.{has_target, place_of}
-use Rattle.decisions.specs.UnitRequest.{PlainRequest}
-use Rattle.decisions.specs.Decision.{attribute_of, goes_both_ways, overruns, fails, decide_unit, decide_attribute, decide_command, decide_reading, decided}
-use Rattle.decisions.specs.declared.answer.ChainLengths.{ChainLengths}
-use Rattle.decisions.specs.declared.attribute.TaskAttribute.{TaskAttribute}
-use Rattle.decisions.specs.declared.decision.Decision.{Decision}
-use Rattle.decisions.specs.declared.decision.Decision.TheVariants as decision
+use Rattle.request_intake.specs.Inventory.{has_target, place_of}
+use Rattle.request_intake.specs.UnitRequest.{PlainRequest}
+use Rattle.request_intake.specs.Decision.{attribute_of, goes_both_ways, overruns, fails, decide_unit, decide_attribute, decide_command, decide_reading, decided}
+use Rattle.request_intake.specs.declared.answer.ChainLengths.{ChainLengths}
+use Rattle.request_intake.specs.declared.attribute.TaskAttribute.{TaskAttribute}
+use Rattle.request_intake.specs.declared.decision.Decision.{Decision}
+use Rattle.request_intake.specs.declared.decision.Decision.TheVariants as decision
 use Rattle.task_mgmt.specs.Control.{decided_of_function, decided_of, decided_with_room}
 use Rattle.task_mgmt.specs.Inner.Control.{Suits}
 use Rattle.task_mgmt.specs.Demands.{demanded, begun}

@@ -22,8 +22,8 @@ use Rattle.device_model.specs.World.{PlainWorld, Opens}
 use Rattle.device_model.specs.Transitions.{Transition}
 use Rattle.device_model.specs.Happens.{IsMarking as IsMarkingNow, Leads, world_of}
 use Rattle.device_model.specs.Places.{only}
-use Rattle.device_model.specs.Worths.{answers}
-use Rattle.device_model.specs.Inner.Worths.{leaves}
+use Rattle.device_model.specs.Weights.{answers}
+use Rattle.device_model.specs.Inner.Weights.{leaves}
 use Rattle.device_model.specs.Happened.{Happened, IsBeginning, IsAnswer}
 use Rattle.device_model.specs.Histories.{step_of, pushed, history_of}
 use Rattle.device_model.specs.Functions.{Among, IsFor, IsMarkedSo, IsClear, IsResponse, IsOver, AreOver}

@@ -3,7 +3,7 @@ use Rattle.std.specs.Prelude.{slice_get}
 use Rattle.std.proofs.Common.{◌≡◌, Bool, true, false, Some, ◌||◌, ◌&&◌, List, [], ◌∷◌, ◌++◌, drop, refl, sym, ◌∙◌, ap}
 use Rattle.std.proofs.lemmas.List.{append_assoc, append-nil}
 use Rattle.ring_core.specs.State.{PlainChain}
-use Rattle.scsi_codec.specs.declared.event_queue.Event.{Event as Report}
+use Rattle.scsi_codec.specs.declared.event_queue.Event.{Event as EventRecord}
 use Rattle.scsi_codec.specs.EventQueue.{transport_reset, param_change}
 use Rattle.unit_model.specs.Receipts.{unit_address}
 use Rattle.unit_model.specs.Unit.{PlainUnit}
@@ -39,7 +39,7 @@ order_transition d ds w s h = s
 abbrev InTurn : PlainWorld → List Transition → PlainWorld → Type 0
 InTurn old ds w = reported_of ds ++ w.waiting ≡ raised_of old ds
 
-first_gone : (g h a : List Report) (e : Report) (more : List Report) → h ≡ e ∷ more → g ++ h ≡ a
+first_gone : (g h a : List EventRecord) (e : EventRecord) (more : List EventRecord) → h ≡ e ∷ more → g ++ h ≡ a
     → (g ++ e ∷ []) ++ drop 1 h ≡ a
 first_gone g h a e more k is =
     ap (λ z. (g ++ e ∷ []) ++ drop 1 z) k ∙ append_assoc g (e ∷ []) more ∙ ap (λ z. g ++ z) (sym k) ∙ is

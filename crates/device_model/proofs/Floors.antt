@@ -6,7 +6,7 @@ use Rattle.ring_core.specs.State.{PlainChain, next_ticket}
 use Rattle.ring_core.specs.Writes.{all_written}
 use Rattle.ring_core.specs.declared.log.Ticket.{Ticket}
 use Rattle.unit_model.specs.Endings.{Ending}
-use Rattle.unit_model.specs.Steps.{Step, floor}
+use Rattle.unit_model.specs.Steps.{Step, next_number}
 use Rattle.unit_model.specs.Jobs.{PlainJob}
 use Rattle.unit_model.specs.Unit.{PlainUnit, after as stepped, parking}
 use Rattle.task_mgmt.specs.Functions.{step_by}
@@ -43,7 +43,7 @@ pub record IsNext (units accepted : ℕ) (x : PlainJob) : Type 0 where
 
 -- no history has a ticket of the queue from this number on
 abbrev Below : ℕ → ℕ → List PlainUnit → Type 0
-Below i n us = Everywhere (λ k u. floor i u.steps ≤ n) us
+Below i n us = Everywhere (λ k u. next_number i u.steps ≤ n) us
 
 -- how many chains the queue accepted
 abbrev accepted_of : PlainQueue → ℕ
@@ -84,14 +84,15 @@ arrived_is e = cc
 
 -- one history goes on, and none has a ticket from that number on
 below_after : (g : PlainUnit → PlainUnit) (k i n m : ℕ) (us : List PlainUnit) → n ≤ m
-    → ((u : PlainUnit) → floor i u.steps ≤ n → floor i (g u).steps ≤ m) → Below i n us → Below i m (change g k us)
+    → ((u : PlainUnit) → next_number i u.steps ≤ n → next_number i (g u).steps ≤ m) → Below i n us → Below i m (change g k us)
 below_after g k i n m us le f b =
-    everywhere_else (λ j u. floor i u.steps ≤ n) (λ j u. floor i u.steps ≤ m) g k us b
+    everywhere_else (λ j u. next_number i u.steps ≤ n) (λ j u. next_number i u.steps ≤ m) g k us b
     (λ j u e p. omega (arith, p, le)) (λ u at p. f u p)
 
--- a step that raises no floor, where no queue is changed
+-- a step that raises no next number, where no queue is changed
 units_on : (n : ℕ) (s : Step) (k : ℕ) (us : List PlainUnit) (qs : List PlainQueue)
-    → ((i : ℕ) (h : List Step) → floor i (s ∷ h) ≡ floor i h) → Ordered n us qs → Ordered n (change (stepped s) k us) qs
+    → ((i : ℕ) (h : List Step) → next_number i (s ∷ h) ≡ next_number i h) → Ordered n us qs
+    → Ordered n (change (stepped s) k us) qs
 units_on n s k us qs f b i q at =
     let h = b i q at in
     record {
@@ -100,8 +101,8 @@ units_on n s k us qs f b i q at =
           (λ u le. let z = f i u.steps in omega (arith, z, le)) h.floors;
     }
 
--- a mark raises no floor
-mark_floor : (m : MarkBy) (i : ℕ) (h : List Step) → floor i (step_by m ∷ h) ≡ floor i h
+-- a mark raises no next number
+mark_floor : (m : MarkBy) (i : ℕ) (h : List Step) → next_number i (step_by m ∷ h) ≡ next_number i h
 mark_floor (Abort rule) i h = refl
 mark_floor (Reset c) i h = refl
 
@@ -159,7 +160,7 @@ past_empty = record { none = λ y e. not_empty e; front = λ n. refl }
 past_ready : (c : PlainChain) (o : Outcome) → IsPast (Slot.Direct c o)
 past_ready c o = record { none = λ y e. not_arrived e; front = λ n. refl }
 
--- the ticket's number or the old floor
+-- the ticket's number or the old next number
 either_below : (b : Bool) (t f m : ℕ) → f ≤ m → t + 1 ≤ m → cond b (t + 1) f ≤ m
 either_below true t f m le h = h
 either_below false t f m le h = le
@@ -172,8 +173,8 @@ next n x w c b = (b x.chain.ticket.queue c.queue c.there).arrived x c.arrived
 -- the step of a request's ticket
 abbrev Raises : PlainJob → (PlainUnit → PlainUnit) → Type 0
 Raises x g =
-    (i : ℕ) (u : PlainUnit) → floor i (g u).steps
-    ≡ cond (eqb x.entry.ticket.queue i) (x.entry.ticket.number + 1) (floor i u.steps)
+    (i : ℕ) (u : PlainUnit) → next_number i (g u).steps
+    ≡ cond (eqb x.entry.ticket.queue i) (x.entry.ticket.number + 1) (next_number i u.steps)
 
 -- a request goes on from its slot, and its ticket stands in a history
 enters : (n : ℕ) (g : PlainUnit → PlainUnit) (x : PlainJob) (w : PlainWorld) (s : Slot) (c : Comes w x) → Raises x g
@@ -188,7 +189,7 @@ enters n g x w s c raise gone b =
       floors = below_after g x.unit i (front q) (front q) w.units (omega (arith))
           (λ u le.
           let off = ap (λ (t : Ticket). eqb t.queue i) a.ticket ∙ ne in
-          let e = raise i u ∙ ap (λ z. cond z (x.entry.ticket.number + 1) (floor i u.steps)) off in
+          let e = raise i u ∙ ap (λ z. cond z (x.entry.ticket.number + 1) (next_number i u.steps)) off in
           omega (arith, e, le)) p.floors;
     })
     (λ q at p.
@@ -202,7 +203,7 @@ enters n g x w s c raise gone b =
       floors = below_after g x.unit k (front q) (front_of s (accepted_of q)) w.units (omega (arith, latest, was, now))
           (λ u le.
           let e = raise k u in
-          let o = either_below (eqb x.entry.ticket.queue k) x.entry.ticket.number (floor k u.steps) (accepted_of q)
+          let o = either_below (eqb x.entry.ticket.queue k) x.entry.ticket.number (next_number k u.steps) (accepted_of q)
           (omega (arith, le, was, latest)) (omega (arith, latest)) in
           omega (arith, e, o, now)) p.floors;
     })
@@ -334,7 +335,7 @@ new_ordered w o i q at =
     let slot = (o.queues i q at).slot in
     record {
       arrived = λ x e. absurd (not_empty (sym slot ∙ e));
-      floors = λ k u there. let z = ap (λ h. floor i h) (o.units k u there).steps in omega (arith, z);
+      floors = λ k u there. let z = ap (λ h. next_number i h) (o.units k u there).steps in omega (arith, z);
     }
 
 -- a place within the list has its unit

@@ -1,4 +1,4 @@
--- Each transition moves what it takes and gives, whatever chains are worth in each place.
+-- Each transition moves what it takes and gives, whatever chains weigh in each place.
 use Rattle.std.proofs.Common.{◌≡◌, ℕ, ◌+◌, ◌≤◌, ◌&&◌, eqb, Bool, true, false, not, List, [], ◌∷◌, drop, length, Option, Some, None, refl, sym, ◌∙◌, ap, subst, arith, zero, suc}
 use Rattle.std.specs.Prelude.{slice_get, nat_lt}
 use Rattle.std.specs.List.{sum_by}
@@ -11,7 +11,7 @@ use Rattle.ring_core.specs.Writes.{all_written}
 use Rattle.ring_core.specs.declared.log.Ticket.{Ticket}
 use Rattle.unit_model.specs.Endings.{Ending}
 use Rattle.unit_model.specs.Steps.{Step}
-use Rattle.unit_model.specs.Worths.{alive_worth}
+use Rattle.unit_model.specs.Weights.{alive_count}
 use Rattle.unit_model.specs.Released.{released}
 use Rattle.unit_model.proofs.Parked.{alive_enter, alive_leave}
 use Rattle.unit_model.specs.Jobs.{PlainJob, of_tasks, is_job_of}
@@ -24,11 +24,11 @@ use Rattle.device_model.specs.World.{PlainQueue, Seat, Opened, PlainWorld, chang
 use Rattle.device_model.specs.Transitions.{Transition}
 use Rattle.device_model.specs.After.{bit, arriving, taking, slotted, broken_by, completing, directing, spending, with_hand, without_first, with_jobs, leaving, on_function, hard_code, after}
 use Rattle.device_model.specs.Happens.{May, Comes, handed_out, Occurrence, Runs, transitions_of}
-use Rattle.device_model.specs.Places.{of_chain, of_job, of_function, at_unit, accepted_worth, only, log_accepted, log_used}
+use Rattle.device_model.specs.Places.{of_chain, of_job, of_function, at_unit, accepted_count, only, log_accepted, log_used}
 use Rattle.device_model.specs.Lawful.{AreNumbered}
 use Rattle.device_model.specs.Standing.{AreOwned, SlotOwns}
-use Rattle.device_model.specs.Worths.{Worths, in_slot, in_hand, in_queue, in_seat, held, fetches, uses, directs, answers, enter_worth, entered_worth, counts_in, was_accepted}
-use Rattle.device_model.specs.Inner.Worths.{takes, gives, enters, ends, leaves, living_worth, IsFlowing, chains, tasks, slots, jobs, dones, tolds, Tallies}
+use Rattle.device_model.specs.Weights.{Weights, in_slot, in_hand, in_queue, in_seat, held, fetches, uses, directs, answers, enter_count, entered_count, counts_in, was_accepted}
+use Rattle.device_model.specs.Inner.Weights.{takes, gives, enters, ends, leaves, living_count, IsFlowing, chains, tasks, slots, jobs, dones, tolds, Tallies}
 use Rattle.device_model.proofs.Jobs.{sum_change}
 use Rattle.device_model.proofs.Places.{moves, nothing_counts}
 use Rattle.device_model.proofs.Owning.{owned}
@@ -90,7 +90,7 @@ abbrev seat : Hand → List PlainJob → Seat
 seat hand out = record { hand = hand; out = out }
 
 -- a seat gets jobs
-gets : (f : Worths) (k : ℕ) (seats : List Seat) (s : Seat) (jobs : List PlainJob) → slice_get seats k ≡ Some s
+gets : (f : Weights) (k : ℕ) (seats : List Seat) (s : Seat) (jobs : List PlainJob) → slice_get seats k ≡ Some s
     → sum_by (in_seat f) (change (with_jobs jobs) k seats) ≡ sum_by (in_seat f) seats + sum_by (of_job f.kept) jobs
 gets f k seats s jobs at =
     let c = sum_change (in_seat f) (with_jobs jobs) k seats s at in
@@ -98,7 +98,7 @@ gets f k seats s jobs at =
     omega (arith, c, a)
 
 -- a seat's hand changes
-turns : (f : Worths) (k : ℕ) (seats : List Seat) (old new : Hand) (out : List PlainJob)
+turns : (f : Weights) (k : ℕ) (seats : List Seat) (old new : Hand) (out : List PlainJob)
     → slice_get seats k ≡ Some (seat old out)
     → sum_by (in_seat f) (change (with_hand new) k seats) + in_hand f old ≡ sum_by (in_seat f) seats + in_hand f new
 turns f k seats old new out at =
@@ -106,7 +106,7 @@ turns f k seats old new out at =
     omega (arith, c)
 
 -- a free seat's first job goes
-goes : (f : Worths) (k : ℕ) (seats : List Seat) (new : Hand) (x : PlainJob) (rest : List PlainJob)
+goes : (f : Weights) (k : ℕ) (seats : List Seat) (new : Hand) (x : PlainJob) (rest : List PlainJob)
     → slice_get seats k ≡ Some (seat Hand.Empty (x ∷ rest))
     → sum_by (in_seat f) (change (without_first new) k seats) + f.kept x.chain.ticket
     ≡ sum_by (in_seat f) seats + in_hand f new
@@ -116,7 +116,7 @@ goes f k seats new x rest at =
     omega (arith, c, a)
 
 -- a seat's task leaves
-frees : (f : Worths) (k : ℕ) (seats : List Seat) (old : Hand) (out jobs : List PlainJob)
+frees : (f : Weights) (k : ℕ) (seats : List Seat) (old : Hand) (out jobs : List PlainJob)
     → slice_get seats k ≡ Some (seat old out)
     → sum_by (in_seat f) (change (leaving jobs) k seats) + in_hand f old
     ≡ sum_by (in_seat f) seats + sum_by (of_job f.kept) jobs
@@ -131,11 +131,11 @@ goes_on : (p : Ticket → ℕ) (g : PlainFunction → PlainFunction) (o : Option
 goes_on p g None = refl
 goes_on p g (Some o) = refl
 
-abbrev pub Flows : Worths → PlainWorld → Transition → Type 0
+abbrev pub Flows : Weights → PlainWorld → Transition → Type 0
 Flows f w d = held f (after d w) + gives f d ≡ held f w + takes f d
 
 -- a request that arrived goes on from its slot
-lets_go : (f : Worths) (s : Slot) (k : ℕ) (qs : List PlainQueue) (q : PlainQueue) (old : Slot)
+lets_go : (f : Weights) (s : Slot) (k : ℕ) (qs : List PlainQueue) (q : PlainQueue) (old : Slot)
     → slice_get qs k ≡ Some q → q.slot ≡ old
     → sum_by (in_queue f) (change (slotted s) k qs) + in_slot f old ≡ sum_by (in_queue f) qs + in_slot f s
 lets_go f s k qs q old at e =
@@ -143,7 +143,7 @@ lets_go f s k qs q old at e =
     let b = ap (in_slot f) e in
     omega (arith, c, b)
 
-pub held_transition : (f : Worths) (w : PlainWorld) (d : Transition) → May d w → Flows f w d
+pub held_transition : (f : Weights) (w : PlainWorld) (d : Transition) → May d w → Flows f w d
 held_transition f w (Transition.Arrive g x) h =
     let n = g.chain.ticket.queue in
     let q = sum_change (in_queue f) (arriving g.chain (Slot.Arrived x)) n w.queues h.finds.queue h.finds.there in
@@ -281,85 +281,85 @@ own_name p w x a h =
 
 -- what marks is no Enter and no Leave
 enters_none : (p : Ticket → ℕ) (m : MarkBy) (u : PlainUnit)
-    → entered_worth p (stepped (step_by m) u) ≡ entered_worth p u
+    → entered_count p (stepped (step_by m) u) ≡ entered_count p u
 enters_none p (Abort rule) u = refl
 enters_none p (Reset c) u = refl
 
 living_same : (p : Ticket → ℕ) (m : MarkBy) (u : PlainUnit)
-    → living_worth p (stepped (step_by m) u) ≡ living_worth p u
+    → living_count p (stepped (step_by m) u) ≡ living_count p u
 living_same p (Abort rule) u = refl
 living_same p (Reset c) u = refl
 
 entered_transition : (p : Ticket → ℕ) (d : Transition) (w : PlainWorld) → AreOwned w → May d w
-    → sum_by (entered_worth p) (after d w).units ≡ sum_by (entered_worth p) w.units + enters p d
+    → sum_by (entered_count p) (after d w).units ≡ sum_by (entered_count p) w.units + enters p d
 entered_transition p (Transition.Run x) w a h =
     let c = h.comes in
-    let u = sum_change (entered_worth p) (stepped (Step.Enter x.entry)) x.unit w.units c.unit c.unit_there in
+    let u = sum_change (entered_count p) (stepped (Step.Enter x.entry)) x.unit w.units c.unit c.unit_there in
     let n = own_name p w x a c in
     omega (arith, u, n)
 entered_transition p (Transition.Park x) w a h =
     let c = h.comes in
-    let u = sum_change (entered_worth p) (parking x) x.unit w.units c.unit c.unit_there in
+    let u = sum_change (entered_count p) (parking x) x.unit w.units c.unit c.unit_there in
     let n = own_name p w x a c in
     omega (arith, u, n)
 entered_transition p (Transition.EnterFull x) w a h =
-    let u = same_sum (entered_worth p) (stepped (Step.Full x.entry.ticket)) x.unit w.units (λ v. refl) in
+    let u = same_sum (entered_count p) (stepped (Step.Full x.entry.ticket)) x.unit w.units (λ v. refl) in
     omega (arith, u)
 entered_transition p (Transition.Commit k x r) w a h =
-    let u = same_sum (entered_worth p) (stepped (Step.Commit x.entry.ticket r)) x.unit w.units (λ v. refl) in
+    let u = same_sum (entered_count p) (stepped (Step.Commit x.entry.ticket r)) x.unit w.units (λ v. refl) in
     omega (arith, u)
 entered_transition p (Transition.CommitBusy k x) w a h =
-    let u = same_sum (entered_worth p) (stepped (Step.Busy x.entry.ticket)) x.unit w.units (λ v. refl) in
+    let u = same_sum (entered_count p) (stepped (Step.Busy x.entry.ticket)) x.unit w.units (λ v. refl) in
     omega (arith, u)
 entered_transition p (Transition.Leave k place t jobs) w a h =
-    let u = same_sum (entered_worth p) (stepped (Step.Leave t)) place w.units (λ v. refl) in
+    let u = same_sum (entered_count p) (stepped (Step.Leave t)) place w.units (λ v. refl) in
     omega (arith, u)
 entered_transition p (Transition.Mark t i m jobs) w a h =
-    let u = same_sum (entered_worth p) (stepped (step_by m)) i.unit w.units (λ v. enters_none p m v) in
+    let u = same_sum (entered_count p) (stepped (step_by m)) i.unit w.units (λ v. enters_none p m v) in
     omega (arith, u)
 entered_transition p (Transition.Hard i jobs) w a h =
-    let u = same_sum (entered_worth p) (stepped (Step.Reset hard_code)) i.unit w.units (λ v. refl) in
+    let u = same_sum (entered_count p) (stepped (Step.Reset hard_code)) i.unit w.units (λ v. refl) in
     omega (arith, u)
 entered_transition p (Transition.Resize place blocks) w a h =
-    let u = same_sum (entered_worth p) (stepped (Step.Resize blocks)) place w.units (λ v. refl) in
+    let u = same_sum (entered_count p) (stepped (Step.Resize blocks)) place w.units (λ v. refl) in
     omega (arith, u)
 entered_transition p d w a h = omega (arith)
 
 alive_transition : (p : Ticket → ℕ) (d : Transition) (w : PlainWorld) → AreOwned w → May d w
-    → sum_by (living_worth p) (after d w).units + leaves p d ≡ sum_by (living_worth p) w.units + enters p d
+    → sum_by (living_count p) (after d w).units + leaves p d ≡ sum_by (living_count p) w.units + enters p d
 alive_transition p (Transition.Run x) w a h =
     let c = h.comes in
-    let u = sum_change (living_worth p) (stepped (Step.Enter x.entry)) x.unit w.units c.unit c.unit_there in
+    let u = sum_change (living_count p) (stepped (Step.Enter x.entry)) x.unit w.units c.unit c.unit_there in
     let e = alive_enter p x.entry c.unit.steps in
     let n = own_name p w x a c in
     omega (arith, u, e, n)
 alive_transition p (Transition.Park x) w a h =
     let c = h.comes in
-    let u = sum_change (living_worth p) (parking x) x.unit w.units c.unit c.unit_there in
+    let u = sum_change (living_count p) (parking x) x.unit w.units c.unit c.unit_there in
     let e = alive_enter p x.entry c.unit.steps in
     let n = own_name p w x a c in
     omega (arith, u, e, n)
 alive_transition p (Transition.EnterFull x) w a h =
-    let u = same_sum (living_worth p) (stepped (Step.Full x.entry.ticket)) x.unit w.units (λ v. refl) in
+    let u = same_sum (living_count p) (stepped (Step.Full x.entry.ticket)) x.unit w.units (λ v. refl) in
     omega (arith, u)
 alive_transition p (Transition.Commit k x r) w a h =
-    let u = same_sum (living_worth p) (stepped (Step.Commit x.entry.ticket r)) x.unit w.units (λ v. refl) in
+    let u = same_sum (living_count p) (stepped (Step.Commit x.entry.ticket r)) x.unit w.units (λ v. refl) in
     omega (arith, u)
 alive_transition p (Transition.CommitBusy k x) w a h =
-    let u = same_sum (living_worth p) (stepped (Step.Busy x.entry.ticket)) x.unit w.units (λ v. refl) in
+    let u = same_sum (living_count p) (stepped (Step.Busy x.entry.ticket)) x.unit w.units (λ v. refl) in
     omega (arith, u)
 alive_transition p (Transition.Leave k place t jobs) w a h =
-    let u = sum_change (living_worth p) (stepped (Step.Leave t)) place w.units h.holds.unit h.holds.there in
+    let u = sum_change (living_count p) (stepped (Step.Leave t)) place w.units h.holds.unit h.holds.there in
     let l = alive_leave p t h.may.0 h.holds.unit.steps h.may.1 in
     omega (arith, u, l)
 alive_transition p (Transition.Mark t i m jobs) w a h =
-    let u = same_sum (living_worth p) (stepped (step_by m)) i.unit w.units (λ v. living_same p m v) in
+    let u = same_sum (living_count p) (stepped (step_by m)) i.unit w.units (λ v. living_same p m v) in
     omega (arith, u)
 alive_transition p (Transition.Hard i jobs) w a h =
-    let u = same_sum (living_worth p) (stepped (Step.Reset hard_code)) i.unit w.units (λ v. refl) in
+    let u = same_sum (living_count p) (stepped (Step.Reset hard_code)) i.unit w.units (λ v. refl) in
     omega (arith, u)
 alive_transition p (Transition.Resize place blocks) w a h =
-    let u = same_sum (living_worth p) (stepped (Step.Resize blocks)) place w.units (λ v. refl) in
+    let u = same_sum (living_count p) (stepped (Step.Resize blocks)) place w.units (λ v. refl) in
     omega (arith, u)
 alive_transition p d w a h = omega (arith)
 
@@ -432,7 +432,7 @@ as_counted : (t : Ticket) (o : Option PlainQueue) → counted (so_far t) o ≡ c
 as_counted t None = refl
 as_counted t (Some q) = refl
 
-accepted_was : (t : Ticket) (w : PlainWorld) → AreNumbered w → accepted_worth (only t) w ≡ was_accepted t w
+accepted_was : (t : Ticket) (w : PlainWorld) → AreNumbered w → accepted_count (only t) w ≡ was_accepted t w
 accepted_was t w h =
     at_one (log_accepted (only t)) (so_far t) t.queue w.queues (λ i q at.
     let n = length q.ring.log.accepted in
@@ -445,7 +445,7 @@ accepted_was t w h =
 flows_transition : (d : Transition) (ds : List Transition) (w : PlainWorld) → AreOwned w → AreNumbered (after d w) → May d w
     → IsFlowing ds w → IsFlowing (d ∷ ds) (after d w)
 flows_transition d ds w own numbered h s =
-    let log : (p : Ticket → ℕ) → accepted_worth p (after d w) ≡ sum_by (fetches p) (d ∷ ds) = λ p.
+    let log : (p : Ticket → ℕ) → accepted_count p (after d w) ≡ sum_by (fetches p) (d ∷ ds) = λ p.
     let a = (moves p d w h).accepted in
     let b = s.accepted p in
     let c = sum_by-cons (fetches p) d ds in
@@ -478,7 +478,7 @@ flows_transition d ds w own numbered h s =
     }
 
 -- a seat that is new
-idle : (f : Worths) (s : Seat) → IsNewSeat s → in_seat f s ≡ 0
+idle : (f : Weights) (s : Seat) → IsNewSeat s → in_seat f s ≡ 0
 idle f s n =
     let a = ap (in_hand f) n.hand in
     let b = ap (λ l. sum_by (of_job f.kept) l) n.out in
@@ -486,7 +486,7 @@ idle f s n =
 
 new_flows : (w : PlainWorld) → Opens w → IsFlowing [] w
 new_flows w o =
-    let log : (p : Ticket → ℕ) → accepted_worth p w ≡ 0 = λ p.
+    let log : (p : Ticket → ℕ) → accepted_count p w ≡ 0 = λ p.
     nothing_counts (log_accepted p) w.queues (λ i q at. ap (λ l. sum_by p l) (o.queues i q at).accepted) in
     record {
       held = λ f.
@@ -500,9 +500,9 @@ new_flows w o =
           omega (arith, a, b, c, d, e, g);
       accepted = log;
       used = λ p. nothing_counts (log_used p) w.queues (λ i q at. ap (λ l. sum_by p l) (o.queues i q at).used);
-      entered = λ p. nothing_counts (entered_worth p) w.units (λ i u at. ap (enter_worth p) (o.units i u at).steps);
+      entered = λ p. nothing_counts (entered_count p) w.units (λ i u at. ap (enter_count p) (o.units i u at).steps);
       alive = λ p.
-          let a = nothing_counts (living_worth p) w.units (λ i u at. ap (alive_worth p) (o.units i u at).steps) in
+          let a = nothing_counts (living_count p) w.units (λ i u at. ap (alive_count p) (o.units i u at).steps) in
           omega (arith, a);
       once = λ t. sym (log (only t)) ∙ accepted_was t w (new_numbered w o);
     }

@@ -3,14 +3,14 @@ use Rattle.std.proofs.Common.{◌≡◌, ℕ, ◌<◌, ◌≤◌, ◌+◌, ◌-�
 use Rattle.std.specs.Prelude.{slice_get, ◌⊎◌}
 use Rattle.std.specs.List.{AllByRecursion}
 use Rattle.std.proofs.lemmas.Option.{slice_get_cases, slice_get_within}
-use Rattle.scsi_codec.specs.declared.event_queue.Event.{Event as Report}
+use Rattle.scsi_codec.specs.declared.event_queue.Event.{Event as EventRecord}
 use Rattle.scsi_codec.specs.EventQueue.{event_bytes}
 use Rattle.scsi_codec.specs.ControlQueue.{function_bytes}
 use Rattle.ring_core.specs.State.{PlainChain}
 use Rattle.ring_core.specs.declared.log.Ticket.{Ticket}
 use Rattle.unit_model.specs.declared.reason.Reason.{Reason}
 use Rattle.unit_model.specs.Tasks.{is_blocked}
-use Rattle.unit_model.specs.Steps.{Step, alive, floor}
+use Rattle.unit_model.specs.Steps.{Step, alive, next_number}
 use Rattle.unit_model.specs.Marks.{mark_of, marked}
 use Rattle.unit_model.specs.Enabling.{enabled}
 use Rattle.unit_model.specs.Lawful.{IsReady}
@@ -26,7 +26,7 @@ use Rattle.device_model.specs.Parts.{Outcome, as_left, Slot, Hand, bytes_of, len
 use Rattle.device_model.specs.World.{PlainQueue, Opened, PlainWorld, owner}
 use Rattle.device_model.specs.Events.{Event}
 use Rattle.device_model.specs.Transitions.{Transition, event_of}
-use Rattle.device_model.specs.Happens.{Happens, Occurrence, Reached, SeatIs, Comes, MayStep, Holds, handed_out}
+use Rattle.device_model.specs.Happens.{Happens, Occurrence, Reached, SeatIs, Comes, MayStep, HandAtUnit, handed_out}
 use Rattle.device_model.specs.Applies.{Applies, MayPut, MayCheck, MayRespond, MayTake}
 use Rattle.device_model.specs.Lawful.{AreUnits}
 use Rattle.device_model.specs.Standing.{IsOwned, SlotOwns, AreOwned, SlotIsLatest, front_of, AreBehind, AreNamedThere, FunctionOwns, IsToCommit, IsToLeave, AreAtWork, FunctionIsThere}
@@ -93,7 +93,7 @@ there xs k lt =
 
 abbrev CanEnter : PlainWorld → ℕ → PlainJob → Type 0
 CanEnter w i x =
-    (c : Comes w x) × (floor x.entry.ticket.queue c.unit.steps ≤ x.entry.ticket.number)
+    (c : Comes w x) × (next_number x.entry.ticket.queue c.unit.steps ≤ x.entry.ticket.number)
     × (length (alive c.unit.steps) ≤ 64) × (x.chain.ticket.queue ≡ i) × IsNamed x c.unit
 
 can_enter : (w : PlainWorld) (i : ℕ) (q : PlainQueue) (x : PlainJob) → IsFit w → slice_get w.queues i ≡ Some q
@@ -103,8 +103,8 @@ can_enter w i q x f at e =
     let b = f.behind i q at in
     let last : SlotIsLatest w q (Slot.Arrived x) = subst (SlotIsLatest w q) e b.latest in
     let n = length q.ring.log.accepted in
-    let below : floor i last.unit.steps ≤ front_of (Slot.Arrived x) n =
-    subst (λ s. floor i last.unit.steps ≤ front_of s n) e (b.floors x.unit last.unit last.there) in
+    let below : next_number i last.unit.steps ≤ front_of (Slot.Arrived x) n =
+    subst (λ s. next_number i last.unit.steps ≤ front_of s n) e (b.floors x.unit last.unit last.there) in
     let named : x.entry.ticket.queue ≡ i = ap (λ (t : Ticket). t.queue) own.1.ticket ∙ own.0 in
     let k = owner w.workers x.chain.ticket.queue in
     let lt : k < w.workers = mod-lt (x.chain.ticket.queue - 2) f.working in
@@ -120,7 +120,7 @@ can_enter w i q x f at e =
       seat_there = s.1;
     } in (
       comes,
-      subst (λ j. floor j last.unit.steps ≤ x.entry.ticket.number) (sym named) below,
+      subst (λ j. next_number j last.unit.steps ≤ x.entry.ticket.number) (sym named) below,
       alive_few last.unit.opening last.unit.steps (f.units x.unit last.unit last.there).lawful,
       own.0,
       f.named x i q last.unit at e last.there,
@@ -139,10 +139,10 @@ run_or_park w i x c named may e =
     ]) refl
 
 enters : (w : PlainWorld) (i : ℕ) (x : PlainJob) → CanEnter w i x → Does w (Event.Enter i)
-enters w i x (c, floor, few, e, named) =
+enters w i x (c, next_number, few, e, named) =
     elim (few_or_full (length (alive c.unit.steps)) few) [
-      | inl lt ↦ run_or_park w i x c named (lt, floor) e
-      | inr full ↦ (Transition.EnterFull x, ap Event.Enter e, record { comes = c; named = named; may = (full, floor) })
+      | inl lt ↦ run_or_park w i x c named (lt, next_number) e
+      | inr full ↦ (Transition.EnterFull x, ap Event.Enter e, record { comes = c; named = named; may = (full, next_number) })
     ]
 
 -- Direct
@@ -210,7 +210,7 @@ commits : (w : PlainWorld) (k : ℕ) (x : PlainJob) (out : List PlainJob) → Is
 commits w k x out c at =
     let t = x.entry.ticket in
     let h = c.unit.steps in
-    let holds : Holds w k (Hand.Taken x) x.unit =
+    let holds : HandAtUnit w k (Hand.Taken x) x.unit =
     record { out = out; seat = at; unit = c.unit; there = c.there } in
     (elim (marked t h) as (λ b. marked t h ≡ b → Does w (Event.Commit k)) [
       | true ↦ λ m.
@@ -342,7 +342,7 @@ responds w f h =
 
 -- Raise
 
-raises : (w : PlainWorld) (e : Report) (later : List Report) (buffers : List PlainChain) → IsFit w
+raises : (w : PlainWorld) (e : EventRecord) (later : List EventRecord) (buffers : List PlainChain) → IsFit w
     → w.waiting ≡ e ∷ later → w.buffers ≡ buffers → Does w Event.Raise
 raises w e later [] f waits held = (Transition.Miss e, refl, record { later = later; waits = waits; none = held })
 raises w e later (c ∷ more) f waits held =

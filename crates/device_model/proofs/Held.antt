@@ -15,7 +15,7 @@ use Rattle.device_model.specs.Transitions.{Transition}
 use Rattle.device_model.specs.After.{bit, arriving, taking, slotted, broken_by, completing, directing, spending, after}
 use Rattle.device_model.specs.Happens.{May, Occurrence, Reached}
 use Rattle.device_model.specs.Lawful.{AreNumbered}
-use Rattle.device_model.specs.Places.{of_chain, standing, log_accepted, log_used, accepted_worth, used_worth}
+use Rattle.device_model.specs.Places.{of_chain, standing_count, log_accepted, log_used, accepted_count, used_count}
 use Rattle.device_model.specs.Standing.{IsOwned, AreOwned, BuffersAreOutstanding}
 use Rattle.device_model.proofs.Lists.{nothing, same}
 use Rattle.device_model.proofs.Staying.{everywhere, run_keeps}
@@ -152,7 +152,7 @@ accepts_own w h i q at = subst (AreOf i) (sym (h i q at).accepted) (all_of i (le
 
 within : (w : PlainWorld) (k : ℕ) (q : PlainQueue) → slice_get w.queues k ≡ Some q → AreNumbered w → UseOwn w
     → AllByRecursion (λ (c : PlainChain). (c.ticket.queue ≡ k) × IsOwned w c) w.buffers
-    → accepted_worth (of_queue k) w ≡ standing (of_queue k) w + used_worth (of_queue k) w
+    → accepted_count (of_queue k) w ≡ standing_count (of_queue k) w + used_count (of_queue k) w
     → length w.buffers + length q.ring.log.used ≤ length q.ring.log.accepted
 within w k q at numbered uses buffers balance =
     let p = of_queue k in

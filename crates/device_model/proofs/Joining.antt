@@ -9,7 +9,7 @@ use Rattle.unit_model.specs.Unit.{PlainUnit}
 use Rattle.device_model.specs.Parts.{PlainFetch, Slot, Hand}
 use Rattle.device_model.specs.World.{PlainQueue, PlainWorld, owner}
 use Rattle.device_model.specs.Transitions.{Transition}
-use Rattle.device_model.specs.Happens.{Happens, Finds, Comes, Holds, IsMarking}
+use Rattle.device_model.specs.Happens.{Happens, Finds, Comes, HandAtUnit, IsMarking}
 use Rattle.device_model.specs.Phases.{GivesChain, SlotIs, HasSeat, HasHand, IsLeft, StandsFor, LendsUnit, LendsQueue}
 use Rattle.device_model.proofs.Lists.{same}
 
@@ -36,7 +36,7 @@ comes w x u s k at =
     }
 
 abbrev holds : (w : PlainWorld) (k : ℕ) (hand : Hand) (place : ℕ) (u : PlainUnit) → HasHand w k hand
-    → slice_get w.units place ≡ Some u → Holds w k hand place
+    → slice_get w.units place ≡ Some u → HandAtUnit w k hand place
 holds w k hand place u s at = record { out = s.0; seat = s.1; unit = u; there = at }
 
 abbrev marking : (w : PlainWorld) (t : Ticket) (place : ℕ) (kind : Kind) (u : PlainUnit) → IsLeft w t place kind

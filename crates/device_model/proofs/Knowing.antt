@@ -4,7 +4,7 @@ use Rattle.std.specs.Prelude.{slice_get}
 use Rattle.ring_core.specs.declared.log.Ticket.{Ticket}
 use Rattle.unit_model.specs.declared.reason.Reason.{Reason}
 use Rattle.unit_model.specs.Tasks.{task_of}
-use Rattle.unit_model.specs.Steps.{Step, alive, done, floor}
+use Rattle.unit_model.specs.Steps.{Step, alive, done, next_number}
 use Rattle.unit_model.specs.Marks.{mark_of, marked}
 use Rattle.unit_model.specs.Enabling.{enabled}
 use Rattle.unit_model.specs.Jobs.{PlainJob}
@@ -96,7 +96,7 @@ never_stalled old ds x w o m b h =
     let q = x.chain.ticket.queue in
     let sent = sent_there old.inventory ds w x c.queue q c.there c.arrived h.slots in
     let one = sent.job.ticket ∙ ap (λ z. z.ticket) sent.job.chain in
-    let floor_is = ap (λ (t : Ticket). floor t.queue c.unit.steps) one in
+    let floor_is = ap (λ (t : Ticket). next_number t.queue c.unit.steps) one in
     let below = (b q c.queue c.there).floors x.unit c.unit c.unit_there in
     let front = ap (λ s. front_of s (length c.queue.ring.log.accepted)) c.arrived in
     elim m.stale [

@@ -13,8 +13,8 @@ use Rattle.device_model.specs.Transitions.{Transition, event_of, action_of}
 use Rattle.device_model.specs.After.{bit, after}
 use Rattle.device_model.specs.Happens.{Occurrence, Happens, WorldStep, Runs, Reached, occurrence_of}
 use Rattle.device_model.specs.Turns.{Turns, count_changes}
-use Rattle.device_model.specs.Places.{accepted_worth, used_worth}
-use Rattle.device_model.specs.Worths.{fetches}
+use Rattle.device_model.specs.Places.{accepted_count, used_count}
+use Rattle.device_model.specs.Weights.{fetches}
 use Rattle.device_model.specs.Measure.{price, visits, answered_hand, measure}
 use Rattle.device_model.specs.Settling.{visited}
 use Rattle.device_model.specs.Waking.{IsOwn}
@@ -69,7 +69,7 @@ own_live asked w e (inl next) = own_next_of (λ q. false) w e next
 own_live asked w e (inr (quiet, next)) = subst IsOwn (sym next.2) tt
 
 accepted_live : (asked : ℕ → Bool) (p : Ticket → ℕ) (w : PlainWorld) (more : List Turn) → LiveSettlesOf asked w more
-    → accepted_worth p (live_world w more) ≡ accepted_worth p w + sum_by (fetches p) (map transition_at more)
+    → accepted_count p (live_world w more) ≡ accepted_count p w + sum_by (fetches p) (map transition_at more)
 accepted_live asked p w [] s = omega (arith)
 accepted_live asked p w (t ∷ past) s =
     let v = with_memory t.found (live_world w past) in

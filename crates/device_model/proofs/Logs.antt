@@ -12,8 +12,8 @@ use Rattle.device_model.specs.Transitions.{Transition}
 use Rattle.device_model.specs.After.{bit, arriving, taking, slotted, broken_by, completing, directing, spending, after}
 use Rattle.device_model.specs.Happens.{Occurrence, May, Reached}
 use Rattle.device_model.specs.Lawful.{AreNumbered}
-use Rattle.device_model.specs.Places.{log_used, used_worth, only}
-use Rattle.device_model.specs.Worths.{was_accepted, counts_in}
+use Rattle.device_model.specs.Places.{log_used, used_count, only}
+use Rattle.device_model.specs.Weights.{was_accepted, counts_in}
 use Rattle.device_model.proofs.Lists.{nothing, same}
 use Rattle.device_model.proofs.Named.{all_push}
 use Rattle.device_model.proofs.Sums.{counts_one, counts_two}
@@ -92,7 +92,7 @@ is_counted false h = absurd (omega (arith, h))
 
 -- a used ticket counts for its queue
 used_counts : (w : PlainWorld) (i k : ℕ) (q : PlainQueue) (t : Ticket) → slice_get w.queues i ≡ Some q
-    → slice_get q.ring.log.used k ≡ Some t → 1 ≤ used_worth (only t) w
+    → slice_get q.ring.log.used k ≡ Some t → 1 ≤ used_count (only t) w
 used_counts w i k q t at e =
     let a = counts_one (only t) k q.ring.log.used t e in
     let b = counts_one (log_used (only t)) i w.queues q at in
@@ -102,7 +102,7 @@ used_counts w i k q t at e =
 -- and twice where it stands at two places
 used_twice : (w : PlainWorld) (i j k : ℕ) (q : PlainQueue) (t : Ticket) → slice_get w.queues i ≡ Some q
     → slice_get q.ring.log.used j ≡ Some t → slice_get q.ring.log.used k ≡ Some t → eqb j k ≡ false
-    → 2 ≤ used_worth (only t) w
+    → 2 ≤ used_count (only t) w
 used_twice w i j k q t at e h n =
     let a = counts_two (only t) j k q.ring.log.used t t n e h in
     let b = counts_one (log_used (only t)) i w.queues q at in

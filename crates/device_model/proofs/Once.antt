@@ -8,7 +8,7 @@ use Rattle.ring_core.specs.State.{tickets}
 use Rattle.ring_core.specs.declared.log.Ticket.{Ticket}
 use Rattle.device_model.specs.World.{PlainWorld, Everywhere}
 use Rattle.device_model.specs.After.{bit}
-use Rattle.device_model.specs.Places.{standing, log_accepted, accepted_worth, used_worth, only}
+use Rattle.device_model.specs.Places.{standing_count, log_accepted, accepted_count, used_count, only}
 use Rattle.device_model.proofs.Places.{nothing_counts}
 
 abbrev ticket : ℕ → ℕ → Ticket
@@ -36,16 +36,16 @@ not_here t i (suc n) e =
 abbrev UpTo : Ticket → ℕ → ℕ → Type 0
 UpTo t i n = (sum_by (only t) (tickets i n) ≤ 1) × (n ≤ t.number → sum_by (only t) (tickets i n) ≡ 0)
 
-worth_at_most : (b : Bool) → bit b ≤ 1
-worth_at_most true = omega (arith)
-worth_at_most false = omega (arith)
+weight_at_most : (b : Bool) → bit b ≤ 1
+weight_at_most true = omega (arith)
+weight_at_most false = omega (arith)
 
 never : (b : Bool) → bit (b && false) ≡ 0
 never true = refl
 never false = refl
 
 at_most : (t s : Ticket) → only t s ≤ 1
-at_most t s = worth_at_most (eqb t.queue s.queue && eqb t.number s.number)
+at_most t s = weight_at_most (eqb t.queue s.queue && eqb t.number s.number)
 
 -- a ticket of another number
 other : (t : Ticket) (i n : ℕ) → eqb t.number n ≡ false → only t (ticket i n) ≡ 0
@@ -85,13 +85,13 @@ at_one f (suc k) (x ∷ xs) h o =
 
 pub accepted_once : (t : Ticket) (w : PlainWorld)
     → Everywhere (λ i q. q.ring.log.accepted ≡ tickets i (length q.ring.log.accepted)) w.queues
-    → accepted_worth (only t) w ≤ 1
+    → accepted_count (only t) w ≤ 1
 accepted_once t w h =
     at_one (log_accepted (only t)) t.queue w.queues
     (λ i q at. subst (λ l. sum_by (only t) l ≤ 1) (sym (h i q at)) (up_to t i (length q.ring.log.accepted)).0)
     (λ i q at e. ap (λ l. sum_by (only t) l) (h i q at) ∙ not_here t i (length q.ring.log.accepted) e)
 
-pub once : (t : Ticket) (w : PlainWorld) → accepted_worth (only t) w ≡ standing (only t) w + used_worth (only t) w
+pub once : (t : Ticket) (w : PlainWorld) → accepted_count (only t) w ≡ standing_count (only t) w + used_count (only t) w
     → Everywhere (λ i q. q.ring.log.accepted ≡ tickets i (length q.ring.log.accepted)) w.queues
-    → standing (only t) w + used_worth (only t) w ≤ 1
+    → standing_count (only t) w + used_count (only t) w ≤ 1
 once t w b h = let a = accepted_once t w h in omega (arith, a, b)

@@ -2,7 +2,7 @@
 use Rattle.std.proofs.Common.{◌≡◌, ℕ, ◌+◌, ◌≤◌, List, [], ◌∷◌, Option, Some, refl, ap, subst, arith, inl, inr}
 use Rattle.std.specs.List.{sum_by}
 use Rattle.std.proofs.lemmas.List.Sums.{sum_by-cons}
-use Rattle.replies.specs.PlainReply.{PlainReply}
+use Rattle.command_model.specs.PlainReply.{PlainReply}
 use Rattle.ring_core.specs.declared.log.Ticket.{Ticket}
 use Rattle.unit_model.specs.Steps.{Step}
 use Rattle.device_model.specs.Parts.{PlainFetch}
@@ -10,8 +10,8 @@ use Rattle.device_model.specs.World.{PlainWorld, Opens}
 use Rattle.device_model.specs.Transitions.{Transition}
 use Rattle.device_model.specs.Happens.{Leads}
 use Rattle.device_model.specs.Places.{only}
-use Rattle.device_model.specs.Worths.{fetches, directs, answers}
-use Rattle.device_model.specs.Inner.Worths.{ends}
+use Rattle.device_model.specs.Weights.{fetches, directs, answers}
+use Rattle.device_model.specs.Inner.Weights.{ends}
 use Rattle.device_model.specs.Happened.{Happened, IsFetch, IsAnswer}
 use Rattle.device_model.specs.Inner.Happened.{IsCommit}
 use Rattle.device_model.specs.Histories.{step_of, history_of, Stands}

@@ -98,7 +98,7 @@ owns_but s c u other o =
 same_number : {a b : OutstandingChain} → Some a ≡ Some b → a.number ≡ b.number
 same_number e = cc
 
--- a ticket that is not worth anything to another is not that one
+-- a ticket that has no weight for another is not that one
 only_one : (t u : Ticket) → u.queue ≡ t.queue → u.number ≡ t.number → only t u ≡ 0 → ⊥
 only_one t u q n e =
     let a = ap (λ z. bit (z && eqb t.number u.number)) (eq-eqb t.queue u.queue (sym q)) in

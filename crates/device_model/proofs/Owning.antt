@@ -14,7 +14,7 @@ use Rattle.device_model.specs.Transitions.{Transition}
 use Rattle.device_model.specs.After.{bit, arriving, taking, slotted, broken_by, completing, directing, spending, after}
 use Rattle.device_model.specs.Happens.{May, Finds, Occurrence, Runs}
 use Rattle.device_model.specs.Lawful.{AreNumbered}
-use Rattle.device_model.specs.Places.{only, standing}
+use Rattle.device_model.specs.Places.{only, standing_count}
 use Rattle.device_model.specs.Standing.{IsOwned, IsJob, AreOwned, SlotOwns, HandOwns, FunctionOwns}
 use Rattle.device_model.proofs.Lists.{same, get_change, there_change, at_other}
 use Rattle.device_model.proofs.Staying.{run_keeps}
@@ -22,7 +22,7 @@ use Rattle.device_model.proofs.Numbering.{new_numbered, transition_numbers}
 use Rattle.device_model.proofs.Places.{moves, balanced}
 use Rattle.device_model.proofs.Once.{once}
 use Rattle.device_model.proofs.Outstanding.{free, owns_accepting, owns_using, owns_spending}
-use Rattle.device_model.proofs.Chains.{Stand, JobsOwn, BufferOwns, Brings, worthless, places, turn, no_worth}
+use Rattle.device_model.proofs.Chains.{Stand, JobsOwn, BufferOwns, Brings, weightless, places, turn, no_weight}
 use Rattle.device_model.proofs.Off.{none_off}
 
 -- One queue changes
@@ -152,7 +152,7 @@ spared (Transition.Direct c o xs) = only c.ticket
 spared (Transition.Answer k x o xs) = only x.chain.ticket
 spared (Transition.Respond c r xs) = only c.ticket
 spared (Transition.Give e c xs) = only c.ticket
-spared d = worthless
+spared d = weightless
 
 -- a chain is used: another stays owned
 used : (w v : PlainWorld) (g : PlainQueue → PlainQueue) (u : PlainChain) (q : PlainQueue) (c : PlainChain)
@@ -189,7 +189,7 @@ then_owned d w m h c o z = o
 -- the chain that was used stands nowhere
 
 abbrev AtMostOnce : PlainWorld → Type 0
-AtMostOnce w = (t : Ticket) → standing (only t) w ≤ 1
+AtMostOnce w = (t : Ticket) → standing_count (only t) w ≤ 1
 
 -- a ticket counts itself
 itself : (t : Ticket) → only t t ≡ 1
@@ -205,31 +205,31 @@ none_left t old new l e =
     omega (arith, a, b, l, e)
 
 -- what a transition used is none of what stands
-stands_nowhere : (d : Transition) (w : PlainWorld) → May d w → AtMostOnce w → standing (spared d) (after d w) ≡ 0
+stands_nowhere : (d : Transition) (w : PlainWorld) → May d w → AtMostOnce w → standing_count (spared d) (after d w) ≡ 0
 stands_nowhere (Transition.Direct c o xs) w m a =
     let p = only c.ticket in
     let d = Transition.Direct c o xs in
-    none_left c.ticket (standing p w) (standing p (after d w)) (a c.ticket) (moves p d w m).standing
+    none_left c.ticket (standing_count p w) (standing_count p (after d w)) (a c.ticket) (moves p d w m).standing
 stands_nowhere (Transition.Answer k x o xs) w m a =
     let p = only x.chain.ticket in
     let d = Transition.Answer k x o xs in
-    none_left x.chain.ticket (standing p w) (standing p (after d w)) (a x.chain.ticket) (moves p d w m).standing
+    none_left x.chain.ticket (standing_count p w) (standing_count p (after d w)) (a x.chain.ticket) (moves p d w m).standing
 stands_nowhere (Transition.Respond c r xs) w m a =
     let p = only c.ticket in
     let d = Transition.Respond c r xs in
-    none_left c.ticket (standing p w) (standing p (after d w)) (a c.ticket) (moves p d w m).standing
+    none_left c.ticket (standing_count p w) (standing_count p (after d w)) (a c.ticket) (moves p d w m).standing
 stands_nowhere (Transition.Give e c xs) w m a =
     let p = only c.ticket in
     let d = Transition.Give e c xs in
-    none_left c.ticket (standing p w) (standing p (after d w)) (a c.ticket) (moves p d w m).standing
-stands_nowhere (Transition.Poke x) w m a = no_worth (after (Transition.Poke x) w)
-stands_nowhere d w m a = no_worth (after d w)
+    none_left c.ticket (standing_count p w) (standing_count p (after d w)) (a c.ticket) (moves p d w m).standing
+stands_nowhere (Transition.Poke x) w m a = no_weight (after (Transition.Poke x) w)
+stands_nowhere d w m a = no_weight (after d w)
 
 -- each transition leaves what stands owned
 transition_owns : (d : Transition) (w : PlainWorld) → May d w → AtMostOnce w → Stand w w → Stand (after d w) (after d w)
 transition_owns d w m a h =
     let v = meantime d w in
-    let before = turn worthless w v w (λ c o z. first_owned d w m c o) (no_worth w) h in
+    let before = turn weightless w v w (λ c o z. first_owned d w m c o) (no_weight w) h in
     let moved = places v d w m (brought d w m) before in
     turn (spared d) v (after d w) (after d w) (then_owned d w m h) (stands_nowhere d w m a) moved
 

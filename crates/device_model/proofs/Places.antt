@@ -19,7 +19,7 @@ use Rattle.device_model.specs.Transitions.{Transition}
 use Rattle.device_model.specs.After.{arriving, taking, slotted, broken_by, completing, directing, spending, with_chain, on_function, hard_code, after}
 use Rattle.device_model.specs.Happens.{May, Finds, handed_out, Occurrence, Runs}
 use Rattle.device_model.specs.Laws.{at_seat, in_hand}
-use Rattle.device_model.specs.Places.{of_chain, of_job, of_slot, of_function, at_queue, at_unit, standing, log_accepted, log_used, accepted_worth, used_worth, accepted_chains, used_chains, Moves}
+use Rattle.device_model.specs.Places.{of_chain, of_job, of_slot, of_function, at_queue, at_unit, standing_count, log_accepted, log_used, accepted_count, used_count, accepted_chains, used_chains, Moves}
 use Rattle.device_model.proofs.Jobs.{sum_change, turns, kept}
 use Rattle.device_model.proofs.Off.{none_off}
 
@@ -301,7 +301,7 @@ nothing_counts f (x ∷ xs) e =
     omega (arith, a, b, c)
 
 abbrev Balanced : (Ticket → ℕ) → PlainWorld → Type 0
-Balanced p w = accepted_worth p w ≡ standing p w + used_worth p w
+Balanced p w = accepted_count p w ≡ standing_count p w + used_count p w
 
 starts : (p : Ticket → ℕ) (w : PlainWorld) → Opens w → Balanced p w
 starts p w o =
@@ -341,7 +341,7 @@ as_many f g e (q ∷ qs) =
     let d = e q in
     omega (arith, a, b, c, d)
 
-pub counted : (w : PlainWorld) → Balanced (λ t. 1) w → accepted_chains w ≡ standing (λ t. 1) w + used_chains w
+pub counted : (w : PlainWorld) → Balanced (λ t. 1) w → accepted_chains w ≡ standing_count (λ t. 1) w + used_chains w
 counted w b =
     let p : Ticket → ℕ = λ t. 1 in
     let x = as_many (log_accepted p) (λ q. length q.ring.log.accepted) (λ q. ones q.ring.log.accepted) w.queues in

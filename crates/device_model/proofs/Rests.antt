@@ -4,7 +4,7 @@ use Rattle.std.specs.Prelude.{slice_get}
 use Rattle.std.specs.List.{sum_by, list_all, AllByRecursion}
 use Rattle.std.proofs.lemmas.Option.{slice_get_within, slice_get_cases}
 use Rattle.std.proofs.lemmas.List.Sums.{sum_by-cons}
-use Rattle.scsi_codec.specs.declared.event_queue.Event.{Event as Report}
+use Rattle.scsi_codec.specs.declared.event_queue.Event.{Event as EventRecord}
 use Rattle.ring_core.specs.declared.descriptor.Part.{Part}
 use Rattle.ring_core.specs.declared.fault.RingFault.{RingFault}
 use Rattle.ring_core.specs.State.{RingState, PlainChain}
@@ -16,8 +16,8 @@ use Rattle.unit_model.specs.Tasks.{Entry, any_task, task_of}
 use Rattle.unit_model.specs.Steps.{Step, alive, is_alive}
 use Rattle.unit_model.specs.Clearing.{met_at, is_clear}
 use Rattle.unit_model.specs.Enabling.{is_parked}
-use Rattle.unit_model.specs.Worths.{worth, alive_worth, each_one}
-use Rattle.unit_model.proofs.Worth.{worth_filter}
+use Rattle.unit_model.specs.Weights.{weight, alive_count, each_one}
+use Rattle.unit_model.proofs.Weight.{weight_filter}
 use Rattle.unit_model.proofs.Fewer.{parked_fewer}
 use Rattle.unit_model.specs.Jobs.{PlainJob}
 use Rattle.unit_model.specs.Unit.{PlainUnit, tasks_of_jobs, IsUnit}
@@ -27,12 +27,12 @@ use Rattle.device_model.specs.World.{PlainQueue, Seat, Opened, PlainWorld, Every
 use Rattle.device_model.specs.Events.{Event}
 use Rattle.device_model.specs.Happens.{Occurrence, Reached, IsOpenTo}
 use Rattle.device_model.specs.Laws.{in_hand, at_seat}
-use Rattle.device_model.specs.Places.{of_chain, of_job, of_function, of_slot, at_queue, at_unit, accepted_worth, used_worth, only}
+use Rattle.device_model.specs.Places.{of_chain, of_job, of_function, of_slot, at_queue, at_unit, accepted_count, used_count, only}
 use Rattle.device_model.specs.Standing.{IsOwned, FunctionIsThere}
 use Rattle.device_model.proofs.Places.{nothing_counts, balanced}
 use Rattle.device_model.proofs.Staying.{run_stays, run_keeps, units_listed}
 use Rattle.device_model.proofs.Owning.{owned}
-use Rattle.device_model.proofs.Tasks.{own, hand_worth, seat_worth, of_place, out_worth}
+use Rattle.device_model.proofs.Tasks.{own, hand_count, seat_count, of_place, out_count}
 use Rattle.device_model.proofs.Working.{run_works}
 use Rattle.device_model.proofs.Functions.{FindsUnits, new_finds, transition_finds}
 use Rattle.device_model.specs.Order.{IsNext, IsQuiet, IsAtRest, IsQuietOf, IsAtRestOf}
@@ -88,11 +88,11 @@ none_handed_off w s k (x ∷ rest) works at e never off =
 
 -- Units
 
--- what the tasks of jobs are worth
-jobs_worth : (p : Ticket → ℕ) (jobs : List PlainJob) → sum_by (own p) jobs ≡ worth p (tasks_of_jobs jobs)
-jobs_worth p [] = refl
-jobs_worth p (j ∷ jobs) =
-    let a = jobs_worth p jobs in
+-- the weight of the tasks of jobs
+jobs_count : (p : Ticket → ℕ) (jobs : List PlainJob) → sum_by (own p) jobs ≡ weight p (tasks_of_jobs jobs)
+jobs_count p [] = refl
+jobs_count p (j ∷ jobs) =
+    let a = jobs_count p jobs in
     let b = sum_by-cons (own p) j jobs in
     omega (arith, a, b)
 
@@ -101,14 +101,14 @@ any_none [] h = refl
 any_none (e ∷ es) h = absurd (h refl)
 
 -- as many alive as parked: none alive
-none_alive : (u : PlainUnit) → IsUnit u → alive_worth each_one u.steps ≡ sum_by (own each_one) u.parked
+none_alive : (u : PlainUnit) → IsUnit u → alive_count each_one u.steps ≡ sum_by (own each_one) u.parked
     → alive u.steps ≡ []
 none_alive u is e =
     any_none (alive u.steps) (λ some.
     let lt = parked_fewer u.steps some in
-    let a = jobs_worth each_one u.parked in
-    let b = ap (worth each_one) is.holds in
-    let c = worth_filter each_one (is_parked u.steps) (alive u.steps) in
+    let a = jobs_count each_one u.parked in
+    let b = ap (weight each_one) is.holds in
+    let c = weight_filter each_one (is_parked u.steps) (alive u.steps) in
     omega (arith, lt, e, a, b, c))
 
 no_jobs_left : (jobs : List PlainJob) → tasks_of_jobs jobs ≡ [] → jobs ≡ []
@@ -211,13 +211,13 @@ nothing_there w i q at empty closed never unbroken =
 
 -- The port
 
-no_report : (w : PlainWorld) (l : List Report) → w.waiting ≡ l → Never w Event.Raise → l ≡ []
+no_report : (w : PlainWorld) (l : List EventRecord) → w.waiting ≡ l → Never w Event.Raise → l ≡ []
 no_report w [] e never = refl
 no_report w (report ∷ later) e never = absurd (never (report, later, e))
 
-bare_seat : (n : ℕ) (s : Seat) → EmptySeat s → seat_worth n each_one s ≡ 0
+bare_seat : (n : ℕ) (s : Seat) → EmptySeat s → seat_count n each_one s ≡ 0
 bare_seat n s e =
-    let a = ap (hand_worth n each_one) e.hand in
+    let a = ap (hand_count n each_one) e.hand in
     let b = ap (λ l. sum_by (of_place n each_one) l) e.out in
     omega (arith, a, b)
 
@@ -252,8 +252,8 @@ quiet_rests_of asked old trace w r h =
           none_handed_off w q.0 k jobs works q.2 (seats 0 q.0 q.2) (quiet.seats 0 first).take at)
       | inr q ↦ absurd (let le = q.0 in omega (arith, le, first))
     ] in
-    let under_way : (n : ℕ) → out_worth n each_one w.seats (all_off w) ≡ 0 = λ n.
-    let a = nothing_counts (seat_worth n each_one) w.seats (λ k s at. bare_seat n s (seats k s at)) in
+    let under_way : (n : ℕ) → out_count n each_one w.seats (all_off w) ≡ 0 = λ n.
+    let a = nothing_counts (seat_count n each_one) w.seats (λ k s at. bare_seat n s (seats k s at)) in
     let b = ap (λ l. sum_by (of_place n each_one) l) off in
     omega (arith, a, b) in
     let idle : AreIdle w = λ i u at.
@@ -296,7 +296,7 @@ quiet_rests old trace w r h =
 
 -- where a chain is outstanding that is no event buffer, an event is next
 pub next_there : (old : PlainWorld) (trace : List Occurrence) (w : PlainWorld) (t : Ticket) → Reached old trace w
-    → used_worth (only t) w < accepted_worth (only t) w → sum_by (of_chain (only t)) w.buffers ≡ 0
+    → used_count (only t) w < accepted_count (only t) w → sum_by (of_chain (only t)) w.buffers ≡ 0
     → (e : Event) × IsNext w e
 next_there old trace w t r out no_buffer =
     elim (next_or_quiet w) [

@@ -6,9 +6,9 @@ use Rattle.std.proofs.lemmas.Bool.{eq-eqb}
 use Rattle.std.proofs.lemmas.List.Sums.{sum_by-cons}
 use Rattle.std.proofs.lemmas.Option.{slice_get_within}
 use Rattle.unit_model.specs.Steps.{alive}
-use Rattle.unit_model.specs.Worths.{each_one}
+use Rattle.unit_model.specs.Weights.{each_one}
 use Rattle.unit_model.proofs.Tickets.{clash}
-use Rattle.unit_model.proofs.Worth.{worth_ones}
+use Rattle.unit_model.proofs.Weight.{weight_ones}
 use Rattle.unit_model.proofs.Few.{alive_few}
 use Rattle.unit_model.specs.Jobs.{PlainJob}
 use Rattle.unit_model.specs.Unit.{PlainUnit}
@@ -18,7 +18,7 @@ use Rattle.device_model.specs.After.{after, with_job}
 use Rattle.device_model.specs.Happens.{May, Occurrence, Runs}
 use Rattle.device_model.proofs.Staying.{run_keeps, run_stays, everywhere}
 use Rattle.device_model.proofs.Sums.{counts_one}
-use Rattle.device_model.proofs.Tasks.{of_place, seat_worth}
+use Rattle.device_model.proofs.Tasks.{of_place, seat_count}
 use Rattle.device_model.proofs.Working.{ToCommit, Works}
 use Rattle.device_model.proofs.Lists.{same}
 
@@ -93,9 +93,9 @@ few_of w k s h at n l =
     let u = below_found w.units n l in
     let is = h.0 n u.0 u.1 in
     let b = h.2 n each_one u.0 u.1 in
-    let o = worth_ones (alive u.0.steps) in
+    let o = weight_ones (alive u.0.steps) in
     let f = alive_few u.0.opening u.0.steps is.lawful in
-    let c = counts_one (seat_worth n each_one) k w.seats s at in
+    let c = counts_one (seat_count n each_one) k w.seats s at in
     omega (arith, b, o, f, c)
 
 pub seats_room : (w : PlainWorld) → Works w → Everywhere (λ k s. length s.out ≤ 64 * length w.units) w.seats

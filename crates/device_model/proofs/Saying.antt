@@ -5,7 +5,7 @@ use Rattle.std.specs.List.{AllByRecursion}
 use Rattle.scsi_codec.specs.declared.lun.Address.{Address}
 use Rattle.ring_core.specs.State.{PlainChain}
 use Rattle.ring_core.specs.Writes.{all_written}
-use Rattle.decisions.specs.declared.decision.Decision.TheVariants as decision
+use Rattle.request_intake.specs.declared.decision.Decision.TheVariants as decision
 use Rattle.unit_model.specs.Endings.{Ending}
 use Rattle.unit_model.specs.Steps.{Step}
 use Rattle.unit_model.specs.Released.{released}

@@ -9,7 +9,7 @@ use Rattle.ring_core.specs.declared.log.Ticket.{Ticket}
 use Rattle.unit_model.specs.Endings.{Ending}
 use Rattle.unit_model.specs.Steps.{Step, alive}
 use Rattle.unit_model.specs.Released.{released}
-use Rattle.unit_model.specs.Worths.{worth, alive_worth}
+use Rattle.unit_model.specs.Weights.{weight, alive_count}
 use Rattle.unit_model.proofs.Parked.{alive_enter, alive_leave}
 use Rattle.unit_model.specs.Jobs.{PlainJob, is_job_of, of_tasks}
 use Rattle.unit_model.specs.Unit.{PlainUnit, after as stepped, parking}
@@ -36,25 +36,25 @@ own p x = p x.entry.ticket
 abbrev pub of_place : ℕ → (Ticket → ℕ) → PlainJob → ℕ
 of_place n p x = cond (eqb x.unit n) (p x.entry.ticket) 0
 
-abbrev pub hand_worth : ℕ → (Ticket → ℕ) → Hand → ℕ
-hand_worth n p Hand.Empty = 0
-hand_worth n p (Hand.Taken x) = of_place n p x
-hand_worth n p (Hand.Done x o) = of_place n p x
-hand_worth n p (Hand.Answered place t) = cond (eqb place n) (p t) 0
+abbrev pub hand_count : ℕ → (Ticket → ℕ) → Hand → ℕ
+hand_count n p Hand.Empty = 0
+hand_count n p (Hand.Taken x) = of_place n p x
+hand_count n p (Hand.Done x o) = of_place n p x
+hand_count n p (Hand.Answered place t) = cond (eqb place n) (p t) 0
 
-abbrev pub seat_worth : ℕ → (Ticket → ℕ) → Seat → ℕ
-seat_worth n p s = hand_worth n p s.hand + sum_by (of_place n p) s.out
+abbrev pub seat_count : ℕ → (Ticket → ℕ) → Seat → ℕ
+seat_count n p s = hand_count n p s.hand + sum_by (of_place n p) s.out
 
-abbrev pub out_worth : ℕ → (Ticket → ℕ) → List Seat → List PlainJob → ℕ
-out_worth n p seats off = sum_by (seat_worth n p) seats + sum_by (of_place n p) off
+abbrev pub out_count : ℕ → (Ticket → ℕ) → List Seat → List PlainJob → ℕ
+out_count n p seats off = sum_by (seat_count n p) seats + sum_by (of_place n p) off
 
 -- the tasks alive of the unit are those that it holds jobs of, and this many
 abbrev UnitBalances : ℕ → (Ticket → ℕ) → List PlainUnit → ℕ → Type 0
 UnitBalances n p us out =
-    (u : PlainUnit) → slice_get us n ≡ Some u → alive_worth p u.steps ≡ sum_by (own p) u.parked + out
+    (u : PlainUnit) → slice_get us n ≡ Some u → alive_count p u.steps ≡ sum_by (own p) u.parked + out
 
 abbrev pub AreBalanced : PlainWorld → Type 0
-AreBalanced w = (n : ℕ) (p : Ticket → ℕ) → UnitBalances n p w.units (out_worth n p w.seats (all_off w))
+AreBalanced w = (n : ℕ) (p : Ticket → ℕ) → UnitBalances n p w.units (out_count n p w.seats (all_off w))
 
 -- Seats
 
@@ -64,39 +64,39 @@ seat hand out = record { hand = hand; out = out }
 -- a seat gets jobs
 gets : (n : ℕ) (p : Ticket → ℕ) (k : ℕ) (seats : List Seat) (s : Seat) (jobs : List PlainJob)
     → slice_get seats k ≡ Some s
-    → sum_by (seat_worth n p) (change (with_jobs jobs) k seats)
-    ≡ sum_by (seat_worth n p) seats + sum_by (of_place n p) jobs
+    → sum_by (seat_count n p) (change (with_jobs jobs) k seats)
+    ≡ sum_by (seat_count n p) seats + sum_by (of_place n p) jobs
 gets n p k seats s jobs at =
-    let c = sum_change (seat_worth n p) (with_jobs jobs) k seats s at in
+    let c = sum_change (seat_count n p) (with_jobs jobs) k seats s at in
     let a = sum_by-append (of_place n p) s.out jobs in
     omega (arith, c, a)
 
 -- a seat's hand changes
 turns : (n : ℕ) (p : Ticket → ℕ) (k : ℕ) (seats : List Seat) (old new : Hand) (out : List PlainJob)
     → slice_get seats k ≡ Some (seat old out)
-    → sum_by (seat_worth n p) (change (with_hand new) k seats) + hand_worth n p old
-    ≡ sum_by (seat_worth n p) seats + hand_worth n p new
+    → sum_by (seat_count n p) (change (with_hand new) k seats) + hand_count n p old
+    ≡ sum_by (seat_count n p) seats + hand_count n p new
 turns n p k seats old new out at =
-    let c = sum_change (seat_worth n p) (with_hand new) k seats (seat old out) at in
+    let c = sum_change (seat_count n p) (with_hand new) k seats (seat old out) at in
     omega (arith, c)
 
 -- a free seat's first job goes
 goes : (n : ℕ) (p : Ticket → ℕ) (k : ℕ) (seats : List Seat) (new : Hand) (x : PlainJob) (rest : List PlainJob)
     → slice_get seats k ≡ Some (seat Hand.Empty (x ∷ rest))
-    → sum_by (seat_worth n p) (change (without_first new) k seats) + of_place n p x
-    ≡ sum_by (seat_worth n p) seats + hand_worth n p new
+    → sum_by (seat_count n p) (change (without_first new) k seats) + of_place n p x
+    ≡ sum_by (seat_count n p) seats + hand_count n p new
 goes n p k seats new x rest at =
-    let c = sum_change (seat_worth n p) (without_first new) k seats (seat Hand.Empty (x ∷ rest)) at in
+    let c = sum_change (seat_count n p) (without_first new) k seats (seat Hand.Empty (x ∷ rest)) at in
     let a = sum_by-cons (of_place n p) x rest in
     omega (arith, c, a)
 
 -- a seat's task leaves
 frees : (n : ℕ) (p : Ticket → ℕ) (k : ℕ) (seats : List Seat) (old : Hand) (out jobs : List PlainJob)
     → slice_get seats k ≡ Some (seat old out)
-    → sum_by (seat_worth n p) (change (leaving jobs) k seats) + hand_worth n p old
-    ≡ sum_by (seat_worth n p) seats + sum_by (of_place n p) jobs
+    → sum_by (seat_count n p) (change (leaving jobs) k seats) + hand_count n p old
+    ≡ sum_by (seat_count n p) seats + sum_by (of_place n p) jobs
 frees n p k seats old out jobs at =
-    let c = sum_change (seat_worth n p) (leaving jobs) k seats (seat old out) at in
+    let c = sum_change (seat_count n p) (leaving jobs) k seats (seat old out) at in
     let a = sum_by-append (of_place n p) out jobs in
     omega (arith, c, a)
 
@@ -114,8 +114,8 @@ gone n p d = 0
 
 abbrev Flows : ℕ → (Ticket → ℕ) → Transition → PlainWorld → Type 0
 Flows n p d w =
-    out_worth n p (after d w).seats (all_off (after d w)) + gone n p d
-    ≡ out_worth n p w.seats (all_off w) + came n p d
+    out_count n p (after d w).seats (all_off (after d w)) + gone n p d
+    ≡ out_count n p w.seats (all_off w) + came n p d
 
 -- a transition adds what it brings to what is under way, and takes away what leaves
 flows : (n : ℕ) (p : Ticket → ℕ) (d : Transition) (w : PlainWorld) → May d w → AreNamed w → Flows n p d w
@@ -166,7 +166,7 @@ flows n p d w m h = omega (arith)
 -- one unit goes on: its tasks gain what the jobs under way do
 moves : (n : ℕ) (p : Ticket → ℕ) (g : PlainUnit → PlainUnit) (k : ℕ) (us : List PlainUnit) (u : PlainUnit)
     (a b out out' : ℕ) → slice_get us k ≡ Some u
-    → alive_worth p (g u).steps + sum_by (own p) u.parked + b ≡ alive_worth p u.steps + sum_by (own p) (g u).parked + a
+    → alive_count p (g u).steps + sum_by (own p) u.parked + b ≡ alive_count p u.steps + sum_by (own p) (g u).parked + a
     → out' + cond (eqb k n) b 0 ≡ out + cond (eqb k n) a 0
     → UnitBalances n p us out → UnitBalances n p (change g k us) out'
 moves n p g k us u a b out out' at e f h y there =
@@ -179,13 +179,13 @@ moves n p g k us u a b out out' at e f h y there =
           let here = eq-eqb k n (sym q.0) in
           let fa = ap (λ c. cond c a 0) here in
           let fb = ap (λ c. cond c b 0) here in
-          let old' = subst (λ (z : PlainUnit). alive_worth p z.steps ≡ sum_by (own p) z.parked + out) is old in
-          subst (λ (z : PlainUnit). alive_worth p z.steps ≡ sum_by (own p) z.parked + out') (sym now)
+          let old' = subst (λ (z : PlainUnit). alive_count p z.steps ≡ sum_by (own p) z.parked + out) is old in
+          subst (λ (z : PlainUnit). alive_count p z.steps ≡ sum_by (own p) z.parked + out') (sym now)
           (omega (arith, old', e, f, fa, fb))
       | inr q ↦
           let fa = ap (λ c. cond c a 0) q.0 in
           let fb = ap (λ c. cond c b 0) q.0 in
-          subst (λ (z : PlainUnit). alive_worth p z.steps ≡ sum_by (own p) z.parked + out') (sym q.1)
+          subst (λ (z : PlainUnit). alive_count p z.steps ≡ sum_by (own p) z.parked + out') (sym q.1)
           (omega (arith, old, f, fa, fb))
     ]
 
@@ -240,7 +240,7 @@ gives : (n : ℕ) (p : Ticket → ℕ) (s : Step) (k : ℕ) (us : List PlainUnit
 gives n p s k us u jobs out out' at same_alive e holds f h =
     let c = parted p s u in
     let j = ap (λ l. sum_by (of_place n p) l) e ∙ for_place n p k (handed_out u s) (given_own s k us u at holds) in
-    let a = ap (worth p) same_alive in
+    let a = ap (weight p) same_alive in
     let z = nought (eqb k n) in
     moves n p (stepped s) k us u (sum_by (own p) (handed_out u s)) 0 out out' at (omega (arith, c, a))
     (omega (arith, f, j, z)) h
@@ -251,7 +251,7 @@ calm : (n : ℕ) (p : Ticket → ℕ) (s : Step) (k : ℕ) (us : List PlainUnit)
     → UnitBalances n p us out → UnitBalances n p (change (stepped s) k us) out'
 calm n p s k us u out out' at same_alive none f h =
     let c = keeps_all p s u none in
-    let a = ap (worth p) same_alive in
+    let a = ap (weight p) same_alive in
     let z = nought (eqb k n) in
     moves n p (stepped s) k us u 0 0 out out' at (omega (arith, c, a)) (omega (arith, f, z)) h
 
@@ -262,8 +262,8 @@ same_mark (Reset c) past = refl
 pub transition_balances : (d : Transition) (w : PlainWorld) → May d w → AreNamed w → AreBalanced w → AreBalanced (after d w)
 transition_balances (Transition.Run x) w m names h n p =
     let d = Transition.Run x in
-    let out = out_worth n p w.seats (all_off w) in
-    let out' = out_worth n p (after d w).seats (all_off (after d w)) in
+    let out = out_count n p w.seats (all_off w) in
+    let out' = out_count n p (after d w).seats (all_off (after d w)) in
     let u = m.comes.unit in
     let c = keeps_all p (Step.Enter x.entry) u refl in
     let a = alive_enter p x.entry u.steps in
@@ -272,32 +272,32 @@ transition_balances (Transition.Run x) w m names h n p =
     moves n p (stepped (Step.Enter x.entry)) x.unit w.units u (p x.entry.ticket) 0 out out' m.comes.unit_there
     (omega (arith, c, a)) (omega (arith, f, z)) (h n p)
 transition_balances (Transition.Park x) w m names h n p =
-    let out = out_worth n p w.seats (all_off w) in
+    let out = out_count n p w.seats (all_off w) in
     let u = m.comes.unit in
     let c = sum_by_push (own p) u.parked x in
     let a = alive_enter p x.entry u.steps in
     moves n p (parking x) x.unit w.units u 0 0 out out m.comes.unit_there (omega (arith, c, a)) refl (h n p)
 transition_balances (Transition.EnterFull x) w m names h n p =
-    let out = out_worth n p w.seats (all_off w) in
+    let out = out_count n p w.seats (all_off w) in
     calm n p (Step.Full x.entry.ticket) x.unit w.units m.comes.unit out out m.comes.unit_there refl refl refl (h n p)
 transition_balances (Transition.Commit k x r) w m names h n p =
     let d = Transition.Commit k x r in
-    let out = out_worth n p w.seats (all_off w) in
-    let out' = out_worth n p (after d w).seats (all_off (after d w)) in
+    let out = out_count n p w.seats (all_off w) in
+    let out' = out_count n p (after d w).seats (all_off (after d w)) in
     calm n p (Step.Commit x.entry.ticket r) x.unit w.units m.holds.unit out out' m.holds.there refl refl
     (flows n p d w m names) (h n p)
 transition_balances (Transition.CommitBusy k x) w m names h n p =
     let d = Transition.CommitBusy k x in
-    let out = out_worth n p w.seats (all_off w) in
-    let out' = out_worth n p (after d w).seats (all_off (after d w)) in
+    let out = out_count n p w.seats (all_off w) in
+    let out' = out_count n p (after d w).seats (all_off (after d w)) in
     calm n p (Step.Busy x.entry.ticket) x.unit w.units m.holds.unit out out' m.holds.there refl refl
     (flows n p d w m names) (h n p)
 transition_balances (Transition.Leave k place t jobs) w m names h n p =
     let d = Transition.Leave k place t jobs in
     let s = Step.Leave t in
     let u = m.holds.unit in
-    let out = out_worth n p w.seats (all_off w) in
-    let out' = out_worth n p (after d w).seats (all_off (after d w)) in
+    let out = out_count n p w.seats (all_off w) in
+    let out' = out_count n p (after d w).seats (all_off (after d w)) in
     let c = parted p s u in
     let g = given_own s place w.units u m.holds.there names.1 in
     let j = ap (λ l. sum_by (of_place n p) l) m.enables ∙ for_place n p place (handed_out u s) g in
@@ -308,18 +308,18 @@ transition_balances (Transition.Leave k place t jobs) w m names h n p =
 transition_balances (Transition.Mark t i s jobs) w m names h n p =
     let d = Transition.Mark t i s jobs in
     let u = m.marking.unit in
-    let out = out_worth n p w.seats (all_off w) in
-    let out' = out_worth n p (after d w).seats (all_off (after d w)) in
+    let out = out_count n p w.seats (all_off w) in
+    let out' = out_count n p (after d w).seats (all_off (after d w)) in
     gives n p (step_by s) i.unit w.units u jobs out out' m.marking.unit_there (same_mark s u.steps) m.releases names.1
     (flows n p d w m names) (h n p)
 transition_balances (Transition.Hard i jobs) w m names h n p =
     let d = Transition.Hard i jobs in
-    let out = out_worth n p w.seats (all_off w) in
-    let out' = out_worth n p (after d w).seats (all_off (after d w)) in
+    let out = out_count n p w.seats (all_off w) in
+    let out' = out_count n p (after d w).seats (all_off (after d w)) in
     gives n p (Step.Reset hard_code) i.unit w.units m.unit jobs out out' m.there refl m.releases names.1
     (flows n p d w m names) (h n p)
 transition_balances (Transition.Resize place blocks) w m names h n p =
-    let out = out_worth n p w.seats (all_off w) in
+    let out = out_count n p w.seats (all_off w) in
     calm n p (Step.Resize blocks) place w.units m.unit out out m.there refl refl refl (h n p)
 transition_balances d w m names h n p =
     let f = flows n p d w m names in
@@ -327,17 +327,17 @@ transition_balances d w m names h n p =
 
 -- At the opening
 
-no_worth : (n : ℕ) (p : Ticket → ℕ) (s : Seat) → IsNewSeat s → seat_worth n p s ≡ 0
-no_worth n p s is =
-    let a = ap (hand_worth n p) is.hand in
+no_weight : (n : ℕ) (p : Ticket → ℕ) (s : Seat) → IsNewSeat s → seat_count n p s ≡ 0
+no_weight n p s is =
+    let a = ap (hand_count n p) is.hand in
     let b = ap (λ l. sum_by (of_place n p) l) is.out in
     omega (arith, a, b)
 
 pub new_balanced : (w : PlainWorld) → Opens w → AreBalanced w
 new_balanced w o n p u at =
     let is : IsNewUnit u = o.units n u at in
-    let a = ap (alive_worth p) is.steps in
+    let a = ap (alive_count p) is.steps in
     let b = ap (λ l. sum_by (own p) l) is.parked in
-    let c = nothing_counts (seat_worth n p) w.seats (λ i s there. no_worth n p s (o.seats i s there)) in
+    let c = nothing_counts (seat_count n p) w.seats (λ i s there. no_weight n p s (o.seats i s there)) in
     let d = ap (λ l. sum_by (of_place n p) l) (none_off w.handed_off o.handed_off) in
     omega (arith, a, b, c, d)

@@ -21,7 +21,7 @@ use Rattle.device_model.specs.Transitions.{Transition}
 use Rattle.device_model.specs.After.{on_function, after}
 use Rattle.device_model.specs.Happens.{Marks, Asks, MarksRefused, Checks, DecidesControl, Leads, world_of}
 use Rattle.device_model.specs.Places.{only}
-use Rattle.device_model.specs.Worths.{fetches}
+use Rattle.device_model.specs.Weights.{fetches}
 use Rattle.device_model.specs.Happened.{Happened, IsFetch, IsMark, IsFound, IsFail, IsVisit}
 use Rattle.device_model.specs.Histories.{step_of, pushed, history_of}
 use Rattle.device_model.specs.Functions.{Among, IsBegun}

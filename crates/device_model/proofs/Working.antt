@@ -10,7 +10,7 @@ use Rattle.unit_model.specs.Tasks.{Entry, same_ticket, task_of, AreDistinct}
 use Rattle.unit_model.specs.Steps.{Step, alive, done}
 use Rattle.unit_model.specs.Marks.{mark_of, marked}
 use Rattle.unit_model.specs.Enabling.{enabled}
-use Rattle.unit_model.specs.Worths.{worth}
+use Rattle.unit_model.specs.Weights.{weight}
 use Rattle.unit_model.proofs.Tickets.{same-true, itself, apart, or_right}
 use Rattle.unit_model.proofs.Distinct.{alive_distinct}
 use Rattle.unit_model.proofs.Filtered.{other_head}
@@ -33,7 +33,7 @@ use Rattle.device_model.proofs.Histories.{may_mark, new_units, transition_units}
 use Rattle.device_model.proofs.Handed.{IsOpen, IsEnded, Spares, open_on, ended_on, open_entered, open_given}
 use Rattle.device_model.proofs.Sums.{counts_one, counts_two, counts_none}
 use Rattle.device_model.proofs.Named.{IsFor, UnitsHoldOwn, AreNamed, all_push, given_own, done_is_named, new_named, transition_names}
-use Rattle.device_model.proofs.Tasks.{AreBalanced, of_place, hand_worth, seat_worth, out_worth, new_balanced, transition_balances}
+use Rattle.device_model.proofs.Tasks.{AreBalanced, of_place, hand_count, seat_count, out_count, new_balanced, transition_balances}
 use Rattle.device_model.proofs.Off.{each_put, each_taken, none_off}
 
 -- of the unit at a place, if it is there, its steps are so
@@ -200,7 +200,7 @@ abbrev one : Ticket → Ticket → ℕ
 one t s = bit (same_ticket t s)
 
 -- no task of the ticket
-none_of : (t : Ticket) (es : List Entry) → task_of t es ≡ None → worth (one t) es ≡ 0
+none_of : (t : Ticket) (es : List Entry) → task_of t es ≡ None → weight (one t) es ≡ 0
 none_of t [] h = refl
 none_of t (e ∷ es) h =
     let o = other_head t e es h in
@@ -209,10 +209,10 @@ none_of t (e ∷ es) h =
     omega (arith, a, b)
 
 -- distinct tasks
-once : (t : Ticket) (es : List Entry) → AreDistinct es → worth (one t) es ≤ 1
+once : (t : Ticket) (es : List Entry) → AreDistinct es → weight (one t) es ≤ 1
 once t [] d = omega (arith)
 once t (e ∷ es) d =
-    (elim (same_ticket t e.ticket) as (λ b. same_ticket t e.ticket ≡ b → worth (one t) (e ∷ es) ≤ 1) [
+    (elim (same_ticket t e.ticket) as (λ b. same_ticket t e.ticket ≡ b → weight (one t) (e ∷ es) ≤ 1) [
       | true ↦ λ k.
           let a = none_of t es (ap (λ i. task_of i es) (same-true t e.ticket k) ∙ d.0) in
           let b = ap bit k in
@@ -225,7 +225,7 @@ once t (e ∷ es) d =
 
 -- at most one job under way of a unit has the ticket
 out_once : (n : ℕ) (t : Ticket) (w : PlainWorld) (u : PlainUnit) → slice_get w.units n ≡ Some u → AreUnits w
-    → AreBalanced w → out_worth n (one t) w.seats (all_off w) ≤ 1
+    → AreBalanced w → out_count n (one t) w.seats (all_off w) ≤ 1
 out_once n t w u at us b =
     let e = b n (one t) u at in
     let is = us n u at in
@@ -246,7 +246,7 @@ other_ticket i n t u e q =
 abbrev EndsOnly : Ticket → Step → Type 0
 EndsOnly t s = (u : Ticket) → same_ticket t u ≡ false → Spares s u
 
-spared_hand : (s : Step) (n : ℕ) (t : Ticket) (h : Hand) → EndsOnly t s → hand_worth n (one t) h ≡ 0
+spared_hand : (s : Step) (n : ℕ) (t : Ticket) (h : Hand) → EndsOnly t s → hand_count n (one t) h ≡ 0
     → HandSpared s n h
 spared_hand s n t Hand.Empty f e = tt
 spared_hand s n t (Hand.Taken x) f e = λ q. f x.entry.ticket (other_ticket x.unit n t x.entry.ticket e q)
@@ -275,14 +275,14 @@ record SparesElse (s : Step) (n k : ℕ) (seats : List Seat) (off out : List Pla
 -- a hand that has the ticket leaves none for another place
 spares_else : (s : Step) (n : ℕ) (t : Ticket) (k : ℕ) (seats : List Seat) (off : List PlainJob) (hand : Hand)
     (out : List PlainJob) → EndsOnly t s → slice_get seats k ≡ Some (record { hand = hand; out = out })
-    → hand_worth n (one t) hand ≡ 1 → out_worth n (one t) seats off ≤ 1 → SparesElse s n k seats off out
+    → hand_count n (one t) hand ≡ 1 → out_count n (one t) seats off ≤ 1 → SparesElse s n k seats off out
 spares_else s n t k seats off hand out f at e le =
     let this : Seat = record { hand = hand; out = out } in
-    let a = counts_one (seat_worth n (one t)) k seats this at in
+    let a = counts_one (seat_count n (one t)) k seats this at in
     record {
       same_seat = spared_jobs s n t out f (omega (arith, a, e, le));
       others = λ i r no there.
-          let b = counts_two (seat_worth n (one t)) k i seats this r no at there in (
+          let b = counts_two (seat_count n (one t)) k i seats this r no at there in (
             spared_hand s n t r.hand f (omega (arith, b, e, le)),
             spared_jobs s n t r.out f (omega (arith, b, e, le)),
           );

@@ -1,6 +1,6 @@
 -- The world after a transition.
 use Rattle.std.specs.Prelude.{ℕ, ◌+◌, ◌&&◌, Bool, true, List, [], ◌∷◌, ◌++◌, drop, Option, Some, None, slice_get, if◌then◌else◌}
-use Rattle.scsi_codec.specs.declared.event_queue.Event.{Event as Report}
+use Rattle.scsi_codec.specs.declared.event_queue.Event.{Event as EventRecord}
 use Rattle.scsi_codec.specs.EventQueue.{transport_reset, param_change}
 use Rattle.unit_attention.specs.declared.code.Code.{Code}
 use Rattle.unit_attention.specs.Code.{code}
@@ -84,21 +84,21 @@ abbrev pub hard_code : Code
 hard_code = code 0x29 0x00
 
 -- a transport reset of the unit, with reason 0 (VIRTIO 1.2 §5.6.6.3)
-abbrev pub hard_report : PlainUnit → Report
+abbrev pub hard_report : PlainUnit → EventRecord
 hard_report u = record { event = transport_reset; address = Some (unit_address u.opening); reason = 0 }
 
 -- of the unit at a place, if there is one
-abbrev pub reports_of : Option PlainUnit → List Report
+abbrev pub reports_of : Option PlainUnit → List EventRecord
 reports_of None = []
 reports_of (Some u) = hard_report u ∷ []
 
 -- a change of a parameter of the unit, CAPACITY DATA HAS CHANGED: the reason has the ASC, 2a, and above it the ASCQ, 09
 -- (VIRTIO 1.2 §5.6.6.3)
-abbrev pub change_report : PlainUnit → Report
+abbrev pub change_report : PlainUnit → EventRecord
 change_report u = record { event = param_change; address = Some (unit_address u.opening); reason = 0x092a }
 
 -- of the unit at a place, if there is one, where the driver is told
-abbrev pub change_reports : Bool → Option PlainUnit → List Report
+abbrev pub change_reports : Bool → Option PlainUnit → List EventRecord
 change_reports told None = []
 change_reports told (Some u) = if told then (change_report u ∷ []) else []
 

@@ -1,7 +1,7 @@
 -- What answers the chains of a reached device.
 use Rattle.std.specs.Prelude.{ℕ, ◌≡◌, ◌≤◌, ◌+◌, ◌⊎◌, List, ◌∷◌, Some}
 use Rattle.std.specs.List.{sum_by}
-use Rattle.replies.specs.PlainReply.{PlainReply}
+use Rattle.command_model.specs.PlainReply.{PlainReply}
 use Rattle.ring_core.specs.State.{PlainChain}
 use Rattle.ring_core.specs.declared.log.Ticket.{Ticket}
 use Rattle.unit_model.specs.declared.reason.Reason.{Reason}
@@ -17,8 +17,8 @@ use Rattle.device_model.specs.Parts.{Completion, PlainFetch, Outcome, lengths_of
 use Rattle.device_model.specs.World.{PlainQueue, PlainWorld}
 use Rattle.device_model.specs.Transitions.{Transition}
 use Rattle.device_model.specs.Happens.{QueueIs, UnitIs, IsDirect, world_of}
-use Rattle.device_model.specs.Places.{used_worth, only}
-use Rattle.device_model.specs.Worths.{uses, directs, answers}
+use Rattle.device_model.specs.Places.{used_count, only}
+use Rattle.device_model.specs.Weights.{uses, directs, answers}
 use Rattle.device_model.specs.Happened.{Happened, IsBeginning, IsFetch, IsShed, IsAnswer}
 use Rattle.device_model.specs.Histories.{Stands, StandsOn, history_of}
 use Rattle.device_model.specs.Entering.{IsJobOf}
@@ -62,11 +62,11 @@ NeverRan t ds = (place : ℕ) (r : PlainReply) → Stands (Step.Commit t r) (his
 -- each used ticket of a request queue has one answer, from its queue's slot or from a hand; each answer tells what is
 -- so, and who was told that its task was aborted never ran
 pub record AreAnswered (old : PlainWorld) (ds : List Transition) (w : PlainWorld) : Type 0 where
-  pub used : (p : Ticket → ℕ) → used_worth p w ≡ sum_by (uses p) ds
+  pub used : (p : Ticket → ℕ) → used_count p w ≡ sum_by (uses p) ds
   pub request : (t : Ticket) → 2 ≤ t.queue
-      → used_worth (only t) w ≡ sum_by (directs (only t)) ds + sum_by (answers (only t)) ds
+      → used_count (only t) w ≡ sum_by (directs (only t)) ds + sum_by (answers (only t)) ds
   pub once : (t : Ticket) → sum_by (directs (only t)) ds + sum_by (answers (only t)) ds ≤ 1
-  pub told : (t : Ticket) → 2 ≤ t.queue → 1 ≤ used_worth (only t) w → Happened (IsAnswer t) ds
+  pub told : (t : Ticket) → 2 ≤ t.queue → 1 ≤ used_count (only t) w → Happened (IsAnswer t) ds
   pub direct : (c : PlainChain) (o : Outcome) (xs : Completion) (past : List Transition)
       → IsBeginning (Transition.Direct c o xs ∷ past) ds → IsAnsweredSo old past c o xs
   pub answer : (k : ℕ) (x : PlainJob) (o : Outcome) (xs : Completion) (past : List Transition)

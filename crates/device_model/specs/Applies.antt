@@ -1,7 +1,7 @@
 -- Where an event changes something.
 use Rattle.std.specs.Prelude.{ℕ, ◌≡◌, ◌<◌, true, List, [], ◌∷◌, length, Some, None}
 use Rattle.guest_mem.specs.Memory.{LiesIn}
-use Rattle.scsi_codec.specs.declared.event_queue.Event.{Event as Report}
+use Rattle.scsi_codec.specs.declared.event_queue.Event.{Event as EventRecord}
 use Rattle.ring_core.specs.Offer.{Offers, Nothing}
 use Rattle.ring_core.specs.State.{PlainChain}
 use Rattle.ring_core.specs.declared.log.Ticket.{Ticket}
@@ -82,4 +82,4 @@ Applies w Event.Check = MayCheck w
 Applies w Event.AnswerTmf = MayRespond w
 Applies w (Event.Hard place) = (u : PlainUnit) × UnitIs w place u
 Applies w (Event.Resize place blocks) = (u : PlainUnit) × UnitIs w place u × MayStep u (Step.Resize blocks)
-Applies w Event.Raise = (e : Report) × (later : List Report) × (w.waiting ≡ e ∷ later)
+Applies w Event.Raise = (e : EventRecord) × (later : List EventRecord) × (w.waiting ≡ e ∷ later)

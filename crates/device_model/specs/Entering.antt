@@ -3,7 +3,7 @@ use Rattle.std.specs.Prelude.{ℕ, ◌≡◌, ◌≤◌, List, ◌∷◌, Some, 
 use Rattle.std.specs.List.{sum_by}
 use Rattle.scsi_codec.specs.declared.lun.Address.{Address}
 use Rattle.ring_core.specs.declared.log.Ticket.{Ticket}
-use Rattle.decisions.specs.declared.decision.Decision.TheVariants as decision
+use Rattle.request_intake.specs.declared.decision.Decision.TheVariants as decision
 use Rattle.unit_model.specs.Tasks.{Entry}
 use Rattle.unit_model.specs.Steps.{Step}
 use Rattle.unit_model.specs.Jobs.{PlainJob}
@@ -11,8 +11,8 @@ use Rattle.device_model.specs.Parts.{PlainFetch, request_of}
 use Rattle.device_model.specs.World.{PlainWorld}
 use Rattle.device_model.specs.Transitions.{Transition}
 use Rattle.device_model.specs.Happens.{Finds, DecidesRequest, world_of}
-use Rattle.device_model.specs.Places.{accepted_worth, only}
-use Rattle.device_model.specs.Worths.{fetches, entered_worth, was_accepted}
+use Rattle.device_model.specs.Places.{accepted_count, only}
+use Rattle.device_model.specs.Weights.{fetches, entered_count, was_accepted}
 use Rattle.device_model.specs.Happened.{Happened, IsBeginning, IsFetch}
 use Rattle.device_model.specs.Histories.{Stands, history_of}
 
@@ -40,10 +40,10 @@ pub record IsEntered (inventory : List Address) (ds : List Transition) (place : 
 -- each accepted ticket has one Fetch, and no other ticket has one; this takes what its queue offers, with the bytes
 -- that stand in memory then; it enters at most once, in one unit, as what was decided of these bytes
 pub record AreEntered (old : PlainWorld) (ds : List Transition) (w : PlainWorld) : Type 0 where
-  pub accepted : (p : Ticket → ℕ) → accepted_worth p w ≡ sum_by (fetches p) ds
+  pub accepted : (p : Ticket → ℕ) → accepted_count p w ≡ sum_by (fetches p) ds
   pub fetched : (t : Ticket) → sum_by (fetches (only t)) ds ≡ was_accepted t w
   pub taken : (f : PlainFetch) (d : Transition) (past : List Transition) → IsBeginning (d ∷ past) ds → IsFetch f d
       → Finds (world_of old past) f
-  pub entered_once : (t : Ticket) → sum_by (entered_worth (only t)) w.units ≤ 1
+  pub entered_once : (t : Ticket) → sum_by (entered_count (only t)) w.units ≤ 1
   pub as_fetched : (place : ℕ) (e : Entry) → Stands (Step.Enter e) (history_of place ds)
       → IsEntered old.inventory ds place e

@@ -1,6 +1,6 @@
 -- Which event goes into which buffer (VIRTIO 1.2 §5.6.6.3).
 use Rattle.std.specs.Prelude.{ℕ, ◌≡◌, ◌||◌, ◌&&◌, Bool, true, false, List, [], ◌∷◌, ◌++◌, slice_get}
-use Rattle.scsi_codec.specs.declared.event_queue.Event.{Event as Report}
+use Rattle.scsi_codec.specs.declared.event_queue.Event.{Event as EventRecord}
 use Rattle.scsi_codec.specs.EventQueue.{event_bytes}
 use Rattle.ring_core.specs.State.{RingState, PlainChain}
 use Rattle.device_model.specs.Parts.{Completion, PlainFetch, answer_writes, is_short}
@@ -24,14 +24,14 @@ given_of (d ∷ past) = given_of past
 
 -- the events that the resets and the resizes of the operator raised, and those that were given or missed, the first one first
 
-abbrev pub raised_of : PlainWorld → List Transition → List Report
+abbrev pub raised_of : PlainWorld → List Transition → List EventRecord
 raised_of old [] = []
 raised_of old (Transition.Hard p jobs ∷ past) = raised_of old past ++ reports_of (slice_get old.units p.unit)
 raised_of old (Transition.Resize place blocks ∷ past) =
     raised_of old past ++ change_reports old.tells_changes (slice_get old.units place)
 raised_of old (d ∷ past) = raised_of old past
 
-abbrev pub reported_of : List Transition → List Report
+abbrev pub reported_of : List Transition → List EventRecord
 reported_of [] = []
 reported_of (Transition.Give e c xs ∷ past) = reported_of past ++ e ∷ []
 reported_of (Transition.Miss e ∷ past) = reported_of past ++ e ∷ []
@@ -58,11 +58,12 @@ pub record AreEvents (old : PlainWorld) (ds : List Transition) (w : PlainWorld) 
   pub in_order : given_of ds ++ w.buffers ≡ arrived_of ds
   pub reports : reported_of ds ++ w.waiting ≡ raised_of old ds
   pub missed : w.missed ≡ missed_of ds
-  pub misses : (e : Report) (past : List Transition) → IsBeginning (Transition.Miss e ∷ past) ds → given_of past ≡ arrived_of past
+  pub misses : (e : EventRecord) (past : List Transition) → IsBeginning (Transition.Miss e ∷ past) ds
+      → given_of past ≡ arrived_of past
   pub holds : (f : PlainFetch) (past : List Transition) → IsBeginning (Transition.Hold f ∷ past) ds
       → (is_short f.chain || missed_of past) ≡ false
   pub spends : (f : PlainFetch) (xs : Completion) (past : List Transition) → IsBeginning (Transition.UseBuffer f xs ∷ past) ds
       → ((is_short f.chain || missed_of past) ≡ true)
       × IsWrittenIn old past f.chain (with_chain f.chain) (spent_bytes f.chain) xs
-  pub gives : (e : Report) (c : PlainChain) (xs : Completion) (past : List Transition)
+  pub gives : (e : EventRecord) (c : PlainChain) (xs : Completion) (past : List Transition)
       → IsBeginning (Transition.Give e c xs ∷ past) ds → IsWrittenIn old past c (λ s. s) (event_bytes e) xs

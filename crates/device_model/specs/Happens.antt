@@ -2,7 +2,7 @@
 use Rattle.std.specs.Prelude.{ℕ, zero, suc, ◌≡◌, ◌<◌, ◌≤◌, ◌⊎◌, ◌||◌, Bool, true, false, IsTrue, if◌then◌else◌, List, [], ◌∷◌, length, Some, None, slice_get, ⊤}
 use Rattle.guest_mem.specs.Memory.{LiesIn}
 use Rattle.scsi_codec.specs.declared.lun.Address.{Address}
-use Rattle.scsi_codec.specs.declared.event_queue.Event.{Event as Report}
+use Rattle.scsi_codec.specs.declared.event_queue.Event.{Event as EventRecord}
 use Rattle.scsi_codec.specs.EventQueue.{event_bytes, missed_event}
 use Rattle.scsi_codec.specs.ControlQueue.{IsControl, function_bytes}
 use Rattle.scsi_codec.specs.declared.control_queue.Control.{Control}
@@ -14,20 +14,20 @@ use Rattle.ring_core.specs.Fetch.{Takes}
 use Rattle.ring_core.specs.declared.fault.RingFault.{RingFault}
 use Rattle.ring_core.specs.declared.log.Ticket.{Ticket}
 use Rattle.cdb.specs.declared.commands.Command.{Command}
-use Rattle.decisions.specs.Decision.{decided}
-use Rattle.decisions.specs.declared.decision.Decision.{Decision}
-use Rattle.decisions.specs.declared.decision.Decision.TheVariants as decision
+use Rattle.request_intake.specs.Decision.{decided}
+use Rattle.request_intake.specs.declared.decision.Decision.{Decision}
+use Rattle.request_intake.specs.declared.decision.Decision.TheVariants as decision
 use Rattle.unit_model.specs.declared.rule.Rule.{Rule}
 use Rattle.unit_model.specs.declared.reason.Reason.{Reason}
 use Rattle.unit_model.specs.Tasks.{Entry, is_blocked}
-use Rattle.unit_model.specs.Steps.{Step, alive, is_alive, floor}
+use Rattle.unit_model.specs.Steps.{Step, alive, is_alive, next_number}
 use Rattle.unit_model.specs.Marks.{mark_of}
 use Rattle.unit_model.specs.Clearing.{is_clear}
 use Rattle.unit_model.specs.Contents.{facts_after}
 use Rattle.unit_model.specs.Seen.{any_met}
 use Rattle.unit_model.specs.Lawful as history
 use Rattle.unit_model.specs.Released.{released}
-use Rattle.replies.specs.Memory.{may_run_short}
+use Rattle.command_model.specs.Memory.{may_run_short}
 use Rattle.unit_model.specs.Jobs.{PlainJob, of_tasks}
 use Rattle.unit_model.specs.Unit.{PlainUnit}
 use Rattle.unit_model.specs.Asking.{IsOf, IsNamed, IsMisdelivered}
@@ -109,14 +109,14 @@ pub record Refuses (w : PlainWorld) (f : PlainFetch) (a : List ℕ) : Type 0 whe
   pub kind : (f.chain.ticket.queue ≡ 0) ⊎ (2 ≤ f.chain.ticket.queue)
   pub decided : IsDirect w.inventory f.chain.ticket.queue f a
 
-pub record Begins (w : PlainWorld) (f : PlainFetch) (g : PlainFunction) : Type 0 where
+pub record OpensFunction (w : PlainWorld) (f : PlainFetch) (g : PlainFunction) : Type 0 where
   pub finds : Finds w f
   pub closed : w.function ≡ None
   pub control : f.chain.ticket.queue ≡ 0
   pub decided : DecidesControl w.inventory f (managed.Opens g)
 
 -- the port gets the buffer, since it is long enough and no event was missed
-pub record Keeps (w : PlainWorld) (f : PlainFetch) : Type 0 where
+pub record HoldsBuffer (w : PlainWorld) (f : PlainFetch) : Type 0 where
   pub finds : Finds w f
   pub event : f.chain.ticket.queue ≡ 1
   pub decided : (is_short f.chain || w.missed) ≡ false
@@ -157,7 +157,7 @@ pub record Enters (w : PlainWorld) (x : PlainJob) (parks : Bool) : Type 0 where
   pub may : MayStep comes.unit (Step.Enter x.entry)
   pub blocked : is_blocked x.entry (alive (Step.Enter x.entry ∷ comes.unit.steps)) ≡ parks
 
-pub record Overflows (w : PlainWorld) (x : PlainJob) : Type 0 where
+pub record EntersFull (w : PlainWorld) (x : PlainJob) : Type 0 where
   pub comes : Comes w x
   pub named : IsNamed x comes.unit
   pub may : MayStep comes.unit (Step.Full x.entry.ticket)
@@ -166,7 +166,7 @@ pub record Overflows (w : PlainWorld) (x : PlainJob) : Type 0 where
 pub record EntersBusy (w : PlainWorld) (x : PlainJob) : Type 0 where
   pub comes : Comes w x
   pub named : IsNamed x comes.unit
-  pub fresh : floor x.entry.ticket.queue comes.unit.steps ≤ x.entry.ticket.number
+  pub fresh : next_number x.entry.ticket.queue comes.unit.steps ≤ x.entry.ticket.number
 
 pub record EntersStale (w : PlainWorld) (x : PlainJob) : Type 0 where
   pub comes : Comes w x
@@ -186,7 +186,7 @@ pub record Puts (w : PlainWorld) (k : ℕ) (x : PlainJob) : Type 0 where
   pub there : OffIs w k off
   pub room : length off < w.limit
 
-pub record Retains (w : PlainWorld) (k : ℕ) (x : PlainJob) : Type 0 where
+pub record KeepsJob (w : PlainWorld) (k : ℕ) (x : PlainJob) : Type 0 where
   pub rest : List PlainJob
   pub seat : SeatIs w k Hand.Empty (x ∷ rest)
   pub off : List PlainJob
@@ -202,30 +202,30 @@ pub record TakesJob (w : PlainWorld) (k from : ℕ) (x : PlainJob) : Type 0 wher
   pub first : (i : ℕ) (jobs : List PlainJob) → IsBefore k i from → OffIs w i jobs → jobs ≡ []
 
 -- a hand of a seat, and a unit
-pub record Holds (w : PlainWorld) (k : ℕ) (hand : Hand) (place : ℕ) : Type 0 where
+pub record HandAtUnit (w : PlainWorld) (k : ℕ) (hand : Hand) (place : ℕ) : Type 0 where
   pub out : List PlainJob
   pub seat : SeatIs w k hand out
   pub unit : PlainUnit
   pub there : UnitIs w place unit
 
 pub record Commits (w : PlainWorld) (k : ℕ) (x : PlainJob) (s : Step) : Type 0 where
-  pub holds : Holds w k (Hand.Taken x) x.unit
+  pub holds : HandAtUnit w k (Hand.Taken x) x.unit
   pub may : MayStep holds.unit s
 
 -- memory was refused, which only a command that may want memory asks for, or the reply that is kept of it
-pub record Yields (w : PlainWorld) (k : ℕ) (x : PlainJob) : Type 0 where
-  pub holds : Holds w k (Hand.Taken x) x.unit
+pub record CommitsBusy (w : PlainWorld) (k : ℕ) (x : PlainJob) : Type 0 where
+  pub holds : HandAtUnit w k (Hand.Taken x) x.unit
   pub may : MayStep holds.unit (Step.Busy x.entry.ticket)
   pub wants : MayYield holds.unit x.entry.command
 
-pub record Aborts (w : PlainWorld) (k : ℕ) (x : PlainJob) (why : Reason) : Type 0 where
-  pub holds : Holds w k (Hand.Taken x) x.unit
+pub record CommitsAborted (w : PlainWorld) (k : ℕ) (x : PlainJob) (why : Reason) : Type 0 where
+  pub holds : HandAtUnit w k (Hand.Taken x) x.unit
   pub alive : is_alive x.entry.ticket holds.unit.steps ≡ true
   pub marked : mark_of x.entry.ticket holds.unit.steps ≡ Some why
 
 -- the unit has no task of the job that is marked or may commit
 pub record CommitsUnknown (w : PlainWorld) (k : ℕ) (x : PlainJob) : Type 0 where
-  pub holds : Holds w k (Hand.Taken x) x.unit
+  pub holds : HandAtUnit w k (Hand.Taken x) x.unit
   pub not_ready : (e : Entry) → IsOf x e holds.unit.steps → history.IsReady x.entry.ticket e holds.unit.steps → ⊥
   pub not_marked : (e : Entry) (why : Reason) → IsOf x e holds.unit.steps
       → mark_of x.entry.ticket holds.unit.steps ≡ Some why → ⊥
@@ -239,7 +239,7 @@ pub record Answers (w : PlainWorld) (k : ℕ) (x : PlainJob) (o : Outcome) (xs :
   pub seen : IsSeen w.shared (all_written w.memory xs.writes) xs.seen
 
 pub record Leaves (w : PlainWorld) (k place : ℕ) (t : Ticket) (jobs : List PlainJob) : Type 0 where
-  pub holds : Holds w k (Hand.Answered place t) place
+  pub holds : HandAtUnit w k (Hand.Answered place t) place
   pub may : MayStep holds.unit (Step.Leave t)
   pub enables : jobs ≡ handed_out holds.unit (Step.Leave t)
 
@@ -307,8 +307,8 @@ pub record Resizes (w : PlainWorld) (place blocks : ℕ) : Type 0 where
   pub there : UnitIs w place unit
   pub may : MayStep unit (Step.Resize blocks)
 
-pub record Gives (w : PlainWorld) (e : Report) (c : PlainChain) (xs : Completion) : Type 0 where
-  pub later : List Report
+pub record Gives (w : PlainWorld) (e : EventRecord) (c : PlainChain) (xs : Completion) : Type 0 where
+  pub later : List EventRecord
   pub waits : w.waiting ≡ e ∷ later
   pub more : List PlainChain
   pub held : w.buffers ≡ c ∷ more
@@ -317,8 +317,8 @@ pub record Gives (w : PlainWorld) (e : Report) (c : PlainChain) (xs : Completion
   pub writes : xs.writes ≡ answer_writes queue.ring c (event_bytes e)
   pub seen : IsSeen w.shared (all_written w.memory xs.writes) xs.seen
 
-pub record Misses (w : PlainWorld) (e : Report) : Type 0 where
-  pub later : List Report
+pub record Misses (w : PlainWorld) (e : EventRecord) : Type 0 where
+  pub later : List EventRecord
   pub waits : w.waiting ≡ e ∷ later
   pub none : w.buffers ≡ []
 
@@ -327,22 +327,22 @@ abbrev pub Happens : Transition → PlainWorld → Type 0
 Happens (Transition.Poke x) w = LiesIn (length w.memory) x.addr (length x.bytes)
 Happens (Transition.Arrive f x) w = Arrives w f x
 Happens (Transition.Refuse f a) w = Refuses w f a
-Happens (Transition.Open f g) w = Begins w f g
-Happens (Transition.Hold f) w = Keeps w f
+Happens (Transition.Open f g) w = OpensFunction w f g
+Happens (Transition.Hold f) w = HoldsBuffer w f
 Happens (Transition.UseBuffer f xs) w = UsesBuffer w f xs
 Happens (Transition.Break q n) w = Breaks w q n
 Happens (Transition.Run x) w = Enters w x false
 Happens (Transition.Park x) w = Enters w x true
-Happens (Transition.EnterFull x) w = Overflows w x
+Happens (Transition.EnterFull x) w = EntersFull w x
 Happens (Transition.EnterBusy x) w = EntersBusy w x
 Happens (Transition.EnterStale x) w = ⊥
 Happens (Transition.Direct c o xs) w = Directs w c o xs
 Happens (Transition.Put k x) w = Puts w k x
-Happens (Transition.Keep k x) w = Retains w k x
+Happens (Transition.Keep k x) w = KeepsJob w k x
 Happens (Transition.Take k from x) w = TakesJob w k from x
 Happens (Transition.Commit k x r) w = Commits w k x (Step.Commit x.entry.ticket r)
-Happens (Transition.CommitBusy k x) w = Yields w k x
-Happens (Transition.CommitAborted k x why) w = Aborts w k x why
+Happens (Transition.CommitBusy k x) w = CommitsBusy w k x
+Happens (Transition.CommitAborted k x why) w = CommitsAborted w k x why
 Happens (Transition.CommitUnknown k x) w = ⊥
 Happens (Transition.Answer k x o xs) w = Answers w k x o xs
 Happens (Transition.Leave k place t jobs) w = Leaves w k place t jobs

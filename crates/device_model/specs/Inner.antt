@@ -1,5 +1,5 @@
 -- No public clause of the device, of its hosts or of the library for C, and no law, rests on these.
 pub mod Standing
-pub mod Worths
+pub mod Weights
 pub mod Happened
 pub mod Live

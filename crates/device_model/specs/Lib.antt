@@ -12,7 +12,7 @@ pub mod Lawful
 pub mod Standing
 pub mod Applies
 pub mod Turns
-pub mod Worths
+pub mod Weights
 pub mod Order
 pub mod Measure
 pub mod Settling

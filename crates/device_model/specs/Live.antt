@@ -8,7 +8,7 @@ use Rattle.device_model.specs.Events.{Event}
 use Rattle.device_model.specs.Transitions.{Transition, event_of, completion_of}
 use Rattle.device_model.specs.After.{after}
 use Rattle.device_model.specs.Happens.{Occurrence, Happens, WorldStep, occurrence_of}
-use Rattle.device_model.specs.Places.{accepted_worth, used_worth}
+use Rattle.device_model.specs.Places.{accepted_count, used_count}
 use Rattle.device_model.specs.Order.{IsNextOf, IsQuietOf}
 use Rattle.device_model.specs.Measure.{price, visits, answered_hand}
 use Rattle.device_model.specs.Settling.{visited}
@@ -68,8 +68,8 @@ LiveSettlesOf asked w (t ∷ past) =
 -- the bound of a settling: what the guest wrote is no step
 abbrev pub IsShortLive : PlainWorld → List Turn → Type 0
 IsShortLive w more =
-    length more + used_worth price w
-    ≤ accepted_worth price (live_world w more) + sum_by answered_hand w.seats + visits w.function
+    length more + used_count price w
+    ≤ accepted_count price (live_world w more) + sum_by answered_hand w.seats + visits w.function
     + 2 * sum_by visited (map transition_at more) + length w.waiting + length w.queues
 
 -- One event, with these bytes in memory as it began; these are what its writes left there; and a notice was decided by

@@ -6,10 +6,10 @@ use Rattle.ring_core.specs.declared.log.Ticket.{Ticket}
 use Rattle.device_model.specs.Parts.{Hand}
 use Rattle.device_model.specs.World.{PlainQueue, Seat, Opened, PlainWorld}
 use Rattle.device_model.specs.Transitions.{Transition}
-use Rattle.device_model.specs.Worths.{Worths, held, fetches, nothing}
+use Rattle.device_model.specs.Weights.{Weights, held, fetches, nothing}
 
 -- own: at most so many transitions are left of a chain in each place
-abbrev pub owed : Worths
+abbrev pub owed : Weights
 owed =
     record {
       arrived = λ t. 6;

@@ -7,7 +7,7 @@ use Rattle.ring_core.specs.declared.log.Ticket.{Ticket}
 use Rattle.device_model.specs.World.{PlainWorld, Everywhere}
 use Rattle.device_model.specs.Events.{Event}
 use Rattle.device_model.specs.Applies.{Applies}
-use Rattle.device_model.specs.Places.{of_chain, accepted_worth, used_worth}
+use Rattle.device_model.specs.Places.{of_chain, accepted_count, used_count}
 
 -- for each number below this one, rising
 abbrev pub each : (ℕ → List Event) → ℕ → List Event
@@ -62,7 +62,7 @@ IsQuietOf asked w = NoneApplies w (order_by asked (length w.queues) (length w.se
 -- each accepted chain was used but for the event buffers that are held; no function is open, no event waits, and a
 -- queue that no fault broke has nothing for the device
 pub record IsAtRest (w : PlainWorld) : Type 0 where
-  pub chains : (p : Ticket → ℕ) → used_worth p w + sum_by (of_chain p) w.buffers ≡ accepted_worth p w
+  pub chains : (p : Ticket → ℕ) → used_count p w + sum_by (of_chain p) w.buffers ≡ accepted_count p w
   pub buffers : AllByRecursion (λ (c : PlainChain). c.ticket.queue ≡ 1) w.buffers
   pub closed : w.function ≡ None
   pub waiting : w.waiting ≡ []
@@ -71,7 +71,7 @@ pub record IsAtRest (w : PlainWorld) : Type 0 where
 -- the same where only the queues that are asked have nothing for the device: nothing but chains that weren't accepted,
 -- of other queues, is left
 pub record IsAtRestOf (asked : ℕ → Bool) (w : PlainWorld) : Type 0 where
-  pub chains : (p : Ticket → ℕ) → used_worth p w + sum_by (of_chain p) w.buffers ≡ accepted_worth p w
+  pub chains : (p : Ticket → ℕ) → used_count p w + sum_by (of_chain p) w.buffers ≡ accepted_count p w
   pub buffers : AllByRecursion (λ (c : PlainChain). c.ticket.queue ≡ 1) w.buffers
   pub closed : w.function ≡ None
   pub waiting : w.waiting ≡ []

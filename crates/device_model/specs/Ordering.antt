@@ -1,6 +1,6 @@
 -- In which order the commands of one unit ran.
 use Rattle.std.specs.Prelude.{ℕ, List, ◌∷◌}
-use Rattle.replies.specs.PlainReply.{PlainReply}
+use Rattle.command_model.specs.PlainReply.{PlainReply}
 use Rattle.ring_core.specs.declared.log.Ticket.{Ticket}
 use Rattle.unit_model.specs.Steps.{Step}
 use Rattle.device_model.specs.Parts.{PlainFetch, ticket_of}

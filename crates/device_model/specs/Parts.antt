@@ -5,8 +5,8 @@ use Rattle.ring_core.specs.declared.log.Ticket.{Ticket}
 use Rattle.ring_core.specs.Parts.{readable_total, writable_total}
 use Rattle.ring_core.specs.Writes.{Write, all_written, scatter_writes}
 use Rattle.ring_core.specs.Offer.{used_writes}
-use Rattle.decisions.specs.declared.answer.ChainLengths.{ChainLengths}
-use Rattle.decisions.specs.UnitRequest.{PlainRequest}
+use Rattle.request_intake.specs.declared.answer.ChainLengths.{ChainLengths}
+use Rattle.request_intake.specs.UnitRequest.{PlainRequest}
 use Rattle.unit_model.specs.Tasks.{Entry}
 use Rattle.unit_model.specs.Endings.{Ending, answer_of}
 use Rattle.unit_model.specs.Jobs.{PlainJob}

@@ -2,7 +2,7 @@
 use Rattle.std.specs.Prelude.{ℕ, ◌≡◌, ◌≤◌, ◌||◌, Bool, true, false, List, [], ◌∷◌, length, Option, Some, None, ◌⊎◌, slice_get, ⊤}
 use Rattle.guest_mem.specs.Memory.{LiesIn}
 use Rattle.scsi_codec.specs.declared.lun.Address.{Address}
-use Rattle.scsi_codec.specs.declared.event_queue.Event.{Event as Report}
+use Rattle.scsi_codec.specs.declared.event_queue.Event.{Event as EventRecord}
 use Rattle.scsi_codec.specs.EventQueue.{event_bytes}
 use Rattle.scsi_codec.specs.ControlQueue.{function_bytes}
 use Rattle.ring_core.specs.State.{PlainChain}
@@ -10,9 +10,9 @@ use Rattle.ring_core.specs.Writes.{all_written}
 use Rattle.ring_core.specs.Offer.{Offers, Refused}
 use Rattle.ring_core.specs.Fetch.{Takes}
 use Rattle.ring_core.specs.declared.log.Ticket.{Ticket}
-use Rattle.decisions.specs.declared.decision.Decision.TheVariants as decision
+use Rattle.request_intake.specs.declared.decision.Decision.TheVariants as decision
 use Rattle.unit_model.specs.Tasks.{is_blocked, task_of}
-use Rattle.unit_model.specs.Steps.{Step, alive, is_alive, floor}
+use Rattle.unit_model.specs.Steps.{Step, alive, is_alive, next_number}
 use Rattle.unit_model.specs.Marks.{mark_of}
 use Rattle.unit_model.specs.Clearing.{is_clear}
 use Rattle.unit_model.specs.Seen.{any_met}
@@ -28,7 +28,7 @@ use Rattle.device_model.specs.Parts.{PlainFetch, Outcome, IsSeen, Slot, Hand, le
 use Rattle.device_model.specs.World.{PlainQueue, Seat, Opened, PlainWorld, owner}
 use Rattle.device_model.specs.Transitions.{Transition, action_of}
 use Rattle.device_model.specs.After.{with_chain, arriving, taking, broken_by, completing, directing, spending, hard_code}
-use Rattle.device_model.specs.Happens.{MayStep, MayYield, SeatIs, IsOpenTo, Puts, Retains, TakesJob, MarksRefused, IsWaiting, Misses, DecidesRequest, DecidesControl, IsDirect, spent_bytes, handed_out}
+use Rattle.device_model.specs.Happens.{MayStep, MayYield, SeatIs, IsOpenTo, Puts, KeepsJob, TakesJob, MarksRefused, IsWaiting, Misses, DecidesRequest, DecidesControl, IsDirect, spent_bytes, handed_out}
 
 -- of that number, if there is one
 abbrev pub Under : Option ℕ → (ℕ → Type 0) → Type 0
@@ -61,7 +61,7 @@ AsksUnit (Transition.Park x) u =
     IsNamed x u × MayStep u (Step.Enter x.entry)
     × (is_blocked x.entry (alive (Step.Enter x.entry ∷ u.steps)) ≡ true)
 AsksUnit (Transition.EnterFull x) u = IsNamed x u × MayStep u (Step.Full x.entry.ticket)
-AsksUnit (Transition.EnterBusy x) u = IsNamed x u × (floor x.entry.ticket.queue u.steps ≤ x.entry.ticket.number)
+AsksUnit (Transition.EnterBusy x) u = IsNamed x u × (next_number x.entry.ticket.queue u.steps ≤ x.entry.ticket.number)
 AsksUnit (Transition.EnterStale x) u = IsMisdelivered x u
 AsksUnit (Transition.Commit k x r) u = MayStep u (Step.Commit x.entry.ticket r)
 AsksUnit (Transition.CommitBusy k x) u = MayStep u (Step.Busy x.entry.ticket) × MayYield u x.entry.command
@@ -169,8 +169,8 @@ pub record IsLeft (w : PlainWorld) (t : Ticket) (place : ℕ) (kind : Kind) : Ty
   pub later : List ℕ
   pub left : opened.function.left ≡ place ∷ later
 
-pub record IsPort (w : PlainWorld) (e : Report) (c : PlainChain) : Type 0 where
-  pub later : List Report
+pub record IsPort (w : PlainWorld) (e : EventRecord) (c : PlainChain) : Type 0 where
+  pub later : List EventRecord
   pub waits : w.waiting ≡ e ∷ later
   pub more : List PlainChain
   pub held : w.buffers ≡ c ∷ more
@@ -201,7 +201,7 @@ StandsFor (Transition.EnterBusy x) w =
     SlotIs w x.chain.ticket.queue (Slot.Arrived x) × HasSeat w (owner w.workers x.chain.ticket.queue)
 StandsFor (Transition.Direct c o xs) w = SlotIs w c.ticket.queue (Slot.Direct c o)
 StandsFor (Transition.Put k x) w = Puts w k x
-StandsFor (Transition.Keep k x) w = Retains w k x
+StandsFor (Transition.Keep k x) w = KeepsJob w k x
 StandsFor (Transition.Take k from x) w = TakesJob w k from x
 StandsFor (Transition.Commit k x r) w = HasHand w k (Hand.Taken x)
 StandsFor (Transition.CommitBusy k x) w = HasHand w k (Hand.Taken x)

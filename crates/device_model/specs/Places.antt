@@ -36,8 +36,8 @@ at_unit p u = sum_by (of_job p) u.parked
 
 -- the slots of the queues, the parked jobs of the units, the jobs of the seats and of the hand-off, the open function,
 -- and the event buffers
-abbrev pub standing : (Ticket → ℕ) → PlainWorld → ℕ
-standing p w =
+abbrev pub standing_count : (Ticket → ℕ) → PlainWorld → ℕ
+standing_count p w =
     sum_by (at_queue p) w.queues + sum_by (at_unit p) w.units + jobs_out (of_job p) w + of_function p w.function
     + sum_by (of_chain p) w.buffers
 
@@ -49,11 +49,11 @@ log_accepted p q = sum_by p q.ring.log.accepted
 abbrev pub log_used : (Ticket → ℕ) → PlainQueue → ℕ
 log_used p q = sum_by p q.ring.log.used
 
-abbrev pub accepted_worth : (Ticket → ℕ) → PlainWorld → ℕ
-accepted_worth p w = sum_by (log_accepted p) w.queues
+abbrev pub accepted_count : (Ticket → ℕ) → PlainWorld → ℕ
+accepted_count p w = sum_by (log_accepted p) w.queues
 
-abbrev pub used_worth : (Ticket → ℕ) → PlainWorld → ℕ
-used_worth p w = sum_by (log_used p) w.queues
+abbrev pub used_count : (Ticket → ℕ) → PlainWorld → ℕ
+used_count p w = sum_by (log_used p) w.queues
 
 -- 1 for this ticket, 0 for any other
 abbrev pub only : Ticket → Ticket → ℕ
@@ -85,6 +85,6 @@ uses d = []
 
 -- a transition moves chains from place to place: it adds what it accepts, and takes away what it uses
 pub record Moves (p : Ticket → ℕ) (d : Transition) (old new : PlainWorld) : Type 0 where
-  pub accepted : accepted_worth p new ≡ accepted_worth p old + sum_by p (accepts d)
-  pub used : used_worth p new ≡ used_worth p old + sum_by p (uses d)
-  pub standing : standing p new + sum_by p (uses d) ≡ standing p old + sum_by p (accepts d)
+  pub accepted : accepted_count p new ≡ accepted_count p old + sum_by p (accepts d)
+  pub used : used_count p new ≡ used_count p old + sum_by p (uses d)
+  pub standing : standing_count p new + sum_by p (uses d) ≡ standing_count p old + sum_by p (accepts d)

@@ -6,7 +6,7 @@ use Rattle.device_model.specs.World.{PlainWorld, Everywhere}
 use Rattle.device_model.specs.Transitions.{Transition}
 use Rattle.device_model.specs.Happens.{Occurrence, Reached, Leads, transitions_of, occurrence_of, world_of}
 use Rattle.device_model.specs.Laws.{memory_after}
-use Rattle.device_model.specs.Places.{accepted_worth, standing, used_worth, only}
+use Rattle.device_model.specs.Places.{accepted_count, standing_count, used_count, only}
 use Rattle.device_model.specs.Standing.{AreOwned}
 use Rattle.device_model.specs.Happened.{IsBeginning, NoneIsLost}
 use Rattle.device_model.specs.Histories.{AreHistories}
@@ -22,8 +22,8 @@ AreLogs w = Everywhere (λ i q. IsLawful i q.ring.log) w.queues
 
 -- an accepted chain stands in one place of the device, or was used once; no other stands anywhere or was used
 pub record StandOnce (w : PlainWorld) : Type 0 where
-  pub place : (t : Ticket) → accepted_worth (only t) w ≡ standing (only t) w + used_worth (only t) w
-  pub once : (t : Ticket) → standing (only t) w + used_worth (only t) w ≤ 1
+  pub place : (t : Ticket) → accepted_count (only t) w ≡ standing_count (only t) w + used_count (only t) w
+  pub once : (t : Ticket) → standing_count (only t) w + used_count (only t) w ≤ 1
 
 -- the trace is that of these transitions, which lead from the opening to the world, each where it may happen
 pub record AreTransitions (old : PlainWorld) (trace : List Occurrence) (w : PlainWorld) (ds : List Transition) : Type 0 where

@@ -4,7 +4,7 @@ use Rattle.std.specs.List.{sum_by}
 use Rattle.device_model.specs.World.{PlainWorld}
 use Rattle.device_model.specs.Transitions.{Transition, event_of}
 use Rattle.device_model.specs.Happens.{Happens, world_of}
-use Rattle.device_model.specs.Places.{accepted_worth, used_worth}
+use Rattle.device_model.specs.Places.{accepted_count, used_count}
 use Rattle.device_model.specs.Order.{IsNext, IsNextOf}
 use Rattle.device_model.specs.Measure.{price, visits, answered_hand}
 
@@ -31,6 +31,6 @@ visited d = 0
 -- unit that a function visits, 1 for each waiting event, and 1 for each queue
 abbrev pub IsShort : PlainWorld → List Transition → Type 0
 IsShort w more =
-    length more + used_worth price w
-    ≤ accepted_worth price (world_of w more) + sum_by answered_hand w.seats + visits w.function
+    length more + used_count price w
+    ≤ accepted_count price (world_of w more) + sum_by answered_hand w.seats + visits w.function
     + 2 * sum_by visited more + length w.waiting + length w.queues

@@ -4,7 +4,7 @@ use Rattle.std.specs.List.{AllByRecursion}
 use Rattle.ring_core.specs.State.{PlainChain, Owns}
 use Rattle.ring_core.specs.declared.log.Ticket.{Ticket}
 use Rattle.unit_model.specs.Tasks.{Entry, task_of}
-use Rattle.unit_model.specs.Steps.{alive, done, floor}
+use Rattle.unit_model.specs.Steps.{alive, done, next_number}
 use Rattle.unit_model.specs.Marks.{marked}
 use Rattle.unit_model.specs.Enabling.{enabled}
 use Rattle.unit_model.specs.Jobs.{PlainJob}
@@ -113,7 +113,7 @@ front_of (Slot.Direct c o) n = n
 -- no history has the ticket of a request that arrived, or one that wasn't accepted
 pub record IsBehind (w : PlainWorld) (i : ℕ) (q : PlainQueue) : Type 0 where
   pub latest : SlotIsLatest w q q.slot
-  pub floors : Everywhere (λ k u. floor i u.steps ≤ front_of q.slot (length q.ring.log.accepted)) w.units
+  pub floors : Everywhere (λ k u. next_number i u.steps ≤ front_of q.slot (length q.ring.log.accepted)) w.units
 
 abbrev pub AreBehind : PlainWorld → Type 0
 AreBehind w = Everywhere (IsBehind w) w.queues

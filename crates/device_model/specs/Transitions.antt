@@ -1,8 +1,8 @@
 -- A transition is an event with what it found and did. It fixes the world after it; the event and the action are parts of it.
 use Rattle.std.specs.Prelude.{ℕ, Bool, true, false, List, [], ◌∷◌, Option, Some, None}
-use Rattle.scsi_codec.specs.declared.event_queue.Event.{Event as Report}
+use Rattle.scsi_codec.specs.declared.event_queue.Event.{Event as EventRecord}
 use Rattle.scsi_codec.specs.declared.control_queue.FunctionResponse.{FunctionResponse}
-use Rattle.replies.specs.PlainReply.{PlainReply}
+use Rattle.command_model.specs.PlainReply.{PlainReply}
 use Rattle.ring_core.specs.State.{PlainChain}
 use Rattle.ring_core.specs.Writes.{Write}
 use Rattle.ring_core.specs.declared.fault.RingFault.{RingFault}
@@ -59,8 +59,8 @@ pub data Transition : Type 0 where
   -- the unit, and its blocks from now on
   Resize : ℕ → ℕ → Transition
   -- Raise: into the oldest buffer, or missed
-  Give : Report → PlainChain → Completion → Transition
-  Miss : Report → Transition
+  Give : EventRecord → PlainChain → Completion → Transition
+  Miss : EventRecord → Transition
   Idle : Event → Transition
 
 -- the queue of a fetch

@@ -1,7 +1,7 @@
 -- The device as a plain value: memory, queues, units, seats, the hand-off, one function, the event port.
 use Rattle.std.specs.Prelude.{ℕ, Bool, false, zero, suc, ◌≡◌, ◌-◌, ◌%◌, ◌+◌, ◌<◌, ◌≤◌, ◌⊎◌, List, [], ◌∷◌, ◌++◌, length, Option, Some, None, slice_get}
 use Rattle.scsi_codec.specs.declared.lun.Address.{Address}
-use Rattle.scsi_codec.specs.declared.event_queue.Event.{Event as Report}
+use Rattle.scsi_codec.specs.declared.event_queue.Event.{Event as EventRecord}
 use Rattle.ring_core.specs.State.{RingState, PlainChain}
 use Rattle.unit_model.specs.Jobs.{PlainJob}
 use Rattle.unit_model.specs.Unit.{PlainUnit}
@@ -46,7 +46,7 @@ pub record PlainWorld : Type 0 where
   pub buffers : List PlainChain
   pub missed : Bool
   -- events that are to be raised
-  pub waiting : List Report
+  pub waiting : List EventRecord
   -- the driver is told of capacities that change
   pub tells_changes : Bool
 

@@ -36,7 +36,7 @@ ghost use Rattle.device_model.specs.Phases.{
   LendsUnit,
   LendsQueue,
 };
-ghost use Rattle.device_model.specs.Places.{Moves, accepted_worth, standing, used_worth, only, accepted_chains, used_chains};
+ghost use Rattle.device_model.specs.Places.{Moves, accepted_count, standing_count, used_count, only, accepted_chains, used_chains};
 ghost use Rattle.device_model.specs.Lawful.{AreNumbered, AreUnits, KeepsParts, AllLieIn};
 ghost use Rattle.device_model.specs.Standing.{
   AreOwned,
@@ -156,11 +156,11 @@ pub fn jobs_are_kept()
 /// - `chains`, for a `p` that is 1 for each ticket: it counts the chains.
 pub fn each_chain_stands_in_one_place()
     ensures place { (p : Ticket → ℕ) (old : PlainWorld) (trace : List Occurrence) (w : PlainWorld) →
-        Reached old trace w → accepted_worth p w ≡ standing p w + used_worth p w }
+        Reached old trace w → accepted_count p w ≡ standing_count p w + used_count p w }
     ensures once { (t : Ticket) (old : PlainWorld) (trace : List Occurrence) (w : PlainWorld) →
-        Reached old trace w → standing (only t) w + used_worth (only t) w ≤ 1 }
+        Reached old trace w → standing_count (only t) w + used_count (only t) w ≤ 1 }
     ensures chains { (old : PlainWorld) (trace : List Occurrence) (w : PlainWorld) → Reached old trace w →
-        accepted_chains w ≡ standing (λ t. 1) w + used_chains w }
+        accepted_chains w ≡ standing_count (λ t. 1) w + used_chains w }
     ensures transition { (p : Ticket → ℕ) (w : PlainWorld) (d : Transition) → May d w → Moves p d w (after d w) }
 {}
 

@@ -12,7 +12,7 @@ ghost use Rattle.device_model.specs.After.{after};
 ghost use Rattle.unit_model.specs.Jobs.{PlainJob};
 ghost use Rattle.device_model.specs.Parts.{Hand};
 ghost use Rattle.device_model.specs.Happens.{Occurrence, Happens, Runs, Reached, SeatIs, OffIs, occurrence_of, world_of};
-ghost use Rattle.device_model.specs.Places.{of_chain, only, accepted_worth, used_worth};
+ghost use Rattle.device_model.specs.Places.{of_chain, only, accepted_count, used_count};
 ghost use Rattle.device_model.specs.Turns.{count_changes};
 ghost use Rattle.device_model.specs.Applies.{Applies};
 ghost use Rattle.device_model.specs.Order.{IsNext, IsQuiet, IsAtRest, IsNextOf, IsQuietOf, IsAtRestOf};
@@ -79,7 +79,7 @@ pub fn what_applies_happens()
 /// chain waits for something that never comes.
 pub fn nothing_is_stuck()
     ensures { (old : PlainWorld) (trace : List Occurrence) (w : PlainWorld) (t : Ticket) → Reached old trace w →
-        used_worth (only t) w < accepted_worth (only t) w → sum_by (of_chain (only t)) w.buffers ≡ 0 →
+        used_count (only t) w < accepted_count (only t) w → sum_by (of_chain (only t)) w.buffers ≡ 0 →
         (e : Event) × IsNext w e }
 {}
 

@@ -5,7 +5,7 @@ use Rattle.scsi_codec.specs.Lun.{IsAddress}
 use Rattle.guest_driver.specs.Inner.Requests.{IsFunction}
 use Rattle.guest_driver.proofs.Heads.{take_first, drop_first}
 use Rattle.guest_driver.proofs.Numbers.{number_from, reads_4, reads_8}
-use Rattle.script_lines.specs.declared.send.TaskManagement.{TaskManagement}
+use Rattle.script_syntax.specs.declared.send.TaskManagement.{TaskManagement}
 
 module _ (bytes lun : List ℕ) (subtype id : ℕ) (eight : length lun ≡ 8)
     (is : bytes ≡ 0 ∷ 0 ∷ 0 ∷ 0 ∷ (to_le_bytes w32 subtype ++ (lun ++ to_le_bytes w64 id))) where

@@ -6,7 +6,7 @@ use Rattle.std.specs.Int.{w64, to_le_bytes}
 use Rattle.scsi_codec.specs.Lun.{IsAddress}
 use Rattle.guest_driver.specs.Inner.Requests.{IsHead}
 use Rattle.guest_driver.proofs.Numbers.{number_from, reads_8}
-use Rattle.script_lines.specs.declared.send.Send.{Send}
+use Rattle.script_syntax.specs.declared.send.Send.{Send}
 
 -- the first n elements of a list of n and more are that list
 pub take_first : (n : ℕ) (xs ys : List ℕ) → length xs ≡ n → take n (xs ++ ys) ≡ xs

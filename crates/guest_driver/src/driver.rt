@@ -10,7 +10,7 @@ use crate::requests::{
 };
 use crate::split_queue::SplitQueue;
 use ring_core::Form;
-use script_lines::{Features, LineFault, Send, Stop, TaskManagement};
+use script_syntax::{Features, LineFault, Send, Stop, TaskManagement};
 use scsi_codec::{CONTROL_QUEUE, EVENT_BYTES, EVENT_QUEUE, REQUEST_BYTES, RESPONSE_BYTES};
 use slab::Slab;
 use std::alloc::{AllocError, Global};

@@ -5,7 +5,7 @@ ghost use Rattle.std.specs.Int.{w16, w32, from_le_bytes};
 ghost use Rattle.guest_driver.specs.Inner.Guest.{IsDescriptor};
 
 use crate::memory::GuestMemory;
-use script_lines::{Bytes, Item, LineFault, Stop};
+use script_syntax::{Bytes, Item, LineFault, Stop};
 use std::alloc::{AllocError, Global};
 
 /// The most bytes that are written at once, but for a longer item.

@@ -6,7 +6,7 @@ ghost use Rattle.guest_driver.specs.Inner.Requests.{IsFunction, IsHead, IsNextPl
 
 use crate::guest::{Buffer, put};
 use crate::memory::GuestMemory;
-use script_lines::{LineFault, Send, TaskManagement};
+use script_syntax::{LineFault, Send, TaskManagement};
 use scsi_codec::REQUEST_BYTES;
 use std::alloc::{AllocError, Global};
 use std::marker::Model;

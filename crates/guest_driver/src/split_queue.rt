@@ -6,7 +6,7 @@ use crate::areas::layout_of;
 use crate::guest::{descriptor, put, u16_at, u32_at};
 use crate::memory::GuestMemory;
 use crate::requests::{Chain, Used};
-use script_lines::{LineFault, Stop};
+use script_syntax::{LineFault, Stop};
 use std::alloc::{AllocError, Global};
 use std::collections::BTreeSet;
 use std::num::NonZeroU16;

@@ -1,9 +1,9 @@
 //! The steps that the device may still take.
 
 ghost use Rattle.std.specs.Prelude.{ℕ, ◌≡◌, ◌≤◌, ◌<◌, ◌-◌, None, Some, Err, IsOk, OnErr};
-ghost use Rattle.script_lines.specs.declared.fault.LineFault.{LineFault};
+ghost use Rattle.script_syntax.specs.declared.fault.LineFault.{LineFault};
 
-use script_lines::LineFault;
+use script_syntax::LineFault;
 
 /// The number of steps that the device may still take; `None` for any number.
 #[derive(Clone, Copy)]

@@ -10,7 +10,7 @@ mod session;
 mod steps;
 mod trace;
 
-pub use script_lines::{LineFault, ScriptFault};
-pub use script_text::check;
+pub use script_semantics::check;
+pub use script_syntax::{LineFault, ScriptFault};
 pub use service::serve;
 pub use session::{Options, play};

@@ -5,7 +5,7 @@ ghost use Rattle.guest_mem.specs.Memory.{bytes_at, with_bytes, LiesIn};
 
 use guest_driver::GuestMemory;
 use guest_mem::{GuestMem, MemFault};
-use script_text::Device;
+use script_semantics::Device;
 use scsi_codec::Address;
 use unit_history::UnitState;
 use world::World;

@@ -5,10 +5,10 @@ ghost use Rattle.workers.specs.Ledgers.{Opens};
 
 use crate::host_memory::HostMemory;
 use guest_driver::Driver;
-use script_lines::{Command, LineFault, ScriptFault, Stop};
-use script_text::{
+use script_semantics::{
     Known, Script, Wanted, command_of, line_number, print, read_whole, run_guest_line, stop_of,
 };
+use script_syntax::{Command, LineFault, ScriptFault, Stop};
 use scsi_codec::Address;
 use std::alloc::Global;
 use std::io::{Read, Write};

@@ -5,10 +5,10 @@ use crate::machine::Machine;
 use crate::steps::{event_of, order};
 use crate::trace::{Trace, print_ask};
 use guest_driver::Driver;
-use script_lines::{Command, LineFault, ScriptFault, Step, Stop};
-use script_text::{
+use script_semantics::{
     Known, Script, Wanted, command_of, line_number, print, read_whole, run_guest_line, stop_of,
 };
+use script_syntax::{Command, LineFault, ScriptFault, Step, Stop};
 use scsi_codec::Address;
 use std::alloc::{AllocError, Global};
 use std::io::{Read, Write};

@@ -1,6 +1,6 @@
 //! The steps of the device, in the order in which it takes them.
 
-use script_lines::Step;
+use script_syntax::Step;
 use std::alloc::{AllocError, Global};
 use world::Event;
 

@@ -2,8 +2,8 @@
 
 use guest_driver::Driver;
 use ring_core::Ticket;
-use script_lines::Stop;
-use script_text::{Known, written};
+use script_semantics::{Known, written};
+use script_syntax::Stop;
 use scsi_codec::{Address, CONTROL_QUEUE, EVENT_QUEUE};
 use std::alloc::{AllocError, Global};
 use std::io::Write;

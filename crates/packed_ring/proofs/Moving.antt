@@ -5,7 +5,7 @@ use Rattle.std.proofs.lemmas.Bool.Decides.{nat_tests}
 use Rattle.std.proofs.lemmas.List.Sums.{sum_by-cons}
 use Rattle.ring_core.specs.State.{RingState, PlainChain, Owns, accepting, using}
 use Rattle.ring_core.specs.Sound.{IsSound, slots_of, outstanding_count}
-use Rattle.ring_core.specs.Packed.{whole_wrong}
+use Rattle.ring_core.specs.Packed.{chain_wrong}
 use Rattle.ring_core.specs.Offer.{PackedOffers, Found}
 use Rattle.ring_core.proofs.Few.{few_by_slots}
 use Rattle.ring_core.proofs.Sound.{at_set, is_within}
@@ -14,7 +14,8 @@ use Rattle.ring_core.specs.declared.outstanding.OutstandingChain.{OutstandingCha
 use Rattle.packed_ring.specs.Inner.IsPacked.{IsPacked}
 
 -- what is right of a chain that is found
-right_slots : (s : RingState) (id slots : ℕ) → whole_wrong s id slots ≡ None → s.accepted_slots - s.used_slots + slots ≤ s.layout.size
+right_slots : (s : RingState) (id slots : ℕ) → chain_wrong s id slots ≡ None
+    → s.accepted_slots - s.used_slots + slots ≤ s.layout.size
 right_slots s id slots e = grind (arith, common_steps, nat_tests)
 
 some_slots : (s : RingState) (m : List ℕ) (id slots : ℕ) (parts : List Part) → PackedOffers s m (Found id slots parts) → 1 ≤ slots

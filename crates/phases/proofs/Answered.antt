@@ -5,15 +5,15 @@ use Rattle.ring_core.specs.State.{PlainChain}
 use Rattle.ring_core.specs.declared.log.Ticket.{Ticket}
 use Rattle.ring_core.specs.Writes.{Write, all_written, scatter_writes}
 use Rattle.ring_core.specs.Offer.{used_writes}
-use Rattle.decisions.specs.declared.answer.ChainLengths.{ChainLengths}
+use Rattle.request_intake.specs.declared.answer.ChainLengths.{ChainLengths}
 use Rattle.unit_model.specs.Endings.{Ending, answer_of}
 use Rattle.unit_model.specs.Jobs.{PlainJob}
 use Rattle.unit_history.specs.Endings.{ending_of}
 use Rattle.unit_history.specs.declared.outcomes.Outcome as answers
 use Rattle.device_model.specs.Parts.{IsSeen, Outcome, Slot, Hand, lengths_of}
 use Rattle.device_model.specs.Transitions.{Transition}
-use Rattle.queues.specs.Queue.{BareQueue, MayComplete, completing}
-use Rattle.queues.specs.Completing.{SeenBehind}
+use Rattle.virtqueue.specs.Queue.{BareQueue, MayComplete, completing}
+use Rattle.virtqueue.specs.Completing.{SeenBehind}
 use Rattle.phases.specs.Queue.{with_slot}
 use Rattle.phases.specs.Answering.{Answers}
 use Rattle.phases.specs.Direct.{decided_writes}

@@ -2,10 +2,10 @@
 use Rattle.std.proofs.Common.{◌≡◌, ℕ, ◌+◌, Bool, true, false, List, [], Option, Some, None, length, refl, ap, sym, ◌∙◌, subst, arith}
 use Rattle.cdb.specs.declared.commands.Command.{Command}
 use Rattle.cdb.specs.Need.{need_of}
-use Rattle.replies.specs.Statuses.{good}
-use Rattle.replies.specs.PlainReply.{success}
-use Rattle.replies.specs.Inner.PlainReply.{good_data}
-use Rattle.decisions.specs.declared.answer.ChainLengths.{ChainLengths}
+use Rattle.command_model.specs.Statuses.{good}
+use Rattle.command_model.specs.PlainReply.{success}
+use Rattle.command_model.specs.Inner.PlainReply.{good_data}
+use Rattle.request_intake.specs.declared.answer.ChainLengths.{ChainLengths}
 use Rattle.ring_core.specs.Parts.{readable_total, writable_total}
 use Rattle.ring_core.specs.declared.log.Ticket.{Ticket}
 use Rattle.ring_core.specs.State.{PlainChain}
@@ -22,8 +22,8 @@ use Rattle.unit_history.specs.Endings.{ending_of}
 use Rattle.unit_history.specs.declared.outcomes.Outcome as answers
 use Rattle.unit_history.specs.declared.outcomes.Entered.TheVariants as entered
 use Rattle.device_model.specs.Parts.{Outcome, Slot, Hand, lengths_of}
-use Rattle.queues.specs.Queue.{BareQueue, completing}
-use Rattle.queues.specs.Completing.{SeenBehind}
+use Rattle.virtqueue.specs.Queue.{BareQueue, completing}
+use Rattle.virtqueue.specs.Completing.{SeenBehind}
 use Rattle.phases.specs.Units.{EntersAs, Commits, Leaves}
 use Rattle.phases.specs.DoingUnit.{with_more}
 use Rattle.phases.specs.Inner.Serving.{Serves}

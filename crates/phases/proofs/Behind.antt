@@ -8,7 +8,7 @@ use Rattle.device_model.specs.World.{PlainQueue}
 use Rattle.device_model.specs.Transitions.{Transition}
 use Rattle.device_model.specs.Phases.{AsksQueue}
 use Rattle.device_model.proofs.Seeing.{seen_as_left}
-use Rattle.queues.specs.Completing.{SeenAs, SeenBehind}
+use Rattle.virtqueue.specs.Completing.{SeenAs, SeenBehind}
 use Rattle.phases.specs.DoingQueue.{DoesQueue}
 use Rattle.phases.specs.InMemory.{EachSeen}
 use Rattle.phases.specs.Inner.InMemory.{DoesQueueIn}

@@ -9,9 +9,9 @@ use Rattle.device_model.specs.Parts.{PlainFetch, IsSeen, Slot, answer_writes, is
 use Rattle.device_model.specs.Transitions.{Transition}
 use Rattle.device_model.specs.After.{with_chain}
 use Rattle.device_model.specs.Happens.{spent_bytes}
-use Rattle.queues.specs.Queue.{BareQueue, completing}
+use Rattle.virtqueue.specs.Queue.{BareQueue, completing}
 use Rattle.phases.specs.Queue.{with_slot}
-use Rattle.queues.specs.Looking.{Breaks}
+use Rattle.virtqueue.specs.Looking.{Breaks}
 use Rattle.phases.specs.EventQueue.{IsEventFetch}
 use Rattle.phases.specs.Inner.InMemory.{as_seen}
 use Rattle.phases.specs.Inner.EventsInMemory.{DoesAtPortIn, TakesBuffer}

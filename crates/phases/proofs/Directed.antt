@@ -9,8 +9,8 @@ use Rattle.task_mgmt.specs.Functions.{is_over, response_of}
 use Rattle.device_model.specs.Parts.{IsSeen, Outcome, Slot, lengths_of, bytes_of, answer_writes}
 use Rattle.device_model.specs.World.{Opened}
 use Rattle.device_model.specs.Transitions.{Transition}
-use Rattle.queues.specs.Queue.{BareQueue, MayComplete, completing}
-use Rattle.queues.specs.Completing.{SeenBehind}
+use Rattle.virtqueue.specs.Queue.{BareQueue, MayComplete, completing}
+use Rattle.virtqueue.specs.Completing.{SeenBehind}
 use Rattle.phases.specs.Queue.{with_slot}
 use Rattle.phases.specs.Slots.{is_direct}
 use Rattle.phases.specs.Direct.{decided_writes, Directs, Responds, RespondsWhere}

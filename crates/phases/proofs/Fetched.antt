@@ -4,17 +4,17 @@ use Rattle.scsi_codec.specs.declared.lun.Address.{Address}
 use Rattle.ring_core.specs.State.{RingState, PlainChain}
 use Rattle.ring_core.specs.Fetch.{Takes}
 use Rattle.ring_core.specs.declared.log.Ticket.{Ticket}
-use Rattle.decisions.specs.declared.decision.Decision.TheVariants as decision
+use Rattle.request_intake.specs.declared.decision.Decision.TheVariants as decision
 use Rattle.task_mgmt.specs.declared.control.ControlDecision.TheVariants as managed
 use Rattle.device_model.specs.Parts.{PlainFetch, Outcome, Slot}
 use Rattle.device_model.specs.World.{PlainQueue, Opened}
 use Rattle.device_model.specs.Transitions.{Transition}
 use Rattle.device_model.specs.After.{with_chain}
 use Rattle.device_model.specs.Happens.{DecidesRequest, DecidesControl, IsDirect}
-use Rattle.queues.specs.Queue.{BareQueue}
+use Rattle.virtqueue.specs.Queue.{BareQueue}
 use Rattle.phases.specs.Queue.{with_slot}
 use Rattle.phases.specs.DoingQueue.{DoesQueue}
-use Rattle.queues.specs.Looking.{Breaks}
+use Rattle.virtqueue.specs.Looking.{Breaks}
 use Rattle.phases.specs.Fetching.{IsRequestFetch, IsControlFetch, opens}
 use Rattle.phases.specs.Inner.Fetching.{Arrives, IsDecided}
 

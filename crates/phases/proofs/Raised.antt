@@ -1,15 +1,15 @@
 -- What the use of a buffer is, and what the raising of an event is, where no buffer gets it.
 use Rattle.std.proofs.Common.{◌≡◌, ℕ, Bool, true, false, ◌||◌, List, [], ◌∷◌, ◌++◌, length, Option, Some, None, refl, ap, sym, ◌∙◌, subst}
 use Rattle.std.specs.Prelude.{slice_get, drop, if◌then◌else◌}
-use Rattle.scsi_codec.specs.declared.event_queue.Event.{Event as Report}
+use Rattle.scsi_codec.specs.declared.event_queue.Event.{Event as EventRecord}
 use Rattle.ring_core.specs.State.{PlainChain}
 use Rattle.ring_core.specs.Writes.{Wrote, Write, all_written, scatter_writes}
 use Rattle.ring_core.specs.Offer.{used_writes}
 use Rattle.scsi_codec.specs.EventQueue.{event_bytes, missed_event}
 use Rattle.event_queue.specs.Port.{PlainPort, Gift, Happening, gives, after as port_of, gives_to, raised_to}
 use Rattle.device_model.specs.Parts.{answer_writes, is_short}
-use Rattle.queues.specs.Queue.{BareQueue, completing}
-use Rattle.queues.specs.Completing.{SeenBehind}
+use Rattle.virtqueue.specs.Queue.{BareQueue, completing}
+use Rattle.virtqueue.specs.Completing.{SeenBehind}
 use Rattle.phases.specs.Inner.EventQueue.{MayRaise}
 use Rattle.phases.specs.InMemory.{EachSeen}
 use Rattle.phases.specs.Inner.EventsInMemory.{RaisesToIn, RaisesNextIn, UsesWith, TakesBuffer, TakesBufferOf}
@@ -59,7 +59,7 @@ is_held c p p' short none port =
 -- Raise
 
 -- no buffer is held
-missed_first : (shared : Bool) (cs : List PlainChain) (e : Report) (later : List Report) (q : BareQueue) (m : List ℕ)
+missed_first : (shared : Bool) (cs : List PlainChain) (e : EventRecord) (later : List EventRecord) (q : BareQueue) (m : List ℕ)
     (p p' : PlainPort) → None ≡ gives_to e cs → p' ≡ raised_to cs p → RaisesToIn shared cs e later q m p true q m m p' later
 missed_first shared [] e later q m p p' none port = (record { queue = refl; memory = refl; seen = refl }, port, refl)
 missed_first shared (c ∷ more) e later q m p p' none port = absurd (cc)
@@ -70,24 +70,24 @@ none_left None without = refl
 none_left (Some x) without = absurd (without x refl)
 
 -- the oldest buffer may not be completed
-refused_first : (shared : Bool) (cs : List PlainChain) (e : Report) (later : List Report) (q : BareQueue) (m : List ℕ)
+refused_first : (shared : Bool) (cs : List PlainChain) (e : EventRecord) (later : List EventRecord) (q : BareQueue) (m : List ℕ)
     (p : PlainPort) → (MayRaise cs q m → ⊥) → RaisesToIn shared cs e later q m p false q m m p (e ∷ later)
 refused_first shared [] e later q m p refused = absurd (refused tt)
 refused_first shared (c ∷ more) e later q m p refused =
     (refused, record { at_queue = record { queue = refl; memory = refl; seen = refl }; port = refl; waiting = refl })
 
-pub missed : (shared : Bool) (w : List Report) (e : Report) (q : BareQueue) (may : List ℕ → Type 0) (p p' : PlainPort)
-    (w' : List Report) → Some e ≡ slice_get w 0 → w' ≡ drop 1 w → None ≡ gives_to e p.buffers → p' ≡ raised_to p.buffers p
+pub missed : (shared : Bool) (w : List EventRecord) (e : EventRecord) (q : BareQueue) (may : List ℕ → Type 0) (p p' : PlainPort)
+    (w' : List EventRecord) → Some e ≡ slice_get w 0 → w' ≡ drop 1 w → None ≡ gives_to e p.buffers → p' ≡ raised_to p.buffers p
     → EachSeen shared may may (λ found left seen. RaisesNextIn shared w q found p true q left seen p' w')
 missed shared [] e q may p p' w' first rest none port = absurd (cc)
 missed shared (f ∷ later) e q may p p' w' first rest none port =
     let same : e ≡ f = cc in
     each_read shared may may (λ found left seen. RaisesNextIn shared (f ∷ later) q found p true q left seen p' w') (λ m stood. stood)
-    (λ m stood. subst (λ (k : List Report). RaisesToIn shared p.buffers f later q m p true q m m p' k) (sym rest)
+    (λ m stood. subst (λ (k : List EventRecord). RaisesToIn shared p.buffers f later q m p true q m m p' k) (sym rest)
     (missed_first shared p.buffers f later q m p p'
-    (subst (λ (g : Report). None ≡ gives_to g p.buffers) same none) port))
+    (subst (λ (g : EventRecord). None ≡ gives_to g p.buffers) same none) port))
 
-pub refused : (shared : Bool) (w : List Report) (e : Report) (q : BareQueue) (may : List ℕ → Type 0) (p : PlainPort)
+pub refused : (shared : Bool) (w : List EventRecord) (e : EventRecord) (q : BareQueue) (may : List ℕ → Type 0) (p : PlainPort)
     → Some e ≡ slice_get w 0 → ((m : List ℕ) → may m → MayRaise p.buffers q m → ⊥)
     → EachSeen shared may may (λ found left seen. RaisesNextIn shared w q found p false q left seen p w)
 refused shared [] e q may p first not_so = absurd (cc)
@@ -95,8 +95,8 @@ refused shared (f ∷ later) e q may p first not_so =
     each_read shared may may (λ found left seen. RaisesNextIn shared (f ∷ later) q found p false q left seen p (f ∷ later))
     (λ m stood. stood) (λ m stood. refused_first shared p.buffers f later q m p (not_so m stood))
 
-pub quiet : (shared : Bool) (w : List Report) (q : BareQueue) (may : List ℕ → Type 0) (p : PlainPort) → None ≡ slice_get w 0
-    → EachSeen shared may may (λ found left seen. RaisesNextIn shared w q found p false q left seen p w)
+pub quiet : (shared : Bool) (w : List EventRecord) (q : BareQueue) (may : List ℕ → Type 0) (p : PlainPort)
+    → None ≡ slice_get w 0 → EachSeen shared may may (λ found left seen. RaisesNextIn shared w q found p false q left seen p w)
 quiet shared [] q may p none =
     each_read shared may may (λ found left seen. RaisesNextIn shared [] q found p false q left seen p []) (λ m stood. stood)
     (λ m stood. record { at_queue = record { queue = refl; memory = refl; seen = refl }; port = refl; waiting = refl })

@@ -2,7 +2,7 @@
 use Rattle.std.proofs.Common.{◌≡◌, ℕ, List, length, ◌≤◌, ap, sym, ◌∙◌, arith}
 use Rattle.ring_core.specs.State.{PlainChain}
 use Rattle.ring_core.specs.Parts.{readable_total, writable_total}
-use Rattle.decisions.specs.declared.answer.ChainLengths.{ChainLengths}
+use Rattle.request_intake.specs.declared.answer.ChainLengths.{ChainLengths}
 use Rattle.unit_model.specs.Endings.{answer_of}
 use Rattle.device_model.specs.Parts.{lengths_of}
 use Rattle.phases.specs.DirectChain.{refused_as}

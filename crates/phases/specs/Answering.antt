@@ -2,7 +2,7 @@
 use Rattle.std.specs.Prelude.{ℕ, ◌≡◌, Bool, true, false, List}
 use Rattle.device_model.specs.Parts.{Hand, as_left}
 use Rattle.device_model.specs.Transitions.{Transition}
-use Rattle.queues.specs.Queue.{BareQueue}
+use Rattle.virtqueue.specs.Queue.{BareQueue}
 use Rattle.phases.specs.DoingQueue.{AtQueue}
 use Rattle.phases.specs.Direct.{decided_writes, StaysQueue, LetsGo}
 

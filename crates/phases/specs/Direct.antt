@@ -7,7 +7,7 @@ use Rattle.task_mgmt.specs.Functions.{is_over, response_of}
 use Rattle.device_model.specs.Parts.{Outcome, Slot, as_left, lengths_of, bytes_of, answer_writes}
 use Rattle.device_model.specs.World.{Opened}
 use Rattle.device_model.specs.Transitions.{Transition}
-use Rattle.queues.specs.Queue.{BareQueue, MayComplete}
+use Rattle.virtqueue.specs.Queue.{BareQueue, MayComplete}
 use Rattle.phases.specs.Queue.{with_slot}
 use Rattle.phases.specs.DoingQueue.{AtQueue, DoesQueue}
 

@@ -5,7 +5,7 @@ use Rattle.device_model.specs.Parts.{Slot}
 use Rattle.device_model.specs.World.{PlainQueue}
 use Rattle.device_model.specs.Transitions.{Transition}
 use Rattle.device_model.specs.Phases.{AsksQueue, queue_after, bytes_after}
-use Rattle.queues.specs.Queue.{BareQueue}
+use Rattle.virtqueue.specs.Queue.{BareQueue}
 use Rattle.phases.specs.Queue.{with_slot}
 
 -- a transition on a queue with memory, where these units are

@@ -2,7 +2,7 @@
 use Rattle.std.specs.Prelude.{ℕ, ◌≡◌, ◌<◌, ◌&&◌, ◌++◌, Bool, true, false, List, [], ◌∷◌, length, drop, Result, Ok, Err}
 use Rattle.block_store.specs.declared.NoMemory.{NoMemory}
 use Rattle.scsi_codec.specs.declared.lun.Address.{Address}
-use Rattle.scsi_codec.specs.declared.event_queue.Event.{Event as Report}
+use Rattle.scsi_codec.specs.declared.event_queue.Event.{Event as EventRecord}
 use Rattle.scsi_codec.specs.EventQueue.{event_bytes}
 use Rattle.ring_core.specs.State.{PlainChain}
 use Rattle.ring_core.specs.Offer.{MayLackMemory}
@@ -11,7 +11,7 @@ use Rattle.device_model.specs.Parts.{answer_writes, as_left, is_short}
 use Rattle.device_model.specs.World.{PlainQueue}
 use Rattle.device_model.specs.Transitions.{Transition}
 use Rattle.device_model.specs.Phases.{AsksQueue, queue_after, bytes_after}
-use Rattle.queues.specs.Queue.{BareQueue, MayComplete}
+use Rattle.virtqueue.specs.Queue.{BareQueue, MayComplete}
 use Rattle.phases.specs.DoingQueue.{AtQueue}
 use Rattle.phases.specs.Fetching.{IsFree, HasSome}
 use Rattle.phases.specs.Direct.{StaysQueue}
@@ -65,17 +65,17 @@ FetchesEvent q m p (Err e) q' m' p' =
 -- Raise
 
 -- nothing changed
-pub record StaysRaised (q : BareQueue) (m : List ℕ) (p : PlainPort) (w : List Report) (q' : BareQueue) (m' : List ℕ)
-    (p' : PlainPort) (w' : List Report) : Type 0 where
+pub record StaysRaised (q : BareQueue) (m : List ℕ) (p : PlainPort) (w : List EventRecord) (q' : BareQueue) (m' : List ℕ)
+    (p' : PlainPort) (w' : List EventRecord) : Type 0 where
   pub at_queue : StaysQueue q q' m m'
   pub port : p' ≡ p
   pub waiting : w' ≡ w
 
 -- the event goes to the oldest buffer, or is missed; where the memory isn't the queue's, or the queue doesn't own the
 -- buffer, nothing is changed
-abbrev pub RaisesTo : List PlainChain → Report → List Report → BareQueue → List ℕ → PlainPort → Bool → BareQueue → List ℕ
-    → PlainPort
-    → List Report → Type 0
+abbrev pub RaisesTo : List PlainChain → EventRecord → List EventRecord → BareQueue → List ℕ → PlainPort → Bool → BareQueue
+    → List ℕ → PlainPort
+    → List EventRecord → Type 0
 RaisesTo (c ∷ more) e later q m p true q' m' p' w' =
     AtQueue (Transition.Give e c (as_left m (answer_writes q.ring c (event_bytes e)))) q m q' m'
     × (p' ≡ port_after (Transition.Give e c (as_left m (answer_writes q.ring c (event_bytes e)))) p) × (w' ≡ later)
@@ -84,8 +84,8 @@ RaisesTo (c ∷ more) e later q m p false q' m' p' w' =
 RaisesTo [] e later q m p true q' m' p' w' = StaysQueue q q' m m' × (p' ≡ port_after (Transition.Miss e) p) × (w' ≡ later)
 RaisesTo [] e later q m p false q' m' p' w' = ⊥
 
-abbrev pub RaisesNext : List Report → BareQueue → List ℕ → PlainPort → Bool → BareQueue → List ℕ → PlainPort → List Report
-    → Type 0
+abbrev pub RaisesNext : List EventRecord → BareQueue → List ℕ → PlainPort → Bool → BareQueue → List ℕ → PlainPort
+    → List EventRecord → Type 0
 RaisesNext (e ∷ later) q m p result q' m' p' w' = RaisesTo p.buffers e later q m p result q' m' p' w'
 RaisesNext [] q m p true q' m' p' w' = ⊥
 RaisesNext [] q m p false q' m' p' w' = StaysRaised q m p [] q' m' p' w'

@@ -1,5 +1,5 @@
 -- A virtqueue as one lock lends it, beside its slot.
-use Rattle.queues.specs.Queue.{BareQueue}
+use Rattle.virtqueue.specs.Queue.{BareQueue}
 use Rattle.device_model.specs.Parts.{Slot}
 use Rattle.device_model.specs.World.{PlainQueue}
 

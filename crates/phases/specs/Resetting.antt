@@ -1,7 +1,7 @@
 -- What the operator's reset of a unit does.
 use Rattle.std.specs.Prelude.{ℕ, ◌≡◌, ◌<◌, ◌++◌, Bool, true, false, List, [], ◌∷◌, Result, Ok, Err}
 use Rattle.scsi_codec.specs.declared.lun.Address.{Address}
-use Rattle.scsi_codec.specs.declared.event_queue.Event.{Event as Report}
+use Rattle.scsi_codec.specs.declared.event_queue.Event.{Event as EventRecord}
 use Rattle.unit_model.specs.Steps.{Step}
 use Rattle.unit_model.specs.Jobs.{Jobs}
 use Rattle.unit_model.specs.Unit.{PlainUnit}
@@ -15,16 +15,16 @@ use Rattle.phases.specs.declared.resetting.ResetFault.{ResetFault}
 use Rattle.phases.specs.declared.resetting.ResetFault.TheVariants as fault
 
 -- nothing changed
-pub record StaysReset (u : PlainUnit) (out : Jobs) (w : List Report) (u' : PlainUnit) (out' : Jobs)
-    (w' : List Report) : Type 0 where
+pub record StaysReset (u : PlainUnit) (out : Jobs) (w : List EventRecord) (u' : PlainUnit) (out' : Jobs)
+    (w' : List EventRecord) : Type 0 where
   pub unit : u' ≡ u
   pub jobs : out' ≡ out
   pub waiting : w' ≡ w
 
 -- the unit of this place of the inventory is reset, its released jobs are appended, and the event waits; there is no room
 -- for the jobs, or no event may name the unit's LUN; or it is another unit; or memory was refused
-abbrev pub Resets : List Address → ℕ → PlainUnit → Jobs → List Report → Result Bool ResetFault → PlainUnit → Jobs → List Report
-    → Type 0
+abbrev pub Resets : List Address → ℕ → PlainUnit → Jobs → List EventRecord → Result Bool ResetFault → PlainUnit → Jobs
+    → List EventRecord → Type 0
 Resets inventory place u out w (Ok true) u' out' w' =
     IsAddressed inventory place u
     × DoesUnit (Transition.Hard (mark_at place u) (handed_out u (Step.Reset hard_code))) u u'

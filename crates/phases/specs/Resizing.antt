@@ -1,7 +1,7 @@
 -- What the operator's resize of a unit does.
 use Rattle.std.specs.Prelude.{ℕ, ◌≡◌, ◌<◌, ◌++◌, Bool, true, false, List, Some, Result, Ok, Err}
 use Rattle.scsi_codec.specs.declared.lun.Address.{Address}
-use Rattle.scsi_codec.specs.declared.event_queue.Event.{Event as Report}
+use Rattle.scsi_codec.specs.declared.event_queue.Event.{Event as EventRecord}
 use Rattle.unit_model.specs.Unit.{PlainUnit}
 use Rattle.unit_model.specs.Contents.{is_capacity}
 use Rattle.phases.specs.declared.resizing.ResizeFault.{ResizeFault}
@@ -20,8 +20,8 @@ RefusesResize inventory place u blocks fault.NoMemory = IsAddressed inventory pl
 
 -- the unit of this place of the inventory has so many blocks, and the event waits where the driver is told; or no event may
 -- name the unit's LUN; or it is refused, and nothing changed
-abbrev pub ResizesUnit : List Address → ℕ → PlainUnit → ℕ → Bool → List Report → Result Bool ResizeFault → PlainUnit → List Report
-    → Type 0
+abbrev pub ResizesUnit : List Address → ℕ → PlainUnit → ℕ → Bool → List EventRecord → Result Bool ResizeFault → PlainUnit
+    → List EventRecord → Type 0
 ResizesUnit inventory place u blocks told w (Ok true) u' w' =
     IsAddressed inventory place u × DoesUnit (Transition.Resize place blocks) u u'
     × (w' ≡ w ++ change_reports told (Some u))

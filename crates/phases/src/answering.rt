@@ -2,7 +2,7 @@
 
 ghost use Rattle.std.specs.Prelude.{◌≡◌, ◌<◌, List, ℕ, length, true, is_some, MatchOption, IfSome, Some};
 ghost use Rattle.ring_core.specs.State.{Owns};
-ghost use Rattle.queues.specs.Queue.{MayComplete};
+ghost use Rattle.virtqueue.specs.Queue.{MayComplete};
 ghost use Rattle.device_model.specs.Parts as plain;
 ghost use Rattle.phases.specs.Parts.{hand_of, outcome_in};
 ghost use Rattle.phases.specs.Inner.Parts.{job_held};
@@ -17,10 +17,10 @@ use crate::job_in_hand::JobInHand;
 use crate::note::{Cause, Note};
 use crate::receipt_or_note::ReceiptOrNote;
 use guest_mem::{GuestMem, WritableMemory};
-use queues::Queue;
 use ring_core::{Chain, Ticket};
 use std::mem;
 use unit_history::Outcome;
+use virtqueue::Queue;
 
 /// Writes what answers a job whose commit is over: how many bytes it has. `None` where the memory isn't the queue's, or
 /// the queue doesn't own the chain.

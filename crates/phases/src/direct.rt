@@ -4,8 +4,8 @@ ghost use Rattle.std.specs.Prelude.{◌≡◌, ◌≤◌, List, ℕ, length, is_
 ghost use Rattle.ring_core.specs.Parts.{writable_total};
 ghost use Rattle.ring_core.specs.State.{Owns};
 ghost use Rattle.device_model.specs.Parts.{answer_writes};
-ghost use Rattle.queues.specs.Queue.{completing};
-ghost use Rattle.queues.specs.Completing.{SeenBehind};
+ghost use Rattle.virtqueue.specs.Queue.{completing};
+ghost use Rattle.virtqueue.specs.Completing.{SeenBehind};
 ghost use Rattle.phases.specs.Slots.{slot_of};
 ghost use Rattle.phases.specs.DirectChain.{note_in};
 ghost use Rattle.phases.specs.Direct.{Directs, Responds};
@@ -15,11 +15,11 @@ ghost use Rattle.phases.specs.Inner.InMemory.{DirectsIn, RespondsIn};
 use crate::function::OpenFunction;
 use crate::note::Note;
 use crate::slot::Slot;
-use decisions::DirectAnswer;
 use guest_mem::{GuestMem, WritableMemory};
-use queues::{Queue, write_direct_in};
+use request_intake::DirectAnswer;
 use ring_core::{Answered, Chain};
 use std::mem;
+use virtqueue::{Queue, write_direct_in};
 
 /// Answers a chain, and uses it.
 fn answer_chain<M: WritableMemory>(

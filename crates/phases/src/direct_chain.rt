@@ -8,8 +8,8 @@ ghost use Rattle.phases.specs.DirectChain.{cause_for};
 
 use crate::note::Cause;
 use crate::refusal::Refusal;
-use decisions::DirectAnswer;
-use replies::{BUSY, TASK_SET_FULL};
+use command_model::{BUSY, TASK_SET_FULL};
+use request_intake::DirectAnswer;
 use ring_core::Chain;
 use scsi_codec::ResponseCode;
 use std::marker::Model;

@@ -15,12 +15,12 @@ use crate::function::OpenFunction;
 use crate::slot::Slot;
 use crate::taking::{Taken, take_request_in};
 use block_store::NoMemory;
-use decisions::{ChainLengths, Inventory};
 use guest_mem::{GuestMem, Memory, StillMem};
-use queues::{Fetch, Queue};
+use request_intake::{ChainLengths, Inventory};
 use ring_core::{Chain, Fetched};
 use scsi_codec::{CONTROL_QUEUE, one_control};
 use task_mgmt::{ControlDecision, decide_control};
+use virtqueue::{Fetch, Queue};
 
 /// Returns the lengths of a chain.
 pub(crate) fn lengths_of_chain(chain: &Chain) -> ChainLengths

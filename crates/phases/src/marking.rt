@@ -9,7 +9,7 @@ use crate::entering::has_places;
 use crate::function::OpenFunction;
 use crate::naming::is_addressed;
 use block_store::NoMemory;
-use decisions::Inventory;
+use request_intake::Inventory;
 use task_mgmt::{Kind, MarkBy};
 use unit_history::{JobList, Place, UnitState};
 

@@ -3,7 +3,7 @@
 ghost use Rattle.std.specs.Prelude.{IsTrue, IsFalse};
 ghost use Rattle.device_model.specs.Addressed.{IsAddressed};
 
-use decisions::Inventory;
+use request_intake::Inventory;
 use unit_history::UnitState;
 
 /// Returns true if the unit has the address that stands in the inventory at this place.

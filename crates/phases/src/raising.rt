@@ -14,9 +14,9 @@ use crate::slot::Slot;
 use block_store::NoMemory;
 use event_queue::{EventBuffer, EventPort, WaitingEvents};
 use guest_mem::{GuestMem, Memory, WritableMemory};
-use queues::{Fetch, Queue};
 use ring_core::{Chain, scatter};
 use scsi_codec::{EVENT_BYTES, EVENT_QUEUE};
+use virtqueue::{Fetch, Queue};
 
 /// Uses a chain with these bytes.
 fn use_with<M: WritableMemory>(queue: &mut Queue, memory: &mut M, chain: Chain, bytes: &[u8])

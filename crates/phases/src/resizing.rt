@@ -7,8 +7,8 @@ ghost use Rattle.phases.specs.Inner.Resizing.{resize_fault_of};
 
 use crate::naming::is_addressed;
 use crate::resetting::LUNS;
-use decisions::Inventory;
 use event_queue::WaitingEvents;
+use request_intake::Inventory;
 use scsi_codec::{Address, Event, PARAM_CHANGE};
 use unit_history::{ResizeFault as UnitFault, UnitState, is_capacity};
 

@@ -7,14 +7,14 @@ ghost use Rattle.unit_model.specs.Endings.{answer_of, code_of};
 ghost use Rattle.unit_history.specs.Endings.{ending_of, ending_of_reply, ending_of_run, plain_run, FitsNeed};
 
 use block_store::NoMemory;
-use decisions::{ChainLengths, DirectAnswer};
+use command_model::{BUSY, Reply};
 use guest_mem::WritableMemory;
-use queues::{write_direct_in, write_reply_in};
-use replies::{BUSY, Reply};
+use request_intake::{ChainLengths, DirectAnswer};
 use ring_core::Chain;
 use scsi_codec::{RESPONSE_BYTES, ResponseCode};
 use unit_history::{Outcome, Receipt};
 use unit_model::Reason;
+use virtqueue::{write_direct_in, write_reply_in};
 
 /// Writes what came of a command: its reply, or BUSY where it was refused memory.
 #[inline(always)]

@@ -20,11 +20,11 @@ use crate::refusal::Refusal;
 use crate::response::{write_outcome, write_run};
 use crate::slot::Slot;
 use block_store::NoMemory;
+use command_model::Reply;
 use guest_mem::{GuestMem, WritableMemory};
-use queues::{Queue, write_read_in};
-use replies::Reply;
 use ring_core::Answered;
 use unit_history::{Answering, Arrival, Entered, Job, JobList, Outcome, UnitState, Unknown};
+use virtqueue::{Queue, write_read_in};
 
 /// Writes what answers a job over the writable parts of its chain, by what came of its commit.
 #[inline(always)]

@@ -9,12 +9,12 @@ use crate::direct_chain::DirectChain;
 use crate::fetching::lengths_of_chain;
 use crate::slot::Slot;
 use block_store::NoMemory;
-use decisions::{Decision, Inventory, decide};
 use guest_mem::{GuestMem, Memory, StillMem};
-use queues::{Fetch, Queue};
+use request_intake::{Decision, Inventory, decide};
 use ring_core::Fetched;
 use scsi_codec::FIRST_REQUEST_QUEUE;
 use task_set::Arrival;
+use virtqueue::{Fetch, Queue};
 
 /// The outcome of taking a chain from a request queue.
 #[derive(Drop)]

@@ -4,7 +4,7 @@ use Rattle.std.proofs.lemmas.Option.{none-some, same_Some}
 use Rattle.ring_core.specs.State.{RingState}
 use Rattle.ring_core.specs.Walk.{nothing_before, is_indirect, part_of, amount, front, Sequence, LeadsTo, IsRun, IsFault, EndsIn, IsChain, ChainFails}
 use Rattle.ring_core.specs.Split.{split_path, split_table, next_head, SplitChain, SplitFails}
-use Rattle.ring_core.specs.Packed.{packed_slots, packed_table, available_place, whole_wrong, PackedChain, PackedFails}
+use Rattle.ring_core.specs.Packed.{packed_slots, packed_table, available_place, chain_wrong, PackedChain, PackedFails}
 use Rattle.ring_core.specs.Offer.{Offer, Nothing, Found, Refused, Offers, SplitOffers, PackedOffers, OffersInForm, OffersUnless}
 use Rattle.ring_core.specs.declared.layout.Form.{Form}
 use Rattle.ring_core.specs.declared.layout.Form.TheVariants.{Split, Packed}
@@ -154,10 +154,10 @@ module _ (s : RingState) (m : List ℕ) where
   fine_or_wrong i j parts f (c, x, is_c, id_c, slots_c) bad = chain_or_fails Slots (packed_table m) c x parts f is_c bad
 
   same_whole : (i j k l : ℕ) (parts rest : List Part) → PackedChain s.features m s.layout (available_place s) i j parts → PackedChain s.features m s.layout (available_place s) k l rest
-      → whole_wrong s i j ≡ whole_wrong s k l
+      → chain_wrong s i j ≡ chain_wrong s k l
   same_whole i j k l parts rest c d =
       let e = same_chain i j k l parts rest c d in
-      ap (λ (x : ℕ). whole_wrong s x j) e.0 ∙ ap (λ (x : ℕ). whole_wrong s k x) e.1
+      ap (λ (x : ℕ). chain_wrong s x j) e.0 ∙ ap (λ (x : ℕ). chain_wrong s k x) e.1
 
   packed_once : (a b : Offer) → PackedOffers s m a → PackedOffers s m b → a ≡ b
   packed_once Nothing Nothing p q = refl

@@ -5,7 +5,7 @@ use Rattle.std.proofs.lemmas.Bool.Decides.{nat_tests}
 use Rattle.ring_core.specs.State.{RingState, no_features}
 use Rattle.ring_core.specs.Walk.{nothing_before, goes_on, is_indirect, part_of, table_wrong, amount, front, Sequence, LeadsTo, IsRun, IsFault, IsChain, ChainFails}
 use Rattle.ring_core.specs.Split.{split_path, split_table, ahead, next_head, entry_wrong, split_wrong}
-use Rattle.ring_core.specs.Packed.{packed_slots, packed_table, packed_wrong, available_place, whole_wrong, is_available}
+use Rattle.ring_core.specs.Packed.{packed_slots, packed_table, packed_wrong, available_place, chain_wrong, is_available}
 use Rattle.ring_core.specs.Offer.{Offer, Nothing, Found, Refused, Offers, SplitOffers, PackedOffers, OffersInForm, OffersUnless}
 use Rattle.ring_core.specs.declared.layout.Features.{Features}
 use Rattle.ring_core.specs.declared.layout.Form.{Form}
@@ -118,7 +118,7 @@ packed_some s m =
       | inr none ↦ (Nothing, none)
       | inl some ↦ elim (known (packed_slots s.features m s.layout (available_place s)) (packed_table m) s.layout.size (λ d. d.len / 16) (packed_ends s m (available_place s)) (packed_table_ends m)) [
         | inr bad ↦ (Refused bad.0, (some, inl bad.1))
-        | inl chain ↦ elim (some_or_none (whole_wrong s chain.1.next_or_id (length chain.0 + 1))) [
+        | inl chain ↦ elim (some_or_none (chain_wrong s chain.1.next_or_id (length chain.0 + 1))) [
           | inr bad ↦ (Refused bad.0, (some, inr (chain.1.next_or_id, length chain.0 + 1, chain.2, (chain.0, chain.1, chain.3, refl, refl), bad.1)))
           | inl fine ↦ (Found chain.1.next_or_id (length chain.0 + 1) chain.2, (some, (chain.0, chain.1, chain.3, refl, refl), fine))
         ]

@@ -4,7 +4,7 @@ use Rattle.ring_core.specs.State.{RingState}
 use Rattle.ring_core.specs.Writes.{Write}
 use Rattle.ring_core.specs.Walk.{nothing_before}
 use Rattle.ring_core.specs.Split.{SplitChain, SplitFails, in_table, split_wrong, ahead, next_head, entry_wrong, split_used_writes, split_wants_notice}
-use Rattle.ring_core.specs.Packed.{PackedChain, PackedFails, slot_at, packed_wrong, available_place, is_available, whole_wrong, packed_used_writes, packed_wants_notice}
+use Rattle.ring_core.specs.Packed.{PackedChain, PackedFails, slot_at, packed_wrong, available_place, is_available, chain_wrong, packed_used_writes, packed_wants_notice}
 use Rattle.ring_core.specs.declared.descriptor.Part.{Part}
 use Rattle.ring_core.specs.declared.fault.RingFault.{RingFault}
 use Rattle.ring_core.specs.declared.layout.Form.{Form}
@@ -32,12 +32,12 @@ abbrev pub PackedOffers : RingState → List ℕ → Offer → Type 0
 PackedOffers s m Nothing = is_available s m ≡ false
 PackedOffers s m (Found id slots parts) =
     (is_available s m ≡ true) × PackedChain s.features m s.layout (available_place s) id slots parts
-    × (whole_wrong s id slots ≡ None)
+    × (chain_wrong s id slots ≡ None)
 PackedOffers s m (Refused f) =
     (is_available s m ≡ true)
     × (PackedFails s.features m s.layout (available_place s) f
     ⊎ ((id : ℕ) × (slots : ℕ) × (parts : List Part) × PackedChain s.features m s.layout (available_place s) id slots parts
-    × (whole_wrong s id slots ≡ Some f)))
+    × (chain_wrong s id slots ≡ Some f)))
 
 abbrev pub OffersInForm : Form → RingState → List ℕ → Offer → Type 0
 OffersInForm Split s m o = SplitOffers s m o

@@ -109,8 +109,8 @@ abbrev pub PackedFails : Features → List ℕ → Layout → ℕ → RingFault 
 PackedFails features m l t f = ChainFails (packed_slots features m l t) (packed_table m) f
 
 -- what is wrong with a whole chain of this id and so many slots
-abbrev pub whole_wrong : RingState → ℕ → ℕ → Option RingFault
-whole_wrong s id slots =
+abbrev pub chain_wrong : RingState → ℕ → ℕ → Option RingFault
+chain_wrong s id slots =
     first_of (
     (is_some (under s id), AlreadyOutstanding)
     ∷ (nat_lt s.layout.size (s.accepted_slots - s.used_slots + slots), RingOverrun)
@@ -138,8 +138,8 @@ packed_used_writes s id len =
 abbrev pub event_flags : RingState → List ℕ → ℕ
 event_flags s m = little_number 2 (bytes_at m (s.layout.driver + 2) 2) % 4
 
-abbrev pub event_place : RingState → List ℕ → ℕ
-event_place s m = little_number 2 (bytes_at m s.layout.driver 2)
+abbrev pub event_offset_wrap : RingState → List ℕ → ℕ
+event_offset_wrap s m = little_number 2 (bytes_at m s.layout.driver 2)
 
 -- the slot that is reached once t slots were passed is the one that an offset and wrap names: its number is the offset,
 -- and the wrap bit (15) is the wrap counter there
@@ -157,5 +157,5 @@ names_one size place t (suc n) = names_one size place t n || is_named size place
 abbrev pub packed_wants_notice : RingState → List ℕ → Bool
 packed_wants_notice s m =
     cond (s.features.event_index && (event_flags s m == 2))
-    (names_one s.layout.size (event_place s m) (used_place s - s.latest_slots) s.latest_slots)
+    (names_one s.layout.size (event_offset_wrap s m) (used_place s - s.latest_slots) s.latest_slots)
     (not (event_flags s m == 1))

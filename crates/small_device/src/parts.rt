@@ -1,11 +1,11 @@
 //! The parts of a small device, and what its guest writes.
 
-use decisions::{Inventory, MOST_UNITS, UnitSpec, are_rising};
 use guest_mem::GuestMem;
-use queues::{Queue, is_placed};
+use request_intake::{Inventory, MOST_UNITS, UnitSpec, are_rising};
 use ring_core::{Form, Layout};
 use std::alloc::Global;
 use unit_history::UnitState;
+use virtqueue::{Queue, is_placed};
 
 /// A control queue, an event queue and two request queues of 8 descriptors, each in a page of its own.
 const QUEUES: u16 = 4;

@@ -1,13 +1,13 @@
 //! A server of a small device, through what one thread lends of it.
 
 use crate::parts::{Parts, put, used};
-use bays::{
-    Open, Plain, QueueBays, UnitBays, answer_on, answer_tmf_on, check_on, commit_on, direct_on,
+use event_queue::{EventPort, WaitingEvents};
+use lock_scopes::{
+    Open, Plain, QueueLender, UnitLender, answer_on, answer_tmf_on, check_on, commit_on, direct_on,
     enter_on, fetch_control_on, fetch_event_on, fetch_on, hard_on, leave_on, mark_on, raise_on,
 };
-use decisions::Inventory;
-use event_queue::{EventPort, WaitingEvents};
 use phases::{Cause, Hand, Note, OpenFunction, ReceiptOrNote, Slot};
+use request_intake::Inventory;
 use std::alloc::Global;
 use unit_history::{Job, JobList};
 
@@ -57,215 +57,222 @@ const RESET: [u8; 24] = [
 ];
 
 /// Takes the first chain of a request queue.
-fn fetch_at<B: UnitBays + QueueBays>(
-    bays: &mut B,
+fn fetch_at<B: UnitLender + QueueLender>(
+    lender: &mut B,
     at: usize,
     inventory: &Inventory,
 ) -> Option<Slot> {
-    if at >= bays.queue_count() {
+    if at >= lender.queue_count() {
         return None;
     }
     let mut slot = Slot::Empty;
-    match fetch_on(bays, at, &mut slot, inventory) {
+    match fetch_on(lender, at, &mut slot, inventory) {
         Ok(true) => Some(slot),
         _ => None,
     }
 }
 
 /// Has the request that arrived enter.
-fn enter<B: UnitBays + QueueBays>(
-    bays: &mut B,
+fn enter<B: UnitLender + QueueLender>(
+    lender: &mut B,
     mut slot: Slot,
     mut out: JobList,
 ) -> Option<JobList> {
     let place = slot.unit()?;
-    if place >= bays.unit_count() {
+    if place >= lender.unit_count() {
         return None;
     }
-    if enter_on(bays, place, &mut slot, &mut out) && slot.is_empty() {
+    if enter_on(lender, place, &mut slot, &mut out) && slot.is_empty() {
         return Some(out);
     }
     None
 }
 
 /// Commits a job.
-fn commit<B: UnitBays + QueueBays>(bays: &mut B, job: Job) -> Option<Hand> {
+fn commit<B: UnitLender + QueueLender>(lender: &mut B, job: Job) -> Option<Hand> {
     let mut hand = Hand::taken(job);
     let place = hand.committing_unit()?;
-    if place >= bays.unit_count() {
+    if place >= lender.unit_count() {
         return None;
     }
-    if commit_on(bays, &Open, place, &mut hand) {
+    if commit_on(lender, &Open, place, &mut hand) {
         return Some(hand);
     }
     None
 }
 
 /// Answers the job in the hand, and returns what that leaves.
-fn answer<B: UnitBays + QueueBays>(bays: &mut B, hand: &mut Hand) -> Option<ReceiptOrNote> {
+fn answer<B: UnitLender + QueueLender>(lender: &mut B, hand: &mut Hand) -> Option<ReceiptOrNote> {
     let at = usize::from(hand.answering_queue()?);
-    if at >= bays.queue_count() {
+    if at >= lender.queue_count() {
         return None;
     }
-    answer_on(bays, at, hand)
+    answer_on(lender, at, hand)
 }
 
 /// Has the task in the hand leave, and returns true if it does.
-fn leaves<B: UnitBays + QueueBays>(bays: &mut B, mut hand: Hand, mut out: JobList) -> Option<bool> {
+fn leaves<B: UnitLender + QueueLender>(
+    lender: &mut B,
+    mut hand: Hand,
+    mut out: JobList,
+) -> Option<bool> {
     let place = hand.leaving_unit()?;
-    if place >= bays.unit_count() {
+    if place >= lender.unit_count() {
         return None;
     }
-    let did = leave_on(bays, place, &mut hand, &mut out);
+    let did = leave_on(lender, place, &mut hand, &mut out);
     Some(did && hand.is_empty())
 }
 
 /// Serves the first chain of a request queue from its fetch to its leave, and returns what it leaves.
-fn serve_at<B: UnitBays + QueueBays>(
+fn serve_at<B: UnitLender + QueueLender>(
     alloc: Global,
-    bays: &mut B,
+    lender: &mut B,
     at: usize,
     inventory: &Inventory,
 ) -> Option<ReceiptOrNote> {
-    let slot = fetch_at(bays, at, inventory)?;
-    let mut out = enter(bays, slot, JobList::with_limit(alloc, 64).ok()?)?;
-    let mut hand = commit(bays, out.next()?)?;
-    let given = answer(bays, &mut hand)?;
-    if leaves(bays, hand, out)? {
+    let slot = fetch_at(lender, at, inventory)?;
+    let mut out = enter(lender, slot, JobList::with_limit(alloc, 64).ok()?)?;
+    let mut hand = commit(lender, out.next()?)?;
+    let given = answer(lender, &mut hand)?;
+    if leaves(lender, hand, out)? {
         return Some(given);
     }
     None
 }
 
 /// Answers the first chain of a request queue directly, and returns the note of it.
-fn refuse_at<B: UnitBays + QueueBays>(
-    bays: &mut B,
+fn refuse_at<B: UnitLender + QueueLender>(
+    lender: &mut B,
     at: usize,
     inventory: &Inventory,
 ) -> Option<Note> {
-    let mut slot = fetch_at(bays, at, inventory)?;
-    if at >= bays.queue_count() {
+    let mut slot = fetch_at(lender, at, inventory)?;
+    if at >= lender.queue_count() {
         return None;
     }
-    let note = direct_on(bays, at, &mut slot);
+    let note = direct_on(lender, at, &mut slot);
     if slot.is_empty() { note } else { None }
 }
 
 /// Takes the first chain of the control queue, which opens a function.
-fn open<B: UnitBays + QueueBays>(bays: &mut B, inventory: &Inventory) -> Option<OpenFunction> {
-    if bays.queue_count() == 0 {
+fn open<B: UnitLender + QueueLender>(
+    lender: &mut B,
+    inventory: &Inventory,
+) -> Option<OpenFunction> {
+    if lender.queue_count() == 0 {
         return None;
     }
     let (mut slot, mut function) = (Slot::Empty, None);
-    match fetch_control_on(bays, 0, &mut slot, &mut function, inventory) {
+    match fetch_control_on(lender, 0, &mut slot, &mut function, inventory) {
         Ok(true) if slot.is_empty() => function,
         _ => None,
     }
 }
 
 /// Has the function mark its unit, and see that it is clear.
-fn mark_and_check<B: UnitBays + QueueBays>(
-    bays: &mut B,
+fn mark_and_check<B: UnitLender + QueueLender>(
+    lender: &mut B,
     inventory: &Inventory,
     mut function: OpenFunction,
     mut out: JobList,
 ) -> Option<OpenFunction> {
     let place = function.function.next_unit()?;
-    if place >= bays.unit_count() || !mark_on(bays, place, inventory, &mut function, &mut out) {
+    if place >= lender.unit_count() || !mark_on(lender, place, inventory, &mut function, &mut out) {
         return None;
     }
     let place = function.function.waits_for()?.unit;
-    if place < bays.unit_count() && check_on(bays, place, inventory, &mut function) {
+    if place < lender.unit_count() && check_on(lender, place, inventory, &mut function) {
         return Some(function);
     }
     None
 }
 
 /// Serves a function on the control queue, and returns true if it is answered.
-fn serves_function<B: UnitBays + QueueBays>(
+fn serves_function<B: UnitLender + QueueLender>(
     alloc: Global,
-    bays: &mut B,
+    lender: &mut B,
     inventory: &Inventory,
 ) -> Option<bool> {
-    let function = open(bays, inventory)?;
+    let function = open(lender, inventory)?;
     let out = JobList::with_limit(alloc, 64).ok()?;
-    let function = mark_and_check(bays, inventory, function, out)?;
-    if bays.queue_count() == 0 {
+    let function = mark_and_check(lender, inventory, function, out)?;
+    if lender.queue_count() == 0 {
         return None;
     }
     let mut function = Some(function);
-    Some(answer_tmf_on(bays, 0, &mut function) && function.is_none())
+    Some(answer_tmf_on(lender, 0, &mut function) && function.is_none())
 }
 
 /// Resets the first unit as the operator, and returns true if the event goes to the one buffer of the event queue.
-fn serves_event<B: UnitBays + QueueBays>(
+fn serves_event<B: UnitLender + QueueLender>(
     alloc: Global,
-    bays: &mut B,
+    lender: &mut B,
     inventory: &Inventory,
 ) -> Option<bool> {
     let (mut port, mut waiting) = (EventPort::new(alloc, 8).ok()?, WaitingEvents::new(alloc));
     let mut out = JobList::with_limit(alloc, 64).ok()?;
-    if bays.queue_count() <= 1 {
+    if lender.queue_count() <= 1 {
         return None;
     }
-    let _ = fetch_event_on(bays, 1, &Slot::Empty, &mut port);
-    if bays.unit_count() == 0 {
+    let _ = fetch_event_on(lender, 1, &Slot::Empty, &mut port);
+    if lender.unit_count() == 0 {
         return None;
     }
-    let _ = hard_on(bays, 0, inventory, &mut out, &mut waiting);
-    if bays.queue_count() <= 1 {
+    let _ = hard_on(lender, 0, inventory, &mut out, &mut waiting);
+    if lender.queue_count() <= 1 {
         return None;
     }
-    Some(raise_on(bays, 1, &mut port, &mut waiting))
+    Some(raise_on(lender, 1, &mut port, &mut waiting))
 }
 
 impl Parts {
     /// Returns what one thread lends of it.
     fn lend<'a>(&'a mut self) -> (Plain<'a>, &'a Inventory) {
-        let bays = Plain {
+        let lender = Plain {
             units: self.units.as_mut_slice(),
             queues: self.queues.as_mut_slice(),
             memory: &mut self.memory,
         };
-        (bays, &self.inventory)
+        (lender, &self.inventory)
     }
 
     /// Makes the first chain of a request queue available and takes it: what that gives, or `None` where it gives
     /// nothing. Tests call it for a chain that stays unused.
     pub fn fetch(&mut self, asked: &Asked) -> Option<Slot> {
         put(&mut self.memory, asked.queue, &request(asked), 108);
-        let (mut bays, inventory) = self.lend();
-        fetch_at(&mut bays, usize::from(asked.queue), inventory)
+        let (mut lender, inventory) = self.lend();
+        fetch_at(&mut lender, usize::from(asked.queue), inventory)
     }
 
     /// Serves a request from its fetch to its leave: what it leaves, or `None` where it didn't come so far. Tests call
     /// it once for a queue.
     pub fn serve(&mut self, alloc: Global, asked: &Asked) -> Option<ReceiptOrNote> {
         put(&mut self.memory, asked.queue, &request(asked), 108);
-        let (mut bays, inventory) = self.lend();
-        serve_at(alloc, &mut bays, usize::from(asked.queue), inventory)
+        let (mut lender, inventory) = self.lend();
+        serve_at(alloc, &mut lender, usize::from(asked.queue), inventory)
     }
 
     /// Answers a request that needs no unit: the note of it, or `None` where there is none. Tests call it once for a
     /// queue.
     pub fn refuse(&mut self, asked: &Asked) -> Option<Note> {
         put(&mut self.memory, asked.queue, &request(asked), 108);
-        let (mut bays, inventory) = self.lend();
-        refuse_at(&mut bays, usize::from(asked.queue), inventory)
+        let (mut lender, inventory) = self.lend();
+        refuse_at(&mut lender, usize::from(asked.queue), inventory)
     }
 
     /// Serves a LOGICAL UNIT RESET, and returns true if it is answered.
     fn reset(&mut self, alloc: Global) -> Option<bool> {
         put(&mut self.memory, 0, &RESET, 1);
-        let (mut bays, inventory) = self.lend();
-        serves_function(alloc, &mut bays, inventory)
+        let (mut lender, inventory) = self.lend();
+        serves_function(alloc, &mut lender, inventory)
     }
 
     /// Resets the first unit as the operator, and returns true if the guest is told so.
     fn tell(&mut self, alloc: Global) -> Option<bool> {
         put(&mut self.memory, 1, &[0], 16);
-        let (mut bays, inventory) = self.lend();
-        serves_event(alloc, &mut bays, inventory)
+        let (mut lender, inventory) = self.lend();
+        serves_event(alloc, &mut lender, inventory)
     }
 
     /// Returns true if a queue's chain was used, and no other of it.

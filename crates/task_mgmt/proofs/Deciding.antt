@@ -8,7 +8,7 @@ use Rattle.scsi_codec.specs.declared.lun.Address.{Address}
 use Rattle.scsi_codec.specs.declared.control_queue.Control.{Control}
 use Rattle.scsi_codec.specs.declared.control_queue.Control.TheVariants.{TaskManagement, AsynchronousNotification, MalformedFunction, MalformedNotification}
 use Rattle.scsi_codec.specs.declared.control_queue.FunctionResponse.{FunctionResponse}
-use Rattle.decisions.specs.Inventory.{has_target, place_of}
+use Rattle.request_intake.specs.Inventory.{has_target, place_of}
 use Rattle.task_mgmt.specs.declared.kind.Kind.{Kind}
 use Rattle.task_mgmt.specs.Functions.{kind_of}
 use Rattle.task_mgmt.specs.Demands.{demanded_of_unit, demanded_at, demanded_by, demanded, begun}

@@ -4,7 +4,7 @@ use Rattle.std.specs.List.{range_with_len}
 use Rattle.scsi_codec.specs.declared.lun.Address.{Address}
 use Rattle.scsi_codec.specs.declared.control_queue.FunctionResponse.{FunctionResponse}
 use Rattle.scsi_codec.specs.declared.control_queue.FunctionResponse.TheVariants.{BadTarget, Rejected, IncorrectLun}
-use Rattle.decisions.specs.Inventory.{has_target, place_of}
+use Rattle.request_intake.specs.Inventory.{has_target, place_of}
 use Rattle.task_mgmt.specs.declared.kind.Kind.{Kind}
 use Rattle.task_mgmt.specs.Functions.{PlainFunction, kind_of, opened}
 

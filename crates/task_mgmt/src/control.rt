@@ -6,7 +6,7 @@ ghost use Rattle.task_mgmt.specs.Inner.Control.{Decides, Suits};
 
 use crate::demand::{TaskManagement, begin};
 use crate::function::Function;
-use decisions::{DirectAnswer, Inventory};
+use request_intake::{DirectAnswer, Inventory};
 use scsi_codec::{Address, Control, FunctionResponse, ResponseCode, one_control, read_control};
 
 /// The decision on a chain of the control queue when it is fetched. It is never decided again.

@@ -6,7 +6,7 @@ ghost use Rattle.task_mgmt.specs.Demands.{places_of, demanded, begun};
 use crate::function::Function;
 use crate::kind::kind_of;
 use arrayvec::ArrayVec;
-use decisions::{Inventory, MOST_UNITS};
+use request_intake::{Inventory, MOST_UNITS};
 use scsi_codec::{Address, FunctionResponse};
 
 /// The subtype of I_T NEXUS RESET (VIRTIO 1.2 §5.6.6.2).

@@ -6,7 +6,7 @@ ghost use Rattle.task_mgmt.specs.Inner.Functions.{IsKnownKind};
 
 use crate::kind::Kind;
 use arrayvec::ArrayVec;
-use decisions::MOST_UNITS;
+use request_intake::MOST_UNITS;
 use scsi_codec::FunctionResponse;
 use std::marker::Model;
 

@@ -9,7 +9,7 @@ ghost use Rattle.unit_model.specs.declared.rule.Rule.TheVariants.{Id, All};
 ghost use Rattle.scsi_codec.specs.declared.lun.Address.{Address};
 ghost use Rattle.scsi_codec.specs.declared.control_queue.FunctionResponse.TheVariants.{Complete, BadTarget, Failure, Succeeded, Rejected, IncorrectLun};
 ghost use Rattle.scsi_codec.specs.declared.control_queue.Control.TheVariants.{TaskManagement, AsynchronousNotification, MalformedFunction, MalformedNotification};
-ghost use Rattle.decisions.specs.Inventory.{has_target, place_of};
+ghost use Rattle.request_intake.specs.Inventory.{has_target, place_of};
 ghost use Rattle.task_mgmt.specs.declared.kind.Kind.{Kind};
 ghost use Rattle.task_mgmt.specs.declared.kind.Kind.TheVariants.{Marking, Querying};
 ghost use Rattle.task_mgmt.specs.declared.kind.MarkBy.{MarkBy};

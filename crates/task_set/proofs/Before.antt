@@ -3,8 +3,8 @@ use Rattle.std.proofs.Common.{◌≡◌, ℕ, ◌+◌, ◌<◌, Bool, true, fals
 use Rattle.std.proofs.lemmas.Bool.Decides.{nat_tests}
 use Rattle.std.proofs.lemmas.List.{map_more}
 use Rattle.std.proofs.lemmas.List.Folds.{list_any-append}
-use Rattle.decisions.specs.declared.attribute.TaskAttribute.{TaskAttribute}
-use Rattle.decisions.specs.declared.attribute.TaskAttribute.TheVariants.{Simple, Ordered, HeadOfQueue}
+use Rattle.request_intake.specs.declared.attribute.TaskAttribute.{TaskAttribute}
+use Rattle.request_intake.specs.declared.attribute.TaskAttribute.TheVariants.{Simple, Ordered, HeadOfQueue}
 use Rattle.ring_core.specs.declared.log.Ticket.{Ticket}
 use Rattle.unit_model.specs.Tasks.{Entry, same_ticket, task_of, older, AreDistinct, any_head_of_queue, any_ordered, any_task, is_ordered, blocks, is_blocked}
 use Rattle.unit_model.proofs.Tickets.{itself, apart}

@@ -1,10 +1,10 @@
 -- A task that enters is blocked by those that are alive already.
 use Rattle.std.proofs.Common.{◌≡◌, ℕ, Bool, true, false, not, ◌||◌, cond, if◌then◌else◌, List, [], ◌∷◌, ◌++◌, Option, Some, None, refl, sym, ◌∙◌, ap}
 use Rattle.std.proofs.lemmas.List.Folds.{list_any-append}
-use Rattle.decisions.specs.declared.attribute.TaskAttribute.{TaskAttribute}
-use Rattle.decisions.specs.declared.attribute.TaskAttribute.TheVariants.{Simple, Ordered, HeadOfQueue}
+use Rattle.request_intake.specs.declared.attribute.TaskAttribute.{TaskAttribute}
+use Rattle.request_intake.specs.declared.attribute.TaskAttribute.TheVariants.{Simple, Ordered, HeadOfQueue}
 use Rattle.unit_model.specs.Tasks.{Entry, entry_of, same_ticket, task_of, older, any_head_of_queue, any_ordered, any_task, is_head_of_queue, blocks, is_blocked}
-use Rattle.decisions.specs.UnitRequest.{PlainRequest}
+use Rattle.request_intake.specs.UnitRequest.{PlainRequest}
 use Rattle.unit_model.proofs.Tickets.{itself}
 use Rattle.unit_model.specs.Jobs.{PlainJob}
 use Rattle.task_set.specs.Tasks.{PlainTask}

@@ -5,7 +5,7 @@ ghost use Rattle.unit_model.specs.Tasks.{blocks};
 ghost use Rattle.task_set.specs.Inner.Tasks.{entries_of};
 
 use crate::task::Task;
-use decisions::TaskAttribute;
+use request_intake::TaskAttribute;
 
 /// Returns true if there is a task that isn't SIMPLE.
 fn has_other_than_simple(tasks: &[Task]) -> bool

@@ -8,8 +8,8 @@ ghost use Rattle.unit_model.specs.Tasks.{entry_of};
 ghost use Rattle.unit_model.specs.Inner.Jobs.{HasRoom};
 
 use cdb::Command;
-use decisions::{ChainLengths, TaskAttribute, UnitRequest};
 use record::Record;
+use request_intake::{ChainLengths, TaskAttribute, UnitRequest};
 use ring_core::{Chain, Ticket};
 use scsi_codec::Address;
 use std::alloc::{AllocError, Global};

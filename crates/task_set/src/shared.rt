@@ -4,7 +4,7 @@ ghost use Rattle.std.specs.Prelude.{◌≡◌, IfSome, IfErr, IfOk, length};
 ghost use Rattle.cdb.specs.Need.{need_of};
 
 use cdb::Command;
-use decisions::UnitRequest;
+use request_intake::UnitRequest;
 use std::alloc::Global;
 use std::marker::Model;
 use std::sync::Arc;
@@ -18,7 +18,7 @@ pub struct SharedRequest {
 
 impl Model for SharedRequest {
     ghost use Rattle.std.specs.Arc.{arc_value};
-    ghost use Rattle.decisions.specs.UnitRequest.{PlainRequest};
+    ghost use Rattle.request_intake.specs.UnitRequest.{PlainRequest};
 
     ghost Value = { PlainRequest };
 

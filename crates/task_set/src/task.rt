@@ -10,7 +10,7 @@ ghost use Rattle.task_set.specs.Inner.Tasks.{moved, given, enabled_unless, entry
 use crate::job::{Arrival, Job, JobList};
 use crate::shared::SharedRequest;
 use cdb::Command;
-use decisions::{TaskAttribute, UnitRequest};
+use request_intake::{TaskAttribute, UnitRequest};
 use ring_core::Ticket;
 use std::alloc::Global;
 use std::marker::Model;

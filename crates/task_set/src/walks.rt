@@ -9,7 +9,7 @@ ghost use Rattle.task_set.specs.Inner.Tasks.{entries_of, seen_of, moved, all_giv
 
 use crate::job::JobList;
 use crate::task::Task;
-use decisions::TaskAttribute;
+use request_intake::TaskAttribute;
 use ring_core::Ticket;
 use unit_model::{Reason, Rule};
 

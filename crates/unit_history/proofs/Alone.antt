@@ -8,19 +8,19 @@ use Rattle.block_commands.specs.declared.facts.UnitFacts.{UnitFacts}
 use Rattle.block_commands.specs.Inner.Told.{facts_of}
 use Rattle.cdb.specs.declared.commands.Command.{Command}
 use Rattle.cdb.specs.Need.{need_of}
-use Rattle.replies.specs.Attention.{takes}
-use Rattle.replies.specs.PlainReply.{PlainReply, success}
-use Rattle.replies.specs.Inner.PlainReply.{good_data}
-use Rattle.replies.specs.Replies.{reply_of}
-use Rattle.replies.specs.Statuses.{good}
-use Rattle.replies.specs.Facts.{Facts}
-use Rattle.decisions.specs.declared.attribute.TaskAttribute.{TaskAttribute}
-use Rattle.decisions.specs.declared.attribute.TaskAttribute.TheVariants.{Simple, Ordered, HeadOfQueue}
+use Rattle.command_model.specs.Attention.{takes}
+use Rattle.command_model.specs.PlainReply.{PlainReply, success}
+use Rattle.command_model.specs.Inner.PlainReply.{good_data}
+use Rattle.command_model.specs.Replies.{reply_of}
+use Rattle.command_model.specs.Statuses.{good}
+use Rattle.command_model.specs.Facts.{Facts}
+use Rattle.request_intake.specs.declared.attribute.TaskAttribute.{TaskAttribute}
+use Rattle.request_intake.specs.declared.attribute.TaskAttribute.TheVariants.{Simple, Ordered, HeadOfQueue}
 use Rattle.unit_model.specs.Tasks.{Entry, blocks, is_blocked}
-use Rattle.unit_model.specs.Steps.{Step, floor}
+use Rattle.unit_model.specs.Steps.{Step, next_number}
 use Rattle.unit_model.specs.Seen.{Seen, finished, freed}
 use Rattle.unit_model.specs.Base.{most_before}
-use Rattle.replies.specs.Effects.{block_after, given}
+use Rattle.command_model.specs.Effects.{block_after, given}
 use Rattle.unit_model.specs.Contents.{Opening, capacity_of, facts_after, oldest}
 use Rattle.unit_model.specs.Lawful.{IsReady}
 use Rattle.unit_model.specs.Endings.{Ending}
@@ -120,7 +120,7 @@ is_gone place j = ap (λ b. cond b [] (task_of_job place j false true ∷ [])) (
 
 module _ (o : Opening) (past : List Step) (block_at : Blocks) (pending : List Code) (last_tickets : List (Option ℕ)) (room : ℕ)
     (k : AreKept o past block_at pending [] last_tickets room) (j : PlainJob) (last_tickets' : List (Option ℕ))
-    (le : floor j.entry.ticket.queue past ≤ j.entry.ticket.number) (came : CameTo j.entry.ticket last_tickets last_tickets') where
+    (le : next_number j.entry.ticket.queue past ≤ j.entry.ticket.number) (came : CameTo j.entry.ticket last_tickets last_tickets') where
   -- its task entered
   pub kept_entered : (room' : ℕ) → 128 ≤ room'
       → AreKept o (Step.Enter j.entry ∷ past) block_at pending (task_of_job (length past) j false false ∷ []) last_tickets' room'
@@ -213,7 +213,7 @@ based_served base n n' t p e past steps' tasks is same steps clear =
 -- the same of a unit with its tasks, of which there are none
 module _ (o : Opening) (past : List Step) (block_at : Blocks) (pending : List Code) (tasks : List PlainTask)
     (last_tickets : List (Option ℕ)) (room : ℕ) (k : AreKept o past block_at pending tasks last_tickets room) (none : tasks ≡ [])
-    (j : PlainJob) (last_tickets' : List (Option ℕ)) (le : floor j.entry.ticket.queue past ≤ j.entry.ticket.number)
+    (j : PlainJob) (last_tickets' : List (Option ℕ)) (le : next_number j.entry.ticket.queue past ≤ j.entry.ticket.number)
     (came : CameTo j.entry.ticket last_tickets last_tickets') (room1 : ℕ) (reserve : 128 ≤ room1) (facts : Facts) (p : Option PlainPerformed)
     (block_at' : Blocks) (pending' : List Code) (as_told : facts ≡ facts_after o (Step.Enter j.entry ∷ past))
     (ran : Performs false facts j.entry.command j.entry.data_out p block_at block_at' pending pending') (steps' : List Step)

@@ -3,10 +3,10 @@ use Rattle.std.proofs.Common.{◌≡◌, ℕ, ◌+◌, ◌≤◌, Bool, inl, inr
 use Rattle.ring_core.specs.declared.log.Ticket.{Ticket}
 use Rattle.block_store.specs.Blocks.{Blocks}
 use Rattle.unit_attention.specs.declared.code.Code.{Code}
-use Rattle.replies.specs.PlainReply.{PlainReply}
-use Rattle.replies.specs.Effects.{block_after}
-use Rattle.replies.specs.Facts.{Facts}
-use Rattle.replies.specs.Replies.{reply_of}
+use Rattle.command_model.specs.PlainReply.{PlainReply}
+use Rattle.command_model.specs.Effects.{block_after}
+use Rattle.command_model.specs.Facts.{Facts}
+use Rattle.command_model.specs.Replies.{reply_of}
 use Rattle.unit_model.specs.declared.reason.Reason.{Reason}
 use Rattle.unit_model.specs.Tasks.{Entry, task_of}
 use Rattle.unit_model.specs.Steps.{Step, alive, done}
@@ -21,7 +21,7 @@ use Rattle.task_set.specs.Inner.Tasks.{moved, task_at}
 use Rattle.unit_model.specs.Asking.{IsOf, asked_of, CannotCommit}
 use Rattle.unit_history.specs.Calls.{Commits}
 use Rattle.unit_history.specs.Inner.Parts.{AreKept}
-use Rattle.replies.specs.Memory.{may_run_short}
+use Rattle.command_model.specs.Memory.{may_run_short}
 use Rattle.unit_history.specs.Inner.Performing.{PlainPerformed, Performs, step_for}
 use Rattle.unit_history.specs.Inner.Outcomes.{outcome_for}
 use Rattle.unit_history.specs.Inner.Turns.{Turns}

@@ -5,8 +5,8 @@ use Rattle.std.proofs.lemmas.Bool.{le-leb, lt-leb, ltb-true, ltb-false}
 use Rattle.std.proofs.lemmas.List.{length-map, length-reverse}
 use Rattle.std.proofs.lemmas.Option.{slice_get-map}
 use Rattle.ring_core.specs.declared.log.Ticket.{Ticket}
-use Rattle.replies.specs.PlainReply.{PlainReply, plain_of}
-use Rattle.replies.specs.declared.reply.Reply.{Reply}
+use Rattle.command_model.specs.PlainReply.{PlainReply, plain_of}
+use Rattle.command_model.specs.declared.reply.Reply.{Reply}
 use Rattle.unit_model.specs.Steps.{Step}
 use Rattle.unit_model.specs.Receipts.{step_at, latest_kept, is_kept, Agrees}
 use Rattle.unit_history.specs.declared.kind.StepKind.{StepKind}

@@ -4,7 +4,7 @@ use Rattle.std.proofs.lemmas.Bool.{ltb-false}
 use Rattle.ring_core.specs.declared.log.Ticket.{Ticket}
 use Rattle.block_store.specs.Blocks.{Blocks}
 use Rattle.unit_attention.specs.declared.code.Code.{Code}
-use Rattle.unit_model.specs.Steps.{Step, floor}
+use Rattle.unit_model.specs.Steps.{Step, next_number}
 use Rattle.unit_model.specs.Contents.{Opening}
 use Rattle.unit_model.specs.Jobs.{PlainJob}
 use Rattle.unit_model.specs.Receipts.{unit_address}
@@ -32,12 +32,13 @@ came_then t last_tickets made last_tickets' same came q = came q ∙ ap (λ n. c
 
 module _ {o : Opening} {past : List Step} {block_at : Blocks} {pending : List Code} {tasks : List PlainTask} {last_tickets : List (Option ℕ)} {room : ℕ}
     (k : AreKept o past block_at pending tasks last_tickets room) where
-  pub not_stale : (t : Ticket) (b : Bool) → b ≡ nat_lt t.number (floor_kept last_tickets t.queue) → b ≡ false → floor t.queue past ≤ t.number
+  pub not_stale : (t : Ticket) (b : Bool) → b ≡ nat_lt t.number (floor_kept last_tickets t.queue) → b ≡ false
+      → next_number t.queue past ≤ t.number
   not_stale t b is above = subst (λ n. n ≤ t.number) (k.floors t.queue) (ltb-false t.number (floor_kept last_tickets t.queue) (sym is ∙ above))
 
   -- as many tasks as there may be are alive
   pub enters_full : (j : PlainJob) (steps' : List Step) (keeps keeps' : Bool) → j.address ≡ unit_address o
-      → length tasks ≡ 64 → floor j.entry.ticket.queue past ≤ j.entry.ticket.number
+      → length tasks ≡ 64 → next_number j.entry.ticket.queue past ≤ j.entry.ticket.number
       → steps' ≡ Step.Full j.entry.ticket ∷ past → keeps' ≡ keeps
       → Enters (record { opening = o; steps = past; parked = parked_of tasks; keeps_replies = keeps }) j (entered.Full j)
       (record { opening = o; steps = steps'; parked = parked_of tasks; keeps_replies = keeps' })
@@ -53,9 +54,9 @@ module _ {o : Opening} {past : List Step} {block_at : Blocks} {pending : List Co
   -- its task enters, and its job is handed out where nothing blocks it
   pub enters_task : (j : PlainJob) (x : Option PlainJob) (place : ℕ) (steps' : List Step) (keeps keeps' : Bool)
       → j.address ≡ unit_address o → length tasks < 64
-      → floor j.entry.ticket.queue past ≤ j.entry.ticket.number → x ≡ run_at_once tasks j → steps' ≡ Step.Enter j.entry ∷ past → keeps' ≡ keeps
-      → Enters (record { opening = o; steps = past; parked = parked_of tasks; keeps_replies = keeps }) j (entered_of x)
-      (record { opening = o; steps = steps'; parked = parked_of (tasks ++ entering place tasks j ∷ []); keeps_replies = keeps' })
+      → next_number j.entry.ticket.queue past ≤ j.entry.ticket.number → x ≡ run_at_once tasks j
+      → steps' ≡ Step.Enter j.entry ∷ past → keeps' ≡ keeps
+      → Enters (record { opening = o; steps = past; parked = parked_of tasks; keeps_replies = keeps }) j (entered_of x) (record { opening = o; steps = steps'; parked = parked_of (tasks ++ entering place tasks j ∷ []); keeps_replies = keeps' })
   enters_task j (Some now) place steps' keeps keeps' named few le run steps kept =
       let free = run_free o past block_at pending tasks last_tickets room j now k (sym run) in (
         free.0,

@@ -5,7 +5,7 @@ use Rattle.std.proofs.lemmas.List.{append-nil}
 use Rattle.ring_core.specs.declared.log.Ticket.{Ticket}
 use Rattle.unit_attention.specs.declared.code.Code.{Code}
 use Rattle.block_store.specs.Blocks.{Blocks}
-use Rattle.replies.specs.PlainReply.{PlainReply}
+use Rattle.command_model.specs.PlainReply.{PlainReply}
 use Rattle.unit_model.specs.declared.rule.Rule.{Rule}
 use Rattle.unit_model.specs.declared.rule.Rule.TheVariants as rules
 use Rattle.unit_model.specs.declared.reason.Reason.TheVariants as reason

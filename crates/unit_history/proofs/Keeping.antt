@@ -8,19 +8,19 @@ use Rattle.block_store.specs.Pages.{blocks_in}
 use Rattle.unit_attention.specs.declared.code.Code.{Code}
 use Rattle.unit_attention.specs.Pending.{raised}
 use Rattle.cdb.specs.declared.commands.Command.{Command}
-use Rattle.replies.specs.PlainReply.{PlainReply, replied}
-use Rattle.replies.specs.Attention.{met}
-use Rattle.replies.specs.Effects.{block_after}
-use Rattle.replies.specs.Facts.{Facts}
+use Rattle.command_model.specs.PlainReply.{PlainReply, replied}
+use Rattle.command_model.specs.Attention.{met}
+use Rattle.command_model.specs.Effects.{block_after}
+use Rattle.command_model.specs.Facts.{Facts}
 use Rattle.block_commands.specs.Inner.Told.{facts_of}
 use Rattle.block_commands.specs.declared.facts.UnitFacts.{UnitFacts}
-use Rattle.replies.specs.Replies.{reply_of, reported}
+use Rattle.command_model.specs.Replies.{reply_of, reported}
 use Rattle.block_commands.proofs.Ranges.{answer_of-agree}
 use Rattle.unit_model.specs.declared.rule.Rule.{Rule}
 use Rattle.unit_model.specs.declared.rule.Rule.TheVariants as rules
 use Rattle.unit_model.specs.declared.reason.Reason.TheVariants as reason
 use Rattle.unit_model.specs.Tasks.{Entry, task_of, is_blocked}
-use Rattle.unit_model.specs.Steps.{Step, alive, done, floor}
+use Rattle.unit_model.specs.Steps.{Step, alive, done, next_number}
 use Rattle.unit_model.specs.Marks.{marked}
 use Rattle.unit_model.specs.Enabling.{enabled}
 use Rattle.unit_model.specs.Seen.{Seen, seen, tasks_of, entries, seen_at, others, joined, finished, with_mark, freed, owed}
@@ -76,7 +76,7 @@ module _ {o : Opening} {past : List Step} {block_at : Blocks} {pending : List Co
   pub entries_alive : entries_of tasks ≡ alive past
   entries_alive = entries_seen tasks ∙ ap entries k.set ∙ entries_tasks past
 
-  pub fresh : (t : Ticket) → floor t.queue past ≤ t.number → task_of t (entries_of tasks) ≡ None
+  pub fresh : (t : Ticket) → next_number t.queue past ≤ t.number → task_of t (entries_of tasks) ≡ None
   fresh t le = ap (λ w. task_of t w) entries_alive ∙ never.none_of t (alive past) (never.fresh t past (never.above_fresh o t past k.lawful le))
 
   seen_found : (t : Ticket) → seen_at t (tasks_of past) ≡ option_map (λ (x : PlainTask). x.seen) (task_at t tasks)
@@ -153,10 +153,11 @@ module _ {o : Opening} {past : List Step} {block_at : Blocks} {pending : List Co
       }
 
   -- Which steps may come next:
-  pub may_full : (t : Ticket) → length tasks ≡ 64 → floor t.queue past ≤ t.number → May o (Step.Full t) past
+  pub may_full : (t : Ticket) → length tasks ≡ 64 → next_number t.queue past ≤ t.number → May o (Step.Full t) past
   may_full t full le = (sym length_alive ∙ full, le)
 
-  pub may_enter : (e : Entry) → length tasks < 64 → floor e.ticket.queue past ≤ e.ticket.number → May o (Step.Enter e) past
+  pub may_enter : (e : Entry) → length tasks < 64 → next_number e.ticket.queue past ≤ e.ticket.number
+      → May o (Step.Enter e) past
   may_enter e few le = (subst (λ n. n < 64) length_alive few, le)
 
   pub may_commit : (t : Ticket) (e : Entry) (r : PlainReply) → IsReady t e past → r ≡ reply_after o e past → May o (Step.Commit t r) past
@@ -176,7 +177,8 @@ module _ {o : Opening} {past : List Step} {block_at : Blocks} {pending : List Co
       (x.seen.entry, (task_at_alive t x at).0, sym (ap (λ b. b || is_some x.seen.mark) (is_done t x at) ∙ ap (λ b. done t past || b) (is_marked t x at)) ∙ ended)
 
   -- What the parts are after each:
-  pub keep_full : (t : Ticket) (last_tickets' : List (Option ℕ)) (room' : ℕ) → length tasks ≡ 64 → floor t.queue past ≤ t.number → CameTo t last_tickets last_tickets' → 128 ≤ room'
+  pub keep_full : (t : Ticket) (last_tickets' : List (Option ℕ)) (room' : ℕ) → length tasks ≡ 64
+      → next_number t.queue past ≤ t.number → CameTo t last_tickets last_tickets' → 128 ≤ room'
       → AreKept o (Step.Full t ∷ past) block_at pending tasks last_tickets' room'
   keep_full t last_tickets' room' full le came reserve =
       let lawful : IsLawful o (Step.Full t ∷ past) = (k.lawful, may_full t full le) in
@@ -198,8 +200,9 @@ module _ {o : Opening} {past : List Step} {block_at : Blocks} {pending : List Co
       ∙ ap (λ w. tasks_of past ++ joined (length past) (w ++ j.entry ∷ []) j.entry ∷ []) entries_alive
       ∙ sym (tasks_enter o j.entry past lawful)
 
-  pub keep_enter : (j : PlainJob) (last_tickets' : List (Option ℕ)) (room' : ℕ) → length tasks < 64 → floor j.entry.ticket.queue past ≤ j.entry.ticket.number
-      → CameTo j.entry.ticket last_tickets last_tickets' → 128 ≤ room'
+  pub keep_enter : (j : PlainJob) (last_tickets' : List (Option ℕ)) (room' : ℕ) → length tasks < 64
+      → next_number j.entry.ticket.queue past ≤ j.entry.ticket.number → CameTo j.entry.ticket last_tickets last_tickets'
+      → 128 ≤ room'
       → AreKept o (Step.Enter j.entry ∷ past) block_at pending (tasks ++ entering (length past) tasks j ∷ []) last_tickets' room'
   keep_enter j last_tickets' room' few le came reserve =
       let t = j.entry.ticket in

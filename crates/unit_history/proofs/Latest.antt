@@ -2,8 +2,8 @@
 use Rattle.std.proofs.Common.{◌≡◌, ℕ, ◌+◌, ◌-◌, ◌<◌, ◌≤◌, Bool, true, false, cond, List, [], ◌∷◌, ◌++◌, length, drop, map, Option, sym, ◌∙◌, ap, subst, arith, length-append, length-drop}
 use Rattle.std.specs.Option.{option_map}
 use Rattle.std.proofs.lemmas.List.{drop-append-le, drop-drop, drop-map, length-map, map-append}
-use Rattle.replies.specs.PlainReply.{PlainReply, plain_of}
-use Rattle.replies.specs.declared.reply.Reply.{Reply}
+use Rattle.command_model.specs.PlainReply.{PlainReply, plain_of}
+use Rattle.command_model.specs.declared.reply.Reply.{Reply}
 use Rattle.unit_model.specs.Inner.Base.{most_kept}
 use Rattle.unit_model.specs.Receipts.{latest_kept}
 use Rattle.unit_history.specs.declared.kind.StepKind.{StepKind}

@@ -2,7 +2,7 @@
 use Rattle.std.proofs.Common.{◌≡◌, ℕ, ◌+◌, ◌<◌, inl, inr, Bool, true, false, ◌||◌, List, length, drop, refl, sym, ◌∙◌, ap, subst, arith}
 use Rattle.std.proofs.lemmas.Bool.Decides.{nat_tests}
 use Rattle.block_store.specs.Blocks.{is_within}
-use Rattle.replies.specs.UnmapList.{descriptors, descriptors_in, descriptor_count, is_named}
+use Rattle.command_model.specs.UnmapList.{descriptors, descriptors_in, descriptor_count, is_named}
 use Rattle.block_commands.proofs.Descriptors.{left, left-none, left-all}
 use Rattle.unit_history.specs.Changes.{PlainChanges, is_in}
 use Rattle.unit_history.specs.Inner.Noting.{Notes}

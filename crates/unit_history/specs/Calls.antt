@@ -2,7 +2,7 @@
 use Rattle.std.specs.Prelude.{ℕ, ◌≡◌, ◌≤◌, true, false, ◌||◌, List, ◌∷◌, Option, Some, None, IsTrue, ⊤}
 use Rattle.ring_core.specs.declared.log.Ticket.{Ticket}
 use Rattle.unit_model.specs.Tasks.{Entry, task_of, is_blocked}
-use Rattle.unit_model.specs.Steps.{Step, alive, done, floor}
+use Rattle.unit_model.specs.Steps.{Step, alive, done, next_number}
 use Rattle.unit_model.specs.Marks.{mark_of, marked}
 use Rattle.unit_model.specs.Contents.{is_capacity, facts_after, reply_after}
 use Rattle.unit_model.specs.Lawful.{IsReady, May}
@@ -10,7 +10,7 @@ use Rattle.unit_model.specs.Receipts.{receipt_of}
 use Rattle.unit_model.specs.Jobs.{PlainJob}
 use Rattle.unit_model.specs.Unit.{PlainUnit, parking, Steps}
 use Rattle.unit_model.specs.Asking.{IsOf, IsNamed, IsMisdelivered, CannotCommit}
-use Rattle.replies.specs.Memory.{may_run_short}
+use Rattle.command_model.specs.Memory.{may_run_short}
 use Rattle.unit_history.specs.declared.outcomes.Entered.{Entered}
 use Rattle.unit_history.specs.declared.outcomes.Entered.TheVariants as entered
 use Rattle.unit_history.specs.declared.outcomes.Outcome.{Outcome}
@@ -31,7 +31,7 @@ Enters old j entered.Parked new =
     × (new ≡ parking j old)
 Enters old j (entered.Full job) new = (job ≡ j) × IsNamed j old × Steps old (Step.Full j.entry.ticket) new
 Enters old j (entered.Busy job) new = (job ≡ j) × IsNamed j old
-    × (floor j.entry.ticket.queue old.steps ≤ j.entry.ticket.number)
+    × (next_number j.entry.ticket.queue old.steps ≤ j.entry.ticket.number)
     × (new ≡ old)
 Enters old j (entered.Stale job) new = (job ≡ j) × IsMisdelivered j old × (new ≡ old)
 

@@ -1,8 +1,8 @@
 -- How a request ends, by what its unit's calls answered.
 use Rattle.std.specs.Prelude.{ℕ, ◌≤◌, length, Option, Some, None, Result, Ok, Err, IfSome, ⊤}
 use Rattle.block_store.specs.declared.NoMemory.{NoMemory}
-use Rattle.replies.specs.PlainReply.{PlainReply, plain_of}
-use Rattle.replies.specs.declared.reply.Reply.{Reply}
+use Rattle.command_model.specs.PlainReply.{PlainReply, plain_of}
+use Rattle.command_model.specs.declared.reply.Reply.{Reply}
 use Rattle.unit_model.specs.Endings.{Ending}
 use Rattle.unit_history.specs.declared.outcomes.Outcome.{Outcome}
 use Rattle.unit_history.specs.declared.outcomes.Outcome.TheVariants as outcome

@@ -4,11 +4,11 @@ ghost use Rattle.std.specs.Prelude.{◌≡◌, ◌≤◌, length, IfOk};
 ghost use Rattle.cdb.specs.Need.{need_of};
 ghost use Rattle.unit_model.specs.Endings.{Ending};
 ghost use Rattle.unit_model.specs.Jobs.{PlainJob};
-ghost use Rattle.replies.specs.PlainReply.{success};
+ghost use Rattle.command_model.specs.PlainReply.{success};
 ghost use Rattle.unit_history.specs.Endings.{ending_of_run, plain_run};
 
 use block_store::NoMemory;
-use replies::Reply;
+use command_model::Reply;
 use task_set::Arrival;
 
 /// Writes what answers a request, by what came of its command.

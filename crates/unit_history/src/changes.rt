@@ -2,8 +2,8 @@
 
 ghost use Rattle.std.specs.Prelude.{◌≡◌, ℕ, ◌+◌, ◌-◌, ◌*◌, ◌<◌, ◌≤◌, ◌^◌, Bool, false, [], length, is_some, nat_le, ◌&&◌, ◌||◌};
 ghost use Rattle.block_store.specs.Blocks.{is_within};
-ghost use Rattle.replies.specs.Effects.{given};
-ghost use Rattle.replies.specs.UnmapList.{descriptors_in, descriptors, is_named};
+ghost use Rattle.command_model.specs.Effects.{given};
+ghost use Rattle.command_model.specs.UnmapList.{descriptors_in, descriptors, is_named};
 ghost use Rattle.unit_history.specs.Changes.{is_in};
 ghost use Rattle.unit_history.specs.Inner.Noting.{Notes};
 

@@ -18,7 +18,7 @@ use crate::turn::{Turn, turn_of};
 use crate::unit::UnitState;
 use block_store::{NoMemory, Prepared, Store};
 use cdb::Command;
-use replies::Reply;
+use command_model::Reply;
 use ring_core::Ticket;
 use scsi_codec::Address;
 use task_set::{Job, TaskSet};

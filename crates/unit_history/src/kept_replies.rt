@@ -2,13 +2,13 @@
 
 ghost use Rattle.std.specs.Prelude.{◌≡◌, ◌+◌, ◌<◌, ◌≤◌, [], ◌∷◌, ◌++◌, length, OnOk, IsTrue, ◌↔◌, if◌then◌else◌};
 ghost use Rattle.std.specs.Option.{option_map};
-ghost use Rattle.replies.specs.PlainReply.{plain_of};
+ghost use Rattle.command_model.specs.PlainReply.{plain_of};
 ghost use Rattle.unit_model.specs.Receipts.{latest_kept};
 ghost use Rattle.unit_history.specs.Inner.Kept.{latest};
 ghost use Rattle.unit_history.specs.Inner.Recorded.{spare_of_deque, kept_there, reply_of_place, AreAlike};
 
 use crate::log::LATEST_KEPT;
-use replies::Reply;
+use command_model::Reply;
 use std::alloc::AllocError;
 use std::collections::VecDeque;
 

@@ -2,7 +2,7 @@
 
 ghost use Rattle.std.specs.Prelude.{◌≡◌, ◌+◌, ◌-◌, ◌<◌, ◌≤◌, ◌%◌, nat_lt, [], ◌∷◌, length, max, OnOk, OnErr, IfSome, Option, Some, None, true, false, ◌⊎◌, IsTrue, ◌↔◌, if◌then◌else◌};
 ghost use Rattle.std.specs.Option.{option_map};
-ghost use Rattle.replies.specs.PlainReply.{PlainReply, plain_of};
+ghost use Rattle.command_model.specs.PlainReply.{PlainReply, plain_of};
 ghost use Rattle.unit_model.specs.Base.{most_before};
 ghost use Rattle.unit_model.specs.Inner.Base.{most_kept};
 ghost use Rattle.unit_model.specs.Counts.{counts_of};
@@ -20,7 +20,7 @@ use crate::kept_replies::{agrees_there, push_where, reserve_where};
 use crate::kind::StepKind;
 use crate::recorded::RecordedStep;
 use crate::ring::{KindRing, index_behind, index_of};
-use replies::Reply;
+use command_model::Reply;
 use ring_core::Ticket;
 use std::alloc::{AllocError, Global};
 use std::collections::VecDeque;

@@ -2,10 +2,10 @@
 
 ghost use Rattle.std.specs.Prelude.{◌≡◌, Option, Some, None};
 ghost use Rattle.std.specs.Option.{option_map};
-ghost use Rattle.replies.specs.PlainReply.{plain_of};
+ghost use Rattle.command_model.specs.PlainReply.{plain_of};
 ghost use Rattle.unit_history.specs.Inner.Calls.{entered_of};
 
-use replies::Reply;
+use command_model::Reply;
 use ring_core::Ticket;
 use scsi_codec::Address;
 use std::error::Error;
@@ -87,7 +87,7 @@ pub struct Receipt {
 
 impl Model for Receipt {
     ghost use Rattle.std.specs.Option.{option_map};
-    ghost use Rattle.replies.specs.PlainReply.{plain_of};
+    ghost use Rattle.command_model.specs.PlainReply.{plain_of};
     ghost use Rattle.unit_model.specs.Receipts as receipts;
 
     ghost Value = { receipts.Receipt };

@@ -3,7 +3,7 @@
 ghost use Rattle.std.specs.Prelude.{◌≡◌, ◌≤◌, ◌<◌, IfSome, if◌then◌else◌, length, true, IfOk, OnErr, false};
 ghost use Rattle.std.specs.Option.{option_map};
 ghost use Rattle.cdb.specs.Need.{need_of};
-ghost use Rattle.replies.specs.PlainReply.{plain_of};
+ghost use Rattle.command_model.specs.PlainReply.{plain_of};
 ghost use Rattle.block_store.specs.Drafts.{prepared_draft};
 ghost use Rattle.block_commands.specs.Prepared.{IsOf};
 ghost use Rattle.block_commands.specs.Inner.Told.{facts_of};
@@ -17,7 +17,7 @@ use crate::log::LONGEST_KEPT;
 use block_commands::{UnitFacts, exec, exec_prepared, takes_attention};
 use block_store::{NoMemory, PagedStore, Prepared, Store};
 use cdb::Command;
-use replies::Reply;
+use command_model::Reply;
 use sense::Sense;
 use std::alloc::{AllocError, Global};
 use unit_attention::{Attentions, Code};

@@ -1,17 +1,17 @@
 //! Steps as proofs see them: with the data of their commands and replies, which no bytes keep.
 
 ghost use Rattle.std.specs.Prelude.{◌≡◌, ◌-◌, ◌^◌, ◌<◌, length};
-ghost use Rattle.replies.specs.PlainReply.{plain_of};
-ghost use Rattle.replies.specs.Inner.PlainReply.{good_data};
+ghost use Rattle.command_model.specs.PlainReply.{plain_of};
+ghost use Rattle.command_model.specs.Inner.PlainReply.{good_data};
 ghost use Rattle.unit_model.specs.Tasks.{entry_of};
 ghost use Rattle.unit_history.specs.Kept.{kind_of};
 ghost use Rattle.unit_history.specs.Inner.Recorded.{step_recorded};
 
 use crate::kind::StepKind;
 use cdb::Command;
-use decisions::{TaskAttribute, UnitRequest};
+use command_model::{GOOD, Reply};
 use record::Record;
-use replies::{GOOD, Reply};
+use request_intake::{TaskAttribute, UnitRequest};
 use ring_core::Ticket;
 use sense::Sense;
 use std::marker::Model;
@@ -71,7 +71,7 @@ pub struct RecordedReply {
 
 impl Model for RecordedReply {
     ghost use Rattle.std.specs.Prelude.{◌≡◌, length};
-    ghost use Rattle.replies.specs.PlainReply.{PlainReply};
+    ghost use Rattle.command_model.specs.PlainReply.{PlainReply};
 
     ghost Value = { PlainReply };
 

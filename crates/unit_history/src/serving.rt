@@ -15,7 +15,7 @@ use crate::recorded::{RecordedReply, RecordedStep};
 use crate::unit::{UnitState, has_address, make_way, recorded_entry};
 use block_commands::{UnitFacts, read_in_place};
 use block_store::{NoMemory, PagedStore, Store};
-use replies::Reply;
+use command_model::Reply;
 use ring_core::Ticket;
 use std::alloc::Global;
 use task_set::Arrival;

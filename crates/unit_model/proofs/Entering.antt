@@ -7,12 +7,12 @@ use Rattle.unit_model.specs.Tasks.{Entry, same_ticket, task_of, is_blocked}
 use Rattle.unit_model.specs.Steps.{Step, alive, has_entered}
 use Rattle.unit_model.specs.Marks.{marked}
 use Rattle.unit_model.specs.Enabling.{enabled, is_parked}
-use Rattle.unit_model.specs.Worths.{weigh, parked_worth}
+use Rattle.unit_model.specs.Weights.{weigh, parked_count}
 use Rattle.unit_model.proofs.Tickets.{apart}
 use Rattle.unit_model.proofs.Fresh.{Others, fresh, fresh_unmarked}
 use Rattle.unit_model.proofs.Blocking.{blocked_more, enabled_entering}
 use Rattle.unit_model.proofs.Clearing.{Each, all_found}
-use Rattle.unit_model.proofs.Worth.{weigh_append, weigh_same}
+use Rattle.unit_model.proofs.Weight.{weigh_append, weigh_same}
 
 stays : (a n b c : Bool) → (b ≡ true → c ≡ true) → ((a || (n && not b)) || (n && not c)) ≡ (a || (n && not b))
 stays true n b c h = refl
@@ -58,7 +58,7 @@ new_parked e h n =
 
 -- a task that enters is parked where the others block it
 pub parked_enter : (p : Ticket → ℕ) (e : Entry) (h : List Step) → has_entered e.ticket h ≡ false
-    → parked_worth p (Step.Enter e ∷ h) ≡ parked_worth p h + cond (is_blocked e (alive h ++ e ∷ [])) (p e.ticket) 0
+    → parked_count p (Step.Enter e ∷ h) ≡ parked_count p h + cond (is_blocked e (alive h ++ e ∷ [])) (p e.ticket) 0
 parked_enter p e h n =
     let new = ap (λ b. cond b (p e.ticket) 0) (new_parked e h n) in
     let old = old_same p e h n in

@@ -7,7 +7,7 @@ use Rattle.unit_model.specs.declared.rule.Rule.{Rule}
 use Rattle.unit_model.specs.declared.rule.Rule.TheVariants as rules
 use Rattle.unit_model.specs.declared.reason.Reason.TheVariants as reason
 use Rattle.unit_model.specs.Tasks.{Entry, same_ticket, task_of, without, is_blocked}
-use Rattle.unit_model.specs.Steps.{Step, alive, has_entered, floor, done}
+use Rattle.unit_model.specs.Steps.{Step, alive, has_entered, next_number, done}
 use Rattle.unit_model.specs.Marks.{meets_one, is_marked_by, first_mark, mark_of}
 use Rattle.unit_model.specs.Enabling.{enabled}
 use Rattle.unit_model.specs.Contents.{Opening}
@@ -51,17 +51,19 @@ number_apart u t le = elim (same_ticket u t) as (λ b. (same_ticket u t ≡ b) �
   | false ↦ λ k. refl
 ] refl
 
--- the floor of a queue after a step that takes a ticket
-below : (u t : Ticket) (past : List Step) → (floor u.queue past ≤ u.number) → cond (eqb u.queue t.queue) (u.number + 1) (floor t.queue past) ≤ t.number
-    → (same_ticket u t ≡ false) × (floor t.queue past ≤ t.number)
+-- the next number of a queue after a step that takes a ticket
+below : (u t : Ticket) (past : List Step) → (next_number u.queue past ≤ u.number)
+    → cond (eqb u.queue t.queue) (u.number + 1) (next_number t.queue past) ≤ t.number
+    → (same_ticket u t ≡ false) × (next_number t.queue past ≤ t.number)
 below u t past may le =
-    (elim (eqb u.queue t.queue) as (λ b. (eqb u.queue t.queue ≡ b) → cond b (u.number + 1) (floor t.queue past) ≤ t.number → (same_ticket u t ≡ false) × (floor t.queue past ≤ t.number)) [
-      | true ↦ λ k q. (number_apart u t q, let m = subst (λ n. floor n past ≤ u.number) (eqb-true u.queue t.queue k) may in omega (arith, m, q))
+    (elim (eqb u.queue t.queue) as (λ b. (eqb u.queue t.queue ≡ b) → cond b (u.number + 1) (next_number t.queue past) ≤ t.number → (same_ticket u t ≡ false) × (next_number t.queue past ≤ t.number)) [
+      | true ↦ λ k q. (number_apart u t q, let m = subst (λ n. next_number n past ≤ u.number) (eqb-true u.queue t.queue k) may in omega (arith, m, q))
       | false ↦ λ k q. (off_left (eqb u.queue t.queue) (eqb u.number t.number) k, q)
     ]) refl le
 
--- at or above the floor of its queue a ticket never entered
-pub above_fresh : (o : Opening) (t : Ticket) (h : List Step) → IsLawful o h → floor t.queue h ≤ t.number → has_entered t h ≡ false
+-- at or above the next number of its queue a ticket never entered
+pub above_fresh : (o : Opening) (t : Ticket) (h : List Step) → IsLawful o h → next_number t.queue h ≤ t.number
+    → has_entered t h ≡ false
 above_fresh o t [] l le = refl
 above_fresh o t (Step.Enter e ∷ past) l le = let b = below e.ticket t past l.1.1 le in ap (λ c. c || has_entered t past) b.0 ∙ above_fresh o t past l.0 b.1
 above_fresh o t (Step.Full u ∷ past) l le = let b = below u t past l.1.1 le in above_fresh o t past l.0 b.1

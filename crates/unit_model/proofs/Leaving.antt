@@ -7,7 +7,7 @@ use Rattle.unit_model.specs.Marks.{marked}
 use Rattle.unit_model.specs.Enabling.{enabled, is_parked, newly_enabled}
 use Rattle.unit_model.specs.Contents.{Opening}
 use Rattle.unit_model.specs.Lawful.{IsLawful}
-use Rattle.unit_model.specs.Worths.{worth, parked_worth}
+use Rattle.unit_model.specs.Weights.{weight, parked_count}
 use Rattle.unit_model.proofs.Tickets.{same-true, clash}
 use Rattle.unit_model.proofs.Fresh.{above_fresh, fresh_undone}
 use Rattle.unit_model.proofs.Distinct.{task_push_other, task_without_other, alive_distinct, without_none}
@@ -75,5 +75,5 @@ leaves_handed o h t e l at ended =
 
 -- a Leave hands out what was parked
 pub leaving : (o : Opening) (p : Ticket → ℕ) (t : Ticket) (past : List Step) → IsLawful o (Step.Leave t ∷ past)
-    → parked_worth p past ≡ parked_worth p (Step.Leave t ∷ past) + worth p (newly_enabled t past)
+    → parked_count p past ≡ parked_count p (Step.Leave t ∷ past) + weight p (newly_enabled t past)
 leaving o p t past l = parked_leave p t l.1.0 past l.1.1 (leaves_handed o past t l.1.0 l.0 l.1.1 l.1.2)

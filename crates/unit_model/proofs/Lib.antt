@@ -7,7 +7,7 @@ pub mod Few
 pub mod Progress
 pub mod Clearing
 pub mod WorkedCases
-pub mod Worth
+pub mod Weight
 pub mod Parked
 pub mod Entering
 pub mod Leaving

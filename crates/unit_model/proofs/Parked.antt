@@ -3,7 +3,7 @@ use Rattle.std.proofs.Common.{◌≡◌, ℕ, ◌+◌, Bool, true, false, not, �
 use Rattle.std.specs.List.{AllByRecursion}
 use Rattle.ring_core.specs.declared.log.Ticket.{Ticket}
 use Rattle.unit_attention.specs.declared.code.Code.{Code}
-use Rattle.replies.specs.PlainReply.{PlainReply}
+use Rattle.command_model.specs.PlainReply.{PlainReply}
 use Rattle.unit_model.specs.declared.rule.Rule.{Rule}
 use Rattle.unit_model.specs.declared.rule.Rule.TheVariants as rules
 use Rattle.unit_model.specs.declared.reason.Reason.{Reason}
@@ -12,8 +12,8 @@ use Rattle.unit_model.specs.Tasks.{Entry, task_of, without, is_blocked}
 use Rattle.unit_model.specs.Steps.{Step, alive, has_entered}
 use Rattle.unit_model.specs.Marks.{is_marked_by, first_mark, mark_of, marked}
 use Rattle.unit_model.specs.Enabling.{enabled, is_parked, newly_enabled, newly_marked}
-use Rattle.unit_model.specs.Worths.{worth, weigh, parked_worth, alive_worth}
-use Rattle.unit_model.proofs.Worth.{worth_push, worth_filter, weigh_split, weigh_same, weigh_without, worth_without}
+use Rattle.unit_model.specs.Weights.{weight, weigh, parked_count, alive_count}
+use Rattle.unit_model.proofs.Weight.{weight_push, weight_filter, weigh_split, weigh_same, weigh_without, weight_without}
 
 or_again : (a n : Bool) → ((a || n) || n) ≡ (a || n)
 or_again true n = refl
@@ -32,23 +32,25 @@ all_same q r [] h = tt
 all_same q r (e ∷ es) h = (h e, all_same q r es h)
 
 -- a step that marks none and leaves the alive tasks as they are
-same_parked : (p : Ticket → ℕ) (s : Step) (h : List Step) → ((t : Ticket) → has_entered t (s ∷ h) ≡ has_entered t h) → ((t : Ticket) → marked t (s ∷ h) ≡ marked t h) → alive (s ∷ h) ≡ alive h → parked_worth p (s ∷ h) ≡ parked_worth p h
+same_parked : (p : Ticket → ℕ) (s : Step) (h : List Step) → ((t : Ticket) → has_entered t (s ∷ h) ≡ has_entered t h)
+    → ((t : Ticket) → marked t (s ∷ h) ≡ marked t h) → alive (s ∷ h) ≡ alive h → parked_count p (s ∷ h) ≡ parked_count p h
 same_parked p s [] n m a = ap (λ es. weigh p (is_parked (s ∷ [])) es) a
 same_parked p s (r ∷ past) n m a =
     ap (λ es. weigh p (is_parked (s ∷ r ∷ past)) es) a
     ∙ weigh_same p (is_parked (s ∷ r ∷ past)) (is_parked (r ∷ past)) (alive (r ∷ past))
     (all_same _ _ (alive (r ∷ past)) (λ e. ap (λ b. not (enabled e (s ∷ r ∷ past)) && not b) (m e.ticket) ∙ ap (λ b. not b && not (marked e.ticket (r ∷ past))) (enabled_same e s r past (n e.ticket) a)))
 
-pub parked_commit : (p : Ticket → ℕ) (t : Ticket) (r : PlainReply) (h : List Step) → parked_worth p (Step.Commit t r ∷ h) ≡ parked_worth p h
+pub parked_commit : (p : Ticket → ℕ) (t : Ticket) (r : PlainReply) (h : List Step)
+    → parked_count p (Step.Commit t r ∷ h) ≡ parked_count p h
 parked_commit p t r h = same_parked p (Step.Commit t r) h (λ u. refl) (λ u. refl) refl
 
-pub parked_busy : (p : Ticket → ℕ) (t : Ticket) (h : List Step) → parked_worth p (Step.Busy t ∷ h) ≡ parked_worth p h
+pub parked_busy : (p : Ticket → ℕ) (t : Ticket) (h : List Step) → parked_count p (Step.Busy t ∷ h) ≡ parked_count p h
 parked_busy p t h = same_parked p (Step.Busy t) h (λ u. refl) (λ u. refl) refl
 
-pub parked_full : (p : Ticket → ℕ) (t : Ticket) (h : List Step) → parked_worth p (Step.Full t ∷ h) ≡ parked_worth p h
+pub parked_full : (p : Ticket → ℕ) (t : Ticket) (h : List Step) → parked_count p (Step.Full t ∷ h) ≡ parked_count p h
 parked_full p t h = same_parked p (Step.Full t) h (λ u. refl) (λ u. refl) refl
 
-pub parked_resize : (p : Ticket → ℕ) (blocks : ℕ) (h : List Step) → parked_worth p (Step.Resize blocks ∷ h) ≡ parked_worth p h
+pub parked_resize : (p : Ticket → ℕ) (blocks : ℕ) (h : List Step) → parked_count p (Step.Resize blocks ∷ h) ≡ parked_count p h
 parked_resize p blocks h = same_parked p (Step.Resize blocks) h (λ u. refl) (λ u. refl) refl
 
 -- whether there is a mark, the earlier one or this
@@ -74,19 +76,21 @@ split_at a a' m m' b k same marks =
 -- what a marking step hands out was parked
 marking : (p : Ticket → ℕ) (s r : Step) (past : List Step) (mark : Ticket → Bool) → alive (s ∷ r ∷ past) ≡ alive (r ∷ past)
     → ((t : Ticket) → has_entered t (s ∷ r ∷ past) ≡ has_entered t (r ∷ past)) → ((t : Ticket) → marked t (s ∷ r ∷ past) ≡ (marked t (r ∷ past) || mark t))
-    → parked_worth p (r ∷ past) ≡ weigh p (is_parked (s ∷ r ∷ past)) (alive (r ∷ past)) + worth p (newly_marked s (r ∷ past))
+    → parked_count p (r ∷ past) ≡ weigh p (is_parked (s ∷ r ∷ past)) (alive (r ∷ past)) + weight p (newly_marked s (r ∷ past))
 marking p s r past mark same n m =
     let h = r ∷ past in
     weigh_split p (is_parked h) (is_parked (s ∷ h)) (λ e. not (marked e.ticket h) && (marked e.ticket (s ∷ h) && not (enabled e h))) (alive h)
     (λ e k. split_at (enabled e h) (enabled e (s ∷ h)) (marked e.ticket h) (marked e.ticket (s ∷ h)) (mark e.ticket) k (enabled_same e s r past (n e.ticket) same) (m e.ticket))
-    ∙ ap (λ k. weigh p (is_parked (s ∷ h)) (alive h) + k) (sym (worth_filter p (λ e. not (marked e.ticket h) && (marked e.ticket (s ∷ h) && not (enabled e h))) (alive h)))
+    ∙ ap (λ k. weigh p (is_parked (s ∷ h)) (alive h) + k) (sym (weight_filter p (λ e. not (marked e.ticket h) && (marked e.ticket (s ∷ h) && not (enabled e h))) (alive h)))
 
-pub parked_abort : (p : Ticket → ℕ) (rule : Rule) (h : List Step) → parked_worth p h ≡ parked_worth p (Step.Abort rule ∷ h) + worth p (newly_marked (Step.Abort rule) h)
+pub parked_abort : (p : Ticket → ℕ) (rule : Rule) (h : List Step)
+    → parked_count p h ≡ parked_count p (Step.Abort rule ∷ h) + weight p (newly_marked (Step.Abort rule) h)
 parked_abort p rule [] = omega arith
 parked_abort p rule (r ∷ past) =
     marking p (Step.Abort rule) r past (λ t. is_marked_by rule t (r ∷ past)) refl (λ t. refl) (λ t. some_mark (mark_of t (r ∷ past)) (is_marked_by rule t (r ∷ past)) reason.Aborted)
 
-pub parked_reset : (p : Ticket → ℕ) (c : Code) (h : List Step) → parked_worth p h ≡ parked_worth p (Step.Reset c ∷ h) + worth p (newly_marked (Step.Reset c) h)
+pub parked_reset : (p : Ticket → ℕ) (c : Code) (h : List Step)
+    → parked_count p h ≡ parked_count p (Step.Reset c ∷ h) + weight p (newly_marked (Step.Reset c) h)
 parked_reset p c [] = omega arith
 parked_reset p c (r ∷ past) =
     marking p (Step.Reset c) r past (λ t. is_marked_by rules.All t (r ∷ past)) refl (λ t. refl) (λ t. some_mark (mark_of t (r ∷ past)) (is_marked_by rules.All t (r ∷ past)) reason.Reset)
@@ -101,15 +105,16 @@ frees false false false k = omega arith
 
 -- what a Leave hands out was parked
 pub parked_leave : (p : Ticket → ℕ) (t : Ticket) (e : Entry) (h : List Step) → task_of t (alive h) ≡ Some e → is_parked h e ≡ false
-    → parked_worth p h ≡ parked_worth p (Step.Leave t ∷ h) + worth p (newly_enabled t h)
+    → parked_count p h ≡ parked_count p (Step.Leave t ∷ h) + weight p (newly_enabled t h)
 parked_leave p t e h at off =
     weigh_without p (is_parked h) t (alive h) e at off
     ∙ weigh_split p (is_parked h) (is_parked (Step.Leave t ∷ h)) (λ f. not (marked f.ticket h) && (not (enabled f h) && enabled f (Step.Leave t ∷ h))) (without t (alive h))
     (λ f n. frees (enabled f h) (marked f.ticket h) (has_entered f.ticket h && not (is_blocked f (without t (alive h)))) n)
-    ∙ ap (λ n. parked_worth p (Step.Leave t ∷ h) + n) (sym (worth_filter p (λ f. not (marked f.ticket h) && (not (enabled f h) && enabled f (Step.Leave t ∷ h))) (without t (alive h))))
+    ∙ ap (λ n. parked_count p (Step.Leave t ∷ h) + n) (sym (weight_filter p (λ f. not (marked f.ticket h) && (not (enabled f h) && enabled f (Step.Leave t ∷ h))) (without t (alive h))))
 
-pub alive_enter : (p : Ticket → ℕ) (e : Entry) (h : List Step) → alive_worth p (Step.Enter e ∷ h) ≡ alive_worth p h + p e.ticket
-alive_enter p e h = worth_push p (alive h) e
+pub alive_enter : (p : Ticket → ℕ) (e : Entry) (h : List Step) → alive_count p (Step.Enter e ∷ h) ≡ alive_count p h + p e.ticket
+alive_enter p e h = weight_push p (alive h) e
 
-pub alive_leave : (p : Ticket → ℕ) (t : Ticket) (e : Entry) (h : List Step) → task_of t (alive h) ≡ Some e → alive_worth p h ≡ alive_worth p (Step.Leave t ∷ h) + p t
-alive_leave p t e h at = worth_without p t (alive h) e at
+pub alive_leave : (p : Ticket → ℕ) (t : Ticket) (e : Entry) (h : List Step) → task_of t (alive h) ≡ Some e
+    → alive_count p h ≡ alive_count p (Step.Leave t ∷ h) + p t
+alive_leave p t e h at = weight_without p t (alive h) e at

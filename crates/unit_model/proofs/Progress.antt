@@ -1,8 +1,8 @@
 -- Where a task is alive, one that is alive is not blocked.
 use Rattle.std.proofs.Common.{◌≡◌, Bool, true, false, not, ◌||◌, cond, List, [], ◌∷◌, refl, ◌∙◌, ap}
 use Rattle.std.specs.List.{list_any}
-use Rattle.decisions.specs.declared.attribute.TaskAttribute.{TaskAttribute}
-use Rattle.decisions.specs.declared.attribute.TaskAttribute.TheVariants.{Simple, Ordered, HeadOfQueue}
+use Rattle.request_intake.specs.declared.attribute.TaskAttribute.{TaskAttribute}
+use Rattle.request_intake.specs.declared.attribute.TaskAttribute.TheVariants.{Simple, Ordered, HeadOfQueue}
 use Rattle.unit_model.specs.Tasks.{Entry, older, any_head_of_queue, any_task, blocks, is_blocked, is_head_of_queue}
 use Rattle.unit_model.proofs.Tickets.{itself}
 

@@ -2,7 +2,7 @@
 use Rattle.std.proofs.Common.{◌≡◌, ◌≢◌, ℕ, ◌+◌, ◌<◌, ◌≤◌, Bool, true, false, ◌&&◌, eqb, cond, List, [], ◌∷◌, ◌++◌, length, Option, Some, None, refl, sym, ◌∙◌, ap, subst, arith, eq-eqb, length-append}
 use Rattle.std.proofs.lemmas.Bool.{eqb-true, le-leb, lt-leb}
 use Rattle.ring_core.specs.declared.log.Ticket.{Ticket}
-use Rattle.replies.specs.PlainReply.{PlainReply}
+use Rattle.command_model.specs.PlainReply.{PlainReply}
 use Rattle.unit_model.specs.Steps.{Step}
 use Rattle.unit_model.specs.Contents.{Opening}
 use Rattle.unit_model.specs.Receipts.{Receipt, receipt_of, step_at, is_kept, latest_kept, longest_kept, Agrees, IsConfirmed}

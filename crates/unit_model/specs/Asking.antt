@@ -1,9 +1,9 @@
 -- Whose task a job is, by what its request asked for.
 use Rattle.std.specs.Prelude.{ℕ, ◌≡◌, ◌≢◌, ◌<◌, ◌⊎◌, true, false, List, Option, Some, None, ⊤}
 use Rattle.cdb.specs.declared.commands.Command.{Command}
-use Rattle.decisions.specs.declared.attribute.TaskAttribute.{TaskAttribute}
+use Rattle.request_intake.specs.declared.attribute.TaskAttribute.{TaskAttribute}
 use Rattle.unit_model.specs.Tasks.{Entry, task_of}
-use Rattle.unit_model.specs.Steps.{Step, alive, done, floor}
+use Rattle.unit_model.specs.Steps.{Step, alive, done, next_number}
 use Rattle.unit_model.specs.Marks.{marked}
 use Rattle.unit_model.specs.Enabling.{enabled}
 use Rattle.unit_model.specs.Jobs.{PlainJob}
@@ -17,7 +17,7 @@ IsNamed j u = j.address ≡ unit_address u.opening
 -- own: the unit refuses the request: it isn't the one that is named, or the ticket isn't above the last of its queue
 abbrev pub IsMisdelivered : PlainJob → PlainUnit → Type 0
 IsMisdelivered j u =
-    (j.address ≢ unit_address u.opening) ⊎ (j.entry.ticket.number < floor j.entry.ticket.queue u.steps)
+    (j.address ≢ unit_address u.opening) ⊎ (j.entry.ticket.number < next_number j.entry.ticket.queue u.steps)
 
 -- own: what a job says of its request: all but the data that its command takes
 pub record Asked : Type 0 where

@@ -7,11 +7,11 @@ use Rattle.block_store.specs.Pages.{blocks_in}
 use Rattle.unit_attention.specs.declared.code.Code.{Code}
 use Rattle.unit_attention.specs.Code.{code}
 use Rattle.unit_attention.specs.Pending.{raised, without_first}
-use Rattle.replies.specs.PlainReply.{PlainReply}
-use Rattle.replies.specs.Attention.{takes}
-use Rattle.replies.specs.Effects.{block_after}
-use Rattle.replies.specs.Facts.{Facts}
-use Rattle.replies.specs.Replies.{reply_of}
+use Rattle.command_model.specs.PlainReply.{PlainReply}
+use Rattle.command_model.specs.Attention.{takes}
+use Rattle.command_model.specs.Effects.{block_after}
+use Rattle.command_model.specs.Facts.{Facts}
+use Rattle.command_model.specs.Replies.{reply_of}
 use Rattle.unit_model.specs.Tasks.{Entry, task_of}
 use Rattle.unit_model.specs.Steps.{Step, alive}
 

@@ -1,7 +1,7 @@
 -- How much a unit did, by its steps.
 use Rattle.std.specs.Prelude.{ℕ, ◌+◌, ◌-◌, ◌%◌, ◌^◌, ◌==◌, List, [], ◌∷◌, length, if◌then◌else◌}
-use Rattle.replies.specs.PlainReply.{PlainReply}
-use Rattle.replies.specs.Statuses.{good, check_condition}
+use Rattle.command_model.specs.PlainReply.{PlainReply}
+use Rattle.command_model.specs.Statuses.{good, check_condition}
 use Rattle.unit_model.specs.Steps.{Step}
 use Rattle.unit_model.specs.declared.counts.Counts.{Counts}
 

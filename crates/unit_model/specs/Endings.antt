@@ -2,9 +2,9 @@
 use Rattle.std.specs.Prelude.{ℕ, List}
 use Rattle.scsi_codec.specs.declared.responses.ResponseCode.{ResponseCode}
 use Rattle.scsi_codec.specs.declared.responses.ResponseCode.TheVariants as code
-use Rattle.replies.specs.PlainReply.{PlainReply}
-use Rattle.decisions.specs.Answers.{answer_of_reply, failed, busy_reply, full_reply}
-use Rattle.decisions.specs.declared.answer.ChainLengths.{ChainLengths}
+use Rattle.command_model.specs.PlainReply.{PlainReply}
+use Rattle.request_intake.specs.Answers.{answer_of_reply, failed, busy_reply, full_reply}
+use Rattle.request_intake.specs.declared.answer.ChainLengths.{ChainLengths}
 use Rattle.unit_model.specs.declared.reason.Reason.{Reason}
 use Rattle.unit_model.specs.declared.reason.Reason.TheVariants as reason
 

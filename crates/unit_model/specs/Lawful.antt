@@ -2,7 +2,7 @@
 use Rattle.std.specs.Prelude.{◌≡◌, ◌<◌, ◌≤◌, true, false, ◌||◌, List, [], ◌∷◌, length, Some, ⊤}
 use Rattle.ring_core.specs.declared.log.Ticket.{Ticket}
 use Rattle.unit_model.specs.Tasks.{Entry, task_of}
-use Rattle.unit_model.specs.Steps.{Step, alive, floor, done}
+use Rattle.unit_model.specs.Steps.{Step, alive, next_number, done}
 use Rattle.unit_model.specs.Marks.{marked}
 use Rattle.unit_model.specs.Enabling.{enabled}
 use Rattle.unit_model.specs.Contents.{Opening, is_capacity, reply_after}
@@ -19,8 +19,8 @@ pub record IsReady (t : Ticket) (e : Entry) (past : List Step) : Type 0 where
 -- after this past, or is answered BUSY (SAM-5 §5.3.1). A unit is given a capacity that a unit may have. A task leaves
 -- once it is done or marked.
 abbrev pub May : Opening → Step → List Step → Type 0
-May o (Step.Enter e) past = (length (alive past) < 64) × (floor e.ticket.queue past ≤ e.ticket.number)
-May o (Step.Full t) past = (length (alive past) ≡ 64) × (floor t.queue past ≤ t.number)
+May o (Step.Enter e) past = (length (alive past) < 64) × (next_number e.ticket.queue past ≤ e.ticket.number)
+May o (Step.Full t) past = (length (alive past) ≡ 64) × (next_number t.queue past ≤ t.number)
 May o (Step.Commit t r) past = (e : Entry) × IsReady t e past × (r ≡ reply_after o e past)
 May o (Step.Busy t) past = (e : Entry) × IsReady t e past
 May o (Step.Abort rule) past = ⊤

@@ -10,7 +10,7 @@ pub mod Lawful
 pub mod Receipts
 pub mod Base
 pub mod Endings
-pub mod Worths
+pub mod Weights
 pub mod Jobs
 pub mod Unit
 pub mod Asking

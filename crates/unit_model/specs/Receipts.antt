@@ -1,7 +1,7 @@
 -- What was handed out for a commit, and when the history confirms it.
 use Rattle.std.specs.Prelude.{ℕ, ◌≡◌, ◌+◌, Bool, true, false, ◌&&◌, nat_le, List, [], ◌∷◌, length, Option, Some, None, ◌==◌, if◌then◌else◌, ⊤}
 use Rattle.scsi_codec.specs.declared.lun.Address.{Address}
-use Rattle.replies.specs.PlainReply.{PlainReply}
+use Rattle.command_model.specs.PlainReply.{PlainReply}
 use Rattle.ring_core.specs.declared.log.Ticket.{Ticket}
 use Rattle.unit_model.specs.Steps.{Step}
 use Rattle.unit_model.specs.Contents.{Opening}

@@ -1,6 +1,6 @@
 -- The steps of a unit, and which tasks are alive and done after them.
 use Rattle.std.specs.Prelude.{ℕ, ◌+◌, Bool, false, ◌==◌, ◌||◌, is_some, List, [], ◌∷◌, ◌++◌, if◌then◌else◌}
-use Rattle.replies.specs.PlainReply.{PlainReply}
+use Rattle.command_model.specs.PlainReply.{PlainReply}
 use Rattle.ring_core.specs.declared.log.Ticket.{Ticket}
 use Rattle.unit_attention.specs.declared.code.Code.{Code}
 use Rattle.unit_model.specs.declared.rule.Rule.{Rule}
@@ -30,11 +30,11 @@ abbrev pub is_alive : Ticket → List Step → Bool
 is_alive t h = is_some (task_of t (alive h))
 
 -- own: one above the last ticket of a queue in an Enter or a Full
-abbrev pub floor : ℕ → List Step → ℕ
-floor q [] = 0
-floor q (Step.Enter e ∷ past) = if e.ticket.queue == q then e.ticket.number + 1 else floor q past
-floor q (Step.Full t ∷ past) = if t.queue == q then t.number + 1 else floor q past
-floor q (step ∷ past) = floor q past
+abbrev pub next_number : ℕ → List Step → ℕ
+next_number q [] = 0
+next_number q (Step.Enter e ∷ past) = if e.ticket.queue == q then e.ticket.number + 1 else next_number q past
+next_number q (Step.Full t ∷ past) = if t.queue == q then t.number + 1 else next_number q past
+next_number q (step ∷ past) = next_number q past
 
 -- own: the task has an Enter
 abbrev pub has_entered : Ticket → List Step → Bool

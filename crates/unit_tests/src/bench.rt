@@ -6,7 +6,7 @@ use crate::calls::Came;
 use crate::hand::{Hand, MOST_JOBS, name_of};
 use crate::port::Ports;
 use block_store::NoMemory;
-use decisions::UnitSpec;
+use request_intake::UnitSpec;
 use std::alloc::Global;
 use unit_history::{Place, UnitState};
 use unit_model::Rule;

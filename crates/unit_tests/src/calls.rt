@@ -2,7 +2,7 @@
 
 use crate::acts::{Comes, Ends};
 use block_store::NoMemory;
-use replies::{CHECK_CONDITION, GOOD, Reply};
+use command_model::{CHECK_CONDITION, GOOD, Reply};
 use ring_core::{Answered, Ticket};
 use unit_attention::Code;
 use unit_history::{Arrival, Entered, Job, JobList, Outcome, Place, Receipt, StepKind, UnitState};

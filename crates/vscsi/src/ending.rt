@@ -4,7 +4,7 @@ ghost use Rattle.std.specs.Prelude.{◌≡◌};
 ghost use Rattle.std.specs.Process.{exit_status};
 ghost use Rattle.vscsi.specs.Inner.Endings.{status_of};
 
-use script_lines::ScriptFault;
+use script_syntax::ScriptFault;
 use std::io;
 use std::process::ExitCode;
 

@@ -5,7 +5,7 @@ use Rattle.block_store.specs.Blocks.{zero_block, overwritten, run}
 use Rattle.block_store.specs.Kept as pages
 use Rattle.block_store.specs.declared.paged.PagedStore.{PagedStore}
 use Rattle.unit_model.specs.Contents.{is_capacity}
-use Rattle.decisions.specs.declared.inventory.UnitSpec.{UnitSpec}
+use Rattle.request_intake.specs.declared.inventory.UnitSpec.{UnitSpec}
 use Rattle.config.specs.Config.{is_config}
 use Rattle.config.specs.declared.config.Config.{Config}
 use Rattle.device_model.specs.World.{Opens}

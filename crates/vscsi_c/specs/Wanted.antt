@@ -2,7 +2,7 @@
 use Rattle.std.specs.Prelude.{ℕ, ◌≡◌, ◌==◌, not, List, map}
 use Rattle.ring_core.specs.declared.layout.Layout.{Layout}
 use Rattle.ring_core.specs.State.{fresh_layout}
-use Rattle.decisions.specs.declared.inventory.UnitSpec.{UnitSpec}
+use Rattle.request_intake.specs.declared.inventory.UnitSpec.{UnitSpec}
 use Rattle.config.specs.declared.config.Config.{Config}
 use Rattle.vscsi_c.specs.declared.wanted.WantedQueue.{WantedQueue}
 use Rattle.vscsi_c.specs.declared.wanted.WantedUnit.{WantedUnit}

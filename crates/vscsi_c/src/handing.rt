@@ -16,7 +16,7 @@ use crate::disk::Disk;
 use crate::served::Served;
 use crate::wanted::{Fault, WantedQueue, WantedUnit, config_of, fault_of};
 use block_store::{NoMemory, PagedStore};
-use decisions::UnitSpec;
+use request_intake::UnitSpec;
 use std::alloc::Global;
 use world::{Notifications, World};
 

@@ -4,7 +4,7 @@ ghost use Rattle.std.specs.Prelude.{◌≡◌, map, IfOk};
 ghost use Rattle.vscsi_c.specs.Wanted.{layout_of, spec_of, Asks};
 ghost use Rattle.vscsi_c.specs.Calls.{layout_number as number_of_layout, cause_of, plain_cause};
 
-use decisions::UnitSpec;
+use request_intake::UnitSpec;
 use std::alloc::{AllocError, Global};
 use world::{Config, ConfigFault, Layout, LayoutFault};
 

@@ -3,9 +3,9 @@ use denote.Param.Send.{IsSend, recorded_send, struct_send}
 use denote.RattleType.{RattleType}
 use denote.Struct.Declared.{shape}
 use Rattle.std.specs.declared.sync.ledger.Ledger.{Ghosts}
-use Rattle.bays.proofs.Crossing.{part_sends}
-use Rattle.report.proofs.Crossing.{kept_sends}
-use Rattle.posts.proofs.Crossing.{ticket_sends}
+use Rattle.lock_scopes.proofs.Crossing.{part_sends}
+use Rattle.close_audit.proofs.Crossing.{kept_sends}
+use Rattle.worker_steps.proofs.Crossing.{ticket_sends}
 use Rattle.workers.specs.contracts.tallied.Tallied.{the_row as tallied_row, the_field as tallied_field, the_type as tallied_type}
 use Rattle.workers.specs.contracts.tallied.BlankPart.{the_row as blank_part_row, the_field as blank_part_field, the_type as blank_part_type}
 

@@ -2,14 +2,14 @@
 use Rattle.std.proofs.Common.{ℕ, Bool, true, false, List, Ok}
 use Rattle.scsi_codec.specs.declared.lun.Address.{Address}
 use Rattle.std.specs.Bool.{OnTrue}
-use Rattle.scsi_codec.specs.declared.event_queue.Event.{Event as Report}
+use Rattle.scsi_codec.specs.declared.event_queue.Event.{Event as EventRecord}
 use Rattle.unit_model.specs.Jobs.{Jobs}
 use Rattle.unit_model.specs.Unit.{PlainUnit, IsUnit}
 use Rattle.phases.specs.Resetting.{Resets}
 use Rattle.workers.specs.Resetting.{WasReset}
 
-pub was_reset : (inventory : List Address) (place : ℕ) (b : Bool) (u v : PlainUnit) (out out' : Jobs) (w w' : List Report) → IsUnit u → Resets inventory place u out w (Ok b) v out' w'
-    → IsUnit v → OnTrue b (WasReset inventory place)
+pub was_reset : (inventory : List Address) (place : ℕ) (b : Bool) (u v : PlainUnit) (out out' : Jobs) (w w' : List EventRecord)
+    → IsUnit u → Resets inventory place u out w (Ok b) v out' w' → IsUnit v → OnTrue b (WasReset inventory place)
 was_reset inventory place true u v out out' w w' before did behind =
     record {
       unit = u;

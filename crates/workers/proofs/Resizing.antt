@@ -5,13 +5,13 @@ use Rattle.phases.specs.declared.resizing.ResizeFault.{ResizeFault}
 use Rattle.phases.specs.declared.resizing.ResizeFault.TheVariants as fault
 use Rattle.unit_model.specs.Contents.{is_capacity}
 use Rattle.std.specs.Bool.{OnTrue}
-use Rattle.scsi_codec.specs.declared.event_queue.Event.{Event as Report}
+use Rattle.scsi_codec.specs.declared.event_queue.Event.{Event as EventRecord}
 use Rattle.unit_model.specs.Unit.{PlainUnit, IsUnit}
 use Rattle.phases.specs.Resizing.{RefusesResize, ResizesUnit}
 use Rattle.workers.specs.Resizing.{ResizeFails, WasResized}
 
-pub was_resized : (inventory : List Address) (place blocks : ℕ) (told b : Bool) (u v : PlainUnit) (w w' : List Report) → IsUnit u
-    → ResizesUnit inventory place u blocks told w (Ok b) v w' → IsUnit v
+pub was_resized : (inventory : List Address) (place blocks : ℕ) (told b : Bool) (u v : PlainUnit) (w w' : List EventRecord)
+    → IsUnit u → ResizesUnit inventory place u blocks told w (Ok b) v w' → IsUnit v
     → OnTrue b (WasResized inventory place blocks told)
 was_resized inventory place blocks told true u v w w' before did behind =
     record {

@@ -1,6 +1,6 @@
 -- How large a host is, and when one starts.
 use Rattle.std.specs.Prelude.{◌≡◌, ℕ, Bool, true, false, List, length, Result, Ok, Err}
-use Rattle.decisions.specs.declared.inventory.UnitSpec.{UnitSpec}
+use Rattle.request_intake.specs.declared.inventory.UnitSpec.{UnitSpec}
 use Rattle.config.specs.declared.config.Config.{Config}
 use Rattle.config.specs.declared.config.StartFault.{StartFault}
 use Rattle.config.specs.declared.config.StartFault.TheVariants.{BadConfig, NoMemory}

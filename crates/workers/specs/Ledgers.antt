@@ -2,7 +2,7 @@
 use Rattle.std.specs.Prelude.{ℕ, ◌≡◌, ◌≤◌, List}
 use Rattle.std.specs.List.{sum_by}
 use Rattle.unit_model.specs.Unit.{PlainUnit}
-use Rattle.bays.specs.Ledgers.{commits_of}
+use Rattle.lock_scopes.specs.Ledgers.{commits_of}
 
 -- own: how many Commits units have
 abbrev pub commits_in : List PlainUnit → ℕ

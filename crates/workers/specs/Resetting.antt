@@ -1,7 +1,7 @@
 -- The operator's reset of a unit that a lock lent.
 use Rattle.std.specs.Prelude.{ℕ, true, List, Ok}
 use Rattle.scsi_codec.specs.declared.lun.Address.{Address}
-use Rattle.scsi_codec.specs.declared.event_queue.Event.{Event as Report}
+use Rattle.scsi_codec.specs.declared.event_queue.Event.{Event as EventRecord}
 use Rattle.unit_model.specs.Jobs.{Jobs}
 use Rattle.unit_model.specs.Unit.{PlainUnit, IsUnit}
 use Rattle.phases.specs.Resetting.{Resets}
@@ -11,10 +11,10 @@ use Rattle.phases.specs.Resetting.{Resets}
 pub record WasReset (inventory : List Address) (place : ℕ) : Type 0 where
   pub unit : PlainUnit
   pub jobs : Jobs
-  pub waiting : List Report
+  pub waiting : List EventRecord
   pub unit_after : PlainUnit
   pub jobs_after : Jobs
-  pub waiting_after : List Report
+  pub waiting_after : List EventRecord
   pub stands : IsUnit unit
   pub reset : Resets inventory place unit jobs waiting (Ok true) unit_after jobs_after waiting_after
   pub stands_after : IsUnit unit_after

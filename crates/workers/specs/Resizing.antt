@@ -1,7 +1,7 @@
 -- The operator's resize of a unit that a lock lent.
 use Rattle.std.specs.Prelude.{ℕ, ◌≡◌, Bool, true, false, List, Ok}
 use Rattle.scsi_codec.specs.declared.lun.Address.{Address}
-use Rattle.scsi_codec.specs.declared.event_queue.Event.{Event as Report}
+use Rattle.scsi_codec.specs.declared.event_queue.Event.{Event as EventRecord}
 use Rattle.unit_model.specs.Unit.{PlainUnit, IsUnit}
 use Rattle.unit_model.specs.Contents.{is_capacity}
 use Rattle.phases.specs.declared.resizing.ResizeFault.{ResizeFault}
@@ -18,9 +18,9 @@ ResizeFails blocks fault.NoMemory = is_capacity blocks ≡ true
 -- guest, where it is told, stands behind those that were there
 pub record WasResized (inventory : List Address) (place blocks : ℕ) (told : Bool) : Type 0 where
   pub unit : PlainUnit
-  pub waiting : List Report
+  pub waiting : List EventRecord
   pub unit_after : PlainUnit
-  pub waiting_after : List Report
+  pub waiting_after : List EventRecord
   pub stands : IsUnit unit
   pub resized : ResizesUnit inventory place unit blocks told waiting (Ok true) unit_after waiting_after
   pub stands_after : IsUnit unit_after

@@ -1,12 +1,12 @@
 //! The parts of the ledgers, handed out and gathered.
 
 ghost use Rattle.std.specs.Prelude.{◌≡◌, ◌+◌, ◌≤◌, vec_len, IfOk, OnOk};
-ghost use Rattle.report.specs.Keeping.{receipts_kept};
+ghost use Rattle.close_audit.specs.Keeping.{receipts_kept};
 ghost use Rattle.workers.specs.Ledgers.{commits_in};
 
 use crate::tallied::{BlankPart, Tallied};
-use bays::{CountedUnit, Part};
-use report::{CloseFault, Kept};
+use close_audit::{CloseFault, Kept};
+use lock_scopes::{CountedUnit, Part};
 use std::alloc::{AllocError, Global};
 use std::sync::Mutex;
 use std::sync::ledger::{Ledger, Share};

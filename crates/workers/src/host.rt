@@ -3,7 +3,7 @@
 ghost use Rattle.std.specs.Prelude.{◌≡◌, ◌<◌, true, length, vec_len, IfOk, IfErr, OnOk, OnErr};
 ghost use Rattle.std.specs.Arc.{arc_value};
 ghost use Rattle.config.specs.Config.{is_config};
-ghost use Rattle.posts.specs.Tallying.{Tallies};
+ghost use Rattle.worker_steps.specs.Tallying.{Tallies};
 ghost use Rattle.workers.specs.Extent.{Starts, extent_of};
 ghost use Rattle.workers.specs.Ledgers.{Opens};
 
@@ -15,16 +15,15 @@ use crate::opening::open_parts;
 use crate::operating::{reset, resize};
 use crate::tallied::{BlankPart, Tallied};
 use crate::worker::{Worker, ends, work};
-use bays::{Books, Gate, hold, peek_on, poke_on};
 use block_store::NoMemory;
+use close_audit::{CloseFault, Report, report_closed};
 use config::{Config, StartFault, tells_changes};
-use decisions::UnitSpec;
 use event_queue::WaitingEvents;
 use guest_mem::MemFault;
 use handoff::{Handoff, Seat};
+use lock_scopes::{Books, Gate, hold, peek_on, poke_on};
 use phases::{ResetFault, ResizeFault};
-use posts::{Post, Shared, finish};
-use report::{CloseFault, Report, report_closed};
+use request_intake::UnitSpec;
 use ring_core::RingFault;
 use std::alloc::{AllocError, Global};
 use std::marker::Model;
@@ -32,6 +31,7 @@ use std::sync::ledger::{Blank, Ledger, Share};
 use std::sync::{Arc, Wait};
 use std::thread::Threads;
 use task_set::MOST_TASKS;
+use worker_steps::{Post, Shared, finish};
 
 impl<W: Ledger> Begins for Post<W> {
     ghost seat = { λ p. p.seat };
@@ -167,10 +167,10 @@ pub struct Host<G: Gate + Drop, C: Ledger, W: Ledger> {
 impl<G: Gate + Drop, C: Ledger, W: Ledger> Model for Host<G, C, W> {
     ghost use Rattle.std.specs.Prelude.{◌≡◌, ◌+◌, ◌≤◌, map, vec_len};
     ghost use Rattle.std.specs.Arc.{arc_value};
-    ghost use Rattle.decisions.specs.Inventory.{address_of};
+    ghost use Rattle.request_intake.specs.Inventory.{address_of};
     ghost use Rattle.workers.specs.Crew.{IsLastSeat};
     ghost use Rattle.workers.specs.Extent.{Extent};
-    ghost use Rattle.posts.specs.Tallying.{Tallies};
+    ghost use Rattle.worker_steps.specs.Tallying.{Tallies};
 
     ghost Value = { Extent };
 
@@ -193,12 +193,12 @@ impl<G: Gate + Drop, C: Ledger, W: Ledger> Model for Host<G, C, W> {
 impl<G: Gate + Drop, C: Ledger, W: Ledger> Host<G, C, W> {
     ghost use Rattle.std.specs.Prelude.{◌≡◌, ◌<◌, ◌≤◌, true, List, ℕ, length, map, IfOk, IfErr, IfSome, OnOk, OnErr, vec_len, is_some, nat_lt};
     ghost use Rattle.guest_mem.specs.declared.memory.MemFault.TheVariants as MemFault;
-    ghost use Rattle.bays.specs.Lending.{IsMemory};
-    ghost use Rattle.bays.specs.Memory.{Writes, Reads};
-    ghost use Rattle.report.specs.Closed.{IsReport};
+    ghost use Rattle.lock_scopes.specs.Lending.{IsMemory};
+    ghost use Rattle.lock_scopes.specs.Memory.{Writes, Reads};
+    ghost use Rattle.close_audit.specs.Closed.{IsReport};
     ghost use Rattle.workers.specs.Resetting.{WasReset};
     ghost use Rattle.workers.specs.Resizing.{ResizeFails, WasResized};
-    ghost use Rattle.decisions.specs.Inventory.{address_of};
+    ghost use Rattle.request_intake.specs.Inventory.{address_of};
     ghost use Rattle.workers.specs.Ledgers.{Opens, commits_in};
     ghost use Rattle.unit_model.specs.Contents.{is_capacity};
 

@@ -2,22 +2,22 @@
 
 ghost use Rattle.std.specs.Prelude.{◌≡◌, ◌+◌, ◌<◌, ◌≤◌, true, length, map, vec_len, IfOk};
 ghost use Rattle.std.specs.List.{list_all};
-ghost use Rattle.decisions.specs.Inventory.{address_of};
+ghost use Rattle.request_intake.specs.Inventory.{address_of};
 ghost use Rattle.config.specs.Config.{is_config, is_queue};
 
-use bays::{CountedUnit, Part};
 use block_store::NoMemory;
 use config::{Config, MOST_DESCRIPTORS, form};
-use decisions::{Inventory, UnitSpec};
 use event_queue::EventPort;
 use guest_mem::GuestMem;
-use posts::Parts;
-use queues::Queue;
+use lock_scopes::{CountedUnit, Part};
+use request_intake::{Inventory, UnitSpec};
 use ring_core::{Form, Layout};
 use std::alloc::Global;
 use std::sync::Mutex;
 use std::sync::ledger::{Ledger, Share};
 use unit_history::UnitState;
+use virtqueue::Queue;
+use worker_steps::Parts;
 
 /// Makes a unit of an inventory, whose Commits are counted in this part. It keeps the replies of its Commits, for
 /// receipts to be compared with.

@@ -4,17 +4,17 @@ ghost use Rattle.std.specs.Prelude.{◌≡◌, ◌<◌, true, vec_len, IfOk, IfE
 ghost use Rattle.std.specs.Bool.{OnTrue};
 ghost use Rattle.handoff.specs.Seats.{IsSeatOf, IsSameSeat};
 ghost use Rattle.unit_model.specs.Contents.{is_capacity};
-ghost use Rattle.posts.specs.Tallying.{Tallies};
+ghost use Rattle.worker_steps.specs.Tallying.{Tallies};
 ghost use Rattle.workers.specs.Resetting.{WasReset};
 ghost use Rattle.workers.specs.Resizing.{ResizeFails, WasResized};
 
-use bays::{Gate, hard_on, resize_on};
 use event_queue::WaitingEvents;
+use lock_scopes::{Gate, hard_on, resize_on};
 use phases::{ResetFault, ResizeFault};
-use posts::{Post, Shared, drain, raise};
 use std::sync::Wait;
 use std::sync::ledger::Ledger;
 use unit_history::is_capacity;
+use worker_steps::{Post, Shared, drain, raise};
 
 /// Resets a unit, in one hold of its lock. Returns true if it did: not where the list has no room for the jobs that this
 /// releases. It fails as the phase does.

@@ -1,10 +1,10 @@
 //! The end of a seat, with what was counted for it.
 
 ghost use Rattle.std.specs.Prelude.{◌≡◌};
-ghost use Rattle.posts.specs.Tallying.{kept_by, unless_lost};
+ghost use Rattle.worker_steps.specs.Tallying.{kept_by, unless_lost};
 
-use bays::Part;
-use report::Kept;
+use close_audit::Kept;
+use lock_scopes::Part;
 use ring_core::Ticket;
 use std::sync::ledger::Ledger;
 

@@ -2,18 +2,20 @@
 
 ghost use Rattle.std.specs.Prelude.{◌≡◌, ◌<◌};
 ghost use Rattle.handoff.specs.Seats.{IsSeatOf, IsSameSeat};
-ghost use Rattle.bays.specs.Ledgers.{receipts_due};
-ghost use Rattle.posts.specs.Tallying.{Tallies};
+ghost use Rattle.lock_scopes.specs.Ledgers.{receipts_due};
+ghost use Rattle.worker_steps.specs.Tallying.{Tallies};
 
 use crate::hired::Worked;
 use crate::tallied::Tallied;
-use bays::Gate;
+use lock_scopes::Gate;
 use phases::OpenFunction;
-use posts::{Post, Progress, Shared, drain, fetch_event, manage, serve_handed_off, serve_queue};
 use scsi_codec::FIRST_REQUEST_QUEUE;
 use std::hint::spin_loop;
 use std::sync::Wait;
 use std::sync::ledger::Ledger;
+use worker_steps::{
+    Post, Progress, Shared, drain, fetch_event, manage, serve_handed_off, serve_queue,
+};
 
 /// The place of the first request queue among the queues.
 const FIRST_REQUEST: usize = FIRST_REQUEST_QUEUE as usize;

@@ -12,7 +12,7 @@ use Rattle.device_model.specs.Phases.{HasHand}
 use Rattle.device_model.proofs.Lists.{same, nothing}
 use Rattle.device_model.proofs.Joining.{joins}
 use Rattle.phases.specs.Parts.{answering_queue}
-use Rattle.queues.specs.Queue.{BareQueue}
+use Rattle.virtqueue.specs.Queue.{BareQueue}
 use Rattle.phases.specs.Queue.{with_slot}
 use Rattle.phases.specs.Direct.{decided_writes, StaysQueue}
 use Rattle.phases.specs.Answering.{Answers}

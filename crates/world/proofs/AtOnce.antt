@@ -17,7 +17,7 @@ use Rattle.device_model.specs.Standing.{SlotOwns}
 use Rattle.device_model.specs.Turns.{Turns}
 use Rattle.device_model.proofs.Lists.{same, get_change}
 use Rattle.device_model.specs.Order.{of_seat}
-use Rattle.queues.specs.Queue.{BareQueue}
+use Rattle.virtqueue.specs.Queue.{BareQueue}
 use Rattle.phases.specs.Queue.{with_slot}
 use Rattle.phases.specs.DoingUnit.{with_more}
 use Rattle.phases.specs.Fetching.{FetchesRequest}

@@ -2,7 +2,7 @@
 use Rattle.std.proofs.Common.{◌≡◌, ℕ, Bool, true, false, List, Some, refl, sym, ap, ◌∙◌, subst, inl, inr}
 use Rattle.std.proofs.lemmas.Bool.{false≢true}
 use Rattle.unit_model.specs.declared.reason.Reason.{Reason}
-use Rattle.replies.specs.PlainReply.{PlainReply}
+use Rattle.command_model.specs.PlainReply.{PlainReply}
 use Rattle.std.specs.Prelude.{slice_get, slice_set, map, ◌||◌}
 use Rattle.unit_model.specs.Endings.{Ending}
 use Rattle.unit_model.specs.Tasks.{task_of}

@@ -8,7 +8,7 @@ use Rattle.device_model.specs.Transitions.{Transition}
 use Rattle.device_model.specs.Events.{Event}
 use Rattle.device_model.specs.After.{directing}
 use Rattle.device_model.proofs.Joining.{joins}
-use Rattle.queues.specs.Queue.{BareQueue}
+use Rattle.virtqueue.specs.Queue.{BareQueue}
 use Rattle.phases.specs.Queue.{with_slot}
 use Rattle.phases.specs.Direct.{decided_writes}
 use Rattle.phases.specs.Inner.InMemory.{as_seen, DoesQueueIn, DirectsIn, LetsGoIn, StaysQueueIn}

@@ -2,7 +2,7 @@
 use Rattle.std.proofs.Common.{◌≡◌, ◌<◌, ◌≤◌, ◌+◌, ◌*◌, ℕ, Bool, true, false, List, [], ◌∷◌, length, Some, refl, sym, ap, ◌∙◌, subst, inl, inr, arith}
 use Rattle.std.specs.Prelude.{slice_get, slice_set, map}
 use Rattle.std.proofs.Math.Path.{subst₂}
-use Rattle.unit_model.specs.Steps.{Step, floor}
+use Rattle.unit_model.specs.Steps.{Step, next_number}
 use Rattle.unit_model.specs.Endings.{Ending}
 use Rattle.unit_model.specs.Jobs.{PlainJob, Jobs}
 use Rattle.unit_model.specs.Unit.{PlainUnit, after as stepped, parking}
@@ -139,16 +139,16 @@ enters w kept are sound limits i p n q u s n_is q_at u_at s_at slot v out (Slot.
     absurd (e.0 (has_places w kept n s are sound.room limits s_at))
 enters w kept are sound limits i p n q u s n_is q_at u_at s_at slot v out (Slot.Arrived x) is place true e =
     let own : SlotOwns w i (Slot.Arrived x) = subst (λ z. SlotOwns w i z) is (sound.owned.slots i q q_at) in
-    let behind : floor i u.steps ≤ x.entry.ticket.number =
-    subst (λ z. floor i u.steps ≤ front_of z (length q.ring.log.accepted)) is
+    let behind : next_number i u.steps ≤ x.entry.ticket.number =
+    subst (λ z. next_number i u.steps ≤ front_of z (length q.ring.log.accepted)) is
     ((sound.behind i q q_at).floors p u u_at) in
     let fresh : IsMisdelivered x u → ⊥ =
     λ m.
     elim m [
       | inl other ↦ other (sound.named x i q u q_at is (ap (λ k. slice_get w.units k) (same place) ∙ u_at))
       | inr late ↦
-          let later : x.entry.ticket.number < floor i u.steps =
-          subst (λ k. x.entry.ticket.number < floor k u.steps) (ap (λ t. t.queue) own.1.ticket ∙ own.0) late in
+          let later : x.entry.ticket.number < next_number i u.steps =
+          subst (λ k. x.entry.ticket.number < next_number k u.steps) (ap (λ t. t.queue) own.1.ticket ∙ own.0) late in
           omega (arith, behind, later)
     ] in
     (subst₂

@@ -3,12 +3,12 @@ use Rattle.std.proofs.Common.{◌≡◌, inl, inr, ℕ, zero, suc, ◌<◌, Bool
 use Rattle.std.specs.Prelude.{slice_get, get_or}
 use Rattle.std.proofs.lemmas.Option.{slice_get_read, slice_get_within}
 use Rattle.ring_core.specs.Offer.{Offers, Nothing}
-use Rattle.scsi_codec.specs.declared.event_queue.Event.{Event as Report}
+use Rattle.scsi_codec.specs.declared.event_queue.Event.{Event as EventRecord}
 use Rattle.unit_model.specs.Clearing.{is_clear}
 use Rattle.unit_model.specs.Jobs.{PlainJob}
 use Rattle.unit_model.specs.Unit.{PlainUnit}
 use Rattle.task_mgmt.specs.declared.function.Mark.{Mark as Place}
-use Rattle.queues.specs.Looking.{IsIdle}
+use Rattle.virtqueue.specs.Looking.{IsIdle}
 use Rattle.phases.specs.Slots.{arrived_unit, is_direct}
 use Rattle.device_model.specs.Parts.{Slot, Hand}
 use Rattle.device_model.specs.World.{PlainQueue, PlainWorld, Opened, Seat}
@@ -157,14 +157,14 @@ checks w o mark u false there left waits at is =
 
 -- Events that wait
 
-pub raised : (w : PlainWorld) (o : Option Report) → o ≡ slice_get w.waiting 0 → is_some o ≡ true → Applies w Event.Raise
+pub raised : (w : PlainWorld) (o : Option EventRecord) → o ≡ slice_get w.waiting 0 → is_some o ≡ true → Applies w Event.Raise
 raised w None is on = absurd (cc)
 raised w (Some e) is on = let l = first_there w.waiting e (sym is) in (e, l.0, l.1)
 
-pub no_raise : (w : PlainWorld) (o : Option Report) → o ≡ slice_get w.waiting 0 → is_some o ≡ false
+pub no_raise : (w : PlainWorld) (o : Option EventRecord) → o ≡ slice_get w.waiting 0 → is_some o ≡ false
     → Applies w Event.Raise → ⊥
 no_raise w o is off a =
-    false_true (sym off ∙ ap is_some (is ∙ ap (λ (es : List Report). slice_get es 0) a.2))
+    false_true (sym off ∙ ap is_some (is ∙ ap (λ (es : List EventRecord). slice_get es 0) a.2))
 
 -- Slots
 

@@ -2,7 +2,7 @@
 use Rattle.std.proofs.Common.{◌≡◌, ℕ, Bool, true, false, List, [], ◌∷◌, length, Some, refl, sym, ap, ◌∙◌, subst}
 use Rattle.std.specs.Prelude.{slice_get, slice_set, drop}
 use Rattle.std.specs.List.{AllByRecursion}
-use Rattle.scsi_codec.specs.declared.event_queue.Event.{Event as Report}
+use Rattle.scsi_codec.specs.declared.event_queue.Event.{Event as EventRecord}
 use Rattle.scsi_codec.specs.EventQueue.{event_bytes}
 use Rattle.ring_core.specs.State.{PlainChain}
 use Rattle.ring_core.specs.Writes.{all_written}
@@ -15,7 +15,7 @@ use Rattle.device_model.specs.After.{completing}
 use Rattle.device_model.specs.Standing.{IsOwned}
 use Rattle.device_model.proofs.Joining.{joins}
 use Rattle.device_model.proofs.Lists.{same}
-use Rattle.queues.specs.Queue.{BareQueue, MayComplete}
+use Rattle.virtqueue.specs.Queue.{BareQueue, MayComplete}
 use Rattle.phases.specs.Queue.{with_slot}
 use Rattle.phases.specs.Inner.InMemory.{as_seen}
 use Rattle.phases.specs.Inner.EventsInMemory.{RaisesNextIn, RaisesToIn, StaysRaisedIn}
@@ -25,7 +25,7 @@ use Rattle.world.proofs.Setting.{set_same}
 use Rattle.world.proofs.Placing.{set_as}
 
 -- the world with this memory, these queues, this port and these events that wait
-abbrev pub with_raised : List ℕ → List PlainQueue → PlainPort → List Report → PlainWorld → PlainWorld
+abbrev pub with_raised : List ℕ → List PlainQueue → PlainPort → List EventRecord → PlainWorld → PlainWorld
 with_raised m qs p x w =
     record w { memory = m; queues = qs; buffers = p.buffers; missed = p.missed; waiting = x }
 
@@ -33,11 +33,11 @@ with_raised m qs p x w =
 none_there : {X : Type 0} {x : X} {xs : List X} → [] ≡ x ∷ xs → ⊥
 none_there e = cc
 
-module _ (w : PlainWorld) (k : ℕ) (s : Slot) (l l' : BareQueue) (m' n : List ℕ) (p p' : PlainPort) (x' : List Report)
+module _ (w : PlainWorld) (k : ℕ) (s : Slot) (l l' : BareQueue) (m' n : List ℕ) (p p' : PlainPort) (x' : List EventRecord)
     (second : k ≡ 1) (at : slice_get w.queues k ≡ Some (with_slot s l)) (held : p.buffers ≡ w.buffers)
     (missed : p.missed ≡ w.missed) where
   -- by what the parts are
-  parts_are : (m : List ℕ) (qs : List PlainQueue) (z : PlainPort) (x : List Report) → m' ≡ m
+  parts_are : (m : List ℕ) (qs : List PlainQueue) (z : PlainPort) (x : List EventRecord) → m' ≡ m
       → slice_set w.queues k (with_slot s l') ≡ qs → p' ≡ z → x' ≡ x
       → with_raised m' (slice_set w.queues k (with_slot s l')) p' x' w ≡ with_raised m qs z x w
   parts_are m qs z x a b c d =
@@ -46,7 +46,7 @@ module _ (w : PlainWorld) (k : ℕ) (s : Slot) (l l' : BareQueue) (m' n : List �
       ∙ ap (λ x. with_raised m qs z x w) d
 
   -- where nothing was changed the world is as it was
-  still : (x : List Report) → w.waiting ≡ x → StaysRaisedIn l w.memory p x l' m' n p' x'
+  still : (x : List EventRecord) → w.waiting ≡ x → StaysRaisedIn l w.memory p x l' m' n p' x'
       → with_raised m' (slice_set w.queues k (with_slot s l')) p' x' w ≡ w
   still x waits h =
       parts_are w.memory w.queues p w.waiting h.at_queue.memory
@@ -63,7 +63,7 @@ module _ (w : PlainWorld) (k : ℕ) (s : Slot) (l l' : BareQueue) (m' n : List �
       record { fits = sym fits; owned = rw (ap (λ (q : PlainQueue). q.ring) is) at h.1.owned }
 
   -- by the buffers that are held
-  raises_to : (cs : List PlainChain) (e : Report) (later : List Report) (r : Bool) → p.buffers ≡ cs
+  raises_to : (cs : List PlainChain) (e : EventRecord) (later : List EventRecord) (r : Bool) → p.buffers ≡ cs
       → w.waiting ≡ e ∷ later → l.ring.memory ≡ length w.memory
       → AllByRecursion (λ (c : PlainChain). (c.ticket.queue ≡ 1) × IsOwned w c) cs
       → RaisesToIn w.shared cs e later l w.memory p r l' m' n p' x'
@@ -96,7 +96,7 @@ module _ (w : PlainWorld) (k : ℕ) (s : Slot) (l l' : BareQueue) (m' n : List �
               missed = b;
               waiting = later;
             }) missed
-            ∙ ap (λ (x : List Report). record w {
+            ∙ ap (λ (x : List EventRecord). record w {
               memory = m;
               queues = qs;
               buffers = drop 1 w.buffers;
@@ -113,13 +113,13 @@ module _ (w : PlainWorld) (k : ℕ) (s : Slot) (l l' : BareQueue) (m' n : List �
         parts_are w.memory w.queues _ later h.0.memory
             (ap (λ z. slice_set w.queues k (with_slot s z)) h.0.queue ∙ set_same k w.queues (with_slot s l) at) h.1 h.2
             ∙ ap (λ (b : List PlainChain). record w { buffers = b; missed = true; waiting = later }) held
-            ∙ ap (λ (x : List Report). record w { missed = true; waiting = drop 1 x }) (sym waits),
+            ∙ ap (λ (x : List EventRecord). record w { missed = true; waiting = drop 1 x }) (sym waits),
         h.0.seen ∙ sym h.0.memory,
       )
   raises_to [] e later false has waits fits owned h = absurd h
 
   -- by the events that wait
-  pub raises : (x : List Report) (r : Bool) → w.waiting ≡ x → IsSound w → l.ring.memory ≡ length w.memory
+  pub raises : (x : List EventRecord) (r : Bool) → w.waiting ≡ x → IsSound w → l.ring.memory ≡ length w.memory
       → RaisesNextIn w.shared x l w.memory p r l' m' n p' x'
       → TurnsSeen n w Event.Raise r (with_raised m' (slice_set w.queues k (with_slot s l')) p' x' w)
   raises (e ∷ later) r waits sound fits h =
@@ -130,15 +130,16 @@ module _ (w : PlainWorld) (k : ℕ) (s : Slot) (l l' : BareQueue) (m' n : List �
       (still [] waits h, λ may. none_there (sym waits ∙ may.2), h.at_queue.seen)
 
 -- the port keeps how many buffers it may hold
-to_limit : (shared : Bool) (cs : List PlainChain) (e : Report) (later : List Report) (l l' : BareQueue) (m m' n : List ℕ) (p p' : PlainPort)
-    (x' : List Report) (r : Bool) → RaisesToIn shared cs e later l m p r l' m' n p' x' → p'.limit ≡ p.limit
+to_limit : (shared : Bool) (cs : List PlainChain) (e : EventRecord) (later : List EventRecord) (l l' : BareQueue)
+    (m m' n : List ℕ) (p p' : PlainPort) (x' : List EventRecord) (r : Bool)
+    → RaisesToIn shared cs e later l m p r l' m' n p' x' → p'.limit ≡ p.limit
 to_limit shared (c ∷ more) e later l l' m m' n p p' x' true h = ap (λ (z : PlainPort). z.limit) h.1
 to_limit shared (c ∷ more) e later l l' m m' n p p' x' false h = ap (λ (z : PlainPort). z.limit) h.1.port
 to_limit shared [] e later l l' m m' n p p' x' true h = ap (λ (z : PlainPort). z.limit) h.1
 to_limit shared [] e later l l' m m' n p p' x' false h = absurd h
 
-pub raise_limit : (shared : Bool) (x : List Report) (l l' : BareQueue) (m m' n : List ℕ) (p p' : PlainPort) (x' : List Report) (r : Bool)
-    → RaisesNextIn shared x l m p r l' m' n p' x' → p'.limit ≡ p.limit
+pub raise_limit : (shared : Bool) (x : List EventRecord) (l l' : BareQueue) (m m' n : List ℕ) (p p' : PlainPort)
+    (x' : List EventRecord) (r : Bool) → RaisesNextIn shared x l m p r l' m' n p' x' → p'.limit ≡ p.limit
 raise_limit shared (e ∷ later) l l' m m' n p p' x' r h = to_limit shared p.buffers e later l l' m m' n p p' x' r h
 raise_limit shared [] l l' m m' n p p' x' true h = absurd h
 raise_limit shared [] l l' m m' n p p' x' false h = ap (λ (z : PlainPort). z.limit) h.port

@@ -4,7 +4,7 @@ use Rattle.std.specs.Prelude.{slice_get, slice_set, map}
 use Rattle.std.proofs.lemmas.List.{length-map}
 use Rattle.block_store.specs.declared.NoMemory.{NoMemory}
 use Rattle.scsi_codec.specs.declared.lun.Address.{Address}
-use Rattle.scsi_codec.specs.declared.event_queue.Event.{Event as Report}
+use Rattle.scsi_codec.specs.declared.event_queue.Event.{Event as EventRecord}
 use Rattle.unit_model.specs.Steps.{Step}
 use Rattle.unit_model.specs.Jobs.{Jobs}
 use Rattle.unit_model.specs.Unit.{PlainUnit, after as stepped}
@@ -26,7 +26,7 @@ use Rattle.world.specs.Sound.{AreFew, lun_of}
 use Rattle.world.proofs.Setting.{list_of, listing, unit_change, unit_still, map_get, seat_there, seat_more, seat_still, has_places}
 
 -- the list keeps its limit
-pub reset_limit : (inventory : List Address) (p : ℕ) (u v : PlainUnit) (out out' : Jobs) (x y : List Report)
+pub reset_limit : (inventory : List Address) (p : ℕ) (u v : PlainUnit) (out out' : Jobs) (x y : List EventRecord)
     (r : Result Bool ResetFault) → Resets inventory p u out x r v out' y → out'.limit ≡ out.limit
 reset_limit inventory p u v out out' x y (Ok true) h = ap (λ (j : Jobs). j.limit) h.2
 reset_limit inventory p u v out out' x y (Ok false) h = ap (λ (j : Jobs). j.limit) h.1.jobs
@@ -41,16 +41,16 @@ has_operator w kept are many =
     omega (arith, same_count, many)
 
 -- three parts of the device
-abbrev pub reset_parts : PlainWorld → List PlainUnit → List Seat → List Report → PlainWorld
+abbrev pub reset_parts : PlainWorld → List PlainUnit → List Seat → List EventRecord → PlainWorld
 reset_parts w units seats waiting = record w { units = units; seats = seats; waiting = waiting }
 
-parts_are : (w : PlainWorld) (a a' : List PlainUnit) (b b' : List Seat) (c c' : List Report) → a ≡ a' → b ≡ b'
+parts_are : (w : PlainWorld) (a a' : List PlainUnit) (b b' : List Seat) (c c' : List EventRecord) → a ≡ a' → b ≡ b'
     → c ≡ c' → reset_parts w a b c ≡ reset_parts w a' b' c'
 parts_are w a a' b b' c c' x y z =
     ap (λ l. reset_parts w l b c) x ∙ ap (λ l. reset_parts w a' l c) y ∙ ap (λ l. reset_parts w a' b' l) z
 
 -- the device afterwards
-abbrev pub reset_in : PlainWorld → List KeptSeat → ℕ → PlainUnit → ℕ → KeptSeat → List Report → PlainWorld
+abbrev pub reset_in : PlainWorld → List KeptSeat → ℕ → PlainUnit → ℕ → KeptSeat → List EventRecord → PlainWorld
 reset_in w kept p v n t waiting = reset_parts w (slice_set w.units p v) (map seat_of (slice_set kept n t)) waiting
 
 -- as it is told of the event: no unit is another than the one that is named
@@ -62,7 +62,7 @@ reset_as (Err fault.NoMemory) = Err (record {})
 -- what a reset does is the event's turn, or memory was refused
 pub resets : (w : PlainWorld) (kept : List KeptSeat) → w.seats ≡ map seat_of kept → HaveRoom w → AreAddressed w → AreFew w
     → ((k : ℕ) (z : KeptSeat) → slice_get kept k ≡ Some z → z.limit ≡ 64 * length w.units + 64)
-    → (p : ℕ) (u v : PlainUnit) (s : KeptSeat) (out : Jobs) (waiting : List Report) → slice_get w.units p ≡ Some u
+    → (p : ℕ) (u v : PlainUnit) (s : KeptSeat) (out : Jobs) (waiting : List EventRecord) → slice_get w.units p ≡ Some u
     → slice_get kept w.workers ≡ Some s → (r : Result Bool ResetFault)
     → Resets w.inventory p u (list_of s) w.waiting r v out waiting
     → TurnsOrWants w (Event.Hard p) (reset_as r) (reset_in w kept p v w.workers (listing out s) waiting)

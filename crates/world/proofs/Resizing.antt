@@ -2,7 +2,7 @@
 use Rattle.std.proofs.Common.{◌≡◌, ◌≤◌, ◌++◌, ℕ, Bool, true, false, List, Option, Some, Result, Ok, Err, refl, sym, ap, ◌∙◌, arith}
 use Rattle.std.specs.Prelude.{slice_get, slice_set}
 use Rattle.block_store.specs.declared.NoMemory.{NoMemory}
-use Rattle.scsi_codec.specs.declared.event_queue.Event.{Event as Report}
+use Rattle.scsi_codec.specs.declared.event_queue.Event.{Event as EventRecord}
 use Rattle.unit_model.specs.Steps.{Step}
 use Rattle.unit_model.specs.Unit.{PlainUnit, after as stepped}
 use Rattle.phases.specs.declared.resizing.ResizeFault.{ResizeFault}
@@ -19,15 +19,15 @@ use Rattle.world.specs.Sound.{AreFew, lun_of}
 use Rattle.world.proofs.Setting.{unit_change, unit_still, map_get}
 
 -- two parts of the device
-abbrev resize_parts : PlainWorld → List PlainUnit → List Report → PlainWorld
+abbrev resize_parts : PlainWorld → List PlainUnit → List EventRecord → PlainWorld
 resize_parts w units waiting = record w { units = units; waiting = waiting }
 
-parts_are : (w : PlainWorld) (a a' : List PlainUnit) (c c' : List Report) → a ≡ a' → c ≡ c'
+parts_are : (w : PlainWorld) (a a' : List PlainUnit) (c c' : List EventRecord) → a ≡ a' → c ≡ c'
     → resize_parts w a c ≡ resize_parts w a' c'
 parts_are w a a' c c' x z = ap (λ l. resize_parts w l c) x ∙ ap (λ l. resize_parts w a' l) z
 
 -- the device afterwards
-abbrev pub resized_in : PlainWorld → ℕ → PlainUnit → List Report → PlainWorld
+abbrev pub resized_in : PlainWorld → ℕ → PlainUnit → List EventRecord → PlainWorld
 resized_in w p v waiting = resize_parts w (slice_set w.units p v) waiting
 
 untrue : true ≡ false → ⊥
@@ -42,8 +42,9 @@ told_as (Err fault.BadCapacity) = Ok false
 told_as (Err fault.NoMemory) = Err (record {})
 
 -- what a resize does is the event's turn, or memory was refused
-pub resizes : (w : PlainWorld) → AreAddressed w → AreFew w → (p blocks : ℕ) (u v : PlainUnit) (waiting : List Report) → slice_get w.units p ≡ Some u
-    → (r : Result Bool ResizeFault) → ResizesUnit w.inventory p u blocks w.tells_changes w.waiting r v waiting
+pub resizes : (w : PlainWorld) → AreAddressed w → AreFew w → (p blocks : ℕ) (u v : PlainUnit) (waiting : List EventRecord)
+    → slice_get w.units p ≡ Some u → (r : Result Bool ResizeFault)
+    → ResizesUnit w.inventory p u blocks w.tells_changes w.waiting r v waiting
     → TurnsOrWants w (Event.Resize p blocks) (told_as r) (resized_in w p v waiting)
 resizes w addressed few p blocks u v waiting u_at (Ok true) h =
     let d = Transition.Resize p blocks in

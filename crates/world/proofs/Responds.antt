@@ -14,7 +14,7 @@ use Rattle.device_model.specs.Happens.{IsWaiting}
 use Rattle.device_model.specs.Standing.{FunctionOwns}
 use Rattle.device_model.proofs.Joining.{joins}
 use Rattle.device_model.proofs.Lists.{same, nothing}
-use Rattle.queues.specs.Queue.{BareQueue, MayComplete}
+use Rattle.virtqueue.specs.Queue.{BareQueue, MayComplete}
 use Rattle.phases.specs.Queue.{with_slot}
 use Rattle.phases.specs.Inner.InMemory.{as_seen, RespondsIn, RespondsWhereIn, StaysQueueIn}
 use Rattle.world.specs.Apart.{TurnsSeen}

@@ -2,7 +2,7 @@
 use Rattle.std.specs.Prelude.{ℕ, ◌≡◌, Bool, true, false, List, Option, Result, Ok, Err}
 use Rattle.block_store.specs.declared.NoMemory.{NoMemory}
 use Rattle.scsi_codec.specs.declared.lun.Address.{Address}
-use Rattle.scsi_codec.specs.declared.event_queue.Event.{Event as Report}
+use Rattle.scsi_codec.specs.declared.event_queue.Event.{Event as EventRecord}
 use Rattle.ring_core.specs.State.{PlainChain}
 use Rattle.unit_model.specs.Jobs.{PlainJob}
 use Rattle.unit_model.specs.Unit.{PlainUnit}
@@ -27,7 +27,7 @@ pub record PlainDevice : Type 0 where
   pub function : Option Opened
   pub buffers : List PlainChain
   pub missed : Bool
-  pub waiting : List Report
+  pub waiting : List EventRecord
   pub tells_changes : Bool
 
 -- the device with these bytes in memory, which is shared or not

@@ -4,7 +4,7 @@ use Rattle.ring_core.specs.State.{features_of}
 use Rattle.ring_core.specs.declared.layout.Features.{Features}
 use Rattle.ring_core.specs.declared.layout.Form.{Form}
 use Rattle.ring_core.specs.declared.layout.Layout.{Layout}
-use Rattle.queues.specs.Queue.{opening_queue}
+use Rattle.virtqueue.specs.Queue.{opening_queue}
 use Rattle.phases.specs.Queue.{with_slot}
 use Rattle.device_model.specs.Parts.{Slot}
 use Rattle.device_model.specs.World.{PlainQueue, PlainWorld, IsNewSeat, Everywhere}
@@ -15,8 +15,8 @@ use Rattle.unit_model.specs.Unit as unit
 use Rattle.block_store.specs.declared.paged.PagedStore.{PagedStore}
 use Rattle.unit_history.specs.Disks.{opening_over, IsDiskOf}
 use Rattle.scsi_codec.specs.declared.lun.Address.{Address}
-use Rattle.decisions.specs.Inventory.{address_of, luns_of}
-use Rattle.decisions.specs.declared.inventory.UnitSpec.{UnitSpec}
+use Rattle.request_intake.specs.Inventory.{address_of, luns_of}
+use Rattle.request_intake.specs.declared.inventory.UnitSpec.{UnitSpec}
 use Rattle.config.specs.Config.{form_of, has_bit, is_config, size_of}
 use Rattle.config.specs.declared.config.Config.{Config}
 use Rattle.config.specs.declared.config.StartFault.{StartFault}

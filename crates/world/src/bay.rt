@@ -2,8 +2,8 @@
 
 use guest_mem::Memory;
 use phases::Slot;
-use queues::Queue;
 use std::marker::Model;
+use virtqueue::Queue;
 
 /// A virtqueue with what stands in its slot.
 #[derive(Drop)]
@@ -25,7 +25,7 @@ impl Model for Bay {
 impl Bay {
     ghost use Rattle.std.specs.Prelude.{◌≡◌, ◌↔◌, ℕ, List, IsTrue, is_some};
     ghost use Rattle.device_model.specs.Parts as plain;
-    ghost use Rattle.queues.specs.Looking.{IsIdle};
+    ghost use Rattle.virtqueue.specs.Looking.{IsIdle};
     ghost use Rattle.phases.specs.Slots.{arrived_unit, is_direct};
     ghost use Rattle.phases.specs.Queue.{with_slot};
 

@@ -38,7 +38,7 @@ pub(crate) fn one(next: Cursor) -> Progress
 }
 
 /// Returns the progress of a request that was served at once, where the first seat has so many jobs to hand off then.
-pub(crate) fn served_so(done: Option<bool>, jobs: usize) -> Progress
+pub(crate) fn progress_of(done: Option<bool>, jobs: usize) -> Progress
     ensures { result ≡ served_of done jobs }
 {
     if done.is_none() {

@@ -3,9 +3,9 @@
 use crate::bay::Bay;
 use crate::handed_off::HandedOff;
 use crate::seat::Seat;
-use decisions::Inventory;
 use event_queue::{EventPort, WaitingEvents};
 use phases::OpenFunction;
+use request_intake::Inventory;
 use std::marker::Model;
 use unit_history::UnitState;
 

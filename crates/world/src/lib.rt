@@ -32,10 +32,10 @@ pub use phases::{
     phase_enter, phase_fetch, phase_fetch_control, phase_fetch_event, phase_hard, phase_leave,
     phase_mark, phase_prepare, phase_raise, phase_resize, phase_start_pages,
 };
-pub use queues::{AnyRing, Queue};
 pub use ring_core::{Notify, RingFault};
 pub use service::Served;
 pub use unit_attention::Code;
 pub use unit_history::{Changes, StepKind, UnitState};
 pub use unit_model::Counts;
+pub use virtqueue::{AnyRing, Queue};
 pub use world::World;

@@ -24,14 +24,14 @@ use unit_history::{Changes, UnitState};
 impl<M: WritableMemory> LiveWorld<M> {
     /// Shows that some trace led here from an opening, whatever bytes stand in memory: every law over reached traces holds
     /// of the device with these bytes.
-    pub fn is_reached(&self)
+    pub fn some_trace_led_here(&self)
         ensures { IsReachedIn M.shared (M.extent self.now.memory) self.now.device }
     {
         let _ = &self.memory;
     }
 
     /// Shows that the ring of each queue was made for a memory of this size.
-    pub fn fits(&self)
+    pub fn rings_fit(&self)
         ensures { FitsIn (M.extent self.now.memory) self.now.device }
     {
         let _ = &self.memory;

@@ -1,7 +1,7 @@
 //! The opening of the device.
 
 ghost use Rattle.std.specs.Prelude.{◌≡◌, ◌≤◌, [], length, map, IfOk, IsFalse, IsTrue, true};
-ghost use Rattle.decisions.specs.Inventory.{address_of};
+ghost use Rattle.request_intake.specs.Inventory.{address_of};
 ghost use Rattle.std.specs.List.{list_all};
 ghost use Rattle.config.specs.Config.{is_config_for, is_queue};
 ghost use Rattle.ring_core.specs.State.{features_of};
@@ -17,14 +17,14 @@ use crate::handed_off::HandedOff;
 use crate::seat::Seat;
 use block_store::{NoMemory, PagedStore, Store};
 use config::{Config, MOST_DESCRIPTORS, form, tells_changes};
-use decisions::{Inventory, UnitSpec};
 use event_queue::{EventPort, WaitingEvents};
 use guest_mem::Memory;
-use queues::Queue;
+use request_intake::{Inventory, UnitSpec};
 use ring_core::{Form, Layout};
 use std::alloc::Global;
 use task_set::MOST_TASKS;
 use unit_history::{JobList, UnitState};
+use virtqueue::Queue;
 
 /// Opens the queues of these layouts, for a driver that agreed to these features.
 fn open_bays<M: Memory>(

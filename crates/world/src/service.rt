@@ -13,7 +13,7 @@ ghost use Rattle.world.specs.Inner.Sound.{IsSound};
 
 use crate::cursor::{
     AT_ONCE, Cursor, Progress, first_direct, first_enter, first_seat, is_fetch, is_start, one,
-    served_so,
+    progress_of,
 };
 use crate::device::Device;
 use crate::seat::Stage;
@@ -421,7 +421,7 @@ impl Device {
                     &mut self.seats[0].out,
                 );
                 let _bytes = memory.size();
-                Ok(Some(served_so(done, self.seats[0].out.len())))
+                Ok(Some(progress_of(done, self.seats[0].out.len())))
             }
         }
     }

@@ -142,7 +142,7 @@ impl World {
     }
 
     /// Shows that some trace led here from an opening: every law over reached traces holds of it.
-    pub fn is_reached(&self)
+    pub fn some_trace_led_here(&self)
         ensures { IsReached self.now }
     {
         let _ = &self.memory;
@@ -150,7 +150,7 @@ impl World {
 
     /// Shows that the ring of each queue was made for a memory of this size. Each chain that stands somewhere is its
     /// queue's own besides, as the promise says, so no test of a phase fails.
-    pub fn fits(&self)
+    pub fn rings_fit(&self)
         ensures { AreFitting self.now }
     {
         let _ = &self.memory;
@@ -252,7 +252,7 @@ impl World {
     {
         every_run_goes_on();
         the_promise_is_kept();
-        self.is_reached();
+        self.some_trace_led_here();
         let mut cursor = Cursor::Start;
         let mut steps = 0;
         for _turn in 0..most {

@@ -1,6 +1,6 @@
 -- What a command is told of its unit, as the definitions of commands have it.
 use Rattle.std.specs.Prelude.{ℕ}
-use Rattle.replies.specs.Facts.{Facts}
+use Rattle.command_model.specs.Facts.{Facts}
 use Rattle.block_commands.specs.declared.facts.UnitFacts.{UnitFacts}
 
 -- the facts of a unit of so many blocks

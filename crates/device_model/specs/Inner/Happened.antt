@@ -1,6 +1,6 @@
 -- Rests on `specs/Happened.antt`; no promise rests on it.
 use Rattle.std.specs.Prelude.{◌≡◌}
-use Rattle.replies.specs.PlainReply.{PlainReply}
+use Rattle.command_model.specs.PlainReply.{PlainReply}
 use Rattle.unit_model.specs.declared.reason.Reason.{Reason}
 use Rattle.unit_model.specs.Jobs.{PlainJob}
 use Rattle.device_model.specs.Transitions.{Transition}

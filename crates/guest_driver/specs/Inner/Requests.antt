@@ -5,8 +5,8 @@ use Rattle.scsi_codec.specs.Lun.{IsAddress}
 use Rattle.scsi_codec.specs.Requests.{IsRequest}
 use Rattle.scsi_codec.specs.declared.control_queue.Control.TheVariants as control
 use Rattle.scsi_codec.specs.declared.lun.Address.{Address}
-use Rattle.script_lines.specs.declared.send.Send.{Send}
-use Rattle.script_lines.specs.declared.send.TaskManagement.{TaskManagement}
+use Rattle.script_syntax.specs.declared.send.Send.{Send}
+use Rattle.script_syntax.specs.declared.send.TaskManagement.{TaskManagement}
 
 -- The bytes of a request before its data out (VIRTIO 1.2, 5.6.6.1): whatever unit its lun names, a
 -- device reads them as the request to that unit.

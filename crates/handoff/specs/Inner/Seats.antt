@@ -89,7 +89,7 @@ all_left left seats = flat_map (λ s. left s.number) seats
 -- was taken and what is left do: with 1 for one job and 0 for the others, how often it was
 abbrev pub IsEven : List PlainSeat → List PlainJob → Type 0
 IsEven seats items =
-    (worth : PlainJob → ℕ) → sum_by worth (all_put seats) ≡ sum_by worth (all_taken seats) + sum_by worth items
+    (weight : PlainJob → ℕ) → sum_by weight (all_put seats) ≡ sum_by weight (all_taken seats) + sum_by weight items
 
 -- own: how often a ticket stands among jobs
 abbrev pub times : Ticket → List PlainJob → ℕ

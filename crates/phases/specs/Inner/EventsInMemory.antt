@@ -2,7 +2,7 @@
 use Rattle.std.specs.Prelude.{ℕ, ◌≡◌, ◌&&◌, ◌||◌, ◌++◌, Bool, true, false, List, [], ◌∷◌, Result, Ok, Err, ⊤}
 use Rattle.block_store.specs.declared.NoMemory.{NoMemory}
 use Rattle.scsi_codec.specs.declared.lun.Address.{Address}
-use Rattle.scsi_codec.specs.declared.event_queue.Event.{Event as Report}
+use Rattle.scsi_codec.specs.declared.event_queue.Event.{Event as EventRecord}
 use Rattle.scsi_codec.specs.EventQueue.{event_bytes}
 use Rattle.ring_core.specs.State.{PlainChain, Owns}
 use Rattle.ring_core.specs.Writes.{all_written}
@@ -13,10 +13,10 @@ use Rattle.device_model.specs.World.{PlainQueue}
 use Rattle.device_model.specs.Transitions.{Transition, completion_of}
 use Rattle.device_model.specs.Happens.{spent_bytes}
 use Rattle.device_model.specs.Phases.{AsksQueue, queue_after, bytes_after}
-use Rattle.queues.specs.Queue.{BareQueue, completing, MayComplete}
-use Rattle.queues.specs.Looking.{Looks}
-use Rattle.queues.specs.declared.queue.Fetch.{Fetch}
-use Rattle.queues.specs.declared.queue.Fetch.TheVariants as look
+use Rattle.virtqueue.specs.Queue.{BareQueue, completing, MayComplete}
+use Rattle.virtqueue.specs.Looking.{Looks}
+use Rattle.virtqueue.specs.declared.queue.Fetch.{Fetch}
+use Rattle.virtqueue.specs.declared.queue.Fetch.TheVariants as look
 use Rattle.phases.specs.Queue.{with_slot}
 use Rattle.phases.specs.Fetching.{IsFree, HasSome}
 use Rattle.phases.specs.EventQueue.{IsEventFetch, MayHold, port_after}
@@ -56,19 +56,19 @@ FetchesEventIn shared q found p (Err e) q' left seen p' =
 -- Raise
 
 -- nothing changed, and memory is seen as it was found
-pub record StaysRaisedIn (q : BareQueue) (found : List ℕ) (p : PlainPort) (w : List Report) (q' : BareQueue)
-    (left seen : List ℕ) (p' : PlainPort) (w' : List Report) : Type 0 where
+pub record StaysRaisedIn (q : BareQueue) (found : List ℕ) (p : PlainPort) (w : List EventRecord) (q' : BareQueue)
+    (left seen : List ℕ) (p' : PlainPort) (w' : List EventRecord) : Type 0 where
   pub at_queue : StaysQueueIn q q' found left seen
   pub port : p' ≡ p
   pub waiting : w' ≡ w
 
 -- the event goes to the oldest buffer
-abbrev pub given_to : PlainChain → Report → BareQueue → List ℕ → Transition
+abbrev pub given_to : PlainChain → EventRecord → BareQueue → List ℕ → Transition
 given_to c e q seen = Transition.Give e c (as_seen seen (answer_writes q.ring c (event_bytes e)))
 
 -- `RaisesTo` in such a memory
-abbrev pub RaisesToIn : Bool → List PlainChain → Report → List Report → BareQueue → List ℕ → PlainPort → Bool → BareQueue
-    → List ℕ → List ℕ → PlainPort → List Report → Type 0
+abbrev pub RaisesToIn : Bool → List PlainChain → EventRecord → List EventRecord → BareQueue → List ℕ → PlainPort → Bool
+    → BareQueue → List ℕ → List ℕ → PlainPort → List EventRecord → Type 0
 RaisesToIn shared (c ∷ more) e later q found p true q' left seen p' w' =
     AtQueueIn shared (given_to c e q seen) q found q' left × (p' ≡ port_after (given_to c e q seen) p) × (w' ≡ later)
 RaisesToIn shared (c ∷ more) e later q found p false q' left seen p' w' =
@@ -78,8 +78,8 @@ RaisesToIn shared [] e later q found p true q' left seen p' w' =
 RaisesToIn shared [] e later q found p false q' left seen p' w' = ⊥
 
 -- `RaisesNext` in such a memory
-abbrev pub RaisesNextIn : Bool → List Report → BareQueue → List ℕ → PlainPort → Bool → BareQueue → List ℕ → List ℕ → PlainPort
-    → List Report → Type 0
+abbrev pub RaisesNextIn : Bool → List EventRecord → BareQueue → List ℕ → PlainPort → Bool → BareQueue → List ℕ → List ℕ
+    → PlainPort → List EventRecord → Type 0
 RaisesNextIn shared (e ∷ later) q found p result q' left seen p' w' =
     RaisesToIn shared p.buffers e later q found p result q' left seen p' w'
 RaisesNextIn shared [] q found p true q' left seen p' w' = ⊥

@@ -2,7 +2,7 @@
 use Rattle.std.specs.Prelude.{ℕ, ◌≡◌, ◌⊎◌, List, Option, Some, slice_get}
 use Rattle.scsi_codec.specs.declared.lun.Address.{Address}
 use Rattle.ring_core.specs.State.{PlainChain}
-use Rattle.decisions.specs.declared.decision.Decision.TheVariants as decision
+use Rattle.request_intake.specs.declared.decision.Decision.TheVariants as decision
 use Rattle.task_mgmt.specs.Functions.{PlainFunction}
 use Rattle.task_mgmt.specs.declared.control.ControlDecision.TheVariants as managed
 use Rattle.device_model.specs.Parts.{Outcome, Slot, request_of}

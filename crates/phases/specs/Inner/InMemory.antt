@@ -10,7 +10,7 @@ use Rattle.device_model.specs.Parts.{Completion, Slot, Hand, answer_writes}
 use Rattle.device_model.specs.World.{PlainQueue, Opened}
 use Rattle.device_model.specs.Transitions.{Transition}
 use Rattle.device_model.specs.Phases.{AsksQueue, queue_after, bytes_after}
-use Rattle.queues.specs.Queue.{BareQueue, MayComplete}
+use Rattle.virtqueue.specs.Queue.{BareQueue, MayComplete}
 use Rattle.phases.specs.Queue.{with_slot}
 use Rattle.phases.specs.Direct.{decided_writes}
 

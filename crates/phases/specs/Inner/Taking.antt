@@ -5,7 +5,7 @@ use Rattle.scsi_codec.specs.declared.lun.Address.{Address}
 use Rattle.ring_core.specs.State.{PlainChain, Owns}
 use Rattle.unit_model.specs.Jobs.{PlainJob}
 use Rattle.device_model.specs.Parts.{Slot}
-use Rattle.queues.specs.Queue.{BareQueue}
+use Rattle.virtqueue.specs.Queue.{BareQueue}
 use Rattle.phases.specs.Queue.{with_slot}
 use Rattle.phases.specs.Fetching.{FetchesRequest}
 use Rattle.phases.specs.Inner.Fetching.{Arrives}

@@ -2,9 +2,9 @@
 use Rattle.std.specs.Prelude.{ℕ, Bool, false, not, ◌&&◌, ◌||◌, is_some, IfSome, ◌≡◌, List, [], ◌∷◌, ◌++◌, map, Option, Some, None, if◌then◌else◌}
 use Rattle.ring_core.specs.declared.log.Ticket.{Ticket}
 use Rattle.cdb.specs.declared.commands.Command.TheVariants.{TestUnitReady}
-use Rattle.decisions.specs.UnitRequest.{PlainRequest}
-use Rattle.decisions.specs.declared.attribute.TaskAttribute.{TaskAttribute}
-use Rattle.decisions.specs.declared.attribute.TaskAttribute.TheVariants.{Simple, Ordered, HeadOfQueue}
+use Rattle.request_intake.specs.UnitRequest.{PlainRequest}
+use Rattle.request_intake.specs.declared.attribute.TaskAttribute.{TaskAttribute}
+use Rattle.request_intake.specs.declared.attribute.TaskAttribute.TheVariants.{Simple, Ordered, HeadOfQueue}
 use Rattle.unit_model.specs.declared.reason.Reason.{Reason}
 use Rattle.unit_model.specs.Tasks.{Entry, entry_of, is_blocked, same_ticket}
 use Rattle.unit_model.specs.Seen.{Seen, waits, joined}

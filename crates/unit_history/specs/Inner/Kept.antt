@@ -1,6 +1,6 @@
 -- What is kept of a step at run time: its kind, and of a Commit its reply, where replies are kept.
 use Rattle.std.specs.Prelude.{◌-◌, Bool, ◌&&◌, nat_le, List, length, drop, Option, Some, None, if◌then◌else◌}
-use Rattle.replies.specs.PlainReply.{PlainReply}
+use Rattle.command_model.specs.PlainReply.{PlainReply}
 use Rattle.ring_core.specs.declared.log.Ticket.{Ticket}
 use Rattle.unit_model.specs.Steps.{Step}
 use Rattle.unit_model.specs.Receipts.{latest_kept, longest_kept}

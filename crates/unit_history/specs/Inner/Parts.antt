@@ -3,7 +3,7 @@ use Rattle.std.specs.Prelude.{ℕ, ◌≡◌, ◌+◌, ◌≤◌, List, [], ◌�
 use Rattle.std.specs.Option.{option_map}
 use Rattle.block_store.specs.Blocks.{Blocks}
 use Rattle.unit_attention.specs.declared.code.Code.{Code}
-use Rattle.unit_model.specs.Steps.{Step, floor}
+use Rattle.unit_model.specs.Steps.{Step, next_number}
 use Rattle.unit_model.specs.Base.{base_of}
 use Rattle.unit_model.specs.Seen.{Seen, tasks_of, owed, waits}
 use Rattle.unit_model.specs.Contents.{Opening, blocks_of, pending_of}
@@ -28,7 +28,7 @@ pub record AreKept (o : Opening) (steps : List Step) (block_at : Blocks) (pendin
   pub pends : pending ≡ pending_of o steps
   pub set : seen_of tasks ≡ tasks_of steps
   pub fit : AreFit tasks
-  pub floors : (q : ℕ) → floor_kept last_tickets q ≡ floor q steps
+  pub floors : (q : ℕ) → floor_kept last_tickets q ≡ next_number q steps
   -- for the steps that the tasks that are alive may still take
   pub reserved : owed (seen_of tasks) ≤ room
 

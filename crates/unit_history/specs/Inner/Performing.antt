@@ -4,15 +4,15 @@ use Rattle.cdb.specs.declared.commands.Command.{Command}
 use Rattle.block_store.specs.Blocks.{Blocks}
 use Rattle.block_store.specs.declared.NoMemory.{NoMemory}
 use Rattle.std.specs.Option.{option_map}
-use Rattle.replies.specs.PlainReply.{PlainReply, plain_of}
-use Rattle.replies.specs.Attention.{takes}
-use Rattle.replies.specs.Memory.{may_run_short}
+use Rattle.command_model.specs.PlainReply.{PlainReply, plain_of}
+use Rattle.command_model.specs.Attention.{takes}
+use Rattle.command_model.specs.Memory.{may_run_short}
 use Rattle.block_commands.specs.declared.facts.UnitFacts.{UnitFacts}
 use Rattle.unit_attention.specs.Pending.{without_first}
 use Rattle.unit_attention.specs.declared.code.Code.{Code}
-use Rattle.replies.specs.Effects.{block_after}
-use Rattle.replies.specs.Facts.{Facts}
-use Rattle.replies.specs.Replies.{reply_of}
+use Rattle.command_model.specs.Effects.{block_after}
+use Rattle.command_model.specs.Facts.{Facts}
+use Rattle.command_model.specs.Replies.{reply_of}
 use Rattle.ring_core.specs.declared.log.Ticket.{Ticket}
 use Rattle.unit_model.specs.Steps.{Step}
 use Rattle.unit_model.specs.Contents.{oldest}

@@ -3,8 +3,8 @@ use Rattle.std.specs.Prelude.{ℕ, ◌≡◌, ◌+◌, ◌-◌, ◌^◌, ◌≤�
 use Rattle.std.specs.declared.collections.VecDeque.{VecDeque}
 use Rattle.std.specs.VecDeque.{deque_capacity, deque_len}
 use Rattle.std.specs.Option.{option_map}
-use Rattle.replies.specs.PlainReply.{PlainReply, plain_of}
-use Rattle.replies.specs.declared.reply.Reply.{Reply}
+use Rattle.command_model.specs.PlainReply.{PlainReply, plain_of}
+use Rattle.command_model.specs.declared.reply.Reply.{Reply}
 use Rattle.unit_model.specs.Steps.{Step}
 use Rattle.unit_model.specs.Base.{most_before}
 use Rattle.unit_model.specs.Inner.Base.{most_kept}

@@ -1,10 +1,10 @@
 //! Small cases, which show what the definitions say.
 
 ghost use Rattle.std.specs.Prelude.{ℕ, ◌≡◌, ◌∷◌, List, [], length, Some, None, false, true};
-ghost use Rattle.decisions.specs.declared.attribute.TaskAttribute.TheVariants.{Simple, Ordered, HeadOfQueue};
+ghost use Rattle.request_intake.specs.declared.attribute.TaskAttribute.TheVariants.{Simple, Ordered, HeadOfQueue};
 ghost use Rattle.unit_attention.specs.Code.{code};
 ghost use Rattle.cdb.specs.declared.commands.Command.TheVariants.{Read};
-ghost use Rattle.replies.specs.PlainReply.{PlainReply, success};
+ghost use Rattle.command_model.specs.PlainReply.{PlainReply, success};
 ghost use Rattle.block_store.specs.Blocks.{zero_block};
 ghost use Rattle.unit_model.specs.declared.rule.Rule.TheVariants.{Id};
 ghost use Rattle.unit_model.specs.declared.reason.Reason.TheVariants.{Aborted, Reset};

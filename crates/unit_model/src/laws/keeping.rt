@@ -4,7 +4,7 @@ ghost use Rattle.std.specs.Prelude.{ℕ, ◌≡◌, ◌∷◌, ◌++◌, List, [
 ghost use Rattle.std.specs.Option.{option_map};
 ghost use Rattle.ring_core.specs.declared.log.Ticket.{Ticket};
 ghost use Rattle.unit_attention.specs.declared.code.Code.{Code};
-ghost use Rattle.replies.specs.PlainReply.{PlainReply};
+ghost use Rattle.command_model.specs.PlainReply.{PlainReply};
 ghost use Rattle.unit_model.specs.declared.rule.Rule.{Rule as ARule};
 ghost use Rattle.unit_model.specs.declared.rule.Rule.TheVariants.{All};
 ghost use Rattle.unit_model.specs.declared.reason.Reason.TheVariants.{Aborted, Reset};

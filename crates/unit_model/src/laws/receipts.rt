@@ -2,7 +2,7 @@
 
 ghost use Rattle.std.specs.Prelude.{◌≡◌, ◌≢◌, ◌<◌, ◌≤◌, ◌∷◌, ◌++◌, Bool, true, false, List, length, Some, None};
 ghost use Rattle.ring_core.specs.declared.log.Ticket.{Ticket};
-ghost use Rattle.replies.specs.PlainReply.{PlainReply};
+ghost use Rattle.command_model.specs.PlainReply.{PlainReply};
 ghost use Rattle.unit_model.specs.Steps.{Step};
 ghost use Rattle.unit_model.specs.Contents.{Opening};
 ghost use Rattle.unit_model.specs.Receipts.{Receipt, receipt_of, IsConfirmed};

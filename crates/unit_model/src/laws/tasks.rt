@@ -3,9 +3,9 @@
 ghost use Rattle.std.specs.Prelude.{◌≡◌, ◌<◌, ◌≤◌, ◌∷◌, ◌++◌, List, length, true, false, not};
 ghost use Rattle.std.specs.List.{list_any};
 ghost use Rattle.ring_core.specs.declared.log.Ticket.{Ticket};
-ghost use Rattle.replies.specs.PlainReply.{PlainReply};
+ghost use Rattle.command_model.specs.PlainReply.{PlainReply};
 ghost use Rattle.unit_model.specs.Tasks.{Entry, AreDistinct, any_task, is_blocked};
-ghost use Rattle.unit_model.specs.Steps.{Step, alive, is_alive, floor, has_entered, done, has_left};
+ghost use Rattle.unit_model.specs.Steps.{Step, alive, is_alive, next_number, has_entered, done, has_left};
 ghost use Rattle.unit_model.specs.Marks.{marked};
 ghost use Rattle.unit_model.specs.Enabling.{enabled};
 ghost use Rattle.unit_model.specs.Contents.{Opening};
@@ -32,7 +32,7 @@ pub fn full_alone_where_64_are_alive()
     ensures full { (o : Opening) (e : Entry) (past : List Step) → length (alive past) ≡ 64 →
         May o (Step.Enter e) past → ⊥ }
     ensures refused { (o : Opening) (t : Ticket) (past : List Step) → length (alive past) ≡ 64 →
-        floor t.queue past ≤ t.number → May o (Step.Full t) past }
+        next_number t.queue past ≤ t.number → May o (Step.Full t) past }
     ensures not_full { (o : Opening) (t : Ticket) (past : List Step) → length (alive past) < 64 →
         May o (Step.Full t) past → ⊥ }
 {}

@@ -2,7 +2,7 @@
 use Rattle.std.specs.Prelude.{ℕ, ◌≡◌, List, slice_get, Option, Some}
 use Rattle.vscsi_c.specs.Disks.{Fits}
 use Rattle.block_store.specs.declared.paged.PagedStore.{PagedStore}
-use Rattle.decisions.specs.declared.inventory.UnitSpec.{UnitSpec}
+use Rattle.request_intake.specs.declared.inventory.UnitSpec.{UnitSpec}
 
 -- each unit has one
 abbrev pub Fit : List UnitSpec → List (Option PagedStore) → Type 0

@@ -1,6 +1,6 @@
 use Rattle.std.proofs.Common.{◌≡◌, sym, subst, None}
 use Rattle.std.proofs.lemmas.Slice.Eq.{bytes_eq-Decides}
-use Rattle.replies.specs.Comparing.{first_unequal}
+use Rattle.command_model.specs.Comparing.{first_unequal}
 use Rattle.block_commands.proofs.Comparisons.{first_unequal-none}
 use Rattle.block_commands.proofs.compare.first_unequal.Goals as goal
 

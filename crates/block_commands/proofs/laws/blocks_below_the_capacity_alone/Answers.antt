@@ -1,7 +1,7 @@
 use Rattle.std.proofs.Common.{ap}
-use Rattle.replies.specs.PlainReply.{replied}
-use Rattle.replies.specs.Attention.{met}
-use Rattle.replies.specs.Replies.{reported}
+use Rattle.command_model.specs.PlainReply.{replied}
+use Rattle.command_model.specs.Attention.{met}
+use Rattle.command_model.specs.Replies.{reported}
 use Rattle.block_commands.proofs.Ranges.{answer_of-agree}
 use Rattle.block_commands.proofs.laws.blocks_below_the_capacity_alone.Goals as goal
 

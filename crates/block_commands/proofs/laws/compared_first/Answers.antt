@@ -1,5 +1,5 @@
 use Rattle.std.proofs.Common.{refl}
-use Rattle.replies.specs.Comparing.{to_compare}
+use Rattle.command_model.specs.Comparing.{to_compare}
 use Rattle.block_commands.proofs.Comparisons.{first_unequal-none, first_unequal-at}
 use Rattle.block_commands.proofs.laws.compared_first.Goals as goal
 

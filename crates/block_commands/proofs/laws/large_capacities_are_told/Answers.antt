@@ -1,5 +1,5 @@
 use Rattle.std.proofs.Common.{refl}
-use Rattle.replies.specs.Capacity.{capacity_10, capacity_16}
+use Rattle.command_model.specs.Capacity.{capacity_10, capacity_16}
 use Rattle.block_commands.proofs.laws.large_capacities_are_told.Goals as goal
 
 pub returns-clause-below : goal.returns-clause-below

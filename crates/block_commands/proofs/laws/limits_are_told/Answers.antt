@@ -1,6 +1,6 @@
 use Rattle.std.proofs.Common.{refl, arith}
 use Rattle.std.proofs.lemmas.Bool.Decides.{nat_tests}
-use Rattle.replies.specs.Inquiry.{limits_page}
+use Rattle.command_model.specs.Inquiry.{limits_page}
 use Rattle.block_commands.proofs.Unmapping.{unmapped-counted}
 use Rattle.block_commands.proofs.laws.limits_are_told.Goals as goal
 

@@ -1,9 +1,9 @@
 use Rattle.std.proofs.Common.{◌≡◌, ◌+◌, ◌∙◌, refl, true, None, arith, []}
 use Rattle.cdb.specs.declared.commands.Command.TheVariants.{Write}
 use Rattle.block_store.specs.Blocks.{run, overwritten}
-use Rattle.replies.specs.Statuses.{good}
-use Rattle.replies.specs.Capacity.{is_in_range}
-use Rattle.replies.specs.Effects.{block_after}
+use Rattle.command_model.specs.Statuses.{good}
+use Rattle.command_model.specs.Capacity.{is_in_range}
+use Rattle.command_model.specs.Effects.{block_after}
 use Rattle.block_commands.proofs.Ranges.{run-agree, reported-good, within-good, block_after-write}
 use Rattle.block_commands.proofs.laws.written_is_read.Goals as goal
 

@@ -1,7 +1,7 @@
 use Rattle.std.proofs.Common.{◌≡◌, ◌*◌, ◌++◌, length, take, replicate}
 use Rattle.std.specs.Int.{w32, to_be_bytes}
 use Rattle.std.specs.List.{flat_map}
-use Rattle.replies.specs.Luns.{lun_entry}
+use Rattle.command_model.specs.Luns.{lun_entry}
 use Rattle.block_commands.proofs.luns.lun_list.Given as goal
 
 -- the entries so far stand behind the first 8 bytes

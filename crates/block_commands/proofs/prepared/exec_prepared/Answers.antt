@@ -1,8 +1,8 @@
 use Rattle.std.proofs.Common.{◌≡◌, ◌∙◌, ap}
 use mathlib.Core.Path.{fun_ext}
-use Rattle.replies.specs.Data.{data_of}
+use Rattle.command_model.specs.Data.{data_of}
 use Rattle.block_store.specs.Kept.{blocks_of}
-use Rattle.replies.specs.Replies.{reply_of}
+use Rattle.command_model.specs.Replies.{reply_of}
 use Rattle.block_commands.specs.Inner.Told.{facts_of}
 use Rattle.block_commands.proofs.prepared.exec_prepared.Goals as goal
 

@@ -1,7 +1,7 @@
 use Rattle.std.proofs.Common.{◌≡◌, ◌+◌, true, false, ap, sym, ◌∙◌}
 use Rattle.std.specs.Prelude.{◌&&◌}
-use Rattle.replies.specs.Capacity.{is_in_range}
-use Rattle.replies.specs.UnmapList.{are_in_range}
+use Rattle.command_model.specs.Capacity.{is_in_range}
+use Rattle.command_model.specs.UnmapList.{are_in_range}
 use Rattle.block_commands.proofs.Descriptors.{left, are_in_range-more}
 use Rattle.block_commands.proofs.unmap.are_in_range.Goals as goal
 

@@ -1,5 +1,5 @@
 use Rattle.std.proofs.Common.{◌≡◌}
-use Rattle.replies.specs.UnmapList.{descriptors_in, are_in_range}
+use Rattle.command_model.specs.UnmapList.{descriptors_in, are_in_range}
 use Rattle.block_commands.proofs.Descriptors.{left}
 use Rattle.block_commands.proofs.unmap.are_in_range.Given as goal
 

@@ -1,5 +1,5 @@
 use Rattle.std.proofs.Common.{◌≡◌, ◌+◌, ◌*◌, ◌≤◌}
-use Rattle.replies.specs.UnmapList.{descriptors_in, blocks_named}
+use Rattle.command_model.specs.UnmapList.{descriptors_in, blocks_named}
 use Rattle.block_commands.proofs.Descriptors.{left}
 use Rattle.block_commands.proofs.unmap.is_too_much.Given as goal
 

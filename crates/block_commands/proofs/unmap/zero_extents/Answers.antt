@@ -1,6 +1,6 @@
 use Rattle.std.proofs.Common.{◌+◌, ◌∙◌, IsTrue}
 use Rattle.block_store.specs.Blocks.{zero_block}
-use Rattle.replies.specs.UnmapList.{are_in_range}
+use Rattle.command_model.specs.UnmapList.{are_in_range}
 use Rattle.block_commands.proofs.Descriptors.{left, are_in_range-more, is_named-more}
 use Rattle.block_commands.proofs.Unmapping.{second, zeroed_in_turn}
 use Rattle.block_commands.proofs.unmap.zero_extents.Goals as goal

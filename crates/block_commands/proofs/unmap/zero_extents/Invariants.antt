@@ -1,6 +1,6 @@
 use Rattle.std.proofs.Common.{◌≡◌, ℕ, if◌then◌else◌, IsTrue}
 use Rattle.block_store.specs.Blocks.{zero_block}
-use Rattle.replies.specs.UnmapList.{descriptors_in, are_in_range, is_named}
+use Rattle.command_model.specs.UnmapList.{descriptors_in, are_in_range, is_named}
 use Rattle.block_commands.proofs.Descriptors.{left}
 use Rattle.block_commands.proofs.unmap.zero_extents.Given as goal
 

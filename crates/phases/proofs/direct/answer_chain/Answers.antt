@@ -1,7 +1,7 @@
 use Rattle.std.proofs.Common.{length, ℕ, subst}
 use Rattle.ring_core.specs.Writes.{scatter_writes}
 use Rattle.ring_core.specs.Offer.{used_writes}
-use Rattle.queues.specs.Completing.{SeenBehind}
+use Rattle.virtqueue.specs.Completing.{SeenBehind}
 use Rattle.phases.proofs.Behind.{behind_both}
 use Rattle.phases.proofs.direct.answer_chain.Goals as goal
 

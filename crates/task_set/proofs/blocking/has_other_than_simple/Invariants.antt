@@ -1,5 +1,5 @@
 use Rattle.std.proofs.Common.{◌≡◌, drop}
-use Rattle.decisions.specs.declared.attribute.TaskAttribute.TheVariants.{Simple}
+use Rattle.request_intake.specs.declared.attribute.TaskAttribute.TheVariants.{Simple}
 use Rattle.unit_model.specs.Tasks.{blocks}
 use Rattle.task_set.specs.Inner.Tasks.{entries_of}
 use Rattle.task_set.proofs.blocking.has_other_than_simple.Given as goal

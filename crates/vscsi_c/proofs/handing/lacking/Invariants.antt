@@ -1,7 +1,7 @@
 use Rattle.std.proofs.Common.{◌≡◌, ◌<◌, ℕ, length, Some}
 use Rattle.std.specs.Prelude.{slice_get, Option}
 use Rattle.block_store.specs.declared.paged.PagedStore.{PagedStore}
-use Rattle.decisions.specs.declared.inventory.UnitSpec.{UnitSpec}
+use Rattle.request_intake.specs.declared.inventory.UnitSpec.{UnitSpec}
 use Rattle.vscsi_c.specs.Disks.{Fits}
 use Rattle.vscsi_c.specs.Kept.{disks_at}
 use Rattle.vscsi_c.proofs.handing.lacking.Given as goal

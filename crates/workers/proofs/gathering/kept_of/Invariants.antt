@@ -1,6 +1,6 @@
 use Rattle.std.specs.Prelude.{◌≡◌, ◌+◌, ◌≤◌, vec_len}
 use Rattle.std.specs.Vec.{vec_capacity}
-use Rattle.report.specs.Keeping.{receipts_kept}
+use Rattle.close_audit.specs.Keeping.{receipts_kept}
 use Rattle.workers.proofs.gathering.kept_of.Given as goal
 
 abbrev pub invariant-loop-seat : goal.invariant-loop-seat

@@ -6,7 +6,7 @@ use Rattle.std.proofs.Common.{◌≡◌, ◌∙◌, sym, ap, subst}
 use Rattle.std.specs.Arc.{arc_value}
 use Rattle.handoff.specs.Seats.{Hub}
 use Rattle.handoff.specs.Inner.Seats.{AreAllSeats}
-use Rattle.posts.proofs.Crossing.{post_sends, shared_sends, shared_syncs}
+use Rattle.worker_steps.proofs.Crossing.{post_sends, shared_sends, shared_syncs}
 use Rattle.workers.proofs.Crossing.{tallied_sends, blank_part_sends}
 use Rattle.workers.proofs.host.started.Goals as goal
 

@@ -1,5 +1,5 @@
 use Rattle.handoff.specs.Seats.{IsSameSeat}
-use Rattle.posts.specs.Tallying.{Tallies}
+use Rattle.worker_steps.specs.Tallying.{Tallies}
 use Rattle.workers.proofs.worker.serve_own.Given as goal
 
 abbrev pub invariant-loop-at : goal.invariant-loop-at

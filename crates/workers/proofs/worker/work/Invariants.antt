@@ -1,6 +1,6 @@
 use Rattle.std.specs.Prelude.{◌<◌}
 use Rattle.handoff.specs.Seats.{IsSameSeat}
-use Rattle.posts.specs.Tallying.{Tallies}
+use Rattle.worker_steps.specs.Tallying.{Tallies}
 use Rattle.workers.proofs.worker.work.Given as goal
 
 abbrev pub invariant-loop : goal.invariant-loop

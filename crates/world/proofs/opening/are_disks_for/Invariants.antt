@@ -1,7 +1,7 @@
 use Rattle.std.proofs.Common.{◌≡◌, ◌<◌, ℕ, Some}
 use Rattle.std.specs.Prelude.{slice_get}
 use Rattle.block_store.specs.declared.paged.PagedStore.{PagedStore}
-use Rattle.decisions.specs.declared.inventory.UnitSpec.{UnitSpec}
+use Rattle.request_intake.specs.declared.inventory.UnitSpec.{UnitSpec}
 use Rattle.world.proofs.opening.are_disks_for.Given as goal
 
 abbrev pub invariant-loop-number : goal.invariant-loop-number

@@ -3,7 +3,7 @@ use Rattle.std.specs.Prelude.{slice_get}
 use Rattle.ring_core.specs.State.{features_of}
 use Rattle.ring_core.specs.declared.layout.Layout.{Layout}
 use Rattle.device_model.specs.Parts.{Slot}
-use Rattle.queues.specs.Queue.{opening_queue}
+use Rattle.virtqueue.specs.Queue.{opening_queue}
 use Rattle.phases.specs.Queue.{with_slot}
 use Rattle.world.proofs.opening.open_bays.Given as goal
 

@@ -1,7 +1,7 @@
 use Rattle.std.proofs.Common.{ℕ, ◌+◌, ◌*◌, List, map, refl, sym, ap, ◌∙◌, subst, arith}
 use Rattle.std.proofs.lemmas.List.{length-map}
-use Rattle.decisions.specs.Inventory.{address_of}
-use Rattle.decisions.specs.declared.inventory.UnitSpec.{UnitSpec}
+use Rattle.request_intake.specs.Inventory.{address_of}
+use Rattle.request_intake.specs.declared.inventory.UnitSpec.{UnitSpec}
 use Rattle.ring_core.specs.State.{features_of}
 use Rattle.ring_core.specs.declared.layout.Layout.{Layout}
 use Rattle.event_queue.specs.Port.{PlainPort}

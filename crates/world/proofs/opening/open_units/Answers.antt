@@ -2,7 +2,7 @@ use Rattle.std.proofs.Common.{◌≡◌, ℕ, List, ◌∷◌, ◌++◌, [], len
 use Rattle.std.specs.Prelude.{slice_get}
 use Rattle.std.proofs.lemmas.Option.{slice_get_within, get_or_from_slice_get}
 use Rattle.scsi_codec.specs.declared.lun.Address.{Address}
-use Rattle.decisions.specs.declared.inventory.UnitSpec.{UnitSpec}
+use Rattle.request_intake.specs.declared.inventory.UnitSpec.{UnitSpec}
 use Rattle.world.specs.Opening.{opening_unit}
 use Rattle.world.proofs.AtOpening.{one_more}
 use Rattle.world.proofs.opening.open_units.Goals as goal

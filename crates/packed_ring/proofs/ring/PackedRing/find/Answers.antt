@@ -1,5 +1,5 @@
 use Rattle.std.proofs.Common.{◌≡◌, true, rules, inr, Some}
-use Rattle.ring_core.specs.Packed.{is_available, available_place, whole_wrong, PackedChain}
+use Rattle.ring_core.specs.Packed.{is_available, available_place, chain_wrong, PackedChain}
 use Rattle.ring_core.specs.declared.fault.RingFault.TheVariants.{AlreadyOutstanding, RingOverrun}
 use Rattle.packed_ring.proofs.Fit.{fault_found}
 use Rattle.packed_ring.proofs.ring.PackedRing.find.Goals as goal
@@ -10,7 +10,7 @@ returns-then-is_outstanding-clause-finds g c = λ m s.
     let f = c.in-Ok.ensures.walked m s in
     let some : is_available c.args.self.now m ≡ true = asked in
     let chain : PackedChain c.args.self.now.features m c.args.self.now.layout (available_place c.args.self.now) c.in-Ok.found.id c.in-Ok.found.slots c.in-Ok.found.draft = search rules in
-    let bad : whole_wrong c.args.self.now c.in-Ok.found.id c.in-Ok.found.slots ≡ Some AlreadyOutstanding = search rules in
+    let bad : chain_wrong c.args.self.now c.in-Ok.found.id c.in-Ok.found.slots ≡ Some AlreadyOutstanding = search rules in
     (some, inr (c.in-Ok.found.id, c.in-Ok.found.slots, c.in-Ok.found.draft, chain, bad))
 
 pub returns-then-outstanding-found-clause-finds : goal.returns-then-outstanding-found-clause-finds
@@ -19,7 +19,7 @@ returns-then-outstanding-found-clause-finds g c = λ m s.
     let f = c.in-Ok.ensures.walked m s in
     let some : is_available c.args.self.now m ≡ true = asked in
     let chain : PackedChain c.args.self.now.features m c.args.self.now.layout (available_place c.args.self.now) c.in-Ok.found.id c.in-Ok.found.slots c.in-Ok.found.draft = search rules in
-    let bad : whole_wrong c.args.self.now c.in-Ok.found.id c.in-Ok.found.slots ≡ Some RingOverrun = search rules in
+    let bad : chain_wrong c.args.self.now c.in-Ok.found.id c.in-Ok.found.slots ≡ Some RingOverrun = search rules in
     (some, inr (c.in-Ok.found.id, c.in-Ok.found.slots, c.in-Ok.found.draft, chain, bad))
 
 pub returns-in-Err-clause-finds : goal.returns-in-Err-clause-finds

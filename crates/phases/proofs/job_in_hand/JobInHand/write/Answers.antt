@@ -2,7 +2,7 @@ use Rattle.std.proofs.Common.{◌≡◌, ◌∙◌, ap, length, subst}
 use Rattle.ring_core.specs.Parts.{readable_total, writable_total}
 use Rattle.ring_core.specs.State.{PlainChain}
 use Rattle.ring_core.specs.Writes.{Wrote, scatter_writes}
-use Rattle.decisions.specs.declared.answer.ChainLengths.{ChainLengths}
+use Rattle.request_intake.specs.declared.answer.ChainLengths.{ChainLengths}
 use Rattle.unit_model.specs.Endings.{answer_of}
 use Rattle.unit_history.specs.Endings.{ending_of}
 use Rattle.device_model.specs.Parts.{lengths_of}

@@ -1,6 +1,6 @@
 use Rattle.std.proofs.Common.{refl, subst}
-use Rattle.replies.specs.PlainReply.{PlainReply}
-use Rattle.replies.specs.Inner.PlainReply.{good_data}
+use Rattle.command_model.specs.PlainReply.{PlainReply}
+use Rattle.command_model.specs.Inner.PlainReply.{good_data}
 use Rattle.unit_model.specs.Endings.{Ending}
 use Rattle.phases.specs.Inner.Outcomes.{WritesWholeIn}
 use Rattle.phases.proofs.AtOnce.{writes_whole, read_as}

@@ -1,5 +1,5 @@
 use Rattle.std.proofs.Common.{◌≡◌, ℕ, ◌+◌, ◌-◌, ◌<◌, ◌≤◌, ◌||◌, false, length}
-use Rattle.replies.specs.UnmapList.{descriptors_in, is_named}
+use Rattle.command_model.specs.UnmapList.{descriptors_in, is_named}
 use Rattle.block_commands.proofs.Descriptors.{left}
 use Rattle.unit_history.specs.Changes.{is_in}
 use Rattle.unit_history.proofs.changes.Changes.add_extents.Given as goal

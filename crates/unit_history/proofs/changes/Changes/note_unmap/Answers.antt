@@ -1,4 +1,4 @@
-use Rattle.replies.specs.UnmapList.{descriptors, is_named}
+use Rattle.command_model.specs.UnmapList.{descriptors, is_named}
 use Rattle.unit_history.proofs.Ranging.{notes_named, notes_unchanged, unnamed-short}
 use Rattle.unit_history.proofs.changes.Changes.note_unmap.Goals as goal
 

@@ -1,7 +1,7 @@
 use Rattle.std.proofs.Common.{◌≡◌, ◌≤◌, ◌+◌, Some, length, sym, ap, ◌∙◌, subst, arith}
 use Rattle.std.proofs.lemmas.Bool.{lt-leb}
 use Rattle.std.specs.Option.{option_map}
-use Rattle.replies.specs.PlainReply.{plain_of}
+use Rattle.command_model.specs.PlainReply.{plain_of}
 use Rattle.unit_model.specs.Receipts.{step_at, latest_kept}
 use Rattle.unit_history.specs.Kept.{kind_of}
 use Rattle.unit_history.specs.Inner.Recorded.{Logged, steps_recorded}

@@ -1,6 +1,6 @@
 use Rattle.std.proofs.Common.{◌≡◌, ◌≤◌, ◌∷◌, List, length, refl, sym, ap, ◌∙◌, arith, subst}
 use Rattle.ring_core.specs.declared.log.Ticket.{Ticket}
-use Rattle.unit_model.specs.Steps.{Step, floor}
+use Rattle.unit_model.specs.Steps.{Step, next_number}
 use Rattle.unit_history.proofs.Keeping.{CameTo, fresh, keep_full, keep_enter}
 use Rattle.unit_history.proofs.Entering.{not_stale, came_then, enters_full, enters_task}
 use Rattle.task_set.specs.Inner.Tasks.{seen_of}
@@ -13,7 +13,7 @@ pub enter-requires : goal.enter-requires
 enter-requires c =
     let t : c.ticket-ticket.result ≡ c.args.arrival.entry.ticket = c.ticket-ticket.ensures.entry in
     let le = not_stale c.self.invariant.kept c.ticket-ticket.result c.is_stale.result c.is_stale.ensures c.if-is_stale.false in
-    record { fresh = fresh c.self.invariant.kept c.args.arrival.entry.ticket (subst (λ (n : Ticket). floor n.queue c.self.inside.log.steps ≤ n.number) t le) }
+    record { fresh = fresh c.self.invariant.kept c.args.arrival.entry.ticket (subst (λ (n : Ticket). next_number n.queue c.self.inside.log.steps ≤ n.number) t le) }
 
 pub invariant_of-self-in-Err : goal.invariant_of-self-in-Err
 invariant_of-self-in-Err c =
@@ -49,7 +49,7 @@ invariant_of-self-in-Ok-enter c =
     record {
       kept =
           rw (c.push-in-Ok-enter.ensures.steps, c.recorded_entry-entered.ensures, entered.1, c.len-place.ensures, c.in-Ok-make_way.ensures.steps)
-          (keep_enter c.self.invariant.kept c.args.arrival _ _ entered.0 (subst (λ (n : Ticket). floor n.queue c.self.inside.log.steps ≤ n.number) t le)
+          (keep_enter c.self.invariant.kept c.args.arrival _ _ entered.0 (subst (λ (n : Ticket). next_number n.queue c.self.inside.log.steps ≤ n.number) t le)
           (subst (λ (n : Ticket). CameTo n c.self.inside.last_tickets c.came.new.self) t
           (came_then c.ticket-ticket.result _ _ _ c.in-Ok.ensures.same c.came.ensures))
           (omega (arith, room, c.push-in-Ok-enter.ensures.room)));
@@ -75,7 +75,7 @@ returns-in-Err c =
     let steps : c.push.new.self.steps ≡ Step.Full c.args.arrival.entry.ticket ∷ c.self.inside.log.steps =
     c.push.ensures.steps ∙ ap (λ n. Step.Full n ∷ c.make_way.new.log.steps) t ∙ ap (λ w. Step.Full c.args.arrival.entry.ticket ∷ w) c.in-Ok-make_way.ensures.steps in
     rw (← c.self.view_is, c.in-Err.ensures.full, full.1)
-    (enters_full c.self.invariant.kept c.args.arrival _ _ _ (sym c.address.ensures ∙ c.if-not-has_address.ensures.yes refl) full.0 (subst (λ (n : Ticket). floor n.queue c.self.inside.log.steps ≤ n.number) t le) steps
+    (enters_full c.self.invariant.kept c.args.arrival _ _ _ (sym c.address.ensures ∙ c.if-not-has_address.ensures.yes refl) full.0 (subst (λ (n : Ticket). next_number n.queue c.self.inside.log.steps ≤ n.number) t le) steps
     (c.push.ensures.keeps ∙ c.in-Ok-make_way.ensures.keeps))
 
 pub returns-in-Ok-enter : goal.returns-in-Ok-enter
@@ -89,5 +89,5 @@ returns-in-Ok-enter c =
     rw (c.of.ensures, ← c.self.view_is, entered.1)
     (enters_task c.self.invariant.kept c.args.arrival c.in-Ok-enter.job c.len-place.result _ _ _
     (sym c.address.ensures ∙ c.if-not-has_address.ensures.yes refl) entered.0
-    (subst (λ (n : Ticket). floor n.queue c.self.inside.log.steps ≤ n.number) t le) c.in-Ok-enter.ensures.job steps
+    (subst (λ (n : Ticket). next_number n.queue c.self.inside.log.steps ≤ n.number) t le) c.in-Ok-enter.ensures.job steps
     (c.push-in-Ok-enter.ensures.keeps ∙ c.in-Ok-make_way.ensures.keeps))

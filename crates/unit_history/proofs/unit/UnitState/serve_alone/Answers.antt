@@ -3,7 +3,7 @@ use Rattle.block_commands.specs.Inner.Told.{facts_of}
 use Rattle.block_store.specs.Kept as pages
 use Rattle.ring_core.specs.declared.log.Ticket.{Ticket}
 use Rattle.unit_model.specs.Endings.{Ending}
-use Rattle.unit_model.specs.Steps.{Step, floor}
+use Rattle.unit_model.specs.Steps.{Step, next_number}
 use Rattle.unit_history.specs.Fields.{opening_of}
 use Rattle.unit_history.specs.Inner.Performing.{told, unkept, step_for}
 use Rattle.unit_history.proofs.Alone.{no_tasks, ends_as, all_steps, based_served, kept_served, recorded_served, serves_alone}
@@ -18,7 +18,7 @@ invariant_of-self-2 g c =
     let u = c.self.inside in
     let t = c.ticket-ticket.result in
     let own : t ≡ c.args.arrival.now.entry.ticket = c.ticket-ticket.ensures.entry in
-    let le = subst (λ (n : Ticket). floor n.queue c.self.inside.log.steps ≤ n.number) own
+    let le = subst (λ (n : Ticket). next_number n.queue c.self.inside.log.steps ≤ n.number) own
     (not_stale c.self.invariant.kept t c.is_stale.result c.is_stale.ensures c.if-is_stale.false) in
     let came = subst (λ (n : Ticket). CameTo n c.self.inside.last_tickets c.came.new.self) own
     (came_then t _ _ _ c.in-Ok.ensures.same c.came.ensures) in
@@ -63,7 +63,7 @@ returns-clause-serves g c =
     let u = c.self.inside in
     let t = c.ticket-ticket.result in
     let own : t ≡ c.args.arrival.now.entry.ticket = c.ticket-ticket.ensures.entry in
-    let le = subst (λ (n : Ticket). floor n.queue c.self.inside.log.steps ≤ n.number) own
+    let le = subst (λ (n : Ticket). next_number n.queue c.self.inside.log.steps ≤ n.number) own
     (not_stale c.self.invariant.kept t c.is_stale.result c.is_stale.ensures c.if-is_stale.false) in
     let came = subst (λ (n : Ticket). CameTo n c.self.inside.last_tickets c.came.new.self) own
     (came_then t _ _ _ c.in-Ok.ensures.same c.came.ensures) in

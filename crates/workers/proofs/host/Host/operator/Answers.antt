@@ -1,7 +1,7 @@
 use Rattle.std.proofs.Common.{◌≡◌, ◌∙◌, ◌<◌, List, length, vec_len, subst, ap, arith}
 use Rattle.std.specs.Prelude.{OnOk, map}
 use Rattle.scsi_codec.specs.declared.lun.Address.{Address}
-use Rattle.decisions.specs.Inventory.{address_of}
+use Rattle.request_intake.specs.Inventory.{address_of}
 use Rattle.workers.specs.Resetting.{WasReset}
 use Rattle.workers.proofs.host.Host.operator.Goals as goal
 

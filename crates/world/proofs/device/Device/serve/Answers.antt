@@ -340,7 +340,7 @@ returns-else-place-len-clause-turns g c =
     let next = (served_of done.result n).next in
     let steps = steps_are done.result n in
     rw (← c.self.view_is)
-    (subst (λ (r : Progress). ServesNextIn shared may_be asked c.args.most x0 v r y v') (sym c.served_so.ensures)
+    (subst (λ (r : Progress). ServesNextIn shared may_be asked c.args.most x0 v r y v') (sym c.progress_of.ensures)
     (record {
       some = subst (λ (j : ℕ). 1 ≤ j) (sym steps) (some_steps done.result);
       few = subst (λ (j : ℕ). j ≤ c.args.most) (sym steps) (few_steps done.result c.args.most c.requires.most);

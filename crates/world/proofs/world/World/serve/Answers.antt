@@ -28,7 +28,7 @@ pub returns-in-Ok-None-clause-serves : goal.returns-in-Ok-None-clause-serves
 returns-in-Ok-None-clause-serves c =
     let t = rw c.in-Ok-None.field-0-is at c.in-Ok-None.ensures in
     portion (asks c.args.queues) c.args.self.now c.args.most c.loop-turn.steps false c.turn.new.self
-    c.is_reached.ensures (served_all c) c.loop-turn.invariant.few (λ on. absurd (true≢false (sym on)))
+    c.some_trace_led_here.ensures (served_all c) c.loop-turn.invariant.few (λ on. absurd (true≢false (sym on)))
     (subst (λ z. IsQuietOf (asks c.args.queues) z) (sym t.0) t.1)
 
 pub returns-in-Ok-None-clause-promise : goal.returns-in-Ok-None-clause-promise
@@ -39,7 +39,7 @@ returns-in-Ok-None-clause-promise c =
 pub returns-in-Err-clause-serves : goal.returns-in-Err-clause-serves
 returns-in-Err-clause-serves c =
     refused (asks c.args.queues) c.args.self.now c.args.most c.loop-turn.steps c.loop-turn.self c.turn.new.self
-    c.is_reached.ensures c.loop-turn.invariant.serves
+    c.some_trace_led_here.ensures c.loop-turn.invariant.serves
     (grind (arith, nat_tests, c.loop-turn.invariant.few, c.if-steps-most.false)) c.in-Err.ensures
 
 pub returns-in-Err-clause-promise : goal.returns-in-Err-clause-promise
@@ -54,7 +54,7 @@ returns-in-Err-clause-promise c =
 pub returns-then-steps-most-clause-serves : goal.returns-then-steps-most-clause-serves
 returns-then-steps-most-clause-serves c =
     portion (asks c.args.queues) c.args.self.now c.args.most c.loop-turn.steps c.has_step-more.result
-    c.loop-turn.self c.is_reached.ensures c.loop-turn.invariant.serves c.loop-turn.invariant.few
+    c.loop-turn.self c.some_trace_led_here.ensures c.loop-turn.invariant.serves c.loop-turn.invariant.few
     (λ on. grind (arith, nat_tests, c.if-steps-most.true)) c.has_step-more.ensures
 
 pub returns-then-steps-most-clause-promise : goal.returns-then-steps-most-clause-promise
@@ -65,7 +65,7 @@ returns-then-steps-most-clause-promise c =
 pub returns-clause-serves : goal.returns-clause-serves
 returns-clause-serves c =
     portion (asks c.args.queues) c.args.self.now c.args.most c.loop-turn.steps c.has_step-more-2.result
-    c.loop-turn.self c.is_reached.ensures c.loop-turn.invariant.serves c.loop-turn.invariant.few
+    c.loop-turn.self c.some_trace_led_here.ensures c.loop-turn.invariant.serves c.loop-turn.invariant.few
     (λ on. omega (arith, c.loop-turn.invariant.few, c.loop-turn.invariant.counted, c.loop-turn-test.false))
     c.has_step-more-2.ensures
 

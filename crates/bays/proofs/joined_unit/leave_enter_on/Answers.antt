@@ -1,6 +1,0 @@
-use Rattle.bays.proofs.Counting.{none_made, turns_none}
-use Rattle.bays.proofs.joined_unit.leave_enter_on.Goals as goal
-
--- neither phase makes a Commit
-pub unit-requires-clause-counts : goal.unit-requires-clause-counts
-unit-requires-clause-counts g c = λ u v x x' y y' r o. none_made u v _ _ _ o.first_shows o.first_leaves (turns_none _ _ _ _ _ _ _ _ o.met.0) o.met.3

@@ -1,0 +1,28 @@
+-- What a command leaves in each block.
+use Rattle.std.specs.Prelude.{ℕ, ◌-◌, ◌==◌, Bool, List, Option, Some, None, if◌then◌else◌, unwrap_or}
+use Rattle.cdb.specs.declared.commands.Command.{Command}
+use Rattle.cdb.specs.declared.commands.Command.TheVariants.{Write, WriteSame, Unmap, CompareAndWrite}
+use Rattle.block_store.specs.Blocks.{Blocks, nth_block, zero_block, is_within}
+use Rattle.command_model.specs.Statuses.{good}
+use Rattle.command_model.specs.Comparing.{to_write}
+use Rattle.command_model.specs.UnmapList.{descriptors, is_named}
+
+-- these bytes, where the command covers the block
+abbrev pub where_covered : Bool → List ℕ → Option (List ℕ)
+where_covered covered bytes = if covered then Some bytes else None
+
+-- what a writing command with this data gives block b where it ends with GOOD, if it covers b: WRITE
+-- its slice of the data (SBC-3 §5.33), WRITE SAME the one block of data (SBC-3 §5.43), UNMAP zeros
+-- (SBC-3 §5.28), COMPARE AND WRITE its slice of the second half (SBC-3 §5.2)
+abbrev pub given : Command → List ℕ → ℕ → Option (List ℕ)
+given (Write lba count) bytes b = where_covered (is_within lba count b) (nth_block bytes (b - lba))
+given (WriteSame lba count) bytes b = where_covered (is_within lba count b) bytes
+given (Unmap list_length) bytes b = where_covered (is_named (descriptors bytes) b) zero_block
+given (CompareAndWrite lba count) bytes b =
+    where_covered (is_within lba count b) (nth_block (to_write count bytes) (b - lba))
+given _ bytes b = None
+
+-- block b once the command ended with this status, over the blocks before
+abbrev pub block_after : Command → List ℕ → ℕ → Blocks → Blocks
+block_after command bytes code blocks b =
+    if code == good then unwrap_or (given command bytes b) (blocks b) else blocks b

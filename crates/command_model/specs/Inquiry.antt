@@ -1,0 +1,67 @@
+-- The data of INQUIRY: the standard data, and the pages of vital product data, SPC-4
+-- §7.8 and SBC-3 §6.6.
+use Rattle.std.specs.Prelude.{ℕ, ◌+◌, ◌/◌, ◌%◌, ◌^◌, List, [], ◌∷◌, ◌++◌, map, replicate, codes}
+use Rattle.cdb.specs.declared.commands.InquiryData.{InquiryData}
+use Rattle.cdb.specs.declared.commands.InquiryData.TheVariants.{Standard, SupportedPages, SerialNumber, DeviceIdentification, BlockLimits, LogicalBlockProvisioning}
+use Rattle.command_model.specs.StandardData.{standard_data, vendor}
+
+-- byte 0 of the standard data, the peripheral qualifier and device type: a block device that is there
+-- (SPC-4 §6.6.2)
+abbrev pub block_device : ℕ
+block_device = 0x00
+
+-- the decimal digit of a number at a place, as text; place 0 is the lowest
+abbrev pub digit : ℕ → ℕ → ℕ
+digit number place = 0x30 + number / 10 ^ place % 10
+
+-- the serial number: the target in 3 digits, the LUN in 5
+unfoldable pub serial : ℕ → ℕ → List ℕ
+serial target lun =
+    codes "VSCSI" ++ map (digit target) (2 ∷ 1 ∷ 0 ∷ []) ++ map (digit lun) (4 ∷ 3 ∷ 2 ∷ 1 ∷ 0 ∷ [])
+
+-- page 00h, Supported VPD Pages, SPC-4 §7.8.14
+unfoldable pub supported_pages : List ℕ
+supported_pages = 0x00 ∷ 0x00 ∷ 0x00 ∷ 0x05 ∷ 0x00 ∷ 0x80 ∷ 0x83 ∷ 0xb0 ∷ 0xb2 ∷ []
+
+-- page 80h, Unit Serial Number, SPC-4 §7.8.15
+unfoldable pub serial_page : ℕ → ℕ → List ℕ
+serial_page target lun = (0x00 ∷ 0x80 ∷ 0x00 ∷ 0x0d ∷ []) ++ serial target lun
+
+-- page 83h, Device Identification, SPC-4 §7.8.6: one designator in ASCII, based on the T10 vendor
+-- identification, of 21 bytes
+unfoldable pub identification_page : ℕ → ℕ → List ℕ
+identification_page target lun =
+    (0x00 ∷ 0x83 ∷ 0x00 ∷ 0x19 ∷ 0x02 ∷ 0x01 ∷ 0x00 ∷ 0x15 ∷ []) ++ vendor ++ serial target lun
+
+-- page B0h, Block Limits, SBC-3 §6.6.4, 64 bytes
+unfoldable pub limits_page : List ℕ
+limits_page =
+    (0x00 ∷ 0xb0 ∷ 0x00 ∷ 0x3c ∷ [])
+    -- bytes 4 and 5: WSNZ; the most blocks of a COMPARE AND WRITE
+    ++ (0x01 ∷ 0x40 ∷ 0x00 ∷ 0x00 ∷ [])
+    -- bytes 8 and 12: the most blocks of a transfer, and the best
+    ++ (0x00 ∷ 0x00 ∷ 0x08 ∷ 0x00 ∷ [])
+    ++ (0x00 ∷ 0x00 ∷ 0x08 ∷ 0x00 ∷ [])
+    ++ (0x00 ∷ 0x00 ∷ 0x00 ∷ 0x00 ∷ [])
+    -- bytes 20 and 24: the most blocks and descriptors of an UNMAP
+    ++ (0x00 ∷ 0x01 ∷ 0x00 ∷ 0x00 ∷ [])
+    ++ (0x00 ∷ 0x00 ∷ 0x00 ∷ 0x10 ∷ [])
+    -- byte 28: the granularity of an UNMAP
+    ++ (0x00 ∷ 0x00 ∷ 0x00 ∷ 0x01 ∷ [])
+    ++ (0x00 ∷ 0x00 ∷ 0x00 ∷ 0x00 ∷ [])
+    -- byte 36: the most blocks of a WRITE SAME
+    ++ (0x00 ∷ 0x00 ∷ 0x00 ∷ 0x00 ∷ 0x00 ∷ 0x01 ∷ 0x00 ∷ 0x00 ∷ [])
+    ++ replicate 20 0x00
+
+-- page B2h, Logical Block Provisioning, SBC-3 §6.6.6: LBPU, LBPWS, LBPWS10, LBPRZ; thin
+unfoldable pub provisioning_page : List ℕ
+provisioning_page = 0x00 ∷ 0xb2 ∷ 0x00 ∷ 0x04 ∷ 0x00 ∷ 0xe4 ∷ 0x02 ∷ 0x00 ∷ []
+
+-- the data that is asked for, of the unit of this target and LUN
+abbrev pub inquiry_data : InquiryData → ℕ → ℕ → List ℕ
+inquiry_data Standard target lun = standard_data block_device
+inquiry_data SupportedPages target lun = supported_pages
+inquiry_data SerialNumber target lun = serial_page target lun
+inquiry_data DeviceIdentification target lun = identification_page target lun
+inquiry_data BlockLimits target lun = limits_page
+inquiry_data LogicalBlockProvisioning target lun = provisioning_page

@@ -1,6 +1,0 @@
-use Rattle.std.proofs.Common.{◌≡◌, map, take}
-use Rattle.decisions.specs.Inventory.{address_of}
-use Rattle.decisions.proofs.inventory.Inventory.new.Given as goal
-
-abbrev pub invariant-loop-unit : goal.invariant-loop-unit
-invariant-loop-unit l = l.addresses.items ≡ map address_of (take l.unit-index l.units)

@@ -1,0 +1,69 @@
+-- What two or three phases do that share one hold: each of them its own part, with nothing between.
+use Rattle.std.specs.Prelude.{ℕ, ◌≡◌, Bool, true, List, [], ◌∷◌, length, Some, Result}
+use Rattle.block_store.specs.declared.NoMemory.{NoMemory}
+use Rattle.scsi_codec.specs.declared.lun.Address.{Address}
+use Rattle.unit_model.specs.Jobs.{PlainJob, Jobs}
+use Rattle.unit_model.specs.Unit.{PlainUnit}
+use Rattle.virtqueue.specs.Queue.{BareQueue}
+use Rattle.device_model.specs.Parts.{Slot, Hand}
+use Rattle.phases.specs.declared.hand.Hand as declared_hand
+use Rattle.phases.specs.Queue.{with_slot}
+use Rattle.phases.specs.Parts.{hand_of, committing_unit}
+use Rattle.phases.specs.Fetching.{FetchesRequest}
+use Rattle.phases.specs.Answering.{Answers}
+use Rattle.phases.specs.Units.{Enters, Commits, Leaves}
+use Rattle.phases.specs.Giving.{KeepsOutcome}
+use Rattle.lock_scopes.specs.declared.joined_unit.NextJob.{NextJob}
+use Rattle.lock_scopes.specs.declared.joined_unit.NextJob.TheVariants.{Listed, Taken, Committed}
+
+-- own: the job in the hand is answered, and then the queue's next chain is taken
+pub record AnswersFetches (inventory : List Address) (h : Hand) (s : Slot) (q : BareQueue) (m : List ℕ)
+    (answered : Bool) (fetched : Result Bool NoMemory) (q' : BareQueue) (m' : List ℕ) (h' : Hand) (s' : Slot) : Type 0 where
+  pub between : BareQueue
+  pub answers : Answers h q m answered between m' h'
+  pub fetches : FetchesRequest inventory m' (with_slot s between) fetched (with_slot s' q')
+
+-- own: the task in the hand leaves, and then the request that arrived enters
+pub record LeavesEnters (h : Hand) (s : Slot) (u : PlainUnit) (out : Jobs)
+    (u' : PlainUnit) (h' : Hand) (s' : Slot) (out' : Jobs) : Type 0 where
+  pub between : PlainUnit
+  pub listed : Jobs
+  pub left : Bool
+  pub entered : Bool
+  pub leaves : Leaves h u out left between h' listed
+  pub enters : Enters s between listed entered u' s' out'
+
+-- own: the only job that may run comes from the list into the hand, which was free
+pub record TakesOnly (h : declared_hand.Hand) (out : Jobs) (h' : declared_hand.Hand) (out' : Jobs) : Type 0 where
+  pub job : PlainJob
+  pub free : hand_of h ≡ Hand.Empty
+  pub only : out.jobs ≡ job ∷ []
+  pub takes : hand_of h' ≡ Hand.Taken job
+  pub rest : out' ≡ record out { jobs = [] }
+
+-- own: so it is taken, and then committed at its own unit, which stands at this place
+pub record TakesCommits (at : ℕ) (h : declared_hand.Hand) (u : PlainUnit) (out : Jobs)
+    (u' : PlainUnit) (h' : declared_hand.Hand) (out' : Jobs) : Type 0 where
+  pub between : declared_hand.Hand
+  pub takes : TakesOnly h out between out'
+  pub own_unit : committing_unit (hand_of between) ≡ Some at
+  pub commits : Commits (hand_of between) u true u' (hand_of h')
+  pub keeps : KeepsOutcome between u u' h'
+
+-- own: what becomes of the jobs that may run, behind an Enter at the unit of this place: they stay in the list, unless
+-- there is one alone and the hand is free
+abbrev pub RunsNext : ℕ → declared_hand.Hand → PlainUnit → Jobs → NextJob → PlainUnit → declared_hand.Hand → Jobs → Type 0
+RunsNext at h u out Listed u' h' out' =
+    (hand_of h ≡ Hand.Empty → length out.jobs ≡ 1 → ⊥) × (u' ≡ u) × (h' ≡ h) × (out' ≡ out)
+RunsNext at h u out Taken u' h' out' = (u' ≡ u) × TakesOnly h out h' out'
+RunsNext at h u out Committed u' h' out' = TakesCommits at h u out u' h' out'
+
+-- own: at the unit of a place the task in the hand leaves, the request that arrived enters, and then the only job that
+-- may run is run
+pub record LeavesEntersRuns (at : ℕ) (h : declared_hand.Hand) (s : Slot) (u : PlainUnit) (out : Jobs) (next : NextJob)
+    (u' : PlainUnit) (h' : declared_hand.Hand) (s' : Slot) (out' : Jobs) : Type 0 where
+  pub between : PlainUnit
+  pub hand : declared_hand.Hand
+  pub listed : Jobs
+  pub turns : LeavesEnters (hand_of h) s u out between (hand_of hand) s' listed
+  pub runs : RunsNext at hand between listed next u' h' out'

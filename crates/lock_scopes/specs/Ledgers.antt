@@ -1,0 +1,39 @@
+-- What two ledgers count: the Commits of units, and the receipts that seats were given for them.
+use Rattle.std.specs.Prelude.{ℕ, ◌≡◌, ◌+◌, Bool, List, [], ◌∷◌, if◌then◌else◌}
+use Rattle.std.specs.Borrow.{MutBor}
+use Rattle.std.specs.Fn.{Once}
+use Rattle.unit_model.specs.Steps.{Step}
+use Rattle.unit_model.specs.Unit.{PlainUnit}
+use Rattle.phases.specs.Giving.{has_receipt}
+use Rattle.phases.specs.declared.hand.Hand.{Hand}
+use Rattle.lock_scopes.specs.declared.joined_unit.NextJob.{NextJob}
+use Rattle.lock_scopes.specs.declared.joined_unit.NextJob.TheVariants.{Listed, Taken, Committed}
+use Rattle.lock_scopes.specs.Lending.{OnceAtThree}
+
+-- own: how many of these steps are Commits
+abbrev pub commits_of : List Step → ℕ
+commits_of [] = 0
+commits_of (Step.Commit t r ∷ past) = commits_of past + 1
+commits_of (step ∷ past) = commits_of past
+
+-- own: how many receipts the hand is to give
+abbrev pub receipts_due : Hand → ℕ
+receipts_due h = if has_receipt h then 1 else 0
+
+-- own: how many receipts a commit that changed something left in the hand
+abbrev pub receipts_made : Bool → Hand → ℕ
+receipts_made changed h = if changed then receipts_due h else 0
+
+-- own: how many receipts a job that was run in the hold of its Enter left in the hand
+abbrev pub receipts_run : NextJob → Hand → ℕ
+receipts_run Listed h = 0
+receipts_run Taken h = 0
+receipts_run Committed h = receipts_due h
+
+-- own: a closure says how many Commits it made
+abbrev pub CountsCommits : {F S U R : Type 0}
+    (g : Once F (MutBor PlainUnit × (MutBor S × (MutBor U × Unit {0})))
+    ((R × ℕ) × (MutBor PlainUnit × (MutBor S × (MutBor U × Unit {0})))))
+    → F → Type 0
+CountsCommits {F} {S} {U} {R} g f = (u v : PlainUnit) (x x' : S) (y y' : U) (r : R × ℕ) → OnceAtThree g f u x y r v x' y'
+    → commits_of v.steps ≡ commits_of u.steps + r.1

@@ -1,0 +1,118 @@
+//! The parts of a device that threads share, each under a lock.
+
+ghost use Rattle.std.specs.Prelude.{◌≡◌, ◌+◌, length};
+ghost use Rattle.unit_model.specs.Unit.{IsUnit};
+ghost use Rattle.lock_scopes.specs.Lending.{IsQueue, IsMemory};
+
+use crate::books::{Books, Part};
+use crate::counted::CountedUnit;
+use crate::holding::hold;
+use crate::lend::{QueueLender, UnitLender};
+use guest_mem::GuestMem;
+use std::sync::ledger::Ledger;
+use std::sync::{Mutex, Wait};
+use unit_history::UnitState;
+use virtqueue::Queue;
+
+/// The units that threads share, each under a lock of its own. A thread holds it while one phase runs, or several that
+/// follow one another, and takes that of the books inside it at a commit. So no thread waits for a lock that waits for
+/// one of its own. No clause says what a lock held at a moment. But whenever it is free, a unit's history is lawful,
+/// its blocks and what it has pending are those of that history, and it has all Commits that were counted for it.
+#[derive(Drop)]
+pub struct LockedUnits<'a, R: Wait, C: Ledger, W: Ledger> {
+    /// The leave to wait, which a thread needs for a lock.
+    pub rt: &'a R,
+    /// The units by their indices in the inventory.
+    pub units: &'a [Mutex<CountedUnit<C>>],
+    /// The books of both ledgers.
+    pub books: &'a Mutex<Books<C, W>>,
+    /// The part in which the receipts of the seat that calls are counted.
+    pub seat: &'a mut Part<W>,
+}
+
+impl<'a, R: Wait, C: Ledger, W: Ledger> UnitLender for LockedUnits<'a, R, C, W> {
+    ghost lends_unit = { λ s at u. IsUnit u };
+
+    ghost keeps_unit = { λ s at v t. IsUnit v × (t.units ≡ s.units) };
+
+    ghost counts = { λ s n t. (t.seat.ghost_name ≡ s.seat.ghost_name)
+        × (t.seat.now.share.amount ≡ s.seat.now.share.amount + n) };
+
+    ghost units = { λ s. length s.units.now };
+
+    fn unit_count(&self) -> usize {
+        self.units.len()
+    }
+
+    fn unit<T, X, Y, F: FnOnce(&mut UnitState, &mut X, &mut Y) -> (T, u64)>(
+        &mut self,
+        at: usize,
+        one: &mut X,
+        other: &mut Y,
+        phase: F,
+    ) -> (T, u64) {
+        let mut held = hold(self.rt, &self.units[at]);
+        let unit = &mut *held;
+        unit.run(self.rt, self.books, &mut *self.seat, one, other, phase)
+    }
+}
+
+/// The queues and the memory that threads share, each under a lock of its own, which is held while one phase runs, or
+/// two. A queue's lock has the memory's inside it, and the memory's is also held alone; a unit's is held with neither.
+/// So no thread waits for a lock that waits for one of its own. No clause says what a lock held at a moment. But
+/// whenever it is free, a queue's log is lawful, and the memory has at most 2^28 bytes.
+#[derive(Drop)]
+pub struct LockedQueues<'a, R: Wait> {
+    /// The leave to wait, which a thread needs for a lock.
+    pub rt: &'a R,
+    /// The queues by their numbers.
+    pub queues: &'a [Mutex<Queue>],
+    /// The memory.
+    pub memory: &'a Mutex<GuestMem>,
+}
+
+impl<'a, R: Wait> QueueLender for LockedQueues<'a, R> {
+    ghost lends_queue = { λ s at q m. IsQueue q };
+
+    ghost keeps_queue = { λ s at r n t. IsQueue r × (t ≡ s) };
+
+    ghost lends_memory = { λ s m. IsMemory m };
+
+    ghost keeps_memory = { λ s n t. IsMemory n × (t ≡ s) };
+
+    ghost queues = { λ s. length s.queues.now };
+
+    fn queue_count(&self) -> usize {
+        self.queues.len()
+    }
+
+    fn queue<T, X, Y, F: FnOnce(&mut Queue, &mut GuestMem, &mut X, &mut Y) -> T>(
+        &mut self,
+        at: usize,
+        one: &mut X,
+        other: &mut Y,
+        phase: F,
+    ) -> T {
+        let mut held = hold(self.rt, &self.queues[at]);
+        let mut held_memory = hold(self.rt, self.memory);
+        let queue = &mut *held;
+        let memory = &mut *held_memory;
+        let _before = queue.log();
+        let answer = phase(queue, memory, one, other);
+        let _behind = queue.log();
+        answer
+    }
+
+    fn memory<T, F: FnOnce(&mut GuestMem, &mut [u8]) -> T>(
+        &mut self,
+        room: &mut [u8],
+        phase: F,
+    ) -> T {
+        let mut held = hold(self.rt, self.memory);
+        let memory = &mut *held;
+        let _before = memory.size();
+        let answer = phase(memory, room);
+        let _behind = memory.size();
+        answer
+    }
+}

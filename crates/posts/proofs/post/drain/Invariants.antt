@@ -1,6 +1,0 @@
-use Rattle.handoff.specs.Seats.{IsSameSeat}
-use Rattle.posts.specs.Tallying.{Tallies}
-use Rattle.posts.proofs.post.drain.Given as goal
-
-abbrev pub invariant-loop : goal.invariant-loop
-invariant-loop g l = IsSameSeat l.fn.post.seat l.post.seat × Tallies l.post.lost l.post.part.share.amount l.post.kept l.post.hand

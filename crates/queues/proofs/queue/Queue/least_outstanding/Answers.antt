@@ -1,4 +1,0 @@
-use Rattle.queues.proofs.queue.Queue.least_outstanding.Goals as goal
-
-pub returns : goal.returns
-returns c = rw (← c.self.view_is) c.least_outstanding.ensures

@@ -1,7 +1,0 @@
-use Rattle.ring_core.specs.Sound.{IsSound}
-use Rattle.queues.specs.Queue.{BareQueue}
-use Rattle.report.proofs.Prefixes.{EachTo}
-use Rattle.report.proofs.confirming.are_sound.Given as goal
-
-abbrev pub invariant-loop-queue : goal.invariant-loop-queue
-invariant-loop-queue l = EachTo (λ (q : BareQueue). IsSound q.ring) l.queues l.queue-index

@@ -1,7 +1,0 @@
-use Rattle.unit_model.specs.Unit.{PlainUnit}
-use Rattle.report.specs.Closed.{ConfirmsOne}
-use Rattle.report.proofs.Prefixes.{EachTo}
-use Rattle.report.proofs.confirming.is_confirmed.Given as goal
-
-abbrev pub invariant-loop-unit : goal.invariant-loop-unit
-invariant-loop-unit l = EachTo (λ (u : PlainUnit). ConfirmsOne u l.receipt → ⊥) l.units l.unit-index

@@ -1,6 +1,0 @@
-use Rattle.unit_model.specs.Unit.{IsUnit}
-use Rattle.report.proofs.Prefixes.{EachTo}
-use Rattle.report.proofs.confirming.stand.Given as goal
-
-abbrev pub invariant-loop-unit : goal.invariant-loop-unit
-invariant-loop-unit l = EachTo (λ u. IsUnit u) l.units l.unit-index

@@ -1,7 +1,0 @@
-use Rattle.std.proofs.Common.{◌≡◌, ℕ, ◌<◌, false}
-use Rattle.report.specs.Inner.Tallies.{tally_at, ends_amiss}
-use Rattle.report.proofs.least.first_unsettled.Given as goal
-
-abbrev pub invariant-loop-number : goal.invariant-loop-number
-invariant-loop-number l =
-    (n : ℕ) → n < l.number → ends_amiss l.folded (tally_at l.tables.tables.items (record { queue = l.place; number = n })) ≡ false

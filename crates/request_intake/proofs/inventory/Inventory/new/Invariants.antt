@@ -1,0 +1,6 @@
+use Rattle.std.proofs.Common.{◌≡◌, map, take}
+use Rattle.request_intake.specs.Inventory.{address_of}
+use Rattle.request_intake.proofs.inventory.Inventory.new.Given as goal
+
+abbrev pub invariant-loop-unit : goal.invariant-loop-unit
+invariant-loop-unit l = l.addresses.items ≡ map address_of (take l.unit-index l.units)

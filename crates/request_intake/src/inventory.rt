@@ -1,0 +1,136 @@
+//! The inventory of logical units.
+
+ghost use Rattle.std.specs.Prelude.{◌≡◌, ◌<◌, ◌≤◌, true, map, length, IfSome, IfOk};
+ghost use Rattle.request_intake.specs.Inventory.{address_of, stands_before, is_rising, has_target, place_of, luns_of};
+
+use arrayvec::ArrayVec;
+use scsi_codec::Address;
+use std::alloc::{AllocError, Global};
+use std::marker::Model;
+
+/// The most logical units of a device.
+pub const MOST_UNITS: usize = 64;
+
+/// A logical unit that is wanted.
+#[derive(Clone, Copy, Debug, PartialEq, Eq)]
+pub struct UnitSpec {
+    /// Its target, 0 to 255.
+    pub target: u8,
+    /// Its LUN, 0 to 16,383.
+    pub lun: u16,
+    /// Its capacity in blocks of 512 bytes, 1 to 2^40.
+    pub blocks: u64,
+    /// True if nothing is pending at the start; else POWER ON, RESET, OR BUS DEVICE RESET OCCURRED is.
+    pub calm: bool,
+}
+
+impl UnitSpec {
+    /// Returns its address.
+    pub fn address(&self) -> Address
+        ensures { result ≡ address_of self.now }
+    {
+        Address {
+            target: self.target,
+            lun: self.lun,
+        }
+    }
+}
+
+/// The addresses of a device's logical units, in rising order of target and LUN. It never changes, so a worker that
+/// holds one queue alone may ask it which units there are.
+#[derive(Drop)]
+pub struct Inventory {
+    addresses: ArrayVec<Address, MOST_UNITS>,
+}
+
+impl Model for Inventory {
+    ghost use Rattle.std.specs.Prelude.{◌≡◌, List, true};
+    ghost use Rattle.scsi_codec.specs.declared.lun.Address.{Address};
+    ghost use Rattle.request_intake.specs.Inventory.{is_rising};
+
+    ghost Value = { List Address };
+
+    ghost view = { λ i. i.addresses.items };
+
+    ghost invariant = { λ i. is_rising i.addresses.items ≡ true };
+}
+
+impl Inventory {
+    /// Makes the addresses of these units. Called once, where a device is opened. It takes no memory.
+    pub fn new(units: &[UnitSpec]) -> Inventory
+        requires few { length units.now ≤ MOST_UNITS }
+        requires rising { is_rising (map address_of units.now) ≡ true }
+        ensures { result ≡ map address_of units.now }
+    {
+        let mut addresses = ArrayVec::new();
+        for unit in units {
+            addresses.push(unit.address());
+        }
+        Inventory { addresses }
+    }
+
+    /// Returns the addresses, each at its unit's place.
+    pub fn as_slice(&self) -> &[Address]
+        ensures addresses { result.now ≡ self.now }
+        ensures few { length result.now ≤ MOST_UNITS }
+    {
+        self.addresses.as_slice()
+    }
+
+    /// Returns true if a unit of this target is there.
+    pub fn has_target(&self, target: u8) -> bool
+        ensures { result ≡ has_target self.now target }
+    {
+        self.addresses
+            .as_slice()
+            .iter()
+            .any(|address| address.target == target)
+    }
+
+    /// Returns the place of the unit with this address; `None` where it isn't there.
+    pub fn find(&self, address: &Address) -> Option<usize>
+        ensures place { result ≡ place_of self.now address.now }
+        ensures within { IfSome result (λ place. place < length self.now) }
+    {
+        self.addresses
+            .as_slice()
+            .iter()
+            .position(|it| it.target == address.target && it.lun == address.lun)
+    }
+
+    /// Returns the LUNs of a target, rising, for a unit that opens. `AllocError` where their list was refused memory.
+    pub fn luns_of(&self, alloc: Global, target: u8) -> Result<Vec<u16>, AllocError>
+        ensures luns { IfOk result (λ luns. luns.items ≡ luns_of self.now target) }
+        ensures few { IfOk result (λ luns. length luns.items ≤ MOST_UNITS) }
+    {
+        self.addresses
+            .as_slice()
+            .iter()
+            .filter(|address| address.target == target)
+            .map(|address| address.lun)
+            .collect(alloc)
+    }
+}
+
+/// Returns true if one unit's address stands before another's.
+fn is_before(unit: &UnitSpec, other: &UnitSpec) -> bool
+    ensures { result ≡ stands_before (address_of unit.now) (address_of other.now) }
+{
+    unit.target < other.target || (unit.target == other.target && unit.lun < other.lun)
+}
+
+/// Returns true if the addresses of units rise, which those of an inventory do.
+pub fn are_rising(units: &[UnitSpec]) -> bool
+    ensures { result ≡ is_rising (map address_of units.now) }
+{
+    let mut rest = units;
+    while let [first, others @ ..] = rest {
+        if let [second, ..] = others {
+            if !is_before(first, second) {
+                return false;
+            }
+        }
+        rest = others;
+    }
+    true
+}

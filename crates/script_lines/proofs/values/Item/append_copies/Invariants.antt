@@ -1,6 +1,0 @@
-use Rattle.std.proofs.Common.{◌≡◌, ◌++◌}
-use Rattle.std.specs.List.{repeat}
-use Rattle.script_lines.proofs.values.Item.append_copies.Given as goal
-
-abbrev pub invariant-loop : goal.invariant-loop
-invariant-loop l = l.into.items ≡ l.initial.into.items ++ repeat l.counter l.self.bytes.items

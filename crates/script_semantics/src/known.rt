@@ -1,0 +1,69 @@
+//! The names that lines may use.
+
+use config::UnitSpec;
+use script_syntax::{Command, GuestLine, LineFault, PrintLine};
+use scsi_codec::{Address, FIRST_REQUEST_QUEUE};
+
+/// The names that lines may use: so many queues, and the units of the header.
+#[derive(Drop)]
+pub struct Known {
+    /// The number of queues, the control and the event queue among them.
+    pub queues: u16,
+    /// The units, in the order of the header.
+    pub units: Vec<UnitSpec>,
+}
+
+impl Known {
+    /// Refuses a line by `BadValue` where it sends to what is no queue of requests, or prints of a queue, a unit or
+    /// blocks that aren't there. This is looked at before the line's place.
+    /// Called for each line behind the header.
+    pub fn check(&self, command: &Command<'_>) -> Result<(), LineFault> {
+        let is_known = match command {
+            Command::Guest(GuestLine::Send(send)) => {
+                send.queue >= FIRST_REQUEST_QUEUE && send.queue < self.queues
+            }
+            Command::Print(line) => self.may_print(*line),
+            _ => true,
+        };
+        if is_known {
+            Ok(())
+        } else {
+            Err(LineFault::BadValue)
+        }
+    }
+
+    /// Returns true if what a line prints of is there.
+    fn may_print(&self, line: PrintLine<'_>) -> bool {
+        match line {
+            PrintLine::Order(queue) | PrintLine::Notices(queue) => queue < self.queues,
+            PrintLine::History(unit) => self.place(unit).is_some(),
+            PrintLine::Blocks(unit, first, count) => self.has_blocks(unit, first, count),
+            PrintLine::Show(_) | PrintLine::Events | PrintLine::Status => true,
+        }
+    }
+
+    /// Returns true if so many blocks from one on lie within a unit.
+    fn has_blocks(&self, unit: Address, first: u64, count: u64) -> bool {
+        for known in self.units.iter() {
+            if known.target == unit.target && known.lun == unit.lun {
+                return first <= known.blocks && count <= known.blocks - first;
+            }
+        }
+        false
+    }
+
+    /// Takes down that the unit at a place has so many blocks from now on. Called once the unit was resized.
+    pub fn resize(&mut self, place: u16, blocks: u64) {
+        if let Some(known) = self.units.get_mut(place as usize) {
+            known.blocks = blocks;
+        }
+    }
+
+    /// Returns the place of a unit, by which the operator names it; `None` where it isn't there. Asked for a line that
+    /// names a unit.
+    pub fn place(&self, unit: Address) -> Option<u16> {
+        let place = self.units.iter().position(|known| known.target == unit.target
+            && known.lun == unit.lun)?;
+        u16::try_from(place).ok()
+    }
+}

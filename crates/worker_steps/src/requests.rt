@@ -1,0 +1,95 @@
+//! The request queues that a worker owns, and how it serves them.
+
+ghost use Rattle.std.specs.Prelude.{◌≡◌, ◌<◌, vec_len};
+ghost use Rattle.handoff.specs.Seats.{IsSeatOf, IsSameSeat};
+ghost use Rattle.close_audit.specs.Rooms.{HasRoomForOne};
+ghost use Rattle.worker_steps.specs.Tallying.{Tallies};
+
+use crate::in_a_row::{has_one_job, serve_and_fetch, turn};
+use crate::post::{Post, drain};
+use crate::progress::Progress;
+use crate::shared::Shared;
+use lock_scopes::{Gate, Point, direct_on, fetch_on};
+use phases::{ReceiptOrNote, Slot};
+use std::sync::Wait;
+use std::sync::ledger::Ledger;
+
+/// A worker serves at most so many requests of one queue in a row.
+const IN_A_ROW: usize = 16;
+
+/// Answers the chain that is ready in the slot, where one is there, and keeps the note of why it got no receipt.
+pub(crate) fn direct<R: Wait, G: Gate + Drop, C: Ledger, W: Ledger>(
+    rt: &R,
+    shared: &Shared<G, C, W>,
+    at: usize,
+    slot: &mut Slot,
+    post: &mut Post<W>,
+)
+    requires at { at < vec_len shared.now.queues }
+    requires room { HasRoomForOne post.old.kept }
+    requires tally { Tallies post.old.lost post.old.part.share.amount post.old.kept post.old.hand }
+    ensures seat { post.new.seat ≡ post.old.seat }
+    ensures tally { Tallies post.new.lost post.new.part.share.amount post.new.kept post.new.hand }
+{
+    if slot.is_empty() {
+        return;
+    }
+    if let Some(note) = direct_on(&mut shared.queues(rt), at, slot) {
+        let ticket = note.ticket();
+        post.kept.keep(ReceiptOrNote::Note(note));
+        shared.gate.pass(Point::Answered, ticket);
+    }
+}
+
+/// Takes a request queue's next chain, and brings it to its unit or answers it. Returns true if there was one; `None`
+/// where memory was refused.
+pub(crate) fn fetch_next<R: Wait, G: Gate + Drop, C: Ledger, W: Ledger>(
+    rt: &R,
+    shared: &Shared<G, C, W>,
+    at: usize,
+    post: &mut Post<W>,
+) -> Option<bool>
+    requires at { at < vec_len shared.now.queues }
+    requires tally { Tallies post.old.lost post.old.part.share.amount post.old.kept post.old.hand }
+    ensures seat { post.new.seat ≡ post.old.seat }
+    ensures tally { Tallies post.new.lost post.new.part.share.amount post.new.kept post.new.hand }
+{
+    if !post.make_room() {
+        return None;
+    }
+    let mut slot = Slot::Empty;
+    let is_some = fetch_on(&mut shared.queues(rt), at, &mut slot, &shared.inventory).ok()?;
+    turn(rt, shared, &mut slot, post);
+    direct(rt, shared, at, &mut slot, post);
+    Some(is_some)
+}
+
+/// Takes a request queue's next chain, and brings it to its unit or answers it. Serves the job that it gives, where no
+/// other worker waits for one, and likewise the next requests of the queue, up to [`IN_A_ROW`]. The queue's
+/// owner calls, once it found the hand-off empty. A refused growth counts as made.
+pub fn serve_queue<R: Wait, G: Gate + Drop, C: Ledger, W: Ledger>(
+    rt: &R,
+    shared: &Shared<G, C, W>,
+    at: usize,
+    post: &mut Post<W>,
+) -> Progress
+    requires at { at < vec_len shared.now.queues }
+    requires seat { IsSeatOf shared.now.handoff post.old.seat }
+    requires tally { Tallies post.old.lost post.old.part.share.amount post.old.kept post.old.hand }
+    ensures seat { IsSameSeat post.old.seat post.new.seat }
+    ensures tally { Tallies post.new.lost post.new.part.share.amount post.new.kept post.new.hand }
+{
+    // Then its list has the places that an Enter asks for.
+    if !post.is_idle() {
+        return Progress::Made;
+    }
+    let fetched = fetch_next(rt, shared, at, post);
+    for _ in 0..IN_A_ROW {
+        if !has_one_job(shared, post) {
+            break;
+        }
+        serve_and_fetch(rt, shared, at, post);
+    }
+    drain(rt, shared, post);
+    Progress::of(fetched != Some(false))
+}
