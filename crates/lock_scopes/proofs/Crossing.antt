@@ -57,10 +57,8 @@ use Rattle.ring_core.specs.contracts.log.QueueLog.{the_row as log_row}
 use Rattle.ring_core.specs.contracts.log.QueueLog.TheInside as log
 use Rattle.std.specs.declared.sync.ledger.Ledger.{Ghosts}
 use Rattle.std.proofs.sync.ledger.Share.TheSendSync as share
-use Rattle.std.proofs.sync.ledger.Book.TheSendSync as book
-use Rattle.lock_scopes.specs.contracts.books.Books.{the_row as books_row, the_field as books_field, the_type as books_type}
 use Rattle.lock_scopes.specs.contracts.counted.CountedUnit.{the_row as counted_unit_row, the_field as counted_unit_field, the_type as counted_unit_type}
-use Rattle.lock_scopes.specs.contracts.books.Part.{the_field as part_field, the_type as part_type}
+use Rattle.lock_scopes.specs.contracts.part.Part.{the_field as part_field, the_type as part_type}
 
 option_sends : (R : RattleType) → IsSend (row_field R).row → IsSend (option_field R).row
 option_sends R s = enum_send (enum_shape (option_type R)) (tt, ((s, tt), tt))
@@ -170,14 +168,8 @@ queue_sends = search (sendable, queue_fields)
 pub part_sends : (L : RattleType) (l : Ghosts L.Denot) → IsSend (part_field L l).row
 part_sends L l = struct_send (shape (part_type L l)) (share.the_send L l, tt)
 
-counted_unit_fields : (C : RattleType) (c : Ghosts C.Denot) → IsSend (counted_unit_field C c).row
-counted_unit_fields C c = struct_send (shape (counted_unit_type C c)) (unit_sends, (part_sends C c, tt))
+counted_unit_fields : (C W : RattleType) (c : Ghosts C.Denot) (w : Ghosts W.Denot) → IsSend (counted_unit_field C W c w).row
+counted_unit_fields C W c w = struct_send (shape (counted_unit_type C W c w)) (unit_sends, (part_sends W w, (part_sends C c, tt)))
 
-pub counted_unit_sends : (C : RattleType) (c : Ghosts C.Denot) → IsSend (counted_unit_row C c)
-counted_unit_sends C c = recorded_send (counted_unit_field C c).row _ _ (counted_unit_type C c).to_one (counted_unit_fields C c)
-
-books_fields : (C W : RattleType) (c : Ghosts C.Denot) (w : Ghosts W.Denot) → IsSend (books_field C W c w).row
-books_fields C W c w = struct_send (shape (books_type C W c w)) (book.the_send C c, (book.the_send W w, tt))
-
-pub books_sends : (C W : RattleType) (c : Ghosts C.Denot) (w : Ghosts W.Denot) → IsSend (books_row C W c w)
-books_sends C W c w = recorded_send (books_field C W c w).row _ _ (books_type C W c w).to_one (books_fields C W c w)
+pub counted_unit_sends : (C W : RattleType) (c : Ghosts C.Denot) (w : Ghosts W.Denot) → IsSend (counted_unit_row C W c w)
+counted_unit_sends C W c w = recorded_send (counted_unit_field C W c w).row _ _ (counted_unit_type C W c w).to_one (counted_unit_fields C W c w)

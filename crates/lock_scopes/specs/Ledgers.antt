@@ -1,4 +1,4 @@
--- What two ledgers count: the Commits of units, and the receipts that seats were given for them.
+-- What the ledger of Commits counts: those of units, and the receipts that seats were given for them.
 use Rattle.std.specs.Prelude.{ℕ, ◌≡◌, ◌+◌, Bool, List, [], ◌∷◌, if◌then◌else◌}
 use Rattle.std.specs.Borrow.{MutBor}
 use Rattle.std.specs.Fn.{Once}
@@ -9,12 +9,17 @@ use Rattle.phases.specs.declared.hand.Hand.{Hand}
 use Rattle.lock_scopes.specs.declared.joined_unit.NextJob.{NextJob}
 use Rattle.lock_scopes.specs.declared.joined_unit.NextJob.TheVariants.{Listed, Taken, Committed}
 use Rattle.lock_scopes.specs.Lending.{OnceAtThree}
+use Rattle.lock_scopes.specs.Acts.{acts_of}
 
 -- own: how many of these steps are Commits
 abbrev pub commits_of : List Step → ℕ
 commits_of [] = 0
 commits_of (Step.Commit t r ∷ past) = commits_of past + 1
 commits_of (step ∷ past) = commits_of past
+
+-- own: how many Commits a unit may make. No history has more steps
+abbrev pub most_commits : ℕ
+most_commits = 18446744073709551615
 
 -- own: how many receipts the hand is to give
 abbrev pub receipts_due : Hand → ℕ
@@ -30,10 +35,10 @@ receipts_run Listed h = 0
 receipts_run Taken h = 0
 receipts_run Committed h = receipts_due h
 
--- own: a closure says how many Commits it made
+-- own: a closure says how many Commits it made, and it is no act of the operator
 abbrev pub CountsCommits : {F S U R : Type 0}
     (g : Once F (MutBor PlainUnit × (MutBor S × (MutBor U × Unit {0})))
     ((R × ℕ) × (MutBor PlainUnit × (MutBor S × (MutBor U × Unit {0})))))
     → F → Type 0
 CountsCommits {F} {S} {U} {R} g f = (u v : PlainUnit) (x x' : S) (y y' : U) (r : R × ℕ) → OnceAtThree g f u x y r v x' y'
-    → commits_of v.steps ≡ commits_of u.steps + r.1
+    → (commits_of v.steps ≡ commits_of u.steps + r.1) × (acts_of v.steps ≡ acts_of u.steps)

@@ -1,4 +1,6 @@
+pub mod Acts
 pub mod Joined
 pub mod Ledgers
 pub mod Lending
 pub mod Memory
+pub mod Inner

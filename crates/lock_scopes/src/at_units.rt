@@ -7,19 +7,20 @@ ghost use Rattle.phases.specs.Slots.{slot_of};
 ghost use Rattle.phases.specs.Parts.{hand_of};
 ghost use Rattle.phases.specs.Units.{Enters, Commits, Leaves, Marks, Checks};
 ghost use Rattle.phases.specs.Giving.{KeepsOutcome};
-ghost use Rattle.phases.specs.Resetting.{Resets};
-ghost use Rattle.phases.specs.Resizing.{ResizesUnit};
-ghost use Rattle.lock_scopes.specs.Ledgers.{receipts_made};
+ghost use Rattle.lock_scopes.specs.Ledgers.{commits_of, receipts_made};
+ghost use Rattle.lock_scopes.specs.Acts.{acts_of};
+ghost use Rattle.lock_scopes.specs.Inner.Acts.{is_hard_mark};
 
 use crate::gate::{Gate, Point};
 use crate::lend::UnitLender;
-use event_queue::WaitingEvents;
 use phases::{
-    Hand, OpenFunction, ResetFault, ResizeFault, Slot, phase_check, phase_commit, phase_enter,
-    phase_hard, phase_leave, phase_mark, phase_prepare, phase_resize, phase_start_pages,
+    Hand, OpenFunction, Slot, phase_check, phase_commit, phase_enter, phase_leave, phase_mark,
+    phase_prepare, phase_start_pages,
 };
 use request_intake::Inventory;
-use unit_history::{JobList, StartedWrite};
+use task_mgmt::{Kind, MarkBy};
+use unit_attention::Code;
+use unit_history::{JobList, StartedWrite, UnitState};
 
 /// Brings the request that arrived to its unit (`phase_enter`), in one hold of that. The owner of its queue calls, with
 /// its place from `Slot::unit`. Returns true if something changed.
@@ -155,6 +156,40 @@ pub fn leave_on<B: UnitLender>(
         .0
 }
 
+/// Returns true if a function resets its units as the operator does. None does.
+fn is_hard_mark(function: &OpenFunction) -> bool
+    ensures { result ≡ is_hard_mark function.now.function.kind }
+{
+    match function.function.kind() {
+        Kind::Marking(MarkBy::Reset(code)) => {
+            code.asc == Code::POWER_ON_OR_RESET.asc && code.ascq == Code::POWER_ON_OR_RESET.ascq
+        }
+        Kind::Marking(MarkBy::Abort(_)) | Kind::Querying(_) => false,
+    }
+}
+
+/// Runs `phase_mark`. A function that resets its units as the operator does, which none does, fails: so the operator
+/// alone makes hard resets.
+fn mark(
+    unit: &mut UnitState,
+    inventory: &Inventory,
+    function: &mut OpenFunction,
+    out: &mut JobList,
+) -> bool
+    ensures marks { Marks inventory.now function.old unit.old out.old result unit.new function.new out.new }
+    ensures commits { commits_of unit.new.steps ≡ commits_of unit.old.steps }
+    ensures acts { acts_of unit.new.steps ≡ acts_of unit.old.steps }
+{
+    if !is_hard_mark(function) {
+        return phase_mark(unit, inventory, function, out);
+    }
+    if function.function.next_unit().is_none() {
+        return false;
+    }
+    function.function.refused();
+    true
+}
+
 /// Marks the next unit of the open function, or looks at it (`phase_mark`), in one hold of that. The worker that has
 /// the function calls, with the unit's place from `Function::next_unit`. Returns true if something changed.
 pub fn mark_on<B: UnitLender>(
@@ -178,8 +213,9 @@ pub fn mark_on<B: UnitLender>(
             out,
             move |unit, function, out| -> (bool, u64)
                 ensures { Marks inventory.entry.now function.old unit.old out.old result.0 unit.new function.new out.new
-                    × (result.1 ≡ 0) }
-            { (phase_mark(unit, inventory, function, out), 0) },
+                    × (result.1 ≡ 0) × (commits_of unit.new.steps ≡ commits_of unit.old.steps)
+                    × (acts_of unit.new.steps ≡ acts_of unit.old.steps) }
+            { (mark(unit, inventory, function, out), 0) },
         )
         .0
 }
@@ -208,65 +244,6 @@ pub fn check_on<B: UnitLender>(
                 ensures { Checks inventory.entry.now function.old unit.old result.0 function.new × (unit.new ≡ unit.old)
                     × (result.1 ≡ 0) }
             { (phase_check(unit, inventory, function), 0) },
-        )
-        .0
-}
-
-/// Resets the unit of a place of the inventory (`phase_hard`), in one hold of it. The operator's seat calls. Returns
-/// true if something changed, or `WrongUnit` or `NoMemory` as the phase does.
-pub fn hard_on<B: UnitLender>(
-    lender: &mut B,
-    at: usize,
-    inventory: &Inventory,
-    out: &mut JobList,
-    waiting: &mut WaitingEvents,
-) -> Result<bool, ResetFault>
-    requires there { at < B.units lender.old }
-    ensures did { (u : PlainUnit) × (v : PlainUnit) × B.lends_unit lender.old at u
-        × Resets inventory.now at u out.old waiting.old result v out.new waiting.new
-        × B.keeps_unit lender.old at v lender.new }
-    ensures counted { B.counts lender.old 0 lender.new }
-    ensures units { B.units lender.new ≡ B.units lender.old }
-{
-    lender
-        .unit(
-            at,
-            out,
-            waiting,
-            move |unit, out, waiting| -> (Result<bool, ResetFault>, u64)
-                ensures { Resets inventory.entry.now at unit.old out.old waiting.old result.0 unit.new out.new waiting.new
-                    × (result.1 ≡ 0) }
-            { (phase_hard(unit, inventory, at, out, waiting), 0) },
-        )
-        .0
-}
-
-/// Gives the unit of a place of the inventory another capacity (`phase_resize`), in one hold of it. The operator's seat
-/// calls. Answers as the phase does: `WrongUnit`, `BadCapacity` or `NoMemory`, with nothing changed.
-pub fn resize_on<B: UnitLender>(
-    lender: &mut B,
-    at: usize,
-    inventory: &Inventory,
-    blocks: u64,
-    told: bool,
-    waiting: &mut WaitingEvents,
-) -> Result<bool, ResizeFault>
-    requires there { at < B.units lender.old }
-    ensures did { (u : PlainUnit) × (v : PlainUnit) × B.lends_unit lender.old at u
-        × ResizesUnit inventory.now at u blocks told waiting.old result v waiting.new
-        × B.keeps_unit lender.old at v lender.new }
-    ensures counted { B.counts lender.old 0 lender.new }
-    ensures units { B.units lender.new ≡ B.units lender.old }
-{
-    lender
-        .unit(
-            at,
-            waiting,
-            &mut (),
-            move |unit, waiting, _nothing| -> (Result<bool, ResizeFault>, u64)
-                ensures { ResizesUnit inventory.entry.now at unit.old blocks told waiting.old result.0 unit.new waiting.new
-                    × (result.1 ≡ 0) }
-            { (phase_resize(unit, inventory, at, blocks, told, waiting), 0) },
         )
         .0
 }

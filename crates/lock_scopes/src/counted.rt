@@ -1,49 +1,54 @@
-//! A unit whose Commits are counted.
+//! A unit whose Commits and acts are counted.
 
-ghost use Rattle.std.specs.Prelude.{◌≡◌};
-ghost use Rattle.lock_scopes.specs.Ledgers.{commits_of};
+ghost use Rattle.std.specs.Prelude.{◌≡◌, ◌+◌};
+ghost use Rattle.lock_scopes.specs.Ledgers.{commits_of, most_commits};
+ghost use Rattle.lock_scopes.specs.Acts.{acts_of};
 
-use crate::books::{Books, Part};
-use crate::holding::hold;
+use crate::acts::{Act, Acts};
+use crate::part::Part;
+use event_queue::WaitingEvents;
+use phases::{ResetFault, ResizeFault, phase_hard, phase_resize};
+use request_intake::Inventory;
 use std::sync::ledger::Ledger;
-use std::sync::{Mutex, Wait};
-use unit_history::UnitState;
+use unit_history::{JobList, UnitState};
 
-/// A unit, with the part of the ledger that counts its Commits. It stands under the unit's lock: so whenever that is
-/// free, no Commit that was counted is missing from the history.
+/// A unit, with its parts of two ledgers. It stands under the unit's lock: so whenever that is free, no Commit for which
+/// a receipt was counted is missing from the history, and no act of the operator.
+///
+/// A unit opens with one for each Commit that it may ever make, and gives one to the seat that makes a Commit. No call
+/// of the ledger needs a lock for that.
 #[derive(Drop)]
-pub struct CountedUnit<C: Ledger> {
+pub struct CountedUnit<C: Ledger, W: Ledger> {
     pub unit: UnitState,
-    pub part: Part<C>,
-    pub ghost counted: { part.share.amount ≡ commits_of unit.steps },
+    /// What is left for Commits.
+    pub part: Part<W>,
+    /// What counts acts.
+    pub acts: Part<C>,
+    pub ghost counted: { part.share.amount + commits_of unit.steps ≡ most_commits },
+    pub ghost acted: { acts.share.amount ≡ acts_of unit.steps },
 }
 
-impl<C: Ledger> CountedUnit<C> {
-    ghost use Rattle.std.specs.Prelude.{◌≡◌, ◌+◌, ℕ};
+impl<C: Ledger, W: Ledger> CountedUnit<C, W> {
+    ghost use Rattle.std.specs.Prelude.{◌≡◌, ◌+◌, ℕ, List, Option, slice_get, IfOk, OnErr, if◌then◌else◌};
     ghost use Rattle.unit_model.specs.Unit.{PlainUnit, IsUnit};
+    ghost use Rattle.phases.specs.Resetting.{Resets};
+    ghost use Rattle.phases.specs.Resizing.{ResizesUnit};
     ghost use Rattle.lock_scopes.specs.Lending.{OnceAtThree};
-    ghost use Rattle.lock_scopes.specs.Ledgers.{commits_of, CountsCommits};
+    ghost use Rattle.lock_scopes.specs.Ledgers.{commits_of, most_commits, CountsCommits};
+    ghost use Rattle.lock_scopes.specs.Acts.{acts_of, acts_with, reset_of, resize_of};
 
-    /// Joins a unit with the part in which its Commits are counted. Called once for each unit, where a host is opened.
-    pub fn new(unit: UnitState, part: Part<C>) -> CountedUnit<C>
-        requires { part.share.amount ≡ commits_of unit.steps }
+    /// Joins a unit with its parts. Called once for each unit, where a host is opened.
+    pub fn new(unit: UnitState, part: Part<W>, acts: Part<C>) -> CountedUnit<C, W>
+        requires counted { part.share.amount + commits_of unit.steps ≡ most_commits }
+        requires acted { acts.share.amount ≡ acts_of unit.steps }
     {
-        CountedUnit { unit, part }
+        CountedUnit { unit, part, acts }
     }
 
-    /// Runs a phase on the unit, and counts the Commits that it answers, for the unit and for the seat that calls.
-    /// Takes the lock of the books inside the unit's. Called in a hold of the unit's lock.
-    pub(crate) fn run<
-        R: Wait,
-        W: Ledger,
-        T,
-        X,
-        Y,
-        F: FnOnce(&mut UnitState, &mut X, &mut Y) -> (T, u64),
-    >(
+    /// Runs a phase on the unit, which is no act of the operator, and counts the Commits that it answers for the seat
+    /// that calls. Called in a hold of the unit's lock.
+    pub(crate) fn run<T, X, Y, F: FnOnce(&mut UnitState, &mut X, &mut Y) -> (T, u64)>(
         &mut self,
-        rt: &R,
-        books: &Mutex<Books<C, W>>,
         seat: &mut Part<W>,
         one: &mut X,
         other: &mut Y,
@@ -60,9 +65,77 @@ impl<C: Ledger> CountedUnit<C> {
         unit.stands();
         let (answer, commits) = phase(unit, one, other);
         unit.stands();
-        if commits != 0 {
-            hold(rt, books).record(part, seat, commits);
-        }
+        let _steps = unit.steps();
+        part.share.transfer(&mut seat.share, commits);
         (answer, commits)
+    }
+
+    /// Resets the unit for the operator (`phase_hard`), and counts that.
+    pub(crate) fn hard(
+        &mut self,
+        at: usize,
+        inventory: &Inventory,
+        acts: &mut Acts<C>,
+        out: &mut JobList,
+        waiting: &mut WaitingEvents,
+    ) -> Result<bool, ResetFault>
+        ensures did { Resets inventory.now at self.old.unit out.old waiting.old result self.new.unit out.new waiting.new }
+        ensures stands { IsUnit self.old.unit × IsUnit self.new.unit }
+        ensures made { IfOk result (λ was. acts.new
+            ≡ (if was then acts_with (reset_of (slice_get inventory.now at)) acts.old else acts.old)) }
+        ensures none { OnErr result (acts.new ≡ acts.old) }
+    {
+        let Some(address) = inventory.as_slice().get(at) else {
+            self.unit.stands();
+            return Err(ResetFault::WrongUnit);
+        };
+        let CountedUnit {
+            unit,
+            acts: count,
+            ..
+        } = self;
+        unit.stands();
+        let done = phase_hard(unit, inventory, at, out, waiting);
+        unit.stands();
+        let was_reset = done?;
+        if was_reset {
+            acts.count(count, Act::Reset(*address));
+        }
+        Ok(was_reset)
+    }
+
+    /// Gives the unit another capacity for the operator (`phase_resize`), and counts that.
+    pub(crate) fn resize(
+        &mut self,
+        at: usize,
+        inventory: &Inventory,
+        acts: &mut Acts<C>,
+        blocks: u64,
+        told: bool,
+        waiting: &mut WaitingEvents,
+    ) -> Result<bool, ResizeFault>
+        ensures did { ResizesUnit inventory.now at self.old.unit blocks told waiting.old result self.new.unit waiting.new }
+        ensures stands { IsUnit self.old.unit × IsUnit self.new.unit }
+        ensures made { IfOk result (λ was. acts.new
+            ≡ (if was then acts_with (resize_of blocks told (slice_get inventory.now at)) acts.old else acts.old)) }
+        ensures none { OnErr result (acts.new ≡ acts.old) }
+    {
+        let Some(address) = inventory.as_slice().get(at) else {
+            self.unit.stands();
+            return Err(ResizeFault::WrongUnit);
+        };
+        let CountedUnit {
+            unit,
+            acts: count,
+            ..
+        } = self;
+        unit.stands();
+        let done = phase_resize(unit, inventory, at, blocks, told, waiting);
+        unit.stands();
+        let was_resized = done?;
+        if was_resized {
+            acts.count(count, Act::Resize(*address, blocks, told));
+        }
+        Ok(was_resized)
     }
 }

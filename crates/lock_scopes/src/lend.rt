@@ -30,7 +30,7 @@ pub trait UnitLender {
         ensures { result ≡ units self.now };
 
     /// Runs a phase on the unit at a place, and on two values of the caller, which stay where they are. The phase
-    /// answers how many Commits it made, too.
+    /// answers how many Commits it made, too. It is no act of the operator.
     fn unit<T, X, Y, F: FnOnce(&mut UnitState, &mut X, &mut Y) -> (T, u64)>(
         &mut self,
         at: usize,

@@ -3,10 +3,11 @@
 //! another, which runs it in one hold of what it works on, whatever lends that.
 #![tactic(auto)]
 
+mod acting;
+mod acts;
 mod at_memory;
 mod at_queues;
 mod at_units;
-mod books;
 mod counted;
 mod gate;
 mod holding;
@@ -14,16 +15,16 @@ mod joined_queue;
 mod joined_unit;
 mod lend;
 mod locked;
+mod part;
 mod plain;
 
+pub use acting::{hard_on, resize_on};
+pub use acts::{Act, Acts};
 pub use at_memory::{peek_on, poke_on};
 pub use at_queues::{
     answer_on, answer_tmf_on, direct_on, fetch_control_on, fetch_event_on, fetch_on, raise_on,
 };
-pub use at_units::{
-    check_on, commit_on, enter_on, hard_on, leave_on, mark_on, prepare_on, resize_on,
-};
-pub use books::{Books, Part};
+pub use at_units::{check_on, commit_on, enter_on, leave_on, mark_on, prepare_on};
 pub use counted::CountedUnit;
 pub use gate::{Gate, Open, Point};
 pub use holding::hold;
@@ -31,4 +32,5 @@ pub use joined_queue::answer_fetch_on;
 pub use joined_unit::{NextJob, leave_enter_commit_on, leave_enter_on};
 pub use lend::{QueueLender, UnitLender};
 pub use locked::{LockedQueues, LockedUnits};
+pub use part::Part;
 pub use plain::Plain;

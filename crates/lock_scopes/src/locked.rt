@@ -4,10 +4,10 @@ ghost use Rattle.std.specs.Prelude.{◌≡◌, ◌+◌, length};
 ghost use Rattle.unit_model.specs.Unit.{IsUnit};
 ghost use Rattle.lock_scopes.specs.Lending.{IsQueue, IsMemory};
 
-use crate::books::{Books, Part};
 use crate::counted::CountedUnit;
 use crate::holding::hold;
 use crate::lend::{QueueLender, UnitLender};
+use crate::part::Part;
 use guest_mem::GuestMem;
 use std::sync::ledger::Ledger;
 use std::sync::{Mutex, Wait};
@@ -15,17 +15,15 @@ use unit_history::UnitState;
 use virtqueue::Queue;
 
 /// The units that threads share, each under a lock of its own. A thread holds it while one phase runs, or several that
-/// follow one another, and takes that of the books inside it at a commit. So no thread waits for a lock that waits for
-/// one of its own. No clause says what a lock held at a moment. But whenever it is free, a unit's history is lawful,
-/// its blocks and what it has pending are those of that history, and it has all Commits that were counted for it.
+/// follow one another, and takes no other meanwhile. No clause says what a lock held at a moment. But whenever it is
+/// free, a unit's history is lawful, its blocks and what it has pending are those of that history, and it has all
+/// Commits and acts of the operator that were counted for it.
 #[derive(Drop)]
 pub struct LockedUnits<'a, R: Wait, C: Ledger, W: Ledger> {
     /// The leave to wait, which a thread needs for a lock.
     pub rt: &'a R,
     /// The units by their indices in the inventory.
-    pub units: &'a [Mutex<CountedUnit<C>>],
-    /// The books of both ledgers.
-    pub books: &'a Mutex<Books<C, W>>,
+    pub units: &'a [Mutex<CountedUnit<C, W>>],
     /// The part in which the receipts of the seat that calls are counted.
     pub seat: &'a mut Part<W>,
 }
@@ -53,7 +51,7 @@ impl<'a, R: Wait, C: Ledger, W: Ledger> UnitLender for LockedUnits<'a, R, C, W> 
     ) -> (T, u64) {
         let mut held = hold(self.rt, &self.units[at]);
         let unit = &mut *held;
-        unit.run(self.rt, self.books, &mut *self.seat, one, other, phase)
+        unit.run(&mut *self.seat, one, other, phase)
     }
 }
 

@@ -20,7 +20,7 @@ use Rattle.block_store.proofs.edges.Prepared.TheSendSync as spare
 use Rattle.phases.specs.contracts.job_in_hand.JobInHand.{the_row as held_row}
 use Rattle.phases.specs.contracts.job_in_hand.JobInHand.TheInside as held
 use Rattle.phases.specs.contracts.hand.Hand.{the_field as hand_field, the_type as hand_type}
-use Rattle.lock_scopes.proofs.Crossing.{counted_unit_sends, books_sends, part_sends, queue_sends}
+use Rattle.lock_scopes.proofs.Crossing.{counted_unit_sends, part_sends, queue_sends}
 use Rattle.guest_mem.proofs.memory.GuestMem.TheSendSync as memory
 use Rattle.worker_steps.proofs.bell.Bell.TheSendSync as bell
 use Rattle.crossbeam_utils.proofs.cache_padded.CachePadded.TheSendSync as padded
@@ -96,29 +96,26 @@ handoff_sends = search (sendable, handoff_fields_send)
 -- threads may share what a host has, where they may share its gate
 pub shared_syncs : (G C W : RattleType) (c : Ghosts C.Denot) (w : Ghosts W.Denot) → IsSync G → IsSync (shared_row G C W c w)
 shared_syncs G C W c w gate = declared_sync (shared_type G C W c w) (
-  search (crosses, counted_unit_sends C c) depth 20,
+  search (crosses, counted_unit_sends C W c w) depth 20,
   (
-    search (crosses, books_sends C W c w) depth 20,
+    search (crosses, queue_sends),
     (
-      search (crosses, queue_sends),
+      search (crosses, port_sends),
       (
-        search (crosses, port_sends),
+        inventory.the_sync,
         (
-          inventory.the_sync,
+          handoff_syncs,
           (
-            handoff_syncs,
+            search (sendable, gate),
             (
-              search (sendable, gate),
+              search (sendable, crosses) depth 20,
               (
                 search (sendable, crosses) depth 20,
                 (
-                  search (sendable, crosses) depth 20,
+                  bell.the_sync,
                   (
-                    bell.the_sync,
-                    (
-                      search (sendable, crosses) depth 20,
-                      (search (crosses, padded.the_sync, memory.the_send), tt),
-                    ),
+                    search (sendable, crosses) depth 20,
+                    (search (crosses, padded.the_sync, memory.the_send), tt),
                   ),
                 ),
               ),
@@ -133,29 +130,26 @@ shared_syncs G C W c w gate = declared_sync (shared_type G C W c w) (
 -- and what one thread has of it may go to another
 pub shared_sends : (G C W : RattleType) (c : Ghosts C.Denot) (w : Ghosts W.Denot) → IsSend G → IsSend (shared_row G C W c w)
 shared_sends G C W c w gate = declared_send (shared_type G C W c w) (
-  Vec-send (mutex_row (counted_unit_row C c)) (search (crosses, counted_unit_sends C c)),
+  Vec-send (mutex_row (counted_unit_row C W c w)) (search (crosses, counted_unit_sends C W c w)),
   (
-    search (crosses, books_sends C W c w) depth 20,
+    search (crosses, queue_sends),
     (
-      search (crosses, queue_sends),
+      search (crosses, port_sends),
       (
-        search (crosses, port_sends),
+        inventory.the_send,
         (
-          inventory.the_send,
+          handoff_sends,
           (
-            handoff_sends,
+            search (sendable, gate),
             (
-              search (sendable, gate),
+              search (sendable, crosses) depth 20,
               (
                 search (sendable, crosses) depth 20,
                 (
-                  search (sendable, crosses) depth 20,
+                  bell.the_send,
                   (
-                    bell.the_send,
-                    (
-                      search (sendable, crosses) depth 20,
-                      (search (crosses, padded.the_send, memory.the_send), tt),
-                    ),
+                    search (sendable, crosses) depth 20,
+                    (search (crosses, padded.the_send, memory.the_send), tt),
                   ),
                 ),
               ),

@@ -7,7 +7,7 @@ use crossbeam_utils::CachePadded;
 use event_queue::EventPort;
 use guest_mem::GuestMem;
 use handoff::Handoff;
-use lock_scopes::{Books, CountedUnit, Gate, LockedQueues, LockedUnits, Part};
+use lock_scopes::{CountedUnit, Gate, LockedQueues, LockedUnits, Part};
 use request_intake::Inventory;
 use std::sync::atomic::{AtomicBool, AtomicU64, Ordering};
 use std::sync::ledger::Ledger;
@@ -17,8 +17,8 @@ use virtqueue::Queue;
 /// The parts of a device that threads share: its units, its queues and the memory, each under a lock. The event port
 /// has one that is taken round that of the event queue. The inventory never changes.
 #[derive(Drop)]
-pub struct Parts<C: Ledger> {
-    pub units: Vec<Mutex<CountedUnit<C>>>,
+pub struct Parts<C: Ledger, W: Ledger> {
+    pub units: Vec<Mutex<CountedUnit<C, W>>>,
     pub queues: Vec<Mutex<Queue>>,
     pub memory: Mutex<GuestMem>,
     pub port: Mutex<EventPort>,
@@ -28,15 +28,13 @@ pub struct Parts<C: Ledger> {
 /// All that the threads of a host share: the parts of their device, and what wakes and ends them. A thread takes these
 /// locks:
 ///
-/// - a unit's, with that of the books inside it at a commit;
+/// - a unit's alone;
 /// - a queue's, with the memory's inside it;
 /// - the memory's alone;
 /// - the event port's, round that of the event queue, which nobody takes without it.
 #[derive(Drop)]
 pub struct Shared<G: Gate + Drop, C: Ledger, W: Ledger> {
-    pub units: Vec<Mutex<CountedUnit<C>>>,
-    // The counts of Commits and of receipts.
-    pub books: Mutex<Books<C, W>>,
+    pub units: Vec<Mutex<CountedUnit<C, W>>>,
     pub queues: Vec<Mutex<Queue>>,
     pub(crate) port: Mutex<EventPort>,
     pub inventory: Inventory,
@@ -54,9 +52,8 @@ pub struct Shared<G: Gate + Drop, C: Ledger, W: Ledger> {
 }
 
 impl<G: Gate + Drop, C: Ledger, W: Ledger> Shared<G, C, W> {
-    /// Shares the parts of a device, at this hand-off, with books in which nothing is counted yet. No worker is to end.
-    /// Called once, where a host is started.
-    pub fn new(parts: Parts<C>, books: Books<C, W>, handoff: Handoff, gate: G) -> Shared<G, C, W>
+    /// Shares the parts of a device, at this hand-off. No worker is to end. Called once, where a host is started.
+    pub fn new(parts: Parts<C, W>, handoff: Handoff, gate: G) -> Shared<G, C, W>
         ensures handoff { result.handoff ≡ handoff }
         ensures units { vec_len result.units ≡ vec_len parts.units }
         ensures queues { vec_len result.queues ≡ vec_len parts.queues }
@@ -71,7 +68,6 @@ impl<G: Gate + Drop, C: Ledger, W: Ledger> Shared<G, C, W> {
         } = parts;
         Shared {
             units,
-            books: Mutex::new(books),
             queues,
             port,
             inventory,
@@ -97,7 +93,6 @@ impl<G: Gate + Drop, C: Ledger, W: Ledger> Shared<G, C, W> {
         LockedUnits {
             rt,
             units: self.units.as_slice(),
-            books: &self.books,
             seat,
         }
     }

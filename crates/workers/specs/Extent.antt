@@ -1,23 +1,42 @@
 -- How large a host is, and when one starts.
-use Rattle.std.specs.Prelude.{◌≡◌, ℕ, Bool, true, false, List, length, Result, Ok, Err}
+use Rattle.std.specs.Prelude.{◌≡◌, ℕ, Bool, true, false, List, [], length, Option, slice_get, map, Result, Ok, Err}
+use Rattle.scsi_codec.specs.declared.lun.Address.{Address}
 use Rattle.request_intake.specs.declared.inventory.UnitSpec.{UnitSpec}
+use Rattle.request_intake.specs.Inventory.{address_of}
+use Rattle.lock_scopes.specs.declared.acts.Act.{Act}
+use Rattle.lock_scopes.specs.Acts.{acts_with}
 use Rattle.config.specs.declared.config.Config.{Config}
 use Rattle.config.specs.declared.config.StartFault.{StartFault}
 use Rattle.config.specs.declared.config.StartFault.TheVariants.{BadConfig, NoMemory}
 use Rattle.config.specs.Config.{has_bit, is_config}
 
--- own: how many workers and queues it has, the units that it was opened with, and whether its driver is told of
--- capacities that change
+-- own: how many workers and queues it has, the units that it was opened with, whether its driver is told of capacities
+-- that change, and what its operator did to units, in order
 pub record Extent : Type 0 where
   pub workers : ℕ
   pub units : List UnitSpec
   pub queues : ℕ
   pub told : Bool
+  pub acts : List Act
 
 -- the driver is told where it agreed to VIRTIO_SCSI_F_CHANGE, bit 2 (VIRTIO 1.2 §5.6.3)
 abbrev pub extent_of : Config → Extent
 extent_of c =
-    record { workers = c.workers; units = c.units.items; queues = length c.queues.items; told = has_bit c.features 2 }
+    record {
+      workers = c.workers;
+      units = c.units.items;
+      queues = length c.queues.items;
+      told = has_bit c.features 2;
+      acts = [];
+    }
+
+-- own: the address of the unit at a place, if there is one
+abbrev pub address_at : ℕ → Extent → Option Address
+address_at place h = slice_get (map address_of h.units) place
+
+-- own: the host after one more act of its operator, if it was made
+abbrev pub with_act : Option Act → Extent → Extent
+with_act act h = record h { acts = acts_with act h.acts }
 
 -- own: the configuration with so many workers in place of its own
 abbrev pub with_workers : ℕ → Config → Config

@@ -1,8 +1,9 @@
 //! The parts of the ledgers, handed out and gathered.
 
-ghost use Rattle.std.specs.Prelude.{◌≡◌, ◌+◌, ◌≤◌, vec_len, IfOk, OnOk};
+ghost use Rattle.std.specs.Prelude.{◌≡◌, ◌+◌, ◌*◌, ◌≤◌, vec_len, IfOk, OnOk};
 ghost use Rattle.close_audit.specs.Keeping.{receipts_kept};
-ghost use Rattle.workers.specs.Ledgers.{commits_in};
+ghost use Rattle.lock_scopes.specs.Ledgers.{most_commits};
+ghost use Rattle.workers.specs.Ledgers.{commits_in, acts_in};
 
 use crate::tallied::{BlankPart, Tallied};
 use close_audit::{CloseFault, Kept};
@@ -33,22 +34,34 @@ pub(crate) fn split_off<W: Ledger>(
     Ok(parts)
 }
 
-/// Takes units out of their locks, and merges the parts of the ledger that count their Commits into a share.
-pub(crate) fn units_of<C: Ledger>(
+/// Takes units out of their locks, and merges their parts of the ledgers into shares: what counts their acts, and what
+/// they had left for Commits.
+pub(crate) fn units_of<C: Ledger, W: Ledger>(
     alloc: Global,
-    locks: Vec<Mutex<CountedUnit<C>>>,
-    share: &mut Share<C>,
+    locks: Vec<Mutex<CountedUnit<C, W>>>,
+    acts: &mut Share<C>,
+    left: &mut Share<W>,
 ) -> Result<Vec<UnitState>, AllocError>
     ensures units { IfOk result (λ units. vec_len units ≡ vec_len locks) }
-    ensures parts { OnOk result (share.new.parts ≡ share.old.parts + vec_len locks) }
-    ensures commits { IfOk result (λ units. share.new.amount ≡ share.old.amount + commits_in units.items) }
+    ensures parts { OnOk result ((acts.new.parts ≡ acts.old.parts + vec_len locks)
+        × (left.new.parts ≡ left.old.parts + vec_len locks)) }
+    ensures acts { IfOk result (λ units. acts.new.amount ≡ acts.old.amount + acts_in units.items) }
+    ensures commits { IfOk result (λ units.
+        left.new.amount + commits_in units.items ≡ left.old.amount + vec_len units * most_commits) }
 {
     let mut units = Vec::with_capacity(alloc, locks.len())?;
     for lock in locks {
-        let CountedUnit { unit, part, .. } = lock.into_inner();
-        let Part { share: counted, .. } = part;
+        let CountedUnit {
+            unit,
+            part,
+            acts: part_of_acts,
+            ..
+        } = lock.into_inner();
+        let Part { share: rest, .. } = part;
+        let Part { share: counted, .. } = part_of_acts;
         units.push_reserved(unit);
-        share.merge(counted);
+        left.merge(rest);
+        acts.merge(counted);
     }
     Ok(units)
 }

@@ -11,7 +11,7 @@ use crate::alone::unshared;
 use crate::crew::{Crew, hire};
 use crate::gathering::{kept_of, split_off, units_of};
 use crate::hired::{Begins, Worked, Works};
-use crate::opening::open_parts;
+use crate::opening::{Ledgers, open_parts};
 use crate::operating::{reset, resize};
 use crate::tallied::{BlankPart, Tallied};
 use crate::worker::{Worker, ends, work};
@@ -21,13 +21,13 @@ use config::{Config, StartFault, tells_changes};
 use event_queue::WaitingEvents;
 use guest_mem::MemFault;
 use handoff::{Handoff, Seat};
-use lock_scopes::{Books, Gate, hold, peek_on, poke_on};
+use lock_scopes::{Acts, Gate, hold, peek_on, poke_on};
 use phases::{ResetFault, ResizeFault};
 use request_intake::UnitSpec;
 use ring_core::RingFault;
 use std::alloc::{AllocError, Global};
 use std::marker::Model;
-use std::sync::ledger::{Blank, Ledger, Share};
+use std::sync::ledger::{Blank, Ledger};
 use std::sync::{Arc, Wait};
 use std::thread::Threads;
 use task_set::MOST_TASKS;
@@ -94,7 +94,7 @@ fn started<R, G, C, W>(
     alloc: Global,
     config: Config,
     gate: G,
-    commits: Blank,
+    acts: Blank,
     receipts: Blank,
 ) -> Result<Host<G, C, W>, NoMemory>
 where
@@ -103,27 +103,31 @@ where
     C: Ledger + Send + Sync + 'static,
     W: Ledger + Send + Sync + 'static,
     requires valid { is_config config ≡ true }
-    requires commits { Opens commits.name commits.parts C.name C.parts 64 }
-    requires receipts { Opens receipts.name receipts.parts W.name W.parts 9 }
+    requires acts { Opens acts.name acts.parts C.name C.parts 64 }
+    requires receipts { Opens receipts.name receipts.parts W.name W.parts 73 }
     ensures { IfOk result (λ h. h ≡ extent_of config) }
 {
     let seats = config.workers as usize + 1;
-    let (made, mut commits) = commits.open::<C>();
-    let (given, mut receipts) = receipts.open::<W>();
+    let (acts, rest) = acts.open::<C>();
+    let (book, mut receipts) = receipts.open::<W>();
     let seat_parts = split_off(alloc, &mut receipts, seats)?;
     let (handoff, seats) = Handoff::new(alloc, config.handoff as usize, seats)?;
     let limit = MOST_TASKS * config.units.len() + MOST_TASKS;
-    let parts = open_parts(alloc, &config, &mut commits)?;
-    let books = Books::new(made, given);
-    let shared = share(alloc, Shared::new(parts, books, handoff, gate))?;
+    let mut ledgers = Ledgers {
+        acts: rest,
+        receipts,
+        book,
+    };
+    let parts = open_parts(alloc, &config, &mut ledgers)?;
+    let shared = share(alloc, Shared::new(parts, handoff, gate))?;
     let (crew, post) = hire(rt, alloc, &shared, seats, seat_parts, limit)?;
     Ok(Host {
         alloc,
         shared,
         crew,
         post,
-        commits,
-        receipts,
+        acts: Acts::new(acts),
+        ledgers,
         waiting: WaitingEvents::new(alloc),
         told: tells_changes(config.features),
         specs: config.units,
@@ -144,20 +148,20 @@ pub struct Seen {
     pub broken: Option<RingFault>,
 }
 
-/// A device that threads serve. Clauses see how many workers and queues it has, the units that it was opened with, and
-/// whether its driver is told of capacities that change.
-/// Its ledger `C` counts the Commits of its units, and `W` the receipts of its workers and of the operator. A host
-/// isn't `Drop`: its starter closes it, which ends its threads.
+/// A device that threads serve. Clauses see how many workers and queues it has, the units that it was opened with,
+/// whether its driver is told of capacities that change, and what its operator did to units.
+/// Its ledger `C` counts the operator's acts. `W` counts the Commits of its units, and the receipts that its workers
+/// and the operator got for them. A host isn't `Drop`: its starter closes it, which ends its threads.
 pub struct Host<G: Gate + Drop, C: Ledger, W: Ledger> {
     alloc: Global,
     shared: Arc<Shared<G, C, W>>,
     crew: Crew<Tallied<W>>,
-    // The operator's seat, and the events that wait.
+    // The operator's seat, what the operator did, and the events that wait.
     post: Post<W>,
+    acts: Acts<C>,
     waiting: WaitingEvents,
-    // The parts of the first ledger that no unit has, and of the second that no seat has.
-    commits: Share<C>,
-    receipts: Share<W>,
+    // What is left of the ledgers: the parts that no unit and no seat has.
+    ledgers: Ledgers<C, W>,
     // True if the guest is told of capacities that change.
     told: bool,
     // The units with which its report is compared.
@@ -165,8 +169,9 @@ pub struct Host<G: Gate + Drop, C: Ledger, W: Ledger> {
 }
 
 impl<G: Gate + Drop, C: Ledger, W: Ledger> Model for Host<G, C, W> {
-    ghost use Rattle.std.specs.Prelude.{◌≡◌, ◌+◌, ◌≤◌, map, vec_len};
+    ghost use Rattle.std.specs.Prelude.{◌≡◌, ◌+◌, ◌*◌, ◌≤◌, map, vec_len};
     ghost use Rattle.std.specs.Arc.{arc_value};
+    ghost use Rattle.lock_scopes.specs.Ledgers.{most_commits};
     ghost use Rattle.request_intake.specs.Inventory.{address_of};
     ghost use Rattle.workers.specs.Crew.{IsLastSeat};
     ghost use Rattle.workers.specs.Extent.{Extent};
@@ -179,15 +184,18 @@ impl<G: Gate + Drop, C: Ledger, W: Ledger> Model for Host<G, C, W> {
       units = h.specs.items;
       queues = vec_len (arc_value h.shared).queues;
       told = h.told;
+      acts = h.acts;
     } };
 
     ghost invariant = { λ h. (vec_len (arc_value h.shared).queues ≤ 18)
         × (vec_len (arc_value h.shared).units ≡ vec_len h.specs)
         × (h.crew.hub ≡ (arc_value h.shared).handoff) × IsLastSeat (arc_value h.shared).handoff h.post.seat
         × Tallies h.post.lost h.post.part.share.amount h.post.kept h.post.hand
-        × (h.commits.parts + vec_len (arc_value h.shared).units ≡ C.parts) × (h.commits.amount ≡ 0)
-        × (h.receipts.parts + (h.crew.threads + 1) ≡ W.parts) × (h.receipts.amount ≡ 0)
-        × ((arc_value h.shared).inventory ≡ map address_of h.specs.items) };
+        × (h.ledgers.acts.parts + vec_len (arc_value h.shared).units ≡ C.parts) × (h.ledgers.acts.amount ≡ 0)
+        × (h.ledgers.receipts.parts + vec_len (arc_value h.shared).units + (h.crew.threads + 1) ≡ W.parts)
+        × (h.ledgers.receipts.amount ≡ 0)
+        × ((arc_value h.shared).inventory ≡ map address_of h.specs.items)
+        × (h.ledgers.book.total ≡ vec_len (arc_value h.shared).units * most_commits) };
 }
 
 impl<G: Gate + Drop, C: Ledger, W: Ledger> Host<G, C, W> {
@@ -199,30 +207,32 @@ impl<G: Gate + Drop, C: Ledger, W: Ledger> Host<G, C, W> {
     ghost use Rattle.workers.specs.Resetting.{WasReset};
     ghost use Rattle.workers.specs.Resizing.{ResizeFails, WasResized};
     ghost use Rattle.request_intake.specs.Inventory.{address_of};
-    ghost use Rattle.workers.specs.Ledgers.{Opens, commits_in};
+    ghost use Rattle.workers.specs.Ledgers.{Opens, commits_in, acts_in};
+    ghost use Rattle.workers.specs.Extent.{address_at, with_act};
+    ghost use Rattle.lock_scopes.specs.Acts.{reset_of, resize_of};
     ghost use Rattle.unit_model.specs.Contents.{is_capacity};
 
     /// Starts `n` workers, 1 to 8, in place of the number that the configuration has. The embedder calls it once for
     /// each host. `BadConfig` exactly where the device doesn't take such a configuration. Else `NoMemory` where a
     /// growth was refused, or a thread couldn't be made: those that were made are ended. It may wait for these.
     ///
-    /// The blanks are those of its two ledgers, with a part for each of at most 64 units, and for each of at most 9
-    /// seats. They take no bytes. The caller makes them by `Blank::new(64)` and `Blank::new(9)`.
+    /// The blanks are those of its two ledgers: with a part for each of at most 64 units, and with one for each of these
+    /// and of at most 9 seats. They take no bytes. The caller makes them by `Blank::new(64)` and `Blank::new(73)`.
     pub fn start<R: Threads + Wait + Copy + Send + 'static>(
         rt: R,
         alloc: Global,
         config: Config,
         gate: G,
         n: u16,
-        commits: Blank,
+        acts: Blank,
         receipts: Blank,
     ) -> Result<Host<G, C, W>, StartFault>
     where
         G: Send + Sync + 'static,
         C: Send + Sync + 'static,
         W: Send + Sync + 'static,
-        requires commits { Opens commits.name commits.parts C.name C.parts 64 }
-        requires receipts { Opens receipts.name receipts.parts W.name W.parts 9 }
+        requires acts { Opens acts.name acts.parts C.name C.parts 64 }
+        requires receipts { Opens receipts.name receipts.parts W.name W.parts 73 }
         ensures { Starts config n result }
     {
         let wanted = Config {
@@ -232,7 +242,7 @@ impl<G: Gate + Drop, C: Ledger, W: Ledger> Host<G, C, W> {
         if !wanted.is_valid() {
             return Err(StartFault::BadConfig);
         }
-        match started(rt, alloc, wanted, gate, commits, receipts) {
+        match started(rt, alloc, wanted, gate, acts, receipts) {
             Ok(host) => Ok(host),
             Err(NoMemory) => Err(StartFault::NoMemory),
         }
@@ -261,8 +271,11 @@ impl<G: Gate + Drop, C: Ledger, W: Ledger> Host<G, C, W> {
     /// that isn't there changes nothing. Wakes the workers that sleep. `NoMemory` where a growth was refused. `WrongUnit`
     /// where the unit that was lent hasn't the address of that index, which no host of this crate lends. The unit wasn't
     /// reset then. It may wait, and run commands.
+    ///
+    /// A reset is one more act, of the unit of that index, and no other call than this and `resize` adds one.
     pub fn operator<R: Wait>(&mut self, rt: &R, place: u16) -> Result<(), ResetFault>
-        ensures same { self.new ≡ self.old }
+        ensures acts { OnOk result (self.new ≡ with_act (reset_of (address_at place self.old)) self.old) }
+        ensures same { OnErr result (self.new ≡ self.old) }
         ensures reset { OnOk result (place < length self.old.units →
             WasReset (map address_of self.old.units) place) }
         ensures there { OnErr result (place < length self.old.units) }
@@ -271,6 +284,7 @@ impl<G: Gate + Drop, C: Ledger, W: Ledger> Host<G, C, W> {
             rt,
             &*self.shared,
             place as usize,
+            &mut self.acts,
             &mut self.post,
             &mut self.waiting,
         );
@@ -282,8 +296,12 @@ impl<G: Gate + Drop, C: Ledger, W: Ledger> Host<G, C, W> {
     /// tells the guest (PARAM_CHANGE) where its driver agreed to `CHANGE`. A unit that isn't there changes nothing.
     /// Wakes the workers that sleep. `BadCapacity` for 0 and for more than 2^40 blocks, `NoMemory` where a growth was
     /// refused, `WrongUnit` as of [`Host::operator`]: the unit wasn't resized then. It may wait.
+    ///
+    /// A resize is one more act, of the unit of that index.
     pub fn resize<R: Wait>(&mut self, rt: &R, place: u16, blocks: u64) -> Result<(), ResizeFault>
-        ensures same { self.new ≡ self.old }
+        ensures acts { OnOk result (self.new
+            ≡ with_act (resize_of blocks self.old.told (address_at place self.old)) self.old) }
+        ensures same { OnErr result (self.new ≡ self.old) }
         ensures good { OnOk result (is_capacity blocks ≡ true) }
         ensures resized { OnOk result (place < length self.old.units →
             WasResized (map address_of self.old.units) place blocks self.old.told) }
@@ -296,7 +314,7 @@ impl<G: Gate + Drop, C: Ledger, W: Ledger> Host<G, C, W> {
             place as usize,
             blocks,
             told,
-            &mut self.post,
+            &mut self.acts,
             &mut self.waiting,
         );
         self.shared.bell.ring(rt);
@@ -333,6 +351,7 @@ impl<G: Gate + Drop, C: Ledger, W: Ledger> Host<G, C, W> {
         ensures units { IfOk result (λ r. vec_len r.units ≡ length self.units) }
         ensures queues { IfOk result (λ r. vec_len r.queues ≡ self.queues) }
         ensures even { IfOk result (λ r. commits_in r.units.items ≡ vec_len r.receipts) }
+        ensures acts { IfOk result (λ r. acts_in r.units.items ≡ length self.acts) }
     {
         self.shared.abandon();
         self.close(rt)
@@ -348,22 +367,24 @@ impl<G: Gate + Drop, C: Ledger, W: Ledger> Host<G, C, W> {
     ///
     /// `NoMemory` where a growth was refused.
     ///
-    /// The Commits of all units are as many as the receipts. The two ledgers prove that, where no look at the report
-    /// could tell. So no unit's lock was given a history with fewer Commits than it had lent.
+    /// The Commits of all units are as many as the receipts, and the hard resets and resizes in their histories as many as
+    /// the operator's acts. The two ledgers prove that, where no look at the report could tell. So no unit's lock was
+    /// given a history with fewer Commits or acts than it had lent.
     pub fn close<R: Threads + Wait>(self, rt: &R) -> Result<Report, CloseFault>
         ensures report { IfOk result (λ r. IsReport self.units r.units.items r.queues.items r.receipts.items r.notes.items) }
         ensures units { IfOk result (λ r. vec_len r.units ≡ length self.units) }
         ensures queues { IfOk result (λ r. vec_len r.queues ≡ self.queues) }
         ensures even { IfOk result (λ r. commits_in r.units.items ≡ vec_len r.receipts) }
+        ensures acts { IfOk result (λ r. acts_in r.units.items ≡ length self.acts) }
     {
         let Host {
             alloc,
             shared,
             crew,
             mut post,
+            mut acts,
             waiting: _,
-            mut commits,
-            mut receipts,
+            ledgers,
             told: _,
             specs,
         } = self;
@@ -375,18 +396,23 @@ impl<G: Gate + Drop, C: Ledger, W: Ledger> Host<G, C, W> {
         };
         let Shared {
             units,
-            books,
             queues,
             memory,
             handoff,
             ..
         } = unshared(rt, shared);
         handoff.gather(seats);
-        let Ok(units) = units_of(alloc, units, &mut commits) else {
+        let Ledgers {
+            acts: mut counted,
+            mut receipts,
+            mut book,
+        } = ledgers;
+        let Ok(units) = units_of(alloc, units, &mut counted, &mut receipts) else {
             return Err(CloseFault::NoMemory);
         };
         let kept = kept_of(alloc, all, &mut receipts)?;
-        books.into_inner().audit(&mut commits, &mut receipts);
+        acts.audit(&mut counted);
+        book.audit(&mut receipts);
         let memory = memory.into_inner();
         report_closed(alloc, specs.as_slice(), units, queues, memory, kept)
     }

@@ -1,40 +1,47 @@
 //! The operator's acts on the units of a host.
 
-ghost use Rattle.std.specs.Prelude.{◌≡◌, ◌<◌, true, vec_len, IfOk, IfErr, OnOk, OnErr};
+ghost use Rattle.std.specs.Prelude.{◌≡◌, ◌<◌, true, vec_len, slice_get, IfOk, IfErr, OnOk, OnErr, if◌then◌else◌};
 ghost use Rattle.std.specs.Bool.{OnTrue};
 ghost use Rattle.handoff.specs.Seats.{IsSeatOf, IsSameSeat};
 ghost use Rattle.unit_model.specs.Contents.{is_capacity};
+ghost use Rattle.lock_scopes.specs.Acts.{acts_with, reset_of, resize_of};
 ghost use Rattle.worker_steps.specs.Tallying.{Tallies};
 ghost use Rattle.workers.specs.Resetting.{WasReset};
 ghost use Rattle.workers.specs.Resizing.{ResizeFails, WasResized};
 
 use event_queue::WaitingEvents;
-use lock_scopes::{Gate, hard_on, resize_on};
+use lock_scopes::{Acts, Gate, hard_on, resize_on};
 use phases::{ResetFault, ResizeFault};
 use std::sync::Wait;
 use std::sync::ledger::Ledger;
 use unit_history::is_capacity;
 use worker_steps::{Post, Shared, drain, raise};
 
-/// Resets a unit, in one hold of its lock. Returns true if it did: not where the list has no room for the jobs that this
-/// releases. It fails as the phase does.
+/// Resets a unit, in one hold of its lock, which is an act. Returns true if it did: not where the list has no room for
+/// the jobs that this releases. It fails as the phase does.
 fn reset_one<R: Wait, G: Gate + Drop, C: Ledger, W: Ledger>(
     rt: &R,
     shared: &Shared<G, C, W>,
     at: usize,
+    acts: &mut Acts<C>,
     post: &mut Post<W>,
     waiting: &mut WaitingEvents,
 ) -> Result<bool, ResetFault>
     requires at { at < vec_len shared.now.units }
     requires tally { Tallies post.old.lost post.old.part.share.amount post.old.kept post.old.hand }
+    ensures made { IfOk result (λ was. acts.new
+        ≡ (if was then acts_with (reset_of (slice_get shared.now.inventory at)) acts.old else acts.old)) }
+    ensures none { OnErr result (acts.new ≡ acts.old) }
     ensures reset { IfOk result (λ was. OnTrue was (WasReset shared.now.inventory at)) }
     ensures seat { post.new.seat ≡ post.old.seat }
     ensures tally { Tallies post.new.lost post.new.part.share.amount post.new.kept post.new.hand }
 {
     match hard_on(
-        &mut shared.units(rt, &mut post.part),
+        rt,
+        shared.units.as_slice(),
         at,
         &shared.inventory,
+        acts,
         &mut post.out,
         waiting,
     ) {
@@ -50,6 +57,7 @@ pub(crate) fn reset<R: Wait, G: Gate + Drop, C: Ledger, W: Ledger>(
     rt: &R,
     shared: &Shared<G, C, W>,
     at: usize,
+    acts: &mut Acts<C>,
     post: &mut Post<W>,
     waiting: &mut WaitingEvents,
 ) -> Result<(), ResetFault>
@@ -57,6 +65,10 @@ pub(crate) fn reset<R: Wait, G: Gate + Drop, C: Ledger, W: Ledger>(
     requires tally { Tallies post.old.lost post.old.part.share.amount post.old.kept post.old.hand }
     ensures seat { IsSameSeat post.old.seat post.new.seat }
     ensures tally { Tallies post.new.lost post.new.part.share.amount post.new.kept post.new.hand }
+    ensures made { OnOk result (at < vec_len shared.now.units →
+        acts.new ≡ acts_with (reset_of (slice_get shared.now.inventory at)) acts.old) }
+    ensures absent { OnOk result ((at < vec_len shared.now.units → ⊥) → acts.new ≡ acts.old) }
+    ensures none { OnErr result (acts.new ≡ acts.old) }
     ensures reset { OnOk result (at < vec_len shared.now.units → WasReset shared.now.inventory at) }
     ensures there { OnErr result (at < vec_len shared.now.units) }
 {
@@ -67,7 +79,7 @@ pub(crate) fn reset<R: Wait, G: Gate + Drop, C: Ledger, W: Ledger>(
     if !post.is_idle() {
         return Err(ResetFault::NoMemory);
     }
-    if !reset_one(rt, shared, at, post, waiting)? {
+    if !reset_one(rt, shared, at, acts, post, waiting)? {
         return Err(ResetFault::NoMemory);
     }
     raise(rt, shared, waiting);
@@ -75,28 +87,30 @@ pub(crate) fn reset<R: Wait, G: Gate + Drop, C: Ledger, W: Ledger>(
     Ok(())
 }
 
-/// Gives a unit so many blocks, in one hold of its lock. Answers as the phase does.
+/// Gives a unit so many blocks, in one hold of its lock, which is an act. Answers as the phase does.
 fn resize_one<R: Wait, G: Gate + Drop, C: Ledger, W: Ledger>(
     rt: &R,
     shared: &Shared<G, C, W>,
     at: usize,
     blocks: u64,
     told: bool,
-    post: &mut Post<W>,
+    acts: &mut Acts<C>,
     waiting: &mut WaitingEvents,
 ) -> Result<bool, ResizeFault>
     requires at { at < vec_len shared.now.units }
     requires capacity { is_capacity blocks ≡ true }
-    requires tally { Tallies post.old.lost post.old.part.share.amount post.old.kept post.old.hand }
-    ensures seat { post.new.seat ≡ post.old.seat }
-    ensures tally { Tallies post.new.lost post.new.part.share.amount post.new.kept post.new.hand }
+    ensures made { IfOk result (λ was. acts.new
+        ≡ (if was then acts_with (resize_of blocks told (slice_get shared.now.inventory at)) acts.old else acts.old)) }
+    ensures none { OnErr result (acts.new ≡ acts.old) }
     ensures resized { IfOk result (λ was. OnTrue was (WasResized shared.now.inventory at blocks told)) }
     ensures cause { IfErr result (λ fault. ResizeFails blocks fault) }
 {
     match resize_on(
-        &mut shared.units(rt, &mut post.part),
+        rt,
+        shared.units.as_slice(),
         at,
         &shared.inventory,
+        acts,
         blocks,
         told,
         waiting,
@@ -115,12 +129,13 @@ pub(crate) fn resize<R: Wait, G: Gate + Drop, C: Ledger, W: Ledger>(
     at: usize,
     blocks: u64,
     told: bool,
-    post: &mut Post<W>,
+    acts: &mut Acts<C>,
     waiting: &mut WaitingEvents,
 ) -> Result<(), ResizeFault>
-    requires tally { Tallies post.old.lost post.old.part.share.amount post.old.kept post.old.hand }
-    ensures seat { post.new.seat ≡ post.old.seat }
-    ensures tally { Tallies post.new.lost post.new.part.share.amount post.new.kept post.new.hand }
+    ensures made { OnOk result (at < vec_len shared.now.units →
+        acts.new ≡ acts_with (resize_of blocks told (slice_get shared.now.inventory at)) acts.old) }
+    ensures absent { OnOk result ((at < vec_len shared.now.units → ⊥) → acts.new ≡ acts.old) }
+    ensures none { OnErr result (acts.new ≡ acts.old) }
     ensures good { OnOk result (is_capacity blocks ≡ true) }
     ensures resized { OnOk result (at < vec_len shared.now.units → WasResized shared.now.inventory at blocks told) }
     ensures cause { IfErr result (λ fault. ResizeFails blocks fault) }
@@ -131,7 +146,7 @@ pub(crate) fn resize<R: Wait, G: Gate + Drop, C: Ledger, W: Ledger>(
     if shared.units.len() <= at {
         return Ok(());
     }
-    if !resize_one(rt, shared, at, blocks, told, post, waiting)? {
+    if !resize_one(rt, shared, at, blocks, told, acts, waiting)? {
         return Err(ResizeFault::NoMemory);
     }
     raise(rt, shared, waiting);

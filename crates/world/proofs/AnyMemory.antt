@@ -4,11 +4,11 @@ use Rattle.std.specs.Prelude.{⊤}
 use Rattle.std.specs.List.{AllByRecursion}
 use Rattle.device_model.specs.World.{PlainWorld}
 use Rattle.device_model.specs.Events.{Event}
-use Rattle.device_model.specs.Applies.{Applies, MayPut, MayTake, MayMark, MayCheck, MayRespond}
-use Rattle.device_model.specs.Order.{each, of_seat, fetch_of, order_by, IsFirstOf, IsNextOf, IsQuietOf, NoneApplies}
+use Rattle.device_model.specs.Applies.{Applies}
+use Rattle.device_model.specs.Order.{each, of_seat, fetch_of, order_by, IsFirstOf, IsNextOf, NoneApplies}
 use Rattle.device_model.specs.Live.{with_memory, IsNextLive}
 use Rattle.world.specs.Apart.{PlainDevice, standing}
-use Rattle.world.specs.Inner.Cursors.{of_function, NoStart, NoDirectBelow, NoSeat, NoEnterBelow, NoneBefore}
+use Rattle.world.specs.Inner.Cursors.{of_function, NoStart, NoSeat, NoneBefore}
 use Rattle.world.specs.declared.cursor.Cursor.{Cursor}
 use Rattle.world.specs.declared.cursor.Cursor.TheVariants as cursor
 

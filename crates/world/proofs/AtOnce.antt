@@ -1,6 +1,6 @@
 -- A request that is served at once: seven events, each the first that applies, one after another.
 use Rattle.std.proofs.Common.{◌≡◌, ◌≤◌, ◌<◌, ◌+◌, ◌*◌, ℕ, zero, suc, Bool, true, false, List, [], ◌∷◌, length, Option, Some, None, Ok, refl, sym, ap, ◌∙◌, subst, inl, inr, arith}
-use Rattle.std.specs.Prelude.{slice_get, slice_set, map, drop, ⊤}
+use Rattle.std.specs.Prelude.{slice_get, slice_set, map, drop}
 use Rattle.std.specs.List.{AllByRecursion}
 use Rattle.std.proofs.lemmas.Option.{slice_get_within}
 use Rattle.unit_model.specs.Jobs.{PlainJob, Jobs}
@@ -28,7 +28,7 @@ use Rattle.world.specs.Kept.{KeptSeat, seat_of}
 use Rattle.world.specs.Sound.{IsWhole}
 use Rattle.world.specs.Inner.Sound.{AreSound, IsSound}
 use Rattle.world.specs.Settling.{ServesBy}
-use Rattle.world.specs.LiveServing.{IsNoticedBy, CompletesNone, TakesNoChain, FollowsSeen}
+use Rattle.world.specs.LiveServing.{IsNoticedBy, TakesNoChain, FollowsSeen}
 use Rattle.world.specs.Inner.Cursors.{MayServe, served_of, StepsNext, Sees, TurnsBy, TurnsFirst, NoneBefore, NoneBeforeFetch, NoFetchBelow, NoSeat, NoEnter, NoSeatBelow}
 use Rattle.world.specs.declared.cursor.Cursor.{Cursor}
 use Rattle.world.specs.declared.cursor.Cursor.TheVariants as cursor

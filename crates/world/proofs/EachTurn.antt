@@ -1,11 +1,10 @@
 -- What an event's turn in a memory that others may write too says of the order.
-use Rattle.std.proofs.Common.{◌≡◌, inl, inr, ℕ, ◌+◌, ◌≤◌, ◌<◌, Bool, true, false, List, [], ◌∷◌, length, Option, Some, None, Result, Ok, Err, refl, sym, ap, ◌∙◌, subst, arith}
-use Rattle.std.specs.Prelude.{⊤}
+use Rattle.std.proofs.Common.{◌≡◌, inl, inr, ℕ, ◌+◌, ◌≤◌, Bool, true, false, List, Option, Some, None, Result, Ok, Err, refl, sym, ap, ◌∙◌, subst, arith}
 use Rattle.block_store.specs.declared.NoMemory.{NoMemory}
 use Rattle.device_model.specs.Parts.{Completion}
 use Rattle.device_model.specs.World.{PlainWorld}
 use Rattle.device_model.specs.Events.{Event}
-use Rattle.device_model.specs.Transitions.{Transition, event_of, completion_of}
+use Rattle.device_model.specs.Transitions.{completion_of}
 use Rattle.device_model.specs.Happens.{MayWant}
 use Rattle.device_model.specs.Applies.{Applies}
 use Rattle.device_model.specs.Order.{IsFirstOf, IsQuietOf, NoneApplies}
@@ -16,11 +15,11 @@ use Rattle.world.specs.Settling.{order_for, ServesBy, MayWantFirst}
 use Rattle.world.specs.Inner.Sound.{IsSound}
 use Rattle.world.specs.Apart.{PlainDevice, standing, FitsIn, TurnsInOrWants}
 use Rattle.world.specs.Inner.Apart.{TurnsIn, TurnsAlone}
-use Rattle.world.specs.LiveServing.{IsNoticedBy, CompletesNone, AreNoticed, ServesSeen, FollowsSeen, TakesNoChain, DoneIn, TakesAndServes, ServesInPhase}
-use Rattle.world.specs.Inner.Cursors.{TurnsBy, TurnsFirst, StepsNext, ServesNext, TurnsNext, Sees, IsReadyIn, AtEach, FindsIn, TurnsFirstIn, TurnsFirstAlone, ServesNextIn, TurnsNextIn, FetchesOn, NoneBefore}
+use Rattle.world.specs.LiveServing.{IsNoticedBy, ServesSeen, FollowsSeen, ServesInPhase}
+use Rattle.world.specs.Inner.Cursors.{TurnsBy, TurnsFirst, StepsNext, TurnsNext, Sees, IsReadyIn, AtEach, FindsIn, TurnsFirstIn, TurnsFirstAlone, ServesNextIn, TurnsNextIn, FetchesOn}
 use Rattle.world.specs.declared.cursor.Cursor.{Cursor}
 use Rattle.world.specs.declared.cursor.Progress.{Progress}
-use Rattle.world.proofs.InMemory.{each_before, each_from, alone_in, NeedsNone, alone_seen}
+use Rattle.world.proofs.InMemory.{each_before, each_from, NeedsNone, alone_seen}
 use Rattle.world.proofs.Choosing.{taken}
 use Rattle.world.proofs.AnyMemory.{before_any}
 use Rattle.world.proofs.Sequences.{serves_one, serves_more}

@@ -4,7 +4,6 @@ use Rattle.std.specs.List.{sum_by}
 use Rattle.std.proofs.lemmas.List.Sums.{sum_by-cons}
 use Rattle.block_store.specs.declared.NoMemory.{NoMemory}
 use Rattle.device_model.specs.World.{PlainWorld}
-use Rattle.device_model.specs.Events.{Event}
 use Rattle.device_model.specs.Transitions.{Transition, event_of}
 use Rattle.device_model.specs.After.{after}
 use Rattle.device_model.specs.Happens.{Happens, Occurrence, Reached, world_of}
@@ -20,7 +19,7 @@ use Rattle.world.specs.Sound.{IsReached, IsSteady}
 use Rattle.world.specs.LiveWorld.{PlainLive, IsSteadyIn}
 use Rattle.world.specs.LiveServing.{ServesInPhase, ServesLiveBy, HasNone, HasNext, Looks, event_at, GoesOnServedLive}
 use Rattle.world.specs.Inner.Cursors.{Denies, NoneBefore, TurnsNextIn}
-use Rattle.world.specs.Inner.Rounds.{RoundsNext, TurnsRound, LeavesBy, SettledLive, SettlesNext}
+use Rattle.world.specs.Inner.Rounds.{TurnsRound, LeavesBy, SettledLive, SettlesNext}
 use Rattle.world.specs.declared.cursor.Cursor.{Cursor}
 use Rattle.world.specs.declared.cursor.Progress.{Progress}
 use Rattle.world.proofs.AnyMemory.{next_live}

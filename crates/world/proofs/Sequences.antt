@@ -1,6 +1,6 @@
 -- Runs of the device by a list of events, and by settling.
 use Rattle.std.proofs.Common.{◌≡◌, ℕ, zero, suc, ◌+◌, Bool, true, false, if◌then◌else◌, List, [], ◌∷◌, ◌++◌, map, take, length, Some, refl, sym, ap, true≢false, subst, ◌∙◌, arith}
-use Rattle.std.specs.Prelude.{◌<◌, ◌≤◌, slice_get, get_or, reverse}
+use Rattle.std.specs.Prelude.{◌<◌, slice_get, get_or, reverse}
 use Rattle.std.proofs.lemmas.List.{map-append, reverse-append, length-append}
 use Rattle.device_model.specs.World.{PlainWorld}
 use Rattle.device_model.specs.Events.{plain_event}

@@ -1,5 +1,5 @@
 -- A device in live memory that asks each of its queues.
-use Rattle.std.proofs.Common.{◌≡◌, ℕ, ◌≤◌, Bool, List, length, ◌∙◌, subst, arith}
+use Rattle.std.proofs.Common.{ℕ, ◌≤◌, Bool, List, length, ◌∙◌, subst, arith}
 use Rattle.device_model.specs.World.{PlainWorld}
 use Rattle.device_model.specs.Order.{NoneApplies}
 use Rattle.world.specs.Apart.{PlainDevice, standing}

@@ -194,6 +194,7 @@ SettlesLiveOrWants {X} shared begins may_be x (Ok count) y = SettlesLive shared 
 SettlesLiveOrWants {X} shared begins may_be x (Err fault) y = SettlesLiveInPart shared begins may_be x y
 
 abbrev pub SettlesPromised : Bool → ℕ → PlainDevice → Result ℕ NoMemory → PlainDevice → Type 0
-SettlesPromised shared size d (Ok count) d' = (asked : ℕ → Bool) × AsksEach asked d × GoesOnServedLive asked shared size d count d'
+SettlesPromised shared size d (Ok count) d' =
+    (asked : ℕ → Bool) × AsksEach asked d × GoesOnServedLive asked shared size d count d'
 SettlesPromised shared size d (Err fault) d' =
     (asked : ℕ → Bool) × AsksEach asked d × ((count : ℕ) × GoesOnServedLive asked shared size d count d')

@@ -31,9 +31,15 @@ impl World {
     /// changed, exactly where there is no such queue or a fault broke it. In the trace this is a Poke, with the bytes
     /// that VIRTIO names (`asking` in `ring_core/specs/Asking.antt`). It takes no memory. The promise is kept as by `step`.
     ///
-    /// A host that waits for notifications calls it behind a `serve` that left nothing: it asks each queue for the next
-    /// chain, and serves once more. Only then it waits. Of a chain that came before the driver could see what was asked
-    /// the driver notifies nobody. A host that polls asks for none.
+    /// A host that waits for notifications does these three in turn:
+    ///
+    /// 1. It calls `serve` until nothing is left.
+    /// 2. It asks each queue for the next chain.
+    /// 3. It calls `serve` once more: a driver that made a chain available before it could see what was asked notifies
+    ///    nobody. Where that call took a step, the host begins again at 2, since the next chain is another one now. Else it
+    ///    waits.
+    ///
+    /// A host that polls asks for none.
     pub fn ask(&mut self, number: u16, notify: Notify) -> bool
         ensures asks { Asks self.old (asking_at self.old.queues number notify) result self.new }
         ensures promise { AsksAsPromised self.old (asking_at self.old.queues number notify) self.new }

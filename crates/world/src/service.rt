@@ -5,8 +5,9 @@ ghost use Rattle.std.specs.Prelude.{◌≡◌, ◌≤◌, ◌<◌, ℕ, Bool, Li
 ghost use Rattle.device_model.specs.Order.{of_seat};
 ghost use Rattle.device_model.specs.Parts.{Hand};
 ghost use Rattle.device_model.specs.Phases.{HasHand};
-ghost use Rattle.world.specs.Inner.Cursors.{TurnsFirstIn, of_function, TurnsNextIn, FetchesOn, MayServe, NoneBefore, NoneBeforeFetch, NoFetchBelow, EntersNext, FetchesNext, LeavesNext};
-ghost use Rattle.world.specs.Inner.Cursors.{NoStart, NoDirect, NoSeat, IsReadyIn, AtEach, FindsIn, TurnsFirstAlone};
+ghost use Rattle.world.specs.Inner.Cursors.{TurnsFirstIn, TurnsFirstAlone, of_function, TurnsNextIn, FetchesOn, MayServe, IsReadyIn};
+ghost use Rattle.world.specs.Inner.Cursors.{AtEach, FindsIn, NoStart, NoDirect, NoSeat, NoneBefore, NoneBeforeFetch, NoFetchBelow};
+ghost use Rattle.world.specs.Inner.Cursors.{EntersNext, FetchesNext, LeavesNext};
 ghost use Rattle.world.specs.Settling.{asks, asks_all};
 ghost use Rattle.world.specs.Apart.{standing, FitsIn};
 ghost use Rattle.world.specs.Inner.Sound.{IsSound};
@@ -24,7 +25,7 @@ use guest_mem::{Memory, WritableMemory};
 use phases::{Slot, Taken, serve_request_in, take_request_in};
 use scsi_codec::{CONTROL_QUEUE, EVENT_QUEUE, FIRST_REQUEST_QUEUE};
 
-/// The outcome of a call of `World::serve`.
+/// The outcome of a call of `World::serve` or `LiveWorld::serve`.
 #[derive(Clone, Copy)]
 pub struct Served {
     /// The number of events that changed something.
@@ -67,7 +68,8 @@ impl Device {
     /// Takes a step of a seat: which one is seen by its hand alone, unless that is empty.
     fn turn_seat<M: WritableMemory>(&mut self, memory: &mut M, number: u16) -> bool
         requires ready { IsReadyIn (M.is_open memory.old) M.shared (M.may_be memory.old) (M.extent memory.old) self.old }
-        ensures turns { TurnsFirstIn M.shared (M.may_be memory.old) (M.may_be memory.new) (of_seat number) self.old result self.new }
+        ensures turns { TurnsFirstIn M.shared (M.may_be memory.old) (M.may_be memory.new) (of_seat number) self.old result
+            self.new }
         ensures reading { M.is_open memory.new }
         ensures size { M.extent memory.new ≡ M.extent memory.old }
     {

@@ -32,7 +32,8 @@ impl<M: WritableMemory> LiveWorld<M> {
     }
 
     /// Asks the driver of a queue to notify the device of the next chain, or of none, as `World::ask` does: in a phase of
-    /// its own. Returns false, with nothing changed, exactly where there is no such queue or a fault broke it.
+    /// its own. Returns false, with nothing changed, exactly where there is no such queue or a fault broke it. What the
+    /// next phase reads is no older than the write, on a bus that begins each phase with a full barrier.
     pub fn ask(&mut self, number: u16, notify: Notify) -> bool
         ensures size { M.extent self.new.memory ≡ M.extent self.old.memory }
         ensures asks { AsksLive M.shared M.begins M.may_be self.old

@@ -1,4 +1,4 @@
-use Rattle.std.proofs.Common.{◌≡◌, false, ◌∙◌, refl, sym, ap, subst, length, arith}
+use Rattle.std.proofs.Common.{◌≡◌, ◌∙◌, refl, sym, ap, subst, length, arith}
 use Rattle.device_model.specs.Events.{Event}
 use Rattle.device_model.specs.Applies.{Applies}
 use Rattle.world.specs.Apart.{PlainDevice, standing}
@@ -8,7 +8,7 @@ use Rattle.world.proofs.Choosing.{and_next}
 use Rattle.world.specs.declared.cursor.Cursor.TheVariants as cursor
 use Rattle.world.specs.Settling.{asks}
 use Rattle.world.proofs.InMemory.{each_before, each_from}
-use Rattle.world.proofs.EachTurn.{did_in, idle_in, one_in, still_at, still_ready, turns_before}
+use Rattle.world.proofs.EachTurn.{did_in, idle_in, one_in, still_ready, turns_before}
 use Rattle.world.proofs.Woken.{directs_from, directs_past, direct_next}
 use Rattle.world.proofs.device.Device.from_direct.Goals as goal
 

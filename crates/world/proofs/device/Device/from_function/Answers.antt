@@ -1,4 +1,4 @@
-use Rattle.std.proofs.Common.{◌≡◌, ◌∙◌, refl, sym, subst}
+use Rattle.std.proofs.Common.{◌∙◌, sym, subst}
 use Rattle.device_model.specs.Events.{Event}
 use Rattle.world.specs.Apart.{standing}
 use Rattle.world.specs.Inner.Apart.{TurnsIn}

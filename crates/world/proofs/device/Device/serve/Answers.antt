@@ -2,7 +2,7 @@ use Rattle.std.proofs.Common.{ℕ, List, false, ◌∷◌, ◌≡◌, ◌∙◌,
 use Rattle.std.specs.Prelude.{slice_get, slice_set, map, drop}
 use Rattle.std.proofs.lemmas.Option.{slice_get_read, slice_get_within}
 use Rattle.std.proofs.lemmas.List.{length-map}
-use Rattle.device_model.specs.World.{PlainQueue, PlainWorld}
+use Rattle.device_model.specs.World.{PlainQueue}
 use Rattle.device_model.specs.Parts.{Slot, Hand}
 use Rattle.phases.proofs.Behind.{each_read}
 use Rattle.phases.specs.Slots.{slot_of}
@@ -17,7 +17,7 @@ use Rattle.world.specs.Inner.Steps.{TurnsOrWants}
 use Rattle.world.specs.Apart.{PlainDevice, standing, FitsIn}
 use Rattle.world.specs.Sound.{IsWhole}
 use Rattle.world.specs.LiveServing.{ServesSeen, FollowsSeen}
-use Rattle.world.specs.Inner.Cursors.{MayServe, StepsNext, Sees, ServesNextIn, NoneBefore, NoneBeforeFetch, NoFetchBelow, served_of}
+use Rattle.world.specs.Inner.Cursors.{MayServe, StepsNext, Sees, ServesNextIn, NoneBeforeFetch, NoFetchBelow, served_of}
 use Rattle.world.specs.contracts.device.Device.{the_view}
 use Rattle.world.specs.contracts.bay.Bay as bay
 use Rattle.world.specs.contracts.seat.Seat as seat

@@ -1,4 +1,3 @@
-use Rattle.std.proofs.Common.{refl}
 use Rattle.device_model.specs.Events.{Event}
 use Rattle.world.specs.Apart.{standing}
 use Rattle.world.specs.Inner.Cursors.{StepsNext, Sees, TurnsBy}

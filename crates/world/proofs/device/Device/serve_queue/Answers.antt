@@ -1,4 +1,4 @@
-use Rattle.std.proofs.Common.{◌≡◌, ◌∙◌, refl, sym}
+use Rattle.std.proofs.Common.{◌∙◌, refl, sym}
 use Rattle.world.specs.Settling.{asks}
 use Rattle.world.proofs.EachTurn.{fetches_before, still_ready}
 use Rattle.world.proofs.Looks.{false_true}

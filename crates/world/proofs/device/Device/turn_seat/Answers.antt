@@ -1,10 +1,9 @@
-use Rattle.std.proofs.Common.{◌≡◌, ◌∙◌, false, [], None, refl, sym, ap, subst, length, arith}
-use Rattle.std.specs.Prelude.{slice_get, map}
+use Rattle.std.proofs.Common.{◌≡◌, ◌∙◌, false, [], refl, sym, subst, length, arith}
 use Rattle.device_model.specs.Events.{Event}
 use Rattle.device_model.specs.Phases.{HasHand}
 use Rattle.device_model.specs.Order.{of_seat}
 use Rattle.world.specs.Apart.{PlainDevice, standing}
-use Rattle.world.specs.Kept.{KeptSeat, seat_of}
+use Rattle.world.specs.Kept.{KeptSeat}
 use Rattle.world.specs.contracts.device.Device.{the_view}
 use Rattle.world.proofs.InMemory.{alone_in}
 use Rattle.world.proofs.Seats.{found, shown}

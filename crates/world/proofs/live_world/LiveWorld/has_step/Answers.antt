@@ -1,4 +1,4 @@
-use Rattle.std.proofs.Common.{◌≡◌, ◌∙◌, ℕ, List, length, refl, sym, subst}
+use Rattle.std.proofs.Common.{◌∙◌, refl, sym, subst}
 use Rattle.world.specs.Apart.{FitsIn, standing}
 use Rattle.world.specs.Settling.{asks}
 use Rattle.world.proofs.Lively.{fits_live, few_live}

@@ -1,8 +1,7 @@
-use Rattle.std.proofs.Common.{◌≡◌, ◌∙◌, ◌+◌, ℕ, List, false, length, refl, sym, ap, subst, arith, true≢false}
+use Rattle.std.proofs.Common.{◌∙◌, ◌+◌, refl, sym, subst, arith, true≢false}
 use Rattle.std.proofs.lemmas.Bool.Decides.{nat_tests}
-use Rattle.world.specs.Apart.{PlainDevice, standing}
-use Rattle.world.specs.LiveServing.{Looks, HasNext, HasNone}
-use Rattle.world.specs.Inner.Rounds.{SettledLive, SettlesNext}
+use Rattle.world.specs.Apart.{standing}
+use Rattle.world.specs.Inner.Rounds.{SettledLive}
 use Rattle.world.specs.Settling.{asks}
 use Rattle.world.proofs.Rounds.{rounds_none, rounds_next, settled_none, goes_on_served, looks_next, looks_none}
 use Rattle.world.proofs.live_world.LiveWorld.serve.Goals as goal

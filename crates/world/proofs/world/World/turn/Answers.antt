@@ -1,4 +1,4 @@
-use Rattle.std.proofs.Common.{◌∙◌, false, refl, sym, subst}
+use Rattle.std.proofs.Common.{false, refl, sym, subst}
 use Rattle.world.specs.Apart.{standing}
 use Rattle.world.specs.Sound.{IsWhole}
 use Rattle.world.specs.Inner.Cursors.{NoneBefore}
