@@ -33,9 +33,13 @@ def is_inner(definition):
 
 
 class Reached:
-    """Definitions, types and traits, each with what it rests on."""
+    """Definitions, types and traits, each with what it rests on.
 
-    def __init__(self, specs=None):
+    With `looks`, a view shows also the fields that the definitions which it names read of its type.
+    """
+
+    def __init__(self, specs=None, looks=True):
+        self.looks = looks
         lines = (ROOT / "crates.txt").read_text().splitlines()
         self.crates = [line.split(":")[0].split()[0] for line in lines if ":" in line]
         self.specs = specs or Specs()
@@ -127,12 +131,30 @@ class Reached:
         """What the ghost members of a type, a trait or an impl name."""
         return set().union(*(self.cited(item, text) for name, text in item.ghosts if name not in but))
 
-    def of_type(self, item, but=("invariant",)):
-        """What a type's value rests on: its view, and the types of the fields that this shows."""
-        models = [it for it in self.impls.get((crate_of(item), item.name), []) if it.trait == "Model"]
-        views = " ".join(text for model in models for _, text in model.ghosts)
+    def models(self, item):
+        """The `impl Model` of a type: none, or one."""
+        return [it for it in self.impls.get((crate_of(item), item.name), []) if it.trait == "Model"]
+
+    def looking(self, item, found):
+        """The lines of those definitions that look into a type, of these and all below them."""
+        looking, left = set(), {it for it in found if self.looks and isinstance(it, Definition)}
+        while left:
+            new = {it for it in left if any(self.node(other) is item for other in it.rests_on)}
+            looking |= new
+            left = set().union(*(it.rests_on for it in new)) - looking
+        return " ".join(line for it in looking for line in it.code())
+
+    def of_view(self, item, members=("Value", "view")):
+        """What a type's view names, and the types of the fields that it shows. Without a view these are all."""
+        models = self.models(item)
+        found = set().union(*(self.cited(item, text) for model in models for name, text in model.ghosts if name in members))
+        views = " ".join(text for model in models for name, text in model.ghosts if name in members) + self.looking(item, found)
         shown = " ".join(kind for name, kind in FIELD.findall(item.body) if re.search(rf"\.{name}\b", views)) if models else item.body
-        return (self.of_ghosts(item) | self.named(item, item.head + shown)).union(*(self.of_ghosts(model, but) for model in models))
+        return found | self.named(item, item.head + shown)
+
+    def of_type(self, item, but=("invariant",)):
+        """What a type's value rests on: its view, and its ghost members."""
+        return (self.of_ghosts(item) | self.of_view(item)).union(*(self.of_ghosts(model, but) for model in self.models(item)))
 
     def of_trait(self, item):
         """What a trait's members rest on."""
@@ -185,7 +207,7 @@ class Reached:
 
 def misplaced(specs):
     """What stands on the wrong side of specs/Inner, a line each; and of either side how many definitions and lines it has."""
-    reached = Reached(specs).definitions()
+    reached = Reached(specs, looks=False).definitions()
     lines = []
     for it in specs.order:
         where = f"{it.file.relative_to(CRATES)}: {', '.join(it.names)}"
