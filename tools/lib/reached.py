@@ -33,13 +33,9 @@ def is_inner(definition):
 
 
 class Reached:
-    """Definitions, types and traits, each with what it rests on.
+    """Definitions, types and traits, each with what it rests on."""
 
-    With `looks`, a view shows also the fields that the definitions which it names read of its type.
-    """
-
-    def __init__(self, specs=None, looks=True):
-        self.looks = looks
+    def __init__(self, specs=None):
         lines = (ROOT / "crates.txt").read_text().splitlines()
         self.crates = [line.split(":")[0].split()[0] for line in lines if ":" in line]
         self.specs = specs or Specs()
@@ -137,7 +133,7 @@ class Reached:
 
     def looking(self, item, found):
         """The lines of those definitions that look into a type, of these and all below them."""
-        looking, left = set(), {it for it in found if self.looks and isinstance(it, Definition)}
+        looking, left = set(), {it for it in found if isinstance(it, Definition)}
         while left:
             new = {it for it in left if any(self.node(other) is item for other in it.rests_on)}
             looking |= new
@@ -207,7 +203,7 @@ class Reached:
 
 def misplaced(specs):
     """What stands on the wrong side of specs/Inner, a line each; and of either side how many definitions and lines it has."""
-    reached = Reached(specs, looks=False).definitions()
+    reached = Reached(specs).definitions()
     lines = []
     for it in specs.order:
         where = f"{it.file.relative_to(CRATES)}: {', '.join(it.names)}"
