@@ -127,12 +127,30 @@ class Reached:
         """What the ghost members of a type, a trait or an impl name."""
         return set().union(*(self.cited(item, text) for name, text in item.ghosts if name not in but))
 
-    def of_type(self, item, but=("invariant",)):
-        """What a type's value rests on: its view, and the types of the fields that this shows."""
-        models = [it for it in self.impls.get((crate_of(item), item.name), []) if it.trait == "Model"]
-        views = " ".join(text for model in models for _, text in model.ghosts)
+    def models(self, item):
+        """The `impl Model` of a type: none, or one."""
+        return [it for it in self.impls.get((crate_of(item), item.name), []) if it.trait == "Model"]
+
+    def looking(self, item, found):
+        """The lines of those definitions that look into a type, of these and all below them."""
+        looking, left = set(), {it for it in found if isinstance(it, Definition)}
+        while left:
+            new = {it for it in left if any(self.node(other) is item for other in it.rests_on)}
+            looking |= new
+            left = set().union(*(it.rests_on for it in new)) - looking
+        return " ".join(line for it in looking for line in it.code())
+
+    def of_view(self, item, members=("Value", "view")):
+        """What a type's view names, and the types of the fields that it shows. Without a view these are all."""
+        models = self.models(item)
+        found = set().union(*(self.cited(item, text) for model in models for name, text in model.ghosts if name in members))
+        views = " ".join(text for model in models for name, text in model.ghosts if name in members) + self.looking(item, found)
         shown = " ".join(kind for name, kind in FIELD.findall(item.body) if re.search(rf"\.{name}\b", views)) if models else item.body
-        return (self.of_ghosts(item) | self.named(item, item.head + shown)).union(*(self.of_ghosts(model, but) for model in models))
+        return found | self.named(item, item.head + shown)
+
+    def of_type(self, item, but=("invariant",)):
+        """What a type's value rests on: its view, and its ghost members."""
+        return (self.of_ghosts(item) | self.of_view(item)).union(*(self.of_ghosts(model, but) for model in self.models(item)))
 
     def of_trait(self, item):
         """What a trait's members rest on."""

@@ -3,7 +3,8 @@
 ghost use Rattle.std.specs.Prelude.{◌≡◌, ◌≢◌, ℕ, None, Some, OnOk, OnErr};
 ghost use Rattle.std.specs.Ordering.{nat_cmp};
 ghost use Rattle.std.specs.BTreeMap.{get};
-ghost use Rattle.ring_core.specs.Inner.Table.{found_under, is_under};
+ghost use Rattle.ring_core.specs.Table.{found_under};
+ghost use Rattle.ring_core.specs.Inner.Table.{is_under};
 
 use crate::outstanding::OutstandingChain;
 use std::alloc::{AllocError, Global};

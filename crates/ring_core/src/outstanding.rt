@@ -1,8 +1,8 @@
 //! The outstanding chain under each head or id, found by index or by key.
 
 ghost use Rattle.std.specs.Prelude.{◌≡◌, ◌<◌, ◌≤◌, ℕ, length, replicate, get_or, slice_set, None, Some, IfOk, OnOk, OnErr};
-ghost use Rattle.ring_core.specs.Table.{tabulated};
-ghost use Rattle.ring_core.specs.Inner.Table.{found_under, IsLeastBelow, lesser_of};
+ghost use Rattle.ring_core.specs.Table.{tabulated, found_under};
+ghost use Rattle.ring_core.specs.Inner.Table.{IsLeastBelow, lesser_of};
 
 use crate::by_id::ChainsById;
 use std::alloc::{AllocError, Global};
@@ -105,7 +105,7 @@ impl Model for OutstandingTable {
 
     ghost Value = { List (Option OutstandingChain) };
 
-    ghost use Rattle.ring_core.specs.Inner.Table.{entries_listed};
+    ghost use Rattle.ring_core.specs.Table.{entries_listed};
 
     ghost view = { λ t. entries_listed t.entries t.ids };
 

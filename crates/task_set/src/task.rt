@@ -5,7 +5,8 @@ ghost use Rattle.std.specs.Option.{option_copied, option_to_list};
 ghost use Rattle.cdb.specs.Need.{need_of};
 ghost use Rattle.unit_model.specs.Tasks.{entry_of, meets};
 ghost use Rattle.unit_model.specs.Seen.{finished, with_mark};
-ghost use Rattle.task_set.specs.Inner.Tasks.{moved, given, enabled_unless, entry_of_request};
+ghost use Rattle.task_set.specs.Tasks.{entry_of_request};
+ghost use Rattle.task_set.specs.Inner.Tasks.{moved, given, enabled_unless};
 
 use crate::job::{Arrival, Job, JobList};
 use crate::shared::SharedRequest;
@@ -32,8 +33,8 @@ pub struct Task {
 }
 
 impl Model for Task {
-    ghost use Rattle.task_set.specs.Tasks.{PlainTask};
-    ghost use Rattle.task_set.specs.Inner.Tasks.{entry_of_request, request_of, IsKept};
+    ghost use Rattle.task_set.specs.Tasks.{PlainTask, entry_of_request, request_of};
+    ghost use Rattle.task_set.specs.Inner.Tasks.{IsKept};
 
     ghost Value = { PlainTask };
 

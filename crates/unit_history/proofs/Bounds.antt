@@ -3,7 +3,8 @@ use Rattle.std.proofs.Common.{◌≡◌, ℕ, ◌<◌, ◌≤◌, Bool, true, fa
 use Rattle.std.proofs.lemmas.List.{length-take, take_more, take-append-le}
 use Rattle.std.proofs.lemmas.Option.{slice_get_within, get_or_from_slice_get}
 use Rattle.unit_history.specs.declared.kind.StepKind.{StepKind}
-use Rattle.unit_history.specs.Inner.Recorded.{AreFirst, room_left}
+use Rattle.unit_history.specs.Recorded.{room_left}
+use Rattle.unit_history.specs.Inner.Recorded.{AreFirst}
 
 pub first_within : (folded kinds : List StepKind) → AreFirst folded kinds → length folded ≤ length kinds
 first_within folded kinds c =

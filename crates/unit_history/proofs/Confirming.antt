@@ -14,7 +14,8 @@ use Rattle.unit_history.specs.declared.kind.StepKind.TheVariants as kind
 use Rattle.unit_history.specs.declared.recorded.RecordedStep.{RecordedStep}
 use Rattle.unit_history.specs.Kept.{kind_of}
 use Rattle.unit_history.specs.Inner.Kept.{latest, reply_kept, commit_kind}
-use Rattle.unit_history.specs.Inner.Recorded.{kept_there, replies_recorded, reply_of_place, step_recorded, steps_recorded, AreAlike}
+use Rattle.unit_history.specs.Recorded.{step_recorded, steps_recorded}
+use Rattle.unit_history.specs.Inner.Recorded.{kept_there, replies_recorded, reply_of_place, AreAlike}
 use Rattle.unit_history.proofs.Places.{at_place, drop_get}
 
 -- what is kept is a Commit of the ticket, with a reply that agrees

@@ -4,13 +4,14 @@ use Rattle.std.specs.Option.{option_map}
 use Rattle.std.proofs.lemmas.List.{drop-append-le, drop-drop, drop-map, length-map, map-append}
 use Rattle.command_model.specs.PlainReply.{PlainReply, plain_of}
 use Rattle.command_model.specs.declared.reply.Reply.{Reply}
-use Rattle.unit_model.specs.Inner.Base.{most_kept}
+use Rattle.unit_model.specs.Base.{most_kept}
 use Rattle.unit_model.specs.Receipts.{latest_kept}
 use Rattle.unit_history.specs.declared.kind.StepKind.{StepKind}
 use Rattle.unit_history.specs.declared.recorded.RecordedStep.{RecordedStep}
 use Rattle.unit_history.specs.Kept.{kind_of}
 use Rattle.unit_history.specs.Inner.Kept.{latest, reply_kept}
-use Rattle.unit_history.specs.Inner.Recorded.{AreRecorded, kinds_recorded, replies_recorded, step_recorded}
+use Rattle.unit_history.specs.Recorded.{step_recorded}
+use Rattle.unit_history.specs.Inner.Recorded.{AreRecorded, kinds_recorded, replies_recorded}
 use Rattle.unit_history.proofs.Bounds.{first_still}
 
 length_latest : {X : Type 0} (xs : List X) → length (latest xs) ≡ length xs - (length xs - latest_kept)

@@ -13,7 +13,8 @@ use Rattle.unit_history.specs.declared.recorded.RecordedStep.{RecordedStep}
 use Rattle.unit_history.specs.Kept.{kind_of}
 use Rattle.unit_history.specs.Inner.Kept.{met_kind}
 use Rattle.unit_history.specs.Inner.Folding.{met_one}
-use Rattle.unit_history.specs.Inner.Recorded.{kinds_recorded, step_recorded, steps_recorded, AreFirst, Tells}
+use Rattle.unit_history.specs.Recorded.{step_recorded, steps_recorded}
+use Rattle.unit_history.specs.Inner.Recorded.{kinds_recorded, AreFirst, Tells}
 
 unlike : false ≡ true → ⊥
 unlike e = cc

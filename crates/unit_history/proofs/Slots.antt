@@ -3,7 +3,7 @@ use Rattle.std.proofs.Common.{◌≡◌, ℕ, zero, suc, ◌+◌, ◌%◌, ◌<�
 use Rattle.std.proofs.lemmas.Bool.{ltb-true, ltb-false}
 use Rattle.std.proofs.lemmas.List.{length-set}
 use Rattle.std.proofs.lemmas.Option.{slice_get_read, slice_get_past}
-use Rattle.unit_model.specs.Inner.Base.{most_kept}
+use Rattle.unit_model.specs.Base.{most_kept}
 use Rattle.unit_history.specs.declared.kind.StepKind.{StepKind}
 use Rattle.unit_history.specs.Inner.Slots.{AreSlots, IsCalm, with_slot}
 use Rattle.unit_history.specs.Inner.Folding.{met_one}

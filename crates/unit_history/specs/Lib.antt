@@ -6,4 +6,7 @@ pub mod Serving
 pub mod Disks
 pub mod Changes
 pub mod Fields
+pub mod Folding
+pub mod Slots
+pub mod Recorded
 pub mod Inner

@@ -2,7 +2,7 @@
 
 ghost use Rattle.std.specs.Prelude.{◌≡◌, [], ◌∷◌, ◌++◌};
 ghost use Rattle.unit_model.specs.Counts.{with_reply, with_step, counts_of};
-ghost use Rattle.unit_history.specs.Inner.Recorded.{step_recorded, steps_recorded};
+ghost use Rattle.unit_history.specs.Recorded.{step_recorded, steps_recorded};
 
 use crate::recorded::{RecordedReply, RecordedStep};
 use command_model::{CHECK_CONDITION, GOOD};
@@ -20,7 +20,7 @@ pub(crate) struct CountedSteps {
 impl Model for CountedSteps {
     ghost use Rattle.std.specs.Prelude.{◌≡◌};
     ghost use Rattle.unit_model.specs.Counts.{counts_of};
-    ghost use Rattle.unit_history.specs.Inner.Recorded.{Counted, steps_recorded};
+    ghost use Rattle.unit_history.specs.Recorded.{Counted, steps_recorded};
 
     ghost Value = { Counted };
 

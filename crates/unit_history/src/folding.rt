@@ -36,7 +36,8 @@ pub(crate) struct Folding {
 }
 
 impl Model for Folding {
-    ghost use Rattle.unit_history.specs.Inner.Folding.{Folded, AreFolded};
+    ghost use Rattle.unit_history.specs.Folding.{Folded};
+    ghost use Rattle.unit_history.specs.Inner.Folding.{AreFolded};
 
     ghost Value = { Folded };
 

@@ -5,7 +5,8 @@ ghost use Rattle.std.specs.Option.{option_map};
 ghost use Rattle.command_model.specs.PlainReply.{plain_of};
 ghost use Rattle.unit_model.specs.Receipts.{latest_kept};
 ghost use Rattle.unit_history.specs.Inner.Kept.{latest};
-ghost use Rattle.unit_history.specs.Inner.Recorded.{spare_of_deque, kept_there, reply_of_place, AreAlike};
+ghost use Rattle.unit_history.specs.Recorded.{spare_of_deque};
+ghost use Rattle.unit_history.specs.Inner.Recorded.{kept_there, reply_of_place, AreAlike};
 
 use crate::log::LATEST_KEPT;
 use command_model::Reply;

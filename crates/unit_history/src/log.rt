@@ -3,8 +3,7 @@
 ghost use Rattle.std.specs.Prelude.{◌≡◌, ◌+◌, ◌-◌, ◌<◌, ◌≤◌, ◌%◌, nat_lt, [], ◌∷◌, length, max, OnOk, OnErr, IfSome, Option, Some, None, true, false, ◌⊎◌, IsTrue, ◌↔◌, if◌then◌else◌};
 ghost use Rattle.std.specs.Option.{option_map};
 ghost use Rattle.command_model.specs.PlainReply.{PlainReply, plain_of};
-ghost use Rattle.unit_model.specs.Base.{most_before};
-ghost use Rattle.unit_model.specs.Inner.Base.{most_kept};
+ghost use Rattle.unit_model.specs.Base.{most_before, most_kept};
 ghost use Rattle.unit_model.specs.Counts.{counts_of};
 ghost use Rattle.unit_model.specs.Receipts.{step_at, is_kept, Agrees};
 ghost use Rattle.unit_model.specs.Steps.{Step};
@@ -12,7 +11,8 @@ ghost use Rattle.unit_history.specs.Kept.{kind_of};
 ghost use Rattle.unit_history.specs.Inner.Kept.{reply_kept, commit_kind};
 ghost use Rattle.unit_history.specs.Runs.{committed_one};
 ghost use Rattle.unit_history.specs.Inner.Slots.{IsCalm};
-ghost use Rattle.unit_history.specs.Inner.Recorded.{step_recorded, spare_of_deque, AreFirst, Tells, most_steps};
+ghost use Rattle.unit_history.specs.Recorded.{step_recorded, spare_of_deque, most_steps};
+ghost use Rattle.unit_history.specs.Inner.Recorded.{AreFirst, Tells};
 
 use crate::counted::CountedSteps;
 use crate::folding::{Folding, committed_of_one, rule_of_one};
@@ -64,8 +64,9 @@ pub struct StepLog {
 
 impl Model for StepLog {
     ghost use Rattle.std.specs.Prelude.{length};
-    ghost use Rattle.unit_history.specs.Inner.Slots.{ring_room};
-    ghost use Rattle.unit_history.specs.Inner.Recorded.{Logged, AreRecorded, spare_of_deque, room_left, steps_left, steps_recorded};
+    ghost use Rattle.unit_history.specs.Slots.{ring_room};
+    ghost use Rattle.unit_history.specs.Recorded.{Logged, spare_of_deque, room_left, steps_left, steps_recorded};
+    ghost use Rattle.unit_history.specs.Inner.Recorded.{AreRecorded};
 
     ghost Value = { Logged };
 

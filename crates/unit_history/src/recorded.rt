@@ -5,7 +5,7 @@ ghost use Rattle.command_model.specs.PlainReply.{plain_of};
 ghost use Rattle.command_model.specs.Inner.PlainReply.{good_data};
 ghost use Rattle.unit_model.specs.Tasks.{entry_of};
 ghost use Rattle.unit_history.specs.Kept.{kind_of};
-ghost use Rattle.unit_history.specs.Inner.Recorded.{step_recorded};
+ghost use Rattle.unit_history.specs.Recorded.{step_recorded};
 
 use crate::kind::StepKind;
 use cdb::Command;

@@ -2,7 +2,7 @@
 
 ghost use Rattle.std.specs.Prelude.{◌≡◌, ◌+◌, ◌^◌, ◌<◌, ◌≤◌, ◌%◌, min, [], ◌∷◌, ◌++◌, length, slice_get, OnOk, Some, None, ℕ, IsTrue, is_some, if◌then◌else◌};
 ghost use Rattle.std.specs.Vec.{vec_capacity};
-ghost use Rattle.unit_model.specs.Inner.Base.{most_kept};
+ghost use Rattle.unit_model.specs.Base.{most_kept};
 ghost use Rattle.unit_history.specs.Inner.Folding.{met_one};
 ghost use Rattle.unit_history.specs.Inner.Kept.{met_kind};
 ghost use Rattle.unit_history.specs.Inner.Slots.{with_slot};
@@ -31,7 +31,8 @@ pub(crate) struct KindRing {
 
 impl Model for KindRing {
     ghost use Rattle.std.specs.Vec.{vec_capacity};
-    ghost use Rattle.unit_history.specs.Inner.Slots.{Ringed, AreRing};
+    ghost use Rattle.unit_history.specs.Slots.{Ringed};
+    ghost use Rattle.unit_history.specs.Inner.Slots.{AreRing};
 
     ghost Value = { Ringed };
 

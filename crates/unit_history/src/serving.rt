@@ -5,7 +5,7 @@ ghost use Rattle.std.specs.Bool.{OnFalse};
 ghost use Rattle.block_commands.specs.Inner.Told.{facts_of};
 ghost use Rattle.unit_history.specs.Endings.{ending_of_run, plain_run};
 ghost use Rattle.unit_history.specs.Inner.Performing.{Performs, step_for, told, unkept};
-ghost use Rattle.unit_history.specs.Inner.Recorded.{step_recorded};
+ghost use Rattle.unit_history.specs.Recorded.{step_recorded};
 ghost use Rattle.unit_history.specs.Serving.{ServesAlone};
 
 use crate::answering::Answering;

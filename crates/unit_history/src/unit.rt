@@ -5,7 +5,7 @@ ghost use Rattle.unit_model.specs.Base.{most_before};
 ghost use Rattle.unit_model.specs.Contents.{is_capacity as may_have};
 ghost use Rattle.task_set.specs.Inner.Tasks.{seen_of};
 ghost use Rattle.unit_history.specs.Inner.Parts.{AreClear};
-ghost use Rattle.unit_history.specs.Inner.Recorded.{most_steps};
+ghost use Rattle.unit_history.specs.Recorded.{most_steps};
 
 use crate::changes::Changes;
 use crate::last_tickets::LastTickets;

@@ -5,8 +5,7 @@ use Rattle.unit_model.specs.Steps.{Step}
 use Rattle.unit_model.specs.Seen.{tasks_of, owed}
 use Rattle.unit_model.specs.Contents.{Opening}
 use Rattle.unit_model.specs.Lawful.{IsLawful}
-use Rattle.unit_model.specs.Base.{most_before, folds, base_of, kept_steps, folded_steps}
-use Rattle.unit_model.specs.Inner.Base.{most_kept}
+use Rattle.unit_model.specs.Base.{most_before, folds, base_of, kept_steps, folded_steps, most_kept}
 use Rattle.unit_model.proofs.Owing.{alive_owed, commit_owed, busy_owed, leave_owed}
 
 -- where there are folded steps, at least as many are kept as may be where one is added

@@ -9,6 +9,9 @@ use Rattle.unit_model.specs.Receipts.{step_at}
 abbrev pub most_before : ℕ
 most_before = 4095
 
+abbrev pub most_kept : ℕ
+most_kept = 4224
+
 -- own: the steps that nothing alive has room for: where one of these is added, the oldest are folded first
 abbrev pub folds : Step → Bool
 folds (Step.Enter e) = true

@@ -1,30 +1,12 @@
--- How the table of outstanding chains, as it is kept, is a list: under each head or id the chain that has it.
-use Rattle.std.specs.Prelude.{ℕ, ◌≡◌, ◌<◌, ◌≤◌, Bool, false, nat_eq, List, Option, Some, None, get_or, min, if◌then◌else◌}
-use Rattle.std.specs.Ordering.{nat_cmp}
-use Rattle.std.specs.BTreeMap.{get}
-use Rattle.ring_core.specs.Table.{tabulated}
+-- The least number of the outstanding chains in their table.
+use Rattle.std.specs.Prelude.{ℕ, ◌≡◌, ◌<◌, ◌≤◌, Bool, false, nat_eq, List, Option, Some, None, get_or, min}
 use Rattle.ring_core.specs.declared.outstanding.OutstandingChain.{OutstandingChain}
-use Rattle.ring_core.specs.declared.by_id.ChainsById.{ChainsById}
 use Rattle.ring_core.specs.declared.by_id.IdAndChain.{IdAndChain}
-use Rattle.ring_core.specs.declared.outstanding.Entries.{Entries}
-use Rattle.ring_core.specs.declared.outstanding.Entries.TheVariants.{ByHead, ById}
 
 -- whether a chain has this id
 abbrev pub is_under : Option IdAndChain → ℕ → Bool
 is_under None id = false
 is_under (Some one) id = nat_eq one.id id
-
--- the chain under an id, where one stands by itself and others in a map
-abbrev pub under_one : Option IdAndChain → ℕ → Option OutstandingChain → Option OutstandingChain
-under_one None id other = other
-under_one (Some one) id other = if nat_eq one.id id then Some one.chain else other
-
-abbrev pub found_under : ChainsById → ℕ → Option OutstandingChain
-found_under chains id = under_one chains.first id (get nat_cmp chains.others id)
-
-abbrev pub entries_listed : Entries → ℕ → List (Option OutstandingChain)
-entries_listed (ByHead places) ids = places.items
-entries_listed (ById chains) ids = tabulated (found_under chains) ids
 
 -- some chain under the first so many heads or ids has this number, and none a lower one
 pub record IsLeast (chains : List (Option OutstandingChain)) (ids n : ℕ) : Type 0 where

@@ -1,25 +1,13 @@
 -- The tasks of a task set, with the jobs of those that wait.
 use Rattle.std.specs.Prelude.{ℕ, Bool, false, not, ◌&&◌, ◌||◌, is_some, IfSome, ◌≡◌, List, [], ◌∷◌, ◌++◌, map, Option, Some, None, if◌then◌else◌}
 use Rattle.ring_core.specs.declared.log.Ticket.{Ticket}
-use Rattle.cdb.specs.declared.commands.Command.TheVariants.{TestUnitReady}
-use Rattle.request_intake.specs.UnitRequest.{PlainRequest}
 use Rattle.request_intake.specs.declared.attribute.TaskAttribute.{TaskAttribute}
 use Rattle.request_intake.specs.declared.attribute.TaskAttribute.TheVariants.{Simple, Ordered, HeadOfQueue}
 use Rattle.unit_model.specs.declared.reason.Reason.{Reason}
-use Rattle.unit_model.specs.Tasks.{Entry, entry_of, is_blocked, same_ticket}
+use Rattle.unit_model.specs.Tasks.{Entry, is_blocked, same_ticket}
 use Rattle.unit_model.specs.Seen.{Seen, waits, joined}
 use Rattle.unit_model.specs.Jobs.{PlainJob}
 use Rattle.task_set.specs.Tasks.{PlainTask, there}
-
--- own: the task of a request; without one, a TEST UNIT READY
-abbrev pub entry_of_request : Ticket → Option PlainRequest → Entry
-entry_of_request t (Some r) = entry_of t r
-entry_of_request t None = record { ticket = t; id = 0; attribute = Simple; command = TestUnitReady; data_out = [] }
-
--- own: the request of a task, its own or shared
-abbrev pub request_of : Option PlainRequest → Option PlainRequest → Option PlainRequest
-request_of (Some r) shared = Some r
-request_of None shared = shared
 
 -- own: what is kept of each task
 abbrev pub seen_of : List PlainTask → List Seen

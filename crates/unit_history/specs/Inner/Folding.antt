@@ -8,13 +8,6 @@ use Rattle.unit_history.specs.Inner.Kept.{met_kind}
 use Rattle.unit_history.specs.Runs.{committed}
 use Rattle.unit_history.specs.Inner.Runs.{AreCommits}
 
--- own: the kinds of the folded steps, in their order; of an Abort or a Reset before this place the rule is
--- forgotten; and whether their Commits are kept
-pub record Folded : Type 0 where
-  pub kinds : List StepKind
-  pub forgotten : ℕ
-  pub keeps : Bool
-
 -- own: which tasks a step meets, if there is one
 abbrev pub met_one : Option StepKind → Option Rule
 met_one None = None

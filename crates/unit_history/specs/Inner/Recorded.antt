@@ -1,39 +1,17 @@
 -- The log of the steps: what its calls say, and what is kept in it.
-use Rattle.std.specs.Prelude.{ℕ, ◌≡◌, ◌+◌, ◌-◌, ◌^◌, ◌≤◌, ◌<◌, ◌⊎◌, Bool, true, false, nat_lt, List, [], map, min, length, take, reverse, slice_get, Option, Some, None, if◌then◌else◌, ⊤}
-use Rattle.std.specs.declared.collections.VecDeque.{VecDeque}
-use Rattle.std.specs.VecDeque.{deque_capacity, deque_len}
+use Rattle.std.specs.Prelude.{ℕ, ◌≡◌, ◌+◌, ◌-◌, ◌≤◌, ◌<◌, ◌⊎◌, Bool, true, false, nat_lt, List, [], map, length, take, slice_get, Option, Some, None, if◌then◌else◌, ⊤}
 use Rattle.std.specs.Option.{option_map}
 use Rattle.command_model.specs.PlainReply.{PlainReply, plain_of}
 use Rattle.command_model.specs.declared.reply.Reply.{Reply}
 use Rattle.unit_model.specs.Steps.{Step}
-use Rattle.unit_model.specs.Base.{most_before}
-use Rattle.unit_model.specs.Inner.Base.{most_kept}
+use Rattle.unit_model.specs.Base.{most_before, most_kept}
 use Rattle.unit_model.specs.Clearing.{rule_at}
 use Rattle.unit_model.specs.declared.rule.Rule.{Rule}
 use Rattle.unit_history.specs.declared.kind.StepKind.{StepKind}
 use Rattle.unit_history.specs.declared.recorded.RecordedStep.{RecordedStep}
-use Rattle.unit_history.specs.declared.recorded.RecordedStep.TheVariants as recorded
 use Rattle.unit_history.specs.Kept.{kind_of}
 use Rattle.unit_history.specs.Inner.Kept.{reply_kept, latest}
-
--- own: the step, with its data
-abbrev pub step_recorded : RecordedStep → Step
-step_recorded (recorded.Enter e) = Step.Enter e
-step_recorded (recorded.Full t) = Step.Full t
-step_recorded (recorded.Commit t r) = Step.Commit t r
-step_recorded (recorded.Busy t) = Step.Busy t
-step_recorded (recorded.Abort rule) = Step.Abort rule
-step_recorded (recorded.Reset c) = Step.Reset c
-step_recorded (recorded.Resize blocks) = Step.Resize blocks
-step_recorded (recorded.Leave t) = Step.Leave t
-
--- the steps, the newest first
-abbrev pub steps_recorded : List RecordedStep → List Step
-steps_recorded items = map step_recorded (reverse items)
-
--- steps in their order
-pub record Counted : Type 0 where
-  pub items : List RecordedStep
+use Rattle.unit_history.specs.Recorded.{step_recorded}
 
 -- the kinds of steps, in their order
 abbrev pub kinds_recorded : List RecordedStep → List StepKind
@@ -61,22 +39,6 @@ pub record AreRecorded (keeps folds : Bool) (base cap : ℕ) (folded kinds : Lis
   pub full : 0 < base → most_kept ≤ cap
   pub replies_are : map (option_map plain_of) replies ≡ latest (replies_recorded keeps items)
 
--- own: a unit takes no step that brings more where so many stand, and those that are owed then still find room
-abbrev pub most_steps : ℕ
-most_steps = 2 ^ 63
-
-abbrev pub steps_left : ℕ → ℕ
-steps_left steps = most_steps + most_kept - steps
-
--- for how many more there is room in a list
-abbrev pub spare_of_deque : {T Z : Type 0} → VecDeque T Z → ℕ
-spare_of_deque q = deque_capacity q - deque_len q
-
--- for how many more steps there is room, by that for kinds, that for replies, and how many steps there may be
-abbrev pub room_left : Bool → ℕ → ℕ → ℕ → ℕ
-room_left true kinds replies left = min (min kinds replies) left
-room_left false kinds replies left = min kinds left
-
 -- what is kept of the step at a place, where items are kept of as many of the latest steps as there are items
 abbrev pub kept_there : {X : Type 0} → ℕ → ℕ → List X → Option X
 kept_there steps place items =
@@ -86,15 +48,6 @@ kept_there steps place items =
 abbrev pub reply_of_place : Option (Option Reply) → Option PlainReply
 reply_of_place None = None
 reply_of_place (Some r) = option_map plain_of r
-
--- the steps, the newest first, whether replies are kept, for how many more there is room, how many are folded, and
--- before which place it is forgotten of folded steps which tasks they met
-pub record Logged : Type 0 where
-  pub steps : List Step
-  pub keeps : Bool
-  pub room : ℕ
-  pub base : ℕ
-  pub forgotten : ℕ
 
 -- own: which tasks the step at a place met, if any, or that it is forgotten
 abbrev pub Tells : ℕ → ℕ → List Step → Option Rule → Type 0

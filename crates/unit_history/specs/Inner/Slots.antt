@@ -1,13 +1,8 @@
 -- The kinds of steps by place, of which the latest stand in a ring.
-use Rattle.std.specs.Prelude.{ℕ, ◌≡◌, ◌+◌, ◌-◌, ◌≤◌, ◌<◌, ◌%◌, min, List, [], ◌∷◌, ◌++◌, length, set, nat_lt, slice_get, None, if◌then◌else◌}
-use Rattle.unit_model.specs.Inner.Base.{most_kept}
+use Rattle.std.specs.Prelude.{ℕ, ◌≡◌, ◌+◌, ◌≤◌, ◌<◌, ◌%◌, min, List, [], ◌∷◌, ◌++◌, length, set, nat_lt, slice_get, None, if◌then◌else◌}
+use Rattle.unit_model.specs.Base.{most_kept}
 use Rattle.unit_history.specs.Inner.Folding.{met_one}
 use Rattle.unit_history.specs.declared.kind.StepKind.{StepKind}
-
--- own: the kinds of all steps, in their order, and for how many there is room
-pub record Ringed : Type 0 where
-  pub kinds : List StepKind
-  pub cap : ℕ
 
 -- own: one more at its index: behind the others until all indices are taken, and then in place of the oldest
 abbrev pub with_slot : ℕ → StepKind → List StepKind → List StepKind
@@ -26,7 +21,3 @@ IsCalm from kinds = (p : ℕ) → from ≤ p → met_one (slice_get kinds p) ≡
 pub record AreRing (len calm : ℕ) (slots kinds : List StepKind) : Type 0 where
   pub slots_are : AreSlots len slots kinds
   pub calm_from : IsCalm calm kinds
-
--- for how many more steps there is room where so many are folded: all indices are there once a step is folded
-abbrev pub ring_room : ℕ → ℕ → ℕ → ℕ
-ring_room base cap len = base + min cap most_kept - len

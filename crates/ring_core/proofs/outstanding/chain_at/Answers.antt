@@ -1,5 +1,5 @@
 use Rattle.std.proofs.Common.{None, sym, ◌∙◌}
-use Rattle.ring_core.specs.Inner.Table.{found_under}
+use Rattle.ring_core.specs.Table.{found_under}
 use Rattle.ring_core.proofs.Tabulated.{get_or-tabulated, past-tabulated}
 use Rattle.ring_core.proofs.outstanding.chain_at.Goals as goal
 

@@ -1,5 +1,5 @@
-use Rattle.ring_core.specs.Table.{tabulated}
-use Rattle.ring_core.specs.Inner.Table.{found_under, IsLeastBelow}
+use Rattle.ring_core.specs.Table.{tabulated, found_under}
+use Rattle.ring_core.specs.Inner.Table.{IsLeastBelow}
 use Rattle.ring_core.proofs.outstanding.least_by_id.Given as goal
 
 abbrev pub invariant-loop-id : goal.invariant-loop-id

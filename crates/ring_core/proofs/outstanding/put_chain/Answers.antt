@@ -1,6 +1,6 @@
 use Rattle.std.proofs.Common.{Some, OnOk, OnErr, Result, Ok, Err}
 use Rattle.std.specs.declared.alloc.AllocError.{AllocError}
-use Rattle.ring_core.specs.Inner.Table.{found_under}
+use Rattle.ring_core.specs.Table.{found_under}
 use Rattle.ring_core.proofs.Tabulated.{tabulated-set, tabulated-same}
 use Rattle.ring_core.proofs.outstanding.put_chain.Goals as goal
 

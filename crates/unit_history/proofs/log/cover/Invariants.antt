@@ -1,5 +1,5 @@
 use Rattle.std.proofs.Common.{◌≡◌, ◌%◌, length}
-use Rattle.unit_model.specs.Inner.Base.{most_kept}
+use Rattle.unit_model.specs.Base.{most_kept}
 use Rattle.unit_history.specs.Inner.Recorded.{AreFirst}
 use Rattle.unit_history.proofs.log.cover.Given as goal
 

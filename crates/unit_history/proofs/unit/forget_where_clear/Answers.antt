@@ -1,6 +1,6 @@
 use Rattle.std.proofs.Common.{sym, ap, ◌∙◌}
 use Rattle.task_set.specs.Inner.Tasks.{seen_of}
-use Rattle.unit_history.specs.Inner.Recorded.{Logged}
+use Rattle.unit_history.specs.Recorded.{Logged}
 use Rattle.unit_history.proofs.Basing.{clear_forgotten}
 use Rattle.unit_history.proofs.unit.forget_where_clear.Goals as goal
 

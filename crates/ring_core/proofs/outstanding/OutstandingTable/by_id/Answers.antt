@@ -1,5 +1,5 @@
 use Rattle.std.proofs.Common.{None}
-use Rattle.ring_core.specs.Inner.Table.{found_under}
+use Rattle.ring_core.specs.Table.{found_under}
 use Rattle.ring_core.proofs.Tabulated.{tabulated-one}
 use Rattle.ring_core.proofs.outstanding.OutstandingTable.by_id.Goals as goal
 

@@ -1,6 +1,5 @@
 use Rattle.std.proofs.Common.{◌≡◌}
-use Rattle.ring_core.specs.Table.{tabulated}
-use Rattle.ring_core.specs.Inner.Table.{found_under}
+use Rattle.ring_core.specs.Table.{tabulated, found_under}
 use Rattle.ring_core.proofs.Tabulated.{length-tabulated}
 use Rattle.ring_core.proofs.outstanding.OutstandingTable.least.Goals as goal
 

@@ -1,7 +1,6 @@
 use Rattle.std.proofs.Common.{◌≡◌, ◌<◌, length, arith, ap, ◌∙◌, List, Option, Some, set, OnOk, Result, Ok, Err}
 use Rattle.std.specs.declared.alloc.AllocError.{AllocError}
-use Rattle.ring_core.specs.Table.{tabulated}
-use Rattle.ring_core.specs.Inner.Table.{found_under}
+use Rattle.ring_core.specs.Table.{tabulated, found_under}
 use Rattle.ring_core.specs.declared.outstanding.OutstandingChain.{OutstandingChain}
 use Rattle.ring_core.proofs.Tabulated.{length-tabulated}
 use Rattle.ring_core.proofs.outstanding.OutstandingTable.put.Goals as goal

@@ -1,6 +1,5 @@
 use Rattle.std.proofs.Common.{◌≡◌, ◌<◌, length, arith, ap, ◌∙◌, List, Option, None, set}
-use Rattle.ring_core.specs.Table.{tabulated}
-use Rattle.ring_core.specs.Inner.Table.{found_under}
+use Rattle.ring_core.specs.Table.{tabulated, found_under}
 use Rattle.ring_core.specs.declared.outstanding.OutstandingChain.{OutstandingChain}
 use Rattle.ring_core.proofs.Tabulated.{length-tabulated}
 use Rattle.ring_core.proofs.outstanding.OutstandingTable.remove.Goals as goal

@@ -1,5 +1,5 @@
 use Rattle.std.proofs.Common.{◌≡◌, true, ap, ◌∙◌}
-use Rattle.unit_history.specs.Inner.Folding.{Folded}
+use Rattle.unit_history.specs.Folding.{Folded}
 use Rattle.unit_history.proofs.Tables.{found_kind}
 use Rattle.unit_history.proofs.folding.Folding.commit_at.Goals as goal
 

@@ -1,5 +1,5 @@
 use Rattle.std.proofs.Common.{None, refl, sym, ap, ◌∙◌}
-use Rattle.unit_history.specs.Inner.Folding.{Folded}
+use Rattle.unit_history.specs.Folding.{Folded}
 use Rattle.unit_history.specs.Runs.{committed}
 use Rattle.unit_history.proofs.Marks.{folded_more}
 use Rattle.unit_history.proofs.Tables.{folds_nothing}

@@ -4,7 +4,7 @@ use Rattle.std.specs.Option.{option_map}
 use Rattle.command_model.specs.PlainReply.{plain_of}
 use Rattle.unit_model.specs.Receipts.{step_at, latest_kept}
 use Rattle.unit_history.specs.Kept.{kind_of}
-use Rattle.unit_history.specs.Inner.Recorded.{Logged, steps_recorded}
+use Rattle.unit_history.specs.Recorded.{Logged, steps_recorded}
 use Rattle.unit_history.proofs.Places.{kept_place, kind_folded}
 use Rattle.unit_history.proofs.Confirming.{found, stands, length_recorded, folded_found}
 use Rattle.unit_history.proofs.log.StepLog.has_commit.Goals as goal

@@ -2,7 +2,7 @@ use Rattle.std.proofs.Common.{◌≤◌, sym, ap, ◌∙◌, subst}
 use Rattle.std.specs.Option.{option_map}
 use Rattle.unit_model.specs.Receipts.{step_at}
 use Rattle.unit_history.specs.Kept.{kind_of}
-use Rattle.unit_history.specs.Inner.Recorded.{Logged}
+use Rattle.unit_history.specs.Recorded.{Logged}
 use Rattle.unit_history.proofs.Places.{kind_there, kept_place}
 use Rattle.unit_history.proofs.log.StepLog.kind_at.Goals as goal
 

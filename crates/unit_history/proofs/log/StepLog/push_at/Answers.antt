@@ -1,6 +1,6 @@
 use Rattle.std.proofs.Common.{◌<◌, sym, ap, ◌∙◌, subst, arith}
 use Rattle.unit_history.specs.Inner.Kept.{reply_kept}
-use Rattle.unit_history.specs.Inner.Recorded.{Logged, step_recorded}
+use Rattle.unit_history.specs.Recorded.{Logged, step_recorded}
 use Rattle.unit_history.proofs.Bounds.{room_within}
 use Rattle.unit_history.proofs.Latest.{recorded_more}
 use Rattle.unit_history.proofs.log.StepLog.push_at.Goals as goal

@@ -1,6 +1,6 @@
 use Rattle.std.proofs.Common.{slice_get, ap, ◌∙◌, arith}
 use Rattle.unit_history.specs.Inner.Folding.{met_one}
-use Rattle.unit_history.specs.Inner.Recorded.{steps_recorded}
+use Rattle.unit_history.specs.Recorded.{steps_recorded}
 use Rattle.unit_history.proofs.Places.{kind_there, kind_folded, rule_there, tells_is, tells_folded}
 use Rattle.unit_history.proofs.log.StepLog.rule_at.Goals as goal
 

@@ -1,6 +1,6 @@
 use Rattle.std.proofs.Common.{◌≡◌, ◌%◌, length, refl, sym, ap, ◌∙◌, subst}
-use Rattle.unit_model.specs.Inner.Base.{most_kept}
-use Rattle.unit_history.specs.Inner.Slots.{Ringed}
+use Rattle.unit_model.specs.Base.{most_kept}
+use Rattle.unit_history.specs.Slots.{Ringed}
 use Rattle.unit_history.proofs.Slots.{slots_more, calm_more}
 use Rattle.unit_history.proofs.ring.KindRing.push_at.Goals as goal
 

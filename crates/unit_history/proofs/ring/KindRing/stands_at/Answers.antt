@@ -1,6 +1,6 @@
 use Rattle.std.proofs.Common.{◌<◌, ◌≤◌, ◌+◌, sym, subst, length}
-use Rattle.unit_model.specs.Inner.Base.{most_kept}
-use Rattle.unit_history.specs.Inner.Slots.{Ringed}
+use Rattle.unit_model.specs.Base.{most_kept}
+use Rattle.unit_history.specs.Slots.{Ringed}
 use Rattle.unit_history.proofs.Slots.{stands_at}
 use Rattle.unit_history.proofs.ring.KindRing.stands_at.Goals as goal
 
