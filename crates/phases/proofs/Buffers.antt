@@ -6,7 +6,7 @@ use Rattle.ring_core.specs.Writes.{Write, all_written}
 use Rattle.ring_core.specs.declared.log.Ticket.{Ticket}
 use Rattle.event_queue.specs.Port.{PlainPort}
 use Rattle.device_model.specs.Parts.{PlainFetch, IsSeen, Slot, answer_writes, is_short}
-use Rattle.device_model.specs.Transitions.{Transition}
+use Rattle.device_model.specs.Transitions.{Transition, completion_of}
 use Rattle.device_model.specs.After.{with_chain}
 use Rattle.device_model.specs.Happens.{spent_bytes}
 use Rattle.virtqueue.specs.Queue.{BareQueue, completing}
@@ -15,6 +15,7 @@ use Rattle.virtqueue.specs.Looking.{Breaks}
 use Rattle.phases.specs.EventQueue.{IsEventFetch}
 use Rattle.phases.specs.Inner.InMemory.{as_seen}
 use Rattle.phases.specs.Inner.EventsInMemory.{DoesAtPortIn, TakesBuffer}
+use Rattle.phases.specs.Inner.Stored.{spent_writes, writes_of}
 
 -- what one lock lends is the same where its parts are
 same_lent : (q : BareQueue) (r : RingState) (n : ℕ) → q.ring ≡ r → q.notices ≡ n → q ≡ record { ring = r; notices = n }
@@ -44,10 +45,11 @@ module _ (old new : BareQueue) (m : List ℕ) (c : PlainChain) (bytes : List ℕ
   is_accepted = same_lent new (with_chain c old.ring) old.notices taken.after same
 
   -- the transition that the taking of the buffer is
-  pub buffer_taken : (shared : Bool) (q' : BareQueue) (left seen : List ℕ) (p' : PlainPort) (b : Bool) → (is_short c || p.missed) ≡ b
-      → IsSeen shared left seen → TakesBuffer b c new m p q' left seen p'
+  pub buffer_taken : (shared : Bool) (stored : List Write → Type 0) (q' : BareQueue) (left seen : List ℕ) (p' : PlainPort) (b : Bool)
+      → (is_short c || p.missed) ≡ b → IsSeen shared left seen → TakesBuffer b c new m p q' left seen p' → stored (spent_writes b c new.ring)
       → (d : Transition) × IsEventFetch d × DoesAtPortIn shared d (with_slot s old) m p (with_slot s q') left seen p'
-  buffer_taken shared q' left seen p' false held is (stays, port) = (
+      × stored (writes_of (completion_of d))
+  buffer_taken shared stored q' left seen p' false held is (stays, port) made = (
     Transition.Hold fetch,
     of_queue,
     record {
@@ -57,8 +59,9 @@ module _ (old new : BareQueue) (m : List ℕ) (c : PlainChain) (bytes : List ℕ
       sees = stays.seen ∙ sym stays.memory;
       port = port;
     },
+    made,
   )
-  buffer_taken shared q' left seen p' true spent is (uses, port) =
+  buffer_taken shared stored q' left seen p' true spent is (uses, port) made =
       let memory : left ≡ all_written m writes =
       uses.memory ∙ ap (λ (n : BareQueue). all_written m (answer_writes n.ring c (spent_bytes c))) is_accepted in (
         Transition.UseBuffer fetch (as_seen seen writes),
@@ -70,6 +73,7 @@ module _ (old new : BareQueue) (m : List ℕ) (c : PlainChain) (bytes : List ℕ
           sees = refl;
           port = port;
         },
+        subst stored (ap (λ (n : BareQueue). answer_writes n.ring c (spent_bytes c)) is_accepted) made,
       )
 
 -- a fault of the guest that breaks the event queue is the transition that breaks it

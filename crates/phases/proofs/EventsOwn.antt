@@ -23,9 +23,9 @@ stays_own : (q q' : BareQueue) (m m' n : List ℕ) → StaysQueueIn q q' m m' n 
 stays_own q q' m m' n stays = record { queue = stays.queue; memory = stays.memory }
 
 -- a fetch from the event queue
-pub fetches_own : (q q' : PlainQueue) (m m' n : List ℕ) (p p' : PlainPort) (r : Result Bool NoMemory)
-    → FetchesEventIn false q m p r q' m' n p' → FetchesEvent q m p r q' m' p'
-fetches_own q q' m m' n p p' (Ok true) (event, free, (d, is, does)) = (
+pub fetches_own : (stored : List Write → Type 0) (q q' : PlainQueue) (m m' n : List ℕ) (p p' : PlainPort) (r : Result Bool NoMemory)
+    → FetchesEventIn false stored q m p r q' m' n p' → FetchesEvent q m p r q' m' p'
+fetches_own stored q q' m m' n p p' (Ok true) (event, free, (d, is, does, made)) = (
   event,
   free,
   (
@@ -39,9 +39,9 @@ fetches_own q q' m m' n p p' (Ok true) (event, free, (d, is, does)) = (
     },
   ),
 )
-fetches_own q q' m m' n p p' (Ok false) (stays, none) =
+fetches_own stored q q' m m' n p p' (Ok false) (stays, none, made) =
     (record { queue = stays.queue; memory = stays.memory; port = stays.port }, none)
-fetches_own q q' m m' n p p' (Err e) (stays, event, free, lacks) =
+fetches_own stored q q' m m' n p p' (Err e) (stays, event, free, lacks, made) =
     (record { queue = stays.queue; memory = stays.memory; port = stays.port }, event, free, lacks)
 
 -- nothing raised

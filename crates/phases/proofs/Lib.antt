@@ -11,3 +11,4 @@ pub mod AtOnce
 pub mod Behind
 pub mod EventsOwn
 pub mod Raised
+pub mod Stored

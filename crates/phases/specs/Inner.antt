@@ -10,3 +10,4 @@ pub mod Serving
 pub mod InMemory
 pub mod EventsInMemory
 pub mod ServingInMemory
+pub mod Stored

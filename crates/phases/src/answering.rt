@@ -2,6 +2,7 @@
 
 ghost use Rattle.std.specs.Prelude.{◌≡◌, ◌<◌, List, ℕ, length, true, is_some, MatchOption, IfSome, Some};
 ghost use Rattle.ring_core.specs.State.{Owns};
+ghost use Rattle.ring_core.specs.Writes.{stores_of};
 ghost use Rattle.virtqueue.specs.Queue.{MayComplete};
 ghost use Rattle.device_model.specs.Parts as plain;
 ghost use Rattle.phases.specs.Parts.{hand_of, outcome_in};
@@ -11,6 +12,7 @@ ghost use Rattle.phases.specs.Inner.Outcomes.{WritesEndingIn};
 ghost use Rattle.phases.specs.Answering.{Answers};
 ghost use Rattle.phases.specs.InMemory.{EachSeen};
 ghost use Rattle.phases.specs.Inner.InMemory.{AnswersIn};
+ghost use Rattle.phases.specs.Inner.Stored.{answered_writes, StoresEnding};
 
 use crate::hand::Hand;
 use crate::job_in_hand::JobInHand;
@@ -30,6 +32,8 @@ fn write_held<M: WritableMemory>(queue: &Queue, memory: &mut M, held: &JobInHand
         × (memory.new ≡ memory.old))
         (λ len. (M.extent memory.old ≡ queue.now.ring.memory) × Owns queue.now.ring held.now.job.chain
         × WritesEndingIn held.now (M.may_be memory.old) len (M.may_be memory.new)) }
+    ensures stores { IfSome result (λ _. StoresEnding held.now
+        (λ ws. M.stored memory.new ≡ M.storing (M.stored memory.old) (stores_of ws))) }
     ensures size { M.extent memory.new ≡ M.extent memory.old }
 {
     if !queue.may_complete_in(memory, held.job().chain()) {
@@ -96,6 +100,8 @@ pub fn phase_answer_in<M: WritableMemory>(
     ensures answers { EachSeen M.shared (M.may_be memory.old) (M.may_be memory.new)
         (λ found left seen. AnswersIn M.shared (hand_of hand.old) queue.old found (is_some result) queue.new left seen
         (hand_of hand.new)) }
+    ensures stores { M.stored memory.new
+        ≡ M.storing (M.stored memory.old) (stores_of (answered_writes (hand_of hand.old) queue.old.ring (is_some result))) }
     ensures gives { IfSome result (λ given. given_in hand.old ≡ Some given) }
     ensures size { M.extent memory.new ≡ M.extent memory.old }
     ensures reading { M.is_open memory.old → M.is_open memory.new }

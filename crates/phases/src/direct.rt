@@ -3,6 +3,7 @@
 ghost use Rattle.std.specs.Prelude.{◌≡◌, ◌≤◌, List, ℕ, length, is_some, IfSome, Some};
 ghost use Rattle.ring_core.specs.Parts.{writable_total};
 ghost use Rattle.ring_core.specs.State.{Owns};
+ghost use Rattle.ring_core.specs.Writes.{stores_of};
 ghost use Rattle.device_model.specs.Parts.{answer_writes};
 ghost use Rattle.virtqueue.specs.Queue.{completing};
 ghost use Rattle.virtqueue.specs.Completing.{SeenBehind};
@@ -11,6 +12,7 @@ ghost use Rattle.phases.specs.DirectChain.{note_in};
 ghost use Rattle.phases.specs.Direct.{Directs, Responds};
 ghost use Rattle.phases.specs.InMemory.{EachSeen};
 ghost use Rattle.phases.specs.Inner.InMemory.{DirectsIn, RespondsIn};
+ghost use Rattle.phases.specs.Inner.Stored.{directed_writes, responded_writes};
 
 use crate::function::OpenFunction;
 use crate::note::Note;
@@ -34,6 +36,8 @@ fn answer_chain<M: WritableMemory>(
     ensures ticket { result ≡ chain.ticket }
     ensures seen { SeenBehind M.shared (M.may_be memory.old) (M.may_be memory.new)
         (answer_writes queue.old.ring chain answer.now) }
+    ensures stores { M.stored memory.new
+        ≡ M.storing (M.stored memory.old) (stores_of (answer_writes queue.old.ring chain answer.now)) }
     ensures size { M.extent memory.new ≡ M.extent memory.old }
     ensures reading { M.is_open memory.new }
     ensures queue { (m : List ℕ) → M.may_be memory.new m → queue.new ≡ completing m chain queue.old }
@@ -65,6 +69,8 @@ pub fn phase_direct_in<M: WritableMemory>(
     ensures directs { EachSeen M.shared (M.may_be memory.old) (M.may_be memory.new)
         (λ found left seen. DirectsIn M.shared (slot_of slot.old) queue.old found (is_some result) queue.new left seen
         (slot_of slot.new)) }
+    ensures stores { M.stored memory.new
+        ≡ M.storing (M.stored memory.old) (stores_of (directed_writes (slot_of slot.old) queue.old.ring (is_some result))) }
     ensures note { IfSome result (λ note. note_in (slot_of slot.old) ≡ Some note) }
     ensures size { M.extent memory.new ≡ M.extent memory.old }
     ensures reading { M.is_open memory.old → M.is_open memory.new }
@@ -109,6 +115,8 @@ pub fn phase_answer_tmf_in<M: WritableMemory>(
 ) -> bool
     ensures responds { EachSeen M.shared (M.may_be memory.old) (M.may_be memory.new)
         (λ found left seen. RespondsIn M.shared function.old queue.old found result queue.new left seen function.new) }
+    ensures stores { M.stored memory.new
+        ≡ M.storing (M.stored memory.old) (stores_of (responded_writes function.old queue.old.ring result)) }
     ensures size { M.extent memory.new ≡ M.extent memory.old }
     ensures reading { M.is_open memory.old → M.is_open memory.new }
 {

@@ -64,6 +64,7 @@ pub fn phase_fetch_in<M: Memory>(
     requires reading { M.is_open memory.old }
     ensures size { M.extent memory.new ≡ M.extent memory.old }
     ensures stays { (m : List ℕ) → M.may_be memory.new m → M.may_be memory.old m }
+    ensures stores { M.stored memory.new ≡ M.stored memory.old }
     ensures reading { M.is_open memory.new }
     ensures fetches { (m : List ℕ) → M.may_be memory.new m → FetchesRequest inventory.now m
         (with_slot (slot_of slot.old) queue.old) result (with_slot (slot_of slot.new) queue.new) }
@@ -142,6 +143,7 @@ pub fn phase_fetch_control_in<M: Memory>(
     requires reading { M.is_open memory.old }
     ensures size { M.extent memory.new ≡ M.extent memory.old }
     ensures stays { (m : List ℕ) → M.may_be memory.new m → M.may_be memory.old m }
+    ensures stores { M.stored memory.new ≡ M.stored memory.old }
     ensures reading { M.is_open memory.new }
     ensures fetches { (m : List ℕ) → M.may_be memory.new m
         → FetchesControl inventory.now m (with_slot (slot_of slot.old) queue.old) function.old

@@ -37,6 +37,8 @@ impl JobInHand {
     ghost use Rattle.std.specs.Prelude.{None, true};
     ghost use Rattle.phases.specs.Giving.{is_reply};
     ghost use Rattle.phases.specs.Inner.Outcomes.{WritesEndingIn};
+    ghost use Rattle.phases.specs.Inner.Stored.{StoresEnding};
+    ghost use Rattle.ring_core.specs.Writes.{stores_of};
     ghost use Rattle.unit_history.specs.declared.outcomes.Outcome as answers;
 
     /// Makes a job that is to be committed.
@@ -93,6 +95,7 @@ impl JobInHand {
         requires fits { M.extent memory.old ≡ self.now.job.chain.memory }
         requires over { is_some self.now.outcome ≡ true }
         ensures written { WritesEndingIn self.now (M.may_be memory.old) result (M.may_be memory.new) }
+        ensures stores { StoresEnding self.now (λ ws. M.stored memory.new ≡ M.storing (M.stored memory.old) (stores_of ws)) }
         ensures size { M.extent memory.new ≡ M.extent memory.old }
     {
         match &self.outcome {

@@ -1,13 +1,16 @@
 //! The steps on the event queue: a buffer comes, and an event is raised.
 
-ghost use Rattle.std.specs.Prelude.{◌≡◌, ◌≤◌, ◌<◌, ◌↔◌, ◌^◌, List, ℕ, length, IsTrue};
+ghost use Rattle.std.specs.Prelude.{◌≡◌, ◌≤◌, ◌<◌, ◌↔◌, ◌^◌, ◌||◌, List, ℕ, length, IsTrue};
 ghost use Rattle.ring_core.specs.Parts.{writable_total};
 ghost use Rattle.ring_core.specs.State.{Owns};
+ghost use Rattle.ring_core.specs.Writes.{stores_of};
+ghost use Rattle.device_model.specs.Parts.{answer_writes, is_short};
 ghost use Rattle.phases.specs.Queue.{with_slot};
 ghost use Rattle.phases.specs.Slots.{slot_of};
 ghost use Rattle.phases.specs.EventQueue.{FetchesEvent, RaisesNext, MayHold};
 ghost use Rattle.phases.specs.Inner.EventQueue.{MayRaise};
 ghost use Rattle.phases.specs.InMemory.{EachSeen};
+ghost use Rattle.phases.specs.Inner.Stored.{raised_writes, spent_writes};
 ghost use Rattle.phases.specs.Inner.EventsInMemory.{FetchesEventIn, RaisesNextIn, LooksAtPort, IsHeldBy, UsesWith, TakesBufferOf, MayRaiseIn};
 
 use crate::slot::Slot;
@@ -26,6 +29,8 @@ fn use_with<M: WritableMemory>(queue: &mut Queue, memory: &mut M, chain: Chain, 
     requires small { length bytes.now < 2 ^ 32 }
     ensures uses { EachSeen M.shared (M.may_be memory.old) (M.may_be memory.new)
         (λ found left seen. UsesWith chain bytes.now queue.old found queue.new left seen) }
+    ensures stores { M.stored memory.new
+        ≡ M.storing (M.stored memory.old) (stores_of (answer_writes queue.old.ring chain bytes.now)) }
     ensures size { M.extent memory.new ≡ M.extent memory.old }
     ensures reading { M.is_open memory.new }
 {
@@ -44,6 +49,8 @@ fn use_held<M: WritableMemory>(
     requires owned { Owns queue.old.ring buffer }
     ensures uses { EachSeen M.shared (M.may_be memory.old) (M.may_be memory.new)
         (λ found left seen. UsesWith buffer event.now queue.old found queue.new left seen) }
+    ensures stores { M.stored memory.new
+        ≡ M.storing (M.stored memory.old) (stores_of (answer_writes queue.old.ring buffer event.now)) }
     ensures size { M.extent memory.new ≡ M.extent memory.old }
     ensures reading { M.is_open memory.new }
 {
@@ -63,6 +70,8 @@ fn take_buffer<M: WritableMemory>(
     requires room { MayHold port.old }
     ensures takes { EachSeen M.shared (M.may_be memory.old) (M.may_be memory.new)
         (λ found left seen. TakesBufferOf chain queue.old found port.old queue.new left seen port.new) }
+    ensures stores { M.stored memory.new
+        ≡ M.storing (M.stored memory.old) (stores_of (spent_writes (is_short chain || port.old.missed) chain queue.old.ring)) }
     ensures size { M.extent memory.new ≡ M.extent memory.old }
     ensures reading { M.is_open memory.new }
 {
@@ -92,6 +101,7 @@ fn fetch_at_port<M: Memory>(
     requires reading { M.is_open memory.old }
     ensures size { M.extent memory.new ≡ M.extent memory.old }
     ensures stays { (m : List ℕ) → M.may_be memory.new m → M.may_be memory.old m }
+    ensures stores { M.stored memory.new ≡ M.stored memory.old }
     ensures reading { M.is_open memory.new }
     ensures looks { (m : List ℕ) → M.may_be memory.new m
         → LooksAtPort (slot_of slot.now) queue.old m port.now result queue.new }
@@ -137,7 +147,9 @@ pub fn phase_fetch_event_in<M: WritableMemory>(
 ) -> Result<bool, NoMemory>
     requires reading { M.is_open memory.old }
     ensures fetches { EachSeen M.shared (M.may_be memory.old) (M.may_be memory.new)
-        (λ found left seen. FetchesEventIn M.shared (with_slot (slot_of slot.now) queue.old) found port.old
+        (λ found left seen. FetchesEventIn M.shared
+        (λ ws. M.stored memory.new ≡ M.storing (M.stored memory.old) (stores_of ws))
+        (with_slot (slot_of slot.now) queue.old) found port.old
         result (with_slot (slot_of slot.now) queue.new) left seen port.new) }
     ensures size { M.extent memory.new ≡ M.extent memory.old }
     ensures reading { M.is_open memory.new }
@@ -192,6 +204,8 @@ pub fn phase_raise_in<M: WritableMemory>(
     ensures raises { EachSeen M.shared (M.may_be memory.old) (M.may_be memory.new)
         (λ found left seen. RaisesNextIn M.shared waiting.old queue.old found port.old
         result queue.new left seen port.new waiting.new) }
+    ensures stores { M.stored memory.new
+        ≡ M.storing (M.stored memory.old) (stores_of (raised_writes waiting.old port.old.buffers queue.old.ring result)) }
     ensures size { M.extent memory.new ≡ M.extent memory.old }
     ensures reading { M.is_open memory.old → M.is_open memory.new }
 {

@@ -2,7 +2,7 @@
 
 ghost use Rattle.std.specs.Prelude.{◌≡◌, ◌+◌, ◌≤◌, ◌<◌, ◌-◌, ◌^◌, length, IfOk, IfSome};
 ghost use Rattle.ring_core.specs.Parts.{writable_total};
-ghost use Rattle.ring_core.specs.Writes.{Wrote, scatter_writes};
+ghost use Rattle.ring_core.specs.Writes.{Wrote, scatter_writes, stores_of};
 ghost use Rattle.unit_model.specs.Endings.{answer_of, code_of};
 ghost use Rattle.unit_history.specs.Endings.{ending_of, ending_of_reply, ending_of_run, plain_run, FitsNeed};
 
@@ -33,6 +33,8 @@ pub(crate) fn write_run<M: WritableMemory>(
     ensures written { result ≡ length (answer_of lengths.now (ending_of_run (plain_run ran.now))) }
     ensures memory { Wrote (M.may_be memory.old) (M.may_be memory.new)
         (scatter_writes chain.now.parts 0 (answer_of lengths.now (ending_of_run (plain_run ran.now)))) }
+    ensures stores { M.stored memory.new ≡ M.storing (M.stored memory.old)
+        (stores_of (scatter_writes chain.now.parts 0 (answer_of lengths.now (ending_of_run (plain_run ran.now))))) }
     ensures size { M.extent memory.new ≡ M.extent memory.old }
 {
     match ran {
@@ -67,6 +69,8 @@ fn write_receipt<M: WritableMemory>(
     ensures written { result ≡ length (answer_of lengths.now (ending_of_reply receipt.now.reply)) }
     ensures memory { Wrote (M.may_be memory.old) (M.may_be memory.new)
         (scatter_writes chain.now.parts 0 (answer_of lengths.now (ending_of_reply receipt.now.reply))) }
+    ensures stores { M.stored memory.new ≡ M.storing (M.stored memory.old)
+        (stores_of (scatter_writes chain.now.parts 0 (answer_of lengths.now (ending_of_reply receipt.now.reply)))) }
     ensures size { M.extent memory.new ≡ M.extent memory.old }
 {
     match receipt.reply() {
@@ -91,6 +95,8 @@ pub(crate) fn write_outcome<M: WritableMemory>(
     ensures written { result ≡ length (answer_of lengths.now (ending_of outcome.now)) }
     ensures memory { Wrote (M.may_be memory.old) (M.may_be memory.new)
         (scatter_writes chain.now.parts 0 (answer_of lengths.now (ending_of outcome.now))) }
+    ensures stores { M.stored memory.new ≡ M.storing (M.stored memory.old)
+        (stores_of (scatter_writes chain.now.parts 0 (answer_of lengths.now (ending_of outcome.now)))) }
     ensures size { M.extent memory.new ≡ M.extent memory.old }
 {
     match outcome {

@@ -81,6 +81,7 @@ pub fn take_request_in<M: Memory>(
     requires reading { M.is_open memory.old }
     ensures size { M.extent memory.new ≡ M.extent memory.old }
     ensures stays { (m : List ℕ) → M.may_be memory.new m → M.may_be memory.old m }
+    ensures stores { M.stored memory.new ≡ M.stored memory.old }
     ensures reading { M.is_open memory.new }
     ensures takes { (m : List ℕ) → M.may_be memory.new m
         → TakesRequest inventory.now m (slot_of slot.old) queue.old result (slot_of slot.new) queue.new }

@@ -3,7 +3,7 @@ use Rattle.std.proofs.Common.{◌≡◌, ◌≤◌, ℕ, zero, suc, Bool, true, 
 use Rattle.std.specs.Prelude.{slice_get, slice_set, ◌&&◌}
 use Rattle.block_store.specs.declared.NoMemory.{NoMemory}
 use Rattle.ring_core.specs.State.{PlainChain}
-use Rattle.ring_core.specs.Writes.{all_written}
+use Rattle.ring_core.specs.Writes.{Write, all_written}
 use Rattle.ring_core.specs.Sound as ring
 use Rattle.event_queue.specs.Port.{PlainPort}
 use Rattle.device_model.specs.Parts.{Slot, is_short}
@@ -102,18 +102,18 @@ module _ (w : PlainWorld) (k : ℕ) (q q' : PlainQueue) (m' n : List ℕ) (p p' 
       ∙ ap (λ (b : Bool). record w { missed = b }) missed
 
   -- what a fetch does is a turn of its event, or memory was refused
-  pub event_turns : (r : Result Bool NoMemory) → IsSound w → q.ring.memory ≡ length w.memory → MayHold p
-      → FetchesEventIn w.shared q w.memory p r q' m' n p'
+  pub event_turns : (stored : List Write → Type 0) (r : Result Bool NoMemory) → IsSound w → q.ring.memory ≡ length w.memory → MayHold p
+      → FetchesEventIn w.shared stored q w.memory p r q' m' n p'
       → TurnsSeenOrWants n w (Event.Fetch 1) r (with_port m' (slice_set w.queues k q') p' w)
-  event_turns (Ok true) sound fits room h = event_transition h.2.0 h.1.empty h.2.1 h.2.2
-  event_turns (Ok false) sound fits room h = (
+  event_turns stored (Ok true) sound fits room h = event_transition h.2.0 h.1.empty h.2.1 h.2.2
+  event_turns stored (Ok false) sound fits room h = (
     event_still h.0,
     λ may.
         h.1 ((sound.numbered k q at).queue ∙ second) room
         (has_some w 1 q (at_number w k 1 q at (sym second)) (sym fits) may),
     h.0.sees,
   )
-  event_turns (Err e) sound fits room h = (
+  event_turns stored (Err e) sound fits room h = (
     record {
       queue = q;
       there = at_number w k 1 q at (sym second);
@@ -134,11 +134,11 @@ limit_after (Transition.Miss e) p = refl
 limit_after d p = refl
 
 -- and so does a fetch
-pub event_limit : (shared : Bool) (q q' : PlainQueue) (m m' n : List ℕ) (p p' : PlainPort) (r : Result Bool NoMemory)
-    → FetchesEventIn shared q m p r q' m' n p' → p'.limit ≡ p.limit
-event_limit shared q q' m m' n p p' (Ok true) h = ap (λ (z : PlainPort). z.limit) h.2.2.port ∙ limit_after h.2.0 p
-event_limit shared q q' m m' n p p' (Ok false) h = ap (λ (z : PlainPort). z.limit) h.0.port
-event_limit shared q q' m m' n p p' (Err e) h = ap (λ (z : PlainPort). z.limit) h.0.port
+pub event_limit : (shared : Bool) (stored : List Write → Type 0) (q q' : PlainQueue) (m m' n : List ℕ) (p p' : PlainPort)
+    (r : Result Bool NoMemory) → FetchesEventIn shared stored q m p r q' m' n p' → p'.limit ≡ p.limit
+event_limit shared stored q q' m m' n p p' (Ok true) h = ap (λ (z : PlainPort). z.limit) h.2.2.port ∙ limit_after h.2.0 p
+event_limit shared stored q q' m m' n p p' (Ok false) h = ap (λ (z : PlainPort). z.limit) h.0.port
+event_limit shared stored q q' m m' n p p' (Err e) h = ap (λ (z : PlainPort). z.limit) h.0.port
 
 -- the port may hold one more buffer
 pub may_hold : (w : PlainWorld) (k : ℕ) (q : PlainQueue) (p : PlainPort) → IsSound w → AreFew w → k ≡ 1

@@ -5,7 +5,7 @@ use Rattle.scsi_codec.specs.declared.lun.Address.{Address}
 use Rattle.scsi_codec.specs.declared.event_queue.Event.{Event as EventRecord}
 use Rattle.scsi_codec.specs.EventQueue.{event_bytes}
 use Rattle.ring_core.specs.State.{PlainChain, Owns}
-use Rattle.ring_core.specs.Writes.{all_written}
+use Rattle.ring_core.specs.Writes.{Write, all_written}
 use Rattle.ring_core.specs.Offer.{MayLackMemory}
 use Rattle.event_queue.specs.Port.{PlainPort}
 use Rattle.device_model.specs.Parts.{Slot, answer_writes, is_short}
@@ -21,6 +21,7 @@ use Rattle.phases.specs.Queue.{with_slot}
 use Rattle.phases.specs.Fetching.{IsFree, HasSome}
 use Rattle.phases.specs.EventQueue.{IsEventFetch, MayHold, port_after}
 use Rattle.phases.specs.Inner.InMemory.{as_seen, AtQueueIn, StaysQueueIn}
+use Rattle.phases.specs.Inner.Stored.{writes_of}
 use Rattle.phases.specs.EventsInMemory.{SeesBy}
 
 -- Fetch
@@ -42,16 +43,16 @@ pub record StaysAtPortIn (q : PlainQueue) (found : List ℕ) (p : PlainPort) (q'
   pub sees : seen ≡ found
   pub port : p' ≡ p
 
--- `FetchesEvent` in such a memory
-abbrev pub FetchesEventIn : Bool → PlainQueue → List ℕ → PlainPort → Result Bool NoMemory → PlainQueue → List ℕ → List ℕ
-    → PlainPort → Type 0
-FetchesEventIn shared q found p (Ok true) q' left seen p' =
+-- `FetchesEvent` in such a memory, in which these writes were stored
+abbrev pub FetchesEventIn : Bool → (List Write → Type 0) → PlainQueue → List ℕ → PlainPort → Result Bool NoMemory → PlainQueue
+    → List ℕ → List ℕ → PlainPort → Type 0
+FetchesEventIn shared stored q found p (Ok true) q' left seen p' =
     (q.ring.queue ≡ 1) × IsFree q found
-    × ((d : Transition) × IsEventFetch d × DoesAtPortIn shared d q found p q' left seen p')
-FetchesEventIn shared q found p (Ok false) q' left seen p' =
-    StaysAtPortIn q found p q' left seen p' × (q.ring.queue ≡ 1 → MayHold p → HasSome q found → ⊥)
-FetchesEventIn shared q found p (Err e) q' left seen p' =
-    StaysAtPortIn q found p q' left seen p' × (q.ring.queue ≡ 1) × IsFree q found × MayLackMemory q.ring found
+    × ((d : Transition) × IsEventFetch d × DoesAtPortIn shared d q found p q' left seen p' × stored (writes_of (completion_of d)))
+FetchesEventIn shared stored q found p (Ok false) q' left seen p' =
+    StaysAtPortIn q found p q' left seen p' × (q.ring.queue ≡ 1 → MayHold p → HasSome q found → ⊥) × stored []
+FetchesEventIn shared stored q found p (Err e) q' left seen p' =
+    StaysAtPortIn q found p q' left seen p' × (q.ring.queue ≡ 1) × IsFree q found × MayLackMemory q.ring found × stored []
 
 -- Raise
 

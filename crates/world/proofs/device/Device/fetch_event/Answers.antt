@@ -1,4 +1,5 @@
-use Rattle.std.proofs.Common.{◌<◌, refl, ◌∙◌, arith}
+use Rattle.std.proofs.Common.{◌≡◌, ◌<◌, List, refl, ◌∙◌, arith}
+use Rattle.ring_core.specs.Writes.{Write, stores_of}
 use Rattle.std.specs.Prelude.{slice_set}
 use Rattle.std.proofs.lemmas.Option.{slice_get_read}
 use Rattle.device_model.specs.Events.{Event}
@@ -17,9 +18,11 @@ invariant_of-self g c =
     let d = c.self.inside in
     let some = c.size-bytes.ensures.some in
     let r = c.phase_fetch_event_in-fetched.ensures.fetches some.0 some.1 in
+    let stored : List Write → Type 0 =
+    λ ws. g.M.Memory.stored c.phase_fetch_event_in-fetched.new.memory ≡ g.M.Memory.storing (g.M.Memory.stored c.args.memory.now) (stores_of ws) in
     record {
       limits = c.self.invariant.limits;
-      port = event_limit g.M.Memory.shared _ _ r.0 r.2.0 some.0 d.port _ c.phase_fetch_event_in-fetched.result r.2.2
+      port = event_limit g.M.Memory.shared stored _ _ r.0 r.2.0 some.0 d.port _ c.phase_fetch_event_in-fetched.result r.2.2
           ∙ c.self.invariant.port;
     }
 
@@ -36,9 +39,10 @@ returns-clause-turns g c =
     let q = with_slot slot c.bay.inside.queue in
     let q' = with_slot slot fetch.new.queue in
     let shared = g.M.Memory.shared in
+    let stored : List Write → Type 0 = λ ws. g.M.Memory.stored fetch.new.memory ≡ g.M.Memory.storing (g.M.Memory.stored c.args.memory.now) (stores_of ws) in
     rw (← c.self.view_is)
     (each_from shared (g.M.Memory.may_be c.args.memory.now) (g.M.Memory.may_be fetch.new.memory)
-    (λ m left n. FetchesEventIn shared q m d.port fetch.result q' left n fetch.new.port)
+    (λ m left n. FetchesEventIn shared stored q m d.port fetch.result q' left n fetch.new.port)
     (λ m left n.
     let w = standing shared m (the_view d) in
     TurnsSeenOrWants n w (Event.Fetch 1) fetch.result (with_port left (slice_set w.queues 1 q') fetch.new.port w))
@@ -47,7 +51,7 @@ returns-clause-turns g c =
     let sound = sound_seen shared m _ _ c.self.view_is (c.requires.sound m was) in
     let fits = fits_at (g.M.Memory.extent c.args.memory.now) m _ _ c.self.view_is
     (g.met.M.Memory.sized c.args.memory.now m was) c.requires.fits in
-    event_turns w 1 q q' left n d.port fetch.new.port refl here refl refl fetch.result sound (fits 1 _ here)
+    event_turns w 1 q q' left n d.port fetch.new.port refl here refl refl stored fetch.result sound (fits 1 _ here)
     (may_hold w 1 q d.port sound (few_in shared m (the_view d) few) refl here refl c.self.invariant.port
     c.log-log.ensures.sound c.log-log.ensures.few)
     h)
