@@ -1,4 +1,4 @@
-use Rattle.std.proofs.Common.{◌≡◌, Ok, Some, false, true, length}
+use Rattle.std.proofs.Common.{◌≡◌, Ok, Some, false, length}
 use Rattle.guest_mem.specs.Memory.{LiesIn}
 use Rattle.ring_core.specs.Writes.{Write}
 use Rattle.device_model.specs.Events.{Event}
