@@ -30,9 +30,9 @@ pub const FEATURES: u64 = VERSION_1 + RING_PACKED + INDIRECT_DESC + CHANGE;
 
 /// Names all features that the device takes: `FEATURES` and `EVENT_IDX`.
 ///
-/// The device never writes `avail_event` or its event area. A driver of a split queue that agreed to `EVENT_IDX` tells
-/// of a new chain only where `avail_event` names it, so it stops after its first chain. A host offers `EVENT_IDX` for
-/// packed queues alone, or writes the guest's `avail_event` itself after each call that serves the queue.
+/// By itself the device never writes `avail_event` or its event area. A driver of a split queue that agreed to
+/// `EVENT_IDX` tells of a new chain only where `avail_event` names it, so it stops after its first chain. A host offers
+/// `EVENT_IDX` for packed queues alone, or asks anew by `ask` of the device after each call that served the queue.
 pub const ACCEPTED_FEATURES: u64 = FEATURES + EVENT_IDX;
 
 /// A device that is wanted.
