@@ -145,18 +145,18 @@ where
         rt: &'a R,
         alloc: Global,
         work: &Work,
-        commits: Blank,
+        acts: Blank,
         receipts: Blank,
     ) -> Result<Hosted<'a, R, C, D>, Failure>
-        requires commits { Opens commits.name commits.parts C.name C.parts 64 }
-        requires receipts { Opens receipts.name receipts.parts D.name D.parts 9 }
+        requires acts { Opens acts.name acts.parts C.name C.parts 64 }
+        requires receipts { Opens receipts.name receipts.parts D.name D.parts 73 }
     {
         let config = config(alloc, work)?;
         let answered = share(alloc)?;
         let gate = Counting {
             answered: Arc::try_clone(&answered)?,
         };
-        let host = Host::start(*rt, alloc, config, gate, work.workers, commits, receipts)?;
+        let host = Host::start(*rt, alloc, config, gate, work.workers, acts, receipts)?;
         Ok(Hosted { rt, host, answered })
     }
 

@@ -68,7 +68,7 @@ fn serve_hosted<R: Clock + Threads + Wait + Copy + Send + 'static>(
     alloc: Global,
     work: &Work,
 ) -> Result<Done, Failure> {
-    serve_hosted_with::<Brand, Brand, R>(rt, alloc, work, Blank::new(64), Blank::new(9))
+    serve_hosted_with::<Brand, Brand, R>(rt, alloc, work, Blank::new(64), Blank::new(73))
 }
 
 /// Does the same with these ledgers.
@@ -76,17 +76,17 @@ fn serve_hosted_with<C, D, R>(
     rt: &R,
     alloc: Global,
     work: &Work,
-    commits: Blank,
+    acts: Blank,
     receipts: Blank,
 ) -> Result<Done, Failure>
 where
     C: Ledger + Send + Sync + 'static,
     D: Ledger + Send + Sync + 'static,
     R: Clock + Threads + Wait + Copy + Send + 'static,
-    requires commits { Opens commits.name commits.parts C.name C.parts 64 }
-    requires receipts { Opens receipts.name receipts.parts D.name D.parts 9 }
+    requires acts { Opens acts.name acts.parts C.name C.parts 64 }
+    requires receipts { Opens receipts.name receipts.parts D.name D.parts 73 }
 {
-    let mut device: Hosted<'_, R, C, D> = Hosted::new(rt, alloc, work, commits, receipts)?;
+    let mut device: Hosted<'_, R, C, D> = Hosted::new(rt, alloc, work, acts, receipts)?;
     let guest = Guest::new(alloc, &mut device, work);
     let start = Instant::now(rt).ok();
     let good = match guest {

@@ -52,7 +52,7 @@ where
         wanted,
         workers,
         Blank::new(64),
-        Blank::new(9),
+        Blank::new(73),
     )?;
     closed.run(&script, rest, out)
 }
@@ -65,17 +65,17 @@ fn run_lines<C, D, R>(
     script: &Script<'_>,
     wanted: Wanted,
     workers: u16,
-    commits: Blank,
+    acts: Blank,
     receipts: Blank,
 ) -> Result<(usize, Closed), ScriptFault>
 where
     C: Ledger + Send + Sync + 'static,
     D: Ledger + Send + Sync + 'static,
     R: Threads + Wait + Copy + Send + 'static,
-    requires commits { Opens commits.name commits.parts C.name C.parts 64 }
-    requires receipts { Opens receipts.name receipts.parts D.name D.parts 9 }
+    requires acts { Opens acts.name acts.parts C.name C.parts 64 }
+    requires receipts { Opens receipts.name receipts.parts D.name D.parts 73 }
 {
-    let started = Service::<C, D>::start(rt, alloc, wanted, workers, commits, receipts);
+    let started = Service::<C, D>::start(rt, alloc, wanted, workers, acts, receipts);
     let mut service = match started {
         Ok(service) => service,
         Err(stop) => return Err(script.refused(stop)),
@@ -133,14 +133,14 @@ impl<C: Ledger, D: Ledger> Service<C, D> {
         alloc: Global,
         wanted: Wanted,
         workers: u16,
-        commits: Blank,
+        acts: Blank,
         receipts: Blank,
     ) -> Result<Service<C, D>, Stop>
     where
         C: Send + Sync + 'static,
         D: Send + Sync + 'static,
-        requires commits { Opens commits.name commits.parts C.name C.parts 64 }
-        requires receipts { Opens receipts.name receipts.parts D.name D.parts 9 }
+        requires acts { Opens acts.name acts.parts C.name C.parts 64 }
+        requires receipts { Opens receipts.name receipts.parts D.name D.parts 73 }
     {
         let Wanted {
             config,
@@ -150,7 +150,7 @@ impl<C: Ledger, D: Ledger> Service<C, D> {
             features,
         } = wanted;
         let pages = config.pages;
-        let host = match Host::start(rt, alloc, config, Open, workers, commits, receipts) {
+        let host = match Host::start(rt, alloc, config, Open, workers, acts, receipts) {
             Ok(host) => host,
             Err(fault) => return Err(stop_of(fault)),
         };

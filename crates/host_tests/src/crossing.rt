@@ -155,7 +155,7 @@ pub(crate) fn cross<R: Threads + Wait + Copy + Send + 'static>(
     alloc: Global,
     workers: u16,
 ) -> Option<Crossed> {
-    cross_with::<Brand, Brand, R>(rt, alloc, workers, Blank::new(64), Blank::new(9))
+    cross_with::<Brand, Brand, R>(rt, alloc, workers, Blank::new(64), Blank::new(73))
 }
 
 /// Does what [`cross`] does, with these ledgers.
@@ -163,21 +163,21 @@ fn cross_with<C, D, R>(
     rt: R,
     alloc: Global,
     workers: u16,
-    commits: Blank,
+    acts: Blank,
     receipts: Blank,
 ) -> Option<Crossed>
 where
     C: Ledger + Send + Sync + 'static,
     D: Ledger + Send + Sync + 'static,
     R: Threads + Wait + Copy + Send + 'static,
-    requires commits { Opens commits.name commits.parts C.name C.parts 64 }
-    requires receipts { Opens receipts.name receipts.parts D.name D.parts 9 }
+    requires acts { Opens acts.name acts.parts C.name C.parts 64 }
+    requires receipts { Opens receipts.name receipts.parts D.name D.parts 73 }
 {
     let seen = Arc::new(alloc, Seen::new()).ok()?;
     let gate = Crossing {
         seen: Arc::try_clone(&seen).ok()?,
     };
-    let host: Host<Crossing, C, D> = start(rt, alloc, gate, workers, 8, commits, receipts)?;
+    let host: Host<Crossing, C, D> = start(rt, alloc, gate, workers, 8, acts, receipts)?;
     ask(&rt, &host, EARLY_WRITE);
     ask(&rt, &host, LATE_WRITE);
     let answered = are_answered(&rt, &host, EARLY, 1) && are_answered(&rt, &host, LATE, 1);

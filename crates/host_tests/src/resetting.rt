@@ -36,7 +36,7 @@ pub(crate) fn reset<R: Threads + Wait + Copy + Send + 'static>(
     alloc: Global,
     workers: u16,
 ) -> Option<(Told, Option<Left>)> {
-    reset_with::<Brand, Brand, R>(rt, alloc, workers, Blank::new(64), Blank::new(9))
+    reset_with::<Brand, Brand, R>(rt, alloc, workers, Blank::new(64), Blank::new(73))
 }
 
 /// Does what [`reset`] does, with these ledgers.
@@ -44,17 +44,17 @@ fn reset_with<C, D, R>(
     rt: R,
     alloc: Global,
     workers: u16,
-    commits: Blank,
+    acts: Blank,
     receipts: Blank,
 ) -> Option<(Told, Option<Left>)>
 where
     C: Ledger + Send + Sync + 'static,
     D: Ledger + Send + Sync + 'static,
     R: Threads + Wait + Copy + Send + 'static,
-    requires commits { Opens commits.name commits.parts C.name C.parts 64 }
-    requires receipts { Opens receipts.name receipts.parts D.name D.parts 9 }
+    requires acts { Opens acts.name acts.parts C.name C.parts 64 }
+    requires receipts { Opens receipts.name receipts.parts D.name D.parts 73 }
 {
-    let mut host: Host<Open, C, D> = start(rt, alloc, Open, workers, 1, commits, receipts)?;
+    let mut host: Host<Open, C, D> = start(rt, alloc, Open, workers, 1, acts, receipts)?;
     let done = host.operator(&rt, 0);
     ask(&rt, &host, BUFFER);
     ask(&rt, &host, FIRST);

@@ -85,7 +85,7 @@ pub(crate) fn is_refused<R: Threads + Wait + Copy + Send + 'static>(
     alloc: Global,
     workers: u16,
 ) -> Option<bool> {
-    is_refused_with::<Brand, Brand, R>(rt, alloc, workers, Blank::new(64), Blank::new(9))
+    is_refused_with::<Brand, Brand, R>(rt, alloc, workers, Blank::new(64), Blank::new(73))
 }
 
 /// Does what [`is_refused`] does, with these ledgers.
@@ -93,19 +93,19 @@ fn is_refused_with<C, D, R>(
     rt: R,
     alloc: Global,
     workers: u16,
-    commits: Blank,
+    acts: Blank,
     receipts: Blank,
 ) -> Option<bool>
 where
     C: Ledger + Send + Sync + 'static,
     D: Ledger + Send + Sync + 'static,
     R: Threads + Wait + Copy + Send + 'static,
-    requires commits { Opens commits.name commits.parts C.name C.parts 64 }
-    requires receipts { Opens receipts.name receipts.parts D.name D.parts 9 }
+    requires acts { Opens acts.name acts.parts C.name C.parts 64 }
+    requires receipts { Opens receipts.name receipts.parts D.name D.parts 73 }
 {
     let config = config(alloc, 1)?;
     let started: Result<Host<Open, C, D>, StartFault> = Host::start(
-        rt, alloc, config, Open, workers, commits, receipts,
+        rt, alloc, config, Open, workers, acts, receipts,
     );
     match started {
         Err(StartFault::BadConfig) => Some(true),
@@ -124,7 +124,7 @@ pub(crate) fn start<R, G, C, D>(
     gate: G,
     workers: u16,
     handoff: u16,
-    commits: Blank,
+    acts: Blank,
     receipts: Blank,
 ) -> Option<Host<G, C, D>>
 where
@@ -132,11 +132,11 @@ where
     G: Gate + Drop + Send + Sync + 'static,
     C: Ledger + Send + Sync + 'static,
     D: Ledger + Send + Sync + 'static,
-    requires commits { Opens commits.name commits.parts C.name C.parts 64 }
-    requires receipts { Opens receipts.name receipts.parts D.name D.parts 9 }
+    requires acts { Opens acts.name acts.parts C.name C.parts 64 }
+    requires receipts { Opens receipts.name receipts.parts D.name D.parts 73 }
 {
     let config = config(alloc, handoff)?;
-    Host::start(rt, alloc, config, gate, workers, commits, receipts).ok()
+    Host::start(rt, alloc, config, gate, workers, acts, receipts).ok()
 }
 
 /// Returns what a host of so many workers leaves when nothing was asked of it.
@@ -145,7 +145,7 @@ pub(crate) fn serve_nothing<R: Threads + Wait + Copy + Send + 'static>(
     alloc: Global,
     workers: u16,
 ) -> Option<Left> {
-    serve_nothing_with::<Brand, Brand, R>(rt, alloc, workers, Blank::new(64), Blank::new(9))
+    serve_nothing_with::<Brand, Brand, R>(rt, alloc, workers, Blank::new(64), Blank::new(73))
 }
 
 /// Does what [`serve_nothing`] does, with these ledgers.
@@ -153,17 +153,17 @@ fn serve_nothing_with<C, D, R>(
     rt: R,
     alloc: Global,
     workers: u16,
-    commits: Blank,
+    acts: Blank,
     receipts: Blank,
 ) -> Option<Left>
 where
     C: Ledger + Send + Sync + 'static,
     D: Ledger + Send + Sync + 'static,
     R: Threads + Wait + Copy + Send + 'static,
-    requires commits { Opens commits.name commits.parts C.name C.parts 64 }
-    requires receipts { Opens receipts.name receipts.parts D.name D.parts 9 }
+    requires acts { Opens acts.name acts.parts C.name C.parts 64 }
+    requires receipts { Opens receipts.name receipts.parts D.name D.parts 73 }
 {
-    let host: Host<Open, C, D> = start(rt, alloc, Open, workers, 1, commits, receipts)?;
+    let host: Host<Open, C, D> = start(rt, alloc, Open, workers, 1, acts, receipts)?;
     summed(host.close(&rt))
 }
 
@@ -173,7 +173,7 @@ pub(crate) fn serve<R: Threads + Wait + Copy + Send + 'static>(
     alloc: Global,
     workers: u16,
 ) -> Option<(bool, Option<Left>)> {
-    serve_with::<Brand, Brand, R>(rt, alloc, workers, Blank::new(64), Blank::new(9))
+    serve_with::<Brand, Brand, R>(rt, alloc, workers, Blank::new(64), Blank::new(73))
 }
 
 /// Does what [`serve`] does, with these ledgers.
@@ -181,17 +181,17 @@ fn serve_with<C, D, R>(
     rt: R,
     alloc: Global,
     workers: u16,
-    commits: Blank,
+    acts: Blank,
     receipts: Blank,
 ) -> Option<(bool, Option<Left>)>
 where
     C: Ledger + Send + Sync + 'static,
     D: Ledger + Send + Sync + 'static,
     R: Threads + Wait + Copy + Send + 'static,
-    requires commits { Opens commits.name commits.parts C.name C.parts 64 }
-    requires receipts { Opens receipts.name receipts.parts D.name D.parts 9 }
+    requires acts { Opens acts.name acts.parts C.name C.parts 64 }
+    requires receipts { Opens receipts.name receipts.parts D.name D.parts 73 }
 {
-    let host: Host<Open, C, D> = start(rt, alloc, Open, workers, 1, commits, receipts)?;
+    let host: Host<Open, C, D> = start(rt, alloc, Open, workers, 1, acts, receipts)?;
     ask(&rt, &host, FIRST);
     ask(&rt, &host, SECOND);
     ask(&rt, &host, ABSENT);

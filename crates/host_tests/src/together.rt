@@ -162,7 +162,7 @@ fn serve_all<R: Threads + Wait + Copy + Send + 'static>(
         points,
         turns,
         Blank::new(64),
-        Blank::new(9),
+        Blank::new(73),
     )
 }
 
@@ -175,15 +175,15 @@ fn serve_all_with<C, D, R>(
     counts: (u8, u8),
     points: &'static [Point],
     turns: u32,
-    commits: Blank,
+    acts: Blank,
     receipts: Blank,
 ) -> Option<Together>
 where
     C: Ledger + Send + Sync + 'static,
     D: Ledger + Send + Sync + 'static,
     R: Threads + Wait + Copy + Send + 'static,
-    requires commits { Opens commits.name commits.parts C.name C.parts 64 }
-    requires receipts { Opens receipts.name receipts.parts D.name D.parts 9 }
+    requires acts { Opens acts.name acts.parts C.name C.parts 64 }
+    requires receipts { Opens receipts.name receipts.parts D.name D.parts 73 }
 {
     let seen = Arc::new(alloc, Seen::new()).ok()?;
     let gate = Meeting {
@@ -191,7 +191,7 @@ where
         points,
         turns,
     };
-    let host: Host<Meeting, C, D> = start(rt, alloc, gate, workers, 8, commits, receipts)?;
+    let host: Host<Meeting, C, D> = start(rt, alloc, gate, workers, 8, acts, receipts)?;
     let answered = ask_all(&rt, &host, all, counts);
     match host.close(&rt) {
         Ok(report) => told(alloc, &report, seen.missed(points), answered),

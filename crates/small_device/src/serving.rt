@@ -4,9 +4,9 @@ use crate::parts::{Parts, put, used};
 use event_queue::{EventPort, WaitingEvents};
 use lock_scopes::{
     Open, Plain, QueueLender, UnitLender, answer_on, answer_tmf_on, check_on, commit_on, direct_on,
-    enter_on, fetch_control_on, fetch_event_on, fetch_on, hard_on, leave_on, mark_on, raise_on,
+    enter_on, fetch_control_on, fetch_event_on, fetch_on, leave_on, mark_on, raise_on,
 };
-use phases::{Cause, Hand, Note, OpenFunction, ReceiptOrNote, Slot};
+use phases::{Cause, Hand, Note, OpenFunction, ReceiptOrNote, Slot, phase_hard};
 use request_intake::Inventory;
 use std::alloc::Global;
 use unit_history::{Job, JobList};
@@ -205,21 +205,17 @@ fn serves_function<B: UnitLender + QueueLender>(
 }
 
 /// Resets the first unit as the operator, and returns true if the event goes to the one buffer of the event queue.
-fn serves_event<B: UnitLender + QueueLender>(
-    alloc: Global,
-    lender: &mut B,
-    inventory: &Inventory,
-) -> Option<bool> {
+fn serves_event(alloc: Global, lender: &mut Plain<'_>, inventory: &Inventory) -> Option<bool> {
     let (mut port, mut waiting) = (EventPort::new(alloc, 8).ok()?, WaitingEvents::new(alloc));
     let mut out = JobList::with_limit(alloc, 64).ok()?;
     if lender.queue_count() <= 1 {
         return None;
     }
     let _ = fetch_event_on(lender, 1, &Slot::Empty, &mut port);
-    if lender.unit_count() == 0 {
+    let Some(unit) = lender.units.first_mut() else {
         return None;
-    }
-    let _ = hard_on(lender, 0, inventory, &mut out, &mut waiting);
+    };
+    let _ = phase_hard(unit, inventory, 0, &mut out, &mut waiting);
     if lender.queue_count() <= 1 {
         return None;
     }
