@@ -15,7 +15,10 @@ enum { QUEUES = 3, SIZE = 8, PAGES = 16 };
       of(vscsi_peek) of(vscsi_owed) of(vscsi_status) of(vscsi_broken) of(vscsi_progress) of(vscsi_reset) of(vscsi_resize) of(vscsi_counts) \
           of(vscsi_capacity) of(vscsi_blocks) of(vscsi_changed) of(vscsi_disk_create) of(vscsi_disk_destroy)                     \
               of(vscsi_disk_blocks) of(vscsi_disk_load) of(vscsi_disk_save) of(vscsi_version) of(vscsi_features)                 \
-                  of(vscsi_answer_text) of(vscsi_cause_text) of(vscsi_broken_text)
+                  of(vscsi_answer_text) of(vscsi_cause_text) of(vscsi_broken_text) of(vscsi_live_create) of(vscsi_map)           \
+                      of(vscsi_live_serve) of(vscsi_live_owed) of(vscsi_live_status) of(vscsi_live_broken) of(vscsi_live_reset)  \
+                          of(vscsi_live_resize) of(vscsi_live_counts) of(vscsi_live_capacity) of(vscsi_live_blocks)              \
+                              of(vscsi_live_changed) of(vscsi_live_close) of(vscsi_live_destroy)
 
 #define FIELD(name) __typeof__(&name) name;
 #define LOAD(name) library.name = (__typeof__(&name))found(handle, #name);

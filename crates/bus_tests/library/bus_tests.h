@@ -26,6 +26,16 @@ static inline uint64_t handle(const struct bus_map *map)
 	return (uint64_t)(uintptr_t)map;
 }
 
+/* A map of these regions. */
+static inline struct bus_map *mapped(const struct bus_region *regions, size_t count)
+{
+	struct bus_map *map = bus_map();
+
+	if (!map || bus_remap(map, regions, count) != BUS_DONE)
+		FAIL("no map is made of %zu regions", count);
+	return map;
+}
+
 /* The next of a row of random numbers (xorshift64). */
 static inline uint64_t next(uint64_t *state)
 {

@@ -119,7 +119,7 @@ static void *drives(void *nothing)
 int main(int count, char **words)
 {
 	const struct bus_region regions[] = { { 0, sizeof rings, rings }, { DATA, sizeof data, data } };
-	struct bus_map *map = bus_map(regions, 2);
+	struct bus_map *map = mapped(regions, 2);
 
 	if (!map)
 		FAIL("no map is made");

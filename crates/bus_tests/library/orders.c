@@ -231,7 +231,7 @@ static void beside(const char *what, void *(*guest)(void *), void (*device)(void
 int main(int count, char **words)
 {
 	const struct bus_region all = { 0, sizeof memory, memory };
-	struct bus_map *made = bus_map(&all, 1);
+	struct bus_map *made = mapped(&all, 1);
 
 	if (!made)
 		FAIL("no map is made");

@@ -27,8 +27,19 @@ static uint8_t *at(uint64_t addr)
 
 static void refused(const char *what, const struct bus_region *wrong, size_t count)
 {
-	if (bus_map(wrong, count))
+	struct bus_map *map = bus_map();
+	uint8_t byte = 0;
+
+	if (!map || bus_remap(map, regions, sizeof regions / sizeof *regions) != BUS_DONE)
+		FAIL("no map is made");
+	if (bus_remap(map, wrong, count) != BUS_REFUSED)
 		FAIL("a map is made of %s", what);
+	memory[0][0] = 0xcd;
+	bus_load(handle(map), regions[1].guest, 1, &byte, 1);
+	if (byte != 0xcd)
+		FAIL("of what was mapped nothing is left behind %s", what);
+	memory[0][0] = 0;
+	bus_unmap(map);
 }
 
 static void refusals(void)
@@ -40,15 +51,37 @@ static void refusals(void)
 	refused("a region that begins at the end", (struct bus_region[]){ { BUS_END, 1, model } }, 1);
 	refused("a region whose end is past the last number", (struct bus_region[]){ { UINT64_MAX - 1, 16, model } }, 1);
 	refused("a region of all numbers", (struct bus_region[]){ { 1, UINT64_MAX, model } }, 1);
+	refused("too many regions", regions, BUS_MOST + 1);
+}
+
+/* What is mapped again is what is seen then, and no more of what was mapped before. */
+static void mapped_again(void)
+{
+	static uint8_t other[16] = { 7 };
+	struct bus_map *map = mapped(regions, 1);
+	uint8_t bytes[2] = { 0, 0 };
+
+	memory[2][0] = 5;
+	bus_load(handle(map), 0x5000, 1, bytes, 1);
+	if (bus_remap(map, &(struct bus_region){ 0x100, sizeof other, other }, 1) != BUS_DONE)
+		FAIL("nothing is mapped again");
+	bus_load(handle(map), 0x100, 1, bytes + 1, 1);
+	if (bytes[0] != 5 || bytes[1] != 7)
+		FAIL("%u and %u are read, in place of 5 and 7", bytes[0], bytes[1]);
+	bus_load(handle(map), 0x5000, 1, bytes, 1);
+	if (bytes[0])
+		FAIL("what isn't mapped any more reads as %u", bytes[0]);
+	memory[2][0] = 0;
+	bus_unmap(map);
 }
 
 static void nothing_mapped(void)
 {
-	struct bus_map *map = bus_map(NULL, 0);
+	struct bus_map *map = bus_map();
 	uint8_t bytes[64];
 
 	if (!map)
-		FAIL("no map is made of no regions");
+		FAIL("no map is made");
 	memset(bytes, 0xee, sizeof bytes);
 	bus_store(handle(map), 0, 1, bytes, sizeof bytes);
 	bus_load(handle(map), BUS_END - sizeof bytes, 1, bytes, sizeof bytes);
@@ -60,14 +93,13 @@ static void nothing_mapped(void)
 
 int main(void)
 {
-	struct bus_map *map = bus_map(regions, sizeof regions / sizeof *regions);
+	struct bus_map *map = mapped(regions, sizeof regions / sizeof *regions);
 	static uint8_t got[MOST + 1], given[MOST];
 	uint64_t seed = 88172645463325252u;
 
-	if (!map)
-		FAIL("no map is made");
 	refusals();
 	nothing_mapped();
+	mapped_again();
 	for (int round = 0; round < 60000; round++) {
 		uint64_t kind = next(&seed), addr = next(&seed) % GUEST;
 		size_t len = kind % 8 == 0 ? next(&seed) % MOST : kind % 8 == 1 ? 2 : kind % 8 == 2 ? 8 : kind % 8 == 3 ? 16 : next(&seed) % 90;

@@ -78,7 +78,7 @@ int main(int count, char **words)
 	memory = fenced(BYTES);
 	/* In two parts with a hole between, and none of it where the guest's last page lies. */
 	const struct bus_region regions[] = { { 0, 0x15000, memory }, { 0x16000, BYTES - 0x17000, memory + 0x16000 } };
-	struct bus_map *map = bus_map(regions, 2);
+	struct bus_map *map = mapped(regions, 2);
 
 	if (!map || pthread_create(&thread, NULL, scribbles, NULL))
 		FAIL("no map or no thread");

@@ -26,8 +26,9 @@
  * a copy of a disk that is used beside another; a pointer to room that is shorter than was said, or that another argument
  * points into; two calls on one device or one disk at a time. Then anything may happen.
  *
- * Guest memory is one run of bytes that begins at guest address 0. The device has its own: what a guest wrote is copied
- * in by vscsi_poke, what the device wrote is copied out by vscsi_peek. docs/C.md says which bytes, and when.
+ * Guest memory is one run of bytes that begins at guest address 0. A `struct vscsi` has its own: what a guest wrote is copied
+ * in by vscsi_poke, what the device wrote is copied out by vscsi_peek. docs/C.md says which bytes, and when. A `struct
+ * vscsi_live` works in the guest's memory itself, where the host mapped it (vscsi_map).
  *
  * Versions. VSCSI_VERSION is that of this header, vscsi_version() that of the library. With one major version programs
  * that were built with an older header go on working: numbers keep their meaning, and calls, numbers and fields at a
@@ -158,7 +159,8 @@ enum vscsi_cause {
 enum vscsi_layout {
   VSCSI_LAYOUT_SIZE = 1,      /* of a split queue a size that isn't a power of two */
   VSCSI_LAYOUT_ALIGNMENT = 2, /* an area isn't aligned: a split queue's to 16, 2 and 4, a packed one's to 16, 4 and 4 */
-  VSCSI_LAYOUT_AREA = 3       /* an area isn't in guest memory */
+  VSCSI_LAYOUT_AREA = 3,      /* an area isn't in guest memory */
+  VSCSI_LAYOUT_START = 5      /* of a packed queue a base that is none of its slots. Since 1.4 */
 };
 
 /* What vscsi_create tells of a configuration that isn't taken: `cause` is an `enum vscsi_cause`. */
@@ -201,6 +203,50 @@ enum vscsi_broken {
   VSCSI_BROKEN_ALREADY_OUTSTANDING = 7,     /* a head or id that the device still has */
   VSCSI_BROKEN_BAD_INDIRECT = 8,            /* an indirect table that is malformed, or wasn't agreed to */
   VSCSI_BROKEN_RING_OVERRUN = 9             /* more descriptors than the ring has */
+};
+
+/* A device on live memory, or none. Made of zeros: `struct vscsi_live device = {0};`. What is said of `struct vscsi` holds of it.
+ * Since 1.4. */
+struct vscsi_live {
+  void *at;
+  bool live;
+  void *map;
+};
+
+/* Guest memory that the host has mapped: `size` bytes from the guest's address on, and where the host has them. Since 1.4. */
+struct vscsi_region {
+  uint64_t guest;
+  uint64_t size;
+  void *host;
+};
+
+/* The end of what a guest can address: 2^52. Since 1.4. */
+#define VSCSI_MOST_ADDRESS (UINT64_C(1) << 52)
+
+/* The most regions that vscsi_map takes. Since 1.4. */
+#define VSCSI_MOST_REGIONS 65536u
+
+/* Where the driver put a queue, as `struct vscsi_queue`, and where the device begins there: the bases of vhost-user. Of a split
+ * queue the index of the next available entry, and of the next used one; 0 for a ring that no device served before. Of a packed
+ * queue the slots, with the wrap counter in bit 15; 0x8000 for such a ring. Since 1.4. */
+struct vscsi_ring {
+  uint64_t desc;
+  uint64_t driver;
+  uint64_t device;
+  uint16_t size;
+  uint16_t available;
+  uint16_t used;
+};
+
+/* The device that is wanted on live memory, as `struct vscsi_config`: the memory has no size, since any address below
+ * VSCSI_MOST_ADDRESS may be mapped. `size` is sizeof (struct vscsi_live_config). Since 1.4. */
+struct vscsi_live_config {
+  size_t size;
+  uint64_t features;
+  const struct vscsi_ring *rings;
+  size_t ring_count;
+  const struct vscsi_unit *units;
+  size_t unit_count;
 };
 
 /* Makes the device of a configuration, with zeros for guest memory, of which nothing has happened yet. A guest that had
@@ -353,6 +399,45 @@ enum vscsi_answer vscsi_disk_load(struct vscsi_disk *disk, uint64_t first, uint3
  * The first of these, in this order, that is so: VSCSI_NO_DISK; VSCSI_BAD_LENGTH; VSCSI_OUTSIDE; VSCSI_NO_MEMORY, never where
  * `count` is 0. */
 enum vscsi_answer vscsi_disk_save(struct vscsi_disk *disk, uint64_t first, uint32_t count, void *into, size_t length);
+
+/* Live memory: a device that serves a guest where the guest's memory is, while the guest runs. Nothing is copied in and nothing
+ * out: the device reads rings, tables, requests and data at the places that the host mapped, each byte once for what it
+ * decides by it, and writes data, responses and the used ring there, the used index last. A guest that writes meanwhile gives it
+ * nonsense at worst, which it is proved to stand. The host's loop is: wait for a kick, vscsi_live_serve, vscsi_live_owed,
+ * notify.
+ *
+ * Makes a device of which nothing has happened yet, with no memory mapped: before it is served, vscsi_map. `disks` is
+ * optional: unit k has the blocks of disks[k], as vscsi_create_with says, or zeros where it is null. `fault` is optional, too.
+ * The answers of vscsi_create_with, in their order, but for VSCSI_CAUSE_PAGES; VSCSI_LAYOUT_START is one more of its details.
+ * Since 1.4. */
+enum vscsi_answer vscsi_live_create(struct vscsi_live *device, const struct vscsi_live_config *config, struct vscsi_disk *disks,
+                                    struct vscsi_fault *fault);
+
+/* Maps regions, in any order, in place of all that was mapped: after vscsi_live_create, and again between two calls whenever
+ * the guest's memory changes. The bytes stay the host's: they must be mapped for as long as the device may be served with them.
+ * What isn't in a region is a hole, which reads as zeros and swallows what is written there. A queue that lies in a hole
+ * has no new chains. Since 1.4.
+ * VSCSI_NO_DEVICE; VSCSI_OUTSIDE where two regions overlap, one is empty or ends above VSCSI_MOST_ADDRESS, or there are more
+ * than VSCSI_MOST_REGIONS; VSCSI_NO_MEMORY. Then what was mapped stays. */
+enum vscsi_answer vscsi_map(struct vscsi_live *device, const struct vscsi_region *regions, size_t count);
+
+/* Of a device on live memory what the call of the same name does; but vscsi_live_owed decides by the driver's flag, or its
+ * event index, as it stood behind the full barrier behind the used index, so nothing needs to be looked at once more.
+ * Since 1.4. */
+enum vscsi_answer vscsi_live_serve(struct vscsi_live *device, uint32_t queues, uint64_t most, uint64_t *steps, bool *more);
+enum vscsi_answer vscsi_live_owed(struct vscsi_live *device, uint32_t *queues);
+enum vscsi_answer vscsi_live_status(struct vscsi_live *device, uint8_t *status);
+enum vscsi_answer vscsi_live_broken(struct vscsi_live *device, uint16_t queue, uint32_t *fault);
+enum vscsi_answer vscsi_live_reset(struct vscsi_live *device, uint8_t target, uint16_t lun);
+enum vscsi_answer vscsi_live_resize(struct vscsi_live *device, uint8_t target, uint16_t lun, uint64_t blocks);
+enum vscsi_answer vscsi_live_counts(struct vscsi_live *device, uint8_t target, uint16_t lun, struct vscsi_counts *counts, size_t size);
+enum vscsi_answer vscsi_live_capacity(struct vscsi_live *device, uint8_t target, uint16_t lun, uint64_t *blocks);
+enum vscsi_answer vscsi_live_blocks(struct vscsi_live *device, uint8_t target, uint16_t lun, uint64_t first, uint32_t count, void *into,
+                                    size_t length);
+enum vscsi_answer vscsi_live_changed(struct vscsi_live *device, uint8_t target, uint16_t lun, uint64_t *place, struct vscsi_range *ranges,
+                                     size_t room, size_t *count, bool *all);
+enum vscsi_answer vscsi_live_close(struct vscsi_live *device, struct vscsi_disk *disks, size_t count);
+enum vscsi_answer vscsi_live_destroy(struct vscsi_live *device);
 
 /* The version of the library, as VSCSI_VERSION tells that of the header. */
 uint32_t vscsi_version(void);

@@ -20,7 +20,7 @@ enum { PLACE = 1 << 30, BYTES = PLACE + 1, LONG = PLACE + 2, PUT = PLACE + 3, SH
 
 struct bus_map {
 	size_t count;
-	struct bus_region regions[];
+	struct bus_region *regions; /* by rising address, no two of which overlap */
 };
 
 /* What was mapped, and an address there. */
@@ -38,31 +38,53 @@ static int by_address(const void *one, const void *other)
 	return (a->guest > b->guest) - (a->guest < b->guest);
 }
 
-struct bus_map *bus_map(const struct bus_region *regions, size_t count)
+/* Whether regions by rising address lie one behind the other, below the end of what a guest can address. */
+static bool lie_apart(const struct bus_region *regions, size_t count)
 {
-	struct bus_map *map = count <= 1 << 16 ? malloc(sizeof *map + count * sizeof *regions) : NULL;
-
-	if (!map)
-		return NULL;
-	map->count = count;
-	if (count)
-		memcpy(map->regions, regions, count * sizeof *regions);
-	qsort(map->regions, count, sizeof *regions, by_address);
 	uint64_t end = 0; /* of the regions so far */
-	for (size_t i = 0; i < count; i++) {
-		const struct bus_region *it = &map->regions[i];
 
-		if (it->guest < end || it->guest >= BUS_END || !it->size || it->size > BUS_END - it->guest) {
-			free(map);
-			return NULL;
-		}
+	for (size_t i = 0; i < count; i++) {
+		const struct bus_region *it = &regions[i];
+
+		if (it->guest < end || it->guest >= BUS_END || !it->size || it->size > BUS_END - it->guest)
+			return false;
 		end = it->guest + it->size;
 	}
-	return map;
+	return true;
+}
+
+struct bus_map *bus_map(void)
+{
+	return calloc(1, sizeof(struct bus_map));
+}
+
+enum bus_answer bus_remap(struct bus_map *map, const struct bus_region *regions, size_t count)
+{
+	struct bus_region *own = NULL;
+
+	if (count > BUS_MOST)
+		return BUS_REFUSED;
+	if (count) {
+		own = malloc(count * sizeof *own);
+		if (!own)
+			return BUS_NO_MEMORY;
+		memcpy(own, regions, count * sizeof *own);
+		qsort(own, count, sizeof *own, by_address);
+	}
+	if (!lie_apart(own, count)) {
+		free(own);
+		return BUS_REFUSED;
+	}
+	free(map->regions);
+	map->regions = own;
+	map->count = count;
+	return BUS_DONE;
 }
 
 void bus_unmap(struct bus_map *map)
 {
+	if (map)
+		free(map->regions);
 	free(map);
 }
 
@@ -80,9 +102,13 @@ static unsigned char *run(struct place at, size_t len, size_t *here)
 		else
 			low = middle + 1;
 	}
+	if (low == map->count) {
+		*here = len;
+		return NULL;
+	}
 	const struct bus_region *it = &map->regions[low];
-	bool hole = low == map->count || it->guest > at.addr;
-	uint64_t left = low == map->count ? len : hole ? it->guest - at.addr : it->size - (at.addr - it->guest);
+	bool hole = it->guest > at.addr;
+	uint64_t left = hole ? it->guest - at.addr : it->size - (at.addr - it->guest);
 
 	*here = left < len ? (size_t)left : len;
 	return hole ? NULL : (unsigned char *)it->host + (at.addr - it->guest);

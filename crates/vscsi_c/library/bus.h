@@ -15,19 +15,29 @@ struct bus_region {
 	void *host;
 };
 
-/* Regions by rising address. */
+/* What is mapped: regions that lie apart. It stays where it is, whatever is mapped. */
 struct bus_map;
 
 /* The end of what a guest can address: 2^52. */
 #define BUS_END ((uint64_t)1 << 52)
 
-/*
- * Makes a map of regions in any order. NULL where two of them overlap, where one is empty or ends above BUS_END, or where
- * there is no memory. The bytes stay the caller's: they must be mapped for as long as the device may be served with the map.
- */
-struct bus_map *bus_map(const struct bus_region *regions, size_t count);
+/* The most regions of a map. */
+#define BUS_MOST ((size_t)1 << 16)
 
-/* Frees a map, with which no device is served any more. */
+enum bus_answer { BUS_DONE, BUS_NO_MEMORY, BUS_REFUSED };
+
+/* Makes a map of nothing; all that a guest can address is one hole. NULL where there is no memory. */
+struct bus_map *bus_map(void);
+
+/*
+ * Maps these regions, in any order, in place of what was mapped: between two calls of the device, never during one.
+ * BUS_REFUSED where two of them overlap, one is empty or ends above BUS_END, or there are more than BUS_MOST; BUS_NO_MEMORY.
+ * Then what was mapped stays. The bytes are the caller's: they must be there for as long as they are mapped and the device
+ * may be served.
+ */
+enum bus_answer bus_remap(struct bus_map *map, const struct bus_region *regions, size_t count);
+
+/* Frees a map, with which no device is served any more. Nothing is done for NULL. */
 void bus_unmap(struct bus_map *map);
 
 /* The device's calls of `read` and `write`, under their names in the library. */

@@ -2,6 +2,8 @@
  * rest to an export of the device. The exports' names are hidden in the finished library. */
 #include "vscsi.h"
 
+#include "bus.h"
+
 /* What `src/ranges.rt` tells of changes. */
 struct told {
   uint64_t place;
@@ -36,6 +38,28 @@ uint32_t vscsi_raw_disk_destroy(struct vscsi_disk *disk);
 uint32_t vscsi_raw_disk_blocks(const struct vscsi_disk *disk, uint64_t *blocks);
 uint32_t vscsi_raw_disk_load(struct vscsi_disk *disk, uint64_t first, uint32_t count, const uint8_t *bytes, size_t length);
 uint32_t vscsi_raw_disk_save(struct vscsi_disk *disk, uint64_t first, uint32_t count, uint8_t *into, size_t length);
+
+/* What it exports for a device on live memory (`src/live_exports.rt`), which has a pointer and a flag as any device. */
+uint32_t vscsi_raw_live_create(struct vscsi_live *device, uint64_t map, uint64_t features, const struct vscsi_ring *rings,
+                               size_t ring_count, const struct vscsi_unit *units, size_t unit_count, struct vscsi_fault *fault);
+uint32_t vscsi_raw_live_create_with(struct vscsi_live *device, uint64_t map, uint64_t features, const struct vscsi_ring *rings,
+                                    size_t ring_count, const struct vscsi_unit *units, size_t unit_count, struct vscsi_disk *disks,
+                                    size_t disk_count, struct vscsi_fault *fault);
+bool vscsi_raw_live_is_there(struct vscsi_live *device);
+uint32_t vscsi_raw_live_close(struct vscsi_live *device, struct vscsi_disk *disks, size_t count);
+uint32_t vscsi_raw_live_destroy(struct vscsi_live *device);
+uint32_t vscsi_raw_live_serve(struct vscsi_live *device, uint32_t queues, uint64_t most, uint64_t *steps, bool *more);
+uint32_t vscsi_raw_live_owed(struct vscsi_live *device, uint32_t *queues);
+uint32_t vscsi_raw_live_status(struct vscsi_live *device, uint8_t *status);
+uint32_t vscsi_raw_live_broken(struct vscsi_live *device, uint16_t queue, uint32_t *fault);
+uint32_t vscsi_raw_live_reset(struct vscsi_live *device, uint8_t target, uint16_t lun);
+uint32_t vscsi_raw_live_resize(struct vscsi_live *device, uint8_t target, uint16_t lun, uint64_t blocks);
+uint32_t vscsi_raw_live_counts(struct vscsi_live *device, uint8_t target, uint16_t lun, struct vscsi_counts *counts);
+uint32_t vscsi_raw_live_capacity(struct vscsi_live *device, uint8_t target, uint16_t lun, uint64_t *blocks);
+uint32_t vscsi_raw_live_blocks(struct vscsi_live *device, uint8_t target, uint16_t lun, uint64_t first, uint32_t count, uint8_t *into,
+                               size_t length);
+uint32_t vscsi_raw_live_changed(struct vscsi_live *device, uint8_t target, uint16_t lun, struct told *told, struct vscsi_range *room,
+                                size_t length);
 
 /* Returns true if so many items of a size are more than memory has room for. */
 static bool is_long(size_t count, size_t size) { return count > PTRDIFF_MAX / size; }
@@ -161,6 +185,141 @@ enum vscsi_answer vscsi_changed(struct vscsi *device, uint8_t target, uint16_t l
   if (is_long(room, sizeof *ranges)) return VSCSI_BAD_LENGTH;
   struct told told = {*place, 0, false};
   enum vscsi_answer answer = (enum vscsi_answer)vscsi_raw_changed(device, target, lun, &told, ranges, room);
+  if (answer != VSCSI_DONE) return answer;
+  *place = told.place;
+  *count = (size_t)told.count;
+  *all = told.all;
+  return VSCSI_DONE;
+}
+
+static const struct vscsi_ring no_ring = {0, 0, 0, 0, 0, 0};
+
+/* Returns why a configuration of live memory can't be handed on, or VSCSI_DONE. */
+static enum vscsi_answer live_unreadable(const struct vscsi_live_config *config) {
+  if (!config) return VSCSI_NULL;
+  if (config->size != sizeof *config) return VSCSI_BAD_LENGTH;
+  if ((!config->rings && config->ring_count) || (!config->units && config->unit_count)) return VSCSI_NULL;
+  if (is_long(config->ring_count, sizeof no_ring) || is_long(config->unit_count, sizeof(struct vscsi_disk))) return VSCSI_BAD_LENGTH;
+  return VSCSI_DONE;
+}
+
+/* Makes the device over what was mapped, which it has from then on if that is answered. */
+static enum vscsi_answer create_over(struct vscsi_live *device, struct bus_map *map, const struct vscsi_live_config *config,
+                                     struct vscsi_disk *disks, struct vscsi_fault *fault) {
+  const struct vscsi_ring *rings = config->rings ? config->rings : &no_ring;
+  const struct vscsi_unit *units = config->units ? config->units : &no_unit;
+  uint64_t number = (uint64_t)(uintptr_t)map;
+  if (!disks)
+    return (enum vscsi_answer)vscsi_raw_live_create(device, number, config->features, rings, config->ring_count, units, config->unit_count,
+                                                    fault);
+  return (enum vscsi_answer)vscsi_raw_live_create_with(device, number, config->features, rings, config->ring_count, units,
+                                                       config->unit_count, disks, config->unit_count, fault);
+}
+
+enum vscsi_answer vscsi_live_create(struct vscsi_live *device, const struct vscsi_live_config *config, struct vscsi_disk *disks,
+                                    struct vscsi_fault *fault) {
+  struct vscsi_fault unread = {0, 0, 0};
+  enum vscsi_answer answer = device ? live_unreadable(config) : VSCSI_NULL;
+  if (answer != VSCSI_DONE) return answer;
+  if (vscsi_raw_live_is_there(device)) return VSCSI_IN_USE;
+  struct bus_map *map = bus_map();
+  if (!map) return VSCSI_NO_MEMORY;
+  answer = create_over(device, map, config, disks, fault ? fault : &unread);
+  if (answer == VSCSI_DONE)
+    device->map = map;
+  else
+    bus_unmap(map);
+  return answer;
+}
+
+/* Lets go of what was mapped, once the device has gone. */
+static enum vscsi_answer unmapped(struct vscsi_live *device, enum vscsi_answer answer) {
+  if (answer == VSCSI_DONE) {
+    bus_unmap(device->map);
+    device->map = NULL;
+  }
+  return answer;
+}
+
+enum vscsi_answer vscsi_live_close(struct vscsi_live *device, struct vscsi_disk *disks, size_t count) {
+  struct vscsi_disk nothing = {0, 0, false};
+  if (!device || (!disks && count)) return VSCSI_NULL;
+  if (is_long(count, sizeof nothing)) return VSCSI_BAD_LENGTH;
+  return unmapped(device, (enum vscsi_answer)vscsi_raw_live_close(device, disks ? disks : &nothing, count));
+}
+
+enum vscsi_answer vscsi_live_destroy(struct vscsi_live *device) {
+  return device ? unmapped(device, (enum vscsi_answer)vscsi_raw_live_destroy(device)) : VSCSI_NULL;
+}
+
+_Static_assert(sizeof(struct vscsi_region) == sizeof(struct bus_region) && offsetof(struct vscsi_region, guest) == offsetof(struct bus_region, guest)
+                   && offsetof(struct vscsi_region, size) == offsetof(struct bus_region, size)
+                   && offsetof(struct vscsi_region, host) == offsetof(struct bus_region, host) && VSCSI_MOST_ADDRESS == BUS_END
+                   && VSCSI_MOST_REGIONS == BUS_MOST,
+               "a region of the bus is a region of the header");
+
+enum vscsi_answer vscsi_map(struct vscsi_live *device, const struct vscsi_region *regions, size_t count) {
+  if (!device || (!regions && count)) return VSCSI_NULL;
+  if (is_long(count, sizeof *regions)) return VSCSI_BAD_LENGTH;
+  if (!vscsi_raw_live_is_there(device)) return VSCSI_NO_DEVICE;
+  enum bus_answer answer = bus_remap(device->map, (const struct bus_region *)(const void *)regions, count);
+  return answer == BUS_DONE ? VSCSI_DONE : answer == BUS_NO_MEMORY ? VSCSI_NO_MEMORY : VSCSI_OUTSIDE;
+}
+
+enum vscsi_answer vscsi_live_serve(struct vscsi_live *device, uint32_t queues, uint64_t most, uint64_t *steps, bool *more) {
+  uint64_t taken = 0;
+  bool left = false;
+  if (!device) return VSCSI_NULL;
+  enum vscsi_answer answer = (enum vscsi_answer)vscsi_raw_live_serve(device, queues, most, &taken, &left);
+  if (answer == VSCSI_DONE && steps) *steps = taken;
+  if (answer == VSCSI_DONE && more) *more = left;
+  return answer;
+}
+
+enum vscsi_answer vscsi_live_owed(struct vscsi_live *device, uint32_t *queues) {
+  return device && queues ? (enum vscsi_answer)vscsi_raw_live_owed(device, queues) : VSCSI_NULL;
+}
+
+enum vscsi_answer vscsi_live_status(struct vscsi_live *device, uint8_t *status) {
+  return device && status ? (enum vscsi_answer)vscsi_raw_live_status(device, status) : VSCSI_NULL;
+}
+
+enum vscsi_answer vscsi_live_broken(struct vscsi_live *device, uint16_t queue, uint32_t *fault) {
+  return device && fault ? (enum vscsi_answer)vscsi_raw_live_broken(device, queue, fault) : VSCSI_NULL;
+}
+
+enum vscsi_answer vscsi_live_reset(struct vscsi_live *device, uint8_t target, uint16_t lun) {
+  return device ? (enum vscsi_answer)vscsi_raw_live_reset(device, target, lun) : VSCSI_NULL;
+}
+
+enum vscsi_answer vscsi_live_resize(struct vscsi_live *device, uint8_t target, uint16_t lun, uint64_t blocks) {
+  return device ? (enum vscsi_answer)vscsi_raw_live_resize(device, target, lun, blocks) : VSCSI_NULL;
+}
+
+enum vscsi_answer vscsi_live_counts(struct vscsi_live *device, uint8_t target, uint16_t lun, struct vscsi_counts *counts, size_t size) {
+  if (!device || !counts) return VSCSI_NULL;
+  if (size != sizeof *counts) return VSCSI_BAD_LENGTH;
+  return (enum vscsi_answer)vscsi_raw_live_counts(device, target, lun, counts);
+}
+
+enum vscsi_answer vscsi_live_capacity(struct vscsi_live *device, uint8_t target, uint16_t lun, uint64_t *blocks) {
+  return device && blocks ? (enum vscsi_answer)vscsi_raw_live_capacity(device, target, lun, blocks) : VSCSI_NULL;
+}
+
+enum vscsi_answer vscsi_live_blocks(struct vscsi_live *device, uint8_t target, uint16_t lun, uint64_t first, uint32_t count, void *into,
+                                    size_t length) {
+  uint8_t nothing = 0;
+  if (!device || (!into && length)) return VSCSI_NULL;
+  if (is_long(length, 1)) return VSCSI_BAD_LENGTH;
+  return (enum vscsi_answer)vscsi_raw_live_blocks(device, target, lun, first, count, into ? (uint8_t *)into : &nothing, length);
+}
+
+enum vscsi_answer vscsi_live_changed(struct vscsi_live *device, uint8_t target, uint16_t lun, uint64_t *place, struct vscsi_range *ranges,
+                                     size_t room, size_t *count, bool *all) {
+  if (!device || !place || !ranges || !count || !all) return VSCSI_NULL;
+  if (is_long(room, sizeof *ranges)) return VSCSI_BAD_LENGTH;
+  struct told told = {*place, 0, false};
+  enum vscsi_answer answer = (enum vscsi_answer)vscsi_raw_live_changed(device, target, lun, &told, ranges, room);
   if (answer != VSCSI_DONE) return answer;
   *place = told.place;
   *count = (size_t)told.count;

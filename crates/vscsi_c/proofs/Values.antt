@@ -27,7 +27,8 @@ use Rattle.std.specs.Prelude.{Option, Some, None, is_some}
 use Rattle.block_store.specs.declared.paged.PagedStore.{PagedStore}
 use Rattle.std.specs.contracts.alloc.Global as heap
 use Rattle.std.proofs.alloc.Global.TheLaws as heap_laws
-use Rattle.vscsi_c.specs.Held.{Content, held, device_in, disk_in}
+use Rattle.vscsi_c.specs.Held.{Content, held, device_in, live_in, disk_in}
+use Rattle.vscsi_c.specs.declared.live_served.LiveServed.{LiveServed}
 use Rattle.vscsi_c.specs.declared.served.Served.{Served}
 use Rattle.vscsi_c.specs.contracts.owner.Owner as owner
 use Rattle.vscsi_c.specs.contracts.loose.Loose as loose
@@ -70,11 +71,19 @@ pub found_device : (o : Option Content) → is_some (device_in o) ≡ true → (
 found_device None there = cc
 found_device (Some (Content.Device d)) there = (d, refl)
 found_device (Some (Content.Disk s)) there = cc
+found_device (Some (Content.Live d)) there = cc
+
+pub found_live : (o : Option Content) → is_some (live_in o) ≡ true → (d : LiveServed) × (o ≡ Some (Content.Live d))
+found_live None there = cc
+found_live (Some (Content.Device d)) there = cc
+found_live (Some (Content.Disk s)) there = cc
+found_live (Some (Content.Live d)) there = (d, refl)
 
 pub found_disk : (o : Option Content) → is_some (disk_in o) ≡ true → (s : PagedStore) × (o ≡ Some (Content.Disk s))
 found_disk None there = cc
 found_disk (Some (Content.Device d)) there = cc
 found_disk (Some (Content.Disk s)) there = (s, refl)
+found_disk (Some (Content.Live d)) there = cc
 
 -- a pointer that C keeps, by value
 abbrev pub Z : RattleType

@@ -1,4 +1,4 @@
--- What a pointer that C keeps owns: a block with a device or a disk, and the right to free it; or nothing.
+-- What a pointer that C keeps owns: a block with a device of either kind or a disk, and the right to free it; or nothing.
 use Rattle.std.specs.Prelude.{Option, Some, None}
 use Rattle.std.specs.Box.Ownership.{box_owns}
 use Rattle.std.specs.declared.alloc.Global.{Global}
@@ -7,6 +7,8 @@ use Rattle.block_store.specs.declared.paged.PagedStore.{PagedStore}
 use Rattle.block_store.specs.contracts.paged.PagedStore as paged
 use Rattle.vscsi_c.specs.declared.served.Served.{Served}
 use Rattle.vscsi_c.specs.contracts.served.Served as served
+use Rattle.vscsi_c.specs.declared.live_served.LiveServed.{LiveServed}
+use Rattle.vscsi_c.specs.contracts.live_served.LiveServed as live
 use base.Fml.{Fml, ftrue}
 use denote.RawPtr.{Ptr}
 
@@ -17,11 +19,13 @@ the_heap = record { memory = record { seal = tt } }
 pub data Content : Type 0 where
   Device : Served → Content
   Disk : PagedStore → Content
+  Live : LiveServed → Content
 
 abbrev pub held : Ptr → Option Content → Fml
 held at None = ftrue
 held at (Some (Content.Device d)) = box_owns (ghosts.dealloc_token the_heap) served.the_row at d
 held at (Some (Content.Disk s)) = box_owns (ghosts.dealloc_token the_heap) paged.the_row at s
+held at (Some (Content.Live d)) = box_owns (ghosts.dealloc_token the_heap) live.the_row at d
 
 -- the device that it owns, if it owns one, and the disk
 abbrev pub device_in : Option Content → Option Served
@@ -31,3 +35,7 @@ device_in content = None
 abbrev pub disk_in : Option Content → Option PagedStore
 disk_in (Some (Content.Disk s)) = Some s
 disk_in content = None
+
+abbrev pub live_in : Option Content → Option LiveServed
+live_in (Some (Content.Live d)) = Some d
+live_in content = None

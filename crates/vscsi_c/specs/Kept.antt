@@ -1,13 +1,18 @@
 -- The device that C keeps somewhere, if there is one, and the disk.
 use Rattle.std.specs.Prelude.{Option, List, map}
 use Rattle.block_store.specs.declared.paged.PagedStore.{PagedStore}
-use Rattle.vscsi_c.specs.Held.{device_in, disk_in}
+use Rattle.vscsi_c.specs.Held.{device_in, live_in, disk_in}
 use Rattle.vscsi_c.specs.declared.device.Device.{Device}
 use Rattle.vscsi_c.specs.declared.disk.Disk.{Disk}
+use Rattle.vscsi_c.specs.declared.live_device.LiveDevice.{LiveDevice}
+use Rattle.vscsi_c.specs.declared.live_served.LiveServed.{LiveServed}
 use Rattle.vscsi_c.specs.declared.served.Served.{Served}
 
 abbrev pub kept_in : Device → Option Served
 kept_in d = device_in d.owner.content
+
+abbrev pub live_at : LiveDevice → Option LiveServed
+live_at d = live_in d.owner.content
 
 abbrev pub disk_at : Disk → Option PagedStore
 disk_at d = disk_in d.owner.content

@@ -7,4 +7,7 @@ pub mod Places
 pub mod Disks
 pub mod Changes
 pub mod Counts
+pub mod LiveWanted
+pub mod Live
+pub mod LiveDisks
 pub mod Inner

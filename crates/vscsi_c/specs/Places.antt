@@ -6,10 +6,19 @@ use Rattle.vscsi_c.specs.Held.{Content}
 abbrev pub has_device : Bool → Option Content → Bool
 has_device live (Some (Content.Device d)) = live
 has_device live (Some (Content.Disk s)) = false
+has_device live (Some (Content.Live d)) = false
 has_device live None = not live
+
+-- a device on live memory where the place is live, else nothing
+abbrev pub has_live : Bool → Option Content → Bool
+has_live live (Some (Content.Device d)) = false
+has_live live (Some (Content.Disk s)) = false
+has_live live (Some (Content.Live d)) = live
+has_live live None = not live
 
 -- a disk of so many blocks where the place is live, else nothing
 abbrev pub has_disk : Bool → ℕ → Option Content → Bool
 has_disk live blocks (Some (Content.Device d)) = false
 has_disk live blocks (Some (Content.Disk s)) = live && (s.capacity == blocks)
+has_disk live blocks (Some (Content.Live d)) = false
 has_disk live blocks None = not live

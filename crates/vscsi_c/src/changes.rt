@@ -12,7 +12,7 @@ use unit_history::Range;
 const MOST_RANGES: usize = 64;
 
 /// Puts ranges at the beginning of room that is long enough.
-fn put_ranges(ranges: &[Range], room: &mut [BlockRange])
+pub(crate) fn put_ranges(ranges: &[Range], room: &mut [BlockRange])
     requires { length ranges.now ≤ length room.old }
     ensures ranges { map range_of (take (length ranges.now) room.new) ≡ ranges.now }
     ensures length { length room.new ≡ length room.old }

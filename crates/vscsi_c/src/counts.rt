@@ -22,7 +22,7 @@ pub struct UnitCounts {
 
 impl UnitCounts {
     /// Makes the counts as C has them.
-    fn of(counts: Counts) -> UnitCounts
+    pub(crate) fn of(counts: Counts) -> UnitCounts
         ensures { counts_in result ≡ counts }
     {
         UnitCounts {

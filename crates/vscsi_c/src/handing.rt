@@ -24,7 +24,7 @@ use world::{Notifications, World};
 const NO_DISK_CAUSE: u32 = 13;
 
 /// Returns what is told of the unit at a place, which has no disk, or one of another capacity.
-fn no_disk_at(place: usize) -> Fault
+pub(crate) fn no_disk_at(place: usize) -> Fault
     ensures { plain_cause result ≡ record { cause = 13; place = place; detail = 0 } }
 {
     Fault {
@@ -42,7 +42,7 @@ fn has_disk_for(disk: &Disk, unit: &UnitSpec) -> bool
 }
 
 /// Returns the place of the first unit that has no disk, or one of another capacity.
-fn lacking(units: &[UnitSpec], disks: &[Disk]) -> Option<usize>
+pub(crate) fn lacking(units: &[UnitSpec], disks: &[Disk]) -> Option<usize>
     requires { length disks.now ≡ length units.now }
     ensures { MatchOption result (Fit units.now (disks_at disks.now)) (λ place. Lacks units.now (disks_at disks.now) place) }
 {
@@ -55,7 +55,7 @@ fn lacking(units: &[UnitSpec], disks: &[Disk]) -> Option<usize>
 }
 
 /// Takes all disks out, into an empty list that has room for them.
-fn take_out(disks: &mut [Disk], alloc: Global, empty: Vec<PagedStore>) -> Vec<PagedStore>
+pub(crate) fn take_out(disks: &mut [Disk], alloc: Global, empty: Vec<PagedStore>) -> Vec<PagedStore>
     requires there { list_all is_some (disks_at disks.old) ≡ true }
     requires empty { empty.items ≡ [] }
     requires room { length disks.old ≤ vec_capacity empty }
@@ -120,9 +120,9 @@ pub(crate) fn create_with(
 }
 
 /// The room for a device's disks when it closes: an empty list with room for them, and a box for each.
-struct Room {
-    stores: Vec<PagedStore>,
-    boxes: Vec<Box<PagedStore, Global>>,
+pub(crate) struct Room {
+    pub(crate) stores: Vec<PagedStore>,
+    pub(crate) boxes: Vec<Box<PagedStore, Global>>,
 }
 
 /// Makes so many boxes, each with a disk that is put out later.
@@ -142,7 +142,7 @@ fn new_boxes(alloc: Global, count: usize) -> Result<Vec<Box<PagedStore, Global>>
 }
 
 /// Makes the room for so many disks.
-fn new_room(alloc: Global, count: usize) -> Result<Room, NoMemory>
+pub(crate) fn new_room(alloc: Global, count: usize) -> Result<Room, NoMemory>
     ensures { IfOk result (λ room. (room.stores.items ≡ []) × (count ≤ vec_capacity room.stores)
         × (length room.boxes.items ≡ count)) }
 {
@@ -154,7 +154,11 @@ fn new_room(alloc: Global, count: usize) -> Result<Room, NoMemory>
 }
 
 /// Puts each disk into its place, by its box.
-fn put_back(disks: &mut [Disk], stores: Vec<PagedStore>, boxes: Vec<Box<PagedStore, Global>>)
+pub(crate) fn put_back(
+    disks: &mut [Disk],
+    stores: Vec<PagedStore>,
+    boxes: Vec<Box<PagedStore, Global>>,
+)
     requires none { list_any is_some (disks_at disks.old) ≡ false }
     requires places { length disks.old ≡ length stores.items }
     requires boxes { length boxes.items ≡ length stores.items }
@@ -174,7 +178,7 @@ fn put_back(disks: &mut [Disk], stores: Vec<PagedStore>, boxes: Vec<Box<PagedSto
 }
 
 /// Returns true if there is a disk in one of the places.
-fn is_any_there(disks: &[Disk]) -> bool
+pub(crate) fn is_any_there(disks: &[Disk]) -> bool
     ensures { result ≡ list_any (λ d. is_some (disk_at d)) disks.now }
 {
     disks.iter().any(|disk| disk.is_there())

@@ -2,10 +2,12 @@
 
 ghost use Rattle.std.specs.Prelude.{◌≡◌, None, Some, is_some};
 ghost use Rattle.std.specs.Option.{MatchOption, option_map};
-ghost use Rattle.vscsi_c.specs.Kept.{kept_in, disk_at};
+ghost use Rattle.vscsi_c.specs.Kept.{kept_in, live_at, disk_at};
 
 use crate::device::Device;
 use crate::disk::Disk;
+use crate::live_device::LiveDevice;
+use crate::live_served::LiveServed;
 use crate::loose::Loose;
 use crate::owner::Owner;
 use crate::served::Served;
@@ -44,6 +46,41 @@ impl Device {
     {
         self.live = true;
         let nothing = replace(&mut self.owner, Owner::of_device(Loose::of(served)));
+        nothing.discard();
+    }
+}
+
+impl LiveDevice {
+    /// Returns true if there is a device.
+    #[tactic(auto, using(crate::proofs::Kept::live_is_live))]
+    pub(crate) fn is_there(&self) -> bool
+        ensures { result ≡ is_some (live_at self.now) }
+    {
+        self.live
+    }
+
+    /// Takes the device out, if there is one.
+    #[tactic(auto, using(crate::proofs::Kept::live_is_live, crate::proofs::Kept::live_there))]
+    pub(crate) fn take(&mut self, alloc: Global) -> Option<Box<LiveServed, Global>>
+        ensures taken { MatchOption result (live_at self.old ≡ None) (λ served. live_at self.old ≡ Some served.value) }
+        ensures after { live_at self.new ≡ None }
+    {
+        if !self.live {
+            return None;
+        }
+        self.live = false;
+        let owner = replace(&mut self.owner, Owner::nothing());
+        Some(owner.into_live(alloc).into_box())
+    }
+
+    /// Puts a device where there is none.
+    #[tactic(auto, using(crate::proofs::Kept::no_live))]
+    pub(crate) fn put(&mut self, served: Box<LiveServed, Global>)
+        requires { live_at self.old ≡ None }
+        ensures { live_at self.new ≡ Some served.value }
+    {
+        self.live = true;
+        let nothing = replace(&mut self.owner, Owner::of_live(Loose::of(served)));
         nothing.discard();
     }
 }

@@ -11,6 +11,12 @@ mod disks;
 mod exports;
 mod handing;
 mod keeping;
+mod live_calls;
+mod live_device;
+mod live_exports;
+mod live_handing;
+mod live_served;
+mod live_wanted;
 mod loose;
 mod owner;
 mod ranges;
@@ -27,5 +33,13 @@ pub use exports::{
     vscsi_raw_disk_save, vscsi_raw_owed, vscsi_raw_peek, vscsi_raw_poke, vscsi_raw_progress,
     vscsi_raw_reset, vscsi_raw_resize, vscsi_raw_serve, vscsi_raw_settle, vscsi_raw_status,
 };
+pub use live_device::LiveDevice;
+pub use live_exports::{
+    vscsi_raw_live_blocks, vscsi_raw_live_broken, vscsi_raw_live_capacity, vscsi_raw_live_changed,
+    vscsi_raw_live_close, vscsi_raw_live_counts, vscsi_raw_live_create, vscsi_raw_live_create_with,
+    vscsi_raw_live_destroy, vscsi_raw_live_is_there, vscsi_raw_live_owed, vscsi_raw_live_reset,
+    vscsi_raw_live_resize, vscsi_raw_live_serve, vscsi_raw_live_status,
+};
+pub use live_wanted::WantedRing;
 pub use ranges::{BlockRange, Told};
 pub use wanted::{Fault, WantedQueue, WantedUnit};

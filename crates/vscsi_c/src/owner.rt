@@ -2,9 +2,10 @@
 
 ghost use Rattle.std.specs.Prelude.{◌≡◌, Option, Some, None, is_some, true};
 ghost use Rattle.std.specs.Coded.{coded_option};
-ghost use Rattle.vscsi_c.specs.Held.{Content, device_in, disk_in};
+ghost use Rattle.vscsi_c.specs.Held.{Content, device_in, live_in, disk_in};
 ghost use Rattle.vscsi_c.specs.Inner.Held.{content_code};
 
+use crate::live_served::LiveServed;
 use crate::loose::Loose;
 use crate::served::Served;
 use block_store::PagedStore;
@@ -12,7 +13,7 @@ use std::alloc::Global;
 use std::marker::Model;
 use std::ptr::null_mut;
 
-/// A pointer that C keeps, and that owns a device, a disk, or nothing. C sees nothing behind it: the type says what it
+/// A pointer that C keeps, and that owns a device of either kind, a disk, or nothing. C sees nothing behind it: the type says what it
 /// owns in proofs alone.
 #[repr(C)]
 pub struct Owner {
@@ -42,6 +43,14 @@ impl Owner {
         Owner { at: at as *mut u8 }
     }
 
+    /// Returns a pointer that owns the device on live memory of a box.
+    pub(crate) fn of_live(loose: Loose<LiveServed, Global>) -> Owner
+        ensures { result.content ≡ Some (Content.Live loose.value) }
+    {
+        let Loose { at, alloc: _ } = loose;
+        Owner { at: at as *mut u8 }
+    }
+
     /// Returns a pointer that owns the disk of a box.
     pub(crate) fn of_disk(loose: Loose<PagedStore, Global>) -> Owner
         ensures { result.content ≡ Some (Content.Disk loose.value) }
@@ -58,6 +67,18 @@ impl Owner {
         let Owner { at } = self;
         Loose {
             at: at as *mut Served,
+            alloc,
+        }
+    }
+
+    /// Returns the box of the device on live memory that it owns.
+    pub(crate) fn into_live(self, alloc: Global) -> Loose<LiveServed, Global>
+        requires { is_some (live_in self.content) ≡ true }
+        ensures { self.content ≡ Some (Content.Live result.value) }
+    {
+        let Owner { at } = self;
+        Loose {
+            at: at as *mut LiveServed,
             alloc,
         }
     }

@@ -19,7 +19,7 @@ pub(crate) struct Served {
 }
 
 /// Returns the number of what broke a queue; 0 for nothing.
-fn number_of_fault(fault: Option<RingFault>) -> u32
+pub(crate) fn number_of_fault(fault: Option<RingFault>) -> u32
     ensures { result ≡ number_of fault }
 {
     match fault {

@@ -9,10 +9,10 @@ use std::alloc::{AllocError, Global};
 use world::{Config, ConfigFault, Layout, LayoutFault};
 
 /// One thread serves, so there is one worker.
-const WORKERS: u16 = 1;
+pub(crate) const WORKERS: u16 = 1;
 
 /// The number of jobs that stand between a seat and the worker.
-const HANDOFF: u16 = 64;
+pub(crate) const HANDOFF: u16 = 64;
 
 /// The place of a queue: the header's `struct vscsi_queue`.
 #[repr(C)]
@@ -119,7 +119,7 @@ fn layouts_of(alloc: Global, queues: &[WantedQueue]) -> Result<Vec<Layout>, Allo
 }
 
 /// Returns the specifications of units.
-fn specs_of(alloc: Global, units: &[WantedUnit]) -> Result<Vec<UnitSpec>, AllocError>
+pub(crate) fn specs_of(alloc: Global, units: &[WantedUnit]) -> Result<Vec<UnitSpec>, AllocError>
     ensures { IfOk result (λ specs. specs.items ≡ map spec_of units.now) }
 {
     units.iter().map(|unit| unit.spec()).collect(alloc)

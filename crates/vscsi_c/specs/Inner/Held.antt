@@ -5,23 +5,29 @@ use Rattle.block_store.specs.declared.paged.PagedStore.{PagedStore}
 use Rattle.block_store.specs.contracts.paged.PagedStore as paged
 use Rattle.vscsi_c.specs.declared.served.Served.{Served}
 use Rattle.vscsi_c.specs.contracts.served.Served as served
+use Rattle.vscsi_c.specs.declared.live_served.LiveServed.{LiveServed}
+use Rattle.vscsi_c.specs.contracts.live_served.LiveServed as live
 use Rattle.vscsi_c.specs.Held.{Content}
 use mathlib.Core.Path.{refl}
 use mathlib.Core.Logic.{inl, inr}
 
 -- how the logic stores it
-abbrev pub to_sum : Content → Served ⊎ PagedStore
+abbrev pub to_sum : Content → Served ⊎ (PagedStore ⊎ LiveServed)
 to_sum (Content.Device d) = inl d
-to_sum (Content.Disk s) = inr s
+to_sum (Content.Disk s) = inr (inl s)
+to_sum (Content.Live d) = inr (inr d)
 
-abbrev pub of_sum : Served ⊎ PagedStore → Content
+abbrev pub of_sum : Served ⊎ (PagedStore ⊎ LiveServed) → Content
 of_sum (inl d) = Content.Device d
-of_sum (inr s) = Content.Disk s
+of_sum (inr (inl s)) = Content.Disk s
+of_sum (inr (inr d)) = Content.Live d
 
 pub of_sum-to_sum : (c : Content) → of_sum (to_sum c) ≡ c
 of_sum-to_sum (Content.Device d) = refl
 of_sum-to_sum (Content.Disk s) = refl
+of_sum-to_sum (Content.Live d) = refl
 
 abbrev pub content_code : Coded Content
 content_code =
-    code_by (Served ⊎ PagedStore) (coded⊎ served.the_row.coded paged.the_row.coded) to_sum of_sum of_sum-to_sum
+    code_by (Served ⊎ (PagedStore ⊎ LiveServed))
+    (coded⊎ served.the_row.coded (coded⊎ paged.the_row.coded live.the_row.coded)) to_sum of_sum of_sum-to_sum

@@ -1,0 +1,29 @@
+-- Devices on live memory that are made, and that end.
+use Rattle.std.proofs.Common.{◌≡◌, ℕ, List, Option, Some, None, sym, subst}
+use Rattle.block_store.specs.declared.paged.PagedStore.{PagedStore}
+use Rattle.vscsi_c.specs.Live.{CreatesLive, CreatesLiveOf}
+use Rattle.vscsi_c.specs.LiveDisks.{CreatesLiveOver, CreatesLiveOverOf, ClosesLive, ClosesLiveInto}
+use Rattle.vscsi_c.specs.declared.answer.Answer.{Answer}
+use Rattle.vscsi_c.specs.declared.live_served.LiveServed.{LiveServed}
+use Rattle.vscsi_c.specs.declared.live_wanted.WantedRing.{WantedRing}
+use Rattle.vscsi_c.specs.declared.wanted.Fault.{Fault}
+use Rattle.vscsi_c.specs.declared.wanted.WantedUnit.{WantedUnit}
+
+-- where there is no device, and where there is one
+pub created : (features : ℕ) (rings : List WantedRing) (units : List WantedUnit) (old told : Fault) (o : Option LiveServed)
+    (a : Answer) (after : Option LiveServed) → o ≡ None → CreatesLiveOf features rings units old a told after
+    → CreatesLive features rings units old told o a after
+created features rings units old told o a after none is =
+    subst (λ (x : Option LiveServed). CreatesLive features rings units old told x a after) (sym none) is
+
+pub created_over : (features : ℕ) (rings : List WantedRing) (units : List WantedUnit) (old told : Fault) (o : Option LiveServed)
+    (disks : List (Option PagedStore)) (a : Answer) (after : Option LiveServed) (disks' : List (Option PagedStore)) → o ≡ None
+    → CreatesLiveOverOf features rings units disks old a told after disks'
+    → CreatesLiveOver features rings units old told o disks a after disks'
+created_over features rings units old told o disks a after disks' none is =
+    subst (λ (x : Option LiveServed). CreatesLiveOver features rings units old told x disks a after disks') (sym none) is
+
+pub closed : (o : Option LiveServed) (d : LiveServed) (disks : List (Option PagedStore)) (a : Answer)
+    (after : Option LiveServed) (disks' : List (Option PagedStore)) → o ≡ Some d → ClosesLiveInto d disks a after disks'
+    → ClosesLive o disks a after disks'
+closed o d disks a after disks' there is = subst (λ (x : Option LiveServed). ClosesLive x disks a after disks') (sym there) is

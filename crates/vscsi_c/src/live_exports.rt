@@ -1,0 +1,220 @@
+//! The exports for a device on live memory, which C calls: each is one call, and its answer's number.
+
+ghost use Rattle.std.specs.Prelude.{◌≡◌, is_some};
+ghost use Rattle.vscsi_c.specs.Answers.{Tells};
+ghost use Rattle.vscsi_c.specs.Kept.{live_at, disks_at};
+ghost use Rattle.vscsi_c.specs.Live.{ServingLive, ServesPortion, Owes, IsStatus, Breaks, Resets, Resizes, Holds, Gives, TellsCounts, TellsChanges, CreatesLive, DestroysLive};
+ghost use Rattle.vscsi_c.specs.LiveDisks.{CreatesLiveOver, ClosesLive};
+
+use crate::counts::UnitCounts;
+use crate::disk::Disk;
+use crate::live_device::LiveDevice;
+use crate::live_wanted::WantedRing;
+use crate::ranges::{BlockRange, Told};
+use crate::wanted::{Fault, WantedUnit};
+use crate::{live_calls, live_handing};
+use std::alloc::Global;
+
+/// Returns true if there is a device.
+#[unsafe(no_mangle)]
+pub extern "C" fn vscsi_raw_live_is_there(device: &mut LiveDevice) -> bool
+    ensures there { result ≡ is_some (live_at device.old) }
+    ensures same { live_at device.new ≡ live_at device.old }
+{
+    device.is_there()
+}
+
+/// Makes a device on live memory where there is none, over what C mapped.
+#[unsafe(no_mangle)]
+pub extern "C" fn vscsi_raw_live_create(
+    device: &mut LiveDevice,
+    alloc: Global,
+    map: u64,
+    features: u64,
+    rings: &[WantedRing],
+    units: &[WantedUnit],
+    fault: &mut Fault,
+) -> u32
+    ensures { Tells result (λ a. CreatesLive features rings.now units.now fault.old fault.new (live_at device.old)
+        a (live_at device.new)) }
+{
+    live_calls::create(device, alloc, map, features, rings, units, fault).code()
+}
+
+/// Makes a device on live memory over disks where there is none.
+#[unsafe(no_mangle)]
+pub extern "C" fn vscsi_raw_live_create_with(
+    device: &mut LiveDevice,
+    alloc: Global,
+    map: u64,
+    features: u64,
+    rings: &[WantedRing],
+    units: &[WantedUnit],
+    disks: &mut [Disk],
+    fault: &mut Fault,
+) -> u32
+    ensures { Tells result (λ a. CreatesLiveOver features rings.now units.now fault.old fault.new (live_at device.old)
+        (disks_at disks.old) a (live_at device.new) (disks_at disks.new)) }
+{
+    live_handing::create_with(device, alloc, map, features, rings, units, disks, fault).code()
+}
+
+/// Ends a device, and puts its disks into places where there is none.
+#[unsafe(no_mangle)]
+pub extern "C" fn vscsi_raw_live_close(
+    device: &mut LiveDevice,
+    alloc: Global,
+    disks: &mut [Disk],
+) -> u32
+    ensures { Tells result (λ a. ClosesLive (live_at device.old) (disks_at disks.old) a (live_at device.new)
+        (disks_at disks.new)) }
+{
+    live_handing::close(device, alloc, disks).code()
+}
+
+/// Lets go of a device and of all its memory.
+#[unsafe(no_mangle)]
+pub extern "C" fn vscsi_raw_live_destroy(device: &mut LiveDevice, alloc: Global) -> u32
+    ensures { Tells result (λ a. DestroysLive (live_at device.old) a (live_at device.new)) }
+{
+    live_calls::destroy(device, alloc).code()
+}
+
+/// Serves some queues in at most so many steps, and says in how many, and whether more is left to do.
+#[unsafe(no_mangle)]
+pub extern "C" fn vscsi_raw_live_serve(
+    device: &mut LiveDevice,
+    alloc: Global,
+    queues: u32,
+    most: u64,
+    steps: &mut u64,
+    more: &mut bool,
+) -> u32
+    ensures { Tells result (λ a. ServingLive (ServesPortion queues most steps.old more.old steps.new more.new)
+        ((steps.new ≡ steps.old) × (more.new ≡ more.old)) (live_at device.old) a (live_at device.new)) }
+{
+    live_calls::serve(device, alloc, queues, most, steps, more).code()
+}
+
+/// Tells which queues' drivers are owed a notification since this was last asked.
+#[unsafe(no_mangle)]
+pub extern "C" fn vscsi_raw_live_owed(
+    device: &mut LiveDevice,
+    alloc: Global,
+    queues: &mut u32,
+) -> u32
+    ensures { Tells result (λ a. ServingLive (Owes queues.new) (queues.new ≡ queues.old) (live_at device.old) a (live_at device.new)) }
+{
+    live_calls::owed(device, alloc, queues).code()
+}
+
+/// Tells the device's status.
+#[unsafe(no_mangle)]
+pub extern "C" fn vscsi_raw_live_status(
+    device: &mut LiveDevice,
+    alloc: Global,
+    status: &mut u8,
+) -> u32
+    ensures { Tells result (λ a. ServingLive (IsStatus status.new) (status.new ≡ status.old) (live_at device.old) a (live_at device.new)) }
+{
+    live_calls::status(device, alloc, status).code()
+}
+
+/// Tells what broke a queue.
+#[unsafe(no_mangle)]
+pub extern "C" fn vscsi_raw_live_broken(
+    device: &mut LiveDevice,
+    alloc: Global,
+    queue: u16,
+    fault: &mut u32,
+) -> u32
+    ensures { Tells result (λ a. ServingLive (Breaks queue fault.old fault.new) (fault.new ≡ fault.old) (live_at device.old) a (live_at device.new)) }
+{
+    live_calls::broken(device, alloc, queue, fault).code()
+}
+
+/// Resets a unit for the operator.
+#[unsafe(no_mangle)]
+pub extern "C" fn vscsi_raw_live_reset(
+    device: &mut LiveDevice,
+    alloc: Global,
+    target: u8,
+    lun: u16,
+) -> u32
+    ensures { Tells result (λ a. ServingLive (Resets target lun) (Unit {0}) (live_at device.old) a (live_at device.new)) }
+{
+    live_calls::reset(device, alloc, target, lun).code()
+}
+
+/// Resizes a unit for the operator.
+#[unsafe(no_mangle)]
+pub extern "C" fn vscsi_raw_live_resize(
+    device: &mut LiveDevice,
+    alloc: Global,
+    target: u8,
+    lun: u16,
+    blocks: u64,
+) -> u32
+    ensures { Tells result (λ a. ServingLive (Resizes target lun blocks) (Unit {0}) (live_at device.old) a (live_at device.new)) }
+{
+    live_calls::resize(device, alloc, target, lun, blocks).code()
+}
+
+/// Tells how much a unit did.
+#[unsafe(no_mangle)]
+pub extern "C" fn vscsi_raw_live_counts(
+    device: &mut LiveDevice,
+    alloc: Global,
+    target: u8,
+    lun: u16,
+    counts: &mut UnitCounts,
+) -> u32
+    ensures { Tells result (λ a. ServingLive (TellsCounts target lun counts.old counts.new) (counts.new ≡ counts.old) (live_at device.old) a (live_at device.new)) }
+{
+    live_calls::counts(device, alloc, target, lun, counts).code()
+}
+
+/// Tells how many blocks a unit has.
+#[unsafe(no_mangle)]
+pub extern "C" fn vscsi_raw_live_capacity(
+    device: &mut LiveDevice,
+    alloc: Global,
+    target: u8,
+    lun: u16,
+    blocks: &mut u64,
+) -> u32
+    ensures { Tells result (λ a. ServingLive (Holds target lun blocks.old blocks.new) (blocks.new ≡ blocks.old) (live_at device.old) a (live_at device.new)) }
+{
+    live_calls::capacity(device, alloc, target, lun, blocks).code()
+}
+
+/// Reads blocks of a unit, as its commands left them.
+#[unsafe(no_mangle)]
+pub extern "C" fn vscsi_raw_live_blocks(
+    device: &mut LiveDevice,
+    alloc: Global,
+    target: u8,
+    lun: u16,
+    first: u64,
+    count: u32,
+    into: &mut [u8],
+) -> u32
+    ensures { Tells result (λ a. ServingLive (Gives target lun first count into.old into.new) (into.new ≡ into.old) (live_at device.old) a (live_at device.new)) }
+{
+    live_calls::blocks(device, alloc, target, lun, first, count, into).code()
+}
+
+/// Tells which blocks of a unit may have changed since a place of its history.
+#[unsafe(no_mangle)]
+pub extern "C" fn vscsi_raw_live_changed(
+    device: &mut LiveDevice,
+    alloc: Global,
+    target: u8,
+    lun: u16,
+    told: &mut Told,
+    room: &mut [BlockRange],
+) -> u32
+    ensures { Tells result (λ a. ServingLive (TellsChanges target lun told.old room.old told.new room.new) ((told.new ≡ told.old) × (room.new ≡ room.old)) (live_at device.old) a (live_at device.new)) }
+{
+    live_calls::changed(device, alloc, target, lun, told, room).code()
+}
