@@ -40,7 +40,7 @@ put_back-requires-clause-places c =
       c.units.ensures,
       ap (λ d. length d.world.device.units) c.deref.ensures,
       ap (λ d. length d.world.device.units) c.into_inner-world.ensures,
-      as_many _ _ c.into_disks.ensures.disks,
+      as_many _ _ c.into_disks-memory.ensures.disks,
     )
 
 pub put_back-requires-clause-boxes : goal.put_back-requires-clause-boxes
@@ -52,8 +52,8 @@ returns c =
       length-map c.args.disks.now disk_at
           ∙ omega (arith, c.if-disks-units.false, c.units.ensures, ap (λ d. length d.world.device.units) c.deref.ensures),
       any_image is_some disk_at c.args.disks.now ∙ sym c.is_any_there.ensures ∙ c.if-is_any_there.false,
-      c.into_disks.result.1.items,
-      subst (λ units. AreDisksOf units c.into_disks.result.1.items) (ap (λ d. d.world.device.units) c.into_inner-world.ensures) c.into_disks.ensures.disks,
+      c.into_disks-memory.result.1.items,
+      subst (λ units. AreDisksOf units c.into_disks-memory.result.1.items) (ap (λ d. d.world.device.units) c.into_inner-world.ensures) c.into_disks-memory.ensures.disks,
       c.in-Some.ensures.after,
       c.put_back.ensures,
     )

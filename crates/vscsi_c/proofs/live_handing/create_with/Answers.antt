@@ -30,7 +30,7 @@ returns-in-Some-lacking c =
       c.in-Ok.config,
       c.in-Ok.ensures,
       inr (record {
-        taken = sym c.in_default-fault.ensures.none;
+        taken = sym c.in_default-fault_for.ensures.none;
         lacks =
             subst (λ k. Lacks c.in-Ok.config.units.items (disks_at c.args.disks.now) k) (sym (ap (λ (x : Cause). x.place) c.no_disk_at.ensures))
             (subst (λ us. Lacks us (disks_at c.args.disks.now) c.in-Some-lacking.place) c.as_slice.ensures.value c.in-Some-lacking.ensures);
@@ -42,8 +42,8 @@ returns-in-Some-lacking c =
       refl,
     )
 
-pub returns-in_default-new-2 : goal.returns-in_default-new-2
-returns-in_default-new-2 c =
+pub returns-in_default-new-3 : goal.returns-in_default-new-3
+returns-in_default-new-3 c =
     let none = absent _ (sym c.is_there.ensures ∙ c.if-is_there.false) in
     created_over _ _ _ _ _ _ _ _ _ _ none (none, refl, refl)
 
