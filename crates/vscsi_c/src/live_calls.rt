@@ -20,11 +20,12 @@ use world::{LiveWorld, Notifications};
 /// The bytes that a guest can address.
 pub(crate) const ALL_BYTES: u64 = 1 << 52;
 
-/// The reads of a phase for which there is room, and their bytes: those of a request of 1 MiB in a chain of 1,024 parts. A phase
-/// that reads more asks for more room.
-pub(crate) const READS: usize = 2048;
+/// The reads of a phase for which there is room from the opening, and their bytes: those of a chain of some 40,000 parts with
+/// 1 MiB of data. A page of that room that no phase used takes no memory of the host. A phase that reads more asks for more
+/// room; where that is refused, what it didn't read counts as zeros.
+pub(crate) const READS: usize = 1 << 17;
 
-pub(crate) const READ_BYTES: usize = (1 << 20) + 65536;
+pub(crate) const READ_BYTES: usize = 4 << 20;
 
 /// Makes a device on live memory where there is none, over what C mapped.
 pub(crate) fn create(
