@@ -1,6 +1,5 @@
-use Rattle.std.proofs.Common.{◌≡◌, ◌^◌, true, length, map, None, Some, refl, sym, ap, ◌∙◌, subst, arith, inl, inr}
+use Rattle.std.proofs.Common.{◌≡◌, ◌^◌, true, length, refl, sym, ap, ◌∙◌, subst, arith, inl, inr}
 use Rattle.std.proofs.lemmas.List.{length-map}
-use Rattle.request_intake.specs.declared.inventory.UnitSpec.{UnitSpec}
 use Rattle.config.specs.Config.{is_config_for}
 use Rattle.world.specs.LiveWorld.{IsOpeningApart, IsOpeningOverApart, OpensForIn, OpensIn, BeginsIn}
 use Rattle.vscsi_c.specs.Calls.{Cause}
