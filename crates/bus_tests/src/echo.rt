@@ -8,7 +8,7 @@ use ring_core::{Fetched, Ring, scatter};
 /// The most bytes of an answer.
 const MOST: u64 = 1 << 20;
 
-/// What was done.
+/// The numbers of a round.
 #[derive(Clone, Copy)]
 #[repr(C)]
 pub struct Echoed {

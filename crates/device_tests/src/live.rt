@@ -28,13 +28,13 @@ const WAY: &[Move] = &[
     Move::Leave(0),
 ];
 
-/// What three steps of a command are.
+/// The answer to three steps of a command.
 const PART: Served = Served {
     steps: 3,
     more: true,
 };
 
-/// What follows them.
+/// The answer to the steps behind them.
 const REST: Served = Served {
     steps: 4,
     more: false,

@@ -25,13 +25,14 @@ pub trait Memory {
     /// Says that others may write the memory too: between two phases, and within one.
     ghost shared: { Bool };
 
-    /// Is what the memory knows of all that was stored in it.
+    /// Holds what is known of all that was stored in a memory: of one that others write too, each byte in its order; of
+    /// one that nobody else writes, what came of them.
     ghost Stores: { Type 0 };
 
-    /// Says what it knows of that now.
+    /// Gives what is known of it now.
     ghost stored: { Self → Stores };
 
-    /// Says what it knows of that once these bytes were stored besides, in this order.
+    /// Gives what is known of it once these bytes were stored besides, in this order.
     ghost storing: { Stores → List Store → Stores };
 
     /// Begins a phase: forgets what was read before, which may have changed.
@@ -78,7 +79,7 @@ pub trait Memory {
     /// Proves that the memory is of one list of bytes, where nobody else may write.
     ghost one: { (x : Self) (m n : List ℕ) → shared ≡ false → may_be x m → may_be x n → m ≡ n };
 
-    /// Proves that no stores change nothing of what it knows.
+    /// Proves that no stores change nothing of what is known.
     ghost none: { (s : Stores) → storing s [] ≡ s };
 
     /// Proves that stores behind others are known as all of them in order.

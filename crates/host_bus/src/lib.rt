@@ -25,7 +25,7 @@ const PLACE_BYTES: usize = 16;
 /// A bus over the memory that a host in C mapped.
 #[derive(Drop)]
 pub struct HostBus {
-    // What C made of the regions, as an address of its own. Only C looks at it.
+    // The table of regions in C, as an address of its own. Only C looks at it.
     map: u64,
 }
 

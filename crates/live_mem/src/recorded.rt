@@ -6,7 +6,7 @@ ghost use Rattle.live_mem.specs.Calls.{lengths};
 use crate::bus::Bus;
 use record::Record;
 
-/// What a call asks of a bus.
+/// A call of a bus.
 #[derive(Clone, Copy)]
 pub enum Kind {
     /// The begin of a phase.

@@ -20,9 +20,9 @@ use unit_history::{JobList, UnitState};
 #[derive(Drop)]
 pub struct CountedUnit<C: Ledger, W: Ledger> {
     pub unit: UnitState,
-    /// What is left for Commits.
+    /// The part that is left for Commits.
     pub part: Part<W>,
-    /// What counts acts.
+    /// The part that counts the acts of the operator.
     pub acts: Part<C>,
     pub ghost counted: { part.share.amount + commits_of unit.steps ≡ most_commits },
     pub ghost acted: { acts.share.amount ≡ acts_of unit.steps },

@@ -1,5 +1,5 @@
--- What a device asks of its driver: to notify it of the next chain that is made available, or of none (available buffer
--- notifications: VIRTIO 1.2, 2.3, 2.7.10 and 2.8.10).
+-- Available buffer notifications, as a device asks its driver for them: of the next chain that is made available, or of
+-- none (VIRTIO 1.2, 2.3, 2.7.10 and 2.8.10).
 use Rattle.std.specs.Prelude.{ℕ, ◌+◌, ◌*◌, ◌%◌, ◌==◌, ◌&&◌, not, Bool, cond, List, ◌++◌, Option, Some, None, is_some, bit_and}
 use Rattle.byteorder.specs.Endian.{little_number, little_bytes}
 use Rattle.guest_mem.specs.Memory.{bytes_at}

@@ -1,4 +1,4 @@
-//! What a device asks of its driver: to be notified of chains, or not to be.
+//! Available buffer notifications, as a device asks its driver for them (VIRTIO 1.2, 2.7.10 and 2.8.10).
 
 ghost use Rattle.std.specs.Prelude.{◌≡◌, ◌++◌};
 ghost use Rattle.byteorder.specs.Endian.{little_bytes};
@@ -6,8 +6,8 @@ ghost use Rattle.byteorder.specs.Endian.{little_bytes};
 use byteorder::{ByteOrder, LittleEndian};
 use std::marker::Model;
 
-/// What a device asks of the driver of a queue (VIRTIO 1.2, 2.7.10 and 2.8.10). The driver looks once it made a chain
-/// available.
+/// Available buffer notifications, as a device asks its driver for them (VIRTIO 1.2, 2.7.10 and 2.8.10). The driver
+/// looks at this once it made a chain available.
 #[derive(Clone, Copy, Debug, PartialEq, Eq)]
 pub enum Notify {
     /// A notification of the next chain that the device didn't accept yet.

@@ -42,7 +42,7 @@ enum Place {
     Feature,
     /// A further feature, if any.
     MoreFeatures,
-    /// What is asked of a driver.
+    /// `next` or `never`.
     Notify,
     /// `calm`, if anything.
     Calm,

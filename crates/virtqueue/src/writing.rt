@@ -134,9 +134,11 @@ pub fn write_reply_in<M: WritableMemory>(
     requires less { lengths.now.writable < 2 ^ 32 }
     requires payload { length reply.now.payload.items ≤ lengths.now.writable - RESPONSE_BYTES }
     ensures written { result ≡ length (answer_of_reply lengths.now (plain_of reply.now)) }
-    ensures memory { Wrote (M.may_be memory.old) (M.may_be memory.new) (scatter_writes chain.now.parts 0 (answer_of_reply lengths.now (plain_of reply.now))) }
+    ensures memory { Wrote (M.may_be memory.old) (M.may_be memory.new)
+        (scatter_writes chain.now.parts 0 (answer_of_reply lengths.now (plain_of reply.now))) }
     ensures stores { M.stored memory.new
-        ≡ M.storing (M.stored memory.old) (stores_of (scatter_writes chain.now.parts 0 (answer_of_reply lengths.now (plain_of reply.now)))) }
+        ≡ M.storing (M.stored memory.old)
+            (stores_of (scatter_writes chain.now.parts 0 (answer_of_reply lengths.now (plain_of reply.now)))) }
     ensures size { M.extent memory.new ≡ M.extent memory.old }
 {
     let mut head = [0; RESPONSE_BYTES];
@@ -160,9 +162,11 @@ pub fn write_read_in<M: WritableMemory>(
     requires less { lengths.now.writable < 2 ^ 32 }
     requires data { length data.now ≤ lengths.now.writable - RESPONSE_BYTES }
     ensures written { result ≡ length (answer_of_reply lengths.now (good_data data.now)) }
-    ensures memory { Wrote (M.may_be memory.old) (M.may_be memory.new) (scatter_writes chain.now.parts 0 (answer_of_reply lengths.now (good_data data.now))) }
+    ensures memory { Wrote (M.may_be memory.old) (M.may_be memory.new)
+        (scatter_writes chain.now.parts 0 (answer_of_reply lengths.now (good_data data.now))) }
     ensures stores { M.stored memory.new
-        ≡ M.storing (M.stored memory.old) (stores_of (scatter_writes chain.now.parts 0 (answer_of_reply lengths.now (good_data data.now)))) }
+        ≡ M.storing (M.stored memory.old)
+            (stores_of (scatter_writes chain.now.parts 0 (answer_of_reply lengths.now (good_data data.now)))) }
     ensures size { M.extent memory.new ≡ M.extent memory.old }
 {
     let mut head = [0; RESPONSE_BYTES];

@@ -103,7 +103,8 @@ pub extern "C" fn vscsi_raw_live_owed(
     alloc: Global,
     queues: &mut u32,
 ) -> u32
-    ensures { Tells result (λ a. ServingLive (Owes queues.new) (queues.new ≡ queues.old) (live_at device.old) a (live_at device.new)) }
+    ensures { Tells result (λ a. ServingLive (Owes queues.new) (queues.new ≡ queues.old)
+        (live_at device.old) a (live_at device.new)) }
 {
     live_calls::owed(device, alloc, queues).code()
 }
@@ -115,7 +116,8 @@ pub extern "C" fn vscsi_raw_live_status(
     alloc: Global,
     status: &mut u8,
 ) -> u32
-    ensures { Tells result (λ a. ServingLive (IsStatus status.new) (status.new ≡ status.old) (live_at device.old) a (live_at device.new)) }
+    ensures { Tells result (λ a. ServingLive (IsStatus status.new) (status.new ≡ status.old)
+        (live_at device.old) a (live_at device.new)) }
 {
     live_calls::status(device, alloc, status).code()
 }
@@ -128,7 +130,8 @@ pub extern "C" fn vscsi_raw_live_broken(
     queue: u16,
     fault: &mut u32,
 ) -> u32
-    ensures { Tells result (λ a. ServingLive (Breaks queue fault.old fault.new) (fault.new ≡ fault.old) (live_at device.old) a (live_at device.new)) }
+    ensures { Tells result (λ a. ServingLive (Breaks queue fault.old fault.new) (fault.new ≡ fault.old)
+        (live_at device.old) a (live_at device.new)) }
 {
     live_calls::broken(device, alloc, queue, fault).code()
 }
@@ -155,7 +158,8 @@ pub extern "C" fn vscsi_raw_live_resize(
     lun: u16,
     blocks: u64,
 ) -> u32
-    ensures { Tells result (λ a. ServingLive (Resizes target lun blocks) (Unit {0}) (live_at device.old) a (live_at device.new)) }
+    ensures { Tells result (λ a. ServingLive (Resizes target lun blocks) (Unit {0})
+        (live_at device.old) a (live_at device.new)) }
 {
     live_calls::resize(device, alloc, target, lun, blocks).code()
 }
@@ -169,7 +173,8 @@ pub extern "C" fn vscsi_raw_live_counts(
     lun: u16,
     counts: &mut UnitCounts,
 ) -> u32
-    ensures { Tells result (λ a. ServingLive (TellsCounts target lun counts.old counts.new) (counts.new ≡ counts.old) (live_at device.old) a (live_at device.new)) }
+    ensures { Tells result (λ a. ServingLive (TellsCounts target lun counts.old counts.new) (counts.new ≡ counts.old)
+        (live_at device.old) a (live_at device.new)) }
 {
     live_calls::counts(device, alloc, target, lun, counts).code()
 }
@@ -183,7 +188,8 @@ pub extern "C" fn vscsi_raw_live_capacity(
     lun: u16,
     blocks: &mut u64,
 ) -> u32
-    ensures { Tells result (λ a. ServingLive (Holds target lun blocks.old blocks.new) (blocks.new ≡ blocks.old) (live_at device.old) a (live_at device.new)) }
+    ensures { Tells result (λ a. ServingLive (Holds target lun blocks.old blocks.new) (blocks.new ≡ blocks.old)
+        (live_at device.old) a (live_at device.new)) }
 {
     live_calls::capacity(device, alloc, target, lun, blocks).code()
 }
@@ -199,7 +205,8 @@ pub extern "C" fn vscsi_raw_live_blocks(
     count: u32,
     into: &mut [u8],
 ) -> u32
-    ensures { Tells result (λ a. ServingLive (Gives target lun first count into.old into.new) (into.new ≡ into.old) (live_at device.old) a (live_at device.new)) }
+    ensures { Tells result (λ a. ServingLive (Gives target lun first count into.old into.new) (into.new ≡ into.old)
+        (live_at device.old) a (live_at device.new)) }
 {
     live_calls::blocks(device, alloc, target, lun, first, count, into).code()
 }
@@ -214,7 +221,8 @@ pub extern "C" fn vscsi_raw_live_changed(
     told: &mut Told,
     room: &mut [BlockRange],
 ) -> u32
-    ensures { Tells result (λ a. ServingLive (TellsChanges target lun told.old room.old told.new room.new) ((told.new ≡ told.old) × (room.new ≡ room.old)) (live_at device.old) a (live_at device.new)) }
+    ensures { Tells result (λ a. ServingLive (TellsChanges target lun told.old room.old told.new room.new) ((told.new ≡ told.old) × (room.new ≡ room.old))
+        (live_at device.old) a (live_at device.new)) }
 {
     live_calls::changed(device, alloc, target, lun, told, room).code()
 }

@@ -160,7 +160,7 @@ pub struct Host<G: Gate + Drop, C: Ledger, W: Ledger> {
     post: Post<W>,
     acts: Acts<C>,
     waiting: WaitingEvents,
-    // What is left of the ledgers: the parts that no unit and no seat has.
+    // The rest of the ledgers: the parts that no unit and no seat has.
     ledgers: Ledgers<C, W>,
     // True if the guest is told of capacities that change.
     told: bool,

@@ -20,7 +20,7 @@ use unit_history::UnitState;
 use virtqueue::Queue;
 use worker_steps::Parts;
 
-/// What is left of the two ledgers as units are opened: the parts that no unit has, and the book of the second. A unit is
+/// The rest of the two ledgers as units are opened: the parts that no unit has, and the book of the second. A unit is
 /// given one of the second for each Commit that it may make.
 #[derive(Drop)]
 pub(crate) struct Ledgers<C: Ledger, W: Ledger> {

@@ -45,6 +45,7 @@ pub(crate) fn poke(memory: &mut GuestMem, addr: u64, bytes: &[u8]) -> bool
 impl Device {
     /// Returns true if a queue has nothing to take from any memory, by which little more than its index is looked at. Called
     /// in a phase that wrote nothing yet.
+    #[inline(always)]
     pub(crate) fn is_idle_in<M: WritableMemory>(&self, memory: &mut M, number: u16) -> bool
         requires reading { M.is_open memory.old }
         requires fits { FitsIn (M.extent memory.old) self.now }
