@@ -5,6 +5,10 @@
 //!
 //! Without words it serves a few rounds of each kind on each ring, by one thread and by two workers. It then prints how
 //! many requests ended well.
+//!
+//! # Proved
+//!
+//! It is safe; with threads it may wait. Each ending has its exit status.
 #![tactic(auto)]
 
 mod device;

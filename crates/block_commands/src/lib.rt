@@ -1,5 +1,10 @@
 //! One SCSI command on a disk of blocks, run whole (SPC-4, SBC-3): what it is answered, and what it
 //! leaves in the blocks of any store.
+//!
+//! # Proved
+//!
+//! `exec`: status, sense, data, bytes moved and every block afterwards are the definitions' (`docs/COMMANDS.md`).
+//! CHECK CONDITION moves nothing. After want of memory no block changed.
 #![tactic(auto)]
 
 mod attention;

@@ -1,5 +1,11 @@
 //! The blocks of a disk: a map from a logical block address to 512 bytes, as a trait with laws. Two stores have it: one
 //! keeps the blocks in one run of bytes, the other in pages.
+//!
+//! # Proved
+//!
+//! Each store is a map from block number to 512 bytes. A write that is refused memory changes no block; to open and
+//! to zero take none. Pages made away from the store are installed exactly where the blocks beside the range are as
+//! they were copied. Then all is as after the write (`installed_is_written`).
 #![tactic(auto)]
 
 mod bytes;

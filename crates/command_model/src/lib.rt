@@ -1,5 +1,9 @@
 //! Defines what a SCSI command is answered (SPC-4, SAM-5, SBC-3): status, sense and data of each command of the
 //! profile, and what each leaves in the blocks. Answers commands for a LUN that a target lacks.
+//!
+//! # Proved
+//!
+//! What is answered for a LUN that a target lacks is the definitions' (`docs/COMMANDS.md`).
 #![tactic(auto)]
 
 mod absent;

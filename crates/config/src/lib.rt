@@ -1,4 +1,8 @@
 //! Says which device is wanted, and why a configuration isn't taken.
+//!
+//! # Proved
+//!
+//! A configuration is refused exactly where it lies outside the limits, by its cause and place.
 #![tactic(auto)]
 
 mod config;

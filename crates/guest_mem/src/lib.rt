@@ -1,4 +1,10 @@
 //! The memory of a guest: one run of bytes, read and written in slices.
+//!
+//! # Proved
+//!
+//! Memory is one list of bytes: a read is a slice, a write replaces one slice alone (`reads_what_was_written`).
+//! Both are refused exactly where a byte lies behind the end. All that a phase reads is of one list (`Memory`,
+//! `WritableMemory`).
 #![tactic(auto)]
 
 mod access;

@@ -1,5 +1,9 @@
 //! The bus of a host in C: an access of the guest's memory is a call of `read` or of `write`, which the library for C renames to
 //! two functions of its own.
+//!
+//! # Proved
+//!
+//! It keeps `Bus`, of which no clause says which bytes a load gives, or what it does.
 #![tactic(auto)]
 
 use live_mem::Bus;

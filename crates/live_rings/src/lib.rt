@@ -1,4 +1,9 @@
 //! Virtqueues in the memory of a guest that runs: what is fetched and completed there, as of one memory that stands still.
+//!
+//! # Proved
+//!
+//! The same, of every list that the memory may be. In live memory a fetch and a completion do what they do in
+//! memory that stands still.
 #![tactic(auto)]
 
 ghost use Rattle.std.specs.Prelude.{◌≡◌, ◌++◌, List, ℕ};

@@ -1,6 +1,13 @@
 //! Lends the phases what they work on: a unit, or a queue with the memory. Locks lend it where threads share a device,
 //! plain parts where one thread has it. Beside this stands a function for each phase, and for a few that follow one
 //! another, which runs it in one hold of what it works on, whatever lends that.
+//!
+//! # Proved
+//!
+//! What one thread lends is what stands there. What a lock lends is lawful, memory has at most 2^28 bytes, and so
+//! they come back. No clause says that it is the one that the lock held before. Whenever a unit's lock is free, its
+//! history has all Commits and acts of the operator that were counted for it. Phases that share a hold do each
+//! their part on what the one before left.
 #![tactic(auto)]
 
 mod acting;

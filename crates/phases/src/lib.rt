@@ -1,5 +1,22 @@
 //! The atomic steps of the device. Each works on what one lock lends, a queue with the memory or a unit, on the queue's
 //! slot, and on the hand of the seat that takes the step. None waits, and none knows a device.
+//!
+//! # Proved
+//!
+//! A phase does on what one lock lends exactly what a transition says. Or it does nothing, by its cause: there is
+//! nothing to do, or a test fails that never fails in one device. It never waits, and what answers a request gives
+//! its receipt or a note.
+//!
+//! A function or the operator asks or changes a unit only where that has the address of the place that is named.
+//! Else the function fails, the operator's act answers `WrongUnit`, and that unit stays as it was.
+//!
+//! On a queue each is said of any memory (`phase_fetch_in` ..), and of a `GuestMem` by its one list. For all that
+//! may be seen behind a completion some memory may have been found before. The transition is asked of that one, and
+//! the notice is decided by what is seen (`EachSeen`).
+//!
+//! Where others write too, the clause ties what is left to what is seen by size alone. For such a memory alone it
+//! would let a body pass that writes nothing. Each body is proved for every memory, `GuestMem` among them, and
+//! there it must write.
 #![tactic(auto)]
 
 mod answering;

@@ -1,5 +1,10 @@
 //! Decides of a request when it is fetched: it gets an answer that needs no unit, or goes to a unit, decoded. Makes the
 //! bytes of answers.
+//!
+//! # Proved
+//!
+//! A decision is a function of the first bytes, the chain's lengths and the inventory: an answer, a unit with its
+//! request, or a function. The first cause that holds decides. Deciding takes no memory.
 #![tactic(auto)]
 
 mod answer;

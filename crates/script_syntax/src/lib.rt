@@ -1,5 +1,9 @@
 //! The language of scripts as text: a script's lines, a line's words, and what the words say. Nothing
 //! here runs a script.
+//!
+//! # Proved
+//!
+//! Words are taken exactly where they are numbers, capacities, names or units.
 #![tactic(auto)]
 
 mod command;

@@ -1,5 +1,9 @@
 //! Reads and writes the layouts of the virtio SCSI host device: requests and responses, functions of
 //! the control queue, events. No call takes memory.
+//!
+//! # Proved
+//!
+//! Layouts are the standard's: what is read is what was written, each refusal by its cause.
 #![tactic(auto)]
 
 mod control_queue;

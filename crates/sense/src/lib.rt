@@ -1,5 +1,9 @@
 //! Sense data: what a device reports beside CHECK CONDITION, as a sense key, an additional sense
 //! code with its qualifier, and the 18 bytes of the fixed format (SPC-4 §4.5.3).
+//!
+//! # Proved
+//!
+//! The layout is the standard's: 18 bytes, and what is read is what was written.
 #![tactic(auto)]
 
 ghost use Rattle.std.specs.Prelude.{◌≡◌};

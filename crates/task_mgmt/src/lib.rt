@@ -1,6 +1,11 @@
 //! Task management functions (SAM-5 §7): what a chain of the control queue demands, and one function from its
 //! beginning to its response. It holds no unit. Its caller marks and asks the units, and tells it
 //! what came of that.
+//!
+//! # Proved
+//!
+//! What a control chain demands is a function of its first bytes, its lengths and the inventory. A function comes
+//! to its units in turn, keeps each mark until it is clear, and answers by what it found. Deciding takes no memory.
 #![tactic(auto)]
 
 mod control;

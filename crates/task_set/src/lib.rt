@@ -1,4 +1,10 @@
 //! The tasks of a logical unit that are alive, and the jobs that are handed out.
+//!
+//! # Proved
+//!
+//! At most 64 tasks, the oldest first, each with its job exactly as long as it waits; the next one is refused. A
+//! mark meets what its rule says and isn't done, and keeps the first reason. Jobs that wait no longer come back by
+//! order of entry. Only to make a list of jobs takes memory.
 #![tactic(auto)]
 
 mod blocking;

@@ -1,5 +1,9 @@
 //! The unit attention conditions that a logical unit has pending: a list of additional sense codes,
 //! oldest first (SAM-5 §5.14).
+//!
+//! # Proved
+//!
+//! Pending codes are distinct, the oldest first.
 #![tactic(auto)]
 
 mod attentions;

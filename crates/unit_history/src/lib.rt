@@ -1,4 +1,16 @@
 //! The history of a logical unit with what follows from it: its blocks, what it has pending, and its task set.
+//!
+//! # Proved
+//!
+//! `UnitState`: a history is lawful whatever a call is given. A call is one step or none, its answer exact by
+//! cause. A request enters only the unit whose address it names, above the last ticket of its queue. Each job is
+//! handed out once. A command runs whole, with the reply that its history gives; or its task was marked, or memory
+//! was refused, and nothing changed. A Leave wants the proof that the chain was completed (`Answered`).
+//!
+//! Blocks, capacity, attentions and counts (modulo 2^64) are the history's, over disks that are given and given
+//! back. Blocks outside the changes that it tells are unchanged since a place; it may always tell of its latest
+//! place alone. What is served in one call has the same steps. A receipt is confirmed exactly where its Commit
+//! stands at its place, with its reply where the unit still has that (`docs/DECISIONS.md`, "Memory").
 #![tactic(auto)]
 
 mod answering;

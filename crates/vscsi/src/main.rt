@@ -1,4 +1,10 @@
 //! `vscsi` runs a virtio SCSI host device over a guest that a script plays.
+//!
+//! # Proved
+//!
+//! It is safe; with threads it may wait. Each ending has its exit status. `Output` appends what it counts as
+//! written, over a writer whose bytes a contract can see; standard output is none. Once that writer failed (but for
+//! an interruption) or took nothing, it refuses all.
 #![tactic(auto)]
 
 mod ending;

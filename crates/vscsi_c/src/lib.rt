@@ -1,4 +1,14 @@
 //! The device for C: what `include/vscsi.h` declares, each a call of `world`.
+//!
+//! # Proved
+//!
+//! Each export does what the device's own call does, on the device that it is handed, and answers its number. If it
+//! answers anything but that it was done, device, room and numbers are as they were. Two things may differ: what
+//! was served before memory was refused, and the fault of a refused configuration.
+//!
+//! The pointer that C keeps owns the device or the disk. Only `destroy`, `disk_destroy` and `close` let go of it.
+//! `create_with` opens over exactly the disks that it is handed, or leaves each where it was. `close` puts those
+//! that the histories left into places where none is, or changes nothing.
 #![tactic(auto)]
 
 mod answer;

@@ -1,5 +1,16 @@
 //! The device served by threads: the same phases as of one thread, each on what one lock lends, and a hand-off of jobs
 //! between the threads. Crate `worker_steps` has what a thread does with its post and its queues.
+//!
+//! # Proved
+//!
+//! A host starts with as many workers as it is told, or is refused as a device with so many is. It has as many
+//! units and queues as its configuration. Each seat but the last begins a thread, which brings it back.
+//! `docs/THREADS.md` has what is promised of a host.
+//!
+//! `operator` and `resize` add one act of their kind, at the address of that place, exactly where they answer `Ok`
+//! at a unit. An act is counted in the hold in which that unit's history goes on by it; by visibility, only
+//! `hard_on` and `resize_on` of `lock_scopes` add one. A report has as many hard resets and resizes, of all units
+//! together, as acts were made. A function never makes a hard reset.
 #![tactic(auto)]
 
 mod alone;

@@ -1,4 +1,8 @@
 //! The device: guest memory, its virtqueues, its units and its seats, as a machine of atomic steps.
+//!
+//! # Proved
+//!
+//! `docs/PROOFS.md`, "One thread", says what of `World` and of `LiveWorld`.
 #![tactic(auto)]
 
 mod asking;
