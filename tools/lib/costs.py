@@ -24,7 +24,7 @@ BUDGET = {"proof": 480, "tests": 240, "edits": 120}
 # What proofs took on a quiet machine, in seconds of one core, in a run of 84.3 core-minutes on four cores; none of these
 # crates has grown since. A machine that is slower, or has other work on it, has been seen to take three times as long.
 QUIET = {
-    "record": 10,
+    "foundation": 10,
     "scsi_codec": 34,
     "cdb": 35,
     "sense": 10,

@@ -1,6 +1,6 @@
 //! The reasons for which the work wasn't done.
 
-use block_store::NoMemory;
+use foundation::NoMemory;
 use std::alloc::AllocError;
 use world::StartFault;
 

@@ -3,7 +3,7 @@
 ghost use Rattle.std.specs.Prelude.{◌≡◌};
 ghost use Rattle.block_commands.specs.declared.failure.Failure.TheVariants.{Refused, WantOfMemory};
 
-use block_store::NoMemory;
+use foundation::NoMemory;
 use sense::Sense;
 use std::alloc::AllocError;
 

@@ -12,7 +12,6 @@ mod bytes;
 mod cutting;
 mod edges;
 mod exchange;
-mod fault;
 mod flat;
 mod laws;
 mod numbers;
@@ -24,7 +23,6 @@ mod store;
 mod table;
 
 pub use edges::{Edges, Prepared};
-pub use fault::NoMemory;
 pub use flat::FlatStore;
 pub use laws::{
     filled_has_the_block, installed_is_written, later_write_wins, nothing_written_changes_nothing,

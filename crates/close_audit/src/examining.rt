@@ -13,7 +13,7 @@ use crate::least::{first_of, lesser};
 use crate::reading::{are_any_folded, read_notes, read_receipts, read_units};
 use crate::report::Report;
 use crate::tables::Tables;
-use block_store::NoMemory;
+use foundation::NoMemory;
 use request_intake::UnitSpec;
 use ring_core::Ticket;
 use std::alloc::Global;

@@ -8,7 +8,7 @@ ghost use Rattle.close_audit.specs.Inner.Tallies.{fresh, after, marking, tells, 
 ghost use Rattle.close_audit.specs.Inner.Opening.{asked_count, Opens};
 
 use crate::tally::{Fact, Tally, TicketFact};
-use block_store::NoMemory;
+use foundation::NoMemory;
 use ring_core::Ticket;
 use scsi_codec::FIRST_REQUEST_QUEUE;
 use std::alloc::Global;

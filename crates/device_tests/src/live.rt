@@ -4,7 +4,7 @@ use crate::guest::{READ, READY, poke, send};
 use crate::moves::{Move, events, run};
 use crate::opening::{NUMBERS, Numbers, config_of, start};
 use crate::steps::UNIT;
-use block_store::NoMemory;
+use foundation::NoMemory;
 use guest_mem::{GuestMem, MemFault, WritableMemory};
 use live_mem::{Bus, LiveMem};
 use std::alloc::Global;

@@ -1,6 +1,6 @@
 //! Lists of events that a table can hold.
 
-use block_store::NoMemory;
+use foundation::NoMemory;
 use std::alloc::Global;
 use world::{Event, World};
 

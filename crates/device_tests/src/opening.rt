@@ -1,6 +1,7 @@
 //! Devices, by the numbers of their configuration.
 
-use block_store::{NoMemory, PagedStore};
+use foundation::NoMemory;
+use block_store::PagedStore;
 use ring_core::Layout;
 use std::alloc::Global;
 use world::{Config, StartFault, UnitSpec, VERSION_1, World};

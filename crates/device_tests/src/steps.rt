@@ -3,7 +3,7 @@
 use crate::guest::{Sent, has, poke, send, was_answered};
 use crate::moves::{Move, run, step, step_all};
 use crate::opening::{Numbers, start};
-use block_store::NoMemory;
+use foundation::NoMemory;
 use std::alloc::Global;
 use world::{StartFault, StepKind, UnitSpec, World};
 

@@ -1,6 +1,6 @@
 //! A buffer of the event queue that the device holds.
 
-use record::Record;
+use foundation::Record;
 use ring_core::{Chain, Part};
 use scsi_codec::EVENT_BYTES;
 use std::marker::Model;

@@ -1,7 +1,7 @@
 //! One queue, and the places that seats have at it.
 
 use crate::rule::{All, InOrder, Puts, Seats, Takes, View};
-use block_store::NoMemory;
+use foundation::NoMemory;
 use crossbeam_queue::{Pass, RuledArrayQueue};
 use std::alloc::Global;
 use std::marker::Model;

@@ -2,8 +2,7 @@
 
 use crate::lane::{Lane, Place};
 use crate::seat::{Seat, Taken};
-use block_store::NoMemory;
-use record::Record;
+use foundation::{NoMemory, Record};
 use std::alloc::Global;
 use std::marker::Model;
 use std::snapshot::Snapshot;

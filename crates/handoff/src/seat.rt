@@ -1,7 +1,7 @@
 //! A place at a hand-off.
 
 use crate::lane::Place;
-use record::Record;
+use foundation::Record;
 use std::marker::Model;
 use std::snapshot::Snapshot;
 use unit_history::Job;

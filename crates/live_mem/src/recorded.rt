@@ -4,7 +4,7 @@ ghost use Rattle.std.specs.Prelude.{◌≡◌, ◌∷◌, [], length};
 ghost use Rattle.live_mem.specs.Calls.{lengths};
 
 use crate::bus::Bus;
-use record::Record;
+use foundation::Record;
 
 /// A call of a bus.
 #[derive(Clone, Copy)]

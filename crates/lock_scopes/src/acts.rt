@@ -3,7 +3,7 @@
 ghost use Rattle.std.specs.Prelude.{◌≡◌, length};
 
 use crate::part::Part;
-use record::Record;
+use foundation::Record;
 use scsi_codec::Address;
 use std::marker::Model;
 use std::sync::ledger::{Book, Ledger, Share};

@@ -14,7 +14,7 @@ ghost use Rattle.phases.specs.Giving.{given_in};
 ghost use Rattle.phases.specs.EventQueue.{FetchesEvent, RaisesNext};
 
 use crate::lend::QueueLender;
-use block_store::NoMemory;
+use foundation::NoMemory;
 use event_queue::{EventPort, WaitingEvents};
 use phases::{
     Hand, Note, OpenFunction, ReceiptOrNote, Slot, phase_answer, phase_answer_tmf, phase_direct,

@@ -8,7 +8,7 @@ ghost use Rattle.phases.specs.Giving.{given_in};
 ghost use Rattle.lock_scopes.specs.Joined.{AnswersFetches};
 
 use crate::lend::QueueLender;
-use block_store::NoMemory;
+use foundation::NoMemory;
 use guest_mem::GuestMem;
 use phases::{Hand, ReceiptOrNote, Slot, phase_answer, phase_fetch};
 use request_intake::Inventory;

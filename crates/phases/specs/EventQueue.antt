@@ -1,6 +1,6 @@
 -- What the phases do that work on the event queue: a fetch from it, and the raising of an event.
 use Rattle.std.specs.Prelude.{ℕ, ◌≡◌, ◌<◌, ◌&&◌, ◌++◌, Bool, true, false, List, [], ◌∷◌, length, drop, Result, Ok, Err}
-use Rattle.block_store.specs.declared.NoMemory.{NoMemory}
+use Rattle.foundation.specs.declared.NoMemory.{NoMemory}
 use Rattle.scsi_codec.specs.declared.lun.Address.{Address}
 use Rattle.scsi_codec.specs.declared.event_queue.Event.{Event as EventRecord}
 use Rattle.scsi_codec.specs.EventQueue.{event_bytes}

@@ -1,6 +1,6 @@
 -- What a fetch does: of a request queue, and of the control queue.
 use Rattle.std.specs.Prelude.{ℕ, ◌≡◌, ◌≤◌, Bool, true, false, List, length, Option, Some, None, Result, Ok, Err}
-use Rattle.block_store.specs.declared.NoMemory.{NoMemory}
+use Rattle.foundation.specs.declared.NoMemory.{NoMemory}
 use Rattle.scsi_codec.specs.declared.lun.Address.{Address}
 use Rattle.ring_core.specs.Offer.{Offers, Nothing, MayLackMemory}
 use Rattle.device_model.specs.Parts.{Slot}

@@ -14,7 +14,7 @@ use crate::direct_chain::DirectChain;
 use crate::function::OpenFunction;
 use crate::slot::Slot;
 use crate::taking::{Taken, take_request_in};
-use block_store::NoMemory;
+use foundation::NoMemory;
 use guest_mem::{GuestMem, Memory, StillMem};
 use request_intake::{ChainLengths, Inventory};
 use ring_core::{Chain, Fetched};

@@ -8,7 +8,7 @@ ghost use Rattle.phases.specs.Inner.Units.{MarksBy};
 use crate::entering::has_places;
 use crate::function::OpenFunction;
 use crate::naming::is_addressed;
-use block_store::NoMemory;
+use foundation::NoMemory;
 use request_intake::Inventory;
 use task_mgmt::{Kind, MarkBy};
 use unit_history::{JobList, Place, UnitState};

@@ -14,7 +14,7 @@ ghost use Rattle.phases.specs.Inner.Stored.{raised_writes, spent_writes};
 ghost use Rattle.phases.specs.Inner.EventsInMemory.{FetchesEventIn, RaisesNextIn, LooksAtPort, IsHeldBy, UsesWith, TakesBufferOf, MayRaiseIn};
 
 use crate::slot::Slot;
-use block_store::NoMemory;
+use foundation::NoMemory;
 use event_queue::{EventBuffer, EventPort, WaitingEvents};
 use guest_mem::{GuestMem, Memory, WritableMemory};
 use ring_core::{Chain, scatter};

@@ -6,7 +6,7 @@ ghost use Rattle.phases.specs.Resetting.{Resets};
 
 use crate::entering::has_places;
 use crate::naming::is_addressed;
-use block_store::NoMemory;
+use foundation::NoMemory;
 use event_queue::WaitingEvents;
 use request_intake::Inventory;
 use scsi_codec::{Address, Event, TRANSPORT_RESET};

@@ -19,7 +19,7 @@ use crate::direct_chain::DirectChain;
 use crate::refusal::Refusal;
 use crate::response::{write_outcome, write_run};
 use crate::slot::Slot;
-use block_store::NoMemory;
+use foundation::NoMemory;
 use command_model::Reply;
 use guest_mem::{GuestMem, WritableMemory};
 use ring_core::Answered;

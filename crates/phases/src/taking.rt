@@ -8,7 +8,7 @@ ghost use Rattle.phases.specs.Inner.Taking.{IsTakenAs, TakesRequest, IsOutstandi
 use crate::direct_chain::DirectChain;
 use crate::fetching::lengths_of_chain;
 use crate::slot::Slot;
-use block_store::NoMemory;
+use foundation::NoMemory;
 use guest_mem::{GuestMem, Memory, StillMem};
 use request_intake::{Decision, Inventory, decide};
 use ring_core::Fetched;

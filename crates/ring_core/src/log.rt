@@ -2,7 +2,7 @@
 
 ghost use Rattle.std.specs.Prelude.{◌≡◌, ◌∷◌, ◌++◌, [], ◌+◌, ◌<◌, ◌^◌, length, OnOk, OnErr};
 
-use record::Record;
+use foundation::Record;
 use std::alloc::AllocError;
 use std::marker::Model;
 

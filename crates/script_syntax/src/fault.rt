@@ -4,7 +4,7 @@ ghost use Rattle.std.specs.Prelude.{◌≡◌};
 ghost use Rattle.script_syntax.specs.Inner.Faults.{ending_at};
 ghost use Rattle.script_syntax.specs.declared.fault.Stop.{Stop};
 
-use block_store::NoMemory;
+use foundation::NoMemory;
 use std::alloc::{AllocError, AllocFailed};
 use thiserror::Error;
 

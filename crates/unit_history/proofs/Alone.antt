@@ -2,7 +2,7 @@
 use Rattle.std.proofs.Common.{◌≡◌, ℕ, ◌+◌, ◌-◌, ◌≤◌, Bool, true, false, not, ◌||◌, cond, List, [], ◌∷◌, map, length, Option, Some, None, is_some, Result, Ok, Err, refl, sym, ◌∙◌, ap, subst, arith}
 use Rattle.ring_core.specs.declared.log.Ticket.{Ticket}
 use Rattle.block_store.specs.Blocks.{Blocks}
-use Rattle.block_store.specs.declared.NoMemory.{NoMemory}
+use Rattle.foundation.specs.declared.NoMemory.{NoMemory}
 use Rattle.unit_attention.specs.declared.code.Code.{Code}
 use Rattle.block_commands.specs.declared.facts.UnitFacts.{UnitFacts}
 use Rattle.block_commands.specs.Inner.Told.{facts_of}

@@ -1,6 +1,6 @@
 -- How a request ends, by what its unit's calls answered.
 use Rattle.std.specs.Prelude.{ℕ, ◌≤◌, length, Option, Some, None, Result, Ok, Err, IfSome, ⊤}
-use Rattle.block_store.specs.declared.NoMemory.{NoMemory}
+use Rattle.foundation.specs.declared.NoMemory.{NoMemory}
 use Rattle.command_model.specs.PlainReply.{PlainReply, plain_of}
 use Rattle.command_model.specs.declared.reply.Reply.{Reply}
 use Rattle.unit_model.specs.Endings.{Ending}

@@ -7,7 +7,7 @@ ghost use Rattle.unit_model.specs.Jobs.{PlainJob};
 ghost use Rattle.command_model.specs.PlainReply.{success};
 ghost use Rattle.unit_history.specs.Endings.{ending_of_run, plain_run};
 
-use block_store::NoMemory;
+use foundation::NoMemory;
 use command_model::Reply;
 use task_set::Arrival;
 

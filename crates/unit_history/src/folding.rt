@@ -8,7 +8,7 @@ ghost use Rattle.unit_history.specs.Inner.Folding.{mark_at, met_one, rule_if, wi
 
 use crate::commits::Commits;
 use crate::kind::StepKind;
-use record::Record;
+use foundation::Record;
 use ring_core::Ticket;
 use std::alloc::{AllocError, Global};
 use std::collections::VecDeque;

@@ -8,7 +8,7 @@ ghost use Rattle.unit_history.specs.Inner.Kept.{met_kind};
 ghost use Rattle.unit_history.specs.Inner.Slots.{with_slot};
 
 use crate::kind::StepKind;
-use record::Record;
+use foundation::Record;
 use std::alloc::{AllocError, Global};
 use std::marker::Model;
 

@@ -5,7 +5,7 @@ use crate::calls;
 use crate::calls::Came;
 use crate::hand::{Hand, MOST_JOBS, name_of};
 use crate::port::Ports;
-use block_store::NoMemory;
+use foundation::NoMemory;
 use request_intake::UnitSpec;
 use std::alloc::Global;
 use unit_history::{Place, UnitState};

@@ -1,7 +1,7 @@
 //! The calls of a unit, each with whether its history is then longer by the step that its answer says, or by none.
 
 use crate::acts::{Comes, Ends};
-use block_store::NoMemory;
+use foundation::NoMemory;
 use command_model::{CHECK_CONDITION, GOOD, Reply};
 use ring_core::{Answered, Ticket};
 use unit_attention::Code;

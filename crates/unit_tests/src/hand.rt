@@ -3,7 +3,7 @@
 use crate::acts::{Ends, OTHER};
 use crate::calls;
 use crate::port::PAGES;
-use block_store::NoMemory;
+use foundation::NoMemory;
 use ring_core::Answered;
 use std::alloc::Global;
 use unit_history::{Job, JobList, Outcome, Place, Receipt, UnitState};

@@ -4,7 +4,7 @@ ghost use Rattle.std.specs.Prelude.{◌≤◌};
 
 use crate::acts::{DATA, QUEUE, SIMPLE, Sent};
 use crate::bench::{CALM, SECOND};
-use block_store::NoMemory;
+use foundation::NoMemory;
 use guest_mem::GuestMem;
 use request_intake::{ChainLengths, Decision, Inventory, MOST_UNITS, UnitSpec, are_rising, decide};
 use ring_core::{Answered, Chain, FIRST_BYTES, FIRST_INDEX, Fetched, Layout, Ring, RingFault};

@@ -4,7 +4,7 @@ use Rattle.ring_core.specs.State.{RingState, breaking}
 use Rattle.ring_core.specs.Offer.{Offers, Nothing, Refused, MayLackMemory}
 use Rattle.ring_core.specs.Fetch.{Takes}
 use Rattle.ring_core.specs.declared.fault.RingFault.{RingFault}
-use Rattle.block_store.specs.declared.NoMemory.{NoMemory}
+use Rattle.foundation.specs.declared.NoMemory.{NoMemory}
 use Rattle.virtqueue.specs.Queue.{BareQueue}
 use Rattle.virtqueue.specs.declared.queue.Fetch.{Fetch}
 use Rattle.virtqueue.specs.declared.queue.Fetch.TheVariants.{Idle, Broke, Got}

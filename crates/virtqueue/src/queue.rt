@@ -6,7 +6,7 @@ ghost use Rattle.virtqueue.specs.Queue.{opening_ring, placement_of};
 ghost use Rattle.ring_core.specs.State.{features_of};
 
 use crate::any_ring::AnyRing;
-use block_store::NoMemory;
+use foundation::NoMemory;
 use guest_mem::{GuestMem, Memory, StillMem, WritableMemory};
 use packed_ring::PackedRing;
 use ring_core::{

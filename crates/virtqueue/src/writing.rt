@@ -138,7 +138,7 @@ pub fn write_reply_in<M: WritableMemory>(
         (scatter_writes chain.now.parts 0 (answer_of_reply lengths.now (plain_of reply.now))) }
     ensures stores { M.stored memory.new
         ≡ M.storing (M.stored memory.old)
-            (stores_of (scatter_writes chain.now.parts 0 (answer_of_reply lengths.now (plain_of reply.now)))) }
+        (stores_of (scatter_writes chain.now.parts 0 (answer_of_reply lengths.now (plain_of reply.now)))) }
     ensures size { M.extent memory.new ≡ M.extent memory.old }
 {
     let mut head = [0; RESPONSE_BYTES];
@@ -166,7 +166,7 @@ pub fn write_read_in<M: WritableMemory>(
         (scatter_writes chain.now.parts 0 (answer_of_reply lengths.now (good_data data.now))) }
     ensures stores { M.stored memory.new
         ≡ M.storing (M.stored memory.old)
-            (stores_of (scatter_writes chain.now.parts 0 (answer_of_reply lengths.now (good_data data.now)))) }
+        (stores_of (scatter_writes chain.now.parts 0 (answer_of_reply lengths.now (good_data data.now)))) }
     ensures size { M.extent memory.new ≡ M.extent memory.old }
 {
     let mut head = [0; RESPONSE_BYTES];

@@ -1,7 +1,7 @@
 -- What the calls do: each what the device's own call of that name does, told by an answer.
 use Rattle.std.specs.Prelude.{ℕ, ◌≡◌, ◌≢◌, ◌≤◌, ◌<◌, ◌+◌, ◌*◌, Bool, true, false, List, [], length, replicate, Option, Some, None, slice_get, Ok, Err}
 use Rattle.block_store.specs.Blocks.{run}
-use Rattle.block_store.specs.declared.NoMemory.{NoMemory}
+use Rattle.foundation.specs.declared.NoMemory.{NoMemory}
 use Rattle.ring_core.specs.declared.fault.RingFault.{RingFault}
 use Rattle.ring_core.specs.declared.fault.RingFault.TheVariants as ring
 use Rattle.guest_mem.specs.Memory.{LiesIn, bytes_at}

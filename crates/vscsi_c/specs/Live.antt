@@ -1,6 +1,6 @@
 -- What the calls of a device on live memory do: each what the device's own call of that name does, told by an answer.
 use Rattle.std.specs.Prelude.{ℕ, ◌≡◌, ◌^◌, ◌∷◌, Bool, true, false, List, replicate, Option, Some, None, Ok, Err}
-use Rattle.block_store.specs.declared.NoMemory.{NoMemory}
+use Rattle.foundation.specs.declared.NoMemory.{NoMemory}
 use Rattle.unit_model.specs.Contents.{is_capacity}
 use Rattle.device_model.specs.Events.{Event}
 use Rattle.config.specs.Config.{is_config_for}

@@ -15,7 +15,7 @@ use crate::opening::{Ledgers, open_parts};
 use crate::operating::{reset, resize};
 use crate::tallied::{BlankPart, Tallied};
 use crate::worker::{Worker, ends, work};
-use block_store::NoMemory;
+use foundation::NoMemory;
 use close_audit::{CloseFault, Report, report_closed};
 use config::{Config, StartFault, tells_changes};
 use event_queue::WaitingEvents;

@@ -6,7 +6,7 @@ ghost use Rattle.request_intake.specs.Inventory.{address_of};
 ghost use Rattle.config.specs.Config.{is_config, is_queue};
 ghost use Rattle.lock_scopes.specs.Ledgers.{most_commits};
 
-use block_store::NoMemory;
+use foundation::NoMemory;
 use config::{Config, MOST_DESCRIPTORS, form};
 use event_queue::EventPort;
 use guest_mem::GuestMem;

@@ -2,7 +2,7 @@
 use Rattle.std.proofs.Common.{◌≡◌, ℕ, ◌+◌, Bool, true, false, List, [], ◌∷◌, ◌++◌, length, Result, Ok, Err, refl, sym, ap, ◌∙◌, subst, take, Some, true≢false, arith}
 use Rattle.std.specs.Prelude.{◌↔◌, IsTrue, IsErr, slice_get}
 use Rattle.guest_mem.specs.Memory.{LiesIn}
-use Rattle.block_store.specs.declared.NoMemory.{NoMemory}
+use Rattle.foundation.specs.declared.NoMemory.{NoMemory}
 use Rattle.device_model.specs.Parts.{IsSeen}
 use Rattle.device_model.specs.World.{PlainWorld}
 use Rattle.device_model.specs.Events.{Event, plain_event}

@@ -1,6 +1,6 @@
 -- What a run of the device promises.
 use Rattle.std.proofs.Common.{◌≡◌, ℕ, ◌+◌, Bool, arith, List, [], ◌∷◌, ◌++◌, map, if◌then◌else◌, Result, Ok, Err, refl, sym, ap, ◌∙◌, subst}
-use Rattle.block_store.specs.declared.NoMemory.{NoMemory}
+use Rattle.foundation.specs.declared.NoMemory.{NoMemory}
 use Rattle.device_model.specs.World.{PlainWorld}
 use Rattle.device_model.specs.Events.{Event}
 use Rattle.device_model.specs.Transitions.{Transition, event_of}

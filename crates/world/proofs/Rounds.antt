@@ -2,7 +2,7 @@
 use Rattle.std.proofs.Common.{◌≡◌, ℕ, suc, ◌+◌, Bool, true, false, List, [], ◌∷◌, ◌++◌, length, map, Option, Some, None, Result, Ok, Err, refl, sym, ap, ◌∙◌, subst, inl, inr, arith}
 use Rattle.std.specs.List.{sum_by}
 use Rattle.std.proofs.lemmas.List.Sums.{sum_by-cons}
-use Rattle.block_store.specs.declared.NoMemory.{NoMemory}
+use Rattle.foundation.specs.declared.NoMemory.{NoMemory}
 use Rattle.device_model.specs.World.{PlainWorld}
 use Rattle.device_model.specs.Transitions.{Transition, event_of}
 use Rattle.device_model.specs.After.{after}

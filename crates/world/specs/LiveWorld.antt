@@ -1,7 +1,7 @@
 -- The device on a memory that its guest writes at any time. What stood there at one event tells nothing of what stands
 -- there at the next; so a trace of its events has a write of the guest before the first of them and behind each.
 use Rattle.std.specs.Prelude.{ℕ, ◌≡◌, ◌+◌, Bool, true, if◌then◌else◌, List, [], ◌∷◌, ◌++◌, length, map, false, take, Some, slice_get, Result, Ok, Err}
-use Rattle.block_store.specs.declared.NoMemory.{NoMemory}
+use Rattle.foundation.specs.declared.NoMemory.{NoMemory}
 use Rattle.block_store.specs.declared.paged.PagedStore.{PagedStore}
 use Rattle.config.specs.Config.{is_config_for}
 use Rattle.config.specs.declared.config.Config.{Config}

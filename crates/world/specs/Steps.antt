@@ -1,6 +1,6 @@
 -- What the device's calls do: one event, and a list of them.
 use Rattle.std.specs.Prelude.{ℕ, ◌≡◌, Bool, List, map, reverse, take, Some, slice_get, Result, Ok, Err}
-use Rattle.block_store.specs.declared.NoMemory.{NoMemory}
+use Rattle.foundation.specs.declared.NoMemory.{NoMemory}
 use Rattle.device_model.specs.World.{PlainWorld}
 use Rattle.device_model.specs.Events.{Event, plain_event}
 use Rattle.device_model.specs.declared.event.Event as declared

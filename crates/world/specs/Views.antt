@@ -2,7 +2,7 @@
 use Rattle.std.specs.Prelude.{ℕ, ⊤, ◌≡◌, ◌≤◌, ◌+◌, ◌==◌, ◌&&◌, ◌++◌, Bool, true, false, cond, List, length, Option, Some, None, is_some, slice_get, find, ◌<◌, Result, Ok, Err}
 use Rattle.std.specs.List.{list_any}
 use Rattle.block_store.specs.Blocks.{run}
-use Rattle.block_store.specs.declared.NoMemory.{NoMemory}
+use Rattle.foundation.specs.declared.NoMemory.{NoMemory}
 use Rattle.unit_model.specs.Contents.{blocks_of, capacity_of}
 use Rattle.unit_model.specs.Unit.{PlainUnit}
 use Rattle.unit_history.specs.Changes.{PlainChanges, AreUnchanged}

@@ -1,6 +1,6 @@
 //! The jobs between seats: for each seat a list of those that it handed off.
 
-use block_store::NoMemory;
+use foundation::NoMemory;
 use std::alloc::Global;
 use std::marker::Model;
 use unit_history::{Job, JobList};

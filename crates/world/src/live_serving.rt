@@ -12,7 +12,7 @@ use crate::cursor::{Cursor, Progress};
 use crate::live_world::LiveWorld;
 use crate::service::Served;
 use crate::sound::all_are_sound;
-use block_store::NoMemory;
+use foundation::NoMemory;
 use device_model::laws::every_run_goes_on;
 use device_model::live_laws::{
     a_live_run_is_a_run, a_live_settling_is_short, any_bytes_may_stand_there,

@@ -15,7 +15,7 @@ ghost use Rattle.world.specs.Views.{unit_of, IsPlaceAmong, fault_of, status_of, 
 use crate::bay::Bay;
 use crate::live_world::LiveWorld;
 use crate::sound::all_are_sound;
-use block_store::NoMemory;
+use foundation::NoMemory;
 use guest_mem::WritableMemory;
 use ring_core::{QueueLog, RingFault};
 use unit_attention::Code;

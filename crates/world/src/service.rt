@@ -20,7 +20,7 @@ use crate::device::Device;
 use crate::seat::Stage;
 use crate::sound::all_are_sound;
 use crate::steps::owner;
-use block_store::NoMemory;
+use foundation::NoMemory;
 use guest_mem::{Memory, WritableMemory};
 use phases::{Slot, Taken, serve_request_in, take_request_in};
 use scsi_codec::{CONTROL_QUEUE, EVENT_QUEUE, FIRST_REQUEST_QUEUE};

@@ -12,7 +12,7 @@ ghost use Rattle.world.specs.Sound.{AreFew, AreFitting};
 ghost use Rattle.world.specs.Inner.Sound.{IsSound};
 
 use crate::device::Device;
-use block_store::NoMemory;
+use foundation::NoMemory;
 use guest_mem::{GuestMem, Memory, WritableMemory};
 use phases::{
     ResetFault, ResizeFault, phase_answer_in, phase_answer_tmf_in, phase_check, phase_commit,

@@ -9,7 +9,7 @@ ghost use Rattle.unit_model.specs.Contents.{capacity_of, pending_of};
 use crate::bay::Bay;
 use crate::device::Device;
 use crate::world::World;
-use block_store::NoMemory;
+use foundation::NoMemory;
 use guest_mem::GuestMem;
 use ring_core::{QueueLog, RingFault};
 use unit_attention::Code;

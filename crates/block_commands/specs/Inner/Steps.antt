@@ -1,7 +1,7 @@
 -- What the parts of a command's run give.
 use Rattle.std.specs.Prelude.{ℕ, ◌≡◌, Bool, List, Result, Ok, Err, IsTrue, IsErr, IsOkAnd}
 use Rattle.sense.specs.declared.Sense.{Sense}
-use Rattle.block_store.specs.declared.fault.NoMemory.{NoMemory}
+use Rattle.foundation.specs.declared.NoMemory.{NoMemory}
 use Rattle.cdb.specs.declared.commands.Command.{Command}
 use Rattle.command_model.specs.Data.{Answer}
 use Rattle.command_model.specs.PlainReply.{plain_of, success, refusal}

@@ -1,6 +1,6 @@
 -- What the search for an outstanding ticket finds.
 use Rattle.std.specs.Prelude.{Option, Result, Ok, Err, ⊤}
-use Rattle.block_store.specs.declared.fault.NoMemory.{NoMemory}
+use Rattle.foundation.specs.declared.NoMemory.{NoMemory}
 use Rattle.ring_core.specs.declared.log.Ticket.{Ticket}
 use Rattle.close_audit.specs.declared.report.Report.{Report}
 use Rattle.close_audit.specs.Closed.{IsFirst, is_outstanding}

@@ -1,6 +1,6 @@
 //! Records, which take no memory, and whose calls return.
 
-use record::Record;
+use foundation::Record;
 use std::mem::size_of;
 
 #[test]

@@ -1,7 +1,7 @@
 //! The names of refusals, and their numbers.
 
 use super::none_is;
-use block_store::NoMemory;
+use foundation::NoMemory;
 use guest_mem::MemFault;
 use scsi_codec::CodecFault;
 use std::alloc::Global;

@@ -1,6 +1,6 @@
 -- Rests on `specs/Units.antt`; no promise rests on it.
 use Rattle.std.specs.Prelude.{ℕ, ◌≡◌, length, Result, Ok, Err}
-use Rattle.block_store.specs.declared.NoMemory.{NoMemory}
+use Rattle.foundation.specs.declared.NoMemory.{NoMemory}
 use Rattle.unit_model.specs.Jobs.{Jobs}
 use Rattle.unit_model.specs.Unit.{PlainUnit, after as stepped}
 use Rattle.task_mgmt.specs.Functions.{step_by}

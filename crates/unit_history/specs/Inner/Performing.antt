@@ -2,7 +2,7 @@
 use Rattle.std.specs.Prelude.{ℕ, ◌≡◌, Bool, IsTrue, List, Option, Some, None, Result, Ok, Err, if◌then◌else◌, ⊤}
 use Rattle.cdb.specs.declared.commands.Command.{Command}
 use Rattle.block_store.specs.Blocks.{Blocks}
-use Rattle.block_store.specs.declared.NoMemory.{NoMemory}
+use Rattle.foundation.specs.declared.NoMemory.{NoMemory}
 use Rattle.std.specs.Option.{option_map}
 use Rattle.command_model.specs.PlainReply.{PlainReply, plain_of}
 use Rattle.command_model.specs.Attention.{takes}

@@ -1,6 +1,6 @@
 -- Rests on `specs/Apart.antt`; no promise rests on it.
 use Rattle.std.specs.Prelude.{ℕ, Bool, false, List, [], Result}
-use Rattle.block_store.specs.declared.NoMemory.{NoMemory}
+use Rattle.foundation.specs.declared.NoMemory.{NoMemory}
 use Rattle.device_model.specs.Events.{Event}
 use Rattle.device_model.specs.After.{after}
 use Rattle.device_model.specs.Turns.{Turns}

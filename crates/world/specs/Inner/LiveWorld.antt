@@ -1,6 +1,6 @@
 -- Rests on `specs/LiveWorld.antt`; no promise rests on it.
 use Rattle.std.specs.Prelude.{ℕ, ◌≡◌, ◌+◌, Bool, if◌then◌else◌, List, ◌∷◌, length, map, Result, Ok, Err}
-use Rattle.block_store.specs.declared.NoMemory.{NoMemory}
+use Rattle.foundation.specs.declared.NoMemory.{NoMemory}
 use Rattle.device_model.specs.Events.{Event}
 use Rattle.device_model.specs.Happens.{Occurrence}
 use Rattle.device_model.specs.Turns.{count_changes}

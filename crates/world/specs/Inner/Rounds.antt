@@ -1,6 +1,6 @@
 -- A round of a device that is served in live memory.
 use Rattle.std.specs.Prelude.{ℕ, ◌≡◌, ◌≤◌, ◌+◌, Bool, true, false, List, length, Option, Some, None, Result, Ok, Err, ⊤}
-use Rattle.block_store.specs.declared.NoMemory.{NoMemory}
+use Rattle.foundation.specs.declared.NoMemory.{NoMemory}
 use Rattle.device_model.specs.World.{PlainWorld}
 use Rattle.device_model.specs.Live.{Turn, live_world, LiveSettlesOf}
 use Rattle.world.specs.Apart.{PlainDevice, standing}

@@ -1,7 +1,7 @@
 use Rattle.std.proofs.Common.{◌≡◌, Bool, Some, Result, Err, sym, ap, subst, ◌∙◌}
 use Rattle.std.specs.Prelude.{slice_get}
 use Rattle.std.proofs.lemmas.Option.{slice_get_read}
-use Rattle.block_store.specs.declared.NoMemory.{NoMemory}
+use Rattle.foundation.specs.declared.NoMemory.{NoMemory}
 use Rattle.phases.specs.declared.resizing.ResizeFault.{ResizeFault}
 use Rattle.device_model.specs.Events.{Event}
 use Rattle.world.specs.Inner.Steps.{TurnsOrWants}

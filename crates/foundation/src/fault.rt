@@ -1,10 +1,10 @@
-//! The one refusal of a store.
+//! The refusal of memory.
 
 use std::alloc::AllocError;
 use std::error::Error;
 use std::fmt::{self, Display, Formatter, Write};
 
-/// The memory that a call wanted could not be had. The store is as before.
+/// The memory that a call wanted could not be had. What the call was asked to change is as before.
 #[derive(Clone, Copy, Debug, PartialEq, Eq)]
 pub struct NoMemory;
 
