@@ -19,9 +19,10 @@ use crate::note::Note;
 use crate::slot::Slot;
 use guest_mem::{GuestMem, WritableMemory};
 use request_intake::DirectAnswer;
+use responses::write_direct;
 use ring_core::{Answered, Chain};
 use std::mem;
-use virtqueue::{Queue, write_direct_in};
+use virtqueue::Queue;
 
 /// Answers a chain, and uses it.
 fn answer_chain<M: WritableMemory>(
@@ -42,7 +43,7 @@ fn answer_chain<M: WritableMemory>(
     ensures reading { M.is_open memory.new }
     ensures queue { (m : List ℕ) → M.may_be memory.new m → queue.new ≡ completing m chain queue.old }
 {
-    let len = write_direct_in(memory, &chain, answer);
+    let len = write_direct(memory, &chain, answer);
     queue.complete_in(memory, chain, len)
 }
 

@@ -10,11 +10,11 @@ use foundation::NoMemory;
 use command_model::{BUSY, Reply};
 use guest_mem::WritableMemory;
 use request_intake::{ChainLengths, DirectAnswer};
+use responses::{write_direct, write_reply};
 use ring_core::Chain;
 use scsi_codec::{RESPONSE_BYTES, ResponseCode};
 use unit_history::{Outcome, Receipt};
 use unit_model::Reason;
-use virtqueue::{write_direct_in, write_reply_in};
 
 /// Writes what came of a command: its reply, or BUSY where it was refused memory.
 #[inline(always)]
@@ -38,8 +38,8 @@ pub(crate) fn write_run<M: WritableMemory>(
     ensures size { M.extent memory.new ≡ M.extent memory.old }
 {
     match ran {
-        Ok(reply) => write_reply_in(memory, chain, lengths, reply),
-        Err(NoMemory) => write_direct_in(memory, chain, &DirectAnswer::of_status(lengths, BUSY)),
+        Ok(reply) => write_reply(memory, chain, lengths, reply),
+        Err(NoMemory) => write_direct(memory, chain, &DirectAnswer::of_status(lengths, BUSY)),
     }
 }
 
@@ -74,8 +74,8 @@ fn write_receipt<M: WritableMemory>(
     ensures size { M.extent memory.new ≡ M.extent memory.old }
 {
     match receipt.reply() {
-        Some(reply) => write_reply_in(memory, chain, lengths, reply),
-        None => write_direct_in(memory, chain, &DirectAnswer::failed(ResponseCode::Failure)),
+        Some(reply) => write_reply(memory, chain, lengths, reply),
+        None => write_direct(memory, chain, &DirectAnswer::failed(ResponseCode::Failure)),
     }
 }
 
@@ -102,15 +102,15 @@ pub(crate) fn write_outcome<M: WritableMemory>(
     match outcome {
         Outcome::Reply(receipt) => write_receipt(memory, chain, lengths, receipt),
         Outcome::Aborted(reason) => {
-            write_direct_in(
+            write_direct(
                 memory,
                 chain,
                 &DirectAnswer::failed(code_of_reason(*reason)),
             )
         }
-        Outcome::Busy => write_direct_in(memory, chain, &DirectAnswer::of_status(lengths, BUSY)),
+        Outcome::Busy => write_direct(memory, chain, &DirectAnswer::of_status(lengths, BUSY)),
         Outcome::Unknown => {
-            write_direct_in(memory, chain, &DirectAnswer::failed(ResponseCode::Failure))
+            write_direct(memory, chain, &DirectAnswer::failed(ResponseCode::Failure))
         }
     }
 }

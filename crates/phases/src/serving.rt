@@ -22,9 +22,10 @@ use crate::slot::Slot;
 use foundation::NoMemory;
 use command_model::Reply;
 use guest_mem::{GuestMem, WritableMemory};
+use responses::write_read;
 use ring_core::Answered;
 use unit_history::{Answering, Arrival, Entered, Job, JobList, Outcome, UnitState, Unknown};
-use virtqueue::{Queue, write_read_in};
+use virtqueue::Queue;
 
 /// Writes what answers a job over the writable parts of its chain, by what came of its commit.
 #[inline(always)]
@@ -81,7 +82,7 @@ impl<'a, M: WritableMemory> Answering for Answer<'a, M> {
 
     #[inline(always)]
     fn answer_read(&mut self, arrival: &Arrival, data: &[u8]) {
-        self.len = write_read_in(self.memory, arrival.chain(), &arrival.lengths(), data);
+        self.len = write_read(self.memory, arrival.chain(), &arrival.lengths(), data);
     }
 }
 

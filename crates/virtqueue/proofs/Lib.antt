@@ -1,4 +1,3 @@
-pub mod FirstPart
 pub mod Opening
 pub mod Own
 pub mod Seeing

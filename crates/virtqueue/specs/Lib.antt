@@ -7,4 +7,3 @@ pub mod AnyRing
 pub mod Completing
 pub mod Looking
 pub mod Queue
-pub mod Inner

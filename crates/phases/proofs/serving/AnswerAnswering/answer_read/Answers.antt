@@ -10,12 +10,12 @@ pub returns : goal.returns
 returns g c =
     let data_in = c.args.data.now in
     let before = g.M.Memory.may_be c.args.self.now.memory.now in
-    let after = g.M.Memory.may_be c.write_read_in-self.new.memory in (
+    let after = g.M.Memory.may_be c.write_read-self.new.memory in (
       refl,
-      c.write_read_in-self.ensures.size,
-      subst (λ (r : PlainReply). WritesWholeIn c.args.arrival.now (Ending.Replied r) before c.write_read_in-self.result after)
+      c.write_read-self.ensures.size,
+      subst (λ (r : PlainReply). WritesWholeIn c.args.arrival.now (Ending.Replied r) before c.write_read-self.result after)
           (read_as c.args.arrival.now.entry.command data_in c.requires.sends)
           (writes_whole c.args.arrival.now (Ending.Replied (good_data data_in)) c.lengths.result c.chain.result.now before after
-          c.write_read_in-self.result c.lengths.ensures.readable c.lengths.ensures.writable c.chain.ensures
-          c.write_read_in-self.ensures.written c.write_read_in-self.ensures.memory),
+          c.write_read-self.result c.lengths.ensures.readable c.lengths.ensures.writable c.chain.ensures
+          c.write_read-self.ensures.written c.write_read-self.ensures.memory),
     )

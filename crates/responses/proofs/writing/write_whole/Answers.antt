@@ -1,7 +1,7 @@
 use Rattle.std.proofs.Common.{rules, ◌≡◌, ◌∙◌, ◌+◌, ◌++◌, ap, sym, length, ℕ}
 use Rattle.guest_mem.specs.Stores.{stores_at}
 use Rattle.ring_core.proofs.InStores.{in_turn, stores_behind}
-use Rattle.virtqueue.proofs.writing.write_whole.Goals as goal
+use Rattle.responses.proofs.writing.write_whole.Goals as goal
 
 pub returns-clause-stores : goal.returns-clause-stores
 returns-clause-stores g c =

@@ -8,7 +8,7 @@ ghost use Rattle.ring_core.specs.Writes.{Wrote, scatter_writes, stores_of};
 ghost use Rattle.command_model.specs.PlainReply.{plain_of};
 ghost use Rattle.command_model.specs.Inner.PlainReply.{good_data};
 ghost use Rattle.request_intake.specs.Answers.{answer_of_reply};
-ghost use Rattle.virtqueue.specs.Inner.FirstPart.{first_open};
+ghost use Rattle.responses.specs.Inner.FirstPart.{first_open};
 
 use command_model::{GOOD, Reply};
 use guest_mem::WritableMemory;
@@ -121,7 +121,7 @@ fn write_response<M: WritableMemory>(
 /// Writes response OK with a reply (VIRTIO 1.2 §5.6.6.1) over the writable parts of a chain of these lengths, which
 /// have room for both. Returns how many bytes it wrote. Called before the chain is completed. It takes no memory.
 #[inline(always)]
-pub fn write_reply_in<M: WritableMemory>(
+pub fn write_reply<M: WritableMemory>(
     memory: &mut M,
     chain: &Chain,
     lengths: &ChainLengths,
@@ -146,10 +146,10 @@ pub fn write_reply_in<M: WritableMemory>(
     write_response(memory, chain, &head, reply.payload.as_slice())
 }
 
-/// Writes response OK of a READ that is GOOD, with these data, as [`write_reply_in`] does of such a reply: so data are
+/// Writes response OK of a READ that is GOOD, with these data, as [`write_reply`] does of such a reply: so data are
 /// written from where they stand, with no reply made of them.
 #[inline(always)]
-pub fn write_read_in<M: WritableMemory>(
+pub fn write_read<M: WritableMemory>(
     memory: &mut M,
     chain: &Chain,
     lengths: &ChainLengths,
@@ -176,11 +176,7 @@ pub fn write_read_in<M: WritableMemory>(
 
 /// Writes an answer that needs no unit over the writable parts of a chain, which have room for it. Returns how many
 /// bytes it wrote. Called before the chain is completed. It takes no memory.
-pub fn write_direct_in<M: WritableMemory>(
-    memory: &mut M,
-    chain: &Chain,
-    answer: &DirectAnswer,
-) -> u32
+pub fn write_direct<M: WritableMemory>(memory: &mut M, chain: &Chain, answer: &DirectAnswer) -> u32
     requires fits { M.extent memory.old ≡ chain.now.memory }
     requires room { length answer.now ≤ writable_total chain.now.parts }
     ensures written { result ≡ length answer.now }

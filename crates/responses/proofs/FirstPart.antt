@@ -12,7 +12,7 @@ use Rattle.ring_core.specs.Writes.{all_written, scatter_writes, stores_of}
 use Rattle.ring_core.specs.declared.descriptor.Part.{Part}
 use Rattle.ring_core.proofs.Scattering.{scattered, scatter_nothing, scattered_into, scattered_over, scatter_in_two_lem}
 use Rattle.ring_core.proofs.InStores.{in_stores, stores_none, stores_into, stores_over}
-use Rattle.virtqueue.specs.Inner.FirstPart.{first_open}
+use Rattle.responses.specs.Inner.FirstPart.{first_open}
 
 some_same : (p q : Part) → Some p ≡ Some q → p ≡ q
 some_same p q e = cc

@@ -3,7 +3,7 @@ use Rattle.ring_core.specs.Parts.{PartsFit}
 use Rattle.ring_core.specs.Writes.{all_written, scatter_writes}
 use Rattle.ring_core.proofs.Scattering.{scatter_in_two_lem}
 use Rattle.ring_core.proofs.InStores.{in_stores, in_turn, stores_in_two}
-use Rattle.virtqueue.proofs.writing.write_scattered.Goals as goal
+use Rattle.responses.proofs.writing.write_scattered.Goals as goal
 
 pub returns-clause-memory : goal.returns-clause-memory
 returns-clause-memory g c = λ m₂ s₂.

@@ -2,9 +2,9 @@ use Rattle.std.proofs.Common.{rules, ◌≡◌, ◌+◌, ◌∙◌, ◌++◌, ap
 use Rattle.guest_mem.specs.Memory.{with_bytes}
 use Rattle.guest_mem.specs.Stores.{Store}
 use Rattle.ring_core.specs.Parts.{PartsFit}
-use Rattle.virtqueue.specs.Inner.FirstPart.{first_open}
-use Rattle.virtqueue.proofs.FirstPart.{written_whole, stores_whole, first_lies_in}
-use Rattle.virtqueue.proofs.writing.write_response.Goals as goal
+use Rattle.responses.specs.Inner.FirstPart.{first_open}
+use Rattle.responses.proofs.FirstPart.{written_whole, stores_whole, first_lies_in}
+use Rattle.responses.proofs.writing.write_response.Goals as goal
 
 pub write_whole-requires-clause-inside : goal.write_whole-requires-clause-inside
 write_whole-requires-clause-inside g c =

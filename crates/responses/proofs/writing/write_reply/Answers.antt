@@ -1,6 +1,6 @@
 use Rattle.std.proofs.Common.{◌∙◌, ◌++◌, ap, List, ℕ}
 use Rattle.ring_core.specs.Writes.{all_written, scatter_writes}
-use Rattle.virtqueue.proofs.writing.write_reply_in.Goals as goal
+use Rattle.responses.proofs.writing.write_reply.Goals as goal
 
 pub returns-clause-memory : goal.returns-clause-memory
 returns-clause-memory g c = λ m₁ s₁.
