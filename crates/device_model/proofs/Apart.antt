@@ -7,7 +7,8 @@ use Rattle.ring_core.specs.declared.fault.RingFault.{RingFault}
 use Rattle.device_model.specs.Parts.{Outcome, Slot}
 use Rattle.device_model.specs.World.{PlainQueue, PlainWorld, change}
 use Rattle.device_model.specs.Transitions.{Transition}
-use Rattle.device_model.specs.After.{arriving, taking, slotted, broken_by, completing, directing, spending, after}
+use Rattle.device_model.specs.Changing.{arriving, taking, slotted, broken_by, completing, directing, spending}
+use Rattle.device_model.specs.After.{after}
 use Rattle.device_model.specs.Happens.{Happens}
 use Rattle.device_model.specs.Laws.{AreApart, touches}
 use Rattle.device_model.proofs.Lists.{nothing, same, at_other, there_change, get_other, stays, not_that}

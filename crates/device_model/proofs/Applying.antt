@@ -10,8 +10,10 @@ use Rattle.device_model.specs.World.{PlainWorld}
 use Rattle.device_model.specs.Parts.{PlainFetch}
 use Rattle.device_model.specs.Events.{Event}
 use Rattle.device_model.specs.Transitions.{Transition, event_of}
-use Rattle.device_model.specs.Happens.{Happens, Errs, IsOpenTo, Finds}
-use Rattle.device_model.specs.Applies.{Applies, MayFetch}
+use Rattle.device_model.specs.Happens.{Happens, Errs}
+use Rattle.device_model.specs.Event.Fetch.{IsOpenTo, Finds}
+use Rattle.device_model.specs.Applies.{Applies}
+use Rattle.device_model.specs.Event.Fetch.{MayFetch}
 
 -- a queue other than the control queue is open
 open_above : (w : PlainWorld) (i : ℕ) → 1 ≤ i → IsOpenTo w i

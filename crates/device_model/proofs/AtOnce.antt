@@ -5,8 +5,10 @@ use Rattle.unit_model.specs.Jobs.{PlainJob}
 use Rattle.device_model.specs.Parts.{Hand}
 use Rattle.device_model.specs.World.{PlainWorld, IsBefore, change}
 use Rattle.device_model.specs.Transitions.{Transition}
-use Rattle.device_model.specs.After.{with_hand, without_first, with_job, after}
-use Rattle.device_model.specs.Happens.{Happens, SeatIs, OffIs}
+use Rattle.device_model.specs.Changing.{with_hand, without_first, with_job}
+use Rattle.device_model.specs.After.{after}
+use Rattle.device_model.specs.Happens.{Happens}
+use Rattle.device_model.specs.Found.{SeatIs, OffIs}
 use Rattle.device_model.proofs.Lists.{same, get_change}
 
 change_twice : {X : Type 0} (f g h : X → X) → ((x : X) → f (g x) ≡ h x) → (k : ℕ) (xs : List X)

@@ -15,8 +15,12 @@ use Rattle.unit_model.specs.Unit.{PlainUnit, after as stepped, parking}
 use Rattle.device_model.specs.Parts.{Outcome, Slot, Hand}
 use Rattle.device_model.specs.World.{PlainQueue, Seat, Opened, PlainWorld, change, owner, Everywhere, all_off}
 use Rattle.device_model.specs.Transitions.{Transition}
-use Rattle.device_model.specs.After.{arriving, taking, slotted, broken_by, completing, directing, spending, with_hand, without_first, with_jobs, leaving, on_function, hard_code, after}
-use Rattle.device_model.specs.Happens.{May, Comes, handed_out}
+use Rattle.device_model.specs.Changing.{arriving, taking, slotted, broken_by, completing, directing, spending, with_hand, without_first, with_jobs, leaving, on_function}
+use Rattle.device_model.specs.Event.Hard.{hard_code}
+use Rattle.device_model.specs.After.{after}
+use Rattle.device_model.specs.Happens.{May}
+use Rattle.device_model.specs.Event.Enter.{Comes}
+use Rattle.device_model.specs.Found.{handed_out}
 use Rattle.device_model.specs.Laws.{in_hand, at_seat}
 use Rattle.device_model.specs.Places.{of_chain, of_job, of_slot, of_function, at_queue, at_unit, standing_count}
 use Rattle.device_model.specs.Standing.{IsOwned, IsJob, SlotOwns, HandOwns, FunctionOwns}

@@ -16,8 +16,9 @@ use Rattle.task_mgmt.specs.declared.function.Mark.{Mark as Place}
 use Rattle.device_model.specs.Parts.{Outcome, Slot, Hand}
 use Rattle.device_model.specs.World.{PlainQueue, Seat, Opened, PlainWorld}
 use Rattle.device_model.specs.Events.{Event}
-use Rattle.device_model.specs.Happens.{IsOpenTo}
-use Rattle.device_model.specs.Applies.{Applies, MayCheck}
+use Rattle.device_model.specs.Event.Fetch.{IsOpenTo}
+use Rattle.device_model.specs.Applies.{Applies}
+use Rattle.device_model.specs.Event.Check.{MayCheck}
 use Rattle.device_model.proofs.Lists.{nothing, same}
 use Rattle.device_model.specs.Order.{each, of_seat, fetch_of, order, order_by, order_of, IsFirstOf, IsNext, IsNextOf, NoneApplies, IsQuiet, IsQuietOf}
 use Rattle.device_model.specs.Waking.{IsOwn}

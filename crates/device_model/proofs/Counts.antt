@@ -9,7 +9,7 @@ use Rattle.unit_model.specs.Tasks.{same_ticket}
 use Rattle.unit_model.proofs.Tickets.{eq-same, same-true}
 use Rattle.device_model.specs.World.{Opened, PlainWorld, Opens}
 use Rattle.device_model.specs.Transitions.{Transition}
-use Rattle.device_model.specs.After.{bit}
+use Rattle.device_model.specs.Changing.{bit}
 use Rattle.device_model.specs.Happens.{May, occurrence_of, world_of, Leads}
 use Rattle.device_model.specs.Places.{only}
 use Rattle.device_model.specs.Standing.{AreOwned, FunctionOwns, IsOwned}

@@ -20,7 +20,8 @@ use Rattle.task_mgmt.specs.declared.function.Mark.{Mark as Place}
 use Rattle.device_model.specs.Parts.{Completion}
 use Rattle.device_model.specs.World.{PlainWorld, Opens}
 use Rattle.device_model.specs.Transitions.{Transition}
-use Rattle.device_model.specs.Happens.{IsMarking as IsMarkingNow, Leads, world_of}
+use Rattle.device_model.specs.Event.Mark.{IsMarking as IsMarkingNow}
+use Rattle.device_model.specs.Happens.{Leads, world_of}
 use Rattle.device_model.specs.Places.{only}
 use Rattle.device_model.specs.Weights.{answers}
 use Rattle.device_model.specs.Inner.Weights.{leaves}

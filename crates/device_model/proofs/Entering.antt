@@ -5,7 +5,8 @@ use Rattle.unit_model.specs.Steps.{Step}
 use Rattle.device_model.specs.Parts.{PlainFetch}
 use Rattle.device_model.specs.World.{PlainWorld, Opens}
 use Rattle.device_model.specs.Transitions.{Transition}
-use Rattle.device_model.specs.Happens.{May, Finds, world_of, Leads}
+use Rattle.device_model.specs.Happens.{May, world_of, Leads}
+use Rattle.device_model.specs.Event.Fetch.{Finds}
 use Rattle.device_model.specs.Places.{only}
 use Rattle.device_model.specs.Happened.{IsFetch}
 use Rattle.device_model.specs.Inner.Happened.{IsEnter}

@@ -10,7 +10,9 @@ use Rattle.unit_model.specs.Unit.{PlainUnit}
 use Rattle.device_model.specs.Parts.{is_short}
 use Rattle.device_model.specs.World.{PlainWorld, Opens}
 use Rattle.device_model.specs.Transitions.{Transition}
-use Rattle.device_model.specs.After.{hard_report, reports_of, change_report, change_reports, after}
+use Rattle.device_model.specs.Event.Hard.{hard_report, reports_of}
+use Rattle.device_model.specs.Event.Resize.{change_report, change_reports}
+use Rattle.device_model.specs.After.{after}
 use Rattle.device_model.specs.Happens.{May, Leads, world_of}
 use Rattle.device_model.proofs.Staying.{tells_after}
 use Rattle.device_model.specs.EventBuffers.{arrived_of, given_of, raised_of, reported_of, missed_of, AreEvents}

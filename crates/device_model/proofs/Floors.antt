@@ -15,8 +15,12 @@ use Rattle.task_mgmt.specs.declared.kind.MarkBy.TheVariants.{Abort, Reset}
 use Rattle.device_model.specs.Parts.{PlainFetch, Outcome, Slot, lengths_of, request_of}
 use Rattle.device_model.specs.World.{PlainQueue, PlainWorld, Opens, change, Everywhere}
 use Rattle.device_model.specs.Transitions.{Transition}
-use Rattle.device_model.specs.After.{hard_code, arriving, taking, slotted, broken_by, completing, directing, spending, after}
-use Rattle.device_model.specs.Happens.{May, Finds, Comes}
+use Rattle.device_model.specs.Event.Hard.{hard_code}
+use Rattle.device_model.specs.Changing.{arriving, taking, slotted, broken_by, completing, directing, spending}
+use Rattle.device_model.specs.After.{after}
+use Rattle.device_model.specs.Happens.{May}
+use Rattle.device_model.specs.Event.Fetch.{Finds}
+use Rattle.device_model.specs.Event.Enter.{Comes}
 use Rattle.device_model.specs.Standing.{front_of, AreBehind, SlotIsLatest}
 use Rattle.device_model.proofs.Lists.{same, at_other}
 use Rattle.device_model.proofs.Deciding.{decided_there}

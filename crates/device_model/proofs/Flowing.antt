@@ -22,8 +22,12 @@ use Rattle.unit_model.specs.Unit.{PlainUnit, after as stepped, parking}
 use Rattle.device_model.specs.Parts.{Outcome, Slot, Hand}
 use Rattle.device_model.specs.World.{PlainQueue, Seat, Opened, PlainWorld, change, owner, Everywhere, IsNewSeat, Opens}
 use Rattle.device_model.specs.Transitions.{Transition}
-use Rattle.device_model.specs.After.{bit, arriving, taking, slotted, broken_by, completing, directing, spending, with_hand, without_first, with_jobs, leaving, on_function, hard_code, after}
-use Rattle.device_model.specs.Happens.{May, Comes, handed_out, Occurrence, Runs, transitions_of}
+use Rattle.device_model.specs.Changing.{bit, arriving, taking, slotted, broken_by, completing, directing, spending, with_hand, without_first, with_jobs, leaving, on_function}
+use Rattle.device_model.specs.Event.Hard.{hard_code}
+use Rattle.device_model.specs.After.{after}
+use Rattle.device_model.specs.Happens.{May, Occurrence, Runs, transitions_of}
+use Rattle.device_model.specs.Event.Enter.{Comes}
+use Rattle.device_model.specs.Found.{handed_out}
 use Rattle.device_model.specs.Places.{of_chain, of_job, of_function, at_unit, accepted_count, only, log_accepted, log_used}
 use Rattle.device_model.specs.Lawful.{AreNumbered}
 use Rattle.device_model.specs.Standing.{AreOwned, SlotOwns}

@@ -6,7 +6,8 @@ use Rattle.task_mgmt.specs.declared.function.Mark.{Mark as Place}
 use Rattle.device_model.specs.Parts.{lengths_of}
 use Rattle.device_model.specs.World.{Opened, PlainWorld, Opens}
 use Rattle.device_model.specs.Transitions.{Transition}
-use Rattle.device_model.specs.After.{on_function, after}
+use Rattle.device_model.specs.Changing.{on_function}
+use Rattle.device_model.specs.After.{after}
 use Rattle.device_model.specs.Happens.{May}
 use Rattle.device_model.specs.Standing.{FunctionIsThere}
 use Rattle.device_model.proofs.Deciding.{opened_there}

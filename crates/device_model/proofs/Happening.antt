@@ -26,8 +26,13 @@ use Rattle.device_model.specs.Parts.{Outcome, as_left, Slot, Hand, bytes_of, len
 use Rattle.device_model.specs.World.{PlainQueue, Opened, PlainWorld, owner}
 use Rattle.device_model.specs.Events.{Event}
 use Rattle.device_model.specs.Transitions.{Transition, event_of}
-use Rattle.device_model.specs.Happens.{Happens, Occurrence, Reached, SeatIs, Comes, MayStep, HandAtUnit, handed_out}
-use Rattle.device_model.specs.Applies.{Applies, MayPut, MayCheck, MayRespond, MayTake}
+use Rattle.device_model.specs.Happens.{Happens, Occurrence, Reached}
+use Rattle.device_model.specs.Found.{SeatIs, MayStep, HandAtUnit, handed_out}
+use Rattle.device_model.specs.Event.Enter.{Comes}
+use Rattle.device_model.specs.Applies.{Applies}
+use Rattle.device_model.specs.Event.HandOff.{MayPut, MayTake}
+use Rattle.device_model.specs.Event.Check.{MayCheck}
+use Rattle.device_model.specs.Event.AnswerTmf.{MayRespond}
 use Rattle.device_model.specs.Lawful.{AreUnits}
 use Rattle.device_model.specs.Standing.{IsOwned, SlotOwns, AreOwned, SlotIsLatest, front_of, AreBehind, AreNamedThere, FunctionOwns, IsToCommit, IsToLeave, AreAtWork, FunctionIsThere}
 use Rattle.ring_core.specs.Writes.{all_written}

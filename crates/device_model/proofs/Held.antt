@@ -12,7 +12,8 @@ use Rattle.ring_core.specs.declared.log.Ticket.{Ticket}
 use Rattle.device_model.specs.Parts.{Outcome, Slot}
 use Rattle.device_model.specs.World.{PlainQueue, PlainWorld, Opens, change, Everywhere}
 use Rattle.device_model.specs.Transitions.{Transition}
-use Rattle.device_model.specs.After.{bit, arriving, taking, slotted, broken_by, completing, directing, spending, after}
+use Rattle.device_model.specs.Changing.{bit, arriving, taking, slotted, broken_by, completing, directing, spending}
+use Rattle.device_model.specs.After.{after}
 use Rattle.device_model.specs.Happens.{May, Occurrence, Reached}
 use Rattle.device_model.specs.Lawful.{AreNumbered}
 use Rattle.device_model.specs.Places.{of_chain, standing_count, log_accepted, log_used, accepted_count, used_count}

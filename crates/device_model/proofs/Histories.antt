@@ -10,8 +10,10 @@ use Rattle.task_mgmt.specs.declared.kind.MarkBy.{MarkBy}
 use Rattle.task_mgmt.specs.declared.kind.MarkBy.TheVariants.{Abort, Reset}
 use Rattle.device_model.specs.World.{PlainWorld, Opens, IsNewUnit, change, Everywhere}
 use Rattle.device_model.specs.Transitions.{Transition}
-use Rattle.device_model.specs.After.{hard_code, after}
-use Rattle.device_model.specs.Happens.{May, MayStep}
+use Rattle.device_model.specs.Event.Hard.{hard_code}
+use Rattle.device_model.specs.After.{after}
+use Rattle.device_model.specs.Happens.{May}
+use Rattle.device_model.specs.Found.{MayStep}
 use Rattle.device_model.specs.Lawful.{AreUnits}
 use Rattle.device_model.proofs.Lists.{same}
 use Rattle.device_model.proofs.Staying.{everywhere}

@@ -8,7 +8,8 @@ use Rattle.unit_model.specs.Jobs.{PlainJob}
 use Rattle.device_model.specs.Parts.{Outcome, Hand}
 use Rattle.device_model.specs.World.{Seat, PlainWorld, change, owner, all_off}
 use Rattle.device_model.specs.Transitions.{Transition}
-use Rattle.device_model.specs.After.{with_hand, without_first, with_jobs, leaving, after}
+use Rattle.device_model.specs.Changing.{with_hand, without_first, with_jobs, leaving}
+use Rattle.device_model.specs.After.{after}
 use Rattle.device_model.specs.Happens.{Happens}
 use Rattle.device_model.specs.Laws.{in_hand, at_seat, jobs_out, brings, ends}
 use Rattle.device_model.proofs.Lists.{nothing, same}

@@ -9,8 +9,13 @@ use Rattle.unit_model.specs.Unit.{PlainUnit}
 use Rattle.device_model.specs.Parts.{PlainFetch, Slot, Hand}
 use Rattle.device_model.specs.World.{PlainQueue, PlainWorld, owner}
 use Rattle.device_model.specs.Transitions.{Transition}
-use Rattle.device_model.specs.Happens.{Happens, Finds, Comes, HandAtUnit, IsMarking}
-use Rattle.device_model.specs.Phases.{GivesChain, SlotIs, HasSeat, HasHand, IsLeft, StandsFor, LendsUnit, LendsQueue}
+use Rattle.device_model.specs.Happens.{Happens}
+use Rattle.device_model.specs.Event.Fetch.{Finds}
+use Rattle.device_model.specs.Event.Enter.{Comes}
+use Rattle.device_model.specs.Found.{HandAtUnit}
+use Rattle.device_model.specs.Event.Mark.{IsMarking}
+use Rattle.device_model.specs.Phases.{GivesChain, IsLeft, StandsFor, LendsUnit, LendsQueue}
+use Rattle.device_model.specs.Found.{SlotIs, HasSeat, HasHand}
 use Rattle.device_model.proofs.Lists.{same}
 
 slot_is : (w : PlainWorld) (i : ℕ) (s : Slot) (q : PlainQueue) → SlotIs w i s → slice_get w.queues i ≡ Some q

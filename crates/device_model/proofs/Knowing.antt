@@ -16,7 +16,10 @@ use Rattle.device_model.specs.Parts.{Hand, Slot}
 use Rattle.device_model.specs.World.{PlainQueue, PlainWorld, Opens}
 use Rattle.device_model.specs.Addressed.{IsAddressed, AreAddressed}
 use Rattle.device_model.specs.Transitions.{Transition}
-use Rattle.device_model.specs.Happens.{May, CommitsUnknown, EntersStale, UnitIs, Occurrence, Reached, occurrence_of, world_of, Leads}
+use Rattle.device_model.specs.Happens.{May, Occurrence, Reached, occurrence_of, world_of, Leads}
+use Rattle.device_model.specs.Event.Commit.{CommitsUnknown}
+use Rattle.device_model.specs.Event.Enter.{EntersStale}
+use Rattle.device_model.specs.Found.{UnitIs}
 use Rattle.device_model.specs.Lawful.{KeepsParts}
 use Rattle.device_model.specs.Standing.{AreAtWork, AreBehind, AreNamedThere, front_of}
 use Rattle.device_model.proofs.Lists.{nothing, same}

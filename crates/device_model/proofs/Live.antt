@@ -10,7 +10,8 @@ use Rattle.ring_core.specs.declared.log.Ticket.{Ticket}
 use Rattle.device_model.specs.World.{PlainWorld}
 use Rattle.device_model.specs.Events.{Event}
 use Rattle.device_model.specs.Transitions.{Transition, event_of, action_of}
-use Rattle.device_model.specs.After.{bit, after}
+use Rattle.device_model.specs.Changing.{bit}
+use Rattle.device_model.specs.After.{after}
 use Rattle.device_model.specs.Happens.{Occurrence, Happens, WorldStep, Runs, Reached, occurrence_of}
 use Rattle.device_model.specs.Turns.{Turns, count_changes}
 use Rattle.device_model.specs.Places.{accepted_count, used_count}

@@ -9,7 +9,8 @@ use Rattle.ring_core.specs.declared.log.Ticket.{Ticket}
 use Rattle.device_model.specs.Parts.{Outcome, Slot}
 use Rattle.device_model.specs.World.{PlainQueue, PlainWorld, Opens, change, Everywhere}
 use Rattle.device_model.specs.Transitions.{Transition}
-use Rattle.device_model.specs.After.{bit, arriving, taking, slotted, broken_by, completing, directing, spending, after}
+use Rattle.device_model.specs.Changing.{bit, arriving, taking, slotted, broken_by, completing, directing, spending}
+use Rattle.device_model.specs.After.{after}
 use Rattle.device_model.specs.Happens.{Occurrence, May, Reached}
 use Rattle.device_model.specs.Lawful.{AreNumbered}
 use Rattle.device_model.specs.Places.{log_used, used_count, only}

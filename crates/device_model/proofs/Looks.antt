@@ -14,7 +14,8 @@ use Rattle.device_model.specs.Parts.{lengths_of}
 use Rattle.device_model.specs.World.{Opened, PlainWorld, Opens}
 use Rattle.device_model.specs.Events.{Event}
 use Rattle.device_model.specs.Transitions.{Transition}
-use Rattle.device_model.specs.After.{on_function, after}
+use Rattle.device_model.specs.Changing.{on_function}
+use Rattle.device_model.specs.After.{after}
 use Rattle.device_model.specs.Applies.{Applies}
 use Rattle.device_model.specs.Happens.{May}
 use Rattle.device_model.specs.Standing.{FunctionIsThere, IsToCheck}

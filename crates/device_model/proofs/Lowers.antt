@@ -10,7 +10,10 @@ use Rattle.task_mgmt.specs.Functions.{PlainFunction, marking, next_look, asking,
 use Rattle.device_model.specs.Parts.{Outcome, Slot, lengths_of}
 use Rattle.device_model.specs.World.{PlainQueue, Opened, PlainWorld, change}
 use Rattle.device_model.specs.Transitions.{Transition}
-use Rattle.device_model.specs.After.{arriving, taking, slotted, broken_by, completing, directing, spending, on_function, reports_of, change_reports, after}
+use Rattle.device_model.specs.Changing.{arriving, taking, slotted, broken_by, completing, directing, spending, on_function}
+use Rattle.device_model.specs.Event.Hard.{reports_of}
+use Rattle.device_model.specs.Event.Resize.{change_reports}
+use Rattle.device_model.specs.After.{after}
 use Rattle.device_model.specs.Happens.{Happens}
 use Rattle.device_model.proofs.Deciding.{opened_there}
 use Rattle.device_model.proofs.Jobs.{sum_change}

@@ -15,8 +15,11 @@ use Rattle.task_mgmt.specs.Functions.{step_by}
 use Rattle.device_model.specs.Parts.{Outcome, Slot, Hand}
 use Rattle.device_model.specs.World.{PlainQueue, Seat, PlainWorld, Opens, IsNewSeat, change, Everywhere}
 use Rattle.device_model.specs.Transitions.{Transition}
-use Rattle.device_model.specs.After.{bit, arriving, taking, slotted, broken_by, completing, directing, spending, hard_code, after}
-use Rattle.device_model.specs.Happens.{May, handed_out}
+use Rattle.device_model.specs.Changing.{bit, arriving, taking, slotted, broken_by, completing, directing, spending}
+use Rattle.device_model.specs.Event.Hard.{hard_code}
+use Rattle.device_model.specs.After.{after}
+use Rattle.device_model.specs.Happens.{May}
+use Rattle.device_model.specs.Found.{handed_out}
 use Rattle.device_model.specs.Laws.{in_hand, at_seat, jobs_out}
 use Rattle.device_model.proofs.Jobs.{turns, kept}
 use Rattle.device_model.proofs.Places.{nothing_counts}

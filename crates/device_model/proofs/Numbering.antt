@@ -9,7 +9,8 @@ use Rattle.ring_core.specs.declared.log.Ticket.{Ticket}
 use Rattle.device_model.specs.Parts.{Outcome, Slot}
 use Rattle.device_model.specs.World.{PlainQueue, PlainWorld, Opens, IsNewQueue, change, Everywhere}
 use Rattle.device_model.specs.Transitions.{Transition}
-use Rattle.device_model.specs.After.{arriving, taking, slotted, broken_by, completing, directing, spending, after}
+use Rattle.device_model.specs.Changing.{arriving, taking, slotted, broken_by, completing, directing, spending}
+use Rattle.device_model.specs.After.{after}
 use Rattle.device_model.specs.Happens.{May}
 use Rattle.device_model.specs.Lawful.{IsNumbered, AreNumbered}
 use Rattle.device_model.proofs.Staying.{everywhere}

@@ -6,7 +6,7 @@ use Rattle.std.proofs.lemmas.List.Sums.{sum_by-append, sum_by-cons, sum_by_push}
 use Rattle.unit_model.specs.Jobs.{PlainJob}
 use Rattle.std.proofs.lemmas.Option.{slice_get_within}
 use Rattle.device_model.specs.World.{Everywhere, IsBefore, change, all_of}
-use Rattle.device_model.specs.After.{with_job}
+use Rattle.device_model.specs.Changing.{with_job}
 use Rattle.device_model.proofs.Lists.{nothing, same}
 
 -- What the jobs of all lists count

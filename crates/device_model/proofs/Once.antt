@@ -7,7 +7,7 @@ use Rattle.std.proofs.Math.Dec.{eqb-suc-zero, eqb-zero-suc, eqb-suc-suc}
 use Rattle.ring_core.specs.State.{tickets}
 use Rattle.ring_core.specs.declared.log.Ticket.{Ticket}
 use Rattle.device_model.specs.World.{PlainWorld, Everywhere}
-use Rattle.device_model.specs.After.{bit}
+use Rattle.device_model.specs.Changing.{bit}
 use Rattle.device_model.specs.Places.{standing_count, log_accepted, accepted_count, used_count, only}
 use Rattle.device_model.proofs.Places.{nothing_counts}
 

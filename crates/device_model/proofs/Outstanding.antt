@@ -15,7 +15,7 @@ use Rattle.ring_core.specs.declared.fault.RingFault.{RingFault}
 use Rattle.ring_core.specs.declared.fault.RingFault.TheVariants as fault
 use Rattle.ring_core.specs.declared.outstanding.OutstandingChain.{OutstandingChain}
 use Rattle.ring_core.specs.declared.log.Ticket.{Ticket}
-use Rattle.device_model.specs.After.{bit}
+use Rattle.device_model.specs.Changing.{bit}
 use Rattle.device_model.specs.Places.{only}
 
 -- something is not nothing, and a chain is no fault

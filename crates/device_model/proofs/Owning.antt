@@ -11,8 +11,10 @@ use Rattle.ring_core.specs.declared.log.Ticket.{Ticket}
 use Rattle.device_model.specs.Parts.{PlainFetch, Outcome, Slot, Hand}
 use Rattle.device_model.specs.World.{PlainQueue, PlainWorld, Opens, change}
 use Rattle.device_model.specs.Transitions.{Transition}
-use Rattle.device_model.specs.After.{bit, arriving, taking, slotted, broken_by, completing, directing, spending, after}
-use Rattle.device_model.specs.Happens.{May, Finds, Occurrence, Runs}
+use Rattle.device_model.specs.Changing.{bit, arriving, taking, slotted, broken_by, completing, directing, spending}
+use Rattle.device_model.specs.After.{after}
+use Rattle.device_model.specs.Happens.{May, Occurrence, Runs}
+use Rattle.device_model.specs.Event.Fetch.{Finds}
 use Rattle.device_model.specs.Lawful.{AreNumbered}
 use Rattle.device_model.specs.Places.{only, standing_count}
 use Rattle.device_model.specs.Standing.{IsOwned, IsJob, AreOwned, SlotOwns, HandOwns, FunctionOwns}

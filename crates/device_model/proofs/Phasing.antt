@@ -8,7 +8,9 @@ use Rattle.task_mgmt.specs.Functions.{step_by}
 use Rattle.device_model.specs.Parts.{Outcome, Slot}
 use Rattle.device_model.specs.World.{PlainQueue, PlainWorld, change}
 use Rattle.device_model.specs.Transitions.{Transition}
-use Rattle.device_model.specs.After.{hard_code, arriving, taking, broken_by, completing, directing, spending, after}
+use Rattle.device_model.specs.Event.Hard.{hard_code}
+use Rattle.device_model.specs.Changing.{arriving, taking, broken_by, completing, directing, spending}
+use Rattle.device_model.specs.After.{after}
 use Rattle.device_model.specs.Happens.{Happens}
 use Rattle.device_model.specs.Phases.{Under, unit_of, AsksUnit, unit_after, queue_of, AsksQueue, queue_after}
 use Rattle.device_model.proofs.Lists.{get_change}

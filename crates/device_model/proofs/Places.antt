@@ -16,8 +16,12 @@ use Rattle.unit_model.specs.Unit.{PlainUnit, after as stepped, parking}
 use Rattle.device_model.specs.Parts.{PlainFetch, Outcome, Slot, Hand}
 use Rattle.device_model.specs.World.{PlainQueue, Seat, Opened, PlainWorld, change, Everywhere, IsNewSeat, Opens}
 use Rattle.device_model.specs.Transitions.{Transition}
-use Rattle.device_model.specs.After.{arriving, taking, slotted, broken_by, completing, directing, spending, with_chain, on_function, hard_code, after}
-use Rattle.device_model.specs.Happens.{May, Finds, handed_out, Occurrence, Runs}
+use Rattle.device_model.specs.Changing.{arriving, taking, slotted, broken_by, completing, directing, spending, with_chain, on_function}
+use Rattle.device_model.specs.Event.Hard.{hard_code}
+use Rattle.device_model.specs.After.{after}
+use Rattle.device_model.specs.Happens.{May, Occurrence, Runs}
+use Rattle.device_model.specs.Event.Fetch.{Finds}
+use Rattle.device_model.specs.Found.{handed_out}
 use Rattle.device_model.specs.Laws.{at_seat, in_hand}
 use Rattle.device_model.specs.Places.{of_chain, of_job, of_slot, of_function, at_queue, at_unit, standing_count, log_accepted, log_used, accepted_count, used_count, accepted_chains, used_chains, Moves}
 use Rattle.device_model.proofs.Jobs.{sum_change, turns, kept}

@@ -25,7 +25,8 @@ use Rattle.task_mgmt.specs.declared.function.Mark.{Mark as Place}
 use Rattle.device_model.specs.Parts.{Slot, Hand}
 use Rattle.device_model.specs.World.{PlainQueue, Seat, Opened, PlainWorld, Everywhere, all_off}
 use Rattle.device_model.specs.Events.{Event}
-use Rattle.device_model.specs.Happens.{Occurrence, Reached, IsOpenTo}
+use Rattle.device_model.specs.Happens.{Occurrence, Reached}
+use Rattle.device_model.specs.Event.Fetch.{IsOpenTo}
 use Rattle.device_model.specs.Laws.{in_hand, at_seat}
 use Rattle.device_model.specs.Places.{of_chain, of_job, of_function, of_slot, at_queue, at_unit, accepted_count, used_count, only}
 use Rattle.device_model.specs.Standing.{IsOwned, FunctionIsThere}

@@ -14,7 +14,8 @@ use Rattle.unit_model.specs.Jobs.{PlainJob}
 use Rattle.unit_model.specs.Unit.{PlainUnit}
 use Rattle.device_model.specs.World.{Seat, PlainWorld, Opens, Everywhere}
 use Rattle.device_model.specs.Transitions.{Transition}
-use Rattle.device_model.specs.After.{after, with_job}
+use Rattle.device_model.specs.After.{after}
+use Rattle.device_model.specs.Changing.{with_job}
 use Rattle.device_model.specs.Happens.{May, Occurrence, Runs}
 use Rattle.device_model.proofs.Staying.{run_keeps, run_stays, everywhere}
 use Rattle.device_model.proofs.Sums.{counts_one}

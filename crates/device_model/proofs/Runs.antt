@@ -2,7 +2,7 @@
 use Rattle.std.proofs.Common.{◌≡◌, ℕ, Bool, List, [], ◌∷◌, ◌++◌, map, length, refl, ap, arith}
 use Rattle.device_model.specs.World.{PlainWorld}
 use Rattle.device_model.specs.Transitions.{Transition}
-use Rattle.device_model.specs.After.{bit}
+use Rattle.device_model.specs.Changing.{bit}
 use Rattle.device_model.specs.Happens.{Occurrence, Runs, Reached, occurrence_of, world_of}
 use Rattle.device_model.specs.Turns.{count_changes}
 use Rattle.device_model.proofs.Running.{runs_on}

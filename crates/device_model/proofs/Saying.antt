@@ -15,8 +15,12 @@ use Rattle.task_mgmt.specs.Functions.{step_by}
 use Rattle.device_model.specs.Parts.{PlainFetch, Outcome, Slot, Hand, request_of}
 use Rattle.device_model.specs.World.{PlainQueue, Seat, PlainWorld, Opens, change, owner, Everywhere, all_off}
 use Rattle.device_model.specs.Transitions.{Transition}
-use Rattle.device_model.specs.After.{hard_code, arriving, taking, slotted, broken_by, completing, directing, spending, with_hand, without_first, with_jobs, leaving, after}
-use Rattle.device_model.specs.Happens.{May, DecidesRequest, IsDirect, handed_out}
+use Rattle.device_model.specs.Event.Hard.{hard_code}
+use Rattle.device_model.specs.Changing.{arriving, taking, slotted, broken_by, completing, directing, spending, with_hand, without_first, with_jobs, leaving}
+use Rattle.device_model.specs.After.{after}
+use Rattle.device_model.specs.Happens.{May}
+use Rattle.device_model.specs.Event.Fetch.{DecidesRequest, IsDirect}
+use Rattle.device_model.specs.Found.{handed_out}
 use Rattle.device_model.proofs.Lists.{at_other}
 use Rattle.device_model.proofs.Staying.{everywhere}
 use Rattle.device_model.proofs.Named.{all_filter, all_push}

@@ -13,7 +13,9 @@ use Rattle.task_mgmt.specs.Functions.{step_by}
 use Rattle.device_model.specs.Parts.{Completion, Outcome, Slot, Hand}
 use Rattle.device_model.specs.World.{PlainWorld, Opens, change, owner, Everywhere}
 use Rattle.device_model.specs.Transitions.{Transition}
-use Rattle.device_model.specs.After.{hard_code, arriving, taking, slotted, broken_by, completing, directing, spending, with_hand, without_first, with_jobs, with_job, leaving, completed, after}
+use Rattle.device_model.specs.Event.Hard.{hard_code}
+use Rattle.device_model.specs.Changing.{arriving, taking, slotted, broken_by, completing, directing, spending, with_hand, without_first, with_jobs, with_job, leaving, completed}
+use Rattle.device_model.specs.After.{after}
 use Rattle.device_model.specs.Happens.{Occurrence, May, Runs}
 use Rattle.device_model.specs.Laws.{memory_after}
 use Rattle.device_model.specs.Lawful.{KeepsParts, LieIn, AllLieIn}

@@ -9,7 +9,7 @@ use Rattle.unit_model.specs.Steps.{Step}
 use Rattle.unit_model.specs.Jobs.{PlainJob}
 use Rattle.task_mgmt.specs.declared.kind.MarkBy.TheVariants.{Abort, Reset}
 use Rattle.device_model.specs.Transitions.{Transition}
-use Rattle.device_model.specs.After.{hard_code}
+use Rattle.device_model.specs.Event.Hard.{hard_code}
 use Rattle.device_model.specs.Happened.{Happened, IsBeginning}
 use Rattle.device_model.specs.Inner.Happened.{IsEnter, IsFull, IsCommit, IsBusy}
 use Rattle.device_model.specs.Histories.{at_place, step_of, pushed, history_of, StandsOn, Stands}

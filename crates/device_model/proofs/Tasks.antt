@@ -19,8 +19,11 @@ use Rattle.task_mgmt.specs.declared.kind.MarkBy.TheVariants.{Abort, Reset}
 use Rattle.device_model.specs.Parts.{Outcome, Hand}
 use Rattle.device_model.specs.World.{Seat, PlainWorld, Opens, IsNewUnit, IsNewSeat, change, owner, all_off}
 use Rattle.device_model.specs.Transitions.{Transition}
-use Rattle.device_model.specs.After.{with_hand, without_first, with_jobs, leaving, hard_code, after}
-use Rattle.device_model.specs.Happens.{May, handed_out}
+use Rattle.device_model.specs.Changing.{with_hand, without_first, with_jobs, leaving}
+use Rattle.device_model.specs.Event.Hard.{hard_code}
+use Rattle.device_model.specs.After.{after}
+use Rattle.device_model.specs.Happens.{May}
+use Rattle.device_model.specs.Found.{handed_out}
 use Rattle.device_model.proofs.Lists.{same, at_other}
 use Rattle.device_model.proofs.Jobs.{sum_change}
 use Rattle.device_model.proofs.Places.{nothing_counts}

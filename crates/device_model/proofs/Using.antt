@@ -7,7 +7,8 @@ use Rattle.ring_core.specs.declared.log.Ticket.{Ticket}
 use Rattle.device_model.specs.Parts.{Outcome, Slot}
 use Rattle.device_model.specs.World.{PlainQueue, PlainWorld, change}
 use Rattle.device_model.specs.Transitions.{Transition, action_of}
-use Rattle.device_model.specs.After.{arriving, taking, slotted, broken_by, completing, directing, spending, after}
+use Rattle.device_model.specs.Changing.{arriving, taking, slotted, broken_by, completing, directing, spending}
+use Rattle.device_model.specs.After.{after}
 use Rattle.device_model.specs.Happens.{Happens}
 use Rattle.device_model.specs.Laws.{IsUsedBy, NoneIsUsed}
 use Rattle.device_model.proofs.Lists.{nothing, same, get_change, stays}

@@ -18,8 +18,12 @@ use Rattle.task_mgmt.specs.declared.function.Mark.{Mark as Place}
 use Rattle.device_model.specs.Parts.{PlainFetch, lengths_of}
 use Rattle.device_model.specs.World.{Opened, PlainWorld, Opens}
 use Rattle.device_model.specs.Transitions.{Transition}
-use Rattle.device_model.specs.After.{on_function, after}
-use Rattle.device_model.specs.Happens.{Marks, Asks, MarksRefused, Checks, DecidesControl, Leads, world_of}
+use Rattle.device_model.specs.Changing.{on_function}
+use Rattle.device_model.specs.After.{after}
+use Rattle.device_model.specs.Event.Mark.{Marks, Asks, MarksRefused}
+use Rattle.device_model.specs.Event.Check.{Checks}
+use Rattle.device_model.specs.Event.Fetch.{DecidesControl}
+use Rattle.device_model.specs.Happens.{Leads, world_of}
 use Rattle.device_model.specs.Places.{only}
 use Rattle.device_model.specs.Weights.{fetches}
 use Rattle.device_model.specs.Happened.{Happened, IsFetch, IsMark, IsFound, IsFail, IsVisit}

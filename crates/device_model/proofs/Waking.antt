@@ -19,9 +19,17 @@ use Rattle.device_model.specs.Parts.{Outcome, Slot, Hand, lengths_of}
 use Rattle.device_model.specs.World.{PlainQueue, Seat, Opened, PlainWorld, change, owner}
 use Rattle.device_model.specs.Events.{Event}
 use Rattle.device_model.specs.Transitions.{Transition}
-use Rattle.device_model.specs.After.{arriving, taking, slotted, broken_by, completing, directing, spending, with_hand, without_first, with_jobs, leaving, on_function, hard_code, after}
-use Rattle.device_model.specs.Happens.{Happens, IsOpenTo}
-use Rattle.device_model.specs.Applies.{Applies, MayFetch, MayPut, MayTake, MayMark, MayCheck, MayRespond}
+use Rattle.device_model.specs.Changing.{arriving, taking, slotted, broken_by, completing, directing, spending, with_hand, without_first, with_jobs, leaving, on_function}
+use Rattle.device_model.specs.Event.Hard.{hard_code}
+use Rattle.device_model.specs.After.{after}
+use Rattle.device_model.specs.Happens.{Happens}
+use Rattle.device_model.specs.Event.Fetch.{IsOpenTo}
+use Rattle.device_model.specs.Applies.{Applies}
+use Rattle.device_model.specs.Event.Fetch.{MayFetch}
+use Rattle.device_model.specs.Event.HandOff.{MayPut, MayTake}
+use Rattle.device_model.specs.Event.Mark.{MayMark}
+use Rattle.device_model.specs.Event.Check.{MayCheck}
+use Rattle.device_model.specs.Event.AnswerTmf.{MayRespond}
 use Rattle.device_model.proofs.Lists.{at_other, nothing, same}
 use Rattle.device_model.proofs.Applying.{applies}
 use Rattle.device_model.proofs.Deciding.{opened_there}

@@ -23,8 +23,12 @@ use Rattle.task_mgmt.specs.declared.kind.MarkBy.TheVariants.{Abort, Reset}
 use Rattle.device_model.specs.Parts.{Outcome, Hand}
 use Rattle.device_model.specs.World.{Seat, PlainWorld, Opens, IsNewSeat, change, owner, Everywhere, all_off}
 use Rattle.device_model.specs.Transitions.{Transition}
-use Rattle.device_model.specs.After.{bit, with_hand, without_first, with_jobs, leaving, hard_code, after}
-use Rattle.device_model.specs.Happens.{May, MayStep, CommitsUnknown, handed_out, Occurrence, Runs}
+use Rattle.device_model.specs.Changing.{bit, with_hand, without_first, with_jobs, leaving}
+use Rattle.device_model.specs.Event.Hard.{hard_code}
+use Rattle.device_model.specs.After.{after}
+use Rattle.device_model.specs.Happens.{May, Occurrence, Runs}
+use Rattle.device_model.specs.Found.{MayStep, handed_out}
+use Rattle.device_model.specs.Event.Commit.{CommitsUnknown}
 use Rattle.device_model.specs.Lawful.{AreUnits}
 use Rattle.device_model.specs.Standing.{AreAtWork, IsToCommit, IsToLeave, HandWorks}
 use Rattle.device_model.proofs.Lists.{same, get_change, get_other, at_other}

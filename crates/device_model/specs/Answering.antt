@@ -16,7 +16,9 @@ use Rattle.unit_model.specs.Unit.{PlainUnit}
 use Rattle.device_model.specs.Parts.{Completion, PlainFetch, Outcome, lengths_of, bytes_of, answer_writes}
 use Rattle.device_model.specs.World.{PlainQueue, PlainWorld}
 use Rattle.device_model.specs.Transitions.{Transition}
-use Rattle.device_model.specs.Happens.{QueueIs, UnitIs, IsDirect, world_of}
+use Rattle.device_model.specs.Found.{QueueIs, UnitIs}
+use Rattle.device_model.specs.Event.Fetch.{IsDirect}
+use Rattle.device_model.specs.Happens.{world_of}
 use Rattle.device_model.specs.Places.{used_count, only}
 use Rattle.device_model.specs.Weights.{uses, directs, answers}
 use Rattle.device_model.specs.Happened.{Happened, IsBeginning, IsFetch, IsShed, IsAnswer}

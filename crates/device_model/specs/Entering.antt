@@ -10,7 +10,8 @@ use Rattle.unit_model.specs.Jobs.{PlainJob}
 use Rattle.device_model.specs.Parts.{PlainFetch, request_of}
 use Rattle.device_model.specs.World.{PlainWorld}
 use Rattle.device_model.specs.Transitions.{Transition}
-use Rattle.device_model.specs.Happens.{Finds, DecidesRequest, world_of}
+use Rattle.device_model.specs.Event.Fetch.{Finds, DecidesRequest}
+use Rattle.device_model.specs.Happens.{world_of}
 use Rattle.device_model.specs.Places.{accepted_count, only}
 use Rattle.device_model.specs.Weights.{fetches, entered_count, was_accepted}
 use Rattle.device_model.specs.Happened.{Happened, IsBeginning, IsFetch}

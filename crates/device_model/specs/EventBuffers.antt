@@ -6,8 +6,12 @@ use Rattle.ring_core.specs.State.{RingState, PlainChain}
 use Rattle.device_model.specs.Parts.{Completion, PlainFetch, answer_writes, is_short}
 use Rattle.device_model.specs.World.{PlainQueue, PlainWorld}
 use Rattle.device_model.specs.Transitions.{Transition}
-use Rattle.device_model.specs.After.{with_chain, reports_of, change_reports}
-use Rattle.device_model.specs.Happens.{QueueIs, spent_bytes, world_of}
+use Rattle.device_model.specs.Changing.{with_chain}
+use Rattle.device_model.specs.Event.Hard.{reports_of}
+use Rattle.device_model.specs.Event.Resize.{change_reports}
+use Rattle.device_model.specs.Found.{QueueIs}
+use Rattle.device_model.specs.Event.Fetch.{spent_bytes}
+use Rattle.device_model.specs.Happens.{world_of}
 use Rattle.device_model.specs.Happened.{IsBeginning}
 
 -- the buffers that were held, and those that were given an event, the first one first

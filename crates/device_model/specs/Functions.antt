@@ -22,7 +22,9 @@ use Rattle.task_mgmt.specs.declared.function.Mark.{Mark as Place}
 use Rattle.device_model.specs.Parts.{Completion, PlainFetch, answer_writes}
 use Rattle.device_model.specs.World.{PlainQueue, PlainWorld}
 use Rattle.device_model.specs.Transitions.{Transition}
-use Rattle.device_model.specs.Happens.{QueueIs, DecidesControl, world_of}
+use Rattle.device_model.specs.Found.{QueueIs}
+use Rattle.device_model.specs.Event.Fetch.{DecidesControl}
+use Rattle.device_model.specs.Happens.{world_of}
 use Rattle.device_model.specs.Happened.{Happened, IsBeginning, IsFetch, IsAnswer, IsMark, IsFound, IsFail, IsVisit}
 use Rattle.device_model.specs.Histories.{history_of}
 

@@ -6,8 +6,8 @@ use Rattle.task_mgmt.specs.Functions.{step_by}
 use Rattle.unit_model.specs.Unit.{PlainUnit}
 use Rattle.device_model.specs.World.{PlainWorld, Everywhere}
 use Rattle.device_model.specs.Transitions.{Transition}
-use Rattle.device_model.specs.After.{hard_code}
-use Rattle.device_model.specs.Happens.{UnitIs}
+use Rattle.device_model.specs.Event.Hard.{hard_code}
+use Rattle.device_model.specs.Found.{UnitIs}
 
 -- the step, where it is taken at this place
 abbrev pub at_place : ℕ → ℕ → Step → Option Step

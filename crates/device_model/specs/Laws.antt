@@ -9,7 +9,8 @@ use Rattle.unit_model.specs.Jobs.{PlainJob}
 use Rattle.device_model.specs.Parts.{Hand}
 use Rattle.device_model.specs.World.{PlainQueue, Seat, PlainWorld, all_off}
 use Rattle.device_model.specs.Transitions.{Transition}
-use Rattle.device_model.specs.After.{bit, after}
+use Rattle.device_model.specs.Changing.{bit}
+use Rattle.device_model.specs.After.{after}
 use Rattle.device_model.specs.Happens.{Occurrence}
 use Rattle.device_model.specs.Phases.{queue_of}
 

@@ -3,6 +3,9 @@ pub mod World
 pub mod Addressed
 pub mod Events
 pub mod Transitions
+pub mod Changing
+pub mod Found
+pub mod Event
 pub mod After
 pub mod Happens
 pub mod Phases

@@ -1,5 +1,5 @@
 -- What a transition asks of the unit, or of the queue with the memory, that one lock lends, and what it leaves there.
-use Rattle.std.specs.Prelude.{ℕ, ◌≡◌, ◌≤◌, ◌||◌, Bool, true, false, List, [], ◌∷◌, length, Option, Some, None, ◌⊎◌, slice_get, ⊤}
+use Rattle.std.specs.Prelude.{ℕ, ◌≡◌, ◌≤◌, ◌⊎◌, ◌||◌, Bool, true, false, List, [], ◌∷◌, length, Some, None, slice_get, ⊤, Option}
 use Rattle.guest_mem.specs.Memory.{LiesIn}
 use Rattle.scsi_codec.specs.declared.lun.Address.{Address}
 use Rattle.scsi_codec.specs.declared.event_queue.Event.{Event as EventRecord}
@@ -16,7 +16,6 @@ use Rattle.unit_model.specs.Steps.{Step, alive, is_alive, next_number}
 use Rattle.unit_model.specs.Marks.{mark_of}
 use Rattle.unit_model.specs.Clearing.{is_clear}
 use Rattle.unit_model.specs.Seen.{any_met}
-use Rattle.unit_model.specs.Jobs.{PlainJob}
 use Rattle.unit_model.specs.Unit.{PlainUnit, after as stepped, parking}
 use Rattle.unit_model.specs.Asking.{IsNamed, IsMisdelivered, CannotCommit}
 use Rattle.task_mgmt.specs.Functions.{step_by, response_of}
@@ -25,10 +24,16 @@ use Rattle.task_mgmt.specs.declared.kind.Kind.{Kind}
 use Rattle.task_mgmt.specs.declared.kind.Kind.TheVariants.{Marking, Querying}
 use Rattle.task_mgmt.specs.declared.function.Mark.{Mark as Place}
 use Rattle.device_model.specs.Parts.{PlainFetch, Outcome, IsSeen, Slot, Hand, lengths_of, request_of, bytes_of, answer_writes, is_short}
-use Rattle.device_model.specs.World.{PlainQueue, Seat, Opened, PlainWorld, owner}
+use Rattle.device_model.specs.World.{PlainQueue, Opened, PlainWorld, owner}
 use Rattle.device_model.specs.Transitions.{Transition, action_of}
-use Rattle.device_model.specs.After.{with_chain, arriving, taking, broken_by, completing, directing, spending, hard_code}
-use Rattle.device_model.specs.Happens.{MayStep, MayYield, SeatIs, IsOpenTo, Puts, KeepsJob, TakesJob, MarksRefused, IsWaiting, Misses, DecidesRequest, DecidesControl, IsDirect, spent_bytes, handed_out}
+use Rattle.device_model.specs.Found.{SlotIs, HasSeat, HasHand, MayStep, MayYield, handed_out}
+use Rattle.device_model.specs.Changing.{with_chain, arriving, taking, broken_by, completing, directing, spending}
+use Rattle.device_model.specs.Event.Fetch.{IsOpenTo, DecidesRequest, DecidesControl, IsDirect, spent_bytes}
+use Rattle.device_model.specs.Event.HandOff.{Puts, KeepsJob, TakesJob}
+use Rattle.device_model.specs.Event.Mark.{MarksRefused}
+use Rattle.device_model.specs.Event.Check.{IsWaiting}
+use Rattle.device_model.specs.Event.Hard.{hard_code}
+use Rattle.device_model.specs.Event.Raise.{Misses}
 
 -- of that number, if there is one
 abbrev pub Under : Option ℕ → (ℕ → Type 0) → Type 0
@@ -150,15 +155,6 @@ abbrev pub bytes_after : Transition → List ℕ → List ℕ
 bytes_after d m = all_written m (action_of d).writes
 
 -- What stands outside of the lent part
-
-abbrev pub SlotIs : PlainWorld → ℕ → Slot → Type 0
-SlotIs w i s = (q : PlainQueue) × (slice_get w.queues i ≡ Some q) × (q.slot ≡ s)
-
-abbrev pub HasSeat : PlainWorld → ℕ → Type 0
-HasSeat w k = (s : Seat) × (slice_get w.seats k ≡ Some s)
-
-abbrev pub HasHand : PlainWorld → ℕ → Hand → Type 0
-HasHand w k h = (out : List PlainJob) × SeatIs w k h out
 
 -- a function with this unit left to mark first
 pub record IsLeft (w : PlainWorld) (t : Ticket) (place : ℕ) (kind : Kind) : Type 0 where

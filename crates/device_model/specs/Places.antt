@@ -8,7 +8,7 @@ use Rattle.unit_model.specs.Unit.{PlainUnit}
 use Rattle.device_model.specs.Parts.{Slot}
 use Rattle.device_model.specs.World.{PlainQueue, Opened, PlainWorld}
 use Rattle.device_model.specs.Transitions.{Transition}
-use Rattle.device_model.specs.After.{bit}
+use Rattle.device_model.specs.Changing.{bit}
 use Rattle.device_model.specs.Laws.{jobs_out}
 
 -- What a place's chains count, each by what p says of its ticket

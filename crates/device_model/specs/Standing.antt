@@ -15,7 +15,7 @@ use Rattle.task_mgmt.specs.declared.kind.Kind.TheVariants.{Querying}
 use Rattle.task_mgmt.specs.declared.function.Mark.{Mark as Place}
 use Rattle.device_model.specs.Parts.{Slot, Hand}
 use Rattle.device_model.specs.World.{PlainQueue, Opened, PlainWorld, Everywhere, all_off}
-use Rattle.device_model.specs.Happens.{QueueIs, UnitIs}
+use Rattle.device_model.specs.Found.{QueueIs, UnitIs}
 
 -- Chains
 

@@ -7,7 +7,7 @@ use Rattle.unit_model.specs.Unit.{PlainUnit}
 use Rattle.device_model.specs.Parts.{Slot, Hand}
 use Rattle.device_model.specs.World.{PlainQueue, Seat, PlainWorld, all_off}
 use Rattle.device_model.specs.Transitions.{Transition}
-use Rattle.device_model.specs.After.{bit}
+use Rattle.device_model.specs.Changing.{bit}
 use Rattle.device_model.specs.Places.{of_chain, of_job, of_function, at_unit, accepts, uses as of_used}
 
 -- by place: arrived at its queue, or ready to be answered there; parked in a unit, or in a list of a seat; handed off;

@@ -12,30 +12,8 @@ ghost use Rattle.device_model.specs.World.{PlainQueue, PlainWorld, Everywhere, O
 ghost use Rattle.device_model.specs.Events.{Event as AnEvent};
 ghost use Rattle.device_model.specs.Transitions.{Transition, action_of, completion_of, event_of};
 ghost use Rattle.device_model.specs.After.{after};
-ghost use Rattle.device_model.specs.Happens.{
-  Happens,
-  May,
-  Occurrence,
-  Runs,
-  Reached,
-  Leads,
-  transitions_of,
-  occurrence_of,
-  world_of,
-};
-ghost use Rattle.device_model.specs.Phases.{
-  Under,
-  unit_of,
-  AsksUnit,
-  unit_after,
-  queue_of,
-  AsksQueue,
-  queue_after,
-  bytes_after,
-  StandsFor,
-  LendsUnit,
-  LendsQueue,
-};
+ghost use Rattle.device_model.specs.Happens.{Happens, May, Occurrence, Runs, Reached, Leads, transitions_of, occurrence_of, world_of};
+ghost use Rattle.device_model.specs.Phases.{Under, unit_of, AsksUnit, unit_after, queue_of, AsksQueue, queue_after, bytes_after, StandsFor, LendsUnit, LendsQueue};
 ghost use Rattle.device_model.specs.Places.{Moves, accepted_count, standing_count, used_count, only, accepted_chains, used_chains};
 ghost use Rattle.device_model.specs.Lawful.{AreNumbered, AreUnits, KeepsParts, AllLieIn};
 ghost use Rattle.device_model.specs.Standing.{

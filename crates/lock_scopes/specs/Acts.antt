@@ -3,7 +3,7 @@ use Rattle.std.specs.Prelude.{ℕ, ◌+◌, Bool, List, [], ◌∷◌, ◌++◌,
 use Rattle.scsi_codec.specs.declared.lun.Address.{Address}
 use Rattle.unit_attention.specs.Code.{same_code}
 use Rattle.unit_model.specs.Steps.{Step}
-use Rattle.device_model.specs.After.{hard_code}
+use Rattle.device_model.specs.Event.Hard.{hard_code}
 use Rattle.lock_scopes.specs.declared.acts.Act.{Act}
 use Rattle.lock_scopes.specs.declared.acts.Act.TheVariants as act
 

@@ -7,8 +7,8 @@ use Rattle.ring_core.specs.declared.log.Ticket.{Ticket}
 use Rattle.event_queue.specs.Port.{PlainPort}
 use Rattle.device_model.specs.Parts.{PlainFetch, IsSeen, Slot, answer_writes, is_short}
 use Rattle.device_model.specs.Transitions.{Transition, completion_of}
-use Rattle.device_model.specs.After.{with_chain}
-use Rattle.device_model.specs.Happens.{spent_bytes}
+use Rattle.device_model.specs.Changing.{with_chain}
+use Rattle.device_model.specs.Event.Fetch.{spent_bytes}
 use Rattle.virtqueue.specs.Queue.{BareQueue, completing}
 use Rattle.phases.specs.Queue.{with_slot}
 use Rattle.virtqueue.specs.Looking.{Breaks}

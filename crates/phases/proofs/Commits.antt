@@ -12,7 +12,7 @@ use Rattle.unit_history.specs.declared.outcomes.Outcome as outcome_type
 use Rattle.unit_history.specs.declared.outcomes.Outcome.TheVariants as outcome
 use Rattle.device_model.specs.Parts.{Outcome, Hand}
 use Rattle.device_model.specs.Transitions.{Transition}
-use Rattle.device_model.specs.Happens.{MayYield}
+use Rattle.device_model.specs.Found.{MayYield}
 use Rattle.phases.specs.DoingUnit.{DoesUnit}
 use Rattle.phases.specs.Outcomes.{PlainJobInHand}
 use Rattle.phases.specs.Parts.{hand_with}

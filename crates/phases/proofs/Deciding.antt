@@ -8,7 +8,7 @@ use Rattle.task_mgmt.specs.Inner.Control.{Decides}
 use Rattle.task_mgmt.specs.declared.control.ControlDecision.{ControlDecision}
 use Rattle.ring_core.specs.State.{PlainChain}
 use Rattle.ring_core.specs.Parts.{writable_total}
-use Rattle.device_model.specs.Happens.{DecidesControl}
+use Rattle.device_model.specs.Event.Fetch.{DecidesControl}
 
 -- what is decided of the one thing that the bytes ask for is decided of the chain
 pub decided_as : (inventory : List Address) (c : PlainChain) (bytes : List ℕ) (room : ℕ) (d : ControlDecision)

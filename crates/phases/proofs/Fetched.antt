@@ -9,8 +9,8 @@ use Rattle.task_mgmt.specs.declared.control.ControlDecision.TheVariants as manag
 use Rattle.device_model.specs.Parts.{PlainFetch, Outcome, Slot}
 use Rattle.device_model.specs.World.{PlainQueue, Opened}
 use Rattle.device_model.specs.Transitions.{Transition}
-use Rattle.device_model.specs.After.{with_chain}
-use Rattle.device_model.specs.Happens.{DecidesRequest, DecidesControl, IsDirect}
+use Rattle.device_model.specs.Changing.{with_chain}
+use Rattle.device_model.specs.Event.Fetch.{DecidesRequest, DecidesControl, IsDirect}
 use Rattle.virtqueue.specs.Queue.{BareQueue}
 use Rattle.phases.specs.Queue.{with_slot}
 use Rattle.phases.specs.DoingQueue.{DoesQueue}

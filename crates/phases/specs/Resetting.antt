@@ -7,8 +7,8 @@ use Rattle.unit_model.specs.Jobs.{Jobs}
 use Rattle.unit_model.specs.Unit.{PlainUnit}
 use Rattle.device_model.specs.Addressed.{IsAddressed}
 use Rattle.device_model.specs.Transitions.{Transition}
-use Rattle.device_model.specs.After.{hard_code, hard_report}
-use Rattle.device_model.specs.Happens.{handed_out}
+use Rattle.device_model.specs.Event.Hard.{hard_code, hard_report}
+use Rattle.device_model.specs.Found.{handed_out}
 use Rattle.phases.specs.DoingUnit.{DoesUnit, HasPlaces, with_more}
 use Rattle.phases.specs.Units.{mark_at}
 use Rattle.phases.specs.declared.resetting.ResetFault.{ResetFault}

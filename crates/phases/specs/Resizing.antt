@@ -8,7 +8,7 @@ use Rattle.phases.specs.declared.resizing.ResizeFault.{ResizeFault}
 use Rattle.phases.specs.declared.resizing.ResizeFault.TheVariants as fault
 use Rattle.device_model.specs.Addressed.{IsAddressed}
 use Rattle.device_model.specs.Transitions.{Transition}
-use Rattle.device_model.specs.After.{change_reports}
+use Rattle.device_model.specs.Event.Resize.{change_reports}
 use Rattle.phases.specs.DoingUnit.{DoesUnit}
 
 -- a resize is refused where the unit is another than the one at this place of the inventory, else where no unit may have

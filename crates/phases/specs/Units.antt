@@ -17,7 +17,7 @@ use Rattle.device_model.specs.Parts.{Outcome, Slot, Hand}
 use Rattle.device_model.specs.World.{Opened}
 use Rattle.device_model.specs.Addressed.{IsAddressed}
 use Rattle.device_model.specs.Transitions.{Transition}
-use Rattle.device_model.specs.Happens.{handed_out}
+use Rattle.device_model.specs.Found.{handed_out}
 use Rattle.device_model.specs.Laws.{brings}
 use Rattle.phases.specs.DoingUnit.{DoesUnit, HasPlaces, with_more}
 

@@ -3,7 +3,7 @@
 ghost use Rattle.std.specs.Prelude.{◌≡◌, ◌+◌, ◌≤◌, ◌^◌, List, ℕ, length};
 ghost use Rattle.ring_core.specs.Parts.{PartsFit, writable_total};
 ghost use Rattle.task_mgmt.specs.Inner.Control.{Suits};
-ghost use Rattle.device_model.specs.Happens.{DecidesControl};
+ghost use Rattle.device_model.specs.Event.Fetch.{DecidesControl};
 ghost use Rattle.device_model.specs.Parts.{lengths_of};
 ghost use Rattle.phases.specs.Queue.{with_slot};
 ghost use Rattle.phases.specs.Slots.{slot_of};

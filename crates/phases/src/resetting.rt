@@ -1,7 +1,7 @@
 //! The operator's step.
 
 ghost use Rattle.std.specs.Prelude.{◌≡◌};
-ghost use Rattle.device_model.specs.After.{hard_report};
+ghost use Rattle.device_model.specs.Event.Hard.{hard_report};
 ghost use Rattle.phases.specs.Resetting.{Resets};
 
 use crate::entering::has_places;

@@ -1,7 +1,7 @@
 //! The operator's resize of a unit.
 
 ghost use Rattle.std.specs.Prelude.{◌≡◌};
-ghost use Rattle.device_model.specs.After.{change_report};
+ghost use Rattle.device_model.specs.Event.Resize.{change_report};
 ghost use Rattle.phases.specs.Resizing.{ResizesUnit};
 ghost use Rattle.phases.specs.Inner.Resizing.{resize_fault_of};
 

@@ -7,8 +7,8 @@ use Rattle.device_model.specs.Parts.{Outcome, Slot, Hand}
 use Rattle.device_model.specs.World.{PlainQueue, Seat, PlainWorld, Everywhere, change}
 use Rattle.device_model.specs.Transitions.{Transition}
 use Rattle.device_model.specs.Events.{Event}
-use Rattle.device_model.specs.After.{completing, with_hand}
-use Rattle.device_model.specs.Phases.{HasHand}
+use Rattle.device_model.specs.Changing.{completing, with_hand}
+use Rattle.device_model.specs.Found.{HasHand}
 use Rattle.device_model.proofs.Lists.{same, nothing}
 use Rattle.device_model.proofs.Joining.{joins}
 use Rattle.phases.specs.Parts.{answering_queue}

@@ -10,9 +10,10 @@ use Rattle.device_model.specs.World.{PlainQueue, PlainWorld, Seat, Everywhere, I
 use Rattle.device_model.specs.Events.{Event}
 use Rattle.device_model.specs.Transitions.{Transition, event_of, completion_of}
 use Rattle.device_model.specs.Waking.{IsFetch}
-use Rattle.device_model.specs.After.{slotted, with_job}
-use Rattle.device_model.specs.Applies.{Applies, MayPut, MayTake}
-use Rattle.device_model.specs.Phases.{HasHand}
+use Rattle.device_model.specs.Changing.{slotted, with_job}
+use Rattle.device_model.specs.Applies.{Applies}
+use Rattle.device_model.specs.Event.HandOff.{MayPut, MayTake}
+use Rattle.device_model.specs.Found.{HasHand}
 use Rattle.device_model.specs.Standing.{SlotOwns}
 use Rattle.device_model.specs.Turns.{Turns}
 use Rattle.device_model.proofs.Lists.{same, get_change}

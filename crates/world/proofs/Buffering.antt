@@ -10,8 +10,8 @@ use Rattle.device_model.specs.Parts.{Slot, is_short}
 use Rattle.device_model.specs.World.{PlainQueue, PlainWorld, change}
 use Rattle.device_model.specs.Events.{Event}
 use Rattle.device_model.specs.Transitions.{Transition}
-use Rattle.device_model.specs.After.{taking, spending, broken_by}
-use Rattle.device_model.specs.Happens.{IsOpenTo}
+use Rattle.device_model.specs.Changing.{taking, spending, broken_by}
+use Rattle.device_model.specs.Event.Fetch.{IsOpenTo}
 use Rattle.device_model.specs.Phases.{AsksQueue}
 use Rattle.device_model.proofs.Joining.{joins}
 use Rattle.phases.specs.EventQueue.{IsEventFetch, MayHold, port_after}

@@ -8,9 +8,9 @@ use Rattle.task_mgmt.specs.declared.function.Mark.{Mark as Place}
 use Rattle.device_model.specs.World.{Opened, PlainWorld}
 use Rattle.device_model.specs.Events.{Event}
 use Rattle.device_model.specs.Transitions.{Transition}
-use Rattle.device_model.specs.After.{on_function}
-use Rattle.device_model.specs.Applies.{MayCheck}
-use Rattle.device_model.specs.Happens.{IsWaiting}
+use Rattle.device_model.specs.Changing.{on_function}
+use Rattle.device_model.specs.Event.Check.{MayCheck}
+use Rattle.device_model.specs.Event.Check.{IsWaiting}
 use Rattle.device_model.specs.Turns.{Turns}
 use Rattle.device_model.proofs.Joining.{joins}
 use Rattle.device_model.proofs.Lists.{same}

@@ -16,9 +16,10 @@ use Rattle.device_model.specs.Parts.{Outcome, Hand}
 use Rattle.device_model.specs.World.{Seat, PlainWorld, change}
 use Rattle.device_model.specs.Transitions.{Transition, event_of}
 use Rattle.device_model.specs.Events.{Event}
-use Rattle.device_model.specs.After.{after, with_hand}
+use Rattle.device_model.specs.After.{after}
+use Rattle.device_model.specs.Changing.{with_hand}
 use Rattle.device_model.specs.Happens.{Happens}
-use Rattle.device_model.specs.Phases.{HasHand}
+use Rattle.device_model.specs.Found.{HasHand}
 use Rattle.device_model.specs.Standing.{IsToCommit}
 use Rattle.device_model.specs.Turns.{Turns}
 use Rattle.device_model.proofs.Lists.{same, nothing}

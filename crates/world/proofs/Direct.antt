@@ -6,7 +6,7 @@ use Rattle.device_model.specs.Parts.{Outcome, Slot}
 use Rattle.device_model.specs.World.{PlainQueue, PlainWorld, Everywhere, change}
 use Rattle.device_model.specs.Transitions.{Transition}
 use Rattle.device_model.specs.Events.{Event}
-use Rattle.device_model.specs.After.{directing}
+use Rattle.device_model.specs.Changing.{directing}
 use Rattle.device_model.proofs.Joining.{joins}
 use Rattle.virtqueue.specs.Queue.{BareQueue}
 use Rattle.phases.specs.Queue.{with_slot}

@@ -12,8 +12,8 @@ use Rattle.device_model.specs.World.{PlainQueue, Seat, PlainWorld, owner, change
 use Rattle.device_model.specs.Events.{Event}
 use Rattle.device_model.specs.Transitions.{Transition}
 use Rattle.device_model.specs.Laws.{brings}
-use Rattle.device_model.specs.After.{slotted, with_jobs}
-use Rattle.device_model.specs.Phases.{SlotIs, HasSeat}
+use Rattle.device_model.specs.Changing.{slotted, with_jobs}
+use Rattle.device_model.specs.Found.{SlotIs, HasSeat}
 use Rattle.device_model.specs.Standing.{SlotOwns, front_of}
 use Rattle.device_model.specs.Turns.{Turns}
 use Rattle.device_model.proofs.Lists.{same, nothing}

@@ -7,9 +7,9 @@ use Rattle.device_model.specs.Parts.{Outcome, Slot}
 use Rattle.device_model.specs.World.{PlainQueue, PlainWorld, Opened, change}
 use Rattle.device_model.specs.Events.{Event}
 use Rattle.device_model.specs.Transitions.{Transition}
-use Rattle.device_model.specs.After.{arriving, taking, broken_by}
-use Rattle.device_model.specs.Applies.{MayFetch}
-use Rattle.device_model.specs.Happens.{IsOpenTo}
+use Rattle.device_model.specs.Changing.{arriving, taking, broken_by}
+use Rattle.device_model.specs.Event.Fetch.{MayFetch}
+use Rattle.device_model.specs.Event.Fetch.{IsOpenTo}
 use Rattle.device_model.specs.Turns.{Turns}
 use Rattle.device_model.proofs.Joining.{joins}
 use Rattle.device_model.proofs.Lists.{same}

@@ -6,9 +6,9 @@ use Rattle.device_model.specs.Parts.{Hand}
 use Rattle.device_model.specs.World.{Seat, PlainWorld, change}
 use Rattle.device_model.specs.Events.{Event}
 use Rattle.device_model.specs.Transitions.{Transition}
-use Rattle.device_model.specs.After.{with_hand, without_first}
-use Rattle.device_model.specs.Happens.{SeatIs}
-use Rattle.device_model.specs.Applies.{MayPut, MayTake}
+use Rattle.device_model.specs.Changing.{with_hand, without_first}
+use Rattle.device_model.specs.Found.{SeatIs}
+use Rattle.device_model.specs.Event.HandOff.{MayPut, MayTake}
 use Rattle.device_model.specs.Turns.{Turns}
 use Rattle.device_model.proofs.Lists.{same, nothing}
 use Rattle.world.specs.Kept.{KeptSeat, seat_of}

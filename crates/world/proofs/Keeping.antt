@@ -9,7 +9,9 @@ use Rattle.task_mgmt.specs.Functions.{step_by}
 use Rattle.device_model.specs.Parts.{Outcome, Slot}
 use Rattle.device_model.specs.World.{PlainQueue, PlainWorld, change}
 use Rattle.device_model.specs.Transitions.{Transition}
-use Rattle.device_model.specs.After.{arriving, taking, spending, broken_by, slotted, directing, completing, hard_code, after}
+use Rattle.device_model.specs.Changing.{arriving, taking, spending, broken_by, slotted, directing, completing}
+use Rattle.device_model.specs.Event.Hard.{hard_code}
+use Rattle.device_model.specs.After.{after}
 use Rattle.world.specs.Sound.{size_of, lun_of}
 
 -- what a change keeps of the item

@@ -12,9 +12,9 @@ use Rattle.device_model.specs.Parts.{Hand}
 use Rattle.device_model.specs.World.{Seat, PlainWorld, Everywhere, change}
 use Rattle.device_model.specs.Transitions.{Transition}
 use Rattle.device_model.specs.Events.{Event}
-use Rattle.device_model.specs.After.{leaving}
-use Rattle.device_model.specs.Happens.{handed_out}
-use Rattle.device_model.specs.Phases.{HasHand}
+use Rattle.device_model.specs.Changing.{leaving}
+use Rattle.device_model.specs.Found.{handed_out}
+use Rattle.device_model.specs.Found.{HasHand}
 use Rattle.device_model.specs.Standing.{IsToLeave}
 use Rattle.device_model.specs.Turns.{Turns}
 use Rattle.device_model.proofs.Lists.{same, nothing}

@@ -13,8 +13,13 @@ use Rattle.phases.specs.Slots.{arrived_unit, is_direct}
 use Rattle.device_model.specs.Parts.{Slot, Hand}
 use Rattle.device_model.specs.World.{PlainQueue, PlainWorld, Opened, Seat}
 use Rattle.device_model.specs.Events.{Event}
-use Rattle.device_model.specs.Applies.{Applies, MayCheck, MayMark, MayRespond, MayPut, MayTake}
-use Rattle.device_model.specs.Happens.{IsOpenTo, SeatIs}
+use Rattle.device_model.specs.Applies.{Applies}
+use Rattle.device_model.specs.Event.Check.{MayCheck}
+use Rattle.device_model.specs.Event.Mark.{MayMark}
+use Rattle.device_model.specs.Event.AnswerTmf.{MayRespond}
+use Rattle.device_model.specs.Event.HandOff.{MayPut, MayTake}
+use Rattle.device_model.specs.Event.Fetch.{IsOpenTo}
+use Rattle.device_model.specs.Found.{SeatIs}
 use Rattle.device_model.proofs.Lists.{same, nothing}
 use Rattle.device_model.specs.Order.{of_seat, IsQuietOf, NoneApplies}
 use Rattle.device_model.proofs.Quiet.{AllQuiet, all_quiet}

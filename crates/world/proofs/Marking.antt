@@ -12,8 +12,9 @@ use Rattle.task_mgmt.specs.declared.kind.Kind.TheVariants.{Marking, Querying}
 use Rattle.device_model.specs.World.{Seat, Opened, PlainWorld, change}
 use Rattle.device_model.specs.Events.{Event}
 use Rattle.device_model.specs.Transitions.{Transition}
-use Rattle.device_model.specs.After.{on_function, with_jobs}
-use Rattle.device_model.specs.Happens.{handed_out, IsMarking}
+use Rattle.device_model.specs.Changing.{on_function, with_jobs}
+use Rattle.device_model.specs.Found.{handed_out}
+use Rattle.device_model.specs.Event.Mark.{IsMarking}
 use Rattle.device_model.specs.Phases.{IsLeft}
 use Rattle.device_model.specs.Addressed.{AreAddressed}
 use Rattle.device_model.specs.Standing.{HaveRoom}

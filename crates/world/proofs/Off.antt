@@ -4,7 +4,7 @@ use Rattle.std.specs.Prelude.{slice_get, slice_set}
 use Rattle.std.proofs.lemmas.Option.{slice_get_within, slice_get_read}
 use Rattle.unit_model.specs.Jobs.{PlainJob, Jobs}
 use Rattle.device_model.specs.World.{change}
-use Rattle.device_model.specs.After.{with_job}
+use Rattle.device_model.specs.Changing.{with_job}
 use Rattle.world.specs.Inner.Cursors.{Denies}
 use Rattle.world.specs.Off.{jobs_of}
 use Rattle.world.specs.Inner.Off.{HaveLimit, AreBare, AreBareBetween, HasJob, IsFirstBetween, IsNearest, PutsAt, Takes}

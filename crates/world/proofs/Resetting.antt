@@ -11,8 +11,8 @@ use Rattle.unit_model.specs.Unit.{PlainUnit, after as stepped}
 use Rattle.device_model.specs.World.{Seat, PlainWorld}
 use Rattle.device_model.specs.Events.{Event}
 use Rattle.device_model.specs.Transitions.{Transition}
-use Rattle.device_model.specs.After.{hard_code, reports_of}
-use Rattle.device_model.specs.Happens.{handed_out}
+use Rattle.device_model.specs.Event.Hard.{hard_code, reports_of}
+use Rattle.device_model.specs.Found.{handed_out}
 use Rattle.device_model.specs.Addressed.{AreAddressed}
 use Rattle.device_model.specs.Standing.{HaveRoom}
 use Rattle.device_model.proofs.Joining.{joins}

@@ -10,7 +10,7 @@ use Rattle.phases.specs.declared.resizing.ResizeFault.TheVariants as fault
 use Rattle.device_model.specs.World.{PlainWorld}
 use Rattle.device_model.specs.Events.{Event}
 use Rattle.device_model.specs.Transitions.{Transition}
-use Rattle.device_model.specs.After.{change_reports}
+use Rattle.device_model.specs.Event.Resize.{change_reports}
 use Rattle.device_model.specs.Addressed.{AreAddressed}
 use Rattle.device_model.proofs.Joining.{joins}
 use Rattle.phases.specs.Resizing.{ResizesUnit}

@@ -9,8 +9,8 @@ use Rattle.device_model.specs.Parts.{Slot, answer_writes}
 use Rattle.device_model.specs.World.{PlainQueue, Opened, PlainWorld, change}
 use Rattle.device_model.specs.Events.{Event}
 use Rattle.device_model.specs.Transitions.{Transition}
-use Rattle.device_model.specs.After.{completing}
-use Rattle.device_model.specs.Happens.{IsWaiting}
+use Rattle.device_model.specs.Changing.{completing}
+use Rattle.device_model.specs.Event.Check.{IsWaiting}
 use Rattle.device_model.specs.Standing.{FunctionOwns}
 use Rattle.device_model.proofs.Joining.{joins}
 use Rattle.device_model.proofs.Lists.{same, nothing}

@@ -7,7 +7,7 @@ use Rattle.unit_model.specs.Unit.{PlainUnit}
 use Rattle.device_model.specs.Parts.{Slot}
 use Rattle.device_model.specs.World.{PlainQueue, Seat, PlainWorld, change}
 use Rattle.device_model.specs.Events.{Event}
-use Rattle.device_model.specs.After.{slotted, with_jobs}
+use Rattle.device_model.specs.Changing.{slotted, with_jobs}
 use Rattle.device_model.specs.Standing.{HaveRoom}
 use Rattle.device_model.specs.Turns.{Turns}
 use Rattle.phases.specs.DoingUnit.{HasPlaces, with_more}

@@ -5,7 +5,7 @@ use Rattle.device_model.specs.Parts.{Hand}
 use Rattle.device_model.specs.World.{PlainWorld, Seat}
 use Rattle.device_model.specs.Events.{Event}
 use Rattle.device_model.specs.Applies.{Applies}
-use Rattle.device_model.specs.Phases.{HasHand}
+use Rattle.device_model.specs.Found.{HasHand}
 use Rattle.device_model.proofs.Lists.{same, nothing}
 use Rattle.device_model.specs.Order.{of_seat, IsFirstOf, NoneApplies}
 use Rattle.world.specs.Inner.Stages.{stage_of}

@@ -11,7 +11,7 @@ use Rattle.device_model.specs.Transitions.{Transition, event_of, queue_fetched, 
 use Rattle.device_model.specs.After.{after}
 use Rattle.device_model.specs.Happens.{Happens, MayWant}
 use Rattle.device_model.specs.Applies.{Applies}
-use Rattle.device_model.specs.Phases.{SlotIs}
+use Rattle.device_model.specs.Found.{SlotIs}
 use Rattle.device_model.specs.Lawful.{KeepsParts}
 use Rattle.device_model.proofs.Applying.{applies}
 use Rattle.device_model.proofs.Lists.{same}

@@ -4,7 +4,7 @@ ghost use Rattle.std.specs.Prelude.{◌≡◌, ◌<◌, ◌≤◌, ℕ, Bool, Li
 ghost use Rattle.device_model.specs.Order.{of_seat, IsQuietOf, NoneApplies};
 ghost use Rattle.device_model.specs.Events.{Event as AnEvent};
 ghost use Rattle.device_model.specs.Applies.{Applies};
-ghost use Rattle.device_model.specs.Happens.{IsOpenTo};
+ghost use Rattle.device_model.specs.Event.Fetch.{IsOpenTo};
 ghost use Rattle.world.specs.Inner.Cursors.{Denies, FindsIn, of_function, NoDirect, NoSeat, NoEnter, NoFetch};
 ghost use Rattle.world.specs.Settling.{asks};
 ghost use Rattle.world.specs.Apart.{standing, FitsIn};

@@ -4,7 +4,7 @@
 ghost use Rattle.std.specs.Prelude.{◌≡◌, ◌≤◌, ◌<◌, ℕ, Bool, List, [], IsTrue, true, false, length};
 ghost use Rattle.device_model.specs.Order.{of_seat};
 ghost use Rattle.device_model.specs.Parts.{Hand};
-ghost use Rattle.device_model.specs.Phases.{HasHand};
+ghost use Rattle.device_model.specs.Found.{HasHand};
 ghost use Rattle.world.specs.Inner.Cursors.{TurnsFirstIn, TurnsFirstAlone, of_function, TurnsNextIn, FetchesOn, MayServe, IsReadyIn};
 ghost use Rattle.world.specs.Inner.Cursors.{AtEach, FindsIn, NoStart, NoDirect, NoSeat, NoneBefore, NoneBeforeFetch, NoFetchBelow};
 ghost use Rattle.world.specs.Inner.Cursors.{EntersNext, FetchesNext, LeavesNext};

@@ -4,7 +4,7 @@ use Rattle.unit_attention.specs.Code.{same_code}
 use Rattle.task_mgmt.specs.declared.kind.Kind.{Kind}
 use Rattle.task_mgmt.specs.declared.kind.Kind.TheVariants.{Marking, Querying}
 use Rattle.task_mgmt.specs.declared.kind.MarkBy.TheVariants as mark
-use Rattle.device_model.specs.After.{hard_code}
+use Rattle.device_model.specs.Event.Hard.{hard_code}
 
 -- own: a function makes such resets. None of those that are offered does
 abbrev pub is_hard_mark : Kind → Bool

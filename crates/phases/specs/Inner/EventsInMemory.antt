@@ -11,7 +11,7 @@ use Rattle.event_queue.specs.Port.{PlainPort}
 use Rattle.device_model.specs.Parts.{Slot, answer_writes, is_short}
 use Rattle.device_model.specs.World.{PlainQueue}
 use Rattle.device_model.specs.Transitions.{Transition, completion_of}
-use Rattle.device_model.specs.Happens.{spent_bytes}
+use Rattle.device_model.specs.Event.Fetch.{spent_bytes}
 use Rattle.device_model.specs.Phases.{AsksQueue, queue_after, bytes_after}
 use Rattle.virtqueue.specs.Queue.{BareQueue, completing, MayComplete}
 use Rattle.virtqueue.specs.Looking.{Looks}

@@ -6,7 +6,7 @@ use Rattle.request_intake.specs.declared.decision.Decision.TheVariants as decisi
 use Rattle.task_mgmt.specs.Functions.{PlainFunction}
 use Rattle.task_mgmt.specs.declared.control.ControlDecision.TheVariants as managed
 use Rattle.device_model.specs.Parts.{Outcome, Slot, request_of}
-use Rattle.device_model.specs.Happens.{DecidesRequest, DecidesControl}
+use Rattle.device_model.specs.Event.Fetch.{DecidesRequest, DecidesControl}
 use Rattle.device_model.specs.World.{Opened}
 
 -- what was decided of a chain of a request queue with these bytes stands in the slot

@@ -11,7 +11,7 @@ use Rattle.unit_history.specs.Endings.{ending_of}
 use Rattle.task_mgmt.specs.Functions.{response_of}
 use Rattle.device_model.specs.Parts.{Completion, Slot, Hand, answer_writes, lengths_of}
 use Rattle.device_model.specs.World.{Opened}
-use Rattle.device_model.specs.Happens.{spent_bytes}
+use Rattle.device_model.specs.Event.Fetch.{spent_bytes}
 use Rattle.phases.specs.Direct.{decided_writes}
 use Rattle.phases.specs.Outcomes.{PlainJobInHand}
 

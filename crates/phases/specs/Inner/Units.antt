@@ -5,7 +5,7 @@ use Rattle.unit_model.specs.Jobs.{Jobs}
 use Rattle.unit_model.specs.Unit.{PlainUnit, after as stepped}
 use Rattle.task_mgmt.specs.Functions.{step_by}
 use Rattle.task_mgmt.specs.declared.kind.MarkBy.{MarkBy}
-use Rattle.device_model.specs.Happens.{handed_out}
+use Rattle.device_model.specs.Found.{handed_out}
 use Rattle.phases.specs.DoingUnit.{with_more}
 
 -- the tasks of a unit are marked, or memory was refused

@@ -7,9 +7,10 @@ use Rattle.device_model.specs.World.{PlainWorld, owner}
 use Rattle.device_model.specs.Events.{Event}
 use Rattle.device_model.specs.Transitions.{Transition, event_of, completion_of}
 use Rattle.device_model.specs.After.{after}
-use Rattle.device_model.specs.Happens.{Happens, MayWant, SeatIs, OffIs}
+use Rattle.device_model.specs.Happens.{Happens, MayWant}
+use Rattle.device_model.specs.Found.{SeatIs, OffIs}
 use Rattle.device_model.specs.Applies.{Applies}
-use Rattle.device_model.specs.Phases.{SlotIs}
+use Rattle.device_model.specs.Found.{SlotIs}
 use Rattle.device_model.specs.Order.{of_seat, IsFirstOf, IsNextOf, NoneApplies, IsQuietOf}
 use Rattle.phases.specs.InMemory.{EachSeen}
 use Rattle.phases.specs.EventsInMemory.{SeesBy}

@@ -2,7 +2,7 @@
 use Rattle.std.specs.Prelude.{ℕ, ◌≡◌, ◌<◌, ◌≤◌, List, [], ◌∷◌, drop, length, Option, Some, None, slice_get}
 use Rattle.unit_model.specs.Jobs.{PlainJob, Jobs}
 use Rattle.device_model.specs.World.{Everywhere, IsBefore, change}
-use Rattle.device_model.specs.After.{with_job}
+use Rattle.device_model.specs.Changing.{with_job}
 use Rattle.world.specs.Off.{KeptOff}
 
 -- each list was made with this limit

@@ -1,7 +1,7 @@
 use Rattle.std.proofs.Common.{◌≡◌, ◌<◌, false, [], refl, sym, ◌∙◌, subst, length, Some}
 use Rattle.std.specs.Prelude.{slice_get}
 use Rattle.world.specs.Apart.{PlainDevice, standing, FitsIn}
-use Rattle.device_model.specs.Happens.{IsOpenTo}
+use Rattle.device_model.specs.Event.Fetch.{IsOpenTo}
 use Rattle.world.specs.Settling.{asks}
 use Rattle.world.specs.contracts.device.Device.{the_view}
 use Rattle.world.proofs.Looks.{false_true, chain_look, queue_read}

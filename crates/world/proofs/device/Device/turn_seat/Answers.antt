@@ -1,6 +1,6 @@
 use Rattle.std.proofs.Common.{◌≡◌, ◌∙◌, false, [], refl, sym, subst, length, arith}
 use Rattle.device_model.specs.Events.{Event}
-use Rattle.device_model.specs.Phases.{HasHand}
+use Rattle.device_model.specs.Found.{HasHand}
 use Rattle.device_model.specs.Order.{of_seat}
 use Rattle.world.specs.Apart.{PlainDevice, standing}
 use Rattle.world.specs.Kept.{KeptSeat}

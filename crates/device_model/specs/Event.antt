@@ -1,0 +1,14 @@
+pub mod Poke
+pub mod Fetch
+pub mod Enter
+pub mod Direct
+pub mod HandOff
+pub mod Commit
+pub mod Answer
+pub mod Leave
+pub mod Mark
+pub mod Check
+pub mod AnswerTmf
+pub mod Hard
+pub mod Resize
+pub mod Raise
