@@ -7,7 +7,7 @@ use Rattle.block_store.specs.declared.paged.PagedStore.{PagedStore}
 use Rattle.request_intake.specs.declared.inventory.UnitSpec.{UnitSpec}
 use Rattle.unit_model.specs.Unit.{PlainUnit}
 use Rattle.unit_history.specs.declared.changes.Range.{Range}
-use Rattle.world.specs.Opening.{AreDisksFor, AreDisksOf}
+use Rattle.device_steps.specs.Opening.{AreDisksFor, AreDisksOf}
 use Rattle.vscsi_c.specs.Changes.{range_of}
 use Rattle.vscsi_c.specs.Disks.{CreatesOver, CreatesOverOf, Closes, ClosesInto}
 use Rattle.vscsi_c.specs.Inner.Disks.{Fit}

@@ -13,12 +13,13 @@ use Rattle.device_model.specs.Events.{Event}
 use Rattle.device_model.specs.Happens.{Reached, MayWant}
 use Rattle.device_model.specs.Turns.{Turns, IsStep}
 use Rattle.config.specs.Config.{is_config}
-use Rattle.world.specs.Opening.{IsOpening}
+use Rattle.device_steps.specs.Opening.{IsOpening}
 use Rattle.config.specs.ConfigFault.{IsFault}
-use Rattle.world.specs.Settling.{asks, ServesSomeOrWants, ServesOrWants}
+use Rattle.device_steps.specs.Settling.{asks}
+use Rattle.world.specs.Settling.{ServesSomeOrWants, ServesOrWants}
 use Rattle.world.specs.Promise.{ServesAsPromised, SettlesAsPromised}
-use Rattle.world.specs.declared.service.Served.{Served as Portion}
-use Rattle.world.specs.Views.{unit_at, IsPlaceOf, fault_of, device_status}
+use Rattle.world.specs.declared.served.Served.{Served as Portion}
+use Rattle.device_steps.specs.Views.{unit_at, IsPlaceOf, fault_of, device_status}
 use Rattle.world.specs.Notifications.{binary, owed_of, IsAsked}
 use Rattle.config.specs.declared.config.Config.{Config}
 use Rattle.config.specs.declared.config_fault.ConfigFault.{ConfigFault}

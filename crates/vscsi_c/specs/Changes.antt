@@ -3,7 +3,7 @@ use Rattle.std.specs.Prelude.{ℕ, ◌≡◌, ◌≤◌, ◌<◌, false, List, l
 use Rattle.unit_model.specs.Unit.{PlainUnit}
 use Rattle.unit_history.specs.Changes.{AreUnchanged}
 use Rattle.unit_history.specs.declared.changes.Range.{Range}
-use Rattle.world.specs.Views.{unit_at}
+use Rattle.device_steps.specs.Views.{unit_at}
 use Rattle.vscsi_c.specs.declared.answer.Answer.{Answer}
 use Rattle.vscsi_c.specs.declared.answer.Answer.TheVariants as answer
 use Rattle.vscsi_c.specs.declared.ranges.BlockRange.{BlockRange}

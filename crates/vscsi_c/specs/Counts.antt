@@ -3,7 +3,7 @@ use Rattle.std.specs.Prelude.{ℕ, ◌≡◌, Option, Some, None}
 use Rattle.unit_model.specs.Unit.{PlainUnit}
 use Rattle.unit_model.specs.Counts.{counts_of}
 use Rattle.unit_model.specs.declared.counts.Counts.{Counts}
-use Rattle.world.specs.Views.{unit_at}
+use Rattle.device_steps.specs.Views.{unit_at}
 use Rattle.vscsi_c.specs.declared.answer.Answer.{Answer}
 use Rattle.vscsi_c.specs.declared.answer.Answer.TheVariants as answer
 use Rattle.vscsi_c.specs.declared.counts.UnitCounts.{UnitCounts}

@@ -10,7 +10,7 @@ use Rattle.config.specs.Config.{is_config}
 use Rattle.config.specs.declared.config.Config.{Config}
 use Rattle.device_model.specs.World.{Opens}
 use Rattle.device_model.specs.Happens.{Reached}
-use Rattle.world.specs.Opening.{AreDisksFor, AreDisksOf, IsOpeningOver}
+use Rattle.device_steps.specs.Opening.{AreDisksFor, AreDisksOf, IsOpeningOver}
 use Rattle.vscsi_c.specs.Wanted.{Asks}
 use Rattle.vscsi_c.specs.Calls.{Refuses, plain_cause}
 use Rattle.vscsi_c.specs.declared.answer.Answer.{Answer}

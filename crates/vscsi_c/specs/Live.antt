@@ -12,13 +12,14 @@ use Rattle.live_mem.specs.Access.{Access}
 use Rattle.live_mem.specs.Heard.{heard}
 use Rattle.live_mem.specs.Live.{MayBeLive}
 use Rattle.live_mem.specs.declared.live.LiveMem.{LiveMem}
-use Rattle.world.specs.Apart.{PlainDevice}
+use Rattle.device_steps.specs.Apart.{PlainDevice}
 use Rattle.world.specs.LiveServing.{ServesLiveOrWants, ServesPromised}
-use Rattle.world.specs.Settling.{asks}
-use Rattle.world.specs.declared.service.Served.{Served as Portion}
-use Rattle.world.specs.LiveWorld.{PlainLive, IsOpeningApart, OpensIn, BeginsIn, StepsPromised}
+use Rattle.device_steps.specs.Settling.{asks}
+use Rattle.world.specs.declared.served.Served.{Served as Portion}
+use Rattle.device_steps.specs.Opening.{IsOpeningApart}
+use Rattle.world.specs.LiveWorld.{PlainLive, OpensIn, BeginsIn, StepsPromised}
 use Rattle.world.specs.Notifications.{binary, owed_of, IsAsked}
-use Rattle.world.specs.Views.{unit_of, IsPlaceAmong, status_of}
+use Rattle.device_steps.specs.Views.{unit_of, IsPlaceAmong, status_of}
 use Rattle.vscsi_c.specs.Calls.{BrokenBy, HasCapacity, GivesBlocks, plain_cause, cause_of}
 use Rattle.vscsi_c.specs.Changes.{TellsOf}
 use Rattle.vscsi_c.specs.Counts.{TellsCountsOf}

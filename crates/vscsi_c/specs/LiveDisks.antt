@@ -4,7 +4,7 @@ use Rattle.std.specs.List.{list_any}
 use Rattle.block_store.specs.declared.paged.PagedStore.{PagedStore}
 use Rattle.config.specs.Config.{is_config_for}
 use Rattle.config.specs.declared.config.Config.{Config}
-use Rattle.world.specs.Opening.{AreDisksFor, AreDisksOf}
+use Rattle.device_steps.specs.Opening.{AreDisksFor, AreDisksOf}
 use Rattle.world.specs.LiveWorld.{IsOpeningOverApart, OpensIn, BeginsIn}
 use Rattle.vscsi_c.specs.Calls.{plain_cause}
 use Rattle.vscsi_c.specs.Disks.{Lacks}

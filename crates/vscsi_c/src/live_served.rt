@@ -2,7 +2,7 @@
 
 ghost use Rattle.std.specs.Prelude.{◌≡◌, length};
 ghost use Rattle.std.specs.Option.{option_map};
-ghost use Rattle.world.specs.Views.{unit_of};
+ghost use Rattle.device_steps.specs.Views.{unit_of};
 ghost use Rattle.vscsi_c.specs.Live.{ServesPortion, Owes, IsStatus, Breaks, Resets, Resizes, Holds, Gives, TellsCounts, TellsChanges};
 
 use crate::answer::Answer;

@@ -2,7 +2,7 @@
 
 ghost use Rattle.std.specs.Prelude.{◌≡◌, length};
 ghost use Rattle.std.specs.Option.{option_map};
-ghost use Rattle.world.specs.Views.{unit_at};
+ghost use Rattle.device_steps.specs.Views.{unit_at};
 ghost use Rattle.vscsi_c.specs.Calls.{Settles, ServesPortion, Pokes, Peeks, Owes, IsStatus, Breaks, Counts, Resets, Resizes, Holds, Gives, number_of};
 
 use crate::answer::Answer;

@@ -6,8 +6,8 @@ use Rattle.ring_core.specs.Writes.{Write}
 use Rattle.device_model.specs.World.{PlainWorld}
 use Rattle.device_model.specs.Events.{Event}
 use Rattle.device_model.specs.Turns.{Turns}
-use Rattle.world.specs.Apart.{PlainDevice}
-use Rattle.world.specs.Inner.Apart.{TurnsIn}
+use Rattle.device_steps.specs.Apart.{PlainDevice}
+use Rattle.device_steps.specs.Inner.Apart.{TurnsIn}
 use Rattle.world.specs.Asking.{Asks, AsksAsPromised, AsksLive, AsksPromised}
 use Rattle.world.specs.LiveWorld.{PlainLive, StepsLive, StepsPromised}
 use Rattle.world.specs.Promise.{StepsAsPromised}

@@ -1,6 +1,6 @@
 -- The queues, the units and the seats of a device that opens.
-use Rattle.std.proofs.Common.{◌≡◌, ◌≤◌, ◌^◌, ℕ, Bool, true, None, Some, Option, refl, List, [], ◌∷◌, ◌++◌, ◌+◌, ◌*◌, ◌<◌, ◌&&◌, length, zero, suc, arith, ap, sym, ◌∙◌, ◌⊎◌, inl, inr, subst, map}
-use Rattle.std.specs.Prelude.{replicate, slice_get, slice_set, nat_le, is_none}
+use Rattle.std.proofs.Common.{◌≡◌, ◌≤◌, ◌^◌, ℕ, Bool, true, None, Some, Option, refl, List, [], ◌∷◌, ◌+◌, ◌<◌, ◌&&◌, length, zero, suc, arith, ap, sym, ◌∙◌, subst, map}
+use Rattle.std.specs.Prelude.{replicate, slice_get, nat_le, is_none}
 use Rattle.std.specs.List.{list_all}
 use Rattle.std.proofs.lemmas.Bool.{and_parts}
 use Rattle.std.proofs.lemmas.Bool.Decides.{nat_tests}
@@ -17,61 +17,18 @@ use Rattle.unit_model.specs.Unit.{PlainUnit}
 use Rattle.unit_model.specs.Receipts.{unit_address}
 use Rattle.scsi_codec.specs.declared.lun.Address.{Address}
 use Rattle.device_model.specs.Parts.{Slot}
-use Rattle.device_model.specs.World.{PlainQueue, PlainWorld, Seat, Everywhere, IsNewQueue, IsNewUnit, IsNewSeat, Opens}
+use Rattle.device_model.specs.World.{PlainQueue, PlainWorld, Everywhere, IsNewQueue, IsNewUnit, Opens}
 use Rattle.device_model.proofs.Lists.{nothing, same}
 use Rattle.virtqueue.specs.Queue.{opening_ring, opening_queue, placement_of}
 use Rattle.phases.specs.Queue.{with_slot}
 use Rattle.config.specs.declared.config.Config.{Config}
 use Rattle.config.specs.Config.{is_config, is_config_for, has_pages, is_queue, is_unit, has_lun_0, are_queues, are_units, form_of, size_of}
 use Rattle.block_store.specs.declared.paged.PagedStore.{PagedStore}
-use Rattle.unit_history.specs.Disks.{opening_over, IsDiskOf}
-use Rattle.world.specs.Opening.{AreOpening, AreFresh, IsOpeningFor, AreDisksOf, over_disks, opening_unit}
-use Rattle.world.specs.Inner.Opening.{AreSeats}
-use Rattle.world.specs.Kept.{KeptSeat, seat_of}
-use Rattle.world.specs.Inner.Kept.{HasLists}
-use Rattle.world.specs.Sound.{AreFew, AreFitting, IsSteady, IsWhole}
-use Rattle.world.proofs.Setting.{map_get, each_image}
-use Rattle.world.specs.Sound as seen
-
--- the item that was put at the end of a list
-pub at_end : {X : Type 0} (xs : List X) (y : X) → slice_get (xs ++ y ∷ []) (length xs) ≡ Some y
-at_end [] y = refl
-at_end (x ∷ xs) y = at_end xs y
-
--- those before it
-pub before_end : {X : Type 0} (xs : List X) (y : X) (k : ℕ) (x : X) → slice_get xs k ≡ Some x
-    → slice_get (xs ++ y ∷ []) k ≡ Some x
-before_end [] y k z e = absurd (omega (arith, slice_get_within [] k z e))
-before_end (x ∷ xs) y zero z e = e
-before_end (x ∷ xs) y (suc k) z e = before_end xs y k z e
-
-at_or_below : (k n : ℕ) → k < n + 1 → (k < n) ⊎ (k ≡ n)
-at_or_below k n lt = grind arith
-
--- Items that are made one after another, each of its number and of what a list has there; and one more of them:
-module _ {X Y : Type 0} (make : ℕ → X → Y) (wanted : List X) (made : List Y) (n : ℕ) (count : length made ≡ n)
-    (each : (k : ℕ) (x : X) → k < n → slice_get wanted k ≡ Some x → slice_get made k ≡ Some (make k x))
-    (y : Y) (is : (x : X) → slice_get wanted n ≡ Some x → y ≡ make n x) where
-  pub one_more : (k : ℕ) (x : X) → k < n + 1 → slice_get wanted k ≡ Some x
-      → slice_get (made ++ y ∷ []) k ≡ Some (make k x)
-  one_more k x lt there =
-      elim (at_or_below k n lt) [
-        | inl below ↦ before_end made y k (make k x) (each k x below there)
-        | inr here ↦
-            ap (λ (j : ℕ). slice_get (made ++ y ∷ []) j) (here ∙ sym count)
-            ∙ at_end made y
-            ∙ ap (λ (z : Y). Some z) (is x (subst (λ (j : ℕ). slice_get wanted j ≡ Some x) here there)
-            ∙ ap (λ (j : ℕ). make j x) (sym here))
-      ]
-
--- what is true of each item is true of each of one more
-pub everywhere_more : {X : Type 0} (P : X → Type 0) (xs : List X) (y : X)
-    → ((i : ℕ) (x : X) → slice_get xs i ≡ Some x → P x) → P y
-    → (i : ℕ) (x : X) → slice_get (xs ++ y ∷ []) i ≡ Some x → P x
-everywhere_more P [] y all h zero x e = subst P (same e) h
-everywhere_more P [] y all h (suc i) x e = absurd (omega (arith, slice_get_within [] i x e))
-everywhere_more P (z ∷ xs) y all h zero x e = all zero x e
-everywhere_more P (z ∷ xs) y all h (suc i) x e = everywhere_more P xs y (λ j v at. all (suc j) v at) h i x e
+use Rattle.device_steps.specs.Opening.{AreOpening, AreFresh, IsOpeningFor, over_disks, opening_unit}
+use Rattle.device_steps.specs.Sound.{AreFew, AreFitting, IsSteady, IsWhole}
+use Rattle.device_steps.proofs.Setting.{map_get, each_image}
+use Rattle.device_steps.proofs.Making.{over_length}
+use Rattle.device_steps.specs.Sound as seen
 
 -- there is an item at each index below the length
 stands_at : {X : Type 0} (xs : List X) (k : ℕ) → k < length xs → (x : X) × (slice_get xs k ≡ Some x)
@@ -112,26 +69,6 @@ rings_open form features size layouts queues opening =
     each_made (λ (k : ℕ) (l : Layout). with_slot Slot.Empty (opening_queue form size k l features))
     (λ (k : ℕ) (q : PlainQueue). q.ring.memory ≡ size) layouts queues opening.count opening.each
     (λ k l. opens_in form size k l features)
-
--- the lists of a device that opens
-pub lists_open : (units : List PlainUnit) (count : ℕ) (seats : List KeptSeat)
-    → AreSeats count (64 * length units + 64) seats → HasLists units seats 1025
-lists_open units count seats is =
-    record { limits = λ k s at. ap (λ (z : KeptSeat). z.limit) (is.each k s at); port = refl }
-
--- seats that open have nothing
-pub seats_idle : (count limit : ℕ) (seats : List KeptSeat) → AreSeats count limit seats
-    → Everywhere (λ (k : ℕ) (s : Seat). IsNewSeat s) (map seat_of seats)
-seats_idle count limit seats is =
-    each_image seat_of IsNewSeat seats (λ k s at. record {
-      hand = ap (λ (z : KeptSeat). z.hand) (is.each k s at);
-      out = ap (λ (z : KeptSeat). z.jobs) (is.each k s at);
-    })
-
--- they are as many as were asked for
-pub seats_many : (count limit : ℕ) (seats : List KeptSeat) → AreSeats count limit seats
-    → length (map seat_of seats) ≡ count
-seats_many count limit seats is = rw length-map is.many
 
 below : (a b : ℕ) → nat_le a b ≡ true → a ≤ b
 below a b h = grind (arith, nat_tests)
@@ -327,34 +264,12 @@ new_over (v ∷ units) (disk ∷ disks) new zero u at =
     subst IsNewUnit (same at) (record { steps = here.steps; parked = here.parked })
 new_over (v ∷ units) (disk ∷ disks) new (suc i) u at = new_over units disks (λ j z e. new (suc j) z e) i u at
 
--- they are as many, with the same LUNs
-pub over_length : (units : List PlainUnit) (disks : List PagedStore) → length (over_disks units disks) ≡ length units
-over_length [] disks = refl
-over_length (v ∷ units) [] = refl
-over_length (v ∷ units) (disk ∷ disks) = ap (λ (n : ℕ). suc n) (over_length units disks)
-
+-- units have the same LUNs over their disks
 over_luns : (units : List PlainUnit) (disks : List PagedStore)
     → map seen.lun_of (over_disks units disks) ≡ map seen.lun_of units
 over_luns [] disks = refl
 over_luns (v ∷ units) [] = refl
 over_luns (v ∷ units) (disk ∷ disks) = ap (λ (ns : List ℕ). v.opening.lun ∷ ns) (over_luns units disks)
-
--- units without disks are as they were
-pub over_none : (units : List PlainUnit) → over_disks units [] ≡ units
-over_none [] = refl
-over_none (v ∷ units) = refl
-
--- the last disk may be given first
-pub over_last : (units : List PlainUnit) (disks : List PagedStore) (disk : PagedStore) (u v : PlainUnit)
-    → slice_get units (length disks) ≡ Some u → v ≡ record u { opening = opening_over disk u.opening }
-    → over_disks (slice_set units (length disks) v) disks ≡ over_disks units (disks ++ disk ∷ [])
-over_last [] disks disk u v at is = absurd (nothing at)
-over_last (z ∷ units) [] disk u v at is =
-    over_none (v ∷ units)
-    ∙ ap (λ (x : PlainUnit). x ∷ units) (is ∙ ap (λ (x : PlainUnit). record x { opening = opening_over disk x.opening }) (sym (same at)))
-    ∙ ap (λ (xs : List PlainUnit). record z { opening = opening_over disk z.opening } ∷ xs) (sym (over_none units))
-over_last (z ∷ units) (first ∷ disks) disk u v at is =
-    ap (λ (xs : List PlainUnit). record z { opening = opening_over first z.opening } ∷ xs) (over_last units disks disk u v at is)
 
 -- A device that opens, with these units, opens over the disks:
 module _ (size : ℕ) (c : Config) (disks : List PagedStore) (bare w : PlainWorld) (is : is_config_for size c ≡ true)
@@ -399,29 +314,7 @@ module _ (size : ℕ) (c : Config) (disks : List PagedStore) (bare w : PlainWorl
   opens_over_steady long =
       record { whole = opens_over_whole; fits = subst AreFitting (sym over) (fits_open size c bare long o) }
 
--- the disks of one more unit
-pub disks_more : (units : List PlainUnit) (disks : List PagedStore) (u : PlainUnit) (disk : PagedStore) → AreDisksOf units disks
-    → IsDiskOf u disk → AreDisksOf (units ++ u ∷ []) (disks ++ disk ∷ [])
-disks_more [] [] u disk are is = (is, tt)
-disks_more (v ∷ units) (d ∷ disks) u disk are is = (are.0, disks_more units disks u disk are.1 is)
-disks_more [] (d ∷ disks) u disk are is = absurd are
-disks_more (v ∷ units) [] u disk are is = absurd are
-
 -- the steps of each unit that opens are none
 pub no_steps : (units : List PlainUnit) → Everywhere (λ (i : ℕ) (u : PlainUnit). IsNewUnit u) units
     → Everywhere (λ (k : ℕ) (u : PlainUnit). u.steps ≡ []) units
 no_steps units new i u at = (new i u at).steps
-
--- a list of no length has nothing
-pub nothing_in : {X : Type 0} (xs : List X) → length xs ≡ 0 → xs ≡ []
-nothing_in [] none = refl
-nothing_in (x ∷ xs) none = absurd (omega (arith, none))
-
--- the lists are those of as many units
-pub lists_over : (units over : List PlainUnit) (seats : List KeptSeat) (limit : ℕ) → length over ≡ length units
-    → HasLists units seats limit → HasLists over seats limit
-lists_over units over seats limit many lists =
-    record {
-      limits = λ k s at. lists.limits k s at ∙ ap (λ (n : ℕ). 64 * n + 64) (sym many);
-      port = lists.port;
-    }

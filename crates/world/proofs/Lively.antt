@@ -1,7 +1,6 @@
 -- A device on a memory that its guest writes at any time goes on as its traces do.
 use Rattle.std.proofs.Common.{◌≡◌, ℕ, ◌+◌, Bool, true, false, List, [], ◌∷◌, ◌++◌, length, Result, Ok, Err, refl, sym, ap, ◌∙◌, subst, take, Some, true≢false, arith}
-use Rattle.std.specs.Prelude.{◌↔◌, IsTrue, IsErr, slice_get}
-use Rattle.guest_mem.specs.Memory.{LiesIn}
+use Rattle.std.specs.Prelude.{IsErr, slice_get}
 use Rattle.foundation.specs.declared.NoMemory.{NoMemory}
 use Rattle.device_model.specs.Parts.{IsSeen}
 use Rattle.device_model.specs.World.{PlainWorld}
@@ -11,17 +10,17 @@ use Rattle.device_model.specs.Happens.{Occurrence, Reached, Runs, occurrence_of}
 use Rattle.device_model.specs.Turns.{Turns, count_changes}
 use Rattle.device_model.specs.Live.{with_memory, refill, IsRefilled, LiveRuns}
 use Rattle.device_model.proofs.Turning.{step_of}
-use Rattle.world.specs.Apart.{PlainDevice, standing, FitsIn, TurnsInOrWants}
-use Rattle.world.specs.Inner.Apart.{IsSoundIn, HasFew}
+use Rattle.device_steps.specs.Apart.{PlainDevice, standing, FitsIn, TurnsInOrWants}
+use Rattle.device_steps.specs.Inner.Apart.{IsSoundIn, HasFew}
 use Rattle.world.specs.LiveWorld.{GoesOnLive, IsSteadyIn, RunsPromised, StepsAll, StepsEach, StepsPromised}
 use Rattle.world.specs.Inner.LiveWorld.{RanLive, StepRan}
-use Rattle.world.specs.Sound.{IsSteady}
-use Rattle.world.specs.Inner.Sound.{AreSound}
-use Rattle.world.proofs.InMemory.{turned, turned_or, few_in, has_few}
+use Rattle.device_steps.specs.Sound.{IsSteady}
+use Rattle.device_steps.specs.Inner.Sound.{AreSound}
+use Rattle.device_steps.proofs.InMemory.{turned, turned_or, few_in, has_few}
 use Rattle.world.proofs.Promising.{AllArePromised, AllGoOn}
 use Rattle.world.proofs.Reaching.{steady_by_result}
 use Rattle.world.specs.Steps.{events_of}
-use Rattle.world.proofs.Sequences.{bit, count_on, events_next}
+use Rattle.world.proofs.Runs.{bit, count_on, events_next}
 
 -- any bytes may come to stand in memory
 abbrev pub AnyStand : Type 0
@@ -39,22 +38,6 @@ AllLiveRuns =
 pub seen_long : (shared : Bool) (left seen : List ℕ) → IsSeen shared left seen → length seen ≡ length left
 seen_long false left seen is = ap (λ m. length m) is
 seen_long true left seen is = is
-
-truth : IsTrue true
-truth = refl
-
-no_truth : IsTrue false → ⊥
-no_truth e = absurd (cc)
-
--- bytes lie inside as a test says, and the test isn't negated
-pub lies_at : (extent size addr many : ℕ) (b : Bool) → size ≡ extent → (IsTrue b ↔ LiesIn size addr many) → b ≡ true
-    → LiesIn extent addr many
-lies_at extent size addr many b e is on = subst (λ n. LiesIn n addr many) e (is.0 (subst (λ z. IsTrue z) (sym on) truth))
-
-pub lies_not : (extent size addr many : ℕ) (b : Bool) → size ≡ extent → (IsTrue b ↔ LiesIn size addr many) → b ≡ false
-    → LiesIn extent addr many → ⊥
-lies_not extent size addr many b e is off lies =
-    no_truth (subst (λ z. IsTrue z) off (is.1 (subst (λ n. LiesIn n addr many) (sym e) lies)))
 
 -- Steadiness
 

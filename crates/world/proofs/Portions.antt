@@ -14,12 +14,13 @@ use Rattle.device_model.specs.Settling.{SettlesOf}
 use Rattle.device_model.proofs.Choosing.{next_or_quiet_of}
 use Rattle.device_model.proofs.Runs.{settles_of_to_rest}
 use Rattle.device_model.proofs.Bounds.{settles_of_short}
-use Rattle.world.specs.declared.service.Served.{Served}
-use Rattle.world.specs.Settling.{asks, asks_all, order_for, ServesBy, MayWantFirst, ServesSome, ServesUntilRefused, ServesSomeOrWants, ServesAll, ServesInPart, ServesOrWants}
+use Rattle.world.specs.declared.served.Served.{Served}
+use Rattle.device_steps.specs.Settling.{asks, asks_all, order_for, ServesBy, MayWantFirst}
+use Rattle.world.specs.Settling.{ServesSome, ServesUntilRefused, ServesSomeOrWants, ServesAll, ServesInPart, ServesOrWants}
 use Rattle.world.specs.Promise.{GoesOnInOrder}
-use Rattle.world.specs.Inner.Cursors.{Denies}
-use Rattle.world.specs.Sound.{IsReached}
-use Rattle.world.proofs.Ordering.{AskAlike, order_alike}
+use Rattle.device_steps.specs.Inner.Cursors.{Denies}
+use Rattle.device_steps.specs.Sound.{IsReached}
+use Rattle.device_steps.proofs.Ordering.{AskAlike, order_alike}
 
 -- A portion
 

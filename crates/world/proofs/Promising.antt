@@ -9,7 +9,7 @@ use Rattle.device_model.specs.Turns.{count_changes}
 use Rattle.device_model.specs.Promise.{IsPromised}
 use Rattle.device_model.proofs.Runs.{settles_of_run, each_changes_of}
 use Rattle.world.specs.Steps.{Steps}
-use Rattle.world.specs.Settling.{ServesBy}
+use Rattle.device_steps.specs.Settling.{ServesBy}
 use Rattle.world.specs.Promise.{GoesOn, GoesOnInOrder, StepsAsPromised}
 
 -- the promise is kept by every trace

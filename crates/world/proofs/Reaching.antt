@@ -1,59 +1,27 @@
 -- A device that was reached goes on to be.
-use Rattle.std.proofs.Common.{ℕ, ◌≡◌, Bool, true, false, List, [], ◌∷◌, length, Option, Some, None, Result, Ok, Err, refl, sym, ap, ◌∙◌, subst, arith}
+use Rattle.std.proofs.Common.{ℕ, ◌≡◌, Bool, true, false, List, [], ◌∷◌, length, Option, Some, None, Result, Ok, Err, refl, sym, ap, ◌∙◌, subst}
 use Rattle.foundation.specs.declared.NoMemory.{NoMemory}
-use Rattle.std.specs.Prelude.{map, slice_get, ◌≤◌}
-use Rattle.device_model.specs.World.{PlainWorld, Everywhere}
+use Rattle.std.specs.Prelude.{map, slice_get}
+use Rattle.device_model.specs.World.{PlainWorld}
 use Rattle.device_model.specs.Events.{Event}
 use Rattle.device_model.specs.Transitions.{Transition, event_of}
 use Rattle.device_model.specs.After.{after}
 use Rattle.device_model.specs.Happens.{world_of}
 use Rattle.device_model.specs.Settling.{SettlesOf}
-use Rattle.world.specs.Settling.{ServesBy}
-use Rattle.device_model.specs.Lawful.{KeepsParts}
-use Rattle.device_model.specs.Turns.{Turns, IsStep}
-use Rattle.device_model.proofs.Staying.{transition_stays}
+use Rattle.device_steps.specs.Settling.{ServesBy}
+use Rattle.device_model.specs.Turns.{Turns}
 use Rattle.device_model.proofs.Turning.{step_of}
-use Rattle.world.specs.Apart.{PlainDevice, standing}
-use Rattle.world.specs.Inner.Apart.{TurnsAlone, TurnsAloneOrWants}
-use Rattle.world.specs.Sound.{AreFew, AreFitting, IsReached, IsSteady, IsWhole, size_of, lun_of}
-use Rattle.world.specs.Inner.Sound.{IsSound}
+use Rattle.device_steps.specs.Apart.{PlainDevice, standing}
+use Rattle.device_steps.specs.Inner.Apart.{TurnsAlone, TurnsAloneOrWants}
+use Rattle.device_steps.specs.Sound.{AreFew, AreFitting, IsSteady, IsWhole}
+use Rattle.device_steps.specs.Inner.Sound.{IsSound}
 use Rattle.world.specs.Steps.{Steps}
-use Rattle.world.specs.Inner.Steps.{TurnsOrWants}
-use Rattle.world.specs.Inner.Cursors.{StepsNext, TurnsNext}
-use Rattle.world.specs.declared.cursor.Cursor.{Cursor}
-use Rattle.world.specs.declared.cursor.Progress.{Progress}
-use Rattle.world.proofs.Keeping.{sizes_stay, luns_stay, room_of, rooms_stay}
-use Rattle.world.proofs.Setting.{map_get, each_image}
-
--- by a step
-pub reached_by : (w : PlainWorld) (e : Event) (b : Bool) (w' : PlainWorld) → IsReached w → IsStep w e b w' → IsReached w'
-reached_by w e b w' r s =
-    record {
-      old = r.old;
-      trace = record { event = e; action = s.action } ∷ r.trace;
-      reached = record { opens = r.reached.opens; runs = (w, r.reached.runs, s.step) };
-    }
-
--- a turn leaves as many queues and seats
-few_by : (w : PlainWorld) (e : Event) (b : Bool) (w' : PlainWorld) → AreFew w → Turns w e b w' → AreFew w'
-few_by w e true w' f t =
-    let k : KeepsParts w w' = subst (λ z. KeepsParts w z) (sym t.3) (transition_stays t.0 w) in
-    record {
-      several = omega (arith, k.queues, f.several);
-      queues = omega (arith, k.queues, f.queues);
-      seats = omega (arith, k.seats, f.seats);
-      units = omega (arith, k.units, f.units);
-      sizes = subst (λ z. Everywhere (λ i (n : ℕ). n ≤ 1024) (map size_of z.queues)) (sym t.3)
-          (subst (λ ns. Everywhere (λ i (n : ℕ). n ≤ 1024) ns) (sym (sizes_stay t.0 w)) f.sizes);
-      luns = subst (λ z. Everywhere (λ k (n : ℕ). n ≤ 16383) (map lun_of z.units)) (sym t.3)
-          (subst (λ ns. Everywhere (λ k (n : ℕ). n ≤ 16383) ns) (sym (luns_stay t.0 w)) f.luns);
-    }
-few_by w e false w' f t = subst AreFew (sym t.0) f
-
--- by a turn
-pub whole_by : (w : PlainWorld) (e : Event) (b : Bool) (w' : PlainWorld) → IsWhole w → Turns w e b w' → IsWhole w'
-whole_by w e b w' h t =
-    record { reached = reached_by w e b w' h.reached (step_of w e b w' t); few = few_by w e b w' h.few t }
+use Rattle.device_steps.specs.Inner.Steps.{TurnsOrWants}
+use Rattle.device_steps.specs.Inner.Cursors.{TurnsNext}
+use Rattle.device_steps.specs.declared.cursor.Progress.{Progress}
+use Rattle.device_steps.proofs.Keeping.{room_of, rooms_stay}
+use Rattle.device_steps.proofs.Reached.{whole_by}
+use Rattle.device_steps.proofs.Setting.{map_get, each_image}
 
 -- by transitions, each of the first event that applied
 whole_by_transitions : (asked : ℕ → Bool) (w : PlainWorld) (ds : List Transition) → IsWhole w → SettlesOf asked w ds → IsWhole (world_of w ds)
@@ -71,11 +39,6 @@ pub whole_by_next : (asked : ℕ → Bool) (most : ℕ) (w : PlainWorld) (r : Re
 whole_by_next asked most w (Ok (Some s)) w' h t = whole_by_serving asked w s.steps w' h t.serves
 whole_by_next asked most w (Ok None) w' h t = subst IsWhole (sym t.0) h
 whole_by_next asked most w (Err x) w' h t = subst IsWhole (sym t.0) h
-
--- by one event
-pub whole_by_step : (asked : ℕ → Bool) (Q : Transition → Type 0) (w : PlainWorld) (c : Cursor) (w' : PlainWorld) → IsWhole w
-    → StepsNext asked Q w c w' → IsWhole w'
-whole_by_step asked Q w c w' h t = whole_by w (event_of t.0) true w' h (t.0, refl, t.1, t.3)
 
 -- a turn of an event, or want of memory, is a step
 pub steps_by_result : (w : PlainWorld) (e : Event) (r : Result Bool NoMemory) (w' : PlainWorld) → TurnsOrWants w e r w'

@@ -13,20 +13,21 @@ use Rattle.device_model.specs.Settling.{SettlesOf}
 use Rattle.device_model.specs.Live.{Turn, with_memory, live_world, occurrence_at, LiveRuns, LiveSettlesOf, IsShortLive}
 use Rattle.device_model.proofs.Choosing.{next_or_quiet_of}
 use Rattle.device_model.proofs.Runs.{settles_of_to_rest}
-use Rattle.world.specs.Settling.{order_for, ServesBy, MayWantFirst}
-use Rattle.world.specs.Apart.{PlainDevice, standing}
-use Rattle.world.specs.Sound.{IsReached, IsSteady}
+use Rattle.device_steps.specs.Settling.{order_for, ServesBy, MayWantFirst}
+use Rattle.device_steps.specs.Apart.{PlainDevice, standing}
+use Rattle.device_steps.specs.Sound.{IsReached, IsSteady}
 use Rattle.world.specs.LiveWorld.{PlainLive, IsSteadyIn}
-use Rattle.world.specs.LiveServing.{ServesInPhase, ServesLiveBy, HasNone, HasNext, Looks, event_at, GoesOnServedLive}
-use Rattle.world.specs.Inner.Cursors.{Denies, NoneBefore, TurnsNextIn}
+use Rattle.device_steps.specs.Serving.{ServesInPhase}
+use Rattle.world.specs.LiveServing.{ServesLiveBy, HasNone, HasNext, Looks, event_at, GoesOnServedLive}
+use Rattle.device_steps.specs.Inner.Cursors.{Denies, NoneBefore, TurnsNextIn}
 use Rattle.world.specs.Inner.Rounds.{TurnsRound, LeavesBy, SettledLive, SettlesNext}
-use Rattle.world.specs.declared.cursor.Cursor.{Cursor}
-use Rattle.world.specs.declared.cursor.Progress.{Progress}
-use Rattle.world.proofs.AnyMemory.{next_live}
-use Rattle.world.proofs.EachTurn.{device_of}
+use Rattle.device_steps.specs.declared.cursor.Cursor.{Cursor}
+use Rattle.device_steps.specs.declared.cursor.Progress.{Progress}
+use Rattle.world.proofs.AnyChain.{next_live}
+use Rattle.device_steps.proofs.EachTurn.{device_of}
 use Rattle.world.proofs.Lively.{AnyStand, AllLiveRuns, any_steady, seen_long}
 use Rattle.world.proofs.Promising.{AllArePromised, AllGoOn}
-use Rattle.world.proofs.Keeping.{room_of}
+use Rattle.device_steps.proofs.Keeping.{room_of}
 use Rattle.world.proofs.Reaching.{rooms_along, whole_by_serving, fits_by}
 
 -- What one phase did

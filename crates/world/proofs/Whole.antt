@@ -2,11 +2,11 @@
 use Rattle.std.proofs.Common.{ℕ, ◌≤◌, Bool, List, length, ◌∙◌, subst, arith}
 use Rattle.device_model.specs.World.{PlainWorld}
 use Rattle.device_model.specs.Order.{NoneApplies}
-use Rattle.world.specs.Apart.{PlainDevice, standing}
-use Rattle.world.specs.Settling.{asks, asks_all}
+use Rattle.device_steps.specs.Apart.{PlainDevice, standing}
+use Rattle.device_steps.specs.Settling.{asks, asks_all}
 use Rattle.world.specs.LiveWorld.{PlainLive}
 use Rattle.world.specs.LiveServing.{AsksEach, Looks, HasNone, HasNothing}
-use Rattle.world.proofs.Ordering.{AskAlike, order_alike}
+use Rattle.device_steps.proofs.Ordering.{AskAlike, order_alike}
 use Rattle.world.proofs.Portions.{asks_each, order_all, rests_whole}
 
 -- a mask with each bit set asks each

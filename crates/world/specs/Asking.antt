@@ -1,24 +1,13 @@
 -- What the device asks its drivers for: a write of its own, which answers nothing. So the trace has it as a Poke, the
 -- event of every such write.
-use Rattle.std.specs.Prelude.{ℕ, ◌≡◌, Bool, true, false, List, slice_get, Option, Some, None, Ok}
+use Rattle.std.specs.Prelude.{ℕ, ◌≡◌, Bool, true, false, List, Option, Some, None, Ok}
 use Rattle.ring_core.specs.Writes.{Write}
-use Rattle.ring_core.specs.Asking.{asking}
-use Rattle.ring_core.specs.declared.asking.Notify.{Notify}
-use Rattle.device_model.specs.World.{PlainQueue, PlainWorld}
+use Rattle.device_model.specs.World.{PlainWorld}
 use Rattle.device_model.specs.Events.{Event}
 use Rattle.device_model.specs.Turns.{Turns}
-use Rattle.world.specs.Apart.{PlainDevice}
+use Rattle.device_steps.specs.Apart.{PlainDevice}
 use Rattle.world.specs.LiveWorld.{PlainLive, StepsLive, StepsPromised}
 use Rattle.world.specs.Promise.{StepsAsPromised}
-
--- what is written for a queue, if it is there; for one that is broken it is nothing
-abbrev pub asking_of : Option PlainQueue → Notify → Option Write
-asking_of None notify = None
-asking_of (Some q) notify = asking q.ring notify
-
--- what is written for the queue of this number
-abbrev pub asking_at : List PlainQueue → ℕ → Notify → Option Write
-asking_at queues number notify = asking_of (slice_get queues number) notify
 
 -- the write was made, and the call says so; or there is none, and nothing changed
 abbrev pub Asks : PlainWorld → Option Write → Bool → PlainWorld → Type 0

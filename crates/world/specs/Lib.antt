@@ -1,11 +1,5 @@
-pub mod Kept
-pub mod Off
-pub mod Sound
 pub mod Steps
-pub mod Apart
 pub mod Settling
-pub mod Opening
-pub mod Views
 pub mod Notifications
 pub mod Promise
 pub mod LiveWorld

@@ -1,73 +1,17 @@
 -- Serving a device on a memory that its guest writes at any time: in rounds, each in a phase of its own.
-use Rattle.std.specs.Prelude.{ℕ, ◌≡◌, ◌≤◌, ◌<◌, ◌+◌, ◌⊎◌, ◌^◌, Bool, true, false, List, [], ◌∷◌, length, map, Option, Some, None, Result, Ok, Err, ⊤}
-use Rattle.std.specs.List.{AllByRecursion, sum_by}
+use Rattle.std.specs.Prelude.{ℕ, ◌≡◌, ◌≤◌, ◌<◌, ◌+◌, ◌⊎◌, ◌^◌, Bool, true, false, List, [], ◌∷◌, length, map, Result, Ok, Err}
+use Rattle.std.specs.List.{sum_by}
 use Rattle.foundation.specs.declared.NoMemory.{NoMemory}
-use Rattle.device_model.specs.Parts.{Completion}
 use Rattle.device_model.specs.World.{PlainWorld}
 use Rattle.device_model.specs.Events.{Event}
-use Rattle.device_model.specs.Transitions.{Transition, event_of, completion_of}
+use Rattle.device_model.specs.Transitions.{event_of}
 use Rattle.device_model.specs.Order.{IsNextOf, IsQuiet, IsQuietOf, IsAtRest, IsAtRestOf}
-use Rattle.device_model.specs.Waking.{IsFetch}
 use Rattle.device_model.specs.Live.{Turn, with_memory, live_world, transition_at, LiveSettlesOf, IsShortLive}
-use Rattle.phases.specs.InMemory.{EachSeen}
-use Rattle.world.specs.Apart.{PlainDevice, standing}
-use Rattle.world.specs.Settling.{order_for, ServesBy, MayWantFirst}
+use Rattle.device_steps.specs.Apart.{PlainDevice, standing}
+use Rattle.device_steps.specs.Settling.{order_for, MayWantFirst}
+use Rattle.device_steps.specs.Serving.{ServesInPhase}
 use Rattle.world.specs.LiveWorld.{PlainLive, GoesOnFrom}
-use Rattle.world.specs.declared.service.Served.{Served}
-
--- In one phase
-
--- the notice of a completion is decided by this memory
-abbrev pub IsNoticedBy : List ℕ → Option Completion → Type 0
-IsNoticedBy seen (Some xs) = xs.seen ≡ seen
-IsNoticedBy seen None = ⊤
-
-abbrev pub CompletesNone : Transition → Type 0
-CompletesNone t = completion_of t ≡ None
-
--- the notice of each completion was decided by this memory; where nothing was completed, memory was left so
-pub record AreNoticed (ts : List Transition) (left seen : List ℕ) : Type 0 where
-  pub each : AllByRecursion (λ t. IsNoticedBy seen (completion_of t)) ts
-  pub none : AllByRecursion CompletesNone ts → seen ≡ left
-
--- so many events were done, each the first that applied, with no write of the guest between them
-pub record ServesSeen (asked : ℕ → Bool) (seen : List ℕ) (w : PlainWorld) (count : ℕ) (w' : PlainWorld) : Type 0 where
-  pub serves : ServesBy asked w count w'
-  pub notices : AreNoticed serves.transitions w'.memory seen
-
-abbrev pub TakesNoChain : Transition → Type 0
-TakesNoChain t = IsFetch (event_of t) → ⊥
-
--- the same, and none of them took a chain
-pub record FollowsSeen (asked : ℕ → Bool) (seen : List ℕ) (w : PlainWorld) (count : ℕ) (w' : PlainWorld) : Type 0 where
-  pub serves : ServesBy asked w count w'
-  pub notices : AreNoticed serves.transitions w'.memory seen
-  pub no_chain : AllByRecursion TakesNoChain serves.transitions
-
--- whatever may be seen afterwards, it was done on a memory that may have been found
-abbrev pub DoneIn : Bool → (List ℕ → Type 0) → (List ℕ → Type 0) → (List ℕ → PlainWorld → ℕ → PlainWorld → Type 0)
-    → PlainDevice → ℕ → PlainDevice → Type 0
-DoneIn shared before after Does d count d' =
-    EachSeen shared before after (λ found left seen. Does seen (standing shared found d) count (standing shared left d'))
-
--- A request served at once: its chain was taken, whichever of the bytes that may stand there once it was read; and then
--- what follows of it was done, with no write of the guest between. Of the memory it is said what it may be.
-pub record TakesAndServes {X : Type 0} (shared : Bool) (may_be : X → List ℕ → Type 0) (asked : ℕ → Bool) (x : X)
-    (d : PlainDevice) (count : ℕ) (y : X) (d' : PlainDevice) : Type 0 where
-  pub read : X
-  pub taken : PlainDevice
-  pub later : ℕ
-  pub counted : count ≡ 1 + later
-  pub stays : (m : List ℕ) → may_be read m → may_be x m
-  pub takes : DoneIn shared (may_be x) (may_be read) (ServesSeen asked) d 1 taken
-  pub follows : DoneIn shared (may_be read) (may_be y) (FollowsSeen asked) taken later d'
-
--- one event, or a request served at once
-abbrev pub ServesInPhase : {X : Type 0} → Bool → (X → List ℕ → Type 0) → (ℕ → Bool) → X → PlainDevice → ℕ → X → PlainDevice
-    → Type 0
-ServesInPhase {X} shared may_be asked x d count y d' =
-    ((count ≡ 1) × DoneIn shared (may_be x) (may_be y) (ServesSeen asked) d 1 d')
-    ⊎ TakesAndServes shared may_be asked x d count y d'
+use Rattle.world.specs.declared.served.Served.{Served}
 
 -- Phase by phase
 

@@ -14,10 +14,10 @@ use Rattle.device_model.specs.Happens.{Occurrence, Reached}
 use Rattle.device_model.specs.Turns.{count_changes}
 use Rattle.device_model.specs.Promise.{IsPromised}
 use Rattle.device_model.specs.Live.{IsRefilled}
-use Rattle.world.specs.Apart.{PlainDevice, standing, TurnsInOrWants}
-use Rattle.world.specs.Opening.{IsOpeningFor, AreDisksFor, over_disks}
+use Rattle.device_steps.specs.Apart.{PlainDevice, standing, TurnsInOrWants}
+use Rattle.device_steps.specs.Opening.{IsOpeningApart, AreDisksFor, over_disks}
 use Rattle.world.specs.Steps.{events_of}
-use Rattle.world.specs.Sound.{IsReached, IsSteady}
+use Rattle.device_steps.specs.Sound.{IsReached, IsSteady}
 
 -- a memory, and the device without any
 pub record PlainLive (X : Type 0) : Type 0 where
@@ -29,10 +29,6 @@ abbrev pub IsSteadyIn : Bool → ℕ → PlainDevice → Type 0
 IsSteadyIn shared size d = (m : List ℕ) → length m ≡ size → IsSteady (standing shared m d)
 
 -- Opening
-
--- whichever bytes stand there, it is the device that the configuration opens as on a memory of this size
-abbrev pub IsOpeningApart : ℕ → Config → PlainDevice → Type 0
-IsOpeningApart size c d = (shared : Bool) (m : List ℕ) → IsOpeningFor size c (standing shared m d)
 
 -- it opens whichever bytes stand in a memory of this size
 abbrev pub OpensIn : Bool → ℕ → PlainDevice → Type 0

@@ -9,9 +9,9 @@ use Rattle.device_model.specs.Transitions.{event_of}
 use Rattle.device_model.specs.Happens.{MayWant, Occurrence, Reached}
 use Rattle.device_model.specs.Turns.{count_changes}
 use Rattle.device_model.specs.Promise.{IsPromised}
-use Rattle.world.specs.Settling.{ServesBy, asks_all}
+use Rattle.device_steps.specs.Settling.{ServesBy, asks_all}
 use Rattle.world.specs.Steps.{events_of}
-use Rattle.world.specs.declared.service.Served.{Served}
+use Rattle.world.specs.declared.served.Served.{Served}
 
 -- a trace of these events goes on from the one world to the other, and so many of its actions changed something: behind
 -- every trace that reached the one from an opening it reaches the other, and the promise is kept by both together (the

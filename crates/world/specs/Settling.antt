@@ -1,40 +1,13 @@
 -- Serving: what is first in the order is done, with new chains of the queues alone that are asked, until nothing is left
 -- to do, or so many steps were taken.
-use Rattle.std.specs.Prelude.{ℕ, ◌≡◌, ◌+◌, ◌≤◌, ◌<◌, ◌^◌, ◌==◌, ◌⊎◌, Bool, true, false, List, [], ◌∷◌, length, Result, Ok, Err}
-use Rattle.std.specs.Int.{bit_at}
+use Rattle.std.specs.Prelude.{ℕ, ◌≡◌, ◌+◌, ◌≤◌, ◌<◌, ◌^◌, ◌⊎◌, Bool, true, false, Result, Ok, Err}
 use Rattle.foundation.specs.declared.NoMemory.{NoMemory}
 use Rattle.device_model.specs.World.{PlainWorld}
 use Rattle.device_model.specs.Events.{Event}
-use Rattle.device_model.specs.Transitions.{Transition}
-use Rattle.device_model.specs.Happens.{MayWant, world_of}
-use Rattle.device_model.specs.Applies.{Applies}
-use Rattle.device_model.specs.Order.{order_of, order_by, IsQuiet, IsAtRest, IsNextOf, IsQuietOf, IsAtRestOf}
-use Rattle.device_model.specs.Settling.{SettlesOf, IsShort}
-use Rattle.world.specs.declared.service.Served.{Served}
-
--- the queues whose bit is set, that of queue 0 the lowest
-abbrev pub asks : ℕ → ℕ → Bool
-asks queues q = bit_at queues q == 1
-
--- each queue
-abbrev pub asks_all : ℕ → Bool
-asks_all q = true
-
--- the order, with new chains of the queues alone that are asked
-abbrev pub order_for : (ℕ → Bool) → PlainWorld → List Event
-order_for asked w = order_by asked (length w.queues) (length w.seats)
-
--- the transitions lead from one world to the other, each of the first event that applies, and are so many
-pub record ServesBy (asked : ℕ → Bool) (w : PlainWorld) (count : ℕ) (w' : PlainWorld) : Type 0 where
-  pub transitions : List Transition
-  pub settles : SettlesOf asked w transitions
-  pub is : w' ≡ world_of w transitions
-  pub counted : length transitions ≡ count
-
--- of these events the first that applies may be refused memory
-abbrev pub MayWantFirst : PlainWorld → List Event → Type 0
-MayWantFirst w [] = ⊥
-MayWantFirst w (x ∷ xs) = MayWant x w ⊎ ((Applies w x → ⊥) × MayWantFirst w xs)
+use Rattle.device_model.specs.Order.{order_of, IsQuiet, IsAtRest, IsNextOf, IsQuietOf, IsAtRestOf}
+use Rattle.device_model.specs.Settling.{IsShort}
+use Rattle.device_steps.specs.Settling.{asks_all, order_for, ServesBy, MayWantFirst}
+use Rattle.world.specs.declared.served.Served.{Served}
 
 -- served so far, at most so many steps: either all were taken and an event is next, or nothing is left but chains of the
 -- other queues that weren't accepted; and no more was done than there was to do

@@ -1,30 +1,13 @@
 //! Asks drivers for notifications.
 
-ghost use Rattle.std.specs.Prelude.{◌≡◌, ◌+◌, ◌≤◌, ℕ, length};
-ghost use Rattle.std.specs.Option.{IfSome};
-ghost use Rattle.world.specs.Apart.{FitsIn};
-ghost use Rattle.world.specs.Asking.{asking_at, Asks, AsksAsPromised};
+ghost use Rattle.device_steps.specs.Asking.{asking_at};
+ghost use Rattle.world.specs.Asking.{Asks, AsksAsPromised};
 
-use crate::device::Device;
-use crate::steps::poke;
 use crate::world::World;
 use device_model::laws::every_run_goes_on;
 use device_model::trace_laws::the_promise_is_kept;
-use ring_core::{Asking, Notify};
-
-impl Device {
-    /// Returns what the device writes to ask the driver of a queue, where the queue is there and isn't broken.
-    pub(crate) fn asking(&self, number: u16, notify: Notify) -> Option<Asking>
-        ensures asks { result ≡ asking_at self.now.queues number notify }
-        ensures inside { (size : ℕ) → FitsIn size self.now → IfSome result (λ a. a.addr + length a.bytes ≤ size) }
-    {
-        let at = number as usize;
-        if at >= self.bays.len() {
-            return None;
-        }
-        self.bays[at].queue.asking(notify)
-    }
-}
+use device_steps::poke;
+use ring_core::Notify;
 
 impl World {
     /// Asks the driver of a queue to notify the device of the next chain, or of none. Returns false, with nothing

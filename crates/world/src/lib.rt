@@ -6,20 +6,11 @@
 #![tactic(auto)]
 
 mod asking;
-mod bay;
-mod cursor;
-mod device;
-mod handed_off;
 mod live_serving;
 mod live_views;
 mod live_world;
 mod notifications;
-mod opening;
-mod pending;
-mod seat;
-mod service;
-mod sound;
-mod steps;
+mod served;
 mod views;
 mod world;
 
@@ -37,7 +28,7 @@ pub use phases::{
     phase_mark, phase_prepare, phase_raise, phase_resize, phase_start_pages,
 };
 pub use ring_core::{Notify, RingFault};
-pub use service::Served;
+pub use served::Served;
 pub use unit_attention::Code;
 pub use unit_history::{Changes, StepKind, UnitState};
 pub use unit_model::Counts;

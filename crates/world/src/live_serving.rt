@@ -1,23 +1,22 @@
 //! A device in live memory serves, and settles.
 
 ghost use Rattle.std.specs.Prelude.{◌≡◌, ◌≤◌, ℕ, List, length};
-ghost use Rattle.world.specs.Apart.{standing};
-ghost use Rattle.world.specs.Sound.{IsReached};
-ghost use Rattle.world.specs.Settling.{asks};
-ghost use Rattle.world.specs.Inner.Cursors.{NoneBefore};
+ghost use Rattle.device_steps.specs.Apart.{standing};
+ghost use Rattle.device_steps.specs.Sound.{IsReached};
+ghost use Rattle.device_steps.specs.Settling.{asks};
+ghost use Rattle.device_steps.specs.Inner.Cursors.{NoneBefore};
 ghost use Rattle.world.specs.Inner.Rounds.{TurnsRound, SettlesNext, LeavesBy};
 ghost use Rattle.world.specs.LiveServing.{Looks, ServesLiveOrWants, ServesPromised, SettlesLiveOrWants, SettlesPromised};
 
-use crate::cursor::{Cursor, Progress};
 use crate::live_world::LiveWorld;
-use crate::service::Served;
-use crate::sound::all_are_sound;
+use crate::served::Served;
 use foundation::NoMemory;
 use device_model::laws::every_run_goes_on;
 use device_model::live_laws::{
     a_live_run_is_a_run, a_live_settling_is_short, any_bytes_may_stand_there,
 };
 use device_model::trace_laws::the_promise_is_kept;
+use device_steps::{Cursor, Progress, all_are_sound};
 use guest_mem::{Memory, WritableMemory};
 
 impl<M: WritableMemory> LiveWorld<M> {

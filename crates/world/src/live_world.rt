@@ -1,19 +1,13 @@
 //! The device on a memory that its guest writes at any time.
 
-ghost use Rattle.std.specs.Prelude.{◌≡◌, ◌≤◌, ◌+◌, ◌↔◌, [], length, true, IsTrue, IfOk, MatchResult};
+ghost use Rattle.std.specs.Prelude.{◌≡◌, ◌≤◌, [], length, true, IfOk, MatchResult};
 ghost use Rattle.std.specs.Vec.{vec_capacity};
-ghost use Rattle.guest_mem.specs.Memory.{LiesIn};
 ghost use Rattle.config.specs.Config.{is_config_for};
-ghost use Rattle.device_model.specs.Events.{Event as AnEvent, plain_event};
-ghost use Rattle.world.specs.Opening.{AreDisksFor, AreDisksOf};
-ghost use Rattle.world.specs.Apart.{PlainDevice, TurnsInOrWants, FitsIn};
-ghost use Rattle.world.specs.Inner.Apart.{TurnsIn, IsSoundIn, HasFew};
+ghost use Rattle.device_model.specs.Events.{plain_event};
+ghost use Rattle.device_steps.specs.Opening.{AreDisksFor, AreDisksOf};
 
 mod asking;
 
-use crate::device::Device;
-use crate::opening::{are_disks_for, open_device};
-use crate::sound::all_are_sound;
 use foundation::NoMemory;
 use block_store::PagedStore;
 use config::{Config, StartFault};
@@ -21,68 +15,10 @@ use device_model::Event;
 use device_model::laws::every_run_goes_on;
 use device_model::live_laws::{a_live_run_is_a_run, any_bytes_may_stand_there};
 use device_model::trace_laws::the_promise_is_kept;
+use device_steps::{Device, all_are_sound, are_disks_for, open_device};
 use guest_mem::WritableMemory;
 use std::alloc::Global;
 use std::marker::Model;
-
-/// Returns true if so many bytes from an address on lie inside a memory of this size.
-fn lies_in(size: u64, addr: u64, len: usize) -> bool
-    ensures { IsTrue result ↔ LiesIn size addr len }
-{
-    addr <= size && len as u64 <= size - addr
-}
-
-/// Writes bytes at an address of any memory, where all of them lie inside.
-fn poke_in<M: WritableMemory>(memory: &mut M, addr: u64, bytes: &[u8]) -> bool
-    ensures turns { (d : PlainDevice) → TurnsIn M.shared (M.may_be memory.old) (M.may_be memory.new) d
-        (AnEvent.Poke (record { addr = addr; bytes = bytes.now })) result d }
-    ensures size { M.extent memory.new ≡ M.extent memory.old }
-{
-    if !lies_in(memory.size(), addr, bytes.len()) {
-        return false;
-    }
-    memory.write(addr, bytes);
-    true
-}
-
-impl Device {
-    /// Takes one event in any memory. Called in a phase that wrote nothing yet.
-    fn step_in<M: WritableMemory>(
-        &mut self,
-        memory: &mut M,
-        event: &Event,
-    ) -> Result<bool, NoMemory>
-        requires reading { M.is_open memory.old }
-        requires sound { IsSoundIn M.shared (M.may_be memory.old) self.old }
-        requires fits { FitsIn (M.extent memory.old) self.old }
-        requires few { HasFew self.old }
-        requires working { 1 ≤ self.old.workers }
-        requires seated { length self.old.seats ≡ self.old.workers + 1 }
-        requires lists { length self.old.handed_off ≡ length self.old.seats }
-        ensures turns { TurnsInOrWants M.shared (M.may_be memory.old) (M.may_be memory.new) self.old
-            (plain_event event.now) result self.new }
-        ensures size { M.extent memory.new ≡ M.extent memory.old }
-    {
-        match event {
-            Event::Poke(addr, bytes) => Ok(poke_in(memory, *addr, bytes.as_slice())),
-            Event::Fetch(queue) => self.fetch_in(memory, *queue),
-            Event::Enter(queue) => Ok(self.enter(*queue)),
-            Event::Direct(queue) => Ok(self.direct_in(memory, *queue)),
-            Event::Put(seat) => Ok(self.put(*seat)),
-            Event::Take(seat) => Ok(self.take(*seat)),
-            Event::Prepare(seat) => Ok(self.prepare(*seat)),
-            Event::Commit(seat) => Ok(self.commit(*seat)),
-            Event::Answer(seat) => Ok(self.answer_in(memory, *seat)),
-            Event::Leave(seat) => Ok(self.leave(*seat)),
-            Event::Mark => Ok(self.mark()),
-            Event::Check => Ok(self.check()),
-            Event::AnswerTmf => Ok(self.answer_tmf_in(memory)),
-            Event::Hard(place) => self.hard(*place),
-            Event::Resize(place, blocks) => self.resize(*place, *blocks),
-            Event::Raise => Ok(self.raise_in(memory)),
-        }
-    }
-}
 
 /// A device on a memory that its guest may write at any time: its queues, its units and the seats that serve them, between
 /// two calls. Of its memory nothing is known then but its size.
@@ -103,7 +39,8 @@ impl<M: WritableMemory> Model for LiveWorld<M> {
 }
 
 impl<M: WritableMemory + Drop> LiveWorld<M> {
-    ghost use Rattle.world.specs.LiveWorld.{IsOpeningApart, IsOpeningOverApart, OpensIn, BeginsIn, InRefusedAs, OverRefusedIn};
+    ghost use Rattle.device_steps.specs.Opening.{IsOpeningApart};
+    ghost use Rattle.world.specs.LiveWorld.{IsOpeningOverApart, OpensIn, BeginsIn, InRefusedAs, OverRefusedIn};
 
     /// Opens the device of a configuration on a memory of the embedder's, whatever stands there. The memory has any number
     /// of bytes, up to 2^52, in which the queues lie; the configuration's `pages` isn't looked at. Nothing has happened to

@@ -3,9 +3,9 @@
 ghost use Rattle.std.specs.Prelude.{◌≡◌, ◌<◌, ◌≤◌, ◌^◌, length, replicate};
 ghost use Rattle.world.specs.Notifications.{binary, owed_of, notices_at, IsAsked};
 
-use crate::bay::Bay;
 use crate::live_world::LiveWorld;
 use crate::world::World;
+use device_steps::Bay;
 use guest_mem::WritableMemory;
 use std::marker::Model;
 

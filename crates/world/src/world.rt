@@ -3,18 +3,14 @@
 ghost use Rattle.std.specs.Prelude.{◌≡◌, ◌≤◌, [], length, IfOk};
 ghost use Rattle.std.specs.Vec.{vec_capacity};
 
-use crate::cursor::{Cursor, Progress};
-use crate::device::Device;
-use crate::opening::{are_disks_for, open_device};
-use crate::service::Served;
-use crate::sound::all_are_sound;
-use crate::steps::poke;
+use crate::served::Served;
 use foundation::NoMemory;
 use block_store::PagedStore;
 use config::{Config, StartFault};
 use device_model::Event;
 use device_model::laws::every_run_goes_on;
 use device_model::trace_laws::the_promise_is_kept;
+use device_steps::{Cursor, Device, Progress, all_are_sound, are_disks_for, open_device, poke};
 use guest_mem::{GuestMem, Memory, StillMem};
 use std::alloc::Global;
 use std::marker::Model;
@@ -29,8 +25,8 @@ pub struct World {
 impl Model for World {
     ghost use Rattle.std.specs.Prelude.{false};
     ghost use Rattle.device_model.specs.World.{PlainWorld};
-    ghost use Rattle.world.specs.Apart.{standing};
-    ghost use Rattle.world.specs.Sound.{IsSteady};
+    ghost use Rattle.device_steps.specs.Apart.{standing};
+    ghost use Rattle.device_steps.specs.Sound.{IsSteady};
 
     ghost Value = { PlainWorld };
 
@@ -44,16 +40,17 @@ impl World {
     ghost use Rattle.device_model.specs.Events.{Event as AnEvent, plain_event};
     ghost use Rattle.device_model.specs.World as plain;
     ghost use Rattle.config.specs.Config.{is_config, StartRefusedAs};
-    ghost use Rattle.world.specs.Opening.{IsOpening, IsOpeningOver, OpensFor, OpensAnew, OverRefusedAs, AreDisksFor, AreDisksOf};
-    ghost use Rattle.world.specs.Sound.{AreFew, AreFitting, IsReached};
-    ghost use Rattle.world.specs.Inner.Sound.{IsSound};
+    ghost use Rattle.device_steps.specs.Opening.{IsOpening, IsOpeningOver, OpensFor, OpensAnew, OverRefusedAs, AreDisksFor, AreDisksOf};
+    ghost use Rattle.device_steps.specs.Sound.{AreFew, AreFitting, IsReached};
+    ghost use Rattle.device_steps.specs.Inner.Sound.{IsSound};
     ghost use Rattle.device_model.specs.Happens.{Reached};
     ghost use Rattle.device_model.specs.Turns.{Turns};
     ghost use Rattle.world.specs.Steps.{Steps, RunsAll};
     ghost use Rattle.device_model.specs.Order.{IsQuietOf};
-    ghost use Rattle.world.specs.Settling.{asks, ServesSomeOrWants, ServesOrWants};
+    ghost use Rattle.device_steps.specs.Settling.{asks};
+    ghost use Rattle.world.specs.Settling.{ServesSomeOrWants, ServesOrWants};
     ghost use Rattle.world.specs.Promise.{StepsAsPromised, RunsAsPromised, ServesAsPromised, SettlesAsPromised};
-    ghost use Rattle.world.specs.Inner.Cursors.{Denies, NoneBefore, TurnsNext};
+    ghost use Rattle.device_steps.specs.Inner.Cursors.{Denies, NoneBefore, TurnsNext};
 
     /// Opens the device of a configuration, of which nothing has happened yet. The embedder calls it once for each
     /// device. `BadConfig` exactly where the configuration isn't valid; else `NoMemory` where a growth was refused. The

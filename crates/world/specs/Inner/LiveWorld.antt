@@ -5,7 +5,7 @@ use Rattle.device_model.specs.Events.{Event}
 use Rattle.device_model.specs.Happens.{Occurrence}
 use Rattle.device_model.specs.Turns.{count_changes}
 use Rattle.device_model.specs.Live.{LiveRuns}
-use Rattle.world.specs.Apart.{PlainDevice, standing}
+use Rattle.device_steps.specs.Apart.{PlainDevice, standing}
 
 -- `GoesOnFrom` as a run
 pub record RanFrom (shared : Bool) (d : PlainDevice) (events : List Event) (count : ℕ) (d' : PlainDevice)

@@ -3,11 +3,12 @@ use Rattle.std.specs.Prelude.{ℕ, ◌≡◌, ◌≤◌, ◌+◌, Bool, true, fa
 use Rattle.foundation.specs.declared.NoMemory.{NoMemory}
 use Rattle.device_model.specs.World.{PlainWorld}
 use Rattle.device_model.specs.Live.{Turn, live_world, LiveSettlesOf}
-use Rattle.world.specs.Apart.{PlainDevice, standing}
+use Rattle.device_steps.specs.Apart.{PlainDevice, standing}
 use Rattle.world.specs.LiveWorld.{PlainLive}
-use Rattle.world.specs.LiveServing.{ServesInPhase, Looks, HasNext, HasNone, WantsFirst}
-use Rattle.world.specs.Inner.Cursors.{NoneBefore}
-use Rattle.world.specs.declared.cursor.Progress.{Progress}
+use Rattle.device_steps.specs.Serving.{ServesInPhase}
+use Rattle.world.specs.LiveServing.{Looks, HasNext, HasNone, WantsFirst}
+use Rattle.device_steps.specs.Inner.Cursors.{NoneBefore}
+use Rattle.device_steps.specs.declared.cursor.Progress.{Progress}
 
 -- so many events were done, and before a place none applies then, whatever stands in memory
 pub record RoundsNext {X : Type 0} (shared : Bool) (begins : X → X → Type 0) (may_be : X → List ℕ → Type 0)

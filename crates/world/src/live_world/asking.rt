@@ -2,14 +2,16 @@
 
 ghost use Rattle.std.specs.Prelude.{◌≡◌, ◌+◌, ◌≤◌, Ok, true, length};
 ghost use Rattle.device_model.specs.Events.{Event as AnEvent};
-ghost use Rattle.world.specs.Asking.{asking_at, AsksLive, AsksPromised};
+ghost use Rattle.device_steps.specs.Asking.{asking_at};
+ghost use Rattle.world.specs.Asking.{AsksLive, AsksPromised};
 ghost use Rattle.world.specs.LiveWorld.{StepsLive};
 ghost use Rattle.world.specs.Inner.LiveWorld.{StepRan};
 
-use super::{LiveWorld, poke_in};
+use super::LiveWorld;
 use device_model::laws::every_run_goes_on;
 use device_model::live_laws::{a_live_run_is_a_run, any_bytes_may_stand_there};
 use device_model::trace_laws::the_promise_is_kept;
+use device_steps::poke_in;
 use guest_mem::WritableMemory;
 use ring_core::Notify;
 

@@ -2,7 +2,7 @@ use Rattle.std.proofs.Common.{◌≡◌, length, refl, sym, ap, ◌∙◌, subst
 use Rattle.std.specs.Prelude.{true, false, is_some}
 use Rattle.std.specs.List.{list_any}
 use Rattle.std.proofs.lemmas.List.{length-map}
-use Rattle.world.specs.Opening.{AreDisksOf}
+use Rattle.device_steps.specs.Opening.{AreDisksOf}
 use Rattle.vscsi_c.specs.Kept.{disk_at, disks_at}
 use Rattle.vscsi_c.proofs.Handed.{closed, as_many}
 use Rattle.vscsi_c.proofs.Taking.{any_image}

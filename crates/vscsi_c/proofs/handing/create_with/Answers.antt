@@ -1,7 +1,7 @@
 use Rattle.std.proofs.Common.{◌≡◌, length, map, None, Some, refl, sym, ap, ◌∙◌, subst, arith, inl, inr}
 use Rattle.std.proofs.lemmas.List.{length-map}
 use Rattle.request_intake.specs.declared.inventory.UnitSpec.{UnitSpec}
-use Rattle.world.specs.Opening.{IsOpening, OpensFor}
+use Rattle.device_steps.specs.Opening.{IsOpening, OpensFor}
 use Rattle.vscsi_c.specs.Calls.{Cause}
 use Rattle.vscsi_c.specs.Disks.{Lacks}
 use Rattle.vscsi_c.specs.Inner.Disks.{Fit}

@@ -1,7 +1,8 @@
 use Rattle.std.proofs.Common.{◌≡◌, ◌^◌, refl, sym, ap, ◌∙◌, subst}
 use Rattle.std.specs.Prelude.{Some, true}
 use Rattle.config.specs.Config.{is_config_for}
-use Rattle.world.specs.LiveWorld.{IsOpeningApart, OpensIn, BeginsIn}
+use Rattle.device_steps.specs.Opening.{IsOpeningApart}
+use Rattle.world.specs.LiveWorld.{OpensIn, BeginsIn}
 use Rattle.vscsi_c.proofs.Handed.{absent}
 use Rattle.vscsi_c.proofs.LiveHanded.{created}
 use Rattle.vscsi_c.proofs.live_calls.create.Goals as goal

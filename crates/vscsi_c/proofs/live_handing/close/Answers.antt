@@ -1,7 +1,7 @@
 use Rattle.std.proofs.Common.{length, refl, sym, ap, ◌∙◌, subst, arith}
 use Rattle.std.specs.Prelude.{is_some}
 use Rattle.std.proofs.lemmas.List.{length-map}
-use Rattle.world.specs.Opening.{AreDisksOf}
+use Rattle.device_steps.specs.Opening.{AreDisksOf}
 use Rattle.vscsi_c.specs.Kept.{disk_at}
 use Rattle.vscsi_c.proofs.Handed.{as_many}
 use Rattle.vscsi_c.proofs.LiveHanded.{closed}

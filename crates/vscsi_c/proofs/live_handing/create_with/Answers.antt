@@ -1,7 +1,8 @@
 use Rattle.std.proofs.Common.{◌≡◌, ◌^◌, true, length, refl, sym, ap, ◌∙◌, subst, arith, inl, inr}
 use Rattle.std.proofs.lemmas.List.{length-map}
 use Rattle.config.specs.Config.{is_config_for}
-use Rattle.world.specs.LiveWorld.{IsOpeningApart, IsOpeningOverApart, OpensForIn, OpensIn, BeginsIn}
+use Rattle.device_steps.specs.Opening.{IsOpeningApart}
+use Rattle.world.specs.LiveWorld.{IsOpeningOverApart, OpensForIn, OpensIn, BeginsIn}
 use Rattle.vscsi_c.specs.Calls.{Cause}
 use Rattle.vscsi_c.specs.Disks.{Lacks}
 use Rattle.vscsi_c.specs.Inner.Disks.{Fit}

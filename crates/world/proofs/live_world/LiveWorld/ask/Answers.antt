@@ -4,8 +4,8 @@ use Rattle.std.specs.Option.{IfSome}
 use Rattle.guest_mem.specs.Memory.{LiesIn}
 use Rattle.ring_core.specs.Writes.{Write}
 use Rattle.device_model.specs.Events.{Event}
-use Rattle.world.specs.Apart.{FitsIn}
-use Rattle.world.specs.Asking.{asking_at}
+use Rattle.device_steps.specs.Apart.{FitsIn}
+use Rattle.device_steps.specs.Asking.{asking_at}
 use Rattle.world.specs.LiveWorld.{PlainLive, IsSteadyIn}
 use Rattle.world.proofs.Asked.{found, lies, asked_live, asked_live_promised}
 use Rattle.world.proofs.Lively.{fits_live, step_promised}

@@ -1,5 +1,5 @@
 use Rattle.std.proofs.Common.{false, [], refl, sym, ap, subst, arith}
-use Rattle.world.specs.Apart.{PlainDevice, standing}
+use Rattle.device_steps.specs.Apart.{PlainDevice, standing}
 use Rattle.world.specs.LiveWorld.{OpensForIn}
 use Rattle.world.proofs.AtOpening.{opens, opens_over, opens_over_steady, no_steps}
 use Rattle.world.proofs.live_world.LiveWorld.hand_in.Goals as goal

@@ -1,6 +1,6 @@
 use Rattle.std.specs.Prelude.{replicate}
 use Rattle.std.proofs.lemmas.List.{length-replicate}
-use Rattle.world.specs.Apart.{standing}
+use Rattle.device_steps.specs.Apart.{standing}
 use Rattle.world.proofs.Lively.{few_live}
 use Rattle.world.proofs.live_world.LiveWorld.has_parts.Goals as goal
 

@@ -1,6 +1,6 @@
 use Rattle.std.proofs.Common.{◌∙◌, refl, sym, subst}
-use Rattle.world.specs.Apart.{FitsIn, standing}
-use Rattle.world.specs.Settling.{asks}
+use Rattle.device_steps.specs.Apart.{FitsIn, standing}
+use Rattle.device_steps.specs.Settling.{asks}
 use Rattle.world.proofs.Lively.{fits_live, few_live}
 use Rattle.world.proofs.Rounds.{leaves_by}
 use Rattle.world.proofs.live_world.LiveWorld.has_step.Goals as goal

@@ -1,6 +1,6 @@
 use Rattle.std.proofs.Common.{◌≡◌, ◌∙◌, true, refl, sym, subst}
 use Rattle.config.specs.Config.{is_config_for}
-use Rattle.world.specs.Apart.{standing}
+use Rattle.device_steps.specs.Apart.{standing}
 use Rattle.world.proofs.AtOpening.{opens, opens_steady}
 use Rattle.world.proofs.live_world.LiveWorld.new.Goals as goal
 

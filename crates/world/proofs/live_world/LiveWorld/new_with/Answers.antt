@@ -1,7 +1,7 @@
 use Rattle.std.proofs.Common.{◌≡◌, true, sym, subst}
 use Rattle.config.specs.Config.{is_config_for}
-use Rattle.world.specs.LiveWorld.{IsOpeningApart}
-use Rattle.world.specs.Opening.{AreDisksFor}
+use Rattle.device_steps.specs.Opening.{IsOpeningApart}
+use Rattle.device_steps.specs.Opening.{AreDisksFor}
 use Rattle.world.proofs.live_world.LiveWorld.new_with.Goals as goal
 
 pub hand_in-requires : goal.hand_in-requires

@@ -4,7 +4,8 @@ use Rattle.world.specs.Steps.{events_of}
 use Rattle.world.specs.LiveWorld.{StepsEach, StepsLive}
 use Rattle.world.specs.Inner.LiveWorld.{StepRan, RanLive}
 use Rattle.device_model.specs.Events.{plain_event}
-use Rattle.world.proofs.Sequences.{bit, read_there, take_next, counts_one, counts_none}
+use Rattle.device_steps.proofs.Sequences.{read_there}
+use Rattle.world.proofs.Runs.{bit, take_next, counts_one, counts_none}
 use Rattle.world.proofs.Lively.{each_next, each_none, ran_step, ran_none, goes_on_live, all_refused, run_refused}
 use Rattle.world.proofs.live_world.LiveWorld.run.Goals.{then-branch, else-branch}
 use Rattle.world.proofs.live_world.LiveWorld.run.Goals as goal

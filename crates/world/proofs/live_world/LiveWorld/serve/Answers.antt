@@ -1,8 +1,8 @@
 use Rattle.std.proofs.Common.{◌∙◌, ◌+◌, refl, sym, subst, arith, true≢false}
 use Rattle.std.proofs.lemmas.Bool.Decides.{nat_tests}
-use Rattle.world.specs.Apart.{standing}
+use Rattle.device_steps.specs.Apart.{standing}
 use Rattle.world.specs.Inner.Rounds.{SettledLive}
-use Rattle.world.specs.Settling.{asks}
+use Rattle.device_steps.specs.Settling.{asks}
 use Rattle.world.proofs.Rounds.{rounds_none, rounds_next, settled_none, goes_on_served, looks_next, looks_none}
 use Rattle.world.proofs.live_world.LiveWorld.serve.Goals as goal
 

@@ -1,9 +1,9 @@
 use Rattle.std.proofs.Common.{◌≡◌, ◌≤◌, ℕ, List, length}
-use Rattle.world.specs.Apart.{standing}
-use Rattle.world.specs.Inner.Cursors.{NoneBefore}
+use Rattle.device_steps.specs.Apart.{standing}
+use Rattle.device_steps.specs.Inner.Cursors.{NoneBefore}
 use Rattle.world.specs.LiveServing.{ServesLiveBy}
 use Rattle.world.specs.Inner.Rounds.{SettledLive}
-use Rattle.world.specs.Settling.{asks}
+use Rattle.device_steps.specs.Settling.{asks}
 use Rattle.world.proofs.live_world.LiveWorld.serve.Given as goal
 
 abbrev pub invariant-loop-turn : goal.invariant-loop-turn

@@ -1,5 +1,5 @@
 use Rattle.std.proofs.Common.{inl, inr, arith}
-use Rattle.world.specs.Settling.{asks}
+use Rattle.device_steps.specs.Settling.{asks}
 use Rattle.world.proofs.Whole.{each_asked, looks_nothing}
 use Rattle.world.proofs.live_world.LiveWorld.settle.Goals as goal
 

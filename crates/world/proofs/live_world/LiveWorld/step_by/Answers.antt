@@ -1,6 +1,6 @@
 use Rattle.std.proofs.Common.{◌≡◌, ◌∙◌, ℕ, List, length, sym, subst}
 use Rattle.device_model.specs.Events.{plain_event}
-use Rattle.world.specs.Apart.{FitsIn}
+use Rattle.device_steps.specs.Apart.{FitsIn}
 use Rattle.world.proofs.Lively.{steady_live, sound_live, fits_live, few_live, step_ran}
 use Rattle.world.proofs.live_world.LiveWorld.step_by.Goals as goal
 

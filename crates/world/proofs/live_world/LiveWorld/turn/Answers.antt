@@ -1,6 +1,6 @@
 use Rattle.std.proofs.Common.{◌≡◌, ◌∙◌, ℕ, List, length, sym, subst}
-use Rattle.world.specs.Apart.{FitsIn}
-use Rattle.world.specs.Settling.{asks}
+use Rattle.device_steps.specs.Apart.{FitsIn}
+use Rattle.device_steps.specs.Settling.{asks}
 use Rattle.world.proofs.Lively.{sound_live, fits_live, few_live}
 use Rattle.world.proofs.Rounds.{before_same, steady_round, settle_round, turns_round}
 use Rattle.world.proofs.live_world.LiveWorld.turn.Goals as goal

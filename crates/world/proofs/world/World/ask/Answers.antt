@@ -2,8 +2,8 @@ use Rattle.std.proofs.Common.{◌≡◌, Ok, Some, false, length}
 use Rattle.guest_mem.specs.Memory.{LiesIn}
 use Rattle.ring_core.specs.Writes.{Write}
 use Rattle.device_model.specs.Events.{Event}
-use Rattle.world.specs.Apart.{standing}
-use Rattle.world.specs.Asking.{asking_at}
+use Rattle.device_steps.specs.Apart.{standing}
+use Rattle.device_steps.specs.Asking.{asking_at}
 use Rattle.world.proofs.Asked.{found, lies, made, asked, asked_promised}
 use Rattle.world.proofs.Promising.{steps_promised}
 use Rattle.world.proofs.Reaching.{steady_by, steps_by}

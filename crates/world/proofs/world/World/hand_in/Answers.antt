@@ -1,7 +1,7 @@
 use Rattle.std.proofs.Common.{false, refl, sym, ap, subst}
 use Rattle.config.specs.Config.{size_of}
-use Rattle.world.specs.Apart.{PlainDevice, standing}
-use Rattle.world.specs.Opening.{OpensFor}
+use Rattle.device_steps.specs.Apart.{PlainDevice, standing}
+use Rattle.device_steps.specs.Opening.{OpensFor}
 use Rattle.world.proofs.AtOpening.{opens, opens_over, opens_over_steady, no_steps, taken_own, long_own}
 use Rattle.world.proofs.world.World.hand_in.Goals as goal
 

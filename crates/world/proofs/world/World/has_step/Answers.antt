@@ -1,9 +1,9 @@
 use Rattle.std.proofs.Common.{List, ℕ, ◌∙◌, false, length, sym, subst}
 use Rattle.device_model.specs.Order.{IsQuietOf}
-use Rattle.world.specs.Apart.{standing, FitsIn}
-use Rattle.world.specs.Inner.Cursors.{Denies}
-use Rattle.world.specs.Settling.{asks}
-use Rattle.world.proofs.InMemory.{has_few}
+use Rattle.device_steps.specs.Apart.{standing, FitsIn}
+use Rattle.device_steps.specs.Inner.Cursors.{Denies}
+use Rattle.device_steps.specs.Settling.{asks}
+use Rattle.device_steps.proofs.InMemory.{has_few}
 use Rattle.world.proofs.world.World.has_step.Goals as goal
 
 pub has_step-has-requires : goal.has_step-has-requires

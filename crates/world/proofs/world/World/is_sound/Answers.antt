@@ -1,6 +1,6 @@
 use Rattle.std.proofs.Common.{false, subst}
-use Rattle.world.specs.Apart.{standing}
-use Rattle.world.specs.Inner.Sound.{IsSound}
+use Rattle.device_steps.specs.Apart.{standing}
+use Rattle.device_steps.specs.Inner.Sound.{IsSound}
 use Rattle.world.proofs.world.World.is_sound.Goals as goal
 
 pub returns-clause-sound : goal.returns-clause-sound

@@ -1,7 +1,7 @@
 use Rattle.std.proofs.Common.{◌≡◌, true, false, length, refl, sym, subst, ◌∙◌}
 use Rattle.config.specs.Config.{is_config, is_config_for, size_of}
-use Rattle.world.specs.Apart.{standing}
-use Rattle.world.specs.Opening.{IsOpening, IsOpeningFor}
+use Rattle.device_steps.specs.Apart.{standing}
+use Rattle.device_steps.specs.Opening.{IsOpening, IsOpeningFor}
 use Rattle.world.proofs.AtOpening.{opens, opens_steady, taken_own, long_own}
 use Rattle.world.proofs.world.World.new.Goals as goal
 

@@ -1,5 +1,5 @@
 use Rattle.std.proofs.Common.{subst}
-use Rattle.world.specs.Opening.{AreDisksFor}
+use Rattle.device_steps.specs.Opening.{AreDisksFor}
 use Rattle.world.proofs.world.World.new_with.Goals as goal
 
 pub hand_in-requires : goal.hand_in-requires

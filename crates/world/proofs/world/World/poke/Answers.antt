@@ -1,6 +1,6 @@
 use Rattle.std.proofs.Common.{Ok, false}
 use Rattle.device_model.specs.Events.{Event}
-use Rattle.world.specs.Apart.{standing}
+use Rattle.device_steps.specs.Apart.{standing}
 use Rattle.world.proofs.Promising.{steps_promised}
 use Rattle.world.proofs.Reaching.{steady_by, steps_by}
 use Rattle.world.proofs.world.World.poke.Goals as goal

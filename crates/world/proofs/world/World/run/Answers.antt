@@ -1,6 +1,7 @@
 use Rattle.std.proofs.Common.{◌+◌, take, refl, sym, subst, arith}
 use Rattle.world.specs.Steps.{IsRun}
-use Rattle.world.proofs.Sequences.{bit, read_there, take_next, run_on, counts_one, counts_none}
+use Rattle.device_steps.proofs.Sequences.{read_there}
+use Rattle.world.proofs.Runs.{bit, take_next, run_on, counts_one, counts_none}
 use Rattle.world.proofs.world.World.run.Goals.{then-branch, else-branch}
 use Rattle.world.proofs.world.World.run.Goals as goal
 

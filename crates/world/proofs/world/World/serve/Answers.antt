@@ -1,9 +1,9 @@
 use Rattle.std.proofs.Common.{false, sym, subst, arith, true≢false}
 use Rattle.std.proofs.lemmas.Bool.Decides.{nat_tests}
 use Rattle.device_model.specs.Order.{IsQuietOf}
-use Rattle.world.specs.Settling.{asks, ServesBy}
+use Rattle.device_steps.specs.Settling.{asks, ServesBy}
 use Rattle.world.proofs.Promising.{served}
-use Rattle.world.proofs.Sequences.{serves_more}
+use Rattle.device_steps.proofs.Sequences.{serves_more}
 use Rattle.world.proofs.Portions.{portion, refused}
 use Rattle.world.proofs.world.World.serve.Goals as goal
 

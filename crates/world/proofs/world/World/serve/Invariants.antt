@@ -1,6 +1,6 @@
 use Rattle.std.proofs.Common.{◌≤◌}
-use Rattle.world.specs.Settling.{asks, ServesBy}
-use Rattle.world.specs.Inner.Cursors.{NoneBefore}
+use Rattle.device_steps.specs.Settling.{asks, ServesBy}
+use Rattle.device_steps.specs.Inner.Cursors.{NoneBefore}
 use Rattle.world.proofs.world.World.serve.Given as goal
 
 abbrev pub invariant-loop-turn : goal.invariant-loop-turn

@@ -1,8 +1,8 @@
 use Rattle.std.proofs.Common.{false, sym, subst}
 use Rattle.device_model.specs.Events.{Event}
-use Rattle.world.specs.Apart.{standing}
-use Rattle.world.specs.Sound.{AreFew}
-use Rattle.world.specs.Inner.Sound.{IsSound}
+use Rattle.device_steps.specs.Apart.{standing}
+use Rattle.device_steps.specs.Sound.{AreFew}
+use Rattle.device_steps.specs.Inner.Sound.{IsSound}
 use Rattle.world.proofs.Reaching.{steady_by, steady_by_result, alone_steady, alone_steady_result, steps_by, steps_by_result, alone_steps, alone_steps_result}
 use Rattle.world.proofs.world.World.step_by.Goals as goal
 

@@ -1,10 +1,10 @@
 use Rattle.std.proofs.Common.{false, refl, sym, subst}
-use Rattle.world.specs.Apart.{standing}
-use Rattle.world.specs.Sound.{IsWhole}
-use Rattle.world.specs.Inner.Cursors.{NoneBefore}
-use Rattle.world.specs.Settling.{asks}
-use Rattle.world.proofs.InMemory.{sound_own, has_few}
-use Rattle.world.proofs.EachTurn.{next_own}
+use Rattle.device_steps.specs.Apart.{standing}
+use Rattle.device_steps.specs.Sound.{IsWhole}
+use Rattle.device_steps.specs.Inner.Cursors.{NoneBefore}
+use Rattle.device_steps.specs.Settling.{asks}
+use Rattle.device_steps.proofs.InMemory.{sound_own, has_few}
+use Rattle.world.proofs.OwnTurn.{next_own}
 use Rattle.world.proofs.Reaching.{steady_by_next}
 use Rattle.world.proofs.world.World.turn.Goals as goal
 

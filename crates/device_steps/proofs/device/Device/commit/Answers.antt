@@ -1,0 +1,47 @@
+use Rattle.std.proofs.Common.{◌≡◌, Some, sym, ap, refl, ◌∙◌, length, arith}
+use Rattle.device_model.specs.Events.{Event}
+use Rattle.phases.specs.Parts.{committing_unit}
+use Rattle.device_steps.specs.Kept.{KeptSeat}
+use Rattle.device_steps.specs.Apart.{standing}
+use Rattle.device_steps.specs.contracts.device.Device.{the_view}
+use Rattle.device_steps.specs.contracts.seat.Seat as seat
+use Rattle.device_steps.proofs.Setting.{turns_seen, sound_seen}
+use Rattle.device_steps.proofs.Seats.{keeps_unit, found, one_there, with_unit_and_seat}
+use Rattle.device_steps.proofs.Commit.{commits}
+use Rattle.device_steps.proofs.device.Device.commit.Goals as goal
+
+pub invariant_of-self : goal.invariant_of-self
+invariant_of-self c =
+    let d = c.self.inside in
+    let size : c.len.result ≡ length d.seats.items = omega (arith, d.seats.ok.0, c.len.ensures) in
+    let k = c.args.number in
+    let s : KeptSeat = seat.the_view c.behind-self-2.inside in
+    let at = found d.seats.items c.len.result k s c.index_mut-2.result.now size c.if-at-len.false
+    c.index_mut-2.ensures.value c.behind-self-2.view_is in
+    keeps_unit d.units.items d.seats.items k c.in-Some.place c.phase_commit.new.unit s _ at refl
+    c.self.invariant
+
+pub returns : goal.returns
+returns c shared m sound =
+    let d = c.self.inside in
+    let size : c.len.result ≡ length d.seats.items = omega (arith, d.seats.ok.0, c.len.ensures) in
+    let many : c.len-2.result ≡ length d.units.items = omega (arith, d.units.ok.0, c.len-2.ensures) in
+    let k = c.args.number in
+    let seen : KeptSeat = seat.the_view c.behind-self.inside in
+    let s : KeptSeat = seat.the_view c.behind-self-2.inside in
+    let at_seen = found d.seats.items c.len.result k seen c.index.result.now size c.if-at-len.false
+    c.index.ensures c.behind-self.view_is in
+    let at = found d.seats.items c.len.result k s c.index_mut-2.result.now size c.if-at-len.false
+    c.index_mut-2.ensures.value c.behind-self-2.view_is in
+    let there = found d.units.items c.len-2.result c.in-Some.place c.index_mut.result.now c.index_mut.result.now
+    many c.if-place-len.false c.index_mut.ensures.value refl in
+    let one = one_there d.seats.items k s seen at at_seen in
+    let unit : committing_unit s.hand ≡ Some c.in-Some.place =
+    ap (λ (z : KeptSeat). committing_unit z.hand) one ∙ sym c.in-Some.ensures in
+    let t : KeptSeat = seat.the_view (record { hand = c.phase_commit.new.hand; out = c.behind-self-2.inside.out }) in
+    let w = standing shared m (the_view d) in
+    let next = with_unit_and_seat w c.in-Some.place c.phase_commit.new.unit d.seats.items k t in
+    turns_seen shared m _ _ (Event.Commit k) c.phase_commit.result next c.self.view_is
+    (commits w d.seats.items k c.in-Some.place s.hand s.jobs s.limit c.index_mut.result.now
+    c.phase_commit.new.unit _ c.phase_commit.result (sound_seen shared m _ _ c.self.view_is sound) refl at unit
+    there c.phase_commit.ensures.commits)

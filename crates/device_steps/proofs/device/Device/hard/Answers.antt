@@ -1,0 +1,61 @@
+use Rattle.std.proofs.Common.{◌≡◌, ◌<◌, Bool, false, [], length, Some, Result, Err, refl, sym, ap, subst, ◌∙◌}
+use Rattle.std.specs.Prelude.{slice_get}
+use Rattle.std.proofs.lemmas.Option.{slice_get_read}
+use Rattle.foundation.specs.declared.NoMemory.{NoMemory}
+use Rattle.phases.specs.declared.resetting.ResetFault.{ResetFault}
+use Rattle.device_model.specs.Events.{Event}
+use Rattle.device_steps.specs.Inner.Steps.{TurnsOrWants}
+use Rattle.device_steps.specs.Apart.{standing}
+use Rattle.device_steps.specs.Kept.{KeptSeat}
+use Rattle.device_steps.specs.contracts.device.Device as seen
+use Rattle.device_steps.specs.contracts.seat.Seat as seat
+use Rattle.device_steps.proofs.Setting.{list_of, listing, unit_kept, sound_seen}
+use Rattle.device_steps.proofs.Resetting.{reset_limit, reset_as, reset_in, resets, has_operator}
+use Rattle.device_steps.proofs.device.Device.hard.Goals.{in-Ok, in-Err-WrongUnit, in-Err-NoMemory}
+use Rattle.device_steps.proofs.device.Device.hard.Goals as goal
+
+abbrev refused : ResetFault → Result Bool ResetFault
+refused x = Err x
+
+pub invariant_of-self : goal.invariant_of-self
+invariant_of-self c =
+    let d = c.self.inside in
+    let s = seat.the_view c.behind-self.inside in
+    let seated = rw (← c.self.view_is) at c.requires.seated in
+    let within : d.workers < length d.seats.items =
+    has_operator (standing false [] (seen.the_view d)) d.seats.items refl seated in
+    let s_at : slice_get d.seats.items d.workers ≡ Some s =
+    slice_get_read d.seats.items (length d.seats.items) d.workers c.index_mut-2.result.now refl within
+    c.index_mut-2.ensures.value ∙ ap (λ (z : KeptSeat). Some z) (sym c.behind-self.view_is) in
+    let out = c.phase_hard.new.out in
+    unit_kept d.units.items d.seats.items c.args.place c.phase_hard.new.unit d.workers s
+    (listing out s) c.self.invariant s_at
+    (reset_limit d.inventory c.args.place c.index_mut.result.now c.phase_hard.new.unit (list_of s) out d.waiting c.phase_hard.new.waiting
+    c.phase_hard.result c.phase_hard.ensures)
+
+pub returns : goal.returns
+returns c shared m sound few =
+    let d = c.self.inside in
+    let s = seat.the_view c.behind-self.inside in
+    let firm = sound_seen shared m _ _ c.self.view_is sound in
+    let within : d.workers < length d.seats.items =
+    has_operator (standing shared m (seen.the_view d)) d.seats.items refl firm.seated in
+    let s_at : slice_get d.seats.items d.workers ≡ Some s =
+    slice_get_read d.seats.items (length d.seats.items) d.workers c.index_mut-2.result.now refl within
+    c.index_mut-2.ensures.value ∙ ap (λ (z : KeptSeat). Some z) (sym c.behind-self.view_is) in
+    let u_at : slice_get d.units.items c.args.place ≡ Some c.index_mut.result.now =
+    slice_get_read d.units.items c.len.result c.args.place c.index_mut.result.now
+    (c.len.ensures ∙ d.units.ok.0) c.if-at-len.false c.index_mut.ensures.value in
+    let w = standing shared m (seen.the_view d) in
+    let same : reset_as c.phase_hard.result ≡ c.match-phase_hard.result =
+    elim c.match-phase_hard.branch [
+      | in-Ok z ↦ ap reset_as z.in-Ok.is ∙ sym z.result-is
+      | in-Err-WrongUnit z ↦ ap reset_as (z.in-Err-WrongUnit.is ∙ ap (λ x. refused x) z.in-Err-WrongUnit.field-0-is) ∙ sym z.result-is
+      | in-Err-NoMemory z ↦ ap reset_as (z.in-Err-NoMemory.is ∙ ap (λ x. refused x) z.in-Err-NoMemory.field-0-is) ∙ sym z.result-is
+    ] in
+    rw (← c.self.view_is)
+    (subst (λ (r : Result Bool NoMemory). TurnsOrWants w (Event.Hard c.args.place) r
+    (reset_in w d.seats.items c.args.place c.phase_hard.new.unit d.workers (listing c.phase_hard.new.out s) c.phase_hard.new.waiting)) same
+    (resets w d.seats.items refl firm.room firm.addressed (rw (← c.self.view_is) at few) c.self.invariant.limits c.args.place
+    c.index_mut.result.now c.phase_hard.new.unit s c.phase_hard.new.out c.phase_hard.new.waiting u_at s_at
+    c.phase_hard.result c.phase_hard.ensures))

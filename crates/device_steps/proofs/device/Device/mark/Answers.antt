@@ -1,0 +1,52 @@
+use Rattle.std.proofs.Common.{◌≡◌, ◌<◌, Some, refl, sym, ap, ◌∙◌, arith}
+use Rattle.std.specs.Prelude.{slice_get, length}
+use Rattle.std.proofs.lemmas.Option.{slice_get_read}
+use Rattle.device_model.specs.World.{Opened}
+use Rattle.device_model.specs.Events.{Event as PlainEvent}
+use Rattle.device_steps.specs.Apart.{standing}
+use Rattle.device_steps.specs.Kept.{KeptSeat}
+use Rattle.device_steps.specs.contracts.device.Device as seen
+use Rattle.device_steps.specs.contracts.seat.Seat as seat
+use Rattle.device_steps.proofs.Setting.{list_of, listing, unit_kept, turns_seen, sound_seen}
+use Rattle.device_steps.proofs.Placing.{some_there}
+use Rattle.device_steps.proofs.Marking.{limit_stays, marks}
+use Rattle.device_steps.proofs.device.Device.mark.Goals as goal
+
+pub invariant_of-self-2 : goal.invariant_of-self-2
+invariant_of-self-2 c =
+    let d = c.self.inside in
+    let f = c.in-Some.open in
+    let s = seat.the_view c.behind-self.inside in
+    let some : 0 < length d.seats.items =
+    omega (arith, some_there d.seats.len c.if-is_empty.ensures, d.seats.ok.0) in
+    let s_at : slice_get d.seats.items 0 ≡ Some s =
+    slice_get_read d.seats.items (length d.seats.items) 0 c.index_mut-2.result.now refl some
+    c.index_mut-2.ensures.value ∙ ap (λ (z : KeptSeat). Some z) (sym c.behind-self.view_is) in
+    let out = c.phase_mark.new.out in
+    unit_kept d.units.items d.seats.items c.in-Some-next_unit.place c.phase_mark.new.unit 0 s
+    (listing out s) c.self.invariant s_at
+    (limit_stays d.inventory f f.function.left c.index_mut.result.now (list_of s) c.phase_mark.result c.phase_mark.new.unit
+    c.phase_mark.new.opened out c.phase_mark.ensures)
+
+pub returns : goal.returns
+returns c shared m sound =
+    let firm = sound_seen shared m _ _ c.self.view_is sound in
+    let d = c.self.inside in
+    let f = c.in-Some.open in
+    let s = seat.the_view c.behind-self.inside in
+    let some : 0 < length d.seats.items =
+    omega (arith, some_there d.seats.len c.if-is_empty.ensures, d.seats.ok.0) in
+    let s_at : slice_get d.seats.items 0 ≡ Some s =
+    slice_get_read d.seats.items (length d.seats.items) 0 c.index_mut-2.result.now refl some
+    c.index_mut-2.ensures.value ∙ ap (λ (z : KeptSeat). Some z) (sym c.behind-self.view_is) in
+    let u_at : slice_get d.units.items c.in-Some-next_unit.place ≡ Some c.index_mut.result.now =
+    slice_get_read d.units.items c.len.result c.in-Some-next_unit.place c.index_mut.result.now
+    (c.len.ensures ∙ d.units.ok.0) c.if-place-len.false c.index_mut.ensures.value in
+    let first : slice_get f.function.left 0 ≡ Some c.in-Some-next_unit.place =
+    ap (λ (o : Opened). slice_get o.function.left 0) (sym c.open.view_is) ∙ sym c.next_unit.ensures
+    ∙ c.in-Some-next_unit.is in
+    turns_seen shared m _ _ PlainEvent.Mark c.phase_mark.result _ c.self.view_is
+    (marks (standing shared m (seen.the_view d)) d.seats.items refl firm.room firm.addressed
+    c.self.invariant.limits f c.in-Some.is c.in-Some-next_unit.place c.index_mut.result.now s u_at s_at
+    c.phase_mark.new.unit c.phase_mark.new.opened c.phase_mark.new.out f.function.left refl first
+    c.phase_mark.result c.phase_mark.ensures)

@@ -1,0 +1,15 @@
+use Rattle.device_model.specs.Events.{Event}
+use Rattle.std.proofs.Common.{false}
+use Rattle.device_steps.proofs.InMemory.{has_few, sound_own, turns_own}
+use Rattle.device_steps.proofs.device.Device.raise.Goals as goal
+
+pub raise_in-requires-clause-sound : goal.raise_in-requires-clause-sound
+raise_in-requires-clause-sound c = sound_own c.args.memory.now c.args.self.now c.requires.sound
+
+pub raise_in-requires-clause-few : goal.raise_in-requires-clause-few
+raise_in-requires-clause-few c = has_few false c.args.memory.now c.args.self.now c.requires.few
+
+pub returns-clause-turns : goal.returns-clause-turns
+returns-clause-turns c =
+    turns_own c.args.memory.now c.raise_in.new.memory c.args.self.now Event.Raise c.raise_in.result c.raise_in.new.self
+    c.raise_in.ensures.turns

@@ -1,0 +1,43 @@
+use Rattle.std.proofs.Common.{◌≡◌, length, refl, sym, subst, inl, inr}
+use Rattle.device_steps.specs.Apart.{PlainDevice, standing}
+use Rattle.device_model.specs.Order.{of_seat}
+use Rattle.device_model.specs.Events.{Event}
+use Rattle.device_steps.proofs.EachTurn.{alone_idle, alone_by, alone_taken}
+use Rattle.device_steps.proofs.Stages as stages
+use Rattle.device_steps.proofs.device.Device.turn_free.Goals as goal
+
+pub put-requires : goal.put-requires
+put-requires c = record { lists = c.requires.sound.1.1.room.lists }
+
+pub take-requires : goal.take-requires
+take-requires c =
+    let sound = c.requires.sound in
+    let p = alone_idle sound.0 sound.1.0 c.args.self.now c.args.self.now (Event.Put c.args.number) c.put.result c.put.new.self
+    c.if-put.false refl sound.1.1 c.put.ensures in
+    record {
+      lists = subst (λ (z : PlainDevice). length z.handed_off ≡ length z.seats) (sym p.0) sound.1.1.room.lists;
+    }
+
+pub returns-then-put : goal.returns-then-put
+returns-then-put c =
+    let d = c.args.self.now in
+    let k = c.args.number in
+    alone_taken (of_seat k) (Event.Put k) d d c.put.result c.put.new.self c.if-put.true refl tt
+    (λ shared m sound a.
+    let none = stages.free (standing shared m d) k c.requires.free in
+    inr (none.leave, inr (none.answer, inr (none.commit, inl (a, refl))))) c.put.ensures
+
+pub returns : goal.returns
+returns c =
+    let d = c.args.self.now in
+    let u = c.put.new.self in
+    let k = c.args.number in
+    let known = c.requires.sound in
+    let same = (alone_idle known.0 known.1.0 d d (Event.Put k) c.put.result u c.if-put.false refl known.1.1 c.put.ensures).0 in
+    alone_by (of_seat k) (Event.Take k) d u c.take.result c.take.new.self same tt
+    (λ shared m sound.
+    let none = stages.free (standing shared m d) k c.requires.free in
+    let p = (alone_idle shared m d d (Event.Put k) c.put.result u c.if-put.false refl sound c.put.ensures).1 in (
+      (λ a. inr (none.leave, inr (none.answer, inr (none.commit, inr (p, inl (a, refl)))))),
+      (λ never. (none.leave, (none.answer, (none.commit, (p, (never, tt)))))),
+    )) c.take.ensures

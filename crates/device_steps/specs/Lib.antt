@@ -1,0 +1,10 @@
+pub mod Kept
+pub mod Off
+pub mod Sound
+pub mod Apart
+pub mod Settling
+pub mod Serving
+pub mod Opening
+pub mod Asking
+pub mod Views
+pub mod Inner

@@ -1,0 +1,22 @@
+//! The device apart from its memory: its virtqueues, its units and its seats, and its steps in any memory.
+#![tactic(auto)]
+
+mod asking;
+mod bay;
+mod cursor;
+mod device;
+mod handed_off;
+mod opening;
+mod pending;
+mod seat;
+mod service;
+mod sound;
+mod steps;
+mod views;
+
+pub use bay::Bay;
+pub use cursor::{Cursor, Progress};
+pub use device::Device;
+pub use opening::{are_disks_for, open_device};
+pub use sound::all_are_sound;
+pub use steps::{poke, poke_in};

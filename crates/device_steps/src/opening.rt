@@ -1,0 +1,222 @@
+//! The opening of the device.
+
+ghost use Rattle.std.specs.Prelude.{◌≡◌, ◌≤◌, [], length, map, IfOk, IsFalse, IsTrue, true};
+ghost use Rattle.request_intake.specs.Inventory.{address_of};
+ghost use Rattle.std.specs.List.{list_all};
+ghost use Rattle.config.specs.Config.{is_config_for, is_queue};
+ghost use Rattle.ring_core.specs.State.{features_of};
+ghost use Rattle.device_model.specs.World.{Everywhere};
+ghost use Rattle.std.specs.Vec.{vec_capacity};
+ghost use Rattle.device_steps.specs.Opening.{IsOpeningApart, AreOpening, AreFresh, AreDisksOf, opening_unit, AreDisksFor, over_disks};
+ghost use Rattle.device_steps.specs.Inner.Opening.{AreSeats};
+
+use crate::bay::Bay;
+use crate::device::Device;
+use crate::handed_off::HandedOff;
+use crate::seat::Seat;
+use foundation::NoMemory;
+use block_store::{PagedStore, Store};
+use config::{Config, MOST_DESCRIPTORS, form, tells_changes};
+use event_queue::{EventPort, WaitingEvents};
+use guest_mem::Memory;
+use request_intake::{Inventory, UnitSpec};
+use ring_core::{Form, Layout};
+use std::alloc::Global;
+use task_set::MOST_TASKS;
+use unit_history::{JobList, UnitState};
+use virtqueue::Queue;
+
+/// Opens the queues of these layouts, for a driver that agreed to these features.
+fn open_bays<M: Memory>(
+    alloc: Global,
+    form: Form,
+    features: u64,
+    layouts: &[Layout],
+    memory: &M,
+) -> Result<Vec<Bay>, NoMemory>
+    requires few { length layouts.now ≤ 18 }
+    requires placed { list_all (is_queue form (M.extent memory.now)) layouts.now ≡ true }
+    ensures { IfOk result (λ bays. AreOpening form (M.extent memory.now) (features_of features) layouts.now bays.items) }
+{
+    let mut bays = Vec::new(alloc);
+    for number in 0..layouts.len() {
+        let queue = Queue::new(
+            alloc,
+            form,
+            number as u16,
+            layouts[number],
+            features,
+            memory,
+        )?;
+        if bays.push(Bay::new(queue)).is_err() {
+            return Err(NoMemory);
+        }
+    }
+    Ok(bays)
+}
+
+/// Makes a unit of an inventory, of which no step was taken. `NoMemory` where the list of its target's LUNs was
+/// refused memory.
+fn open_unit(alloc: Global, spec: &UnitSpec, inventory: &Inventory) -> Result<UnitState, NoMemory>
+    ensures { IfOk result (λ unit. unit ≡ opening_unit inventory.now spec.now) }
+{
+    let luns = inventory.luns_of(alloc, spec.target)?;
+    // No receipt outlives the answer of its chain, so no reply is kept to be compared.
+    UnitState::new(alloc, spec, luns.as_slice(), false)
+}
+
+/// Makes the units that are wanted, of which no step was taken.
+fn open_units(
+    alloc: Global,
+    wanted: &[UnitSpec],
+    inventory: &Inventory,
+) -> Result<Vec<UnitState>, NoMemory>
+    requires { inventory.now ≡ map address_of wanted.now }
+    ensures { IfOk result (λ units. AreFresh wanted.now units.items) }
+{
+    let mut units = Vec::new(alloc);
+    for number in 0..wanted.len() {
+        let unit = open_unit(alloc, &wanted[number], inventory)?;
+        if units.push(unit).is_err() {
+            return Err(NoMemory);
+        }
+    }
+    Ok(units)
+}
+
+/// Seats with nothing in hand, and room for so many jobs in each list.
+fn open_seats(alloc: Global, count: usize, limit: usize) -> Result<Vec<Seat>, NoMemory>
+    ensures { IfOk result (λ seats. AreSeats count limit seats.items) }
+{
+    let mut seats = Vec::new(alloc);
+    for _number in 0..count {
+        let out = JobList::with_limit(alloc, limit)?;
+        if seats.push(Seat::new(out)).is_err() {
+            return Err(NoMemory);
+        }
+    }
+    Ok(seats)
+}
+
+/// Makes the parts of the device of a configuration that is valid on this memory. A host calls it once for each device.
+/// `NoMemory` where a growth was refused.
+pub fn open_device<M: Memory>(
+    alloc: Global,
+    config: &Config,
+    memory: &M,
+) -> Result<Device, NoMemory>
+    requires taken { is_config_for (M.extent memory.now) config.now ≡ true }
+    ensures { IfOk result (λ d. IsOpeningApart (M.extent memory.now) config.now d) }
+{
+    let Some(form) = form(config.features) else {
+        unreachable!()
+    };
+    let bays = open_bays(
+        alloc,
+        form,
+        config.features,
+        config.queues.as_slice(),
+        memory,
+    )?;
+    let inventory = Inventory::new(config.units.as_slice());
+    let units = open_units(alloc, config.units.as_slice(), &inventory)?;
+    // The last seat is the operator's.
+    let seats = open_seats(
+        alloc,
+        config.workers as usize + 1,
+        MOST_TASKS * units.len() + MOST_TASKS,
+    )?;
+    let handed_off = HandedOff::new(alloc, seats.len(), config.handoff as usize)?;
+    // One place more than a queue may have chains outstanding, so that a full port keeps no fault from being found.
+    let Ok(port) = EventPort::new(alloc, MOST_DESCRIPTORS as usize + 1) else {
+        return Err(NoMemory);
+    };
+    Ok(Device {
+        inventory,
+        bays,
+        units,
+        seats,
+        workers: config.workers,
+        handed_off,
+        function: None,
+        port,
+        waiting: WaitingEvents::new(alloc),
+        tells_changes: tells_changes(config.features),
+    })
+}
+
+/// Returns true if there is a disk for each unit, of its capacity. A host calls it before it opens a device over disks.
+pub fn are_disks_for(wanted: &[UnitSpec], disks: &[PagedStore]) -> bool
+    ensures yes { IsTrue result → AreDisksFor wanted.now disks.now }
+    ensures no { IsFalse result → AreDisksFor wanted.now disks.now → ⊥ }
+{
+    if wanted.len() != disks.len() {
+        return false;
+    }
+    for number in 0..wanted.len() {
+        if disks[number].capacity() != wanted[number].blocks {
+            return false;
+        }
+    }
+    true
+}
+
+/// Gives each unit its disk, where no step of any was taken.
+pub(crate) fn hand_in(units: &mut Vec<UnitState>, disks: &mut Vec<PagedStore>)
+    requires fresh { Everywhere (λ k u. u.steps ≡ []) units.old.items }
+    requires enough { length disks.old.items ≤ length units.old.items }
+    ensures over { units.new.items ≡ over_disks units.old.items disks.old.items }
+    ensures none { disks.new.items ≡ [] }
+{
+    while let Some(disk) = disks.pop() {
+        units[disks.len()].hand_in(disk);
+    }
+}
+
+/// Returns the disks of units, as their histories left them, in an empty list that has room for them.
+pub(crate) fn disks_of(units: Vec<UnitState>, empty: Vec<PagedStore>) -> Vec<PagedStore>
+    requires empty { empty.items ≡ [] }
+    requires room { length units.items ≤ vec_capacity empty }
+    ensures { AreDisksOf units.items result.items }
+{
+    let mut disks = empty;
+    let mut units = units.into_iter();
+    while let Some(unit) = units.next() {
+        disks.push_reserved(unit.into_store());
+    }
+    disks
+}
+
+impl Device {
+    /// Gives each unit its disk, where no step of any was taken. A host calls it once, right behind the opening.
+    pub fn hand_in(&mut self, disks: &mut Vec<PagedStore>)
+        requires fresh { Everywhere (λ k u. u.steps ≡ []) self.old.units }
+        requires enough { length disks.old.items ≤ length self.old.units }
+        ensures over { self.new ≡ record self.old { units = over_disks self.old.units disks.old.items } }
+        ensures none { disks.new.items ≡ [] }
+    {
+        hand_in(&mut self.units, disks);
+    }
+
+    /// Returns an empty list that has room for its disks. A host calls it before it ends the device. `NoMemory` where the
+    /// list was refused memory.
+    pub fn room_for_disks(&self, alloc: Global) -> Result<Vec<PagedStore>, NoMemory>
+        ensures empty { IfOk result (λ disks. disks.items ≡ []) }
+        ensures room { IfOk result (λ disks. length self.now.units ≤ vec_capacity disks) }
+    {
+        match Vec::with_capacity(alloc, self.units.len()) {
+            Ok(empty) => Ok(empty),
+            Err(_) => Err(NoMemory),
+        }
+    }
+
+    /// Ends the device, and returns the disks of its units in an empty list that has room for them. A host calls it last.
+    pub fn into_disks(self, empty: Vec<PagedStore>) -> Vec<PagedStore>
+        requires empty { empty.items ≡ [] }
+        requires room { length self.units ≤ vec_capacity empty }
+        ensures { AreDisksOf self.units result.items }
+    {
+        let Device { units, .. } = self;
+        disks_of(units, empty)
+    }
+}

@@ -1,0 +1,457 @@
+//! The order in which a device serves what is there: the first event of it that applies, one after another. It doesn't
+//! look again at what a step can't have woken.
+
+ghost use Rattle.std.specs.Prelude.{◌≡◌, ◌≤◌, ◌<◌, ℕ, Bool, List, [], IsTrue, true, false, length};
+ghost use Rattle.device_model.specs.Order.{of_seat};
+ghost use Rattle.device_model.specs.Parts.{Hand};
+ghost use Rattle.device_model.specs.Found.{HasHand};
+ghost use Rattle.device_steps.specs.Inner.Cursors.{TurnsFirstIn, TurnsFirstAlone, of_function, TurnsNextIn, FetchesOn, MayServe, IsReadyIn};
+ghost use Rattle.device_steps.specs.Inner.Cursors.{AtEach, FindsIn, NoStart, NoDirect, NoSeat, NoneBefore, NoneBeforeFetch, NoFetchBelow};
+ghost use Rattle.device_steps.specs.Inner.Cursors.{EntersNext, FetchesNext, LeavesNext};
+ghost use Rattle.device_steps.specs.Settling.{asks, asks_all};
+ghost use Rattle.device_steps.specs.Apart.{standing, FitsIn};
+ghost use Rattle.device_steps.specs.Inner.Sound.{IsSound};
+
+use crate::cursor::{
+    AT_ONCE, Cursor, Progress, first_direct, first_enter, first_seat, is_fetch, is_start, one,
+    progress_of,
+};
+use crate::device::Device;
+use crate::seat::Stage;
+use crate::sound::all_are_sound;
+use crate::steps::owner;
+use foundation::NoMemory;
+use guest_mem::{Memory, WritableMemory};
+use phases::{Slot, Taken, serve_request_in, take_request_in};
+use scsi_codec::{CONTROL_QUEUE, EVENT_QUEUE, FIRST_REQUEST_QUEUE};
+
+/// Returns true if the bit of a queue is set.
+#[inline(always)]
+pub(crate) fn is_asked(queues: u32, number: u16) -> bool
+    requires { number < 32 }
+    ensures { result ≡ asks queues number }
+{
+    queues >> number & 1 == 1
+}
+
+impl Device {
+    /// Takes a step of the open function.
+    fn turn_function<M: WritableMemory>(&mut self, memory: &mut M) -> bool
+        requires ready { IsReadyIn (M.is_open memory.old) M.shared (M.may_be memory.old) (M.extent memory.old) self.old }
+        ensures turns { TurnsFirstIn M.shared (M.may_be memory.old) (M.may_be memory.new) of_function self.old result self.new }
+        ensures reading { M.is_open memory.new }
+        ensures size { M.extent memory.new ≡ M.extent memory.old }
+    {
+        if self.function.is_none() {
+            return false;
+        }
+        let answered = self.answer_tmf_in(memory);
+        let _bytes = memory.size();
+        if answered {
+            return true;
+        }
+        if self.check() {
+            return true;
+        }
+        self.mark()
+    }
+
+    /// Takes a step of a seat: which one is seen by its hand alone, unless that is empty.
+    fn turn_seat<M: WritableMemory>(&mut self, memory: &mut M, number: u16) -> bool
+        requires ready { IsReadyIn (M.is_open memory.old) M.shared (M.may_be memory.old) (M.extent memory.old) self.old }
+        ensures turns { TurnsFirstIn M.shared (M.may_be memory.old) (M.may_be memory.new) (of_seat number) self.old result
+            self.new }
+        ensures reading { M.is_open memory.new }
+        ensures size { M.extent memory.new ≡ M.extent memory.old }
+    {
+        let at = number as usize;
+        if at >= self.seats.len() {
+            return false;
+        }
+        match self.seats[at].stage() {
+            Stage::Answered => self.leave(number),
+            Stage::Done => {
+                let answered = self.answer_in(memory, number);
+                let _bytes = memory.size();
+                answered
+            }
+            Stage::Taken => self.commit(number),
+            Stage::Empty => self.turn_free(number),
+        }
+    }
+
+    /// Takes a step of a seat that has nothing in hand.
+    fn turn_free(&mut self, number: u16) -> bool
+        requires sound { (shared : Bool) × ((m : List ℕ) × IsSound (standing shared m self.old)) }
+        requires free { HasHand (standing false [] self.old) number Hand.Empty }
+        ensures { TurnsFirstAlone (of_seat number) self.old result self.new }
+    {
+        if self.put(number) {
+            return true;
+        }
+        self.take(number)
+    }
+
+    /// Takes the first event of the order that applies, from a place on. A host calls it in a phase that wrote nothing yet,
+    /// with a place before which nothing applies. Returns from where on to look then; `None` where none applies. `NoMemory`
+    /// where the first that applies was refused memory.
+    #[inline(always)]
+    pub fn turn<M: WritableMemory>(
+        &mut self,
+        memory: &mut M,
+        cursor: Cursor,
+        queues: u32,
+        most: u64,
+    ) -> Result<Option<Progress>, NoMemory>
+        requires most { 1 ≤ most }
+        requires ready { IsReadyIn (M.is_open memory.old) M.shared (M.may_be memory.old) (M.extent memory.old) self.old }
+        requires before { AtEach M.shared (M.may_be memory.old) (NoneBefore cursor) self.old }
+        ensures turns { TurnsNextIn M.shared M.may_be (asks queues) most memory.old self.old result memory.new self.new }
+        ensures reading { M.is_open memory.new }
+        ensures size { M.extent memory.new ≡ M.extent memory.old }
+    {
+        if is_fetch(cursor) {
+            return self.from_fetch(memory, queues, most);
+        }
+        self.from_start(memory, cursor, queues, most)
+    }
+
+    /// Does the same where more than the queues is to be looked at, apart so that requests served at once pass it by.
+    #[inline(never)]
+    fn from_start<M: WritableMemory>(
+        &mut self,
+        memory: &mut M,
+        cursor: Cursor,
+        queues: u32,
+        most: u64,
+    ) -> Result<Option<Progress>, NoMemory>
+        requires most { 1 ≤ most }
+        requires ready { IsReadyIn (M.is_open memory.old) M.shared (M.may_be memory.old) (M.extent memory.old) self.old }
+        requires before { AtEach M.shared (M.may_be memory.old) (NoneBefore cursor) self.old }
+        ensures turns { TurnsNextIn M.shared M.may_be (asks queues) most memory.old self.old result memory.new self.new }
+        ensures reading { M.is_open memory.new }
+        ensures size { M.extent memory.new ≡ M.extent memory.old }
+    {
+        if is_start(cursor) {
+            return self.from_function(memory, queues, most);
+        }
+        self.from_direct(memory, cursor, queues, most)
+    }
+
+    /// Goes on from the beginning: the function, and the events that wait.
+    #[inline(always)]
+    fn from_function<M: WritableMemory>(
+        &mut self,
+        memory: &mut M,
+        queues: u32,
+        most: u64,
+    ) -> Result<Option<Progress>, NoMemory>
+        requires most { 1 ≤ most }
+        requires ready { IsReadyIn (M.is_open memory.old) M.shared (M.may_be memory.old) (M.extent memory.old) self.old }
+        ensures turns { TurnsNextIn M.shared M.may_be (asks queues) most memory.old self.old result memory.new self.new }
+        ensures reading { M.is_open memory.new }
+        ensures size { M.extent memory.new ≡ M.extent memory.old }
+    {
+        let turned = self.turn_function(memory);
+        let _function = memory.size();
+        if turned {
+            return Ok(Some(one(Cursor::Start)));
+        }
+        let raised = self.raise_in(memory);
+        let _event = memory.size();
+        if raised {
+            return Ok(Some(one(Cursor::Start)));
+        }
+        self.from_direct(memory, Cursor::Start, queues, most)
+    }
+
+    /// Goes on from the answers that are ready, where the cursor isn't past them.
+    #[inline(always)]
+    fn from_direct<M: WritableMemory>(
+        &mut self,
+        memory: &mut M,
+        cursor: Cursor,
+        queues: u32,
+        most: u64,
+    ) -> Result<Option<Progress>, NoMemory>
+        requires most { 1 ≤ most }
+        requires ready { IsReadyIn (M.is_open memory.old) M.shared (M.may_be memory.old) (M.extent memory.old) self.old }
+        requires start { AtEach M.shared (M.may_be memory.old) NoStart self.old }
+        requires before { AtEach M.shared (M.may_be memory.old) (NoneBefore cursor) self.old }
+        ensures turns { TurnsNextIn M.shared M.may_be (asks queues) most memory.old self.old result memory.new self.new }
+        ensures reading { M.is_open memory.new }
+        ensures size { M.extent memory.new ≡ M.extent memory.old }
+    {
+        for number in first_direct(cursor, self.bays.len())..self.bays.len() {
+            let answered = self.direct_in(memory, number as u16);
+            let _bytes = memory.size();
+            if answered {
+                return Ok(Some(one(Cursor::Direct(number as u16))));
+            }
+        }
+        self.from_seats(memory, cursor, queues, most)
+    }
+
+    /// Goes on from the seats, where the cursor isn't past them.
+    #[inline(always)]
+    fn from_seats<M: WritableMemory>(
+        &mut self,
+        memory: &mut M,
+        cursor: Cursor,
+        queues: u32,
+        most: u64,
+    ) -> Result<Option<Progress>, NoMemory>
+        requires most { 1 ≤ most }
+        requires ready { IsReadyIn (M.is_open memory.old) M.shared (M.may_be memory.old) (M.extent memory.old) self.old }
+        requires start { AtEach M.shared (M.may_be memory.old) NoStart self.old }
+        requires direct { AtEach M.shared (M.may_be memory.old) NoDirect self.old }
+        requires before { AtEach M.shared (M.may_be memory.old) (NoneBefore cursor) self.old }
+        ensures turns { TurnsNextIn M.shared M.may_be (asks queues) most memory.old self.old result memory.new self.new }
+        ensures reading { M.is_open memory.new }
+        ensures size { M.extent memory.new ≡ M.extent memory.old }
+    {
+        for number in first_seat(cursor, self.seats.len())..self.seats.len() {
+            let turned = self.turn_seat(memory, number as u16);
+            let _bytes = memory.size();
+            if turned {
+                return Ok(Some(one(self.after_seat())));
+            }
+        }
+        self.from_enter(memory, cursor, queues, most)
+    }
+
+    /// Goes on from the requests that arrived, where the cursor isn't past them.
+    #[inline(always)]
+    fn from_enter<M: WritableMemory>(
+        &mut self,
+        memory: &mut M,
+        cursor: Cursor,
+        queues: u32,
+        most: u64,
+    ) -> Result<Option<Progress>, NoMemory>
+        requires most { 1 ≤ most }
+        requires ready { IsReadyIn (M.is_open memory.old) M.shared (M.may_be memory.old) (M.extent memory.old) self.old }
+        requires start { AtEach M.shared (M.may_be memory.old) NoStart self.old }
+        requires direct { AtEach M.shared (M.may_be memory.old) NoDirect self.old }
+        requires seat { AtEach M.shared (M.may_be memory.old) NoSeat self.old }
+        requires before { AtEach M.shared (M.may_be memory.old) (NoneBefore cursor) self.old }
+        ensures turns { TurnsNextIn M.shared M.may_be (asks queues) most memory.old self.old result memory.new self.new }
+        ensures reading { M.is_open memory.new }
+        ensures size { M.extent memory.new ≡ M.extent memory.old }
+    {
+        for number in first_enter(cursor, self.bays.len())..self.bays.len() {
+            if self.enter(number as u16) {
+                return Ok(Some(one(self.after_enter(number as u16))));
+            }
+        }
+        self.from_fetch(memory, queues, most)
+    }
+
+    /// Looks for a chain on the queues that are asked, by rising number.
+    #[inline(always)]
+    fn from_fetch<M: WritableMemory>(
+        &mut self,
+        memory: &mut M,
+        queues: u32,
+        most: u64,
+    ) -> Result<Option<Progress>, NoMemory>
+        requires most { 1 ≤ most }
+        requires ready { IsReadyIn (M.is_open memory.old) M.shared (M.may_be memory.old) (M.extent memory.old) self.old }
+        requires before { AtEach M.shared (M.may_be memory.old) NoneBeforeFetch self.old }
+        ensures turns { TurnsNextIn M.shared M.may_be (asks queues) most memory.old self.old result memory.new self.new }
+        ensures reading { M.is_open memory.new }
+        ensures size { M.extent memory.new ≡ M.extent memory.old }
+    {
+        let first = self.first_fetch(memory);
+        let _looked = memory.size();
+        for number in first..self.bays.len() {
+            match self.serve_queue(memory, number as u16, queues, most) {
+                Ok(None) => {
+                    let _bytes = memory.size();
+                }
+                Ok(Some(served)) => return Ok(Some(served)),
+                Err(NoMemory) => return Err(NoMemory),
+            }
+        }
+        Ok(None)
+    }
+
+    /// Returns the first queue that may have a chain, as far as the control queue and the event queue tell.
+    #[inline(always)]
+    fn first_fetch<M: WritableMemory>(&self, memory: &mut M) -> usize
+        requires reading { M.is_open memory.old }
+        requires fits { FitsIn (M.extent memory.old) self.now }
+        ensures below { FindsIn M.shared (M.may_be memory.old) (M.may_be memory.new) (NoFetchBelow asks_all result) self.now }
+        ensures reading { M.is_open memory.new }
+        ensures size { M.extent memory.new ≡ M.extent memory.old }
+    {
+        if self.bays.len() >= 2
+            && self.is_idle_in(memory, CONTROL_QUEUE)
+            && self.is_idle_in(memory, EVENT_QUEUE)
+        {
+            FIRST_REQUEST_QUEUE as usize
+        } else {
+            0
+        }
+    }
+
+    /// Takes a queue's next chain, where the queue is asked and no event before it applies, and does at once what may
+    /// be done of it.
+    #[inline(always)]
+    fn serve_queue<M: WritableMemory>(
+        &mut self,
+        memory: &mut M,
+        number: u16,
+        queues: u32,
+        most: u64,
+    ) -> Result<Option<Progress>, NoMemory>
+        requires most { 1 ≤ most }
+        requires ready { IsReadyIn (M.is_open memory.old) M.shared (M.may_be memory.old) (M.extent memory.old) self.old }
+        requires before { AtEach M.shared (M.may_be memory.old) NoneBeforeFetch self.old }
+        requires below { AtEach M.shared (M.may_be memory.old) (NoFetchBelow (asks queues) number) self.old }
+        requires there { number < length self.old.queues }
+        ensures turns { FetchesOn M.shared M.may_be (asks queues) most number memory.old self.old result memory.new self.new }
+        ensures reading { M.is_open memory.new }
+        ensures size { M.extent memory.new ≡ M.extent memory.old }
+    {
+        if !is_asked(queues, number) {
+            return Ok(None);
+        }
+        let idle = self.is_idle_in(memory, number);
+        let _bytes = memory.size();
+        if idle {
+            return Ok(None);
+        }
+        self.serve_next(memory, number, queues, most)
+    }
+
+    /// Takes the next chain of a queue that is asked, and does at once what may be done of it.
+    // Apart, so that a look at a silent queue costs no call.
+    #[inline(never)]
+    fn serve_next<M: WritableMemory>(
+        &mut self,
+        memory: &mut M,
+        number: u16,
+        queues: u32,
+        most: u64,
+    ) -> Result<Option<Progress>, NoMemory>
+        requires most { 1 ≤ most }
+        requires ready { IsReadyIn (M.is_open memory.old) M.shared (M.may_be memory.old) (M.extent memory.old) self.old }
+        requires before { AtEach M.shared (M.may_be memory.old) NoneBeforeFetch self.old }
+        requires below { AtEach M.shared (M.may_be memory.old) (NoFetchBelow (asks queues) number) self.old }
+        requires there { number < length self.old.queues }
+        requires asked { asks queues number ≡ true }
+        ensures turns { FetchesOn M.shared M.may_be (asks queues) most number memory.old self.old result memory.new self.new }
+        ensures reading { M.is_open memory.new }
+        ensures size { M.extent memory.new ≡ M.extent memory.old }
+    {
+        if most >= AT_ONCE && self.serves_at_once(number) {
+            return self.serve(memory, number, queues, most);
+        }
+        let fetched = self.fetch_in(memory, number);
+        let _bytes = memory.size();
+        match fetched {
+            Ok(false) => Ok(None),
+            Ok(true) => Ok(Some(one(self.after_fetch(number)))),
+            Err(NoMemory) => Err(NoMemory),
+        }
+    }
+
+    /// Returns true if a request of a queue is served by the first seat and nothing stands between.
+    fn serves_at_once(&self, number: u16) -> bool
+        requires working { 1 ≤ self.now.workers }
+        ensures { (shared : Bool) (m : List ℕ) → IsTrue result → MayServe number (standing shared m self.now) }
+    {
+        let at = number as usize;
+        number >= 2
+            && at < self.bays.len()
+            && self.function.is_none()
+            && owner(self.workers, number) == 0
+            && !self.seats.is_empty()
+            && self.seats[0].is_idle()
+            && self.handed_off.is_bare(0)
+            && self.handed_off.limit() > 0
+    }
+
+    /// Takes a request queue's next chain, and serves its request to the end, if nothing blocks it.
+    #[inline(always)]
+    fn serve<M: WritableMemory>(
+        &mut self,
+        memory: &mut M,
+        number: u16,
+        queues: u32,
+        most: u64,
+    ) -> Result<Option<Progress>, NoMemory>
+        requires most { AT_ONCE ≤ most }
+        requires ready { IsReadyIn (M.is_open memory.old) M.shared (M.may_be memory.old) (M.extent memory.old) self.old }
+        requires before { AtEach M.shared (M.may_be memory.old) NoneBeforeFetch self.old }
+        requires below { AtEach M.shared (M.may_be memory.old) (NoFetchBelow (asks queues) number) self.old }
+        requires asked { asks queues number ≡ true }
+        requires at_once { AtEach M.shared (M.may_be memory.old) (MayServe number) self.old }
+        ensures turns { FetchesOn M.shared M.may_be (asks queues) most number memory.old self.old result memory.new self.new }
+        ensures reading { M.is_open memory.new }
+        ensures size { M.extent memory.new ≡ M.extent memory.old }
+    {
+        all_are_sound();
+        let bay = &mut self.bays[number as usize];
+        let taken = take_request_in(&mut bay.queue, &mut bay.slot, memory, &self.inventory);
+        let _read = memory.size();
+        match taken {
+            Err(NoMemory) => Err(NoMemory),
+            Ok(Taken::Nothing) => Ok(None),
+            Ok(Taken::Other) => Ok(Some(one(Cursor::Start))),
+            Ok(Taken::Arrived(arrival)) => {
+                let place = arrival.unit();
+                if place >= self.units.len() {
+                    bay.slot = Slot::Arrived(arrival);
+                    return Ok(Some(one(Cursor::Start)));
+                }
+                let done = serve_request_in(
+                    &mut self.units[place],
+                    &mut bay.queue,
+                    memory,
+                    &mut bay.slot,
+                    arrival,
+                    &mut self.seats[0].out,
+                );
+                let _bytes = memory.size();
+                Ok(Some(progress_of(done, self.seats[0].out.len())))
+            }
+        }
+    }
+
+    /// Returns where to look once a seat took a step: a function may find its mark clear.
+    fn after_seat(&self) -> Cursor
+        ensures { (shared : Bool) (m : List ℕ) → LeavesNext (standing shared m self.now) result }
+    {
+        if self.function.is_some() {
+            Cursor::Start
+        } else {
+            Cursor::Seats
+        }
+    }
+
+    /// Returns where to look once a request came to its unit: it may be answered at once.
+    fn after_enter(&self, number: u16) -> Cursor
+        ensures { (shared : Bool) (m : List ℕ) → EntersNext number (standing shared m self.now) result }
+    {
+        let at = number as usize;
+        if at < self.bays.len() && self.bays[at].slot.is_empty() {
+            Cursor::Seats
+        } else {
+            Cursor::Start
+        }
+    }
+
+    /// Returns where to look once a queue took a chain: a request comes to its unit next.
+    fn after_fetch(&self, number: u16) -> Cursor
+        ensures { (shared : Bool) (m : List ℕ) → FetchesNext number (standing shared m self.now) result }
+    {
+        let at = number as usize;
+        if at < self.bays.len() && self.function.is_none() && self.bays[at].slot.unit().is_some() {
+            Cursor::Enter(number)
+        } else {
+            Cursor::Start
+        }
+    }
+}
