@@ -4,7 +4,7 @@
 //     long_buffers RING COUNT    RING is split or packed, COUNT at most 1,024; prints how many were held, and then used
 //     long_buffers               the same with four buffers on each ring
 //
-// tools/measure_memory compares how much memory few and many take. The status is 1 where a buffer wasn't held or used, 2 where
+// tools/measure/memory compares how much memory few and many take. The status is 1 where a buffer wasn't held or used, 2 where
 // the words name no work, 3 for want of memory.
 #include <stdio.h>
 #include <stdlib.h>

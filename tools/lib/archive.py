@@ -26,7 +26,7 @@ def name():
 
 def library():
     """Returns the tool that builds and installs the library."""
-    return SourceFileLoader("c_library", str(ROOT / "tools/c_library")).load_module()
+    return SourceFileLoader("c_library", str(ROOT / "tools/build/c_library")).load_module()
 
 
 def is_program(path):

@@ -1,4 +1,4 @@
-"""The benchmark in C: examples/c/bench.c, over the library that `tools/c_library` left in a folder: out/c. And what it is held
+"""The benchmark in C: examples/c/bench.c, over the library that `tools/build/c_library` left in a folder: out/c. And what it is held
 against: the same guest over examples/c/floor.c."""
 
 import subprocess
@@ -24,7 +24,7 @@ def built(folder=FOLDER, guest="bench"):
     """The benchmark, or another guest, over the library."""
     archive = folder / "libvscsi.a"
     if not archive.exists():
-        sys.exit(f"there is no {archive}: tools/c_library builds it")
+        sys.exit(f"there is no {archive}: tools/build/c_library builds it")
     return compiled(folder, guest, archive, guest=guest)
 
 

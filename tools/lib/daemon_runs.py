@@ -1,4 +1,4 @@
-"""Tests the daemon as its operator meets it: its words, its socket, its images, its log, its limits. Part of tools/daemon_tests.
+"""Tests the daemon as its operator meets it: its words, its socket, its images, its log, its limits. Part of tools/test/daemon.
 
 Each test is a function of a Room: the program, an empty folder, and what else the machine has. A test ends with an AssertionError
 where something isn't so.
@@ -884,7 +884,7 @@ def test_serves_within_its_limits(room):
 
 
 def test_hardened(room):
-    """The program that users run is built as tools/daemon says."""
+    """The program that users run is built as tools/build/daemon says."""
     if not room.shim or not shutil.which("readelf"):
         return "needs readelf, and a program without sanitizers"
     told = subprocess.run(["readelf", "-hldW", "--syms", room.program], capture_output=True, text=True, check=True).stdout

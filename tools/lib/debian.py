@@ -16,7 +16,7 @@ import stamp
 import versions
 
 ROOT = archive.ROOT
-SOURCES = ROOT / "tools/debian"
+SOURCES = ROOT / "tools/lib/debian_files"
 
 # The folder of libraries for this processor.
 LIBRARIES = "usr/lib/x86_64-linux-gnu"
