@@ -1,4 +1,10 @@
 //! The device apart from its memory: its virtqueues, its units and its seats, and its steps in any memory.
+//!
+//! # Proved
+//!
+//! An event is taken exactly where it applies, and does what the model's event does, for every list of bytes that the
+//! memory may be. A turn takes the first event that applies. `World` and `LiveWorld` are made of these steps, and
+//! crate `world` says what is promised of them.
 #![tactic(auto)]
 
 mod asking;
