@@ -2,14 +2,14 @@
 
 use crate::placement::check_layout;
 use crate::slots::{
-    descriptor_at, flags_of_used, is_available, names_one, number_at, passed_at, place_of,
-    put_used, slot_after, wrap_at,
+    descriptor_at, flags_of_used, index_at, is_available, names_one, number_at, passed_at,
+    place_of, put_used, slot_after, wrap_at,
 };
 use crate::walk::{Candidate, fault_without_room, walk};
 use guest_mem::{Memory, WritableMemory};
 use ring_core::{
     Asking, Chain, Completion, Draft, FIRST_BYTES, Features, Fetched, Layout, LayoutFault, Notify,
-    QueueLog, Ring, RingBase, RingFault, Ticket, gather,
+    Position, QueueLog, Ring, RingBase, RingFault, Ticket, gather,
 };
 use std::alloc::Global;
 use std::marker::Model;
@@ -313,6 +313,14 @@ impl Ring for PackedRing {
         let slot = self.wanted_slot(notify);
         let flags = self.suppression_flags(notify);
         Some(Asking::two(self.base.layout().device, slot, flags))
+    }
+
+    fn position(&self) -> Position {
+        let size = self.base.layout().size;
+        Position {
+            available: index_at(size, self.available_place()),
+            used: index_at(size, self.used_place()),
+        }
     }
 
     fn log(&self) -> &QueueLog {

@@ -4,7 +4,7 @@ ghost use Rattle.std.specs.Prelude.{◌≡◌, ◌+◌, ◌*◌, ◌%◌, ◌<�
 ghost use Rattle.guest_mem.specs.Memory.{bytes_at, with_bytes};
 ghost use Rattle.guest_mem.specs.Stores.{stores_at};
 ghost use Rattle.byteorder.specs.Endian.{little_number, little_bytes};
-ghost use Rattle.ring_core.specs.Packed.{slot_at, packed_descriptor, passed_at as passed_at_index, names_one as names_one_of, wrap_counter, avail_bit, used_bit, used_flags};
+ghost use Rattle.ring_core.specs.Packed.{slot_at, packed_descriptor, passed_at as passed_at_index, index_at as index_after, names_one as names_one_of, wrap_counter, avail_bit, used_bit, used_flags};
 
 use byteorder::{ByteOrder, LittleEndian};
 use guest_mem::{Memory, WritableMemory};
@@ -88,6 +88,17 @@ pub(crate) fn wrap_at(size: u16, passed: u128) -> bool
         passed as u64 / size as u64 % 2 == 0
     } else {
         passed / size as u128 % 2 == 0
+    }
+}
+
+/// Returns the index that is reached once so many slots were passed.
+pub(crate) fn index_at(size: u16, passed: u128) -> RingIndex
+    requires { 0 < size }
+    ensures { result ≡ index_after size passed }
+{
+    RingIndex {
+        index: slot_after(passed, size),
+        wrap: wrap_at(size, passed),
     }
 }
 

@@ -13,6 +13,7 @@ pub mod Narrowing
 pub mod RightChains
 pub mod ChainProperties
 pub mod Cases
+pub mod GoingOn
 pub mod Notifying
 pub mod Walking
 pub mod InStores

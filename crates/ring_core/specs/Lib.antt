@@ -8,6 +8,7 @@ pub mod Split
 pub mod Packed
 pub mod Offer
 pub mod Asking
+pub mod Position
 pub mod Fetch
 pub mod RightChain
 pub mod Cases

@@ -9,6 +9,7 @@ ghost use Rattle.ring_core.specs.declared.descriptor.Part.{Part};
 ghost use Rattle.ring_core.specs.declared.layout.Form.TheVariants.{Split};
 
 mod cases;
+mod going_on;
 mod notifying;
 mod properties;
 mod scattering;
@@ -19,6 +20,7 @@ pub use cases::{
     one_of_four_chains_is_named, packed_rings_go_on_at_an_index, the_index_counts_round,
     three_linked_descriptors_are_a_chain,
 };
+pub use going_on::a_queue_goes_on_at_its_position;
 pub use notifying::{packed_drivers_do_as_asked, split_drivers_do_as_asked};
 pub use properties::{packed_chains_by_properties, split_chains_by_properties};
 pub use scattering::{

@@ -48,6 +48,15 @@ pub struct Layout {
     pub first_used: RingIndex,
 }
 
+/// The place where a queue goes on: by these first indices of its layout another device goes on where this one is.
+#[derive(Clone, Copy, Debug, PartialEq, Eq)]
+pub struct Position {
+    /// The index of the next entry or slot that the device takes.
+    pub available: RingIndex,
+    /// The index of the next element or slot into which it writes a used chain.
+    pub used: RingIndex,
+}
+
 impl Layout {
     /// Makes the layout of a queue that no device served before.
     pub fn fresh(size: u16, desc: u64, driver: u64, device: u64) -> Layout

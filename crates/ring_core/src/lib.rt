@@ -38,15 +38,15 @@ pub use chain::{Chain, Draft, Fetched};
 pub use descriptor::{Descriptor, DescriptorFlags, Part};
 pub use fault::RingFault;
 pub use laws::{
-    a_loop_is_too_long, as_many_as_the_size_are_no_jump, chains_are_right,
-    descriptors_are_read_as_written, fresh_rings_begin_at_0, one_descriptor_is_a_chain,
-    one_notice_of_a_split_queue, one_of_four_chains_is_named, one_offer,
+    a_loop_is_too_long, a_queue_goes_on_at_its_position, as_many_as_the_size_are_no_jump,
+    chains_are_right, descriptors_are_read_as_written, fresh_rings_begin_at_0,
+    one_descriptor_is_a_chain, one_notice_of_a_split_queue, one_of_four_chains_is_named, one_offer,
     packed_chains_by_properties, packed_drivers_do_as_asked, packed_rings_go_on_at_an_index,
     queues_stay_sound, scatter_in_two, scattering_keeps_the_size, scattering_nothing, some_offer,
     split_chains_by_properties, split_drivers_do_as_asked, the_index_counts_round,
     three_linked_descriptors_are_a_chain, writes_in_order,
 };
-pub use layout::{FIRST_INDEX, Features, Form, Layout, LayoutFault, RingIndex};
+pub use layout::{FIRST_INDEX, Features, Form, Layout, LayoutFault, Position, RingIndex};
 pub use log::{QueueLog, Ticket};
 pub use outstanding::OutstandingChain;
 pub use ring::Ring;

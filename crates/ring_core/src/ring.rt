@@ -7,12 +7,14 @@ ghost use Rattle.ring_core.specs.Sound.{IsSound, IsLeastOutstanding, outstanding
 ghost use Rattle.ring_core.specs.Writes.{Wrote, stores_of};
 ghost use Rattle.ring_core.specs.Offer.{Offers, Nothing, used_writes, wants_notice};
 ghost use Rattle.ring_core.specs.Asking.{asking};
+ghost use Rattle.ring_core.specs.Position.{position};
 ghost use Rattle.ring_core.specs.Fetch.{Fetches};
 
 use crate::answered::{Answered, Completion};
 use crate::asking::{Asking, Notify};
 use crate::chain::{Chain, Fetched};
 use crate::fault::RingFault;
+use crate::layout::Position;
 use crate::log::{QueueLog, Ticket};
 use guest_mem::{Memory, WritableMemory};
 
@@ -100,6 +102,11 @@ pub trait Ring {
     fn asking(&self, notify: Notify) -> Option<Asking>
         ensures asks { result ≡ asking (state self.now) notify }
         ensures inside { IfSome result (λ a. a.addr + length a.bytes ≤ (state self.now).memory) };
+
+    /// Returns where the queue goes on. Once no chain is outstanding, a device that opens it there goes on where this one
+    /// is; of a chain that is outstanding it wouldn't know.
+    fn position(&self) -> Position
+        ensures { result ≡ position (state self.now) };
 
     /// Returns which chains were accepted, and which were used. The queue's counts and its outstanding chains agree
     /// with it. No more chains are outstanding than the queue has descriptors (VIRTIO 1.2, 2.7 and 2.8).

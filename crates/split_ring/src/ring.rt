@@ -6,7 +6,7 @@ use crate::walk::{fault_without_room, walk};
 use guest_mem::{Memory, WritableMemory};
 use ring_core::{
     Asking, Chain, Completion, Draft, FIRST_BYTES, Features, Fetched, Layout, LayoutFault, Notify,
-    QueueLog, Ring, RingBase, RingFault, Ticket, gather,
+    Position, QueueLog, Ring, RingBase, RingFault, RingIndex, Ticket, gather,
 };
 use std::alloc::Global;
 use std::marker::Model;
@@ -303,6 +303,19 @@ impl Ring for SplitRing {
             Notify::Never => NO_NOTIFY,
         };
         Some(Asking::one(layout.device, flags))
+    }
+
+    fn position(&self) -> Position {
+        Position {
+            available: RingIndex {
+                index: self.available_index(),
+                wrap: true,
+            },
+            used: RingIndex {
+                index: self.used_index_after(self.base.log().used()),
+                wrap: true,
+            },
+        }
     }
 
     fn log(&self) -> &QueueLog {

@@ -1,6 +1,7 @@
 pub use Rattle.ring_core.specs.Fetch
 pub use Rattle.ring_core.specs.Offer
 pub use Rattle.ring_core.specs.Asking
+pub use Rattle.ring_core.specs.Position
 pub use Rattle.ring_core.specs.Parts
 pub use Rattle.ring_core.specs.State
 pub mod AnyRing

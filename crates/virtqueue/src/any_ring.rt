@@ -2,7 +2,9 @@
 
 use guest_mem::{Memory, WritableMemory};
 use packed_ring::PackedRing;
-use ring_core::{Asking, Chain, Completion, Fetched, Notify, QueueLog, Ring, RingFault, Ticket};
+use ring_core::{
+    Asking, Chain, Completion, Fetched, Notify, Position, QueueLog, Ring, RingFault, Ticket,
+};
 use split_ring::SplitRing;
 
 /// A virtqueue of either form.
@@ -60,6 +62,13 @@ impl Ring for AnyRing {
         match self {
             AnyRing::Split(ring) => ring.asking(notify),
             AnyRing::Packed(ring) => ring.asking(notify),
+        }
+    }
+
+    fn position(&self) -> Position {
+        match self {
+            AnyRing::Split(ring) => ring.position(),
+            AnyRing::Packed(ring) => ring.position(),
         }
     }
 

@@ -10,7 +10,8 @@ use foundation::NoMemory;
 use guest_mem::{GuestMem, Memory, StillMem, WritableMemory};
 use packed_ring::PackedRing;
 use ring_core::{
-    Answered, Asking, Chain, Fetched, Form, Layout, LayoutFault, Notify, QueueLog, Ring, RingFault,
+    Answered, Asking, Chain, Fetched, Form, Layout, LayoutFault, Notify, Position, QueueLog, Ring,
+    RingFault,
 };
 use split_ring::SplitRing;
 use std::alloc::Global;
@@ -135,6 +136,7 @@ impl Queue {
     ghost use Rattle.ring_core.specs.Writes.{Wrote, all_written, stores_of};
     ghost use Rattle.ring_core.specs.Offer.{used_writes};
     ghost use Rattle.ring_core.specs.Asking.{asking};
+    ghost use Rattle.ring_core.specs.Position.{position};
     ghost use Rattle.virtqueue.specs.Looking.{IsIdle, Looks};
     ghost use Rattle.virtqueue.specs.Completing.{SeenBehind};
 
@@ -310,6 +312,14 @@ impl Queue {
         ensures inside { IfSome result (λ a. a.addr + length a.bytes ≤ self.now.ring.memory) }
     {
         self.ring.asking(notify)
+    }
+
+    /// Returns where it goes on: by these first indices of its layout another device goes on where this one is. Asked once
+    /// no chain is outstanding; of one that is the other wouldn't know.
+    pub fn position(&self) -> Position
+        ensures { result ≡ position self.now.ring }
+    {
+        self.ring.position()
     }
 
     /// Returns how many notices were wanted.
