@@ -21,10 +21,10 @@ use crate::inquiry::inquiry;
 use crate::luns::{listed_luns, lun_list};
 use crate::transfer::{read, synchronize, write, write_same};
 use crate::unmap::unmap;
-use foundation::NoMemory;
 use block_store::Store;
 use cdb::{Command, need};
 use command_model::Reply;
+use foundation::NoMemory;
 use sense::Sense;
 use std::alloc::Global;
 

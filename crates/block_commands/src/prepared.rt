@@ -19,10 +19,10 @@ use crate::attention::met_attention;
 use crate::capacity::is_in_range;
 use crate::execution::exec;
 use crate::facts::UnitFacts;
-use foundation::NoMemory;
 use block_store::{PagedStore, Prepared, Store};
 use cdb::{Command, need};
 use command_model::Reply;
+use foundation::NoMemory;
 use std::alloc::Global;
 
 /// Runs one command on the blocks of a unit, whole, as [`exec`] does. `prepared` has the new pages of its write, if

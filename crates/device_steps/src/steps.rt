@@ -13,8 +13,8 @@ ghost use Rattle.device_steps.specs.Sound.{AreFew, AreFitting};
 ghost use Rattle.device_steps.specs.Inner.Sound.{IsSound};
 
 use crate::device::Device;
-use foundation::NoMemory;
 use device_model::Event;
+use foundation::NoMemory;
 use guest_mem::{GuestMem, Memory, WritableMemory};
 use phases::{
     ResetFault, ResizeFault, phase_answer_in, phase_answer_tmf_in, phase_check, phase_commit,

@@ -3,8 +3,8 @@
 use crate::guest::{READY, Sent, send};
 use crate::opening::{NUMBERS, start_with};
 use crate::steps::{UNIT, settle};
-use foundation::NoMemory;
 use block_store::{PagedStore, Store};
+use foundation::NoMemory;
 use std::alloc::Global;
 use world::{Event, StartFault, UnitSpec, World};
 

@@ -1,7 +1,7 @@
 //! Devices, by the numbers of their configuration.
 
-use foundation::NoMemory;
 use block_store::PagedStore;
+use foundation::NoMemory;
 use ring_core::Layout;
 use std::alloc::Global;
 use world::{Config, StartFault, UnitSpec, VERSION_1, World};

@@ -1,8 +1,8 @@
 //! One queue, and the places that seats have at it.
 
 use crate::rule::{All, InOrder, Puts, Seats, Takes, View};
-use foundation::NoMemory;
 use crossbeam_queue::{Pass, RuledArrayQueue};
+use foundation::NoMemory;
 use std::alloc::Global;
 use std::marker::Model;
 use std::sync::Wait;

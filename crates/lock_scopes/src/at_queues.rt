@@ -14,8 +14,8 @@ ghost use Rattle.phases.specs.Giving.{given_in};
 ghost use Rattle.phases.specs.EventQueue.{FetchesEvent, RaisesNext};
 
 use crate::lend::QueueLender;
-use foundation::NoMemory;
 use event_queue::{EventPort, WaitingEvents};
+use foundation::NoMemory;
 use phases::{
     Hand, Note, OpenFunction, ReceiptOrNote, Slot, phase_answer, phase_answer_tmf, phase_direct,
     phase_fetch, phase_fetch_control, phase_fetch_event, phase_raise,

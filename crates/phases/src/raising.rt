@@ -14,8 +14,8 @@ ghost use Rattle.phases.specs.Inner.Stored.{raised_writes, spent_writes};
 ghost use Rattle.phases.specs.Inner.EventsInMemory.{FetchesEventIn, RaisesNextIn, LooksAtPort, IsHeldBy, UsesWith, TakesBufferOf, MayRaiseIn};
 
 use crate::slot::Slot;
-use foundation::NoMemory;
 use event_queue::{EventBuffer, EventPort, WaitingEvents};
+use foundation::NoMemory;
 use guest_mem::{GuestMem, Memory, WritableMemory};
 use ring_core::{Chain, scatter};
 use scsi_codec::{EVENT_BYTES, EVENT_QUEUE};

@@ -6,8 +6,8 @@ ghost use Rattle.phases.specs.Resetting.{Resets};
 
 use crate::entering::has_places;
 use crate::naming::is_addressed;
-use foundation::NoMemory;
 use event_queue::WaitingEvents;
+use foundation::NoMemory;
 use request_intake::Inventory;
 use scsi_codec::{Address, Event, TRANSPORT_RESET};
 use unit_attention::Code;

@@ -6,8 +6,8 @@ ghost use Rattle.ring_core.specs.Writes.{Wrote, scatter_writes, stores_of};
 ghost use Rattle.unit_model.specs.Endings.{answer_of, code_of};
 ghost use Rattle.unit_history.specs.Endings.{ending_of, ending_of_reply, ending_of_run, plain_run, FitsNeed};
 
-use foundation::NoMemory;
 use command_model::{BUSY, Reply};
+use foundation::NoMemory;
 use guest_mem::WritableMemory;
 use request_intake::{ChainLengths, DirectAnswer};
 use responses::{write_direct, write_reply};

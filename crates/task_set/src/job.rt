@@ -7,8 +7,8 @@ ghost use Rattle.ring_core.specs.Parts.{readable_total, writable_total};
 ghost use Rattle.unit_model.specs.Tasks.{entry_of};
 ghost use Rattle.unit_model.specs.Inner.Jobs.{HasRoom};
 
-use foundation::Record;
 use cdb::Command;
+use foundation::Record;
 use request_intake::{ChainLengths, TaskAttribute, UnitRequest};
 use ring_core::{Chain, Ticket};
 use scsi_codec::Address;

@@ -7,8 +7,8 @@ ghost use Rattle.unit_model.specs.Jobs.{PlainJob};
 ghost use Rattle.command_model.specs.PlainReply.{success};
 ghost use Rattle.unit_history.specs.Endings.{ending_of_run, plain_run};
 
-use foundation::NoMemory;
 use command_model::Reply;
+use foundation::NoMemory;
 use task_set::Arrival;
 
 /// Writes what answers a request, by what came of its command.

@@ -5,8 +5,8 @@ ghost use Rattle.unit_model.specs.Counts.{with_reply, with_step, counts_of};
 ghost use Rattle.unit_history.specs.Recorded.{step_recorded, steps_recorded};
 
 use crate::recorded::{RecordedReply, RecordedStep};
-use foundation::Record;
 use command_model::{CHECK_CONDITION, GOOD};
+use foundation::Record;
 use std::marker::Model;
 use unit_model::Counts;
 

@@ -14,11 +14,11 @@ ghost use Rattle.unit_history.specs.Endings.{plain_run};
 ghost use Rattle.unit_history.specs.Inner.Performing.{Performs, performed_of, told, taken, unkept};
 
 use crate::log::LONGEST_KEPT;
-use foundation::NoMemory;
 use block_commands::{UnitFacts, exec, exec_prepared, takes_attention};
 use block_store::{PagedStore, Prepared, Store};
 use cdb::Command;
 use command_model::Reply;
+use foundation::NoMemory;
 use sense::Sense;
 use std::alloc::{AllocError, Global};
 use unit_attention::{Attentions, Code};

@@ -8,9 +8,9 @@ ghost use Rattle.unit_history.specs.Kept.{kind_of};
 ghost use Rattle.unit_history.specs.Recorded.{step_recorded};
 
 use crate::kind::StepKind;
-use foundation::Record;
 use cdb::Command;
 use command_model::{GOOD, Reply};
+use foundation::Record;
 use request_intake::{TaskAttribute, UnitRequest};
 use ring_core::Ticket;
 use sense::Sense;

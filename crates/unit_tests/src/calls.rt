@@ -1,8 +1,8 @@
 //! The calls of a unit, each with whether its history is then longer by the step that its answer says, or by none.
 
 use crate::acts::{Comes, Ends};
-use foundation::NoMemory;
 use command_model::{CHECK_CONDITION, GOOD, Reply};
+use foundation::NoMemory;
 use ring_core::{Answered, Ticket};
 use unit_attention::Code;
 use unit_history::{Arrival, Entered, Job, JobList, Outcome, Place, Receipt, StepKind, UnitState};

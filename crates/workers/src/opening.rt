@@ -6,9 +6,9 @@ ghost use Rattle.request_intake.specs.Inventory.{address_of};
 ghost use Rattle.config.specs.Config.{is_config, is_queue};
 ghost use Rattle.lock_scopes.specs.Ledgers.{most_commits};
 
-use foundation::NoMemory;
 use config::{Config, MOST_DESCRIPTORS, form};
 use event_queue::EventPort;
+use foundation::NoMemory;
 use guest_mem::GuestMem;
 use lock_scopes::{CountedUnit, Part};
 use request_intake::{Inventory, UnitSpec};

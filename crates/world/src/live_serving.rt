@@ -10,13 +10,13 @@ ghost use Rattle.world.specs.LiveServing.{Looks, ServesLiveOrWants, ServesPromis
 
 use crate::live_world::LiveWorld;
 use crate::served::Served;
-use foundation::NoMemory;
 use device_model::laws::every_run_goes_on;
 use device_model::live_laws::{
     a_live_run_is_a_run, a_live_settling_is_short, any_bytes_may_stand_there,
 };
 use device_model::trace_laws::the_promise_is_kept;
 use device_steps::{Cursor, Progress, all_are_sound};
+use foundation::NoMemory;
 use guest_mem::{Memory, WritableMemory};
 
 impl<M: WritableMemory> LiveWorld<M> {

@@ -13,8 +13,8 @@ ghost use Rattle.world.specs.LiveWorld.{IsReachedIn};
 ghost use Rattle.device_steps.specs.Views.{unit_of, IsPlaceAmong, fault_of, status_of, GivesBlocks, GivesChanges};
 
 use crate::live_world::LiveWorld;
-use foundation::NoMemory;
 use device_steps::{Bay, all_are_sound};
+use foundation::NoMemory;
 use guest_mem::WritableMemory;
 use ring_core::{QueueLog, RingFault};
 use unit_attention::Code;

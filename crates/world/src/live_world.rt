@@ -8,7 +8,6 @@ ghost use Rattle.device_steps.specs.Opening.{AreDisksFor, AreDisksOf};
 
 mod asking;
 
-use foundation::NoMemory;
 use block_store::PagedStore;
 use config::{Config, StartFault};
 use device_model::Event;
@@ -16,6 +15,7 @@ use device_model::laws::every_run_goes_on;
 use device_model::live_laws::{a_live_run_is_a_run, any_bytes_may_stand_there};
 use device_model::trace_laws::the_promise_is_kept;
 use device_steps::{Device, all_are_sound, are_disks_for, open_device};
+use foundation::NoMemory;
 use guest_mem::WritableMemory;
 use std::alloc::Global;
 use std::marker::Model;

@@ -6,8 +6,8 @@ ghost use Rattle.ring_core.specs.State.{IsLawful};
 ghost use Rattle.unit_model.specs.Contents.{capacity_of, pending_of};
 
 use crate::world::World;
-use foundation::NoMemory;
 use device_steps::Bay;
+use foundation::NoMemory;
 use guest_mem::GuestMem;
 use ring_core::{QueueLog, RingFault};
 use unit_attention::Code;

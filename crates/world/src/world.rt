@@ -4,13 +4,13 @@ ghost use Rattle.std.specs.Prelude.{◌≡◌, ◌≤◌, [], length, IfOk};
 ghost use Rattle.std.specs.Vec.{vec_capacity};
 
 use crate::served::Served;
-use foundation::NoMemory;
 use block_store::PagedStore;
 use config::{Config, StartFault};
 use device_model::Event;
 use device_model::laws::every_run_goes_on;
 use device_model::trace_laws::the_promise_is_kept;
 use device_steps::{Cursor, Device, Progress, all_are_sound, are_disks_for, open_device, poke};
+use foundation::NoMemory;
 use guest_mem::{GuestMem, Memory, StillMem};
 use std::alloc::Global;
 use std::marker::Model;

@@ -3,8 +3,8 @@
 ghost use Rattle.std.specs.Prelude.{◌≡◌, ◌+◌, ◌*◌, ◌≤◌, length, IfSome};
 
 use super::none_is;
-use foundation::NoMemory;
 use block_store::{BLOCK_BYTES, FlatStore, PagedStore, Prepared, Store};
+use foundation::NoMemory;
 use std::alloc::Global;
 use std::test::Fail;
 
