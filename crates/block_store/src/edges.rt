@@ -4,7 +4,8 @@ ghost use Rattle.std.specs.Prelude.{◌+◌, ◌^◌, ◌<◌};
 
 use crate::numbers::{page_of, place_of};
 use crate::page::Page;
-use crate::{NoMemory, row};
+use crate::row;
+use foundation::NoMemory;
 use std::alloc::Global;
 
 /// A range of blocks, and copies of the pages that it covers in part. Clauses see it as a draft, whose

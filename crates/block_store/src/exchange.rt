@@ -10,8 +10,9 @@ ghost use Rattle.block_store.specs.Inner.Kept.{has_place};
 use crate::numbers::{PAGE_BLOCKS, ROW_PAGES, page_of, place_of};
 use crate::page::Page;
 use crate::pages::Pages;
+use crate::row;
 use crate::table::Table;
-use crate::{NoMemory, row};
+use foundation::NoMemory;
 use std::alloc::Global;
 
 impl Pages {

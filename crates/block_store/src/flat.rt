@@ -4,7 +4,8 @@ ghost use Rattle.std.specs.Prelude.{◌≡◌, ℕ, ◌+◌, ◌%◌, ◌<◌, �
 ghost use Rattle.block_store.specs.Blocks.{block_count, nth_block, overwritten, filled, zero_block};
 
 use crate::bytes::{blocks_at, put_blocks, put_copies, put_zeros};
-use crate::{BLOCK_BYTES, NoMemory, Store};
+use crate::{BLOCK_BYTES, Store};
+use foundation::NoMemory;
 use std::alloc::Global;
 use std::marker::Model;
 

@@ -4,9 +4,10 @@ ghost use Rattle.std.specs.Prelude.{◌≡◌, ℕ, ◌+◌, ◌*◌, ◌%◌, �
 ghost use Rattle.block_store.specs.Blocks.{block_count, nth_block, overwritten, filled, zeroed, run, zero_block};
 ghost use Rattle.block_store.specs.Pages.{blocks_in};
 
+use crate::BLOCK_BYTES;
 use crate::bytes::{blocks_at, put_blocks, put_copies, put_zeros};
 use crate::numbers::PAGE_BLOCKS;
-use crate::{BLOCK_BYTES, NoMemory};
+use foundation::NoMemory;
 use std::alloc::Global;
 
 /// The bytes of a page.

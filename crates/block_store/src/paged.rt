@@ -9,7 +9,8 @@ ghost use Rattle.block_store.specs.Inner.Drafts.{IsAsCopied};
 use crate::edges::{Edges, Prepared};
 use crate::numbers::{PAGE_BLOCKS, in_page, in_row, page_end, page_from, page_of, place_of};
 use crate::pages::Pages;
-use crate::{BLOCK_BYTES, NoMemory, Store, row};
+use crate::{BLOCK_BYTES, Store, row};
+use foundation::NoMemory;
 use std::alloc::Global;
 
 /// Keeps blocks in pages of 8, by number. A page that was never written, or was zeroed whole, isn't there, and reads as

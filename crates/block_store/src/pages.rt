@@ -8,7 +8,8 @@ ghost use Rattle.block_store.specs.Inner.Kept.{is_made, tree_has};
 use crate::numbers::{in_page, in_row, in_row_of, row_of};
 use crate::page::Page;
 use crate::table::{Level, Table, Tree};
-use crate::{BLOCK_BYTES, NoMemory, row};
+use crate::{BLOCK_BYTES, row};
+use foundation::NoMemory;
 use std::alloc::Global;
 
 /// Keeps pages by number. One that isn't there is zeros.

@@ -5,9 +5,10 @@ ghost use Rattle.block_store.specs.Blocks.{block_count, overwritten, filled, zer
 ghost use Rattle.block_store.specs.Kept.{row_kept};
 ghost use Rattle.block_store.specs.Inner.Kept.{row_blocks, is_made_in};
 
+use crate::BLOCK_BYTES;
 use crate::numbers::{PAGE_BLOCKS, in_page, page_of, place_of};
 use crate::page::{PAGE_BYTES, Page, zeros};
-use crate::{BLOCK_BYTES, NoMemory};
+use foundation::NoMemory;
 use std::alloc::Global;
 use std::mem;
 

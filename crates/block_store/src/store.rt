@@ -3,7 +3,7 @@
 ghost use Rattle.std.specs.Prelude.{◌≡◌, ℕ, ◌+◌, ◌*◌, ◌%◌, ◌<◌, ◌≤◌, ◌++◌, List, length, vec_len, vec_capacity, OnOk, OnErr};
 ghost use Rattle.block_store.specs.Blocks.{block_count, overwritten, filled, zeroed, run};
 
-use crate::NoMemory;
+use foundation::NoMemory;
 
 /// The bytes of a block.
 pub const BLOCK_BYTES: usize = 512;
