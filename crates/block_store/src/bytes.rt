@@ -6,7 +6,7 @@ ghost use Rattle.block_store.specs.Blocks.{block_count, nth_block, overwritten, 
 use crate::BLOCK_BYTES;
 
 /// Returns the bytes of `count` blocks from `first` on.
-pub(crate) fn blocks_at(held: &[u8], first: usize, count: usize) -> &[u8]
+pub fn blocks_at(held: &[u8], first: usize, count: usize) -> &[u8]
     requires { first + count ≤ block_count held.now }
     ensures bytes { result.now ≡ run (nth_block held.now) first count }
     ensures len { length result.now ≡ BLOCK_BYTES * count }
@@ -15,7 +15,7 @@ pub(crate) fn blocks_at(held: &[u8], first: usize, count: usize) -> &[u8]
 }
 
 /// Puts the bytes over the blocks from `first` on.
-pub(crate) fn put_blocks(held: &mut [u8], first: usize, bytes: &[u8])
+pub fn put_blocks(held: &mut [u8], first: usize, bytes: &[u8])
     requires whole { length bytes.now % BLOCK_BYTES ≡ 0 }
     requires range { first + block_count bytes.now ≤ block_count held.old }
     ensures { (b : ℕ) → nth_block held.new b ≡ overwritten (nth_block held.old) first bytes.now b }
@@ -25,7 +25,7 @@ pub(crate) fn put_blocks(held: &mut [u8], first: usize, bytes: &[u8])
 }
 
 /// Puts the block into each of `count` places from `first` on.
-pub(crate) fn put_copies(held: &mut [u8], first: usize, count: usize, block: &[u8; BLOCK_BYTES])
+pub fn put_copies(held: &mut [u8], first: usize, count: usize, block: &[u8; BLOCK_BYTES])
     requires { first + count ≤ block_count held.old }
     ensures { (b : ℕ) → nth_block held.new b ≡ filled (nth_block held.old) first count block.now b }
 {
@@ -35,7 +35,7 @@ pub(crate) fn put_copies(held: &mut [u8], first: usize, count: usize, block: &[u
 }
 
 /// Puts zeros into each of `count` places from `first` on.
-pub(crate) fn put_zeros(held: &mut [u8], first: usize, count: usize)
+pub fn put_zeros(held: &mut [u8], first: usize, count: usize)
     requires { first + count ≤ block_count held.old }
     ensures { (b : ℕ) → nth_block held.new b ≡ zeroed (nth_block held.old) first count b }
 {

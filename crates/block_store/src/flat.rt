@@ -4,7 +4,7 @@ ghost use Rattle.std.specs.Prelude.{◌≡◌, ℕ, ◌+◌, ◌%◌, ◌<◌, �
 ghost use Rattle.block_store.specs.Blocks.{block_count, nth_block, overwritten, filled, zero_block};
 
 use crate::bytes::{blocks_at, put_blocks, put_copies, put_zeros};
-use crate::{BLOCK_BYTES, Store};
+use crate::{BLOCK_BYTES, Readiness, Store};
 use foundation::NoMemory;
 use std::alloc::Global;
 use std::marker::Model;
@@ -46,16 +46,33 @@ impl FlatStore {
 }
 
 impl Store for FlatStore {
+    ghost use Rattle.std.specs.Prelude.{true};
     ghost use Rattle.block_store.specs.Inner.Whole.{length-nth_block};
 
     ghost size = { block_count };
 
     ghost block_at = { nth_block };
 
+    ghost is_held = { λ s b. true };
+
+    ghost is_coming = { λ s b. true };
+
+    ghost has_room = { λ s b. true };
+
+    ghost is_whole = { λ s. true };
+
     ghost whole = { length-nth_block };
 
     fn capacity(&self) -> u64 {
         (self.bytes.len() / BLOCK_BYTES) as u64
+    }
+
+    fn ask_to_read(&mut self, _first: u64, _count: u32) -> Readiness {
+        Readiness::Ready
+    }
+
+    fn ask_to_write(&mut self, _first: u64, _count: u32) -> Readiness {
+        Readiness::Ready
     }
 
     fn read_blocks(&self, first: u64, count: u32, into: &mut Vec<u8>) {

@@ -18,10 +18,12 @@ mod numbers;
 mod page;
 mod paged;
 mod pages;
+mod readiness;
 mod row;
 mod store;
 mod table;
 
+pub use bytes::{blocks_at, put_blocks, put_copies, put_zeros};
 pub use edges::{Edges, Prepared};
 pub use flat::FlatStore;
 pub use laws::{
@@ -30,4 +32,5 @@ pub use laws::{
     zeroed_reads_as_zeros,
 };
 pub use paged::PagedStore;
+pub use readiness::Readiness;
 pub use store::{BLOCK_BYTES, Store};

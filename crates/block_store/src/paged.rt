@@ -9,7 +9,7 @@ ghost use Rattle.block_store.specs.Inner.Drafts.{IsAsCopied};
 use crate::edges::{Edges, Prepared};
 use crate::numbers::{PAGE_BLOCKS, in_page, in_row, page_end, page_from, page_of, place_of};
 use crate::pages::Pages;
-use crate::{BLOCK_BYTES, Store, row};
+use crate::{BLOCK_BYTES, Readiness, Store, row};
 use foundation::NoMemory;
 use std::alloc::Global;
 
@@ -136,7 +136,7 @@ impl PagedStore {
 }
 
 impl Store for PagedStore {
-    ghost use Rattle.std.specs.Prelude.{◌/◌, ◌%◌};
+    ghost use Rattle.std.specs.Prelude.{◌/◌, ◌%◌, true};
     ghost use Rattle.block_store.specs.Kept.{kept, blocks_of};
     ghost use Rattle.block_store.specs.Inner.Padding.{length-blocks_in};
 
@@ -144,10 +144,26 @@ impl Store for PagedStore {
 
     ghost block_at = { λ s. blocks_of s.pages };
 
+    ghost is_held = { λ s b. true };
+
+    ghost is_coming = { λ s b. true };
+
+    ghost has_room = { λ s b. true };
+
+    ghost is_whole = { λ s. true };
+
     ghost whole = { λ s b below. length-blocks_in (kept s.pages (b / 8)) (b % 8) };
 
     fn capacity(&self) -> u64 {
         self.capacity
+    }
+
+    fn ask_to_read(&mut self, _first: u64, _count: u32) -> Readiness {
+        Readiness::Ready
+    }
+
+    fn ask_to_write(&mut self, _first: u64, _count: u32) -> Readiness {
+        Readiness::Ready
     }
 
     fn read_blocks(&self, first: u64, count: u32, into: &mut Vec<u8>) {
