@@ -1,0 +1,6 @@
+pub mod Parted
+pub mod Kept
+pub mod Dealt
+pub mod CutOff
+pub mod Over
+pub mod Known

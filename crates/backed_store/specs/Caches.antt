@@ -1,0 +1,23 @@
+-- The pages that a cache has.
+use Rattle.std.specs.Prelude.{◌≡◌, ℕ, List, Option, IsTrue}
+use Rattle.backed_store.specs.declared.mark.Mark.{Mark}
+use Rattle.backed_store.specs.declared.cache.Cache.{Cache}
+use Rattle.backed_store.specs.Marks.{State, state_of}
+use Rattle.backed_store.specs.Slots as slots
+
+-- what is known of page p
+abbrev pub mark_at : Cache → ℕ → Option Mark
+mark_at c p = slots.mark_at c.slots p
+
+-- the state of page p
+abbrev pub state_at : Cache → ℕ → State
+state_at c p = state_of (mark_at c p)
+
+-- the bytes of page p
+abbrev pub bytes_at : Cache → ℕ → List ℕ
+bytes_at c p = slots.bytes_at c.slots p
+
+-- each page that is in memory is as before, and no page came
+pub record IsKept (old new : Cache) : Type 0 where
+  pub states : (p : ℕ) → state_at new p ≡ state_at old p
+  pub bytes : (p : ℕ) → IsTrue (state_at old p).held → bytes_at new p ≡ bytes_at old p

@@ -1,0 +1,43 @@
+-- A disk, whether its pages may go or not.
+use Rattle.std.specs.Prelude.{◌≡◌, ℕ, ◌/◌, ◌%◌, Bool, true, false, length}
+use Rattle.block_store.specs.Blocks.{Blocks}
+use Rattle.block_store.specs.Kept as pages
+use Rattle.block_store.specs.Inner.Padding.{length-blocks_in}
+use Rattle.backed_store.specs.Stores as backed
+use Rattle.backed_store.specs.Whole.{length-contents}
+use Rattle.backed_store.specs.declared.disk.Disk.{Disk}
+use Rattle.backed_store.specs.declared.disk.Disk.TheVariants.{Whole, Backed}
+
+-- how many blocks it has
+abbrev pub size_of : Disk → ℕ
+size_of (Whole s) = s.capacity
+size_of (Backed s) = s.capacity
+
+-- its blocks, whether they are in memory or not
+abbrev pub blocks_of : Disk → Blocks
+blocks_of (Whole s) b = pages.blocks_of s.pages b
+blocks_of (Backed s) b = backed.contents s b
+
+-- whether block b is in memory
+abbrev pub holds : Disk → ℕ → Bool
+holds (Whole s) b = true
+holds (Backed s) b = backed.holds s b
+
+-- whether it is, or the host is asked for its page
+abbrev pub is_coming : Disk → ℕ → Bool
+is_coming (Whole s) b = true
+is_coming (Backed s) b = backed.is_coming s b
+
+-- whether it can be changed
+abbrev pub has_room : Disk → ℕ → Bool
+has_room (Whole s) b = true
+has_room (Backed s) b = backed.has_room s b
+
+-- whether all its pages stay in memory
+abbrev pub is_whole : Disk → Bool
+is_whole (Whole s) = true
+is_whole (Backed s) = false
+
+pub length-block : (d : Disk) (b : ℕ) → length (blocks_of d b) ≡ 512
+length-block (Whole s) b = length-blocks_in (pages.kept s.pages (b / 8)) (b % 8)
+length-block (Backed s) b = length-contents s b

@@ -1,0 +1,13 @@
+pub mod Marks
+pub mod Changed
+pub mod Slots
+pub mod Known
+pub mod Queues
+pub mod Standing
+pub mod Caches
+pub mod Spared
+pub mod Passing
+pub mod Backing
+pub mod Stores
+pub mod Whole
+pub mod Disks

@@ -1,0 +1,71 @@
+//! A store whose pages come and go.
+
+ghost use Rattle.std.specs.Prelude.{◌≡◌, ℕ, ◌/◌, ◌%◌, ◌^◌, ◌<◌, IsTrue};
+ghost use Rattle.block_store.specs.Blocks.{nth_block};
+ghost use Rattle.backed_store.specs.Marks.{is_clean, is_steady};
+ghost use Rattle.backed_store.specs.Caches.{state_at, bytes_at};
+ghost use Rattle.backed_store.specs.Backing.{after_all, opening};
+
+use crate::cache::Cache;
+use crate::dealing::Dealing;
+use crate::given;
+use foundation::Record;
+use std::alloc::Global;
+
+/// Keeps blocks in pages of 8, of which a bounded number are in memory. The host's storage has the others.
+#[derive(Drop)]
+pub struct BackedStore {
+    pub(crate) alloc: Global,
+    pub(crate) capacity: u64,
+    pub(crate) cache: Cache,
+    // The bytes that the storage had at the opening.
+    pub(crate) content: Record<u8>,
+    // What the host was given since, and kept.
+    pub(crate) dealings: Record<Dealing>,
+    ghost counted: { capacity < 2 ^ 63 },
+    ghost clean: { (b : ℕ) → IsTrue (is_clean (state_at cache (b / 8)))
+        → (after_all dealings.items (opening content.items)).kept b ≡ nth_block (bytes_at cache (b / 8)) (b % 8) },
+    ghost steady: { (b : ℕ) → IsTrue (is_steady (state_at cache (b / 8)))
+        → (after_all dealings.items (opening content.items)).given b ≡ nth_block (bytes_at cache (b / 8)) (b % 8) },
+}
+
+impl BackedStore {
+    ghost use Rattle.std.specs.Prelude.{false, min};
+    ghost use Rattle.block_store.specs.Pages.{blocks_in};
+    ghost use Rattle.backed_store.specs.Stores.{contents, backing_of, holds};
+    ghost use Rattle.backed_store.specs.Backing.{cut};
+
+    /// Makes a store of so many blocks, of which the host's storage has this content. No page is in memory. At most
+    /// `budget` pages will be. Takes no memory.
+    pub fn new(alloc: Global, blocks: u64, budget: usize, content: Record<u8>) -> BackedStore
+        requires { blocks < 2 ^ 63 }
+        ensures capacity { result.capacity ≡ blocks }
+        ensures blocks { (b : ℕ) → contents result b ≡ blocks_in content.items b }
+        ensures backing { (b : ℕ) → backing_of result b ≡ blocks_in content.items b }
+        ensures absent { (b : ℕ) → holds result b ≡ false }
+        ensures budget { result.cache.budget ≡ budget }
+    {
+        BackedStore {
+            alloc,
+            capacity: blocks,
+            cache: Cache::new(alloc, budget),
+            content,
+            dealings: Record::new(),
+        }
+    }
+
+    /// Has so many blocks from now on. Those at or above the new capacity are lost: where it grows again, they are zeros.
+    /// The host reads and writes no page meanwhile, and cuts its storage off at the lesser capacity. Takes no memory.
+    pub fn resize(&mut self, blocks: u64)
+        requires { blocks < 2 ^ 63 }
+        ensures size { self.new.capacity ≡ blocks }
+        ensures blocks { (b : ℕ) → contents self.new b ≡ cut (min self.old.capacity blocks) (contents self.old) b }
+        ensures backing { (b : ℕ) → backing_of self.new b ≡ cut (min self.old.capacity blocks) (backing_of self.old) b }
+        ensures held { (b : ℕ) → b < min self.old.capacity blocks → holds self.new b ≡ holds self.old b }
+    {
+        let left = self.capacity.min(blocks);
+        self.cache.cut(left);
+        given::record(&mut self.dealings, &Dealing::Cut(left));
+        self.capacity = blocks;
+    }
+}

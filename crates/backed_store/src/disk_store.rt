@@ -1,0 +1,153 @@
+//! The blocks of a disk, as of any store.
+
+use crate::disk::Disk;
+use block_store::{BLOCK_BYTES, Edges, Prepared, Readiness, Store};
+use foundation::NoMemory;
+
+impl Store for Disk {
+    ghost use Rattle.backed_store.specs.Disks.{size_of, blocks_of, holds, is_coming, has_room, is_whole, length-block};
+
+    ghost size = { size_of };
+
+    ghost block_at = { blocks_of };
+
+    ghost is_held = { holds };
+
+    ghost is_coming = { is_coming };
+
+    ghost has_room = { has_room };
+
+    ghost is_whole = { is_whole };
+
+    ghost whole = { λ d b below. length-block d b };
+
+    fn capacity(&self) -> u64 {
+        match self {
+            Disk::Whole(store) => store.capacity(),
+            Disk::Backed(store) => store.capacity(),
+        }
+    }
+
+    fn ask_to_read(&mut self, first: u64, count: u32) -> Readiness {
+        match self {
+            Disk::Whole(_) => Readiness::Ready,
+            Disk::Backed(store) => store.ask_to_read(first, count),
+        }
+    }
+
+    fn ask_to_write(&mut self, first: u64, count: u32) -> Readiness {
+        match self {
+            Disk::Whole(_) => Readiness::Ready,
+            Disk::Backed(store) => store.ask_to_write(first, count),
+        }
+    }
+
+    fn read_blocks(&self, first: u64, count: u32, into: &mut Vec<u8>) {
+        match self {
+            Disk::Whole(store) => store.read_blocks(first, count, into),
+            Disk::Backed(store) => store.read_blocks(first, count, into),
+        }
+    }
+
+    fn write_blocks(&mut self, first: u64, bytes: &[u8]) -> Result<(), NoMemory> {
+        match self {
+            Disk::Whole(store) => store.write_blocks(first, bytes),
+            Disk::Backed(store) => store.write_blocks(first, bytes),
+        }
+    }
+
+    fn fill_blocks(
+        &mut self,
+        first: u64,
+        count: u32,
+        block: &[u8; BLOCK_BYTES],
+    ) -> Result<(), NoMemory> {
+        match self {
+            Disk::Whole(store) => store.fill_blocks(first, count, block),
+            Disk::Backed(store) => store.fill_blocks(first, count, block),
+        }
+    }
+
+    fn zero_blocks(&mut self, first: u64, count: u32) {
+        match self {
+            Disk::Whole(store) => store.zero_blocks(first, count),
+            Disk::Backed(store) => store.zero_blocks(first, count),
+        }
+    }
+}
+
+impl Disk {
+    ghost use Rattle.std.specs.Prelude.{◌≡◌, ℕ, ◌+◌, ◌*◌, ◌^◌, ◌<◌, ◌≤◌, length, IfOk, IfSome, OnErr, IsTrue, nat_lt, min, if◌then◌else◌};
+    ghost use Rattle.block_store.specs.Blocks.{run, zero_block};
+    ghost use Rattle.block_store.specs.Drafts.{edges_draft, prepared_draft};
+    ghost use Rattle.block_store.specs.Inner.Drafts.{IsAsCopied};
+    ghost use Rattle.block_store.specs.Pages.{covered};
+    ghost use Rattle.backed_store.specs.Disks.{size_of, blocks_of, holds, has_room, is_whole};
+
+    /// Returns the bytes of `count` blocks from `first` on where they stand, which spares a copy; `None` where they lie
+    /// in more than one page, or aren't in memory. Takes no memory.
+    #[inline(always)]
+    pub fn blocks_in_place(&self, first: u64, count: u32) -> Option<&[u8]>
+        requires range { first + count ≤ size_of self.now }
+        ensures bytes { IfSome result (λ bytes. bytes.now ≡ run (blocks_of self.now) first count) }
+        ensures len { IfSome result (λ bytes. length bytes.now ≡ BLOCK_BYTES * count) }
+    {
+        match self {
+            Disk::Whole(store) => store.blocks_in_place(first, count),
+            Disk::Backed(store) => store.blocks_in_place(first, count),
+        }
+    }
+
+    /// Copies the pages that a range covers in part, at most two, so that a write of the range can be prepared away
+    /// from the disk. `None` where its pages may go: such a write isn't prepared. `NoMemory` where memory was refused.
+    pub fn edges(&self, first: u64, count: u32) -> Result<Option<Edges>, NoMemory>
+        requires range { first + count ≤ size_of self.now }
+        ensures first { IfOk result (λ found. IfSome found (λ edges. (edges_draft edges).first ≡ first)) }
+        ensures count { IfOk result (λ found. IfSome found (λ edges. (edges_draft edges).count ≡ count)) }
+        ensures copied { IfOk result (λ found. IfSome found (λ edges. IsAsCopied (edges_draft edges) (blocks_of self.now))) }
+    {
+        match self {
+            Disk::Whole(store) => Ok(Some(store.edges(first, count)?)),
+            Disk::Backed(_) => Ok(None),
+        }
+    }
+
+    /// Puts the new pages over the blocks of their range, where the blocks beside it, in these pages, are as they were
+    /// copied. Answers true with the pages that stood there, or false with the new pages and nothing changed: so always
+    /// where its pages may go. `NoMemory` where memory was refused; nothing is changed then.
+    pub fn install(&mut self, prepared: Prepared) -> Result<(bool, Prepared), NoMemory>
+        requires range { (prepared_draft prepared).first + (prepared_draft prepared).count ≤ size_of self.old }
+        ensures ok { IfOk result (λ answer. (b : ℕ) → blocks_of self.new b
+            ≡ (if answer.0 then covered (blocks_of self.old)
+            (prepared_draft prepared).blocks (prepared_draft prepared).first (prepared_draft prepared).count b
+            else blocks_of self.old b)) }
+        ensures first { IfOk result (λ answer. (prepared_draft answer.1).first ≡ (prepared_draft prepared).first) }
+        ensures count { IfOk result (λ answer. (prepared_draft answer.1).count ≡ (prepared_draft prepared).count) }
+        ensures err { OnErr result ((b : ℕ) → blocks_of self.new b ≡ blocks_of self.old b) }
+        ensures size { size_of self.new ≡ size_of self.old }
+        ensures held { (b : ℕ) → IsTrue (holds self.old b) → IsTrue (holds self.new b) }
+        ensures keeps_room { (b : ℕ) → IsTrue (has_room self.old b) → IsTrue (has_room self.new b) }
+        ensures kind { is_whole self.new ≡ is_whole self.old }
+    {
+        match self {
+            Disk::Whole(store) => store.install(prepared),
+            Disk::Backed(_) => Ok((false, prepared)),
+        }
+    }
+
+    /// Has so many blocks from now on. Those at or above the new capacity are lost: where it grows again, they are
+    /// zeros. The host of a backed disk reads and writes no page of it meanwhile, and cuts its storage off at the lesser
+    /// capacity. Takes no memory.
+    pub fn resize(&mut self, blocks: u64)
+        requires { blocks < 2 ^ 63 }
+        ensures size { size_of self.new ≡ blocks }
+        ensures blocks { (b : ℕ) → blocks_of self.new b
+            ≡ (if nat_lt b (min (size_of self.old) blocks) then blocks_of self.old b else zero_block) }
+        ensures kind { is_whole self.new ≡ is_whole self.old }
+    {
+        match self {
+            Disk::Whole(store) => store.resize(blocks),
+            Disk::Backed(store) => store.resize(blocks),
+        }
+    }
+}

@@ -1,0 +1,124 @@
+//! Pages that come and go.
+
+ghost use Rattle.std.specs.Prelude.{◌≡◌, ◌≢◌, ℕ, ◌*◌, ◌/◌, ◌&&◌, true, false, length, IsTrue, IfOk, OnOk, OnErr, IfSome, IfNone, if◌then◌else◌};
+ghost use Rattle.backed_store.specs.Backing.{with_page};
+ghost use Rattle.backed_store.specs.Spared.{is_spared};
+ghost use Rattle.backed_store.specs.Stores.{contents, holds, is_wanted, is_reading, is_writing, is_dirty, host_of, backing_of, IsPageOf, IsSame, IsHost};
+
+use crate::backed::BackedStore;
+use crate::dealing::{Dealing, GivenPage};
+use crate::given;
+use crate::numbers::PAGE_BYTES;
+use crate::page_range::PageRange;
+use foundation::NoMemory;
+
+impl BackedStore {
+    /// Returns the next page that the host is to read, and counts it as asked for; `None` where none is wanted. The host
+    /// hands it in by [`load`](BackedStore::load).
+    pub fn next_wanted(&mut self) -> Option<u64>
+        ensures absent { IfSome result (λ page. holds self.old (8 * page) ≡ false) }
+        ensures reading { IfSome result (λ page. IsTrue (is_reading self.new page)) }
+        ensures none { IfNone result ((p : ℕ) → is_wanted self.new p ≡ false) }
+        ensures same { IsSame self.old self.new }
+        ensures host { IsHost self.old self.new }
+        ensures held { (b : ℕ) → holds self.new b ≡ holds self.old b }
+    {
+        self.cache.next_wanted()
+    }
+
+    /// Takes the bytes of a page that the host was asked for. Returns true if they now stand in memory: not where the page
+    /// was written over meanwhile. `NoMemory` where memory was refused; the page may be handed in again.
+    pub fn load(&mut self, page: u64, bytes: &[u8]) -> Result<bool, NoMemory>
+        requires len { length bytes.now ≡ PAGE_BYTES }
+        // The host owes it: its storage gives back what it kept, or had at the opening.
+        requires owed { IsTrue (is_reading self.old page) → holds self.old (8 * page) ≡ false → IsPageOf (backing_of self.old) page bytes.now }
+        ensures same { IsSame self.old self.new }
+        ensures host { IsHost self.old self.new }
+        ensures loaded { IfOk result (λ stands. IsTrue stands → IsTrue (holds self.new (8 * page))) }
+        ensures held { (b : ℕ) → IsTrue (holds self.old b) → IsTrue (holds self.new b) }
+    {
+        let Some(mark) = self.cache.slots.mark(page) else {
+            return Ok(false);
+        };
+        if !mark.reading {
+            return Ok(false);
+        }
+        if mark.held {
+            self.cache.forget_read(page);
+            return Ok(false);
+        }
+        self.cache.load(page, bytes)?;
+        Ok(true)
+    }
+
+    /// Gives the host the next page that it is to write; `None` where it has each dirty page already. The host says by
+    /// [`written`](BackedStore::written) what became of it. `NoMemory` where memory was refused.
+    pub fn give(&mut self) -> Result<Option<GivenPage>, NoMemory>
+        ensures same { IsSame self.old self.new }
+        // Of one page no two writes are under way.
+        ensures alone { IfOk result (λ given. IfSome given (λ g. (is_writing self.old g.page ≡ false) × IsTrue (is_writing self.new g.page))) }
+        ensures dirty { IfOk result (λ given. IfSome given (λ g. IsTrue (is_dirty self.old g.page))) }
+        ensures bytes { IfOk result (λ given. IfSome given (λ g. IsPageOf (contents self.old) g.page g.bytes.items)) }
+        ensures given { IfOk result (λ given. IfSome given (λ g. (b : ℕ) →
+            (host_of self.new).given b ≡ with_page g.page (contents self.old) (host_of self.old).given b)) }
+        ensures none { IfOk result (λ given. IfNone given ((p : ℕ) → IsTrue (is_dirty self.new p) → IsTrue (is_writing self.new p))) }
+        ensures kept { (b : ℕ) → backing_of self.new b ≡ backing_of self.old b }
+        ensures held { (b : ℕ) → holds self.new b ≡ holds self.old b }
+    {
+        if self.cache.unwritten.len() == 0 {
+            return Ok(None);
+        }
+        let room = Vec::with_capacity(self.alloc, PAGE_BYTES)?;
+        let Some(page) = self.cache.next_unwritten() else {
+            return Ok(None);
+        };
+        let bytes = self.cache.slots.copied(page, room);
+        let dealing = Dealing::Given(GivenPage { page, bytes });
+        given::record(&mut self.dealings, &dealing);
+        match dealing {
+            Dealing::Given(given) => Ok(Some(given)),
+            Dealing::Kept(_) | Dealing::Cut(_) => Ok(None),
+        }
+    }
+
+    /// Notes that the host's write of a page is over: its storage gives the page back as it was given, or the write
+    /// failed. The page is clean where it was kept and didn't change meanwhile; else it is to be written again. `NoMemory`
+    /// where memory was refused: the host says it again later.
+    pub fn written(&mut self, page: u64, kept: bool) -> Result<(), NoMemory>
+        ensures same { IsSame self.old self.new }
+        ensures given { (b : ℕ) → (host_of self.new).given b ≡ (host_of self.old).given b }
+        ensures kept { OnOk result ((b : ℕ) → backing_of self.new b
+            ≡ (if kept && is_writing self.old page then with_page page (host_of self.old).given (backing_of self.old) b else backing_of self.old b)) }
+        ensures err { OnErr result ((b : ℕ) → backing_of self.new b ≡ backing_of self.old b) }
+        ensures over { OnOk result (is_writing self.new page ≡ false) }
+        ensures held { (b : ℕ) → holds self.new b ≡ holds self.old b }
+    {
+        let Some(mark) = self.cache.slots.mark(page) else {
+            return Ok(());
+        };
+        if !mark.held || !mark.writing {
+            return Ok(());
+        }
+        self.cache.end_write(page, kept && mark.steady)?;
+        if kept {
+            given::record(&mut self.dealings, &Dealing::Kept(page));
+        }
+        Ok(())
+    }
+
+    /// Drops a clean page from memory with which the host has nothing to do, and that isn't spared. Returns the page;
+    /// `None` where none was found. Pages that were used since they were last considered are given another round.
+    pub fn evict(&mut self, spared: &[PageRange]) -> Option<u64>
+        ensures same { IsSame self.old self.new }
+        ensures host { IsHost self.old self.new }
+        ensures was { IfSome result (λ page. IsTrue (holds self.old (8 * page)) × (is_dirty self.old page ≡ false)) }
+        ensures gone { IfSome result (λ page. holds self.new (8 * page) ≡ false) }
+        ensures spared { IfSome result (λ page. is_spared spared.now page ≡ false) }
+        // So what the host was asked or given before comes to an end before the page is asked for again.
+        ensures idle { IfSome result (λ page. (is_reading self.old page ≡ false) × (is_writing self.old page ≡ false)) }
+        ensures others { IfSome result (λ page. (b : ℕ) → b / 8 ≢ page → holds self.new b ≡ holds self.old b) }
+        ensures otherwise { IfNone result ((b : ℕ) → holds self.new b ≡ holds self.old b) }
+    {
+        self.cache.evict(spared)
+    }
+}
