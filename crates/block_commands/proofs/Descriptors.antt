@@ -6,6 +6,8 @@ use Rattle.std.specs.Prelude.{◌||◌, ◌&&◌}
 use Rattle.block_store.specs.Blocks.{is_within}
 use Rattle.command_model.specs.Capacity.{is_in_range}
 use Rattle.command_model.specs.UnmapList.{descriptor, descriptors_in, blocks_named, are_in_range, is_named}
+use Rattle.block_store.specs.Inner.Pages.{is_beside}
+use Rattle.block_commands.specs.Ready.{is_near_any}
 
 -- what is left of n descriptors behind the first k
 abbrev pub left : ℕ → ℕ → List ℕ → List (ℕ × ℕ)
@@ -45,3 +47,6 @@ module _ (n k : ℕ) (bytes : List ℕ) (lba count : ℕ) (below : k < n) (first
 
   pub is_named-more : (b : ℕ) → is_named (left n k bytes) b ≡ (is_within lba count b || is_named (left n (k + 1) bytes) b)
   is_named-more b = ap (λ l. is_named l b) here
+
+  pub is_near-more : (b : ℕ) → is_near_any (left n k bytes) b ≡ (is_beside lba count b || is_near_any (left n (k + 1) bytes) b)
+  is_near-more b = ap (λ l. is_near_any l b) here

@@ -92,3 +92,27 @@ unmapped-counted facts n bytes blocks ended =
       | inl empty ↦ rw (descriptors-none bytes empty.1) (refl, refl)
       | inr some ↦ neither _ _ (counted-good n _ _ _ (rw (none, some.0) at ended))
     ]
+
+pub or-first : (a b : Bool) → IsTrue a → IsTrue (a || b)
+or-first true b holds = refl
+or-first false b never = search rules
+
+pub or-second : (a b : Bool) → IsTrue b → IsTrue (a || b)
+or-second true b holds = refl
+or-second false b holds = holds
+
+pub first : (a b : Bool) → IsTrue (a && b) → IsTrue a
+first true b holds = refl
+first false b never = search rules
+
+-- what was left is done, or is left still, or was done and is
+pub done_in_turn : (here later any old new : Bool) → any ≡ (here || later) → (IsTrue here → IsTrue new) → (IsTrue old → IsTrue new) →
+    IsTrue (any || old) → IsTrue (later || new)
+done_in_turn here true any old new is now stays so_far = refl
+done_in_turn true false any old new is now stays so_far = now refl
+done_in_turn false false true old new is now stays so_far = cc
+done_in_turn false false false old new is now stays so_far = stays so_far
+
+pub and-both : (a b : Bool) → IsTrue a → IsTrue b → IsTrue (a && b)
+and-both true b it holds = holds
+and-both false b never holds = never

@@ -1,11 +1,12 @@
 //! COMPARE AND WRITE (SBC-3 §5.2).
 
-ghost use Rattle.std.specs.Prelude.{◌≡◌, ℕ, ◌*◌, ◌<◌, [], length, OnOk, OnErr, IfSome};
+ghost use Rattle.std.specs.Prelude.{◌≡◌, ℕ, ◌*◌, ◌<◌, [], length, OnOk, OnErr, IfSome, IsTrue};
 ghost use Rattle.block_store.specs.Blocks.{run, overwritten};
 ghost use Rattle.command_model.specs.Capacity.{is_in_range};
 ghost use Rattle.command_model.specs.Comparing.{first_unequal, to_compare, to_write};
 ghost use Rattle.command_model.specs.Replies.{within, compared};
 ghost use Rattle.block_commands.specs.Inner.Steps.{Gives, Wants};
+ghost use Rattle.block_commands.specs.Ready.{is_inside, is_near_to};
 
 use crate::capacity::is_in_range;
 use crate::failure::Failure;
@@ -22,7 +23,10 @@ pub(crate) fn compare_and_write<S: Store>(
     blocks: u8,
     bytes: &[u8],
 ) -> Result<(), Failure>
-    requires { length bytes.now ≡ 1024 * blocks }
+    requires size { length bytes.now ≡ 1024 * blocks }
+    requires held { (b : ℕ) → IsTrue (is_inside (S.size store.old) lba blocks b) → IsTrue (S.is_held store.old b) }
+    requires room { (b : ℕ) → IsTrue (is_inside (S.size store.old) lba blocks b) → IsTrue (S.has_room store.old b) }
+    requires near { (b : ℕ) → IsTrue (is_near_to (S.size store.old) lba blocks b) → IsTrue (S.is_held store.old b) }
     ensures answer { Gives (λ _. []) (within (S.size store.old) lba blocks
         (compared (first_unequal (to_compare blocks bytes.now) (run (S.block_at store.old) lba blocks)))) result }
     ensures want { Wants (is_in_range (S.size store.old) lba blocks) result }

@@ -1,6 +1,6 @@
 //! One command, run whole.
 
-ghost use Rattle.std.specs.Prelude.{◌≡◌, ◌≤◌, ◌+◌, ◌<◌, ◌^◌, ℕ, length, vec_len, IfOk, OnOk, OnErr, unwrap_or, MatchResult, IsOkAnd, IsTrue, [], Err};
+ghost use Rattle.std.specs.Prelude.{◌≡◌, ◌≤◌, ◌+◌, ◌<◌, ◌^◌, ℕ, length, vec_len, IfOk, OnOk, OnErr, unwrap_or, MatchResult, IsOkAnd, IsTrue, [], Err, None};
 ghost use Rattle.std.specs.Result.{ForOk};
 ghost use Rattle.cdb.specs.Need.{need_of};
 ghost use Rattle.command_model.specs.Data.{data_of};
@@ -9,7 +9,9 @@ ghost use Rattle.command_model.specs.Effects.{block_after, given};
 ghost use Rattle.block_commands.specs.Inner.Told.{facts_of};
 ghost use Rattle.command_model.specs.Memory.{may_want, wants};
 ghost use Rattle.command_model.specs.Replies.{reply_of, answer_of};
+ghost use Rattle.command_model.specs.Attention.{met};
 ghost use Rattle.block_commands.specs.Inner.Steps.{Gives, Replies, Wants};
+ghost use Rattle.block_commands.specs.Ready.{IsReady};
 
 use crate::attention::met_attention;
 use crate::capacity::{capacity_10, capacity_16};
@@ -45,7 +47,9 @@ pub fn exec<S: Store>(
     out: &[u8],
     facts: &UnitFacts,
 ) -> Result<Reply, NoMemory>
-    requires { (need_of command.now).out ≤ length out.now }
+    requires data { (need_of command.now).out ≤ length out.now }
+    requires ready { met command.now facts.now.pending ≡ None →
+        IsReady (S.is_held store.old) (S.has_room store.old) (S.size store.old) command.now (data_of command.now out.now) }
     ensures reply { IfOk result (λ reply. plain_of reply
         ≡ reply_of (facts_of facts.now (S.size store.old)) command.now (data_of command.now out.now)
         (S.block_at store.old)) }
@@ -74,7 +78,8 @@ fn run<S: Store>(
     bytes: &[u8],
     facts: &UnitFacts,
 ) -> Result<Vec<u8>, Failure>
-    requires { length bytes.now ≡ (need_of command.now).out }
+    requires data { length bytes.now ≡ (need_of command.now).out }
+    requires ready { IsReady (S.is_held store.old) (S.has_room store.old) (S.size store.old) command.now bytes.now }
     ensures answer { Gives (λ bytes. bytes.items)
         (answer_of (facts_of facts.now (S.size store.old)) command.now bytes.now (S.block_at store.old)) result }
     ensures ok { OnOk result ((b : ℕ) → S.block_at store.new b

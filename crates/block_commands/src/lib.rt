@@ -20,6 +20,7 @@ mod inquiry;
 pub mod laws;
 mod luns;
 mod prepared;
+mod readiness;
 mod transfer;
 mod unmap;
 
@@ -29,3 +30,4 @@ pub use extents::{Extent, UNMAP_HEADER_BYTES, extent_at, taken_descriptors};
 pub use facts::UnitFacts;
 pub use in_place::read_in_place;
 pub use prepared::exec_prepared;
+pub use readiness::make_ready;

@@ -1,10 +1,11 @@
 //! READ, WRITE and WRITE SAME.
 
-ghost use Rattle.std.specs.Prelude.{◌≡◌, ◌&&◌, nat_lt, ℕ, ◌*◌, ◌-◌, [], length, vec_len, IfOk, OnOk, OnErr, Ok};
+ghost use Rattle.std.specs.Prelude.{◌≡◌, ◌&&◌, nat_lt, ℕ, ◌*◌, ◌-◌, [], length, vec_len, IfOk, OnOk, OnErr, Ok, IsTrue};
 ghost use Rattle.block_store.specs.Blocks.{run, overwritten, filled};
 ghost use Rattle.command_model.specs.Capacity.{is_in_range};
 ghost use Rattle.command_model.specs.Replies.{within, done};
 ghost use Rattle.block_commands.specs.Inner.Steps.{Gives, Ends, Wants};
+ghost use Rattle.block_commands.specs.Ready.{is_inside, is_near_to};
 
 use crate::capacity::is_in_range;
 use crate::failure::Failure;
@@ -19,6 +20,7 @@ pub(crate) fn read<S: Store>(
     lba: u64,
     blocks: u16,
 ) -> Result<Vec<u8>, Failure>
+    requires held { (b : ℕ) → IsTrue (is_inside (S.size store.now) lba blocks b) → IsTrue (S.is_held store.now b) }
     ensures answer { Gives (λ bytes. bytes.items)
         (within (S.size store.now) lba blocks (Ok (run (S.block_at store.now) lba blocks))) result }
     ensures want { Wants (nat_lt 0 blocks && is_in_range (S.size store.now) lba blocks) result }
@@ -42,7 +44,9 @@ pub(crate) fn write<S: Store>(
     blocks: u16,
     bytes: &[u8],
 ) -> Result<(), Failure>
-    requires { length bytes.now ≡ 512 * blocks }
+    requires size { length bytes.now ≡ 512 * blocks }
+    requires room { (b : ℕ) → IsTrue (is_inside (S.size store.old) lba blocks b) → IsTrue (S.has_room store.old b) }
+    requires near { (b : ℕ) → IsTrue (is_near_to (S.size store.old) lba blocks b) → IsTrue (S.is_held store.old b) }
     ensures answer { Gives (λ _. []) (within (S.size store.old) lba blocks done) result }
     ensures want { Wants (is_in_range (S.size store.old) lba blocks) result }
     ensures ok { OnOk result ((b : ℕ) → S.block_at store.new b ≡ overwritten (S.block_at store.old) lba bytes.now b) }
@@ -64,7 +68,9 @@ pub(crate) fn write_same<S: Store>(
     blocks: u32,
     bytes: &[u8],
 ) -> Result<(), Failure>
-    requires { length bytes.now ≡ 512 }
+    requires size { length bytes.now ≡ 512 }
+    requires room { (b : ℕ) → IsTrue (is_inside (S.size store.old) lba blocks b) → IsTrue (S.has_room store.old b) }
+    requires near { (b : ℕ) → IsTrue (is_near_to (S.size store.old) lba blocks b) → IsTrue (S.is_held store.old b) }
     ensures answer { Gives (λ _. []) (within (S.size store.old) lba blocks done) result }
     ensures want { Wants (is_in_range (S.size store.old) lba blocks) result }
     ensures ok { OnOk result ((b : ℕ) → S.block_at store.new b ≡ filled (S.block_at store.old) lba blocks bytes.now b) }

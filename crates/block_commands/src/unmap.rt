@@ -1,10 +1,11 @@
 //! UNMAP (SBC-3 §5.28).
 
-ghost use Rattle.std.specs.Prelude.{◌≡◌, ℕ, ◌*◌, ◌≤◌, length, nat_lt, ◌||◌, IsTrue, OnOk, OnErr, if◌then◌else◌};
+ghost use Rattle.std.specs.Prelude.{◌≡◌, ℕ, ◌*◌, ◌≤◌, length, nat_lt, ◌||◌, ◌&&◌, IsTrue, OnOk, OnErr, if◌then◌else◌};
 ghost use Rattle.block_store.specs.Blocks.{zero_block};
 ghost use Rattle.command_model.specs.Replies.{unmap_answer};
 ghost use Rattle.command_model.specs.UnmapList.{descriptors_in, descriptors, blocks_named, are_in_range, is_named};
 ghost use Rattle.block_commands.specs.Inner.Steps.{Ends};
+ghost use Rattle.block_commands.specs.Ready.{is_done, is_near_any};
 
 use crate::capacity::is_in_range;
 use crate::extents::{UNMAP_HEADER_BYTES, extent_at, taken_descriptors};
@@ -20,6 +21,10 @@ const MOST_BLOCKS: u64 = 65536;
 /// Puts zeros into the blocks that the descriptors of the parameter list name, if none is refused:
 /// after an error nothing is changed. Takes no memory.
 pub(crate) fn unmap<S: Store>(store: &mut S, list: &[u8]) -> Result<(), Sense>
+    requires room { (b : ℕ) → IsTrue (is_done (unmap_answer (S.size store.old) list.now) && is_named (descriptors list.now) b)
+        → IsTrue (S.has_room store.old b) }
+    requires near { (b : ℕ) → IsTrue (is_done (unmap_answer (S.size store.old) list.now) && is_near_any (descriptors list.now) b)
+        → IsTrue (S.is_held store.old b) }
     ensures answer { Ends (unmap_answer (S.size store.old) list.now) result }
     ensures ok { OnOk result ((b : ℕ) → S.block_at store.new b
         ≡ (if is_named (descriptors list.now) b then zero_block else S.block_at store.old b)) }
@@ -45,7 +50,7 @@ pub(crate) fn unmap<S: Store>(store: &mut S, list: &[u8]) -> Result<(), Sense>
 }
 
 /// Returns true if these are more descriptors, or name more blocks in all, than an UNMAP may have.
-fn is_too_much(taken: &[u8], count: usize) -> bool
+pub(crate) fn is_too_much(taken: &[u8], count: usize) -> bool
     requires { 16 * count ≤ length taken.now }
     ensures { result ≡ (nat_lt 16 count || nat_lt 65536 (blocks_named (descriptors_in count taken.now))) }
 {
@@ -60,7 +65,7 @@ fn is_too_much(taken: &[u8], count: usize) -> bool
 }
 
 /// Returns true if each descriptor lies below the capacity.
-fn are_in_range(capacity: u64, taken: &[u8], count: usize) -> bool
+pub(crate) fn are_in_range(capacity: u64, taken: &[u8], count: usize) -> bool
     requires { 16 * count ≤ length taken.now }
     ensures { result ≡ are_in_range capacity (descriptors_in count taken.now) }
 {
@@ -77,6 +82,8 @@ fn are_in_range(capacity: u64, taken: &[u8], count: usize) -> bool
 fn zero_extents<S: Store>(store: &mut S, taken: &[u8], count: usize)
     requires fits { 16 * count ≤ length taken.now }
     requires range { IsTrue (are_in_range (S.size store.old) (descriptors_in count taken.now)) }
+    requires room { (b : ℕ) → IsTrue (is_named (descriptors_in count taken.now) b) → IsTrue (S.has_room store.old b) }
+    requires near { (b : ℕ) → IsTrue (is_near_any (descriptors_in count taken.now) b) → IsTrue (S.is_held store.old b) }
     ensures blocks { (b : ℕ) → S.block_at store.new b
         ≡ (if is_named (descriptors_in count taken.now) b then zero_block else S.block_at store.old b) }
     ensures size { S.size store.new ≡ S.size store.old }
