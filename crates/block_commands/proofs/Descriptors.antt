@@ -7,7 +7,7 @@ use Rattle.block_store.specs.Blocks.{is_within}
 use Rattle.command_model.specs.Capacity.{is_in_range}
 use Rattle.command_model.specs.UnmapList.{descriptor, descriptors_in, blocks_named, are_in_range, is_named}
 use Rattle.block_store.specs.Inner.Pages.{is_beside}
-use Rattle.block_commands.specs.Ready.{is_near_any}
+use Rattle.block_commands.specs.Inner.Ready.{is_near_any}
 
 -- what is left of n descriptors behind the first k
 abbrev pub left : ℕ → ℕ → List ℕ → List (ℕ × ℕ)

@@ -15,5 +15,4 @@ pub use Rattle.command_model.specs.Luns
 pub use Rattle.command_model.specs.Replies
 pub use Rattle.command_model.specs.UnmapList
 pub mod Prepared
-pub mod Ready
 pub mod Inner

@@ -6,7 +6,7 @@ ghost use Rattle.command_model.specs.Capacity.{is_in_range};
 ghost use Rattle.command_model.specs.Comparing.{first_unequal, to_compare, to_write};
 ghost use Rattle.command_model.specs.Replies.{within, compared};
 ghost use Rattle.block_commands.specs.Inner.Steps.{Gives, Wants};
-ghost use Rattle.block_commands.specs.Ready.{is_inside, is_near_to};
+ghost use Rattle.block_commands.specs.Inner.Ready.{is_inside, is_near_to};
 
 use crate::capacity::is_in_range;
 use crate::failure::Failure;

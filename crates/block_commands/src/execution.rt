@@ -11,7 +11,7 @@ ghost use Rattle.command_model.specs.Memory.{may_want, wants};
 ghost use Rattle.command_model.specs.Replies.{reply_of, answer_of};
 ghost use Rattle.command_model.specs.Attention.{met};
 ghost use Rattle.block_commands.specs.Inner.Steps.{Gives, Replies, Wants};
-ghost use Rattle.block_commands.specs.Ready.{IsReady};
+ghost use Rattle.block_commands.specs.Inner.Ready.{IsReady};
 
 use crate::attention::met_attention;
 use crate::capacity::{capacity_10, capacity_16};

@@ -5,7 +5,7 @@ ghost use Rattle.block_store.specs.Blocks.{run, overwritten, filled};
 ghost use Rattle.command_model.specs.Capacity.{is_in_range};
 ghost use Rattle.command_model.specs.Replies.{within, done};
 ghost use Rattle.block_commands.specs.Inner.Steps.{Gives, Ends, Wants};
-ghost use Rattle.block_commands.specs.Ready.{is_inside, is_near_to};
+ghost use Rattle.block_commands.specs.Inner.Ready.{is_inside, is_near_to};
 
 use crate::capacity::is_in_range;
 use crate::failure::Failure;

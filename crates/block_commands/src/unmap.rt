@@ -5,7 +5,7 @@ ghost use Rattle.block_store.specs.Blocks.{zero_block};
 ghost use Rattle.command_model.specs.Replies.{unmap_answer};
 ghost use Rattle.command_model.specs.UnmapList.{descriptors_in, descriptors, blocks_named, are_in_range, is_named};
 ghost use Rattle.block_commands.specs.Inner.Steps.{Ends};
-ghost use Rattle.block_commands.specs.Ready.{is_done, is_near_any};
+ghost use Rattle.block_commands.specs.Inner.Ready.{is_done, is_near_any};
 
 use crate::capacity::is_in_range;
 use crate::extents::{UNMAP_HEADER_BYTES, extent_at, taken_descriptors};

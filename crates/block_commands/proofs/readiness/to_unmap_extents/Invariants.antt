@@ -2,7 +2,7 @@ use Rattle.std.proofs.Common.{◌≡◌, ◌≢◌, ℕ, IsTrue}
 use Rattle.std.specs.Prelude.{◌||◌}
 use Rattle.block_store.specs.declared.readiness.Readiness.TheVariants.{Ready, Full}
 use Rattle.command_model.specs.UnmapList.{descriptors_in, are_in_range, is_named}
-use Rattle.block_commands.specs.Ready.{is_near_any}
+use Rattle.block_commands.specs.Inner.Ready.{is_near_any}
 use Rattle.block_commands.proofs.Descriptors.{left}
 use Rattle.block_commands.proofs.readiness.to_unmap_extents.Given as goal
 

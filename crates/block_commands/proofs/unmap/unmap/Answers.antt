@@ -1,7 +1,7 @@
 use Rattle.std.proofs.Common.{◌≡◌, IsTrue, length, refl, sym, ◌∙◌, arith}
 use Rattle.std.proofs.lemmas.Bool.Decides.{nat_tests}
 use Rattle.command_model.specs.UnmapList.{descriptors, is_named}
-use Rattle.block_commands.specs.Ready.{is_near_any}
+use Rattle.block_commands.specs.Inner.Ready.{is_near_any}
 use Rattle.block_commands.proofs.Unmapping.{descriptors-none, unmap_answer-too_much, unmap_answer-outside, unmap_answer-done}
 use Rattle.block_commands.proofs.unmap.unmap.Goals as goal
 

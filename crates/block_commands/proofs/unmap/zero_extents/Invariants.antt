@@ -1,7 +1,7 @@
 use Rattle.std.proofs.Common.{◌≡◌, ℕ, if◌then◌else◌, IsTrue}
 use Rattle.block_store.specs.Blocks.{zero_block}
 use Rattle.command_model.specs.UnmapList.{descriptors_in, are_in_range, is_named}
-use Rattle.block_commands.specs.Ready.{is_near_any}
+use Rattle.block_commands.specs.Inner.Ready.{is_near_any}
 use Rattle.block_commands.proofs.Descriptors.{left}
 use Rattle.block_commands.proofs.unmap.zero_extents.Given as goal
 
