@@ -4,7 +4,7 @@ use Rattle.block_store.specs.Blocks.{Blocks}
 use Rattle.block_store.specs.Kept as pages
 use Rattle.block_store.specs.Inner.Padding.{length-blocks_in}
 use Rattle.backed_store.specs.Stores as backed
-use Rattle.backed_store.specs.Whole.{length-contents}
+use Rattle.backed_store.specs.Inner.Whole.{length-contents}
 use Rattle.backed_store.specs.declared.disk.Disk.{Disk}
 use Rattle.backed_store.specs.declared.disk.Disk.TheVariants.{Whole, Backed}
 

@@ -9,5 +9,5 @@ pub mod Spared
 pub mod Passing
 pub mod Backing
 pub mod Stores
-pub mod Whole
+pub mod Inner
 pub mod Disks

@@ -10,7 +10,7 @@ static ZEROS: [u8; BLOCK_BYTES] = [0; BLOCK_BYTES];
 impl Store for BackedStore {
     ghost use Rattle.std.specs.Prelude.{false};
     ghost use Rattle.backed_store.specs.Stores.{contents, holds, is_coming, has_room};
-    ghost use Rattle.backed_store.specs.Whole.{length-contents};
+    ghost use Rattle.backed_store.specs.Inner.Whole.{length-contents};
 
     ghost size = { λ s. s.capacity };
 
