@@ -1,7 +1,8 @@
 -- The phase that answers the job in a seat's hand takes the turn of its event.
 use Rattle.std.proofs.Common.{◌≡◌, ℕ, Bool, true, false, List, length, Some, refl, sym, ap, ◌∙◌, subst}
-use Rattle.std.specs.Prelude.{slice_get, slice_set, map}
+use Rattle.std.specs.Prelude.{slice_get, slice_set, map, ⊤}
 use Rattle.ring_core.specs.State.{Owns}
+use Rattle.ring_core.specs.Writes.{Write}
 use Rattle.unit_model.specs.Jobs.{PlainJob}
 use Rattle.device_model.specs.Parts.{Outcome, Slot, Hand}
 use Rattle.device_model.specs.World.{PlainQueue, Seat, PlainWorld, Everywhere, change}
@@ -16,6 +17,7 @@ use Rattle.virtqueue.specs.Queue.{BareQueue}
 use Rattle.phases.specs.Queue.{with_slot}
 use Rattle.phases.specs.Direct.{decided_writes, StaysQueue}
 use Rattle.phases.specs.Answering.{Answers}
+use Rattle.phases.specs.Inner.Stored.{answered_writes}
 use Rattle.phases.specs.Inner.InMemory.{as_seen, DoesQueueIn, AtQueueIn, AnswersIn, LetsGoIn, StaysQueueIn}
 use Rattle.device_steps.specs.Kept.{KeptSeat, seat_of}
 use Rattle.device_model.specs.Turns.{Turns}
@@ -25,7 +27,7 @@ use Rattle.device_steps.proofs.Setting.{set_change}
 use Rattle.device_steps.proofs.Seats.{seat_set, shown, one_there, with_queue_and_seat, moved_queue}
 use Rattle.device_steps.proofs.InMemory.{turned}
 
-module _ (w : PlainWorld) (kept : List KeptSeat) (k : ℕ) (x : PlainJob) (o : Outcome) (jobs : List PlainJob) (limit : ℕ)
+module _ (stored : List Write → Type 0) (w : PlainWorld) (kept : List KeptSeat) (k : ℕ) (x : PlainJob) (o : Outcome) (jobs : List PlainJob) (limit : ℕ)
     (slot : Slot) (q r : BareQueue) (m n : List ℕ) (h : Hand) (seats : w.seats ≡ map seat_of kept)
     (at : slice_get kept k ≡ Some (record { hand = Hand.Done x o; jobs = jobs; limit = limit }))
     (there : slice_get w.queues x.chain.ticket.queue ≡ Some (with_slot slot q)) where
@@ -35,10 +37,10 @@ module _ (w : PlainWorld) (kept : List KeptSeat) (k : ℕ) (x : PlainJob) (o : O
 
   -- the job is answered
   answered : AtQueueIn w.shared (Transition.Answer k x o (as_seen n (decided_writes q.ring x.chain o))) q w.memory r m
-      → h ≡ Hand.Answered x.unit x.chain.ticket
-      → TurnsSeen n w (Event.Answer k) true (with_queue_and_seat w m x.chain.ticket.queue (with_slot slot r) kept k
+      → h ≡ Hand.Answered x.unit x.chain.ticket → stored (decided_writes q.ring x.chain o)
+      → TurnsSeen stored n w (Event.Answer k) true (with_queue_and_seat w m x.chain.ticket.queue (with_slot slot r) kept k
       (record { hand = h; jobs = jobs; limit = limit }))
-  answered at_queue hs =
+  answered at_queue hs wrote =
       let xs = decided_writes q.ring x.chain o in
       let d = Transition.Answer k x o (as_seen n xs) in
       let i = x.chain.ticket.queue in
@@ -51,8 +53,14 @@ module _ (w : PlainWorld) (kept : List KeptSeat) (k : ℕ) (x : PlainJob) (o : O
       ∙ ap (λ (zs : List Seat). change (with_hand hand) k zs) (sym seats) in
       let g : PlainQueue → PlainQueue = completing n x.chain in
       let eq : slice_set w.queues i (with_slot slot r) ≡ change g i w.queues =
-      ap (λ (z : PlainQueue). slice_set w.queues i z) does.queue ∙ set_change g i w.queues (with_slot slot q) there in
-      (d, refl, joins d w held tt (with_slot slot q, there, does.asks w.missed), moved_queue w _ _ _ _ _ _ does.memory eq es, refl)
+      ap (λ (z : PlainQueue). slice_set w.queues i z) does.queue ∙ set_change g i w.queues (with_slot slot q) there in (
+        d,
+        refl,
+        joins d w held tt (with_slot slot q, there, does.asks w.missed),
+        moved_queue w _ _ _ _ _ _ does.memory eq es,
+        refl,
+        wrote,
+      )
 
   -- the queue owns the chain, so it isn't let go
   must_answer : IsSound w → Everywhere (λ i (q : PlainQueue). q.ring.memory ≡ length w.memory) w.queues
@@ -67,24 +75,25 @@ module _ (w : PlainWorld) (kept : List KeptSeat) (k : ℕ) (x : PlainJob) (o : O
       })
 
 -- the phase takes the event's turn
-pub answers : (w : PlainWorld) (kept : List KeptSeat) (k i : ℕ) (hand : Hand) (jobs : List PlainJob) (limit : ℕ)
+pub answers : (stored : List Write → Type 0) (w : PlainWorld) (kept : List KeptSeat) (k i : ℕ) (hand : Hand) (jobs : List PlainJob) (limit : ℕ)
     (slot : Slot) (q r : BareQueue) (m n : List ℕ) (h : Hand) (b : Bool) → IsSound w
     → Everywhere (λ i (q : PlainQueue). q.ring.memory ≡ length w.memory) w.queues
     → w.seats ≡ map seat_of kept → slice_get kept k ≡ Some (record { hand = hand; jobs = jobs; limit = limit })
-    → answering_queue hand ≡ Some i → slice_get w.queues i ≡ Some (with_slot slot q) → AnswersIn w.shared hand q w.memory b r m n h
-    → TurnsSeen n w (Event.Answer k) b (with_queue_and_seat w m i (with_slot slot r) kept k
+    → answering_queue hand ≡ Some i → slice_get w.queues i ≡ Some (with_slot slot q)
+    → stored (answered_writes hand q.ring b) → AnswersIn w.shared hand q w.memory b r m n h
+    → TurnsSeen stored n w (Event.Answer k) b (with_queue_and_seat w m i (with_slot slot r) kept k
     (record { hand = h; jobs = jobs; limit = limit }))
-answers w kept k i Hand.Empty jobs limit slot q r m n h b sound fits seats at queue there c = absurd (nothing queue)
-answers w kept k i (Hand.Taken x) jobs limit slot q r m n h b sound fits seats at queue there c = absurd (nothing queue)
-answers w kept k i (Hand.Answered p t) jobs limit slot q r m n h b sound fits seats at queue there c = absurd (nothing queue)
-answers w kept k i (Hand.Done x o) jobs limit slot q r m n h true sound fits seats at queue there c =
+answers stored w kept k i Hand.Empty jobs limit slot q r m n h b sound fits seats at queue there wrote c = absurd (nothing queue)
+answers stored w kept k i (Hand.Taken x) jobs limit slot q r m n h b sound fits seats at queue there wrote c = absurd (nothing queue)
+answers stored w kept k i (Hand.Answered p t) jobs limit slot q r m n h b sound fits seats at queue there wrote c = absurd (nothing queue)
+answers stored w kept k i (Hand.Done x o) jobs limit slot q r m n h true sound fits seats at queue there wrote c =
     let is : x.chain.ticket.queue ≡ i = same queue in
-    subst (λ j. TurnsSeen n w (Event.Answer k) true (with_queue_and_seat w m j (with_slot slot r) kept k
+    subst (λ j. TurnsSeen stored n w (Event.Answer k) true (with_queue_and_seat w m j (with_slot slot r) kept k
     (record { hand = h; jobs = jobs; limit = limit }))) is
-    (answered w kept k x o jobs limit slot q r m n h seats at (ap (λ n. slice_get w.queues n) is ∙ there) (c.0 k) c.1)
-answers w kept k i (Hand.Done x o) jobs limit slot q r m n h false sound fits seats at queue there c =
+    (answered stored w kept k x o jobs limit slot q r m n h seats at (ap (λ n. slice_get w.queues n) is ∙ there) (c.0 k) c.1 wrote)
+answers stored w kept k i (Hand.Done x o) jobs limit slot q r m n h false sound fits seats at queue there wrote c =
     let there_x = ap (λ n. slice_get w.queues n) (same queue) ∙ there in
-    absurd (must_answer w kept k x o jobs limit slot q r m n h seats at there_x sound fits c.0)
+    absurd (must_answer stored w kept k x o jobs limit slot q r m n h seats at there_x sound fits c.0)
 
 -- where nothing is changed, what is left is found
 own_stays : (q r : BareQueue) (m m' : List ℕ) → StaysQueue q r m m' → StaysQueueIn q r m m' m'
@@ -118,6 +127,6 @@ pub answers_own : (w : PlainWorld) (kept : List KeptSeat) (k i : ℕ) (hand : Ha
     → Turns w (Event.Answer k) b (with_queue_and_seat w m i (with_slot slot r) kept k
     (record { hand = h; jobs = jobs; limit = limit }))
 answers_own w kept k i hand jobs limit slot q r m h b sound fits seats at queue there c =
-    turned m w (Event.Answer k) b _
-    (answers w kept k i hand jobs limit slot q r m m h b sound fits seats at queue there
+    turned (λ ws. ⊤) m w (Event.Answer k) b _
+    (answers (λ ws. ⊤) w kept k i hand jobs limit slot q r m m h b sound fits seats at queue there tt
     (own_answers w.shared hand q r w.memory m b h c))

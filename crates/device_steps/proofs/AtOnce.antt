@@ -1,6 +1,6 @@
 -- A request that is served at once: seven events, each the first that applies, one after another.
 use Rattle.std.proofs.Common.{◌≡◌, ◌≤◌, ◌<◌, ◌+◌, ◌*◌, ℕ, zero, suc, Bool, true, false, List, [], ◌∷◌, length, Option, Some, None, Ok, refl, sym, ap, ◌∙◌, subst, inl, inr, arith}
-use Rattle.std.specs.Prelude.{slice_get, slice_set, map, drop}
+use Rattle.std.specs.Prelude.{slice_get, slice_set, map, drop, ⊤}
 use Rattle.std.specs.List.{AllByRecursion}
 use Rattle.std.proofs.lemmas.Option.{slice_get_within}
 use Rattle.unit_model.specs.Jobs.{PlainJob, Jobs}
@@ -205,9 +205,10 @@ pub fetches_only : (asked : ℕ → Bool) (w : PlainWorld) (i : ℕ) (q q' : Pla
     → StepsNext asked (Sees w.memory w.memory) w cursor.Start (record w { queues = slice_set w.queues i q' })
 fetches_only asked w i q q' sound may at fits before below is_asked fetched =
     let w' = record w { queues = slice_set w.queues i q' } in
-    let turn = fetch_seen w i (Ok true) w' (λ one. omega (arith, one, may.request))
+    let turn = fetch_seen (λ ws. ⊤) w i (Ok true) w' tt (λ one. omega (arith, one, may.request))
     (request_turns w i q q' (Ok true) sound may.request at fits fetched) in
-    fetch_next asked (Sees w.memory w.memory) w w' i cursor.Start before below may.there is_asked turn (inl refl)
+    fetch_next asked (Sees w.memory w.memory) w w' i cursor.Start before below may.there is_asked
+    (turn.0, turn.1, turn.2, turn.3, turn.4) (inl refl)
 
 -- and where a request arrives, it comes to its unit next
 pub takes_next : (sound : AreSound) (asked : ℕ → Bool) (w : PlainWorld) → IsWhole w → (i : ℕ) (q : PlainQueue)
@@ -219,9 +220,10 @@ pub takes_next : (sound : AreSound) (asked : ℕ → Bool) (w : PlainWorld) → 
 takes_next sound asked w whole i q fits may at before below on x lent fetched =
     let q1 = with_slot (Slot.Arrived x) lent in
     let w1 = record w { queues = slice_set w.queues i q1 } in
-    let turn = fetch_seen w i (Ok true) w1 (λ one. omega (arith, one, may.request))
+    let turn = fetch_seen (λ ws. ⊤) w i (Ok true) w1 tt (λ one. omega (arith, one, may.request))
     (request_turns w i q q1 (Ok true) (sound w whole.reached) may.request at (fits i q at) fetched) in
-    fetch_next asked (Sees w.memory w.memory) w w1 i (cursor.Enter i) before below may.there on turn
+    fetch_next asked (Sees w.memory w.memory) w w1 i (cursor.Enter i) before below may.there on
+    (turn.0, turn.1, turn.2, turn.3, turn.4)
     (inr (refl, may.closed, (x, (q1, get_set w.queues i q1 may.there, refl))))
 
 module _ (sound : AreSound) (asked : ℕ → Bool) (w : PlainWorld) (whole : IsWhole w) (i : ℕ) (q : PlainQueue) (limit : ℕ)
@@ -398,10 +400,10 @@ module _ (sound : AreSound) (asked : ℕ → Bool) (w : PlainWorld) (whole : IsW
 
       next6 : StepsNext asked (SeenToo m' seen) w5 cursor.Seats w6
       next6 =
-          let answer = answering.answers w5 (bare (Hand.Done x s.outcome) limit ∷ rest) 0 i (Hand.Done x s.outcome) [] limit
+          let answer = answering.answers (λ ws. ⊤) w5 (bare (Hand.Done x s.outcome) limit ∷ rest) 0 i (Hand.Done x s.outcome) [] limit
           Slot.Empty lent q' m' seen (Hand.Answered x.unit x.chain.ticket) true (sound w5 whole5.reached)
           (everywhere_set (λ j (z : PlainQueue). z.ring.memory ≡ length w.memory) i w1.queues (slotted Slot.Empty q1) fits1
-          (fits1 i q1 at1)) refl refl (ap (λ (k : ℕ). Some k) own) at2 s.answers in
+          (fits1 i q1 at1)) refl refl (ap (λ (k : ℕ). Some k) own) at2 tt s.answers in
           let by : TurnsBy (SeenToo m' seen) w5 (Event.Answer 0) w6 =
           (answer.0, answer.1, answer.2, answer.3, (answer.4, λ is. no_answer 0 (subst IsFetch answer.1 is))) in
           seat_next asked (SeenToo m' seen) w5 w6 0 cursor.Seats next5.4.0 next5.4.1 (none_below w5) (omega arith)

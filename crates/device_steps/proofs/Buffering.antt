@@ -9,12 +9,13 @@ use Rattle.event_queue.specs.Port.{PlainPort}
 use Rattle.device_model.specs.Parts.{Slot, is_short}
 use Rattle.device_model.specs.World.{PlainQueue, PlainWorld, change}
 use Rattle.device_model.specs.Events.{Event}
-use Rattle.device_model.specs.Transitions.{Transition}
+use Rattle.device_model.specs.Transitions.{Transition, completion_of}
 use Rattle.device_model.specs.Changing.{taking, spending, broken_by}
 use Rattle.device_model.specs.Event.Fetch.{IsOpenTo}
 use Rattle.device_model.specs.Phases.{AsksQueue}
 use Rattle.device_model.proofs.Joining.{joins}
 use Rattle.phases.specs.EventQueue.{IsEventFetch, MayHold, port_after}
+use Rattle.phases.specs.Inner.Stored.{writes_of}
 use Rattle.phases.specs.Inner.EventsInMemory.{DoesAtPortIn, FetchesEventIn, StaysAtPortIn}
 use Rattle.device_steps.specs.Apart.{TurnsSeen, TurnsSeenOrWants}
 use Rattle.device_steps.specs.Sound.{AreFew, size_of}
@@ -50,9 +51,10 @@ module _ (w : PlainWorld) (k : ℕ) (q q' : PlainQueue) (m' n : List ℕ) (p p' 
       ap (λ m. changed m (slice_set w.queues k q') p') a ∙ ap (λ qs. changed m qs p') b ∙ ap (λ z. changed m qs z) c
 
   -- a fetch with its transition is a turn
-  event_transition : (d : Transition) → q.slot ≡ Slot.Empty → IsEventFetch d → DoesAtPortIn w.shared d q w.memory p q' m' n p'
-      → TurnsSeen n w (Event.Fetch 1) true (with_port m' (slice_set w.queues k q') p' w)
-  event_transition (Transition.Hold f) empty of does =
+  event_transition : (stored : List Write → Type 0) (d : Transition) → q.slot ≡ Slot.Empty → IsEventFetch d
+      → DoesAtPortIn w.shared d q w.memory p q' m' n p' → stored (writes_of (completion_of d))
+      → TurnsSeen stored n w (Event.Fetch 1) true (with_port m' (slice_set w.queues k q') p' w)
+  event_transition stored (Transition.Hold f) empty of does wrote =
       let d = Transition.Hold f in
       let here = at_number w k f.chain.ticket.queue q at (of ∙ sym second) in
       let set = set_as (taking f.chain) k f.chain.ticket.queue w.queues q q' at does.queue (of ∙ sym second) in
@@ -64,8 +66,9 @@ module _ (w : PlainWorld) (k : ℕ) (q q' : PlainQueue) (m' n : List ℕ) (p p' 
             ∙ ap (λ (b : List PlainChain). record w { queues = qs; buffers = b ++ f.chain ∷ []; missed = p.missed }) held
             ∙ ap (λ (b : Bool). record w { queues = qs; buffers = w.buffers ++ f.chain ∷ []; missed = b }) missed,
         does.sees,
+        wrote,
       )
-  event_transition (Transition.UseBuffer f xs) empty of does =
+  event_transition stored (Transition.UseBuffer f xs) empty of does wrote =
       let d = Transition.UseBuffer f xs in
       let here = at_number w k f.chain.ticket.queue q at (of ∙ sym second) in
       let m = all_written w.memory xs.writes in
@@ -78,8 +81,9 @@ module _ (w : PlainWorld) (k : ℕ) (q q' : PlainQueue) (m' n : List ℕ) (p p' 
             ∙ ap (λ (b : List PlainChain). record w { memory = m; queues = qs; buffers = b; missed = p.missed && is_short f.chain }) held
             ∙ ap (λ (b : Bool). record w { memory = m; queues = qs; missed = b && is_short f.chain }) missed,
         does.sees,
+        wrote,
       )
-  event_transition (Transition.Break n fault) empty of does =
+  event_transition stored (Transition.Break n fault) empty of does wrote =
       let d = Transition.Break n fault in
       let here = at_number w k n q at (of ∙ sym second) in
       let set = set_as (broken_by fault) k n w.queues q q' at does.queue (of ∙ sym second) in
@@ -91,8 +95,9 @@ module _ (w : PlainWorld) (k : ℕ) (q q' : PlainQueue) (m' n : List ℕ) (p p' 
             ∙ ap (λ (b : List PlainChain). record w { queues = qs; buffers = b; missed = p.missed }) held
             ∙ ap (λ (b : Bool). record w { queues = qs; missed = b }) missed,
         does.sees,
+        wrote,
       )
-  event_transition d empty of does = absurd of
+  event_transition stored d empty of does wrote = absurd of
 
   -- where nothing was changed the world is as it was
   event_still : StaysAtPortIn q w.memory p q' m' n p' → with_port m' (slice_set w.queues k q') p' w ≡ w
@@ -104,14 +109,16 @@ module _ (w : PlainWorld) (k : ℕ) (q q' : PlainQueue) (m' n : List ℕ) (p p' 
   -- what a fetch does is a turn of its event, or memory was refused
   pub event_turns : (stored : List Write → Type 0) (r : Result Bool NoMemory) → IsSound w → q.ring.memory ≡ length w.memory → MayHold p
       → FetchesEventIn w.shared stored q w.memory p r q' m' n p'
-      → TurnsSeenOrWants n w (Event.Fetch 1) r (with_port m' (slice_set w.queues k q') p' w)
-  event_turns stored (Ok true) sound fits room h = event_transition h.2.0 h.1.empty h.2.1 h.2.2
+      → TurnsSeenOrWants stored n w (Event.Fetch 1) r (with_port m' (slice_set w.queues k q') p' w)
+  event_turns stored (Ok true) sound fits room h =
+      event_transition stored h.2.0 h.1.empty h.2.1 h.2.2 h.2.3
   event_turns stored (Ok false) sound fits room h = (
     event_still h.0,
     λ may.
         h.1 ((sound.numbered k q at).queue ∙ second) room
         (has_some w 1 q (at_number w k 1 q at (sym second)) (sym fits) may),
     h.0.sees,
+    h.2,
   )
   event_turns stored (Err e) sound fits room h = (
     record {
@@ -123,6 +130,7 @@ module _ (w : PlainWorld) (k : ℕ) (q q' : PlainQueue) (m' n : List ℕ) (p p' 
     },
     event_still h.0,
     h.0.sees,
+    h.4,
   )
 
 -- a transition keeps how many buffers the port may hold

@@ -1,7 +1,8 @@
 -- The phase that answers the chain that is ready on a queue takes the turn of its event.
-use Rattle.std.proofs.Common.{◌≡◌, ℕ, Bool, true, false, List, length, Some, refl, sym, ap, ◌∙◌, subst}
+use Rattle.std.proofs.Common.{◌≡◌, ℕ, Bool, true, false, List, [], length, Some, refl, sym, ap, ◌∙◌, subst}
 use Rattle.std.specs.Prelude.{slice_get, slice_set}
 use Rattle.ring_core.specs.State.{PlainChain, Owns}
+use Rattle.ring_core.specs.Writes.{Write}
 use Rattle.device_model.specs.Parts.{Outcome, Slot}
 use Rattle.device_model.specs.World.{PlainQueue, PlainWorld, Everywhere, change}
 use Rattle.device_model.specs.Transitions.{Transition}
@@ -11,6 +12,7 @@ use Rattle.device_model.proofs.Joining.{joins}
 use Rattle.virtqueue.specs.Queue.{BareQueue}
 use Rattle.phases.specs.Queue.{with_slot}
 use Rattle.phases.specs.Direct.{decided_writes}
+use Rattle.phases.specs.Inner.Stored.{directed_writes}
 use Rattle.phases.specs.Inner.InMemory.{as_seen, DoesQueueIn, DirectsIn, LetsGoIn, StaysQueueIn}
 use Rattle.device_steps.specs.Apart.{TurnsSeen}
 use Rattle.device_steps.specs.Inner.Sound.{IsSound}
@@ -28,13 +30,13 @@ moved w m m' queues queues' em eq =
     ap (λ (z : List ℕ). record w { memory = z; queues = queues }) em
     ∙ ap (λ (z : List PlainQueue). record w { memory = m'; queues = z }) eq
 
-module _ (w : PlainWorld) (i : ℕ) (d : PlainChain) (o : Outcome) (q r : BareQueue) (m n : List ℕ) (s : Slot)
-    (there : slice_get w.queues i ≡ Some (with_slot (Slot.Direct d o) q)) where
+module _ (stored : List Write → Type 0) (w : PlainWorld) (i : ℕ) (d : PlainChain) (o : Outcome) (q r : BareQueue)
+    (m n : List ℕ) (s : Slot) (there : slice_get w.queues i ≡ Some (with_slot (Slot.Direct d o) q)) where
   -- the chain is answered
-  directed : d.ticket.queue ≡ i
+  directed : d.ticket.queue ≡ i → stored (decided_writes q.ring d o)
       → DoesQueueIn w.shared w.inventory (Transition.Direct d o (as_seen n (decided_writes q.ring d o))) (with_slot (Slot.Direct d o) q) w.memory
-      (with_slot s r) m → TurnsSeen n w (Event.Direct i) true (with_queue w m i (with_slot s r))
-  directed is does =
+      (with_slot s r) m → TurnsSeen stored n w (Event.Direct i) true (with_queue w m i (with_slot s r))
+  directed is wrote does =
       let xs = decided_writes q.ring d o in
       let z = with_slot (Slot.Direct d o) q in
       let there_d : slice_get w.queues d.ticket.queue ≡ Some z = ap (λ n. slice_get w.queues n) is ∙ there in
@@ -48,6 +50,7 @@ module _ (w : PlainWorld) (i : ℕ) (d : PlainChain) (o : Outcome) (q r : BareQu
         joins e w (z, there_d, refl) tt (z, there_d, does.asks w.missed),
         moved w _ _ _ _ does.memory eq,
         refl,
+        wrote,
       )
 
   -- the queue owns the chain, so it isn't let go
@@ -64,10 +67,11 @@ module _ (w : PlainWorld) (i : ℕ) (d : PlainChain) (o : Outcome) (q r : BareQu
       })
 
 -- nothing is changed, and no chain is ready
-stays : (w : PlainWorld) (i : ℕ) (slot s : Slot) (q r : BareQueue) (m n : List ℕ)
-    → slice_get w.queues i ≡ Some (with_slot slot q) → ((d : PlainChain) (o : Outcome) → slot ≡ Slot.Direct d o → ⊥)
-    → StaysQueueIn q r w.memory m n × (s ≡ slot) → TurnsSeen n w (Event.Direct i) false (with_queue w m i (with_slot s r))
-stays w i slot s q r m n there not_ready (same_queue, ss) =
+stays : (stored : List Write → Type 0) (w : PlainWorld) (i : ℕ) (slot s : Slot) (q r : BareQueue) (m n : List ℕ)
+    → stored [] → slice_get w.queues i ≡ Some (with_slot slot q) → ((d : PlainChain) (o : Outcome) → slot ≡ Slot.Direct d o → ⊥)
+    → StaysQueueIn q r w.memory m n × (s ≡ slot)
+    → TurnsSeen stored n w (Event.Direct i) false (with_queue w m i (with_slot s r))
+stays stored w i slot s q r m n none there not_ready (same_queue, ss) =
     let eq : slice_set w.queues i (with_slot s r) ≡ w.queues =
     ap (λ (z : BareQueue). slice_set w.queues i (with_slot s z)) same_queue.queue
     ∙ (ap (λ (z : Slot). slice_set w.queues i (with_slot z q)) ss ∙ set_same i w.queues (with_slot slot q) there) in (
@@ -75,19 +79,21 @@ stays w i slot s q r m n there not_ready (same_queue, ss) =
       λ (d, o, (z, there_z, is)).
           not_ready d o (ap (λ (y : PlainQueue). y.slot) (one_there w.queues i _ z there there_z) ∙ is),
       same_queue.seen,
+      none,
     )
 
 -- the phase takes the event's turn
-pub directs : (w : PlainWorld) (i : ℕ) (slot s : Slot) (q r : BareQueue) (m n : List ℕ) (b : Bool) → IsSound w
+pub directs : (stored : List Write → Type 0) (w : PlainWorld) (i : ℕ) (slot s : Slot) (q r : BareQueue) (m n : List ℕ) (b : Bool) → IsSound w
     → Everywhere (λ i (q : PlainQueue). q.ring.memory ≡ length w.memory) w.queues
-    → slice_get w.queues i ≡ Some (with_slot slot q) → DirectsIn w.shared slot q w.memory b r m n s
-    → TurnsSeen n w (Event.Direct i) b (with_queue w m i (with_slot s r))
-directs w i Slot.Empty s q r m n true sound fits there c = absurd c
-directs w i Slot.Empty s q r m n false sound fits there c = stays w i Slot.Empty s q r m n there (λ d o e. cc) c
-directs w i (Slot.Arrived x) s q r m n true sound fits there c = absurd c
-directs w i (Slot.Arrived x) s q r m n false sound fits there c =
-    stays w i (Slot.Arrived x) s q r m n there (λ d o e. cc) c
-directs w i (Slot.Direct d o) s q r m n true sound fits there c =
-    directed w i d o q r m n s there (sound.owned.slots i _ there).0 (c.0 w.inventory)
-directs w i (Slot.Direct d o) s q r m n false sound fits there c =
-    absurd (must_direct w i d o q r m n s there sound fits c.0)
+    → slice_get w.queues i ≡ Some (with_slot slot q) → stored (directed_writes slot q.ring b)
+    → DirectsIn w.shared slot q w.memory b r m n s → TurnsSeen stored n w (Event.Direct i) b (with_queue w m i (with_slot s r))
+directs stored w i Slot.Empty s q r m n true sound fits there wrote c = absurd c
+directs stored w i Slot.Empty s q r m n false sound fits there wrote c =
+    stays stored w i Slot.Empty s q r m n wrote there (λ d o e. cc) c
+directs stored w i (Slot.Arrived x) s q r m n true sound fits there wrote c = absurd c
+directs stored w i (Slot.Arrived x) s q r m n false sound fits there wrote c =
+    stays stored w i (Slot.Arrived x) s q r m n wrote there (λ d o e. cc) c
+directs stored w i (Slot.Direct d o) s q r m n true sound fits there wrote c =
+    directed stored w i d o q r m n s there (sound.owned.slots i _ there).0 wrote (c.0 w.inventory)
+directs stored w i (Slot.Direct d o) s q r m n false sound fits there wrote c =
+    absurd (must_direct stored w i d o q r m n s there sound fits c.0)

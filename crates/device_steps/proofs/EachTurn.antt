@@ -1,6 +1,8 @@
 -- What an event's turn in a memory that others may write too says of the order.
 use Rattle.std.proofs.Common.{◌≡◌, inl, inr, ℕ, ◌≤◌, Bool, true, false, List, Option, Some, None, Result, Ok, Err, refl, sym, ap, ◌∙◌, subst, arith}
+use Rattle.std.specs.Prelude.{⊤}
 use Rattle.foundation.specs.declared.NoMemory.{NoMemory}
+use Rattle.ring_core.specs.Writes.{Write}
 use Rattle.device_model.specs.Parts.{Completion}
 use Rattle.device_model.specs.World.{PlainWorld}
 use Rattle.device_model.specs.Events.{Event}
@@ -13,7 +15,7 @@ use Rattle.phases.specs.EventsInMemory.{SeesBy}
 use Rattle.phases.proofs.Behind.{each_read}
 use Rattle.device_steps.specs.Settling.{order_for, MayWantFirst}
 use Rattle.device_steps.specs.Inner.Sound.{IsSound}
-use Rattle.device_steps.specs.Apart.{PlainDevice, standing, FitsIn, TurnsInOrWants}
+use Rattle.device_steps.specs.Apart.{PlainDevice, standing, FitsIn, TurnsSeen, TurnsInOrWants}
 use Rattle.device_steps.specs.Inner.Apart.{TurnsIn, TurnsAlone}
 use Rattle.device_steps.specs.Serving.{IsNoticedBy, ServesSeen, ServesInPhase}
 use Rattle.device_steps.specs.Inner.Cursors.{TurnsBy, TurnsFirst, StepsNext, Sees, IsReadyIn, AtEach, FindsIn, TurnsFirstIn, TurnsFirstAlone, ServesNextIn, TurnsNextIn, FetchesOn}
@@ -44,19 +46,23 @@ device_of w =
 -- One event
 
 -- it changed something
-pub did_in : (shared : Bool) (before after : List ℕ → Type 0) (d : PlainDevice) (e : Event) (b : Bool) (d' : PlainDevice)
-    → b ≡ true → TurnsIn shared before after d e b d'
+pub did_in : (shared : Bool) (before after : List ℕ → Type 0) (stored : List Write → Type 0) (d : PlainDevice) (e : Event)
+    (b : Bool) (d' : PlainDevice) → b ≡ true → TurnsIn shared before after stored d e b d'
     → EachSeen shared before after
     (λ found left seen. TurnsBy (Sees left seen) (standing shared found d) e (standing shared left d'))
-did_in shared before after d e true d' on t = t
-did_in shared before after d e false d' on t = absurd (cc)
+did_in shared before after stored d e true d' on t =
+    each_from shared before after
+    (λ found left seen. TurnsSeen stored seen (standing shared found d) e true (standing shared left d'))
+    (λ found left seen. TurnsBy (Sees left seen) (standing shared found d) e (standing shared left d'))
+    (λ found left seen was h. (h.0, h.1, h.2, h.3, h.4)) t
+did_in shared before after stored d e false d' on t = absurd (cc)
 
 -- or it didn't apply, whatever memory may be
-pub idle_in : (shared : Bool) (before after : List ℕ → Type 0) (d : PlainDevice) (e : Event) (b : Bool) (d' : PlainDevice)
-    → b ≡ false → ((m : List ℕ) × after m) → TurnsIn shared before after d e b d'
+pub idle_in : (shared : Bool) (before after : List ℕ → Type 0) (stored : List Write → Type 0) (d : PlainDevice) (e : Event)
+    (b : Bool) (d' : PlainDevice) → b ≡ false → ((m : List ℕ) × after m) → TurnsIn shared before after stored d e b d'
     → (d' ≡ d) × FindsIn shared before after (λ w. Applies w e → ⊥) d
-idle_in shared before after d e true d' off some t = absurd (cc)
-idle_in shared before after d e false d' off some t =
+idle_in shared before after stored d e true d' off some t = absurd (cc)
+idle_in shared before after stored d e false d' off some t =
     let (found, was, rest) = t some.0 some.1 in
     let (left, is, turn) = rest in (
       ap device_of turn.0,
@@ -69,10 +75,10 @@ idle_in shared before after d e false d' off some t =
     )
 
 -- or memory was refused for it
-pub wants_in : (shared : Bool) (before after : List ℕ → Type 0) (d : PlainDevice) (e : Event) (x : NoMemory) (d' : PlainDevice)
-    → ((m : List ℕ) × after m) → TurnsInOrWants shared before after d e (Err x) d'
+pub wants_in : (shared : Bool) (before after : List ℕ → Type 0) (stored : List Write → Type 0) (d : PlainDevice) (e : Event)
+    (x : NoMemory) (d' : PlainDevice) → ((m : List ℕ) × after m) → TurnsInOrWants shared before after stored d e (Err x) d'
     → (d' ≡ d) × FindsIn shared before after (λ w. MayWant e w) d
-wants_in shared before after d e x d' some t =
+wants_in shared before after stored d e x d' some t =
     let (found, was, rest) = t some.0 some.1 in
     let (left, is, turn) = rest in (
       ap device_of turn.1,
@@ -92,7 +98,8 @@ pub alone_did : (shared : Bool) (m : List ℕ) (d v : PlainDevice) (e : Event) (
 alone_did shared m d v e false d' on same none sound t = absurd (cc)
 alone_did shared m d v e true d' on same none sound t =
     let u : TurnsAlone d e true d' = subst (λ z. TurnsAlone z e true d') same t in
-    alone_seen (standing shared m d) e true (standing shared m d') none (u shared m sound)
+    let seen = alone_seen (λ ws. ⊤) (standing shared m d) e true (standing shared m d') tt none (u shared m sound) in
+    (seen.0, seen.1, seen.2, seen.3, seen.4)
 
 pub alone_idle : (shared : Bool) (m : List ℕ) (d v : PlainDevice) (e : Event) (b : Bool) (d' : PlainDevice) → b ≡ false → v ≡ d
     → IsSound (standing shared m d) → TurnsAlone v e b d' → (d' ≡ d) × (Applies (standing shared m d) e → ⊥)
@@ -217,14 +224,15 @@ alone_anywhere shared before xs d false d' some sound t = (
 )
 
 -- an event that applies is done, where it is the first of these
-pub first_by : (shared : Bool) (before after : List ℕ → Type 0) (xs : List Event) (e : Event) (d : PlainDevice) (b : Bool)
-    (d' : PlainDevice) → ((m : List ℕ) × after m)
+pub first_by : (shared : Bool) (before after : List ℕ → Type 0) (stored : List Write → Type 0) (xs : List Event) (e : Event)
+    (d : PlainDevice) (b : Bool) (d' : PlainDevice) → ((m : List ℕ) × after m)
     → ((m : List ℕ) → before m → Applies (standing shared m d) e × IsFirstOf (standing shared m d) xs e)
-    → TurnsIn shared before after d e b d' → TurnsFirstIn shared before after xs d b d'
-first_by shared before after xs e d true d' some first t =
-    first_in shared before before after xs e d d d' refl (λ m may. (may, λ a. (first m may).1)) t
-first_by shared before after xs e d false d' some first t =
-    let idle = (idle_in shared before after d e false d' refl some t).1 some.0 some.1 in
+    → TurnsIn shared before after stored d e b d' → TurnsFirstIn shared before after xs d b d'
+first_by shared before after stored xs e d true d' some first t =
+    first_in shared before before after xs e d d d' refl (λ m may. (may, λ a. (first m may).1))
+    (did_in shared before after stored d e true d' refl t)
+first_by shared before after stored xs e d false d' some first t =
+    let idle = (idle_in shared before after stored d e false d' refl some t).1 some.0 some.1 in
     absurd (idle.1 (first some.0 idle.0).0)
 
 -- it was one of these events

@@ -1,8 +1,9 @@
 -- What a write of the guest does is a turn of its event.
-use Rattle.std.proofs.Common.{◌≡◌, ◌↔◌, ℕ, Bool, true, false, List, length, Result, Ok, Err, OnOk, OnErr, IsOk, is_ok, refl, sym, ap, subst}
+use Rattle.std.proofs.Common.{◌≡◌, ◌↔◌, ℕ, Bool, true, false, List, [], ◌∷◌, ◌++◌, length, Result, Ok, Err, OnOk, OnErr, IsOk, is_ok, refl, sym, ap, ◌∙◌, subst}
 use Rattle.std.specs.Prelude.{IsTrue}
 use Rattle.guest_mem.specs.Memory.{LiesIn, with_bytes}
-use Rattle.ring_core.specs.Writes.{Write}
+use Rattle.guest_mem.specs.Stores.{Store, stores_at}
+use Rattle.ring_core.specs.Writes.{Write, stores_of}
 use Rattle.device_model.specs.World.{PlainWorld}
 use Rattle.device_model.specs.Events.{Event}
 use Rattle.device_model.specs.Transitions.{Transition}
@@ -43,3 +44,12 @@ pub lies_not : (extent size addr many : ℕ) (b : Bool) → size ≡ extent → 
     → LiesIn extent addr many → ⊥
 lies_not extent size addr many b e is off lies =
     no_truth (subst (λ z. IsTrue z) off (is.1 (subst (λ n. LiesIn n addr many) (sym e) lies)))
+
+-- one write stores its bytes
+append_none : {X : Type 0} (xs : List X) → xs ++ [] ≡ xs
+append_none [] = refl
+append_none (x ∷ xs) = ap (λ l. x ∷ l) (append_none xs)
+
+pub one_stored : {S : Type 0} (storing : S → List Store → S) (s s' : S) (x : Write) → s' ≡ storing s (stores_at x.addr x.bytes)
+    → s' ≡ storing s (stores_of (x ∷ []))
+one_stored storing s s' x is = is ∙ ap (λ (ss : List Store). storing s ss) (sym (append_none (stores_at x.addr x.bytes)))

@@ -5,7 +5,7 @@ use Rattle.std.specs.List.{AllByRecursion}
 use Rattle.scsi_codec.specs.declared.event_queue.Event.{Event as EventRecord}
 use Rattle.scsi_codec.specs.EventQueue.{event_bytes}
 use Rattle.ring_core.specs.State.{PlainChain}
-use Rattle.ring_core.specs.Writes.{all_written}
+use Rattle.ring_core.specs.Writes.{Write, all_written}
 use Rattle.event_queue.specs.Port.{PlainPort}
 use Rattle.device_model.specs.Parts.{Slot, answer_writes}
 use Rattle.device_model.specs.World.{PlainQueue, PlainWorld, change}
@@ -17,6 +17,7 @@ use Rattle.device_model.proofs.Joining.{joins}
 use Rattle.device_model.proofs.Lists.{same}
 use Rattle.virtqueue.specs.Queue.{BareQueue, MayComplete}
 use Rattle.phases.specs.Queue.{with_slot}
+use Rattle.phases.specs.Inner.Stored.{raised_writes}
 use Rattle.phases.specs.Inner.InMemory.{as_seen}
 use Rattle.phases.specs.Inner.EventsInMemory.{RaisesNextIn, RaisesToIn, StaysRaisedIn}
 use Rattle.device_steps.specs.Apart.{TurnsSeen}
@@ -63,12 +64,12 @@ module _ (w : PlainWorld) (k : ℕ) (s : Slot) (l l' : BareQueue) (m' n : List �
       record { fits = sym fits; owned = rw (ap (λ (q : PlainQueue). q.ring) is) at h.1.owned }
 
   -- by the buffers that are held
-  raises_to : (cs : List PlainChain) (e : EventRecord) (later : List EventRecord) (r : Bool) → p.buffers ≡ cs
+  raises_to : (stored : List Write → Type 0) (cs : List PlainChain) (e : EventRecord) (later : List EventRecord) (r : Bool) → p.buffers ≡ cs
       → w.waiting ≡ e ∷ later → l.ring.memory ≡ length w.memory
       → AllByRecursion (λ (c : PlainChain). (c.ticket.queue ≡ 1) × IsOwned w c) cs
-      → RaisesToIn w.shared cs e later l w.memory p r l' m' n p' x'
-      → TurnsSeen n w Event.Raise r (with_raised m' (slice_set w.queues k (with_slot s l')) p' x' w)
-  raises_to (c ∷ more) e later true has waits fits owned h =
+      → stored (raised_writes (e ∷ later) cs l.ring r) → RaisesToIn w.shared cs e later l w.memory p r l' m' n p' x'
+      → TurnsSeen stored n w Event.Raise r (with_raised m' (slice_set w.queues k (with_slot s l')) p' x' w)
+  raises_to stored (c ∷ more) e later true has waits fits owned wrote h =
       let xs = answer_writes l.ring c (event_bytes e) in
       let m = all_written w.memory xs in
       let d = Transition.Give e c (as_seen n xs) in
@@ -103,9 +104,10 @@ module _ (w : PlainWorld) (k : ℕ) (s : Slot) (l l' : BareQueue) (m' n : List �
               waiting = drop 1 x;
             }) (sym waits),
         refl,
+        wrote,
       )
-  raises_to (c ∷ more) e later false has waits fits owned h = absurd (h.0 (may_give c fits owned.0))
-  raises_to [] e later true has waits fits owned h =
+  raises_to stored (c ∷ more) e later false has waits fits owned wrote h = absurd (h.0 (may_give c fits owned.0))
+  raises_to stored [] e later true has waits fits owned wrote h =
       let d = Transition.Miss e in (
         d,
         refl,
@@ -115,19 +117,21 @@ module _ (w : PlainWorld) (k : ℕ) (s : Slot) (l l' : BareQueue) (m' n : List �
             ∙ ap (λ (b : List PlainChain). record w { buffers = b; missed = true; waiting = later }) held
             ∙ ap (λ (x : List EventRecord). record w { missed = true; waiting = drop 1 x }) (sym waits),
         h.0.seen ∙ sym h.0.memory,
+        wrote,
       )
-  raises_to [] e later false has waits fits owned h = absurd h
+  raises_to stored [] e later false has waits fits owned wrote h = absurd h
 
   -- by the events that wait
-  pub raises : (x : List EventRecord) (r : Bool) → w.waiting ≡ x → IsSound w → l.ring.memory ≡ length w.memory
-      → RaisesNextIn w.shared x l w.memory p r l' m' n p' x'
-      → TurnsSeen n w Event.Raise r (with_raised m' (slice_set w.queues k (with_slot s l')) p' x' w)
-  raises (e ∷ later) r waits sound fits h =
-      raises_to p.buffers e later r refl waits fits
-      (subst (λ cs. AllByRecursion (λ (c : PlainChain). (c.ticket.queue ≡ 1) × IsOwned w c) cs) (sym held) sound.owned.buffers) h
-  raises [] true waits sound fits h = absurd h
-  raises [] false waits sound fits h =
-      (still [] waits h, λ may. none_there (sym waits ∙ may.2), h.at_queue.seen)
+  pub raises : (stored : List Write → Type 0) (x : List EventRecord) (r : Bool) → w.waiting ≡ x → IsSound w → l.ring.memory ≡ length w.memory
+      → stored (raised_writes x p.buffers l.ring r) → RaisesNextIn w.shared x l w.memory p r l' m' n p' x'
+      → TurnsSeen stored n w Event.Raise r (with_raised m' (slice_set w.queues k (with_slot s l')) p' x' w)
+  raises stored (e ∷ later) r waits sound fits wrote h =
+      raises_to stored p.buffers e later r refl waits fits
+      (subst (λ cs. AllByRecursion (λ (c : PlainChain). (c.ticket.queue ≡ 1) × IsOwned w c) cs) (sym held) sound.owned.buffers)
+      wrote h
+  raises stored [] true waits sound fits wrote h = absurd h
+  raises stored [] false waits sound fits wrote h =
+      (still [] waits h, λ may. none_there (sym waits ∙ may.2), h.at_queue.seen, wrote)
 
 -- the port keeps how many buffers it may hold
 to_limit : (shared : Bool) (cs : List PlainChain) (e : EventRecord) (later : List EventRecord) (l l' : BareQueue)

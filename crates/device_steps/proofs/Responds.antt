@@ -3,7 +3,7 @@ use Rattle.std.proofs.Common.{◌≡◌, ℕ, Bool, true, false, List, [], ◌�
 use Rattle.std.specs.Prelude.{slice_get, slice_set}
 use Rattle.std.proofs.lemmas.Bool.{eqb-true}
 use Rattle.scsi_codec.specs.ControlQueue.{function_bytes}
-use Rattle.ring_core.specs.Writes.{all_written}
+use Rattle.ring_core.specs.Writes.{Write, all_written}
 use Rattle.task_mgmt.specs.Functions.{PlainFunction, is_over, response_of}
 use Rattle.device_model.specs.Parts.{Slot, answer_writes}
 use Rattle.device_model.specs.World.{PlainQueue, Opened, PlainWorld, change}
@@ -16,6 +16,7 @@ use Rattle.device_model.proofs.Joining.{joins}
 use Rattle.device_model.proofs.Lists.{same, nothing}
 use Rattle.virtqueue.specs.Queue.{BareQueue, MayComplete}
 use Rattle.phases.specs.Queue.{with_slot}
+use Rattle.phases.specs.Inner.Stored.{responded_writes}
 use Rattle.phases.specs.Inner.InMemory.{as_seen, RespondsIn, RespondsWhereIn, StaysQueueIn}
 use Rattle.device_steps.specs.Apart.{TurnsSeen}
 use Rattle.device_steps.specs.Inner.Sound.{IsSound}
@@ -76,12 +77,13 @@ may_complete w k s l f first at fits h =
     record { fits = sym fits; owned = rw (ap (λ (q : PlainQueue). q.ring) is) at h.1.owned }
 
 -- by whether the function is over
-where_turns : (w : PlainWorld) (k : ℕ) (s : Slot) (l l' : BareQueue) (m' n : List ℕ) (f : Opened) (f' : Option Opened)
+where_turns : (stored : List Write → Type 0) (w : PlainWorld) (k : ℕ) (s : Slot) (l l' : BareQueue) (m' n : List ℕ) (f : Opened) (f' : Option Opened)
     (over r : Bool) → k ≡ 0 → slice_get w.queues k ≡ Some (with_slot s l) → l.ring.memory ≡ length w.memory
     → w.function ≡ Some f → FunctionOwns w (Some f) → is_over f.function ≡ over
+    → stored (responded_writes (Some f) l.ring r)
     → RespondsWhereIn w.shared over f l w.memory r l' m' n f'
-    → TurnsSeen n w Event.AnswerTmf r (with_three m' (slice_set w.queues k (with_slot s l')) f' w)
-where_turns w k s l l' m' n f f' true true first at fits there owns over h =
+    → TurnsSeen stored n w Event.AnswerTmf r (with_three m' (slice_set w.queues k (with_slot s l')) f' w)
+where_turns stored w k s l l' m' n f f' true true first at fits there owns over wrote h =
     let r = response_of f.function in
     let xs = answer_writes l.ring f.chain (function_bytes r) in
     let d = Transition.Respond f.chain r (as_seen n xs) in
@@ -101,34 +103,36 @@ where_turns w k s l l' m' n f f' true true first at fits there owns over h =
       ap (λ m. with_three m queues f' w) does.memory ∙ ap (λ qs. with_three (all_written w.memory xs) qs f' w) set
           ∙ ap (λ g. with_three (all_written w.memory xs) completed g w) h.1,
       refl,
+      wrote,
     )
-where_turns w k s l l' m' n f f' true false first at fits there owns over h =
+where_turns stored w k s l l' m' n f f' true false first at fits there owns over wrote h =
     absurd (h.0.why (may_complete w k s l f first at fits owns))
-where_turns w k s l l' m' n f f' false true first at fits there owns over h = absurd h
-where_turns w k s l l' m' n f f' false false first at fits there owns over h = (
+where_turns stored w k s l l' m' n f f' false true first at fits there owns over wrote h = absurd h
+where_turns stored w k s l l' m' n f f' false false first at fits there owns over wrote h = (
   stays w k s l l' m' n f' at h.0 (h.1 ∙ sym there),
   λ may.
       over_or_not over
       (ap (λ (o : Opened). is_over o.function) (same (sym there ∙ may.there))
       ∙ left_over may.opened.function may.left may.still),
   h.0.seen,
+  wrote,
 )
 
 -- by whether a function is open
-some_turns : (w : PlainWorld) (k : ℕ) (s : Slot) (l l' : BareQueue) (m' n : List ℕ) (f f' : Option Opened) (r : Bool)
+some_turns : (stored : List Write → Type 0) (w : PlainWorld) (k : ℕ) (s : Slot) (l l' : BareQueue) (m' n : List ℕ) (f f' : Option Opened) (r : Bool)
     → k ≡ 0 → slice_get w.queues k ≡ Some (with_slot s l) → l.ring.memory ≡ length w.memory → w.function ≡ f
-    → FunctionOwns w f → RespondsIn w.shared f l w.memory r l' m' n f'
-    → TurnsSeen n w Event.AnswerTmf r (with_three m' (slice_set w.queues k (with_slot s l')) f' w)
-some_turns w k s l l' m' n (Some f) f' r first at fits there owns h =
-    where_turns w k s l l' m' n f f' (is_over f.function) r first at fits there owns refl h
-some_turns w k s l l' m' n None f' true first at fits there owns h = absurd h
-some_turns w k s l l' m' n None f' false first at fits there owns h =
-    (stays w k s l l' m' n f' at h.0 (h.1 ∙ sym there), λ may. nothing (sym there ∙ may.there), h.0.seen)
+    → FunctionOwns w f → stored (responded_writes f l.ring r) → RespondsIn w.shared f l w.memory r l' m' n f'
+    → TurnsSeen stored n w Event.AnswerTmf r (with_three m' (slice_set w.queues k (with_slot s l')) f' w)
+some_turns stored w k s l l' m' n (Some f) f' r first at fits there owns wrote h =
+    where_turns stored w k s l l' m' n f f' (is_over f.function) r first at fits there owns refl wrote h
+some_turns stored w k s l l' m' n None f' true first at fits there owns wrote h = absurd h
+some_turns stored w k s l l' m' n None f' false first at fits there owns wrote h =
+    (stays w k s l l' m' n f' at h.0 (h.1 ∙ sym there), λ may. nothing (sym there ∙ may.there), h.0.seen, wrote)
 
 -- what an answer to the open function does is a turn of its event
-pub respond_turns : (w : PlainWorld) (k : ℕ) (s : Slot) (l l' : BareQueue) (m' n : List ℕ) (f' : Option Opened) (r : Bool)
+pub respond_turns : (stored : List Write → Type 0) (w : PlainWorld) (k : ℕ) (s : Slot) (l l' : BareQueue) (m' n : List ℕ) (f' : Option Opened) (r : Bool)
     → IsSound w → k ≡ 0 → slice_get w.queues k ≡ Some (with_slot s l) → l.ring.memory ≡ length w.memory
-    → RespondsIn w.shared w.function l w.memory r l' m' n f'
-    → TurnsSeen n w Event.AnswerTmf r (with_three m' (slice_set w.queues k (with_slot s l')) f' w)
-respond_turns w k s l l' m' n f' r sound first at fits h =
-    some_turns w k s l l' m' n w.function f' r first at fits refl sound.owned.function h
+    → stored (responded_writes w.function l.ring r) → RespondsIn w.shared w.function l w.memory r l' m' n f'
+    → TurnsSeen stored n w Event.AnswerTmf r (with_three m' (slice_set w.queues k (with_slot s l')) f' w)
+respond_turns stored w k s l l' m' n f' r sound first at fits wrote h =
+    some_turns stored w k s l l' m' n w.function f' r first at fits refl sound.owned.function wrote h

@@ -3,7 +3,6 @@ use Rattle.std.proofs.Common.{◌≡◌, ℕ, zero, suc, ◌+◌, Bool, List, []
 use Rattle.std.specs.Prelude.{◌<◌, slice_get, get_or}
 use Rattle.std.proofs.lemmas.List.{length-append}
 use Rattle.device_model.specs.World.{PlainWorld}
-use Rattle.device_model.specs.declared.event.Event as declared
 use Rattle.device_model.specs.Transitions.{Transition, event_of}
 use Rattle.device_model.specs.After.{after}
 use Rattle.device_model.specs.Happens.{Happens, world_of}

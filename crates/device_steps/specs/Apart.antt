@@ -1,14 +1,16 @@
 -- The device apart from its memory, and what an event does to it whatever stands there.
-use Rattle.std.specs.Prelude.{ℕ, ◌≡◌, Bool, true, false, List, Option, Result, Ok, Err}
+use Rattle.std.specs.Prelude.{ℕ, ◌≡◌, Bool, true, false, List, [], Option, Result, Ok, Err}
+use Rattle.guest_mem.specs.Stores.{Store}
 use Rattle.foundation.specs.declared.NoMemory.{NoMemory}
 use Rattle.scsi_codec.specs.declared.lun.Address.{Address}
 use Rattle.scsi_codec.specs.declared.event_queue.Event.{Event as EventRecord}
 use Rattle.ring_core.specs.State.{PlainChain}
+use Rattle.ring_core.specs.Writes.{Write, stores_of}
 use Rattle.unit_model.specs.Jobs.{PlainJob}
 use Rattle.unit_model.specs.Unit.{PlainUnit}
 use Rattle.device_model.specs.World.{PlainQueue, Seat, Opened, PlainWorld, Everywhere}
 use Rattle.device_model.specs.Events.{Event}
-use Rattle.device_model.specs.Transitions.{Transition, event_of, completion_of}
+use Rattle.device_model.specs.Transitions.{Transition, event_of, action_of, completion_of}
 use Rattle.device_model.specs.After.{after}
 use Rattle.device_model.specs.Happens.{Happens, MayWant}
 use Rattle.device_model.specs.Applies.{Applies}
@@ -56,20 +58,26 @@ FitsIn size d = Everywhere (λ i (q : PlainQueue). q.ring.memory ≡ size) d.que
 
 -- One event in a memory that others may write too
 
--- a transition of the event was done, and by this memory the notice of what it completed was decided; where it completed
--- nothing, this memory was left. Or the event doesn't apply, nothing changed, and this memory was found
-abbrev pub TurnsSeen : List ℕ → PlainWorld → Event → Bool → PlainWorld → Type 0
-TurnsSeen seen w e true w' =
+-- of a memory these writes were stored between two moments, in order, and nothing else
+abbrev pub Stored : {X S : Type 0} → (X → S) → (S → List Store → S) → X → X → List Write → Type 0
+Stored {X} {S} known storing x y writes = known y ≡ storing (known x) (stores_of writes)
+
+-- a transition of the event was done, which stored its writes, and by this memory the notice of what it completed was
+-- decided; where it completed nothing, this memory was left. Or the event doesn't apply, nothing changed, nothing was
+-- stored, and this memory was found
+abbrev pub TurnsSeen : (List Write → Type 0) → List ℕ → PlainWorld → Event → Bool → PlainWorld → Type 0
+TurnsSeen stored seen w e true w' =
     (t : Transition) × (event_of t ≡ e) × Happens t w × (w' ≡ after t w) × SeesBy (completion_of t) w'.memory seen
-TurnsSeen seen w e false w' = (w' ≡ w) × (Applies w e → ⊥) × (seen ≡ w.memory)
+    × stored (action_of t).writes
+TurnsSeen stored seen w e false w' = (w' ≡ w) × (Applies w e → ⊥) × (seen ≡ w.memory) × stored []
 
 -- that, or the memory that the event asks the host for was refused
-abbrev pub TurnsSeenOrWants : List ℕ → PlainWorld → Event → Result Bool NoMemory → PlainWorld → Type 0
-TurnsSeenOrWants seen w e (Ok changed) w' = TurnsSeen seen w e changed w'
-TurnsSeenOrWants seen w e (Err x) w' = MayWant e w × (w' ≡ w) × (seen ≡ w.memory)
+abbrev pub TurnsSeenOrWants : (List Write → Type 0) → List ℕ → PlainWorld → Event → Result Bool NoMemory → PlainWorld → Type 0
+TurnsSeenOrWants stored seen w e (Ok changed) w' = TurnsSeen stored seen w e changed w'
+TurnsSeenOrWants stored seen w e (Err x) w' = MayWant e w × (w' ≡ w) × (seen ≡ w.memory) × stored []
 
-abbrev pub TurnsInOrWants : Bool → (List ℕ → Type 0) → (List ℕ → Type 0) → PlainDevice → Event → Result Bool NoMemory → PlainDevice
-    → Type 0
-TurnsInOrWants shared before after d e result d' =
+abbrev pub TurnsInOrWants : Bool → (List ℕ → Type 0) → (List ℕ → Type 0) → (List Write → Type 0) → PlainDevice → Event
+    → Result Bool NoMemory → PlainDevice → Type 0
+TurnsInOrWants shared before after stored d e result d' =
     EachSeen shared before after
-    (λ found left seen. TurnsSeenOrWants seen (standing shared found d) e result (standing shared left d'))
+    (λ found left seen. TurnsSeenOrWants stored seen (standing shared found d) e result (standing shared left d'))

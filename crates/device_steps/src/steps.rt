@@ -7,7 +7,7 @@ ghost use Rattle.device_model.specs.Events.{Event as AnEvent, plain_event};
 ghost use Rattle.device_model.specs.Applies.{Applies};
 ghost use Rattle.device_model.specs.Turns.{Turns};
 ghost use Rattle.device_steps.specs.Inner.Steps.{TurnsOrWants};
-ghost use Rattle.device_steps.specs.Apart.{PlainDevice, standing, TurnsInOrWants, FitsIn};
+ghost use Rattle.device_steps.specs.Apart.{PlainDevice, standing, Stored, TurnsInOrWants, FitsIn};
 ghost use Rattle.device_steps.specs.Inner.Apart.{TurnsAlone, TurnsAloneOrWants, TurnsIn, IsSoundIn, HasFew};
 ghost use Rattle.device_steps.specs.Sound.{AreFew, AreFitting};
 ghost use Rattle.device_steps.specs.Inner.Sound.{IsSound};
@@ -54,7 +54,8 @@ fn lies_in(size: u64, addr: u64, len: usize) -> bool
 
 /// Writes bytes at an address of any memory, as `poke` does. Called in a phase of its own.
 pub fn poke_in<M: WritableMemory>(memory: &mut M, addr: u64, bytes: &[u8]) -> bool
-    ensures turns { (d : PlainDevice) → TurnsIn M.shared (M.may_be memory.old) (M.may_be memory.new) d
+    ensures turns { (d : PlainDevice) → TurnsIn M.shared (M.may_be memory.old) (M.may_be memory.new)
+        (Stored M.stored M.storing memory.old memory.new) d
         (AnEvent.Poke (record { addr = addr; bytes = bytes.now })) result d }
     ensures size { M.extent memory.new ≡ M.extent memory.old }
 {
@@ -75,6 +76,7 @@ impl Device {
         ensures idle { (m : List ℕ) → M.may_be memory.new m → IsTrue result
             → Applies (standing M.shared m self.now) (AnEvent.Fetch number) → ⊥ }
         ensures stays { (m : List ℕ) → M.may_be memory.new m → M.may_be memory.old m }
+        ensures stores { M.stored memory.new ≡ M.stored memory.old }
         ensures reading { M.is_open memory.new }
         ensures size { M.extent memory.new ≡ M.extent memory.old }
     {
@@ -106,8 +108,8 @@ impl Device {
         requires sound { IsSoundIn M.shared (M.may_be memory.old) self.old }
         requires fits { FitsIn (M.extent memory.old) self.old }
         requires few { HasFew self.old }
-        ensures turns { TurnsInOrWants M.shared (M.may_be memory.old) (M.may_be memory.new) self.old
-            (AnEvent.Fetch number) result self.new }
+        ensures turns { TurnsInOrWants M.shared (M.may_be memory.old) (M.may_be memory.new)
+            (Stored M.stored M.storing memory.old memory.new) self.old (AnEvent.Fetch number) result self.new }
         ensures reading { M.is_open memory.new }
         ensures size { M.extent memory.new ≡ M.extent memory.old }
     {
@@ -131,8 +133,8 @@ impl Device {
         requires sound { IsSoundIn M.shared (M.may_be memory.old) self.old }
         requires fits { FitsIn (M.extent memory.old) self.old }
         requires request { 2 ≤ number }
-        ensures turns { TurnsInOrWants M.shared (M.may_be memory.old) (M.may_be memory.new) self.old
-            (AnEvent.Fetch number) result self.new }
+        ensures turns { TurnsInOrWants M.shared (M.may_be memory.old) (M.may_be memory.new)
+            (Stored M.stored M.storing memory.old memory.new) self.old (AnEvent.Fetch number) result self.new }
         ensures reading { M.is_open memory.new }
         ensures size { M.extent memory.new ≡ M.extent memory.old }
     {
@@ -149,8 +151,8 @@ impl Device {
         requires reading { M.is_open memory.old }
         requires sound { IsSoundIn M.shared (M.may_be memory.old) self.old }
         requires fits { FitsIn (M.extent memory.old) self.old }
-        ensures turns { TurnsInOrWants M.shared (M.may_be memory.old) (M.may_be memory.new) self.old (AnEvent.Fetch 0)
-            result self.new }
+        ensures turns { TurnsInOrWants M.shared (M.may_be memory.old) (M.may_be memory.new)
+            (Stored M.stored M.storing memory.old memory.new) self.old (AnEvent.Fetch 0) result self.new }
         ensures reading { M.is_open memory.new }
         ensures size { M.extent memory.new ≡ M.extent memory.old }
     {
@@ -173,8 +175,8 @@ impl Device {
         requires sound { IsSoundIn M.shared (M.may_be memory.old) self.old }
         requires fits { FitsIn (M.extent memory.old) self.old }
         requires few { HasFew self.old }
-        ensures turns { TurnsInOrWants M.shared (M.may_be memory.old) (M.may_be memory.new) self.old (AnEvent.Fetch 1)
-            result self.new }
+        ensures turns { TurnsInOrWants M.shared (M.may_be memory.old) (M.may_be memory.new)
+            (Stored M.stored M.storing memory.old memory.new) self.old (AnEvent.Fetch 1) result self.new }
         ensures reading { M.is_open memory.new }
         ensures size { M.extent memory.new ≡ M.extent memory.old }
     {
@@ -228,7 +230,8 @@ impl Device {
     pub(crate) fn direct_in<M: WritableMemory>(&mut self, memory: &mut M, number: u16) -> bool
         requires sound { IsSoundIn M.shared (M.may_be memory.old) self.old }
         requires fits { FitsIn (M.extent memory.old) self.old }
-        ensures turns { TurnsIn M.shared (M.may_be memory.old) (M.may_be memory.new) self.old (AnEvent.Direct number) result self.new }
+        ensures turns { TurnsIn M.shared (M.may_be memory.old) (M.may_be memory.new)
+            (Stored M.stored M.storing memory.old memory.new) self.old (AnEvent.Direct number) result self.new }
         ensures reading { M.is_open memory.old → M.is_open memory.new }
         ensures size { M.extent memory.new ≡ M.extent memory.old }
     {
@@ -311,7 +314,8 @@ impl Device {
     pub(crate) fn answer_in<M: WritableMemory>(&mut self, memory: &mut M, number: u16) -> bool
         requires sound { IsSoundIn M.shared (M.may_be memory.old) self.old }
         requires fits { FitsIn (M.extent memory.old) self.old }
-        ensures turns { TurnsIn M.shared (M.may_be memory.old) (M.may_be memory.new) self.old (AnEvent.Answer number) result self.new }
+        ensures turns { TurnsIn M.shared (M.may_be memory.old) (M.may_be memory.new)
+            (Stored M.stored M.storing memory.old memory.new) self.old (AnEvent.Answer number) result self.new }
         ensures reading { M.is_open memory.old → M.is_open memory.new }
         ensures size { M.extent memory.new ≡ M.extent memory.old }
     {
@@ -425,7 +429,8 @@ impl Device {
     pub(crate) fn answer_tmf_in<M: WritableMemory>(&mut self, memory: &mut M) -> bool
         requires sound { IsSoundIn M.shared (M.may_be memory.old) self.old }
         requires fits { FitsIn (M.extent memory.old) self.old }
-        ensures turns { TurnsIn M.shared (M.may_be memory.old) (M.may_be memory.new) self.old AnEvent.AnswerTmf result self.new }
+        ensures turns { TurnsIn M.shared (M.may_be memory.old) (M.may_be memory.new)
+            (Stored M.stored M.storing memory.old memory.new) self.old AnEvent.AnswerTmf result self.new }
         ensures reading { M.is_open memory.old → M.is_open memory.new }
         ensures size { M.extent memory.new ≡ M.extent memory.old }
     {
@@ -499,7 +504,8 @@ impl Device {
         requires sound { IsSoundIn M.shared (M.may_be memory.old) self.old }
         requires fits { FitsIn (M.extent memory.old) self.old }
         requires few { HasFew self.old }
-        ensures turns { TurnsIn M.shared (M.may_be memory.old) (M.may_be memory.new) self.old AnEvent.Raise result self.new }
+        ensures turns { TurnsIn M.shared (M.may_be memory.old) (M.may_be memory.new)
+            (Stored M.stored M.storing memory.old memory.new) self.old AnEvent.Raise result self.new }
         ensures reading { M.is_open memory.old → M.is_open memory.new }
         ensures size { M.extent memory.new ≡ M.extent memory.old }
     {
@@ -527,8 +533,8 @@ impl Device {
         requires working { 1 ≤ self.old.workers }
         requires seated { length self.old.seats ≡ self.old.workers + 1 }
         requires lists { length self.old.handed_off ≡ length self.old.seats }
-        ensures turns { TurnsInOrWants M.shared (M.may_be memory.old) (M.may_be memory.new) self.old
-            (plain_event event.now) result self.new }
+        ensures turns { TurnsInOrWants M.shared (M.may_be memory.old) (M.may_be memory.new)
+            (Stored M.stored M.storing memory.old memory.new) self.old (plain_event event.now) result self.new }
         ensures size { M.extent memory.new ≡ M.extent memory.old }
     {
         match event {

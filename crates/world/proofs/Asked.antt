@@ -43,12 +43,13 @@ pub asked_promised : (w : PlainWorld) (o : Option Write) (x : Write) (r : Bool) 
 asked_promised w o x r w' is sure p =
     subst (λ z. AsksAsPromised w z w') is (subst (λ b. StepsAsPromised w (Event.Poke x) (Ok b) w') sure p)
 
-pub asked_live : {X : Type 0} (shared : Bool) (begins : X → X → Type 0) (may_be : X → List ℕ → Type 0) (x : PlainLive X)
-    (o : Option Write) (write : Write) (r : Bool) (y : PlainLive X) → Some write ≡ o → r ≡ true
-    → StepsLive shared begins may_be x (Event.Poke write) (Ok r) y → AsksLive shared begins may_be x o r y
-asked_live shared begins may_be x o write r y is sure t =
-    subst (λ z. AsksLive shared begins may_be x z r y) is
-    (sure, subst (λ b. StepsLive shared begins may_be x (Event.Poke write) (Ok b) y) sure t)
+pub asked_live : {X : Type 0} (shared : Bool) (begins : X → X → Type 0) (may_be : X → List ℕ → Type 0)
+    (stored : X → X → List Write → Type 0) (x : PlainLive X) (o : Option Write) (write : Write) (r : Bool) (y : PlainLive X)
+    → Some write ≡ o → r ≡ true → StepsLive shared begins may_be stored x (Event.Poke write) (Ok r) y
+    → AsksLive shared begins may_be stored x o r y
+asked_live shared begins may_be stored x o write r y is sure t =
+    subst (λ z. AsksLive shared begins may_be stored x z r y) is
+    (sure, subst (λ b. StepsLive shared begins may_be stored x (Event.Poke write) (Ok b) y) sure t)
 
 pub asked_live_promised : (shared : Bool) (size : ℕ) (d : PlainDevice) (o : Option Write) (write : Write) (r : Bool)
     (d' : PlainDevice) → Some write ≡ o → r ≡ true → StepsPromised shared size d (Event.Poke write) (Ok r) d'
@@ -57,11 +58,11 @@ asked_live_promised shared size d o write r d' is sure p =
     subst (λ z. AsksPromised shared size d z d') is
     (subst (λ b. StepsPromised shared size d (Event.Poke write) (Ok b) d') sure p)
 
-pub made_live : (shared : Bool) (size : ℕ) (before after : List ℕ → Type 0) (d : PlainDevice) (x : Write) (r : Bool)
+pub made_live : (shared : Bool) (size : ℕ) (before after : List ℕ → Type 0) (stored : List Write → Type 0) (d : PlainDevice) (x : Write) (r : Bool)
     → ((m : List ℕ) → before m → length m ≡ size) → ((m : List ℕ) × after m) → LiesIn size x.addr (length x.bytes)
-    → TurnsIn shared before after d (Event.Poke x) r d → r ≡ true
-made_live shared size before after d x true sized some inside t = refl
-made_live shared size before after d x false sized some inside t =
+    → TurnsIn shared before after stored d (Event.Poke x) r d → r ≡ true
+made_live shared size before after stored d x true sized some inside t = refl
+made_live shared size before after stored d x false sized some inside t =
     let (was, may, rest) = t some.0 some.1 in
     let (left, is, turn) = rest in
     absurd (turn.1 (subst (λ n. LiesIn n x.addr (length x.bytes)) (sym (sized was may)) inside))

@@ -2,21 +2,25 @@
 use Rattle.std.proofs.Common.{◌≡◌, ℕ, ◌+◌, Bool, true, false, List, [], ◌∷◌, ◌++◌, length, Result, Ok, Err, refl, sym, ap, ◌∙◌, subst, take, Some, true≢false, arith}
 use Rattle.std.specs.Prelude.{IsErr, slice_get}
 use Rattle.foundation.specs.declared.NoMemory.{NoMemory}
+use Rattle.guest_mem.specs.Stores.{Store}
+use Rattle.ring_core.specs.Writes.{Write}
 use Rattle.device_model.specs.Parts.{IsSeen}
 use Rattle.device_model.specs.World.{PlainWorld}
 use Rattle.device_model.specs.Events.{Event, plain_event}
 use Rattle.device_model.specs.declared.event.Event as declared
 use Rattle.device_model.specs.Happens.{Occurrence, Reached, Runs, occurrence_of}
-use Rattle.device_model.specs.Turns.{Turns, count_changes}
+use Rattle.device_model.specs.Transitions.{Transition, action_of}
+use Rattle.device_model.specs.Turns.{IsStep, count_changes}
 use Rattle.device_model.specs.Live.{with_memory, refill, IsRefilled, LiveRuns}
-use Rattle.device_model.proofs.Turning.{step_of}
-use Rattle.device_steps.specs.Apart.{PlainDevice, standing, FitsIn, TurnsInOrWants}
+use Rattle.device_model.proofs.Turning.{may, changes}
+use Rattle.device_model.proofs.Applying.{idles}
+use Rattle.device_steps.specs.Apart.{PlainDevice, standing, FitsIn, Stored, TurnsSeen, TurnsInOrWants}
 use Rattle.device_steps.specs.Inner.Apart.{IsSoundIn, HasFew}
-use Rattle.world.specs.LiveWorld.{GoesOnLive, IsSteadyIn, RunsPromised, StepsAll, StepsEach, StepsPromised}
+use Rattle.world.specs.LiveWorld.{PlainLive, GoesOnLive, IsSteadyIn, RunsPromised, StepsAll, StepsEach, StepsPromised, writes_along, StoresAlong, StepStores, RunStores}
 use Rattle.world.specs.Inner.LiveWorld.{RanLive, StepRan}
 use Rattle.device_steps.specs.Sound.{IsSteady}
 use Rattle.device_steps.specs.Inner.Sound.{AreSound}
-use Rattle.device_steps.proofs.InMemory.{turned, turned_or, few_in, has_few}
+use Rattle.device_steps.proofs.InMemory.{turned_or, few_in, has_few, both_known}
 use Rattle.world.proofs.Promising.{AllArePromised, AllGoOn}
 use Rattle.world.proofs.Reaching.{steady_by_result}
 use Rattle.world.specs.Steps.{events_of}
@@ -59,17 +63,17 @@ any_steady any shared a b d long h =
     }
 
 -- an event leaves it so
-pub steady_live : AnyStand → (shared : Bool) (size : ℕ) (before after : List ℕ → Type 0) (d : PlainDevice) (e : Event)
-    (r : Result Bool NoMemory) (d' : PlainDevice) → ((m : List ℕ) → before m → length m ≡ size)
+pub steady_live : AnyStand → (shared : Bool) (size : ℕ) (before after : List ℕ → Type 0) (stored : List Write → Type 0)
+    (d : PlainDevice) (e : Event) (r : Result Bool NoMemory) (d' : PlainDevice) → ((m : List ℕ) → before m → length m ≡ size)
     → ((m : List ℕ) → after m → length m ≡ size) → ((m : List ℕ) × after m) → IsSteadyIn shared size d
-    → TurnsInOrWants shared before after d e r d' → IsSteadyIn shared size d'
-steady_live any shared size before after d e r d' sized sized' some h t =
+    → TurnsInOrWants shared before after stored d e r d' → IsSteadyIn shared size d'
+steady_live any shared size before after stored d e r d' sized sized' some h t =
     let (found, was, rest) = t some.0 some.1 in
     let (left, is, turn) = rest in
     let long : length left ≡ size = sym (seen_long shared left some.0 is) ∙ sized' some.0 some.1 in
     let there = sized found was in
     let s = steady_by_result (standing shared found d) e r (standing shared left d') (long ∙ sym there) (h found there)
-    (turned_or some.0 (standing shared found d) e r (standing shared left d') turn) in
+    (turned_or stored some.0 (standing shared found d) e r (standing shared left d') turn) in
     λ m size_m. any_steady any shared left m d' (size_m ∙ sym long) s
 
 -- so it is sound whatever memory may be
@@ -87,16 +91,54 @@ few_live shared size d m long h = has_few shared m d (h m long).whole.few
 -- Runs
 
 -- nothing ran yet
-pub ran_none : (shared : Bool) (size : ℕ) (d : PlainDevice) → RanLive shared size d [] 0 d
-ran_none shared size d =
-    λ a b la lb. record { more = []; told = refl; counted = refl; runs = (b, lb ∙ sym la, refl) }
+pub ran_none : (wrote : List Write → Type 0) (shared : Bool) (size : ℕ) (d : PlainDevice) → wrote []
+    → RanLive wrote shared size d [] 0 d
+ran_none wrote shared size d none =
+    λ a b la lb. record { more = []; told = refl; counted = refl; runs = (b, lb ∙ sym la, refl); writes = none }
+
+-- a step whose action made the writes that were stored
+record StepSeen (stored : List Write → Type 0) (w : PlainWorld) (e : Event) (b : Bool) (w' : PlainWorld) : Type 0 where
+  step : IsStep w e b w'
+  writes : stored step.action.writes
+
+step_seen : (stored : List Write → Type 0) (n : List ℕ) (w : PlainWorld) (e : Event) (b : Bool) (w' : PlainWorld)
+    → TurnsSeen stored n w e b w' → StepSeen stored w e b w'
+step_seen stored n w e true w' t =
+    record {
+      step = record {
+        action = action_of t.0;
+        step = record { transition = t.0; event = t.1; action = refl; may = may t.0 w t.2; is = t.3 };
+        told = changes t.0 w t.2;
+      };
+      writes = t.5;
+    }
+step_seen stored n w e false w' t =
+    record {
+      step = record {
+        action = action_of (Transition.Idle e);
+        step = record {
+          transition = Transition.Idle e;
+          event = refl;
+          action = refl;
+          may = idles w e t.1;
+          is = t.0;
+        };
+        told = refl;
+      };
+      writes = t.3;
+    }
 
 -- one turn more
-ran_next : (shared : Bool) (size : ℕ) (d : PlainDevice) (es : List Event) (n : ℕ) (v : PlainDevice) (found left : List ℕ)
-    (e : Event) (b : Bool) (u : PlainDevice) → RanLive shared size d es n v → length found ≡ size → length left ≡ size
-    → Turns (standing shared found v) e b (standing shared left u) → RanLive shared size d (e ∷ es) (n + bit b) u
-ran_next shared size d es n v found left e changed u ran before behind t =
-    let step = step_of (standing shared found v) e changed (standing shared left u) t in
+ran_next : (P Q R : List Write → Type 0) (both : (us ws : List Write) → P us → Q ws → R (us ++ ws)) (shared : Bool) (size : ℕ)
+    (d : PlainDevice) (es : List Event) (n : ℕ) (v : PlainDevice) (found left seen : List ℕ) (e : Event) (b : Bool)
+    (u : PlainDevice) → RanLive P shared size d es n v → length found ≡ size → length left ≡ size
+    → TurnsSeen Q seen (standing shared found v) e b (standing shared left u)
+    → RanLive R shared size d (e ∷ es) (n + bit b) u
+ran_next P Q R both shared size d es n v found left seen e changed u ran before behind t =
+    let w = standing shared found v in
+    let w' = standing shared left u in
+    let s = step_seen Q seen w e changed w' t in
+    let step = s.step in
     λ a b la lb.
     let r = ran a found la before in
     record {
@@ -104,40 +146,50 @@ ran_next shared size d es n v found left e changed u ran before behind t =
       told = ap (λ xs. e ∷ xs) r.told;
       counted = count_on step.action.changed changed (count_changes r.more) n step.told r.counted;
       runs = (standing shared found v, standing shared left u, b, r.runs, step.step, lb ∙ sym behind, refl);
+      writes = both (writes_along r.more) step.action.writes r.writes s.writes;
     }
 
 -- one event more
-pub ran_on : (shared : Bool) (size : ℕ) (before after : List ℕ → Type 0) (d : PlainDevice) (es : List Event) (n : ℕ)
-    (v : PlainDevice) (e : Event) (b : Bool) (u : PlainDevice) → ((m : List ℕ) → before m → length m ≡ size)
-    → ((m : List ℕ) → after m → length m ≡ size) → ((m : List ℕ) × after m) → RanLive shared size d es n v
-    → TurnsInOrWants shared before after v e (Ok b) u → RanLive shared size d (e ∷ es) (n + bit b) u
-ran_on shared size before after d es n v e b u sized sized' some ran t =
+pub ran_on : (P Q R : List Write → Type 0) (both : (us ws : List Write) → P us → Q ws → R (us ++ ws)) (shared : Bool)
+    (size : ℕ) (before after : List ℕ → Type 0) (d : PlainDevice) (es : List Event) (n : ℕ) (v : PlainDevice) (e : Event)
+    (b : Bool) (u : PlainDevice) → ((m : List ℕ) → before m → length m ≡ size)
+    → ((m : List ℕ) → after m → length m ≡ size) → ((m : List ℕ) × after m) → RanLive P shared size d es n v
+    → TurnsInOrWants shared before after Q v e (Ok b) u → RanLive R shared size d (e ∷ es) (n + bit b) u
+ran_on P Q R both shared size before after d es n v e b u sized sized' some ran t =
     let (found, was, rest) = t some.0 some.1 in
     let (left, is, turn) = rest in
-    ran_next shared size d es n v found left e b u ran (sized found was)
-    (sym (seen_long shared left some.0 is) ∙ sized' some.0 some.1)
-    (turned some.0 (standing shared found v) e b (standing shared left u) turn)
+    ran_next P Q R both shared size d es n v found left some.0 e b u ran (sized found was)
+    (sym (seen_long shared left some.0 is) ∙ sized' some.0 some.1) turn
 
--- a run goes on, and the promise is kept
-pub goes_on_live : AllArePromised → AllGoOn → AllLiveRuns → (shared : Bool) (size : ℕ) (d : PlainDevice) (es : List Event)
-    (n : ℕ) (d' : PlainDevice) → RanLive shared size d es n d' → GoesOnLive shared size d es n d'
-goes_on_live promised go live shared size d es n d' ran =
+-- a run goes on, the promise is kept, and it made the writes that were stored
+pub stores_along : AllArePromised → AllGoOn → AllLiveRuns → (wrote : List Write → Type 0) (shared : Bool) (size : ℕ)
+    (d : PlainDevice) (es : List Event) (n : ℕ) (d' : PlainDevice) → RanLive wrote shared size d es n d'
+    → StoresAlong wrote shared size d es n d'
+stores_along promised go live wrote shared size d es n d' ran =
     λ a b la lb.
     let r = ran a b la lb in
     let w = standing shared a d in
     let w' = standing shared b d' in
     let full = live w r.more w' r.runs in
     let reaches : (old : PlainWorld) (past : List Occurrence) → Reached old past w → Reached old (full.0 ++ past) w' =
-    λ old past h. go old past full.0 w w' h full.2 in
-    record {
-      more = r.more;
-      told = r.told;
-      counted = r.counted;
-      full = full.0;
-      refilled = full.1;
-      reaches = reaches;
-      kept = λ old past h. promised old (full.0 ++ past) w' (reaches old past h);
-    }
+    λ old past h. go old past full.0 w w' h full.2 in (
+      record {
+        more = r.more;
+        told = r.told;
+        counted = r.counted;
+        full = full.0;
+        refilled = full.1;
+        reaches = reaches;
+        kept = λ old past h. promised old (full.0 ++ past) w' (reaches old past h);
+      },
+      r.writes,
+    )
+
+pub goes_on_live : AllArePromised → AllGoOn → AllLiveRuns → (wrote : List Write → Type 0) (shared : Bool) (size : ℕ)
+    (d : PlainDevice) (es : List Event) (n : ℕ) (d' : PlainDevice) → RanLive wrote shared size d es n d'
+    → GoesOnLive shared size d es n d'
+goes_on_live promised go live wrote shared size d es n d' ran =
+    λ a b la lb. (stores_along promised go live wrote shared size d es n d' ran a b la lb).0
 
 -- One event
 
@@ -158,25 +210,41 @@ device_of w =
       tells_changes = w.tells_changes;
     }
 
-pub step_ran : (shared : Bool) (size : ℕ) (before after : List ℕ → Type 0) (d : PlainDevice) (e : Event)
-    (r : Result Bool NoMemory) (d' : PlainDevice) → ((m : List ℕ) → before m → length m ≡ size)
-    → ((m : List ℕ) → after m → length m ≡ size) → ((m : List ℕ) × after m) → TurnsInOrWants shared before after d e r d'
-    → StepRan shared size d e r d'
-step_ran shared size before after d e (Ok b) d' sized sized' some t =
-    λ first es n ran. ran_on shared size before after first es n d e b d' sized sized' some ran t
-step_ran shared size before after d e (Err x) d' sized sized' some t =
+pub step_ran : {X S : Type 0} (known : X → S) (storing : S → List Store → S)
+    (both : (s : S) (a b : List Store) → storing (storing s a) b ≡ storing s (a ++ b)) (shared : Bool) (size : ℕ)
+    (before after : List ℕ → Type 0) (x : PlainLive X) (e : Event) (r : Result Bool NoMemory) (y : PlainLive X)
+    → ((m : List ℕ) → before m → length m ≡ size) → ((m : List ℕ) → after m → length m ≡ size) → ((m : List ℕ) × after m)
+    → TurnsInOrWants shared before after (Stored known storing x.memory y.memory) x.device e r y.device
+    → StepRan (Stored known storing) shared size x e r y
+step_ran known storing both shared size before after x e (Ok b) y sized sized' some t =
+    λ first es n ran.
+    ran_on (Stored known storing first.memory x.memory) (Stored known storing x.memory y.memory)
+    (Stored known storing first.memory y.memory)
+    (λ us ws p q. both_known known storing both first.memory x.memory y.memory us ws p q) shared size before after first.device
+    es n x.device e b y.device sized sized' some ran t
+step_ran known storing both shared size before after x e (Err fault) y sized sized' some t =
     let (found, was, rest) = t some.0 some.1 in
-    let (left, is, turn) = rest in ap device_of turn.1
+    let (left, is, turn) = rest in (ap device_of turn.1, turn.3)
 
 one_count : (b : Bool) → 0 + bit b ≡ bit b
 one_count b = omega (arith)
 
-pub step_promised : AllArePromised → AllGoOn → AllLiveRuns → (shared : Bool) (size : ℕ) (d : PlainDevice) (e : Event)
-    (r : Result Bool NoMemory) (d' : PlainDevice) → StepRan shared size d e r d' → StepsPromised shared size d e r d'
-step_promised promised go live shared size d e (Ok b) d' ran =
-    goes_on_live promised go live shared size d (e ∷ []) (bit b) d'
-    (subst (λ n. RanLive shared size d (e ∷ []) n d') (one_count b) (ran d [] 0 (ran_none shared size d)))
-step_promised promised go live shared size d e (Err x) d' same = same
+pub step_stores : AllArePromised → AllGoOn → AllLiveRuns → {X : Type 0} (stored : X → X → List Write → Type 0) (shared : Bool)
+    (size : ℕ) (x : PlainLive X) (e : Event) (r : Result Bool NoMemory) (y : PlainLive X) → stored x.memory x.memory []
+    → StepRan stored shared size x e r y → StepStores (stored x.memory y.memory) shared size x.device e r y.device
+step_stores promised go live stored shared size x e (Ok b) y none ran =
+    let one = ran x [] 0 (ran_none (stored x.memory x.memory) shared size x.device none) in
+    stores_along promised go live (stored x.memory y.memory) shared size x.device (e ∷ []) (bit b) y.device
+    (subst (λ n. RanLive (stored x.memory y.memory) shared size x.device (e ∷ []) n y.device) (one_count b) one)
+step_stores promised go live stored shared size x e (Err fault) y none ran = ran.1
+
+pub step_promised : AllArePromised → AllGoOn → AllLiveRuns → {X : Type 0} (stored : X → X → List Write → Type 0)
+    (shared : Bool) (size : ℕ) (x : PlainLive X) (e : Event) (r : Result Bool NoMemory) (y : PlainLive X)
+    → stored x.memory x.memory [] → StepRan stored shared size x e r y
+    → StepsPromised shared size x.device e r y.device
+step_promised promised go live stored shared size x e (Ok b) y none ran =
+    λ m k lm lk. (step_stores promised go live stored shared size x e (Ok b) y none ran m k lm lk).0
+step_promised promised go live stored shared size x e (Err fault) y none ran = ran.0
 
 -- Lists of events
 
@@ -205,8 +273,35 @@ pub run_refused : (shared : Bool) (size : ℕ) (d : PlainDevice) (events : List 
 run_refused shared size d events k e count (Ok n) d' is at on = absurd (true≢false (sym is))
 run_refused shared size d events k e count (Err fault) d' is at on = (k, e, count, at, on)
 
-pub ran_step : (shared : Bool) (size : ℕ) (first d : PlainDevice) (xs : List declared.Event) (n : ℕ) (e : declared.Event)
-    (b : Bool) (d' : PlainDevice) → RanLive shared size first (events_of xs) n d
-    → StepRan shared size d (plain_event e) (Ok b) d' → RanLive shared size first (events_of (xs ++ e ∷ [])) (n + bit b) d'
-ran_step shared size first d xs n e b d' ran step =
-    subst (λ es. RanLive shared size first es (n + bit b) d') (sym (events_next xs e)) (step first (events_of xs) n ran)
+pub stores_refused : (wrote : List Write → Type 0) (shared : Bool) (size : ℕ) (d : PlainDevice) (events : List declared.Event)
+    (k : ℕ) (e : declared.Event) (count : ℕ) (r : Result ℕ NoMemory) (d' : PlainDevice) → IsErr r
+    → slice_get events k ≡ Some e → StoresAlong wrote shared size d (events_of (take k events)) count d'
+    → RunStores wrote shared size d events r d'
+stores_refused wrote shared size d events k e count (Ok n) d' is at on = absurd (true≢false (sym is))
+stores_refused wrote shared size d events k e count (Err fault) d' is at on = (k, e, count, at, on)
+
+pub ran_step : {X : Type 0} (stored : X → X → List Write → Type 0) (shared : Bool) (size : ℕ) (first x : PlainLive X)
+    (xs : List declared.Event) (n : ℕ) (e : declared.Event) (b : Bool) (y : PlainLive X)
+    → RanLive (stored first.memory x.memory) shared size first.device (events_of xs) n x.device
+    → StepRan stored shared size x (plain_event e) (Ok b) y
+    → RanLive (stored first.memory y.memory) shared size first.device (events_of (xs ++ e ∷ [])) (n + bit b) y.device
+ran_step stored shared size first x xs n e b y ran step =
+    subst (λ es. RanLive (stored first.memory y.memory) shared size first.device es (n + bit b) y.device)
+    (sym (events_next xs e)) (step first (events_of xs) n ran)
+
+-- where nothing was stored in the end, the same was
+pub ran_still : {X S : Type 0} (known : X → S) (storing : S → List Store → S) (none : (s : S) → storing s [] ≡ s)
+    (shared : Bool) (size : ℕ) (first d : PlainDevice) (es : List Event) (n : ℕ) (d' : PlainDevice) (x y z : X) → d' ≡ d
+    → Stored known storing y z [] → RanLive (Stored known storing x y) shared size first es n d
+    → RanLive (Stored known storing x z) shared size first es n d'
+ran_still known storing none shared size first d es n d' x y z same still ran =
+    subst (λ k. RanLive (Stored known storing x z) shared size first es n k) (sym same)
+    (λ a b la lb.
+    let r = ran a b la lb in
+    record {
+      more = r.more;
+      told = r.told;
+      counted = r.counted;
+      runs = r.runs;
+      writes = still ∙ none (known y) ∙ r.writes;
+    })

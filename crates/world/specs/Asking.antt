@@ -22,11 +22,11 @@ AsksAsPromised w None w' = w' ≡ w
 -- In a memory that its guest writes at any time
 
 -- the write was made in a phase of its own, and the call says so; or there is none, and nothing changed
-abbrev pub AsksLive : {X : Type 0} → Bool → (X → X → Type 0) → (X → List ℕ → Type 0) → PlainLive X → Option Write → Bool
-    → PlainLive X → Type 0
-AsksLive {X} shared begins may_be x (Some write) asked y = (asked ≡ true)
-    × StepsLive shared begins may_be x (Event.Poke write) (Ok true) y
-AsksLive {X} shared begins may_be x None asked y = (asked ≡ false) × (y ≡ x)
+abbrev pub AsksLive : {X : Type 0} → Bool → (X → X → Type 0) → (X → List ℕ → Type 0) → (X → X → List Write → Type 0)
+    → PlainLive X → Option Write → Bool → PlainLive X → Type 0
+AsksLive {X} shared begins may_be stored x (Some write) asked y = (asked ≡ true)
+    × StepsLive shared begins may_be stored x (Event.Poke write) (Ok true) y
+AsksLive {X} shared begins may_be stored x None asked y = (asked ≡ false) × (y ≡ x)
 
 -- the promise is kept by it, whatever bytes stand in memory
 abbrev pub AsksPromised : Bool → ℕ → PlainDevice → Option Write → PlainDevice → Type 0

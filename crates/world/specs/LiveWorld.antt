@@ -7,6 +7,7 @@ use Rattle.config.specs.Config.{is_config_for}
 use Rattle.config.specs.declared.config.Config.{Config}
 use Rattle.config.specs.declared.config.StartFault.{StartFault}
 use Rattle.config.specs.declared.config.StartFault.TheVariants as start
+use Rattle.ring_core.specs.Writes.{Write}
 use Rattle.device_model.specs.World.{Opens}
 use Rattle.device_model.specs.Events.{Event, plain_event}
 use Rattle.device_model.specs.declared.event.Event as declared
@@ -77,11 +78,12 @@ IsReachedIn shared size d = (m : List ℕ) → length m ≡ size → IsReached (
 -- What a call did
 
 -- one event in a phase that began with it, or what it asks the host for was refused. Of the memory it is said what a new
--- phase has of it, and what it may be
-abbrev pub StepsLive : {X : Type 0} → Bool → (X → X → Type 0) → (X → List ℕ → Type 0) → PlainLive X → Event
-    → Result Bool NoMemory → PlainLive X → Type 0
-StepsLive {X} shared begins may_be x e r y =
-    (begun : X) × begins x.memory begun × TurnsInOrWants shared (may_be begun) (may_be y.memory) x.device e r y.device
+-- phase has of it, what it may be, and what was stored
+abbrev pub StepsLive : {X : Type 0} → Bool → (X → X → Type 0) → (X → List ℕ → Type 0) → (X → X → List Write → Type 0)
+    → PlainLive X → Event → Result Bool NoMemory → PlainLive X → Type 0
+StepsLive {X} shared begins may_be stored x e r y =
+    (begun : X) × begins x.memory begun
+    × TurnsInOrWants shared (may_be begun) (may_be y.memory) (stored x.memory y.memory) x.device e r y.device
 
 -- each of these events had its step, the newest first, and so many changed something
 abbrev pub StepsEach : {X : Type 0} → (X → Event → Result Bool NoMemory → X → Type 0) → X → List Event → ℕ → X → Type 0
@@ -132,3 +134,29 @@ RunsPromised shared size d events (Ok count) d' = GoesOnLive shared size d (even
 RunsPromised shared size d events (Err fault) d' =
     (k : ℕ) × (e : declared.Event) × (count : ℕ) × (slice_get events k ≡ Some e)
     × GoesOnLive shared size d (events_of (take k events)) count d'
+
+-- What it stores
+
+-- the writes of a trace in their order, of which the newest event stands first
+abbrev pub writes_along : List Occurrence → List Write
+writes_along [] = []
+writes_along (o ∷ past) = writes_along past ++ o.action.writes
+
+-- whatever bytes stand before and behind, the trace that is promised of these events made the very writes that were stored
+abbrev pub StoresAlong : (List Write → Type 0) → Bool → ℕ → PlainDevice → List Event → ℕ → PlainDevice → Type 0
+StoresAlong stored shared size d events count d' =
+    (a b : List ℕ) → length a ≡ size → length b ≡ size
+    → (on : GoesOnFrom shared d events count d' a b) × stored (writes_along on.more)
+
+-- one event; where memory was refused for it, nothing was stored
+abbrev pub StepStores : (List Write → Type 0) → Bool → ℕ → PlainDevice → Event → Result Bool NoMemory → PlainDevice → Type 0
+StepStores stored shared size d e (Ok changed) d' = StoresAlong stored shared size d (e ∷ []) (if changed then 1 else 0) d'
+StepStores stored shared size d e (Err fault) d' = stored []
+
+-- all events; or those before one that memory was refused for
+abbrev pub RunStores : (List Write → Type 0) → Bool → ℕ → PlainDevice → List declared.Event → Result ℕ NoMemory → PlainDevice
+    → Type 0
+RunStores stored shared size d events (Ok count) d' = StoresAlong stored shared size d (events_of events) count d'
+RunStores stored shared size d events (Err fault) d' =
+    (k : ℕ) × (e : declared.Event) × (count : ℕ) × (slice_get events k ≡ Some e)
+    × StoresAlong stored shared size d (events_of (take k events)) count d'

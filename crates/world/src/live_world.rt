@@ -99,6 +99,8 @@ impl<M: WritableMemory + Drop> LiveWorld<M> {
 
 impl<M: WritableMemory> LiveWorld<M> {
     ghost use Rattle.world.specs.LiveWorld.{OpensIn, BeginsIn, OpensForIn, OpensAnewIn, StepsLive, StepsAll, StepsPromised, RunsPromised};
+    ghost use Rattle.world.specs.LiveWorld.{StepStores, RunStores};
+    ghost use Rattle.device_steps.specs.Apart.{Stored};
     ghost use Rattle.world.specs.Inner.LiveWorld.{StepRan};
 
     /// Returns the memory.
@@ -151,9 +153,10 @@ impl<M: WritableMemory> LiveWorld<M> {
     /// Takes one event, by reference, in a phase of its own.
     fn step_by(&mut self, event: &Event) -> Result<bool, NoMemory>
         ensures size { M.extent self.new.memory ≡ M.extent self.old.memory }
-        ensures steps { StepsLive M.shared M.begins M.may_be self.old (plain_event event.now) result self.new }
-        ensures ran { StepRan M.shared (M.extent self.old.memory) self.old.device (plain_event event.now) result
-            self.new.device }
+        ensures steps { StepsLive M.shared M.begins M.may_be (Stored M.stored M.storing) self.old (plain_event event.now) result
+            self.new }
+        ensures ran { StepRan (Stored M.stored M.storing) M.shared (M.extent self.old.memory) self.old
+            (plain_event event.now) result self.new }
     {
         all_are_sound();
         any_bytes_may_stand_there();
@@ -169,12 +172,16 @@ impl<M: WritableMemory> LiveWorld<M> {
     ///
     /// Whatever is seen in memory afterwards, there are bytes that may have been found there since the phase began, by
     /// which the event did what it does. By what is seen a notice was decided. Behind every trace that led here from an
-    /// opening, with whatever bytes in memory, the promise is kept, whatever bytes are there afterwards.
+    /// opening, with whatever bytes in memory, the promise is kept, whatever bytes are there afterwards. What was stored are
+    /// the writes of the event's action, in their order, and nothing else.
     pub fn step(&mut self, event: Event) -> Result<bool, NoMemory>
         ensures size { M.extent self.new.memory ≡ M.extent self.old.memory }
-        ensures steps { StepsLive M.shared M.begins M.may_be self.old (plain_event event) result self.new }
+        ensures steps { StepsLive M.shared M.begins M.may_be (Stored M.stored M.storing) self.old (plain_event event) result
+            self.new }
         ensures promise { StepsPromised M.shared (M.extent self.old.memory) self.old.device (plain_event event) result
             self.new.device }
+        ensures stores { StepStores (Stored M.stored M.storing self.old.memory self.new.memory) M.shared
+            (M.extent self.old.memory) self.old.device (plain_event event) result self.new.device }
     {
         a_live_run_is_a_run();
         every_run_goes_on();
@@ -187,12 +194,16 @@ impl<M: WritableMemory> LiveWorld<M> {
     ///
     /// Behind every trace that led here from an opening, with whatever bytes in memory, a trace of these events, with
     /// writes of the guest before the first and behind each, leads to where the device is then, whatever bytes are there
-    /// afterwards. The promise is kept by both together (`IsPromised` in `device_model/specs/Promise.antt`).
+    /// afterwards. The promise is kept by both together (`IsPromised` in `device_model/specs/Promise.antt`). What was stored
+    /// are the writes of that trace's actions, in their order, and nothing else.
     pub fn run(&mut self, events: &[Event]) -> Result<u64, NoMemory>
         ensures size { M.extent self.new.memory ≡ M.extent self.old.memory }
-        ensures runs { StepsAll (StepsLive M.shared M.begins M.may_be) self.old events.now result self.new }
+        ensures runs { StepsAll (StepsLive M.shared M.begins M.may_be (Stored M.stored M.storing)) self.old events.now result
+            self.new }
         ensures promise { RunsPromised M.shared (M.extent self.old.memory) self.old.device events.now result
             self.new.device }
+        ensures stores { RunStores (Stored M.stored M.storing self.old.memory self.new.memory) M.shared
+            (M.extent self.old.memory) self.old.device events.now result self.new.device }
     {
         a_live_run_is_a_run();
         every_run_goes_on();

@@ -1,6 +1,7 @@
 -- Rests on `specs/Apart.antt`; no promise rests on it.
 use Rattle.std.specs.Prelude.{ℕ, Bool, false, List, [], Result}
 use Rattle.foundation.specs.declared.NoMemory.{NoMemory}
+use Rattle.ring_core.specs.Writes.{Write}
 use Rattle.device_model.specs.Events.{Event}
 use Rattle.device_model.specs.After.{after}
 use Rattle.device_model.specs.Turns.{Turns}
@@ -25,10 +26,11 @@ TurnsAloneOrWants d e result d' =
 -- One event in a memory that others may write too
 
 -- whatever may be seen afterwards, the event takes its turn on a memory that may have been found
-abbrev pub TurnsIn : Bool → (List ℕ → Type 0) → (List ℕ → Type 0) → PlainDevice → Event → Bool → PlainDevice → Type 0
-TurnsIn shared before after d e changed d' =
+abbrev pub TurnsIn : Bool → (List ℕ → Type 0) → (List ℕ → Type 0) → (List Write → Type 0) → PlainDevice → Event → Bool
+    → PlainDevice → Type 0
+TurnsIn shared before after stored d e changed d' =
     EachSeen shared before after
-    (λ found left seen. TurnsSeen seen (standing shared found d) e changed (standing shared left d'))
+    (λ found left seen. TurnsSeen stored seen (standing shared found d) e changed (standing shared left d'))
 
 -- it has few parts, whatever stands in memory
 abbrev pub HasFew : PlainDevice → Type 0

@@ -2,6 +2,7 @@
 
 ghost use Rattle.std.specs.Prelude.{◌≡◌, ◌+◌, ◌≤◌, Ok, true, length};
 ghost use Rattle.device_model.specs.Events.{Event as AnEvent};
+ghost use Rattle.device_steps.specs.Apart.{Stored};
 ghost use Rattle.device_steps.specs.Asking.{asking_at};
 ghost use Rattle.world.specs.Asking.{AsksLive, AsksPromised};
 ghost use Rattle.world.specs.LiveWorld.{StepsLive};
@@ -19,10 +20,10 @@ impl<M: WritableMemory> LiveWorld<M> {
     /// Writes bytes at an address, in a phase of its own.
     fn write_by(&mut self, addr: u64, bytes: &[u8]) -> bool
         ensures size { M.extent self.new.memory ≡ M.extent self.old.memory }
-        ensures steps { StepsLive M.shared M.begins M.may_be self.old
+        ensures steps { StepsLive M.shared M.begins M.may_be (Stored M.stored M.storing) self.old
             (AnEvent.Poke (record { addr = addr; bytes = bytes.now })) (Ok result) self.new }
-        ensures ran { StepRan M.shared (M.extent self.old.memory) self.old.device
-            (AnEvent.Poke (record { addr = addr; bytes = bytes.now })) (Ok result) self.new.device }
+        ensures ran { StepRan (Stored M.stored M.storing) M.shared (M.extent self.old.memory) self.old
+            (AnEvent.Poke (record { addr = addr; bytes = bytes.now })) (Ok result) self.new }
         ensures inside { addr + length bytes.now ≤ M.extent self.old.memory → result ≡ true }
     {
         any_bytes_may_stand_there();
@@ -38,7 +39,7 @@ impl<M: WritableMemory> LiveWorld<M> {
     /// next phase reads is no older than the write, on a bus that begins each phase with a full barrier.
     pub fn ask(&mut self, number: u16, notify: Notify) -> bool
         ensures size { M.extent self.new.memory ≡ M.extent self.old.memory }
-        ensures asks { AsksLive M.shared M.begins M.may_be self.old
+        ensures asks { AsksLive M.shared M.begins M.may_be (Stored M.stored M.storing) self.old
             (asking_at self.old.device.queues number notify) result self.new }
         ensures promise { AsksPromised M.shared (M.extent self.old.memory) self.old.device
             (asking_at self.old.device.queues number notify) self.new.device }

@@ -1,11 +1,12 @@
-use Rattle.std.proofs.Common.{◌≡◌, is_some, Some, sym, subst, ap, refl, ◌∙◌, length, arith}
+use Rattle.std.proofs.Common.{◌≡◌, List, is_some, Some, sym, subst, ap, refl, ◌∙◌, length, arith}
 use Rattle.device_model.specs.Events.{Event}
 use Rattle.phases.specs.Inner.InMemory.{AnswersIn}
 use Rattle.phases.specs.Parts.{answering_queue}
 use Rattle.phases.specs.Slots.{slot_of}
 use Rattle.phases.specs.Queue.{with_slot}
+use Rattle.ring_core.specs.Writes.{Write}
 use Rattle.device_steps.specs.Kept.{KeptSeat}
-use Rattle.device_steps.specs.Apart.{standing, TurnsSeen}
+use Rattle.device_steps.specs.Apart.{standing, Stored, TurnsSeen}
 use Rattle.device_steps.specs.contracts.device.Device.{the_view}
 use Rattle.device_steps.specs.contracts.seat.Seat as seat
 use Rattle.device_steps.proofs.Setting.{sound_seen}
@@ -37,6 +38,7 @@ returns-clause-turns g c =
     let slot = slot_of c.behind-self-2.inside.slot in
     let did = is_some c.phase_answer_in.result in
     let shared = g.M.Memory.shared in
+    let stored : List Write → Type 0 = Stored g.M.Memory.stored g.M.Memory.storing c.args.memory.now c.phase_answer_in.new.memory in
     let seen : KeptSeat = seat.the_view c.behind-self.inside in
     let s : KeptSeat = seat.the_view c.behind-self-3.inside in
     let t : KeptSeat = seat.the_view (record { hand = c.phase_answer_in.new.hand; out = c.behind-self-3.inside.out }) in
@@ -54,15 +56,15 @@ returns-clause-turns g c =
     (λ m left n. AnswersIn shared s.hand q m did r left n t.hand)
     (λ m left n.
     let w = standing shared m (the_view d) in
-    TurnsSeen n w (Event.Answer k) c.is_some.result
+    TurnsSeen stored n w (Event.Answer k) c.is_some.result
     (with_queue_and_seat w left i (with_slot slot r) d.seats.items k t))
     (λ m left n was h.
     let w = standing shared m (the_view d) in
-    subst (λ b. TurnsSeen n w (Event.Answer k) b (with_queue_and_seat w left i (with_slot slot r) d.seats.items k t))
+    subst (λ b. TurnsSeen stored n w (Event.Answer k) b (with_queue_and_seat w left i (with_slot slot r) d.seats.items k t))
     (sym c.is_some.ensures)
-    (answers w d.seats.items k i s.hand s.jobs s.limit slot q r left n t.hand did
+    (answers stored w d.seats.items k i s.hand s.jobs s.limit slot q r left n t.hand did
     (sound_seen shared m _ _ c.self.view_is (c.requires.sound m was))
     (fits_at (g.M.Memory.extent c.args.memory.now) m _ _ c.self.view_is (g.met.M.Memory.sized c.args.memory.now m was)
     c.requires.fits)
-    refl at queue there h))
+    refl at queue there c.phase_answer_in.ensures.stores h))
     c.phase_answer_in.ensures.answers)

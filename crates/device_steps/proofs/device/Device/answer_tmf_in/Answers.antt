@@ -1,11 +1,12 @@
-use Rattle.std.proofs.Common.{◌<◌, refl}
+use Rattle.std.proofs.Common.{◌<◌, List, refl}
 use Rattle.std.proofs.lemmas.Option.{slice_get_read}
 use Rattle.std.specs.Prelude.{slice_set}
 use Rattle.device_model.specs.Events.{Event}
 use Rattle.phases.specs.Inner.InMemory.{RespondsIn}
 use Rattle.phases.specs.Slots.{slot_of}
 use Rattle.phases.specs.Queue.{with_slot}
-use Rattle.device_steps.specs.Apart.{standing, TurnsSeen}
+use Rattle.ring_core.specs.Writes.{Write}
+use Rattle.device_steps.specs.Apart.{standing, Stored, TurnsSeen}
 use Rattle.device_steps.specs.contracts.device.Device.{the_view}
 use Rattle.device_steps.proofs.Setting.{sound_seen}
 use Rattle.device_steps.proofs.Placing.{some_there}
@@ -26,15 +27,17 @@ returns-clause-turns g c =
     let f = c.phase_answer_tmf_in.new.function in
     let did = c.phase_answer_tmf_in.result in
     let shared = g.M.Memory.shared in
+    let stored : List Write → Type 0 = Stored g.M.Memory.stored g.M.Memory.storing c.args.memory.now c.phase_answer_tmf_in.new.memory in
     rw (← c.self.view_is)
     (each_from shared (g.M.Memory.may_be c.args.memory.now) (g.M.Memory.may_be c.phase_answer_tmf_in.new.memory)
     (λ m left n. RespondsIn shared d.function q m did r left n f)
     (λ m left n.
     let w = standing shared m (the_view d) in
-    TurnsSeen n w Event.AnswerTmf did (with_three left (slice_set w.queues 0 (with_slot slot r)) f w))
+    TurnsSeen stored n w Event.AnswerTmf did (with_three left (slice_set w.queues 0 (with_slot slot r)) f w))
     (λ m left n was h.
     let fits = fits_at (g.M.Memory.extent c.args.memory.now) m _ _ c.self.view_is
     (g.met.M.Memory.sized c.args.memory.now m was) c.requires.fits in
-    respond_turns (standing shared m (the_view d)) 0 slot q r left n f did
-    (sound_seen shared m _ _ c.self.view_is (c.requires.sound m was)) refl here (fits 0 _ here) h)
+    respond_turns stored (standing shared m (the_view d)) 0 slot q r left n f did
+    (sound_seen shared m _ _ c.self.view_is (c.requires.sound m was)) refl here (fits 0 _ here)
+    c.phase_answer_tmf_in.ensures.stores h)
     c.phase_answer_tmf_in.ensures.responds)

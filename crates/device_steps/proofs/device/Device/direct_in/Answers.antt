@@ -1,9 +1,10 @@
-use Rattle.std.proofs.Common.{◌≡◌, is_some, sym, subst, length, arith}
+use Rattle.std.proofs.Common.{◌≡◌, List, is_some, sym, subst, length, arith}
 use Rattle.device_model.specs.Events.{Event}
 use Rattle.phases.specs.Inner.InMemory.{DirectsIn}
 use Rattle.phases.specs.Slots.{slot_of}
 use Rattle.phases.specs.Queue.{with_slot}
-use Rattle.device_steps.specs.Apart.{standing, TurnsSeen}
+use Rattle.ring_core.specs.Writes.{Write}
+use Rattle.device_steps.specs.Apart.{standing, Stored, TurnsSeen}
 use Rattle.device_steps.specs.contracts.device.Device.{the_view}
 use Rattle.device_steps.proofs.Setting.{sound_seen}
 use Rattle.device_steps.proofs.Seats.{found}
@@ -24,17 +25,18 @@ returns-clause-turns g c =
     let there = found d.bays.items c.len.result i (with_slot slot q) c.index_mut-bay.result.now many c.if-at-len.false
     c.index_mut-bay.ensures.value c.bay.view_is in
     let shared = g.M.Memory.shared in
+    let stored : List Write → Type 0 = Stored g.M.Memory.stored g.M.Memory.storing c.args.memory.now c.phase_direct_in.new.memory in
     rw (← c.self.view_is)
     (each_from shared (g.M.Memory.may_be c.args.memory.now) (g.M.Memory.may_be c.phase_direct_in.new.memory)
     (λ m left seen. DirectsIn shared slot q m did r left seen next_slot)
     (λ m left seen.
     let w = standing shared m (the_view d) in
-    TurnsSeen seen w (Event.Direct i) c.is_some.result (with_queue w left i (with_slot next_slot r)))
+    TurnsSeen stored seen w (Event.Direct i) c.is_some.result (with_queue w left i (with_slot next_slot r)))
     (λ m left seen was h.
     let w = standing shared m (the_view d) in
-    subst (λ b. TurnsSeen seen w (Event.Direct i) b (with_queue w left i (with_slot next_slot r))) (sym c.is_some.ensures)
-    (directs w i slot next_slot q r left seen did (sound_seen shared m _ _ c.self.view_is (c.requires.sound m was))
+    subst (λ b. TurnsSeen stored seen w (Event.Direct i) b (with_queue w left i (with_slot next_slot r))) (sym c.is_some.ensures)
+    (directs stored w i slot next_slot q r left seen did (sound_seen shared m _ _ c.self.view_is (c.requires.sound m was))
     (fits_at (g.M.Memory.extent c.args.memory.now) m _ _ c.self.view_is (g.met.M.Memory.sized c.args.memory.now m was)
     c.requires.fits)
-    there h))
+    there c.phase_direct_in.ensures.stores h))
     c.phase_direct_in.ensures.directs)

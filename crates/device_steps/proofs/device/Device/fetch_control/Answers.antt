@@ -1,15 +1,16 @@
-use Rattle.std.proofs.Common.{◌<◌, ℕ, refl, arith}
+use Rattle.std.proofs.Common.{◌<◌, ℕ, List, refl, arith}
 use Rattle.std.specs.Prelude.{slice_set}
 use Rattle.std.proofs.lemmas.Option.{slice_get_read}
 use Rattle.device_model.specs.Events.{Event}
 use Rattle.phases.specs.Slots.{slot_of}
 use Rattle.phases.specs.Queue.{with_slot}
-use Rattle.device_steps.specs.Apart.{standing, TurnsSeenOrWants}
+use Rattle.ring_core.specs.Writes.{Write}
+use Rattle.device_steps.specs.Apart.{standing, Stored, TurnsSeenOrWants}
 use Rattle.device_steps.specs.contracts.device.Device.{the_view}
 use Rattle.device_steps.proofs.Fetches.{control_turns, with_both}
 use Rattle.device_steps.proofs.Placing.{some_there}
 use Rattle.device_steps.proofs.Setting.{sound_seen}
-use Rattle.device_steps.proofs.InMemory.{fetch_seen, fits_at}
+use Rattle.device_steps.proofs.InMemory.{fetch_seen, fits_at, none_known}
 use Rattle.phases.proofs.Behind.{each_read}
 use Rattle.device_steps.proofs.device.Device.fetch_control.Goals as goal
 
@@ -24,16 +25,19 @@ returns-clause-turns g c =
     let fetch = c.phase_fetch_control_in in
     let q' = with_slot (slot_of fetch.new.slot) fetch.new.queue in
     let shared = g.M.Memory.shared in
+    let stored : List Write → Type 0 = Stored g.M.Memory.stored g.M.Memory.storing c.args.memory.now fetch.new.memory in
     rw (← c.self.view_is)
     (each_read shared (g.M.Memory.may_be c.args.memory.now) (g.M.Memory.may_be fetch.new.memory)
-    (λ m left seen. TurnsSeenOrWants seen (standing shared m (the_view d)) (Event.Fetch 0) fetch.result
+    (λ m left seen. TurnsSeenOrWants stored seen (standing shared m (the_view d)) (Event.Fetch 0) fetch.result
     (with_both (slice_set (the_view d).queues k q') fetch.new.function (standing shared left (the_view d))))
     fetch.ensures.stays
     (λ m may.
     let was = fetch.ensures.stays m may in
     let fits = fits_at (g.M.Memory.extent c.args.memory.now) m _ _ c.self.view_is
     (g.met.M.Memory.sized c.args.memory.now m was) c.requires.fits in
-    fetch_seen (standing shared m (the_view d)) 0 fetch.result _ (λ one. omega (arith, one))
+    fetch_seen stored (standing shared m (the_view d)) 0 fetch.result _
+    (none_known g.M.Memory.stored g.M.Memory.storing g.met.M.Memory.none c.args.memory.now fetch.new.memory fetch.ensures.stores)
+    (λ one. omega (arith, one))
     (control_turns (standing shared m (the_view d)) k _ _ _ fetch.result
     (sound_seen shared m _ _ c.self.view_is (c.requires.sound m was)) refl here (fits k _ here)
     (fetch.ensures.fetches m may))))

@@ -45,7 +45,7 @@ returns-clause-turns g c =
     (λ m left n. FetchesEventIn shared stored q m d.port fetch.result q' left n fetch.new.port)
     (λ m left n.
     let w = standing shared m (the_view d) in
-    TurnsSeenOrWants n w (Event.Fetch 1) fetch.result (with_port left (slice_set w.queues 1 q') fetch.new.port w))
+    TurnsSeenOrWants stored n w (Event.Fetch 1) fetch.result (with_port left (slice_set w.queues 1 q') fetch.new.port w))
     (λ m left n was h.
     let w = standing shared m (the_view d) in
     let sound = sound_seen shared m _ _ c.self.view_is (c.requires.sound m was) in

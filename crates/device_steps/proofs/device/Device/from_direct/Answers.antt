@@ -1,7 +1,7 @@
 use Rattle.std.proofs.Common.{◌≡◌, ◌∙◌, refl, sym, ap, subst, length, arith}
 use Rattle.device_model.specs.Events.{Event}
 use Rattle.device_model.specs.Applies.{Applies}
-use Rattle.device_steps.specs.Apart.{PlainDevice, standing}
+use Rattle.device_steps.specs.Apart.{PlainDevice, standing, Stored}
 use Rattle.device_steps.specs.Inner.Apart.{TurnsIn}
 use Rattle.device_steps.specs.Inner.Cursors.{NoStart, NoneBefore, NoDirect, NoDirectBelow, direct_from, StepsNext, Sees, TurnsBy}
 use Rattle.device_steps.proofs.Choosing.{and_next}
@@ -47,7 +47,7 @@ returns-then-answered-clause-turns g c =
     let middle = g.M.Memory.may_be z in
     let after = g.M.Memory.may_be y in
     let inv = c.loop-number.invariant in
-    let turn = subst (λ k. TurnsIn shared middle after k (Event.Direct n) call.result d') inv.same call.ensures.turns in
+    let turn = subst (λ k. TurnsIn shared middle after (Stored g.M.Memory.stored g.M.Memory.storing z y) k (Event.Direct n) call.result d') inv.same call.ensures.turns in
     one_in shared g.M.Memory.may_be asked c.args.most x d (cursor.Direct n) c.one.result y d' c.requires.most c.one.ensures
     c.size-bytes.ensures.some
     (each_before shared before middle after
@@ -61,7 +61,7 @@ returns-then-answered-clause-turns g c =
     direct_next asked (Sees left seen) (standing shared found d) (standing shared left d') n
     (c.requires.start found (inv.stays found was)) (inv.below found was)
     (omega (arith, c.loop-number-test.true, inv.all)) t)
-    (did_in shared middle after d (Event.Direct n) call.result d' c.if-answered.true turn)))
+    (did_in shared middle after (Stored g.M.Memory.stored g.M.Memory.storing z y) d (Event.Direct n) call.result d' c.if-answered.true turn)))
 
 pub loop-number-preserved : goal.loop-number-preserved
 loop-number-preserved g c =
@@ -72,9 +72,9 @@ loop-number-preserved g c =
     let d = c.args.self.now in
     let middle = g.M.Memory.may_be c.loop-number.memory in
     let after = g.M.Memory.may_be call.new.memory in
-    let turn = subst (λ k. TurnsIn shared middle after k (Event.Direct n) call.result call.new.self) inv.same
+    let turn = subst (λ k. TurnsIn shared middle after (Stored g.M.Memory.stored g.M.Memory.storing c.loop-number.memory call.new.memory) k (Event.Direct n) call.result call.new.self) inv.same
     call.ensures.turns in
-    let here = idle_in shared middle after d (Event.Direct n) call.result call.new.self c.if-answered.false
+    let here = idle_in shared middle after (Stored g.M.Memory.stored g.M.Memory.storing c.loop-number.memory call.new.memory) d (Event.Direct n) call.result call.new.self c.if-answered.false
     c.size-bytes.ensures.some turn in
     record {
       same = here.0;

@@ -1,6 +1,6 @@
 use Rattle.std.proofs.Common.{◌∙◌, sym, subst}
 use Rattle.device_model.specs.Events.{Event}
-use Rattle.device_steps.specs.Apart.{standing}
+use Rattle.device_steps.specs.Apart.{standing, Stored}
 use Rattle.device_steps.specs.Inner.Apart.{TurnsIn}
 use Rattle.device_steps.specs.Inner.Cursors.{of_function, NoStart, StepsNext, Sees, TurnsBy, TurnsFirst}
 use Rattle.device_steps.specs.declared.cursor.Cursor.TheVariants as cursor
@@ -57,7 +57,7 @@ returns-then-raised-clause-turns g c =
     let middle = g.M.Memory.may_be z in
     let after = g.M.Memory.may_be y in
     let first = none_in shared before middle of_function d call.result call.new.self c.if-turned.false call.ensures.turns in
-    let turn = subst (λ k. TurnsIn shared middle after k Event.Raise raise.result d') first.0 raise.ensures.turns in
+    let turn = subst (λ k. TurnsIn shared middle after (Stored g.M.Memory.stored g.M.Memory.storing z y) k Event.Raise raise.result d') first.0 raise.ensures.turns in
     one_in shared g.M.Memory.may_be asked c.args.most x d cursor.Start c.one-then-raised.result y d' c.requires.most
     c.one-then-raised.ensures c.size-event.ensures.some
     (each_before shared before middle after
@@ -68,7 +68,7 @@ returns-then-raised-clause-turns g c =
     (λ found left seen. StepsNext asked (Sees left seen) (standing shared found d) cursor.Start (standing shared left d'))
     (λ found left seen was t.
     raise_next asked (Sees left seen) (standing shared found d) (standing shared left d') (first.1 found was).1 t)
-    (did_in shared middle after d Event.Raise raise.result d' c.if-raised.true turn)))
+    (did_in shared middle after (Stored g.M.Memory.stored g.M.Memory.storing z y) d Event.Raise raise.result d' c.if-raised.true turn)))
 
 pub from_direct-requires : goal.from_direct-requires
 from_direct-requires g c =
@@ -84,8 +84,8 @@ from_direct-requires g c =
     let middle = g.M.Memory.may_be z in
     let after = g.M.Memory.may_be y in
     let first = none_in shared before middle of_function d call.result call.new.self c.if-turned.false call.ensures.turns in
-    let turn = subst (λ k. TurnsIn shared middle after k Event.Raise raise.result d') first.0 raise.ensures.turns in
-    let second = idle_in shared middle after d Event.Raise raise.result d' c.if-raised.false c.size-event.ensures.some turn in
+    let turn = subst (λ k. TurnsIn shared middle after (Stored g.M.Memory.stored g.M.Memory.storing z y) k Event.Raise raise.result d') first.0 raise.ensures.turns in
+    let second = idle_in shared middle after (Stored g.M.Memory.stored g.M.Memory.storing z y) d Event.Raise raise.result d' c.if-raised.false c.size-event.ensures.some turn in
     record {
       most = c.requires.most;
       ready = still_ready (g.M.Memory.is_open x) (g.M.Memory.is_open y) shared before after (g.M.Memory.extent x)
@@ -113,8 +113,8 @@ returns-clause-turns g c =
     let middle = g.M.Memory.may_be z in
     let after = g.M.Memory.may_be y in
     let first = none_in shared before middle of_function d call.result call.new.self c.if-turned.false call.ensures.turns in
-    let turn = subst (λ k. TurnsIn shared middle after k Event.Raise raise.result d') first.0 raise.ensures.turns in
-    let second = idle_in shared middle after d Event.Raise raise.result d' c.if-raised.false c.size-event.ensures.some turn in
+    let turn = subst (λ k. TurnsIn shared middle after (Stored g.M.Memory.stored g.M.Memory.storing z y) k Event.Raise raise.result d') first.0 raise.ensures.turns in
+    let second = idle_in shared middle after (Stored g.M.Memory.stored g.M.Memory.storing z y) d Event.Raise raise.result d' c.if-raised.false c.size-event.ensures.some turn in
     turns_before shared g.M.Memory.may_be (asks c.args.queues) c.args.most x y d d' c.from_direct.result
     c.from_direct.new.memory c.from_direct.new.self second.0 (λ m may. (first.1 m (second.1 m may).0).0)
     c.from_direct.ensures.turns

@@ -1,5 +1,7 @@
 use Rattle.device_model.specs.Events.{Event}
-use Rattle.std.proofs.Common.{false}
+use Rattle.std.proofs.Common.{ℕ, List, false}
+use Rattle.guest_mem.specs.Stores.{all_stored}
+use Rattle.device_steps.specs.Apart.{Stored}
 use Rattle.device_steps.proofs.InMemory.{has_few, sound_own, turns_own}
 use Rattle.device_steps.proofs.device.Device.raise.Goals as goal
 
@@ -11,5 +13,6 @@ raise_in-requires-clause-few c = has_few false c.args.memory.now c.args.self.now
 
 pub returns-clause-turns : goal.returns-clause-turns
 returns-clause-turns c =
-    turns_own c.args.memory.now c.raise_in.new.memory c.args.self.now Event.Raise c.raise_in.result c.raise_in.new.self
+    turns_own (Stored (λ (m : List ℕ). m) all_stored c.args.memory.now c.raise_in.new.memory) c.args.memory.now
+    c.raise_in.new.memory c.args.self.now Event.Raise c.raise_in.result c.raise_in.new.self
     c.raise_in.ensures.turns

@@ -1,5 +1,5 @@
 use Rattle.device_model.specs.Events.{Event}
-use Rattle.device_steps.specs.Apart.{standing}
+use Rattle.device_steps.specs.Apart.{standing, Stored}
 use Rattle.device_steps.specs.Inner.Cursors.{StepsNext, Sees, TurnsBy}
 use Rattle.device_steps.specs.Settling.{asks}
 use Rattle.device_steps.proofs.InMemory.{each_from}
@@ -26,13 +26,13 @@ returns-in-Ok-true-clause-turns g c =
     (λ found left seen was t.
     fetch_next asked (Sees left seen) (standing shared found d) (standing shared left d') i next (c.requires.before found was)
     (c.requires.below found was) c.requires.there c.requires.asked t (c.after_fetch.ensures shared left))
-    (did_in shared before after d (Event.Fetch i) c.in-Ok-true.field-0 d' c.in-Ok-true.field-0-test c.in-Ok-true.ensures.turns))
+    (did_in shared before after (Stored g.M.Memory.stored g.M.Memory.storing c.args.memory.now call.new.memory) d (Event.Fetch i) c.in-Ok-true.field-0 d' c.in-Ok-true.field-0-test c.in-Ok-true.ensures.turns))
 
 pub returns-in-Ok-false-clause-turns : goal.returns-in-Ok-false-clause-turns
 returns-in-Ok-false-clause-turns g c =
     let call = c.fetch_in-fetched in
     let idle = idle_in g.M.Memory.shared (g.M.Memory.may_be c.args.memory.now) (g.M.Memory.may_be call.new.memory)
-    c.args.self.now (Event.Fetch c.args.number) c.in-Ok-false.field-0 call.new.self c.in-Ok-false.field-0-test
+    (Stored g.M.Memory.stored g.M.Memory.storing c.args.memory.now call.new.memory) c.args.self.now (Event.Fetch c.args.number) c.in-Ok-false.field-0 call.new.self c.in-Ok-false.field-0-test
     c.size-bytes.ensures.some c.in-Ok-false.ensures.turns in
     (idle.0, λ m may. ((idle.1 m may).0, λ on. (idle.1 m may).1))
 
@@ -40,6 +40,6 @@ pub returns-in-Err-clause-turns : goal.returns-in-Err-clause-turns
 returns-in-Err-clause-turns g c =
     let call = c.fetch_in-fetched in
     let wants = wants_in g.M.Memory.shared (g.M.Memory.may_be c.args.memory.now) (g.M.Memory.may_be call.new.memory)
-    c.args.self.now (Event.Fetch c.args.number) c.in-Err.field-0 call.new.self c.size-bytes.ensures.some
+    (Stored g.M.Memory.stored g.M.Memory.storing c.args.memory.now call.new.memory) c.args.self.now (Event.Fetch c.args.number) c.in-Err.field-0 call.new.self c.size-bytes.ensures.some
     c.in-Err.ensures.turns in
     (wants.0, λ m may. ((wants.1 m may).0, (c.requires.asked, (wants.1 m may).1)))

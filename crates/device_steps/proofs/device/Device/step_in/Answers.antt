@@ -1,65 +1,87 @@
+use Rattle.std.proofs.Common.{refl}
 use Rattle.device_model.specs.Events.{Event}
-use Rattle.device_steps.proofs.InMemory.{alone_in, alone_in_or}
+use Rattle.device_steps.specs.Apart.{Stored}
+use Rattle.device_steps.proofs.InMemory.{alone_in, alone_in_or, none_known}
 use Rattle.device_steps.proofs.device.Device.step_in.Goals as goal
 
 pub returns-in-Enter-clause-turns : goal.returns-in-Enter-clause-turns
 returns-in-Enter-clause-turns g c =
     rw (c.in-Enter.is)
-    (alone_in g.M.Memory.shared (g.M.Memory.may_be c.args.memory.now) c.args.self.now (Event.Enter c.in-Enter.queue) c.enter.result c.enter.new.self tt
+    (alone_in g.M.Memory.shared (g.M.Memory.may_be c.args.memory.now)
+    (Stored g.M.Memory.stored g.M.Memory.storing c.args.memory.now c.args.memory.now) c.args.self.now (Event.Enter c.in-Enter.queue) c.enter.result c.enter.new.self
+    (none_known g.M.Memory.stored g.M.Memory.storing g.met.M.Memory.none c.args.memory.now c.args.memory.now refl) tt
     c.requires.sound c.enter.ensures)
 
 pub returns-in-Put-clause-turns : goal.returns-in-Put-clause-turns
 returns-in-Put-clause-turns g c =
     rw (c.in-Put.is)
-    (alone_in g.M.Memory.shared (g.M.Memory.may_be c.args.memory.now) c.args.self.now (Event.Put c.in-Put.seat) c.put.result c.put.new.self tt
+    (alone_in g.M.Memory.shared (g.M.Memory.may_be c.args.memory.now)
+    (Stored g.M.Memory.stored g.M.Memory.storing c.args.memory.now c.args.memory.now) c.args.self.now (Event.Put c.in-Put.seat) c.put.result c.put.new.self
+    (none_known g.M.Memory.stored g.M.Memory.storing g.met.M.Memory.none c.args.memory.now c.args.memory.now refl) tt
     c.requires.sound c.put.ensures)
 
 pub returns-in-Take-clause-turns : goal.returns-in-Take-clause-turns
 returns-in-Take-clause-turns g c =
     rw (c.in-Take.is)
-    (alone_in g.M.Memory.shared (g.M.Memory.may_be c.args.memory.now) c.args.self.now (Event.Take c.in-Take.seat) c.take.result c.take.new.self tt
+    (alone_in g.M.Memory.shared (g.M.Memory.may_be c.args.memory.now)
+    (Stored g.M.Memory.stored g.M.Memory.storing c.args.memory.now c.args.memory.now) c.args.self.now (Event.Take c.in-Take.seat) c.take.result c.take.new.self
+    (none_known g.M.Memory.stored g.M.Memory.storing g.met.M.Memory.none c.args.memory.now c.args.memory.now refl) tt
     c.requires.sound c.take.ensures)
 
 pub returns-in-Prepare-clause-turns : goal.returns-in-Prepare-clause-turns
 returns-in-Prepare-clause-turns g c =
     rw (c.in-Prepare.is)
-    (alone_in g.M.Memory.shared (g.M.Memory.may_be c.args.memory.now) c.args.self.now (Event.Prepare c.in-Prepare.seat) c.prepare.result c.prepare.new.self tt
+    (alone_in g.M.Memory.shared (g.M.Memory.may_be c.args.memory.now)
+    (Stored g.M.Memory.stored g.M.Memory.storing c.args.memory.now c.args.memory.now) c.args.self.now (Event.Prepare c.in-Prepare.seat) c.prepare.result c.prepare.new.self
+    (none_known g.M.Memory.stored g.M.Memory.storing g.met.M.Memory.none c.args.memory.now c.args.memory.now refl) tt
     c.requires.sound c.prepare.ensures)
 
 pub returns-in-Commit-clause-turns : goal.returns-in-Commit-clause-turns
 returns-in-Commit-clause-turns g c =
     rw (c.in-Commit.is)
-    (alone_in g.M.Memory.shared (g.M.Memory.may_be c.args.memory.now) c.args.self.now (Event.Commit c.in-Commit.seat) c.commit.result c.commit.new.self tt
+    (alone_in g.M.Memory.shared (g.M.Memory.may_be c.args.memory.now)
+    (Stored g.M.Memory.stored g.M.Memory.storing c.args.memory.now c.args.memory.now) c.args.self.now (Event.Commit c.in-Commit.seat) c.commit.result c.commit.new.self
+    (none_known g.M.Memory.stored g.M.Memory.storing g.met.M.Memory.none c.args.memory.now c.args.memory.now refl) tt
     c.requires.sound c.commit.ensures)
 
 pub returns-in-Leave-clause-turns : goal.returns-in-Leave-clause-turns
 returns-in-Leave-clause-turns g c =
     rw (c.in-Leave.is)
-    (alone_in g.M.Memory.shared (g.M.Memory.may_be c.args.memory.now) c.args.self.now (Event.Leave c.in-Leave.seat) c.leave.result c.leave.new.self tt
+    (alone_in g.M.Memory.shared (g.M.Memory.may_be c.args.memory.now)
+    (Stored g.M.Memory.stored g.M.Memory.storing c.args.memory.now c.args.memory.now) c.args.self.now (Event.Leave c.in-Leave.seat) c.leave.result c.leave.new.self
+    (none_known g.M.Memory.stored g.M.Memory.storing g.met.M.Memory.none c.args.memory.now c.args.memory.now refl) tt
     c.requires.sound c.leave.ensures)
 
 pub returns-in-Mark-clause-turns : goal.returns-in-Mark-clause-turns
 returns-in-Mark-clause-turns g c =
     rw (c.in-Mark.is)
-    (alone_in g.M.Memory.shared (g.M.Memory.may_be c.args.memory.now) c.args.self.now Event.Mark c.mark.result c.mark.new.self tt
+    (alone_in g.M.Memory.shared (g.M.Memory.may_be c.args.memory.now)
+    (Stored g.M.Memory.stored g.M.Memory.storing c.args.memory.now c.args.memory.now) c.args.self.now Event.Mark c.mark.result c.mark.new.self
+    (none_known g.M.Memory.stored g.M.Memory.storing g.met.M.Memory.none c.args.memory.now c.args.memory.now refl) tt
     c.requires.sound c.mark.ensures)
 
 pub returns-in-Check-clause-turns : goal.returns-in-Check-clause-turns
 returns-in-Check-clause-turns g c =
     rw (c.in-Check.is)
-    (alone_in g.M.Memory.shared (g.M.Memory.may_be c.args.memory.now) c.args.self.now Event.Check c.check.result c.check.new.self tt
+    (alone_in g.M.Memory.shared (g.M.Memory.may_be c.args.memory.now)
+    (Stored g.M.Memory.stored g.M.Memory.storing c.args.memory.now c.args.memory.now) c.args.self.now Event.Check c.check.result c.check.new.self
+    (none_known g.M.Memory.stored g.M.Memory.storing g.met.M.Memory.none c.args.memory.now c.args.memory.now refl) tt
     c.requires.sound c.check.ensures)
 
 pub returns-in-Hard-clause-turns : goal.returns-in-Hard-clause-turns
 returns-in-Hard-clause-turns g c =
     rw (c.in-Hard.is)
-    (alone_in_or g.M.Memory.shared (g.M.Memory.may_be c.args.memory.now) c.args.self.now (Event.Hard c.in-Hard.place) c.hard.result c.hard.new.self tt
+    (alone_in_or g.M.Memory.shared (g.M.Memory.may_be c.args.memory.now)
+    (Stored g.M.Memory.stored g.M.Memory.storing c.args.memory.now c.args.memory.now) c.args.self.now (Event.Hard c.in-Hard.place) c.hard.result c.hard.new.self
+    (none_known g.M.Memory.stored g.M.Memory.storing g.met.M.Memory.none c.args.memory.now c.args.memory.now refl) tt
     c.requires.sound c.requires.few c.hard.ensures)
 
 pub returns-in-Resize-clause-turns : goal.returns-in-Resize-clause-turns
 returns-in-Resize-clause-turns g c =
     rw (c.in-Resize.is)
-    (alone_in_or g.M.Memory.shared (g.M.Memory.may_be c.args.memory.now) c.args.self.now (Event.Resize c.in-Resize.place c.in-Resize.blocks) c.resize.result c.resize.new.self tt
+    (alone_in_or g.M.Memory.shared (g.M.Memory.may_be c.args.memory.now)
+    (Stored g.M.Memory.stored g.M.Memory.storing c.args.memory.now c.args.memory.now) c.args.self.now (Event.Resize c.in-Resize.place c.in-Resize.blocks) c.resize.result c.resize.new.self
+    (none_known g.M.Memory.stored g.M.Memory.storing g.met.M.Memory.none c.args.memory.now c.args.memory.now refl) tt
     c.requires.sound c.requires.few c.resize.ensures)
 
 pub returns-in-Fetch-clause-turns : goal.returns-in-Fetch-clause-turns

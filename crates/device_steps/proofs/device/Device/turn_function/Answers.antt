@@ -1,5 +1,5 @@
 use Rattle.std.proofs.Common.{◌≡◌, List, ℕ, inl, inr, refl, sym, ap, ◌∙◌}
-use Rattle.device_steps.specs.Apart.{PlainDevice, standing}
+use Rattle.device_steps.specs.Apart.{PlainDevice, standing, Stored}
 use Rattle.device_model.specs.Events.{Event}
 use Rattle.device_model.specs.Applies.{Applies}
 use Rattle.device_steps.specs.Inner.Cursors.{of_function}
@@ -21,7 +21,7 @@ returns-then-answered-clause-turns g c =
     let d = c.args.self.now in
     let d' = c.answer_tmf_in-answered.new.self in
     first_in shared before before after of_function Event.AnswerTmf d d d' refl (λ m may. (may, λ a. inl (a, refl)))
-    (did_in shared before after d Event.AnswerTmf c.answer_tmf_in-answered.result d' c.if-answered.true
+    (did_in shared before after (Stored g.M.Memory.stored g.M.Memory.storing c.args.memory.now c.answer_tmf_in-answered.new.memory) d Event.AnswerTmf c.answer_tmf_in-answered.result d' c.if-answered.true
     c.answer_tmf_in-answered.ensures.turns)
 
 pub returns-then-check-clause-turns : goal.returns-then-check-clause-turns
@@ -31,7 +31,7 @@ returns-then-check-clause-turns g c =
     let after = g.M.Memory.may_be c.answer_tmf_in-answered.new.memory in
     let d = c.args.self.now in
     let v = c.answer_tmf_in-answered.new.self in
-    let first = idle_in shared before after d Event.AnswerTmf c.answer_tmf_in-answered.result v c.if-answered.false
+    let first = idle_in shared before after (Stored g.M.Memory.stored g.M.Memory.storing c.args.memory.now c.answer_tmf_in-answered.new.memory) d Event.AnswerTmf c.answer_tmf_in-answered.result v c.if-answered.false
     c.size-bytes.ensures.some c.answer_tmf_in-answered.ensures.turns in
     alone_true shared before after of_function Event.Check d v c.check.result c.check.new.self c.if-check.true first.0 tt
     c.requires.ready.sound (λ m may. let f = first.1 m may in (f.0, λ a. inr (f.1, inl (a, refl)))) c.check.ensures
@@ -46,7 +46,7 @@ returns-clause-turns g c =
     let u = c.check.new.self in
     let some = c.size-bytes.ensures.some in
     let sound = c.requires.ready.sound in
-    let first = idle_in shared before after d Event.AnswerTmf c.answer_tmf_in-answered.result v c.if-answered.false some
+    let first = idle_in shared before after (Stored g.M.Memory.stored g.M.Memory.storing c.args.memory.now c.answer_tmf_in-answered.new.memory) d Event.AnswerTmf c.answer_tmf_in-answered.result v c.if-answered.false some
     c.answer_tmf_in-answered.ensures.turns in
     let second : (m : List ℕ) → after m → (u ≡ d) × (Applies (standing shared m d) Event.Check → ⊥) =
     λ m may.

@@ -1,8 +1,9 @@
 use Rattle.std.proofs.Common.{◌≡◌, ◌∙◌, false, [], refl, sym, subst, length, arith}
+use Rattle.std.specs.Prelude.{⊤}
 use Rattle.device_model.specs.Events.{Event}
 use Rattle.device_model.specs.Found.{HasHand}
 use Rattle.device_model.specs.Order.{of_seat}
-use Rattle.device_steps.specs.Apart.{PlainDevice, standing}
+use Rattle.device_steps.specs.Apart.{PlainDevice, standing, Stored}
 use Rattle.device_steps.specs.Kept.{KeptSeat}
 use Rattle.device_steps.specs.contracts.device.Device.{the_view}
 use Rattle.device_steps.proofs.InMemory.{alone_in}
@@ -43,12 +44,12 @@ returns-in-Answered-clause-turns g c =
     let is = sym c.stage.ensures ∙ c.in-Answered.is in
     let shared = g.M.Memory.shared in
     let may_be = g.M.Memory.may_be c.args.memory.now in
-    first_by shared may_be may_be (of_seat k) (Event.Leave k) c.args.self.now c.leave.result c.leave.new.self
+    first_by shared may_be may_be (λ ws. ⊤) (of_seat k) (Event.Leave k) c.args.self.now c.leave.result c.leave.new.self
     c.requires.ready.some
     (λ m may.
     let w = standing shared m c.args.self.now in
     (stages.leave_there w k s.hand there is, stages.leaves_first w k s.hand there is))
-    (alone_in shared may_be c.args.self.now (Event.Leave k) c.leave.result c.leave.new.self tt c.requires.ready.sound
+    (alone_in shared may_be (λ ws. ⊤) c.args.self.now (Event.Leave k) c.leave.result c.leave.new.self tt tt c.requires.ready.sound
     c.leave.ensures)
 
 pub returns-in-Taken-clause-turns : goal.returns-in-Taken-clause-turns
@@ -63,12 +64,12 @@ returns-in-Taken-clause-turns g c =
     let is = sym c.stage.ensures ∙ c.in-Taken.is in
     let shared = g.M.Memory.shared in
     let may_be = g.M.Memory.may_be c.args.memory.now in
-    first_by shared may_be may_be (of_seat k) (Event.Commit k) c.args.self.now c.commit.result c.commit.new.self
+    first_by shared may_be may_be (λ ws. ⊤) (of_seat k) (Event.Commit k) c.args.self.now c.commit.result c.commit.new.self
     c.requires.ready.some
     (λ m may.
     let w = standing shared m c.args.self.now in
     (stages.commit_there w k s.hand there is, stages.commits_first w k s.hand there is))
-    (alone_in shared may_be c.args.self.now (Event.Commit k) c.commit.result c.commit.new.self tt c.requires.ready.sound
+    (alone_in shared may_be (λ ws. ⊤) c.args.self.now (Event.Commit k) c.commit.result c.commit.new.self tt tt c.requires.ready.sound
     c.commit.ensures)
 
 pub returns-in-Done-clause-turns : goal.returns-in-Done-clause-turns
@@ -83,7 +84,8 @@ returns-in-Done-clause-turns g c =
     let is = sym c.stage.ensures ∙ c.in-Done.is in
     let shared = g.M.Memory.shared in
     let answer = c.answer_in-answered in
-    first_by shared (g.M.Memory.may_be c.args.memory.now) (g.M.Memory.may_be answer.new.memory) (of_seat k) (Event.Answer k)
+    first_by shared (g.M.Memory.may_be c.args.memory.now) (g.M.Memory.may_be answer.new.memory)
+    (Stored g.M.Memory.stored g.M.Memory.storing c.args.memory.now answer.new.memory) (of_seat k) (Event.Answer k)
     c.args.self.now answer.result answer.new.self c.size-bytes.ensures.some
     (λ m may.
     let w = standing shared m c.args.self.now in

@@ -1,10 +1,11 @@
-use Rattle.std.proofs.Common.{◌≡◌, ◌≤◌, ◌+◌, ℕ, Ok, length, subst, replicate}
+use Rattle.std.proofs.Common.{◌≡◌, ◌≤◌, ◌+◌, ℕ, Ok, length, refl, subst, replicate}
 use Rattle.std.proofs.lemmas.List.{length-replicate}
 use Rattle.std.specs.Option.{IfSome}
 use Rattle.guest_mem.specs.Memory.{LiesIn}
 use Rattle.ring_core.specs.Writes.{Write}
 use Rattle.device_model.specs.Events.{Event}
-use Rattle.device_steps.specs.Apart.{FitsIn}
+use Rattle.device_steps.specs.Apart.{FitsIn, Stored}
+use Rattle.device_steps.proofs.InMemory.{none_known}
 use Rattle.device_steps.specs.Asking.{asking_at}
 use Rattle.world.specs.LiveWorld.{PlainLive, IsSteadyIn}
 use Rattle.world.proofs.Asked.{found, lies, asked_live, asked_live_promised}
@@ -29,7 +30,7 @@ returns-in-Some-clause-asks g c =
     let fits : FitsIn size old.device = fits_live shared size old.device (replicate size 0) (length-replicate size 0) steady in
     let there : LiesIn size x.addr (length x.bytes) =
     lies size x.addr x.bytes a c.asking.result c.addr.ensures c.bytes.ensures c.in-Some.is (inside size fits) in
-    asked_live shared g.M.Memory.begins g.M.Memory.may_be old o x c.write_by.result c.write_by.new.self
+    asked_live shared g.M.Memory.begins g.M.Memory.may_be (Stored g.M.Memory.stored g.M.Memory.storing) old o x c.write_by.result c.write_by.new.self
     (found x.addr x.bytes a c.asking.result o c.addr.ensures c.bytes.ensures c.in-Some.is asks)
     (c.write_by.ensures.inside there) c.write_by.ensures.steps
 
@@ -54,5 +55,6 @@ returns-in-Some-clause-promise g c =
     asked_live_promised shared size old.device o x c.write_by.result c.write_by.new.self.device
     (found x.addr x.bytes a c.asking.result o c.addr.ensures c.bytes.ensures c.in-Some.is asks)
     (c.write_by.ensures.inside there)
-    (step_promised c.the_promise_is_kept.ensures c.every_run_goes_on.ensures.run c.a_live_run_is_a_run.ensures shared size
-    old.device (Event.Poke x) (Ok c.write_by.result) c.write_by.new.self.device c.write_by.ensures.ran)
+    (step_promised c.the_promise_is_kept.ensures c.every_run_goes_on.ensures.run c.a_live_run_is_a_run.ensures
+    (Stored g.M.Memory.stored g.M.Memory.storing) shared size old (Event.Poke x) (Ok c.write_by.result) c.write_by.new.self
+    (none_known g.M.Memory.stored g.M.Memory.storing g.met.M.Memory.none old.memory old.memory refl) c.write_by.ensures.ran)

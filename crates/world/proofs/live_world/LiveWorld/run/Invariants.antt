@@ -1,4 +1,5 @@
 use Rattle.std.proofs.Common.{◌≡◌, ◌≤◌, take, length}
+use Rattle.device_steps.specs.Apart.{Stored}
 use Rattle.world.specs.Steps.{events_of}
 use Rattle.world.specs.LiveWorld.{StepsEach, StepsLive}
 use Rattle.world.specs.Inner.LiveWorld.{RanLive}
@@ -7,9 +8,10 @@ use Rattle.world.proofs.live_world.LiveWorld.run.Given as goal
 abbrev pub invariant-loop-place : goal.invariant-loop-place
 invariant-loop-place g l =
     record {
-      runs : StepsEach (StepsLive g.M.Memory.shared g.M.Memory.begins g.M.Memory.may_be) l.fn.self (events_of (take l.place l.events))
+      runs : StepsEach (StepsLive g.M.Memory.shared g.M.Memory.begins g.M.Memory.may_be
+          (Stored g.M.Memory.stored g.M.Memory.storing)) l.fn.self (events_of (take l.place l.events))
           l.count l.self;
-      ran : RanLive g.M.Memory.shared (g.M.Memory.extent l.fn.self.memory) l.fn.self.device (events_of (take l.place l.events))
+      ran : RanLive (Stored g.M.Memory.stored g.M.Memory.storing l.fn.self.memory l.self.memory) g.M.Memory.shared (g.M.Memory.extent l.fn.self.memory) l.fn.self.device (events_of (take l.place l.events))
           l.count l.self.device;
       size : g.M.Memory.extent l.self.memory ≡ g.M.Memory.extent l.fn.self.memory;
       all : l.place-end ≡ length l.events;

@@ -1,6 +1,7 @@
 use Rattle.std.proofs.Common.{◌≡◌, ◌∙◌, ℕ, List, length, sym, subst}
 use Rattle.device_model.specs.Events.{plain_event}
-use Rattle.device_steps.specs.Apart.{FitsIn}
+use Rattle.device_steps.specs.Apart.{FitsIn, Stored}
+use Rattle.device_steps.proofs.InMemory.{turns_begun}
 use Rattle.world.proofs.Lively.{steady_live, sound_live, fits_live, few_live, step_ran}
 use Rattle.world.proofs.live_world.LiveWorld.step_by.Goals as goal
 
@@ -34,7 +35,8 @@ invariant_of-self g c =
     let same = c.step_in-stepped.ensures.size in
     λ m long.
     steady_live c.any_bytes_may_stand_there.ensures g.M.Memory.shared (g.M.Memory.extent c.self.inside.memory)
-    (g.M.Memory.may_be now) (g.M.Memory.may_be later) c.self.inside.device (plain_event c.args.event.now)
+    (g.M.Memory.may_be now) (g.M.Memory.may_be later)
+    (Stored g.M.Memory.stored g.M.Memory.storing now later) c.self.inside.device (plain_event c.args.event.now)
     c.step_in-stepped.result c.step_in-stepped.new.self
     (λ k may. g.met.M.Memory.sized now k may ∙ c.begin.ensures.size)
     (λ k may. g.met.M.Memory.sized later k may ∙ same ∙ c.begin.ensures.size) c.size-bytes.ensures.some c.self.invariant
@@ -45,15 +47,25 @@ returns-clause-size g c = rw (← c.self.view_is) (c.step_in-stepped.ensures.siz
 
 pub returns-clause-steps : goal.returns-clause-steps
 returns-clause-steps g c =
-    rw (← c.self.view_is) (c.begin.new.self, c.begin.ensures.begun, c.step_in-stepped.ensures.turns)
+    let now = c.begin.new.self in
+    let later = c.step_in-stepped.new.memory in
+    rw (← c.self.view_is) (
+      now,
+      c.begin.ensures.begun,
+      turns_begun g.M.Memory.stored g.M.Memory.storing c.self.inside.memory now later g.M.Memory.shared (g.M.Memory.may_be now)
+          (g.M.Memory.may_be later) c.self.inside.device (plain_event c.args.event.now) c.step_in-stepped.result c.step_in-stepped.new.self c.begin.ensures.stores c.step_in-stepped.ensures.turns,
+    )
 
 pub returns-clause-ran : goal.returns-clause-ran
 returns-clause-ran g c =
     let now = c.begin.new.self in
     let later = c.step_in-stepped.new.memory in
     rw (← c.self.view_is)
-    (step_ran g.M.Memory.shared (g.M.Memory.extent c.self.inside.memory) (g.M.Memory.may_be now) (g.M.Memory.may_be later)
-    c.self.inside.device (plain_event c.args.event.now) c.step_in-stepped.result c.step_in-stepped.new.self
-    (λ k may. g.met.M.Memory.sized now k may ∙ c.begin.ensures.size)
+    (step_ran g.M.Memory.stored g.M.Memory.storing g.met.M.Memory.both g.M.Memory.shared
+    (g.M.Memory.extent c.self.inside.memory) (g.M.Memory.may_be now) (g.M.Memory.may_be later)
+    (record { memory = c.self.inside.memory; device = c.self.inside.device }) (plain_event c.args.event.now) c.step_in-stepped.result
+    (record { memory = later; device = c.step_in-stepped.new.self }) (λ k may. g.met.M.Memory.sized now k may ∙ c.begin.ensures.size)
     (λ k may. g.met.M.Memory.sized later k may ∙ c.step_in-stepped.ensures.size ∙ c.begin.ensures.size)
-    c.size-bytes.ensures.some c.step_in-stepped.ensures.turns)
+    c.size-bytes.ensures.some
+    (turns_begun g.M.Memory.stored g.M.Memory.storing c.self.inside.memory now later g.M.Memory.shared (g.M.Memory.may_be now)
+    (g.M.Memory.may_be later) c.self.inside.device (plain_event c.args.event.now) c.step_in-stepped.result c.step_in-stepped.new.self c.begin.ensures.stores c.step_in-stepped.ensures.turns))
