@@ -4,6 +4,8 @@
 //     bench KIND RING DEPTH ROUNDS    prints how many requests ended well, and the nanoseconds that all rounds took
 //     bench                           serves a few rounds of each kind on each ring, and prints how many ended well
 //
+// With -DLIVE the device works on live memory: the guest's, where it stands, which nobody copies.
+//
 // RING is split or packed; or split-3 or packed-3, where the data that a request gets have a descriptor of their own; or
 // split-table or packed-table, where these stand in a table that one descriptor of the ring names (VIRTIO 1.2, 2.7.5.3 and
 // 2.8.7). DEPTH is a power of two up to 256, and 2 or more for packed-table. The status is 1 where a request wasn't answered
@@ -59,7 +61,6 @@ struct request {
   uint32_t sent, taken;
 };
 
-static struct vscsi device;
 static uint8_t even[MOST_DEPTH * 16 * MOST_PARTS], odd[MOST_DEPTH * 16 * MOST_PARTS];
 static uint64_t responses[MOST_DEPTH];
 
@@ -67,15 +68,48 @@ static bool is_large(enum kind kind) { return kind == READ_64K || kind == WRITE_
 
 static unsigned blocks_of(enum kind kind) { return kind <= TUR ? 0 : is_large(kind) ? LARGE : 1; }
 
+#ifdef LIVE
+static struct vscsi_live device;
+static _Alignas(VSCSI_PAGE) uint8_t memory[AREAS + MOST_DEPTH * LARGE_AREA], above[VSCSI_PAGE];
+
+static enum vscsi_answer destroy(void) { return vscsi_live_destroy(&device); }
+#else
+static struct vscsi device;
+
+static enum vscsi_answer destroy(void) { return vscsi_destroy(&device); }
+#endif
+
 // Ends the program where a call didn't do what it was asked for.
 static void must(enum vscsi_answer answer) {
   if (answer == VSCSI_DONE) return;
   fprintf(stderr, "bench: a call answered %d\n", answer);
-  vscsi_destroy(&device);
+  destroy();
   exit(answer == VSCSI_NO_MEMORY ? 3 : 1);
 }
 
+#ifdef LIVE
+static void poke(uint64_t addr, const void *bytes, size_t count) { memcpy(memory + addr, bytes, count); }
+
+static void peek(uint64_t addr, void *into, size_t count) { memcpy(into, memory + addr, count); }
+
+// Serves all that is there. How many steps that took.
+static uint64_t settle(void) {
+  uint64_t steps = 0;
+  bool more;
+  must(vscsi_live_serve(&device, ~UINT32_C(0), UINT64_MAX, &steps, &more));
+  return steps;
+}
+#else
 static void poke(uint64_t addr, const void *bytes, size_t count) { must(vscsi_poke(&device, addr, bytes, count)); }
+
+static void peek(uint64_t addr, void *into, size_t count) { must(vscsi_peek(&device, addr, into, count)); }
+
+static uint64_t settle(void) {
+  uint64_t steps = 0;
+  must(vscsi_settle(&device, &steps));
+  return steps;
+}
+#endif
 
 // Numbers in guest memory stand with their lowest byte first, and in a command block with their highest.
 static void little(uint8_t *into, uint64_t number, size_t bytes) {
@@ -194,6 +228,25 @@ static void put(const struct work *work, unsigned number) {
   for (unsigned entry = number; entry < size_of(work); entry += work->depth) poke(DRIVER + 4 + 2 * entry, head, 2);
 }
 
+// Makes the device of a configuration. Live memory has two regions, of which the guest uses the lower one.
+static void create(const struct vscsi_config *config) {
+#ifdef LIVE
+  const struct vscsi_region regions[2] = {{0, sizeof memory, memory}, {UINT64_C(1) << 32, sizeof above, above}};
+  const uint16_t first = config->features & VSCSI_F_RING_PACKED ? 0x8000 : 0;
+  struct vscsi_ring its[QUEUES];
+  const struct vscsi_live_config live = {sizeof live, config->features, its, QUEUES, config->units, config->unit_count};
+  for (unsigned q = 0; q < QUEUES; q++) {
+    const struct vscsi_queue *queue = &config->queues[q];
+    its[q] = (struct vscsi_ring){queue->desc, queue->driver, queue->device, queue->size, first, first};
+  }
+  memset(memory, 0, AREAS);
+  must(vscsi_live_create(&device, &live, NULL, NULL));
+  must(vscsi_map(&device, regions, 2));
+#else
+  must(vscsi_create(&device, config, NULL));
+#endif
+}
+
 // Makes the device, with two calm units and one request queue, and puts all requests into its memory.
 static void begin(const struct work *work) {
   const struct vscsi_queue queues[QUEUES] = {
@@ -210,7 +263,7 @@ static void begin(const struct work *work) {
                                       .units = units,
                                       .unit_count = 2,
                                       .pages = (uint32_t)(request_at(work->kind, work->depth) / VSCSI_PAGE + 1)};
-  must(vscsi_create(&device, &config, NULL));
+  create(&config);
   for (unsigned number = 0; number < work->depth; number++) put(work, number);
 }
 
@@ -231,7 +284,7 @@ static unsigned found(const struct work *work) {
   uint8_t head[12];
   unsigned count = 0;
   for (unsigned number = 0; number < work->depth; number++) {
-    must(vscsi_peek(&device, responses[number], head, sizeof head));
+    peek(responses[number], head, sizeof head);
     count += memcmp(head, good, sizeof head) == 0;
   }
   return count;
@@ -245,7 +298,7 @@ static unsigned serve_round(const struct work *work, uint64_t round) {
   memset(open, 255, sizeof open);
   for (unsigned number = 0; number < work->depth; number++) poke(responses[number], open, sizeof open);
   send(work, round);
-  if (work->kind != NONE) must(vscsi_settle(&device, &steps));
+  if (work->kind != NONE) steps = settle();
   unsigned good = found(work);
   if (work->kind != NONE && (good != work->depth || steps != STEPS * good)) {
     fprintf(stderr, "bench: %u of %u requests ended well, in %llu steps\n", good, work->depth, (unsigned long long)steps);
@@ -294,7 +347,7 @@ int main(int count, char **words) {
     uint64_t start = now();
     uint64_t good = serve(&work);
     printf("%llu requests in %llu ns\n", (unsigned long long)good, (unsigned long long)(now() - start));
-    must(vscsi_destroy(&device));
+    must(destroy());
     return 0;
   }
   if (count != 1) return 2;
@@ -304,7 +357,7 @@ int main(int count, char **words) {
       if (!has(work.packed, work.way, work.kind)) continue;
       begin(&work);
       printf("%s %s: %llu\n", names[kind], rings[ring / WAYS][ring % WAYS], (unsigned long long)serve(&work));
-      must(vscsi_destroy(&device));
+      must(destroy());
     }
   }
   return 0;

@@ -28,6 +28,11 @@ def built(folder=FOLDER, guest="bench"):
     return compiled(folder, guest, archive, guest=guest)
 
 
+def live(folder=FOLDER):
+    """The benchmark over the library's device on live memory."""
+    return compiled(folder, "bench_live", "-DLIVE", folder / "libvscsi.a")
+
+
 def floors(folder=FOLDER):
     """The same over the least that a device does, with one copy of the data, and with as many as the library makes."""
     floor = ROOT / "examples/c/floor.c"

@@ -36,10 +36,11 @@ module _ (ss new_ss : List Span) (kept new_kept : List ℕ) (addr : ℕ) (out : 
       let pushed_all : AreKept (ss ++ new ∷ []) (length (kept ++ out)) = All-push P ss new (λ k d lt. omega (arith, all k d lt, more)) last in
       rw (keeps.spans_are, keeps.kept_are) pushed_all
 
-  -- behind the bytes that were kept last what was free is free
-  pub free_stays : (low high end to : ℕ) → IsFree ss kept low high → low ≤ to → end ≡ addr + length out → end ≤ to → IsFree new_ss new_kept to high
-  free_stays low high end to free le is from = λ p d l h.
-      outside p d (behind addr (length out) p (omega (arith, is, from, l))) ∙ free p d (omega (arith, le, l)) h
+  -- a range that was free is, without the bytes that were kept last
+  pub free_stays : (low high low' high' : ℕ) → IsFree ss kept low high → low ≤ low' → high' ≤ high
+      → ((p : ℕ) → low' ≤ p → p < high' → spans addr (length out) p ≡ false) → IsFree new_ss new_kept low' high'
+  free_stays low high low' high' free le ge apart = λ p d l h.
+      outside p d (apart p l h) ∙ free p d (omega (arith, le, l)) (omega (arith, ge, h))
 
   pub kept_loaded : (log : List Access) (fresh : List ℕ) → length fresh ≡ length out → ((i : ℕ) → i < length out → get_or out i 0 ≡ valued ss kept (addr + i) (get_or fresh i 0))
       → ((p d : ℕ) → valued ss kept p d ≡ loaded log p d) → (p d : ℕ) → valued new_ss new_kept p d ≡ loaded (Access.Loads addr fresh ∷ log) p d
@@ -52,6 +53,10 @@ module _ (ss new_ss : List Span) (kept new_kept : List ℕ) (addr : ℕ) (out : 
             rw (long, e) (inside p d e ∙ o ∙ faithful p (get_or fresh (p - addr) 0))
         | Out e ↦ rw (long, e) (outside p d e ∙ faithful p d)
       ]
+
+-- a part of a free range is free
+pub narrower : (ss : List Span) (kept : List ℕ) (low high low' high' : ℕ) → IsFree ss kept low high → low ≤ low' → high' ≤ high → IsFree ss kept low' high'
+narrower ss kept low high low' high' free le ge = λ p d l h. free p d (omega (arith, le, l)) (omega (arith, ge, h))
 
 -- one more span that has no address of a range
 pub free_next : (ss : List Span) (kept : List ℕ) (k low high low' high' : ℕ) (e : Span) → k < length ss → IsFree (take k ss) kept low high → low ≤ low' → high' ≤ high

@@ -1,24 +1,33 @@
 //! What a phase read, so that it reads no byte twice.
 
-ghost use Rattle.std.specs.Prelude.{ℕ, ◌≡◌, ◌+◌, ◌<◌, ◌≤◌, ◌^◌, [], List, length, cond, get_or, IfOk, IsOk};
+ghost use Rattle.std.specs.Prelude.{ℕ, ◌≡◌, ◌+◌, ◌<◌, ◌≤◌, ◌^◌, [], List, length, cond, get_or, false, IfOk, IsOk, IsTrue};
 ghost use Rattle.guest_mem.specs.Memory.{bytes_at, with_bytes};
+ghost use Rattle.live_mem.specs.Access.{spans};
 ghost use Rattle.live_mem.specs.Kept.{covers, byte_of, valued, AreKept, IsFree};
 ghost use Rattle.live_mem.specs.Inner.Kept.{Keeps};
 
 use crate::span::Span;
 use std::alloc::{AllocError, Global};
 
-/// The spans that a phase read, with their bytes. No span has an address from `free_from` up to `free_to`, so that a read in there
-/// looks at no span.
+/// The spans that a phase read, with their bytes. No span has an address below `low`, none from `high` on, and none from
+/// `free_from` up to `free_to`. A read in one of these ranges looks at no span.
 #[derive(Drop)]
 pub(crate) struct Kept {
     spans: Vec<Span>,
     bytes: Vec<u8>,
+    low: u64,
+    high: u64,
     free_from: u64,
     free_to: u64,
     ghost all: { AreKept spans.items (length bytes.items) },
+    ghost below: { IsFree spans.items bytes.items 0 low },
+    ghost above: { IsFree spans.items bytes.items high (2 ^ 64) },
     ghost free: { IsFree spans.items bytes.items free_from free_to },
+    ghost inside: { free_to ≤ high },
 }
+
+/// The least range between two reads that is worth to be noted: a walk along a ring leaves smaller ones.
+const GAP: u64 = 256;
 
 /// Returns `len` bytes from place `start` on.
 fn part(bytes: &[u8], start: usize, len: usize) -> &[u8]
@@ -89,8 +98,10 @@ impl Kept {
         Ok(Kept {
             spans,
             bytes,
+            low: u64::MAX,
+            high: 0,
             free_from: 0,
-            free_to: u64::MAX,
+            free_to: 0,
         })
     }
 
@@ -102,8 +113,10 @@ impl Kept {
     {
         self.spans.clear();
         self.bytes.clear();
+        self.low = u64::MAX;
+        self.high = 0;
         self.free_from = 0;
-        self.free_to = u64::MAX;
+        self.free_to = 0;
     }
 
     /// Makes room for one more read of `len` bytes. It takes no memory where there is room, and changes nothing else.
@@ -118,7 +131,17 @@ impl Kept {
         self.bytes.reserve(len)
     }
 
-    /// Puts what is kept over `out`, which has the bytes from `addr` on. Takes note of a range behind them that no span has.
+    /// Returns true if a read from `addr` up to `end` lies in one of the ranges that no span has.
+    #[tactic(auto, using(crate::proofs::Keeping::narrower))]
+    #[inline(always)]
+    fn is_free(&self, addr: u64, end: u64) -> bool
+        ensures { IsTrue result → IsFree self.now.spans.items self.now.bytes.items addr end }
+    {
+        addr >= self.high || end <= self.low || self.free_from <= addr && end <= self.free_to
+    }
+
+    /// Puts what is kept over `out`, which has the bytes from `addr` on.
+    #[inline(always)]
     pub(crate) fn put_over(&mut self, addr: u64, out: &mut [u8])
         requires small { addr + length out.old ≤ 2 ^ 52 }
         ensures len { length out.new ≡ length out.old }
@@ -128,13 +151,26 @@ impl Kept {
         ensures bytes { self.new.bytes ≡ self.old.bytes }
     {
         let end = addr + out.len() as u64;
-        if self.free_from <= addr && end <= self.free_to {
-            return;
+        if !self.is_free(addr, end) {
+            self.look_over(addr, out);
         }
+    }
+
+    /// Does the same by a look at each span. Takes note of a range behind the bytes that no span has.
+    #[inline(never)]
+    fn look_over(&mut self, addr: u64, out: &mut [u8])
+        requires small { addr + length out.old ≤ 2 ^ 52 }
+        ensures len { length out.new ≡ length out.old }
+        ensures over { (i : ℕ) → i < length out.old → get_or out.new i 0
+            ≡ valued self.old.spans.items self.old.bytes.items (addr + i) (get_or out.old i 0) }
+        ensures spans { self.new.spans ≡ self.old.spans }
+        ensures bytes { self.new.bytes ≡ self.old.bytes }
+    {
+        let end = addr + out.len() as u64;
         self.put_spans_over(addr, out);
         let (from, to) = free_behind(&self.spans, end);
         self.free_from = from;
-        self.free_to = to;
+        self.free_to = to.min(self.high);
     }
 
     /// Puts each span over `out`, which has the bytes from `addr` on.
@@ -149,7 +185,40 @@ impl Kept {
         }
     }
 
+    /// Takes the bytes from `addr` up to `end` out of the ranges that no span has.
+    #[tactic(auto, using(crate::proofs::Keeping::narrower, crate::proofs::Spans::before, crate::proofs::Spans::behind))]
+    #[inline(always)]
+    fn leave_out(&mut self, addr: u64, end: u64)
+        requires { addr ≤ end }
+        ensures spans { self.new.spans ≡ self.old.spans }
+        ensures bytes { self.new.bytes ≡ self.old.bytes }
+        ensures below { self.new.low ≤ addr }
+        ensures above { end ≤ self.new.high }
+        ensures apart { (p n : ℕ) → self.new.free_from ≤ p → p < self.new.free_to → end ≡ addr + n → spans addr n p ≡ false }
+    {
+        if addr >= self.high {
+            if addr - self.high >= GAP {
+                self.free_from = self.high;
+                self.free_to = addr;
+            }
+            self.low = self.low.min(addr);
+            self.high = end;
+        } else if end <= self.low {
+            self.free_from = end;
+            self.free_to = self.low.min(self.high);
+            self.low = addr;
+            self.high = self.high.max(end);
+        } else {
+            if self.free_to > addr {
+                self.free_from = self.free_from.max(end);
+            }
+            self.low = self.low.min(addr);
+            self.high = self.high.max(end);
+        }
+    }
+
     /// Keeps bytes that were read from `addr` on, for which there is room.
+    #[inline(always)]
     pub(crate) fn keep(&mut self, addr: u64, out: &[u8])
         requires small { addr + length out.now ≤ 2 ^ 52 }
         requires room { Holds self.old 1 (length out.now) }
@@ -161,7 +230,7 @@ impl Kept {
             start: self.bytes.len(),
             len: out.len(),
         };
-        self.free_from = self.free_from.max(addr + out.len() as u64);
+        self.leave_out(addr, addr + out.len() as u64);
         let _ = self.bytes.extend_from_slice(out);
         self.spans.push_reserved(span);
     }

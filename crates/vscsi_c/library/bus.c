@@ -18,12 +18,22 @@
 /* The operations of host_bus. */
 enum { PLACE = 1 << 30, BYTES = PLACE + 1, LONG = PLACE + 2, PUT = PLACE + 3, SHORT = PLACE + 16 };
 
-struct bus_map {
-	size_t count;
-	struct bus_region *regions; /* by rising address, no two of which overlap */
+/* A region: the guest's addresses of it, and what is to be added to one of them for the host's. */
+struct span {
+	uint64_t from;
+	uint64_t to;
+	uintptr_t shift;
 };
 
-/* What was mapped, and an address there. */
+struct bus_map {
+	size_t count;
+	struct span *spans; /* by rising address, no two of which overlap */
+	const struct span *last; /* one of these, in which an access lay, or `none` */
+};
+
+static const struct span none;
+
+/* What was mapped, and an address there: below BUS_END, as that behind the bytes. */
 struct place {
 	uint64_t map;
 	uint64_t addr;
@@ -33,50 +43,68 @@ static _Thread_local struct place said; /* by PLACE, for the BYTES that come nex
 
 static int by_address(const void *one, const void *other)
 {
-	const struct bus_region *a = one, *b = other;
+	const struct span *a = one, *b = other;
 
-	return (a->guest > b->guest) - (a->guest < b->guest);
+	return (a->from > b->from) - (a->from < b->from);
 }
 
-/* Whether regions by rising address lie one behind the other, below the end of what a guest can address. */
-static bool lie_apart(const struct bus_region *regions, size_t count)
+/* Whether regions lie below the end of what a guest can address. */
+static bool are_addressed(const struct bus_region *regions, size_t count)
 {
-	uint64_t end = 0; /* of the regions so far */
+	for (size_t i = 0; i < count; i++)
+		if (!regions[i].size || regions[i].guest >= BUS_END || regions[i].size > BUS_END - regions[i].guest)
+			return false;
+	return true;
+}
 
+/* The spans of regions, by rising address. */
+static void put_spans(struct span *spans, const struct bus_region *regions, size_t count)
+{
 	for (size_t i = 0; i < count; i++) {
 		const struct bus_region *it = &regions[i];
 
-		if (it->guest < end || it->guest >= BUS_END || !it->size || it->size > BUS_END - it->guest)
-			return false;
-		end = it->guest + it->size;
+		spans[i] = (struct span){ it->guest, it->guest + it->size, (uintptr_t)it->host - (uintptr_t)it->guest };
 	}
+	qsort(spans, count, sizeof *spans, by_address);
+}
+
+/* Whether spans by rising address lie one behind the other. */
+static bool lie_apart(const struct span *spans, size_t count)
+{
+	for (size_t i = 1; i < count; i++)
+		if (spans[i].from < spans[i - 1].to)
+			return false;
 	return true;
 }
 
 struct bus_map *bus_map(void)
 {
-	return calloc(1, sizeof(struct bus_map));
+	struct bus_map *map = calloc(1, sizeof *map);
+
+	if (map)
+		map->last = &none;
+	return map;
 }
 
 enum bus_answer bus_remap(struct bus_map *map, const struct bus_region *regions, size_t count)
 {
-	struct bus_region *own = NULL;
+	struct span *own = NULL;
 
-	if (count > BUS_MOST)
+	if (count > BUS_MOST || !are_addressed(regions, count))
 		return BUS_REFUSED;
 	if (count) {
 		own = malloc(count * sizeof *own);
 		if (!own)
 			return BUS_NO_MEMORY;
-		memcpy(own, regions, count * sizeof *own);
-		qsort(own, count, sizeof *own, by_address);
+		put_spans(own, regions, count);
 	}
 	if (!lie_apart(own, count)) {
 		free(own);
 		return BUS_REFUSED;
 	}
-	free(map->regions);
-	map->regions = own;
+	free(map->spans);
+	map->spans = own;
+	map->last = &none;
 	map->count = count;
 	return BUS_DONE;
 }
@@ -84,20 +112,30 @@ enum bus_answer bus_remap(struct bus_map *map, const struct bus_region *regions,
 void bus_unmap(struct bus_map *map)
 {
 	if (map)
-		free(map->regions);
+		free(map->spans);
 	free(map);
+}
+
+static inline struct bus_map *map_of(struct place at)
+{
+	return (struct bus_map *)(uintptr_t)at.map;
+}
+
+static inline unsigned char *host(const struct span *it, uint64_t addr)
+{
+	return (unsigned char *)(it->shift + (uintptr_t)addr);
 }
 
 /* How many of len bytes from an address on lie in one region, or in one hole, and where they stand: NULL for a hole. */
 static unsigned char *run(struct place at, size_t len, size_t *here)
 {
-	const struct bus_map *map = (const struct bus_map *)(uintptr_t)at.map;
+	struct bus_map *map = map_of(at);
 	size_t low = 0, high = map->count; /* the first region that ends above the address is one of these, or there is none */
 
 	while (low < high) {
 		size_t middle = low + (high - low) / 2;
 
-		if (map->regions[middle].guest + map->regions[middle].size > at.addr)
+		if (map->spans[middle].to > at.addr)
 			high = middle;
 		else
 			low = middle + 1;
@@ -106,30 +144,40 @@ static unsigned char *run(struct place at, size_t len, size_t *here)
 		*here = len;
 		return NULL;
 	}
-	const struct bus_region *it = &map->regions[low];
-	bool hole = it->guest > at.addr;
-	uint64_t left = hole ? it->guest - at.addr : it->size - (at.addr - it->guest);
+	const struct span *it = &map->spans[low];
+	bool hole = it->from > at.addr;
+	uint64_t left = (hole ? it->from : it->to) - at.addr;
 
 	*here = left < len ? (size_t)left : len;
-	return hole ? NULL : (unsigned char *)it->host + (at.addr - it->guest);
+	if (hole)
+		return NULL;
+	__atomic_store_n(&map->last, it, __ATOMIC_RELAXED);
+	return host(it, at.addr);
 }
 
-/* Whether a run is whole, in memory, and stands where one access of so many bytes may be made. */
-static bool is_whole(const unsigned char *bytes, size_t here, size_t len, size_t each)
+/* Whether len bytes from an address on lie in the region that was found last, and where they stand then. */
+static inline bool is_whole(struct place at, size_t len, unsigned char **bytes)
 {
-	return bytes && here == len && (uintptr_t)bytes % each == 0;
+	const struct span *it = __atomic_load_n(&map_of(at)->last, __ATOMIC_RELAXED);
+
+	*bytes = host(it, at.addr);
+	return at.addr >= it->from && at.addr + len <= it->to;
 }
 
-static void load(struct place at, unsigned char *out, size_t len)
+/* Whether so many bytes may be accessed at once. */
+static inline bool is_aligned(const unsigned char *bytes, size_t each)
 {
-	size_t here;
-	const unsigned char *bytes = run(at, len, &here);
+	return __builtin_expect((uintptr_t)bytes % each == 0, 1);
+}
 
-	if (len == 2 && is_whole(bytes, here, len, 2)) {
+/* Loads bytes of one region. */
+static inline void load_from(const unsigned char *bytes, unsigned char *out, size_t len)
+{
+	if (len == 2 && is_aligned(bytes, 2)) {
 		uint16_t all = __atomic_load_n((const uint16_t *)bytes, __ATOMIC_ACQUIRE);
 
 		memcpy(out, &all, 2);
-	} else if (len == 16 && is_whole(bytes, here, len, 8)) {
+	} else if (len == 16 && is_aligned(bytes, 8)) {
 		/* The second half has the flags: what the first has is then as new as they are. */
 		uint64_t second = __atomic_load_n((const uint64_t *)(bytes + 8), __ATOMIC_ACQUIRE);
 		uint64_t first = __atomic_load_n((const uint64_t *)bytes, __ATOMIC_RELAXED);
@@ -137,19 +185,44 @@ static void load(struct place at, unsigned char *out, size_t len)
 		memcpy(out, &first, 8);
 		memcpy(out + 8, &second, 8);
 	} else {
-		for (; len; bytes = run(at, len, &here)) {
-			if (bytes)
-				memcpy(out, bytes, here);
-			else
-				memset(out, 0, here);
-			out += here;
-			at.addr += here;
-			len -= here;
-		}
+		memcpy(out, bytes, len);
 	}
 }
 
-static inline void store_2(unsigned char *bytes, const unsigned char *in, int order)
+/* Loads bytes that may lie in several regions and holes. Answers 0, as each of these calls. */
+static __attribute__((noinline)) ssize_t load_runs(struct place at, unsigned char *out, size_t len)
+{
+	while (len) {
+		size_t here;
+		const unsigned char *bytes = run(at, len, &here);
+
+		if (bytes)
+			load_from(bytes, out, here);
+		else
+			memset(out, 0, here);
+		out += here;
+		at.addr += here;
+		len -= here;
+	}
+	return 0;
+}
+
+static inline ssize_t load(struct place at, unsigned char *out, size_t len)
+{
+	unsigned char *bytes;
+
+	if (!is_whole(at, len, &bytes))
+		return load_runs(at, out, len);
+	load_from(bytes, out, len);
+	return 0;
+}
+
+static __attribute__((noinline)) ssize_t load_many(struct place at, unsigned char *out, size_t len)
+{
+	return load(at, out, len);
+}
+
+static inline void put_2(unsigned char *bytes, const unsigned char *in, int order)
 {
 	uint16_t all;
 
@@ -157,32 +230,63 @@ static inline void store_2(unsigned char *bytes, const unsigned char *in, int or
 	__atomic_store_n((uint16_t *)bytes, all, order);
 }
 
-static void store(struct place at, const unsigned char *in, size_t len)
+/* Stores bytes into one region. */
+static inline void store_into(unsigned char *bytes, const unsigned char *in, size_t len)
 {
-	size_t here;
-	unsigned char *bytes = run(at, len, &here);
-
-	if (len == 2 && is_whole(bytes, here, len, 2)) {
-		store_2(bytes, in, __ATOMIC_RELEASE);
-	} else if (len == 8 && is_whole(bytes, here, len, 4)) {
+	if (len == 2 && is_aligned(bytes, 2)) {
+		put_2(bytes, in, __ATOMIC_RELEASE);
+	} else if (len == 8 && is_aligned(bytes, 4)) {
 		uint32_t first;
 
 		memcpy(&first, in, 4);
 		__atomic_store_n((uint32_t *)bytes, first, __ATOMIC_RELAXED);
-		store_2(bytes + 4, in + 4, __ATOMIC_RELAXED);
-		store_2(bytes + 6, in + 6, __ATOMIC_RELEASE);
+		put_2(bytes + 4, in + 4, __ATOMIC_RELAXED);
+		put_2(bytes + 6, in + 6, __ATOMIC_RELEASE);
 	} else {
-		for (; len; bytes = run(at, len, &here)) {
-			if (bytes)
-				memcpy(bytes, in, here);
-			in += here;
-			at.addr += here;
-			len -= here;
-		}
+		memcpy(bytes, in, len);
 	}
 }
 
-static struct place place_in(const void *bytes)
+/* Stores bytes that may lie in several regions and holes. */
+static __attribute__((noinline)) ssize_t store_runs(struct place at, const unsigned char *in, size_t len)
+{
+	while (len) {
+		size_t here;
+		unsigned char *bytes = run(at, len, &here);
+
+		if (bytes)
+			store_into(bytes, in, here);
+		in += here;
+		at.addr += here;
+		len -= here;
+	}
+	return 0;
+}
+
+static inline ssize_t store(struct place at, const unsigned char *in, size_t len)
+{
+	unsigned char *bytes;
+
+	if (!is_whole(at, len, &bytes))
+		return store_runs(at, in, len);
+	store_into(bytes, in, len);
+	return 0;
+}
+
+/* Stores an index or a used descriptor: what is loaded next isn't older. */
+static inline ssize_t publish(struct place at, const unsigned char *in, size_t len)
+{
+	unsigned char *bytes;
+
+	if (is_whole(at, len, &bytes))
+		store_into(bytes, in, len);
+	else
+		store_runs(at, in, len);
+	__atomic_thread_fence(__ATOMIC_SEQ_CST);
+	return 0;
+}
+
+static inline struct place place_in(const void *bytes)
 {
 	struct place at;
 
@@ -190,27 +294,24 @@ static struct place place_in(const void *bytes)
 	return at;
 }
 
+/* Both answer 0, which ends their caller's loop at once: nothing is left to be done, and nobody looks at the answer. */
 ssize_t vscsi_bus_read(int what, void *room, size_t len)
 {
-	if (what == BYTES)
-		load(said, room, len);
-	else if (what == LONG)
-		load(place_in(room), room, len);
-	else
-		load(place_in(room), room, (size_t)(what - SHORT));
-	return (ssize_t)len;
+	if (what == SHORT + 2)
+		return load(place_in(room), room, 2);
+	if (what != LONG)
+		return load_many(place_in(room), room, (size_t)(what - SHORT));
+	return len == 16 ? load(place_in(room), room, 16) : load_many(place_in(room), room, len);
 }
 
 ssize_t vscsi_bus_write(int what, const void *bytes, size_t len)
 {
-	if (what == PLACE) {
-		said = place_in(bytes);
-	} else if (what == BYTES) {
-		store(said, bytes, len);
-	} else {
-		store(place_in(bytes), (const unsigned char *)bytes + sizeof said, len - sizeof said);
-		/* What is loaded next isn't older than what was stored. */
-		__atomic_thread_fence(__ATOMIC_SEQ_CST);
-	}
-	return (ssize_t)len;
+	const unsigned char *behind = (const unsigned char *)bytes + sizeof said;
+
+	if (what == PUT)
+		return len == sizeof said + 2 ? publish(place_in(bytes), behind, 2) : publish(place_in(bytes), behind, 8);
+	if (what == BYTES)
+		return store(said, bytes, len);
+	said = place_in(bytes);
+	return 0;
 }
