@@ -1,39 +1,79 @@
 -- What is kept says what was loaded, and where nothing is kept.
-use Rattle.std.proofs.Common.{◌≡◌, ℕ, ◌+◌, ◌-◌, ◌<◌, ◌≤◌, List, [], ◌∷◌, ◌++◌, length, take, get_or, cond, true, false, refl, ap, ◌∙◌, arith}
+use Rattle.std.proofs.Common.{◌≡◌, ℕ, ◌+◌, ◌-◌, ◌<◌, ◌≤◌, List, [], ◌∷◌, ◌++◌, length, take, get_or, cond, Bool, nat_le, true, false, refl, sym, ap, ◌∙◌, arith, append-nil}
 use Rattle.std.proofs.lemmas.List.{get_or-append_right, length-append}
+use Rattle.std.proofs.lemmas.Bool.{le-leb, lt-leb}
 use Rattle.std.proofs.lemmas.List.Elements.{All-push}
 use Rattle.live_mem.specs.Access.{Access, spans, loaded}
-use Rattle.live_mem.specs.Kept.{covers, byte_of, valued, AreKept, IsFree}
+use Rattle.live_mem.specs.Kept.{source, covers, byte_of, valued, AreKept, IsFree}
 use Rattle.live_mem.specs.Inner.Kept.{Keeps}
 use Rattle.live_mem.specs.declared.span.Span.{Span}
-use Rattle.live_mem.proofs.Spans.{In, Out, lies, behind, valued_push, valued_more, valued_next}
+use Rattle.live_mem.proofs.Spans.{In, Out, lies, valued_push, valued_more, valued_next, longer}
 
 -- the bytes of a span that was kept last
-last_byte : (kept out : List ℕ) (a n : ℕ) → get_or (kept ++ out) (length kept + n) 0 ≡ get_or out n 0
-last_byte kept out a n =
+last_byte : (kept out : List ℕ) (n : ℕ) → get_or (kept ++ out) (length kept + n) 0 ≡ get_or out n 0
+last_byte kept out n =
     let e : length kept + n - length kept ≡ n = omega arith in
     get_or-append_right kept out (length kept) (length kept + n) 0 refl (omega arith) ∙ ap (λ (k : ℕ). get_or out k 0) e
 
-module _ (ss new_ss : List Span) (kept new_kept : List ℕ) (addr : ℕ) (out : List ℕ) (all : AreKept ss (length kept)) (keeps : Keeps ss kept addr out new_ss new_kept) where
-  abbrev new : Span
-  new = record { addr = addr; start = length kept; len = length out }
+-- a short run is kept in its span
+pub keeps_short : (ss : List Span) (kept : List ℕ) (addr : ℕ) (out short : List ℕ) → length out ≤ 16 → length short ≡ 16 → ((i : ℕ) → i < length out → get_or short i 0 ≡ get_or out i 0)
+    → Keeps ss kept addr out (ss ++ record { addr = addr; start = 0; len = length out; short = short } ∷ []) kept
+keeps_short ss kept addr out short le long are =
+    let e : nat_le (length out) 16 ≡ true = le-leb (length out) 16 le in
+    record {
+      span = record { addr = addr; start = 0; len = length out; short = short };
+      more = [];
+      spans_are = refl;
+      kept_are = sym (append-nil kept);
+      begins = refl;
+      long = refl;
+      fits = rw e (omega (arith, le, long));
+      bytes = λ i lt. let z : 0 + i ≡ i = omega arith in rw (e, z) (are i lt);
+    }
 
-  pushed : (p d : ℕ) → valued new_ss new_kept p d ≡ cond (covers new p) (byte_of new (kept ++ out) p) (valued ss (kept ++ out) p d)
-  pushed p d = rw (keeps.spans_are, keeps.kept_are) (valued_push ss new (kept ++ out) p d)
+-- a longer one behind those that were kept before
+pub keeps_long : (ss : List Span) (kept : List ℕ) (addr : ℕ) (out short : List ℕ) → 16 < length out
+    → Keeps ss kept addr out (ss ++ record { addr = addr; start = length kept; len = length out; short = short } ∷ []) (kept ++ out)
+keeps_long ss kept addr out short lt =
+    let e : nat_le (length out) 16 ≡ false = lt-leb (length out) 16 lt in
+    record {
+      span = record { addr = addr; start = length kept; len = length out; short = short };
+      more = out;
+      spans_are = refl;
+      kept_are = refl;
+      begins = refl;
+      long = refl;
+      fits = rw e (omega (arith, length-append kept out));
+      bytes = λ i less. rw e (last_byte kept out i);
+    }
+
+module _ (ss new_ss : List Span) (kept new_kept : List ℕ) (addr : ℕ) (out : List ℕ) (all : AreKept ss kept) (keeps : Keeps ss kept addr out new_ss new_kept) where
+  abbrev new : Span
+  new = keeps.span
+
+  has : (p : ℕ) → covers new p ≡ spans addr (length out) p
+  has p = ap (λ (x : ℕ). spans x new.len p) keeps.begins ∙ ap (λ (x : ℕ). spans addr x p) keeps.long
+
+  pushed : (b : Bool) (p d : ℕ) → spans addr (length out) p ≡ b → valued new_ss new_kept p d ≡ cond b (byte_of new new_kept p) (valued ss kept p d)
+  pushed b p d e =
+      ap (λ (l : List Span). valued l new_kept p d) keeps.spans_are ∙ valued_push ss new new_kept p d
+      ∙ ap (λ (x : Bool). cond x (byte_of new new_kept p) (valued ss new_kept p d)) (has p ∙ e)
+      ∙ ap (λ (l : List ℕ). cond b (byte_of new new_kept p) (valued ss l p d)) keeps.kept_are
+      ∙ ap (λ (x : ℕ). cond b (byte_of new new_kept p) x) (valued_more ss kept keeps.more p d all)
 
   outside : (p d : ℕ) → spans addr (length out) p ≡ false → valued new_ss new_kept p d ≡ valued ss kept p d
-  outside p d e = pushed p d ∙ rw e (valued_more ss kept out p d all)
+  outside p d e = pushed false p d e
 
-  inside : (p d : ℕ) → spans addr (length out) p ≡ true → valued new_ss new_kept p d ≡ get_or out (p - addr) 0
-  inside p d e = pushed p d ∙ rw e (last_byte kept out addr (p - addr))
+  inside : (p d : ℕ) → addr ≤ p → p < addr + length out → spans addr (length out) p ≡ true → valued new_ss new_kept p d ≡ get_or out (p - addr) 0
+  inside p d a b e =
+      pushed true p d e ∙ ap (λ (x : ℕ). get_or (source new new_kept) (new.start + (p - x)) 0) keeps.begins ∙ keeps.bytes (p - addr) (omega (arith, a, b))
 
-  -- the bytes of each span are among those that are kept
-  pub all_stay : AreKept new_ss (length new_kept)
+  -- each span has its bytes
+  pub all_stay : AreKept new_ss new_kept
   all_stay =
-      let P : Span → Type 0 = λ s. s.start + s.len ≤ length (kept ++ out) in
-      let more : length (kept ++ out) ≡ length kept + length out = length-append kept out in
-      let last : P new = omega (arith, more) in
-      let pushed_all : AreKept (ss ++ new ∷ []) (length (kept ++ out)) = All-push P ss new (λ k d lt. omega (arith, all k d lt, more)) last in
+      let P : Span → Type 0 = λ s. s.start + s.len ≤ length (source s (kept ++ keeps.more)) in
+      let last : P new = rw keeps.kept_are at keeps.fits in
+      let pushed_all : AreKept (ss ++ new ∷ []) (kept ++ keeps.more) = All-push P ss new (λ k d lt. omega (arith, all k d lt, longer (nat_le (get_or ss k d).len 16) (get_or ss k d).short kept keeps.more)) last in
       rw (keeps.spans_are, keeps.kept_are) pushed_all
 
   -- a range that was free is, without the bytes that were kept last
@@ -50,7 +90,7 @@ module _ (ss new_ss : List Span) (kept new_kept : List ℕ) (addr : ℕ) (out : 
             let n : addr + (p - addr) ≡ p = omega (arith, a) in
             let o : get_or out (p - addr) 0 ≡ valued ss kept p (get_or fresh (p - addr) 0) =
             are (p - addr) (omega (arith, a, b)) ∙ ap (λ (k : ℕ). valued ss kept k (get_or fresh (p - addr) 0)) n in
-            rw (long, e) (inside p d e ∙ o ∙ faithful p (get_or fresh (p - addr) 0))
+            rw (long, e) (inside p d a b e ∙ o ∙ faithful p (get_or fresh (p - addr) 0))
         | Out e ↦ rw (long, e) (outside p d e ∙ faithful p d)
       ]
 

@@ -3,7 +3,7 @@ use Rattle.std.proofs.Common.{◌≡◌, ℕ, ◌+◌, ◌-◌, ◌<◌, ◌≤�
 use Rattle.std.proofs.lemmas.Bool.{cases_lt}
 use Rattle.std.proofs.lemmas.List.{get_or-take, get_or-drop, get_or_append_left, get_or-append_right, length-take-le}
 use Rattle.guest_mem.specs.Memory.{bytes_at, with_bytes}
-use Rattle.live_mem.specs.Kept.{covers, byte_of}
+use Rattle.live_mem.specs.Kept.{source, covers, byte_of}
 use Rattle.live_mem.specs.declared.span.Span.{Span}
 use Rattle.live_mem.proofs.Spans.{within, before, behind}
 
@@ -27,7 +27,7 @@ module _ (m : List ℕ) (a : ℕ) (bs : List ℕ) (i : ℕ) (inside : a ≤ leng
       ∙ get_or-drop (length bs) (drop a m) (i - a - length bs) 0 ∙ get_or-drop a m (length bs + (i - a - length bs)) 0 ∙ ap (λ (k : ℕ). get_or m k 0) n
 
 pub over : (s : Span) (kept out new src : List ℕ) (addr skip at len i : ℕ) → skip ≡ addr - s.addr → at ≡ s.addr - addr → len ≡ min (s.len - skip) (length out - at)
-    → s.addr < addr + length out → skip < s.len → src ≡ bytes_at kept (s.start + skip) len → length src ≡ len → new ≡ with_bytes out at src → i < length out
+    → s.addr < addr + length out → skip < s.len → src ≡ bytes_at (source s kept) (s.start + skip) len → length src ≡ len → new ≡ with_bytes out at src → i < length out
     → get_or new i 0 ≡ cond (covers s (addr + i)) (byte_of s kept (addr + i)) (get_or out i 0)
 over s kept out new src addr skip at len i is_skip is_at is_len front some is_src long is_new lt =
     let room : at ≤ length out = omega (arith, is_at, front) in
@@ -39,9 +39,9 @@ over s kept out new src addr skip at len i is_skip is_at is_len front some is_sr
         | inl inn ↦
             let n : s.start + skip + (i - at) ≡ s.start + (addr + i - s.addr) = omega (arith, is_at, is_skip, from) in
             let short : i - at < len = omega (arith, is_at, is_skip, is_len, inn, from, lt) in
-            let one : get_or src (i - at) 0 ≡ get_or (take len (drop (s.start + skip) kept)) (i - at) 0 = ap (λ (l : List ℕ). get_or l (i - at) 0) is_src in
+            let one : get_or src (i - at) 0 ≡ get_or (take len (drop (s.start + skip) (source s kept))) (i - at) 0 = ap (λ (l : List ℕ). get_or l (i - at) 0) is_src in
             rw (within s.addr s.len (addr + i) from inn)
             (e ∙ with_in out at src i room (omega (arith, is_at, from)) (omega (arith, long, short)) ∙ one
-            ∙ get_or-take len (drop (s.start + skip) kept) (i - at) 0 short ∙ get_or-drop (s.start + skip) kept (i - at) 0 ∙ ap (λ (k : ℕ). get_or kept k 0) n)
+            ∙ get_or-take len (drop (s.start + skip) (source s kept)) (i - at) 0 short ∙ get_or-drop (s.start + skip) (source s kept) (i - at) 0 ∙ ap (λ (k : ℕ). get_or (source s kept) k 0) n)
       ]
     ]

@@ -1,10 +1,10 @@
 -- Which address lies where, and what is kept of it.
-use Rattle.std.proofs.Common.{◌≡◌, ℕ, ◌+◌, ◌-◌, ◌<◌, ◌≤◌, List, [], ◌∷◌, ◌++◌, length, take, get_or, cond, true, false, refl, ap, ◌∙◌, arith, inl, inr}
+use Rattle.std.proofs.Common.{◌≡◌, ℕ, ◌+◌, ◌-◌, ◌<◌, ◌≤◌, List, [], ◌∷◌, ◌++◌, length, take, get_or, cond, Bool, nat_le, true, false, refl, ap, ◌∙◌, arith, inl, inr}
 use Rattle.std.proofs.lemmas.Bool.{cases_lt, lt-ltb, le-ltb, le-leb, lt-leb}
-use Rattle.std.proofs.lemmas.List.{get_or_append_left, take_more}
+use Rattle.std.proofs.lemmas.List.{get_or_append_left, take_more, length-append}
 use Rattle.std.proofs.lemmas.List.Elements.{All-head, All-tail}
 use Rattle.live_mem.specs.Access.{spans}
-use Rattle.live_mem.specs.Kept.{covers, byte_of, valued, AreKept}
+use Rattle.live_mem.specs.Kept.{source, covers, byte_of, valued, AreKept}
 use Rattle.live_mem.specs.declared.span.Span.{Span}
 
 -- an address lies in a run of bytes, or before or behind it
@@ -33,19 +33,28 @@ pub valued_push : (ss : List Span) (s : Span) (kept : List ℕ) (p d : ℕ) → 
 valued_push [] s kept p d = refl
 valued_push (x ∷ ss) s kept p d = valued_push ss s kept p (cond (covers x p) (byte_of x kept p) d)
 
-byte_more : (s : Span) (kept more : List ℕ) (p d : ℕ) → s.start + s.len ≤ length kept → cond (covers s p) (byte_of s (kept ++ more) p) d ≡ cond (covers s p) (byte_of s kept p) d
+-- more bytes behind those that are kept leave what a span has
+picked : (b : Bool) (short kept more : List ℕ) (i : ℕ) → i < length (cond b short kept) → get_or (cond b short (kept ++ more)) i 0 ≡ get_or (cond b short kept) i 0
+picked true short kept more i lt = refl
+picked false short kept more i lt = get_or_append_left kept more 0 i lt
+
+pub longer : (b : Bool) (short kept more : List ℕ) → length (cond b short kept) ≤ length (cond b short (kept ++ more))
+longer true short kept more = omega arith
+longer false short kept more = omega (arith, length-append kept more)
+
+byte_more : (s : Span) (kept more : List ℕ) (p d : ℕ) → s.start + s.len ≤ length (source s kept) → cond (covers s p) (byte_of s (kept ++ more) p) d ≡ cond (covers s p) (byte_of s kept p) d
 byte_more s kept more p d le =
     elim (lies s.addr s.len p) [
-      | In a b e ↦ rw e (get_or_append_left kept more 0 (s.start + (p - s.addr)) (omega (arith, le, a, b)))
+      | In a b e ↦ rw e (picked (nat_le s.len 16) s.short kept more (s.start + (p - s.addr)) (omega (arith, le, a, b)))
       | Out e ↦ rw e refl
     ]
 
 -- more bytes behind those that are kept
-pub valued_more : (ss : List Span) (kept more : List ℕ) (p d : ℕ) → AreKept ss (length kept) → valued ss (kept ++ more) p d ≡ valued ss kept p d
+pub valued_more : (ss : List Span) (kept more : List ℕ) (p d : ℕ) → AreKept ss kept → valued ss (kept ++ more) p d ≡ valued ss kept p d
 valued_more [] kept more p d all = refl
 valued_more (s ∷ ss) kept more p d all =
-    ap (valued ss (kept ++ more) p) (byte_more s kept more p d (All-head (λ (s : Span). s.start + s.len ≤ length kept) s ss all))
-    ∙ valued_more ss kept more p (cond (covers s p) (byte_of s kept p) d) (All-tail (λ (s : Span). s.start + s.len ≤ length kept) s ss all)
+    ap (valued ss (kept ++ more) p) (byte_more s kept more p d (All-head (λ (s : Span). s.start + s.len ≤ length (source s kept)) s ss all))
+    ∙ valued_more ss kept more p (cond (covers s p) (byte_of s kept p) d) (All-tail (λ (s : Span). s.start + s.len ≤ length (source s kept)) s ss all)
 
 -- the next of several spans
 pub valued_next : (ss : List Span) (kept : List ℕ) (p d k : ℕ) (e : Span) → k < length ss

@@ -3,10 +3,10 @@
 ghost use Rattle.std.specs.Prelude.{ℕ, ◌≡◌, ◌+◌, ◌<◌, ◌≤◌, ◌^◌, [], List, length, cond, get_or, false, IfOk, IsOk, IsTrue};
 ghost use Rattle.guest_mem.specs.Memory.{bytes_at, with_bytes};
 ghost use Rattle.live_mem.specs.Access.{spans};
-ghost use Rattle.live_mem.specs.Kept.{covers, byte_of, valued, AreKept, IsFree};
+ghost use Rattle.live_mem.specs.Kept.{source, covers, byte_of, valued, AreKept, IsFree};
 ghost use Rattle.live_mem.specs.Inner.Kept.{Keeps};
 
-use crate::span::Span;
+use crate::span::{SHORT, Span};
 use std::alloc::{AllocError, Global};
 
 /// The spans that a phase read, with their bytes. No span has an address below `low`, none from `high` on, and none from
@@ -19,7 +19,7 @@ pub(crate) struct Kept {
     high: u64,
     free_from: u64,
     free_to: u64,
-    ghost all: { AreKept spans.items (length bytes.items) },
+    ghost all: { AreKept spans.items bytes.items },
     ghost below: { IsFree spans.items bytes.items 0 low },
     ghost above: { IsFree spans.items bytes.items high (2 ^ 64) },
     ghost free: { IsFree spans.items bytes.items free_from free_to },
@@ -47,10 +47,35 @@ fn put_at(out: &mut [u8], at: usize, bytes: &[u8])
     out[at..at + bytes.len()].copy_from_slice(bytes);
 }
 
+/// Returns a short run in the room for one.
+#[tactic(auto, using(crate::proofs::Over::with_in))]
+#[inline(always)]
+fn short_of(bytes: &[u8]) -> [u8; SHORT]
+    requires { length bytes.now ≤ 16 }
+    ensures bytes { (i : ℕ) → i < length bytes.now → get_or result i 0 ≡ get_or bytes.now i 0 }
+    ensures len { length result ≡ 16 }
+{
+    let mut short = [0; SHORT];
+    put_at(&mut short, 0, bytes);
+    short
+}
+
+/// Returns where the bytes of a span are kept.
+#[inline(always)]
+fn source_of<'a>(span: &'a Span, bytes: &'a [u8]) -> &'a [u8]
+    ensures { result.now ≡ source span.now bytes.now }
+{
+    if span.len <= SHORT {
+        &span.short
+    } else {
+        bytes
+    }
+}
+
 /// Puts what is kept of a span over `out`, which has the bytes from `addr` on.
 #[inline(always)]
 fn put_over(span: &Span, bytes: &[u8], addr: u64, out: &mut [u8])
-    requires kept { span.now.start + span.now.len ≤ length bytes.now }
+    requires kept { span.now.start + span.now.len ≤ length (source span.now bytes.now) }
     requires small { addr + length out.old ≤ 2 ^ 52 }
     ensures len { length out.new ≡ length out.old }
     ensures over { (i : ℕ) → i < length out.old → get_or out.new i 0
@@ -63,7 +88,11 @@ fn put_over(span: &Span, bytes: &[u8], addr: u64, out: &mut [u8])
     let skip = addr.saturating_sub(span.addr) as usize;
     let at = span.addr.saturating_sub(addr) as usize;
     let len = (span.len - skip).min(out.len() - at);
-    put_at(out, at, part(bytes, span.start + skip, len));
+    put_at(
+        out,
+        at,
+        part(source_of(span, bytes), span.start + skip, len),
+    );
 }
 
 /// Returns a range of addresses from `end` on that no span has: from the first result up to the second.
@@ -86,6 +115,7 @@ fn free_behind(spans: &[Span], end: u64) -> (u64, u64)
 impl Kept {
     ghost use Rattle.std.specs.Prelude.{OnOk, vec_len};
     ghost use Rattle.live_mem.specs.Room.{Holds};
+    ghost use Rattle.live_mem.specs.Inner.Room.{Takes};
 
     /// Keeps nothing, with room for so many reads of so many bytes in all. An error where that memory is refused.
     pub(crate) fn new(alloc: Global, reads: usize, bytes: usize) -> Result<Kept, AllocError>
@@ -123,11 +153,14 @@ impl Kept {
     pub(crate) fn make_room(&mut self, len: usize) -> Result<(), AllocError>
         ensures spans { self.new.spans.items ≡ self.old.spans.items }
         ensures bytes { self.new.bytes.items ≡ self.old.bytes.items }
-        ensures made { OnOk result (Holds self.new 1 len) }
+        ensures made { OnOk result (Takes self.new len) }
         ensures room { (reads bytes : ℕ) → Holds self.old reads bytes → Holds self.new reads bytes }
         ensures succeeds { Holds self.old 1 len → IsOk result }
     {
         self.spans.reserve(1)?;
+        if len <= SHORT {
+            return Ok(());
+        }
         self.bytes.reserve(len)
     }
 
@@ -217,11 +250,31 @@ impl Kept {
         }
     }
 
-    /// Keeps bytes that were read from `addr` on, for which there is room.
+    /// Keeps a short run that was read from `addr` on, for which there is room.
     #[inline(always)]
-    pub(crate) fn keep(&mut self, addr: u64, out: &[u8])
+    fn keep_short(&mut self, addr: u64, out: &[u8])
         requires small { addr + length out.now ≤ 2 ^ 52 }
-        requires room { Holds self.old 1 (length out.now) }
+        requires short { length out.now ≤ 16 }
+        requires room { Takes self.old (length out.now) }
+        ensures kept { Keeps self.old.spans.items self.old.bytes.items addr out.now self.new.spans.items self.new.bytes.items }
+        ensures room { (reads bytes : ℕ) → Holds self.old (reads + 1) (bytes + length out.now) → Holds self.new reads bytes }
+    {
+        let span = Span {
+            addr,
+            start: 0,
+            len: out.len(),
+            short: short_of(out),
+        };
+        self.leave_out(addr, addr + out.len() as u64);
+        self.spans.push_reserved(span);
+    }
+
+    /// Keeps a longer run that was read from `addr` on, for which there is room.
+    #[inline(always)]
+    fn keep_long(&mut self, addr: u64, out: &[u8])
+        requires small { addr + length out.now ≤ 2 ^ 52 }
+        requires long { 16 < length out.now }
+        requires room { Takes self.old (length out.now) }
         ensures kept { Keeps self.old.spans.items self.old.bytes.items addr out.now self.new.spans.items self.new.bytes.items }
         ensures room { (reads bytes : ℕ) → Holds self.old (reads + 1) (bytes + length out.now) → Holds self.new reads bytes }
     {
@@ -229,9 +282,25 @@ impl Kept {
             addr,
             start: self.bytes.len(),
             len: out.len(),
+            short: short_of(&[]),
         };
         self.leave_out(addr, addr + out.len() as u64);
         let _ = self.bytes.extend_from_slice(out);
         self.spans.push_reserved(span);
+    }
+
+    /// Keeps bytes that were read from `addr` on, for which there is room.
+    #[inline(always)]
+    pub(crate) fn keep(&mut self, addr: u64, out: &[u8])
+        requires small { addr + length out.now ≤ 2 ^ 52 }
+        requires room { Takes self.old (length out.now) }
+        ensures kept { Keeps self.old.spans.items self.old.bytes.items addr out.now self.new.spans.items self.new.bytes.items }
+        ensures room { (reads bytes : ℕ) → Holds self.old (reads + 1) (bytes + length out.now) → Holds self.new reads bytes }
+    {
+        if out.len() <= SHORT {
+            self.keep_short(addr, out);
+        } else {
+            self.keep_long(addr, out);
+        }
     }
 }

@@ -35,6 +35,7 @@ pub struct LiveMem<B> {
 
 impl<B: Bus> LiveMem<B> {
     ghost use Rattle.live_mem.specs.Room.{HasRoom};
+    ghost use Rattle.live_mem.specs.Inner.Room.{Takes};
     ghost use Rattle.live_mem.specs.Live.{MayBeLive};
 
     /// Opens the memory of `size` bytes behind a bus, with room to keep so many reads in a phase, of so many bytes in all. A phase
@@ -88,7 +89,7 @@ impl<B: Bus> LiveMem<B> {
     #[inline(always)]
     fn read_there(&mut self, addr: u64, out: &mut [u8])
         requires inside { addr + length out.old ≤ self.old.size }
-        requires room { HasRoom self.old 1 (length out.old) }
+        requires room { Takes self.old.kept (length out.old) }
         ensures len { length out.new ≡ length out.old }
         ensures loads { LoadsThere (heard self.old.bus) (heard self.new.bus) addr out.new }
         ensures stores { all_stores (heard self.new.bus) ≡ all_stores (heard self.old.bus) }

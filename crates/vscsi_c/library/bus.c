@@ -189,7 +189,7 @@ static inline void load_from(const unsigned char *bytes, unsigned char *out, siz
 	}
 }
 
-/* Loads bytes that may lie in several regions and holes. Answers 0, as each of these calls. */
+/* Loads bytes that may lie in several regions and holes. */
 static __attribute__((noinline)) ssize_t load_runs(struct place at, unsigned char *out, size_t len)
 {
 	while (len) {
@@ -222,7 +222,7 @@ static __attribute__((noinline)) ssize_t load_many(struct place at, unsigned cha
 	return load(at, out, len);
 }
 
-static inline void put_2(unsigned char *bytes, const unsigned char *in, int order)
+static inline void store_2(unsigned char *bytes, const unsigned char *in, int order)
 {
 	uint16_t all;
 
@@ -234,14 +234,14 @@ static inline void put_2(unsigned char *bytes, const unsigned char *in, int orde
 static inline void store_into(unsigned char *bytes, const unsigned char *in, size_t len)
 {
 	if (len == 2 && is_aligned(bytes, 2)) {
-		put_2(bytes, in, __ATOMIC_RELEASE);
+		store_2(bytes, in, __ATOMIC_RELEASE);
 	} else if (len == 8 && is_aligned(bytes, 4)) {
 		uint32_t first;
 
 		memcpy(&first, in, 4);
 		__atomic_store_n((uint32_t *)bytes, first, __ATOMIC_RELAXED);
-		put_2(bytes + 4, in + 4, __ATOMIC_RELAXED);
-		put_2(bytes + 6, in + 6, __ATOMIC_RELEASE);
+		store_2(bytes + 4, in + 4, __ATOMIC_RELAXED);
+		store_2(bytes + 6, in + 6, __ATOMIC_RELEASE);
 	} else {
 		memcpy(bytes, in, len);
 	}

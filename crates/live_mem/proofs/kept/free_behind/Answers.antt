@@ -1,4 +1,4 @@
-use Rattle.std.proofs.Common.{get_or, arith}
+use Rattle.std.proofs.Common.{[], get_or, arith}
 use Rattle.live_mem.specs.declared.span.Span.{Span}
 use Rattle.live_mem.proofs.Spans.{before, behind}
 use Rattle.live_mem.proofs.Keeping.{free_next}
@@ -6,7 +6,7 @@ use Rattle.live_mem.proofs.kept.free_behind.Goals as goal
 use Rattle.live_mem.proofs.kept.free_behind.Goals.{then-span-end, else-span-end}
 
 abbrev none : Span
-none = record { addr = 0; start = 0; len = 0 }
+none = record { addr = 0; start = 0; len = 0; short = [] }
 
 pub loop-span-preserved : goal.loop-span-preserved
 loop-span-preserved c =

@@ -1,10 +1,10 @@
-use Rattle.std.proofs.Common.{◌∙◌, ◌<◌, length, sym, arith, ◌+◌, get_or}
+use Rattle.std.proofs.Common.{[], ◌∙◌, ◌<◌, length, sym, arith, ◌+◌, get_or}
 use Rattle.live_mem.specs.declared.span.Span.{Span}
 use Rattle.live_mem.proofs.Spans.{valued_next}
 use Rattle.live_mem.proofs.kept.Kept.put_spans_over.Goals as goal
 
 abbrev none : Span
-none = record { addr = 0; start = 0; len = 0 }
+none = record { addr = 0; start = 0; len = 0; short = [] }
 
 pub loop-span-preserved : goal.loop-span-preserved
 loop-span-preserved c =
