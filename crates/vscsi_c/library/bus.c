@@ -15,7 +15,7 @@
 #include <stdlib.h>
 #include <string.h>
 
-/* The operations of host_bus. */
+/* The operations of host_bus: of a read LONG and SHORT, of a write the others. */
 enum { PLACE = 1 << 30, BYTES = PLACE + 1, LONG = PLACE + 2, PUT = PLACE + 3, SHORT = PLACE + 16 };
 
 /* A region: the guest's addresses of it, and what is to be added to one of them for the host's. */
