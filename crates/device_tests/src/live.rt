@@ -1,9 +1,9 @@
 //! The device on memory that its guest writes at any time, beside the one that has its memory to itself.
 
 use crate::guest::{READ, READY, poke, send};
-use crate::moves::{Move, events, run};
+use crate::moves::{Move, events};
 use crate::opening::{NUMBERS, Numbers, config_of, start};
-use crate::steps::UNIT;
+use crate::steps::{UNIT, settle};
 use foundation::NoMemory;
 use guest_mem::{GuestMem, MemFault, WritableMemory};
 use live_mem::{Bus, LiveMem};
@@ -27,18 +27,6 @@ const WAY: &[Move] = &[
     Move::Answer(0),
     Move::Leave(0),
 ];
-
-/// The answer to three steps of a command.
-const PART: Served = Served {
-    steps: 3,
-    more: true,
-};
-
-/// The answer to the steps behind them.
-const REST: Served = Served {
-    steps: 4,
-    more: false,
-};
 
 /// A bus to bytes that change: behind a load, the first byte that it gave has its highest bit set.
 #[derive(Drop)]
@@ -115,18 +103,8 @@ fn run_live<M: WritableMemory>(
     Ok(world.run(events)?)
 }
 
-/// Takes an event. It has no contract, so that what `step` promises is read once.
-fn step_live<M: WritableMemory>(world: &mut LiveWorld<M>, event: Event) -> Result<bool, NoMemory> {
-    Ok(world.step(event)?)
-}
-
 /// Serves all queues in some steps. It has no contract, so that what `serve` promises is read once.
 fn serve_live<M: WritableMemory>(world: &mut LiveWorld<M>, most: u64) -> Result<Served, NoMemory> {
-    Ok(world.serve(u32::MAX, most)?)
-}
-
-/// Serves all queues in some steps. It has no contract, so that what `serve` promises is read once.
-fn serve_own(world: &mut World, most: u64) -> Result<Served, NoMemory> {
     Ok(world.serve(u32::MAX, most)?)
 }
 
@@ -135,24 +113,12 @@ fn settle_live<M: WritableMemory>(world: &mut LiveWorld<M>) -> Result<u64, NoMem
     Ok(world.settle()?)
 }
 
-/// Returns true if some event that doesn't apply yet changes something.
-fn moves_early<M: WritableMemory>(world: &mut LiveWorld<M>) -> Result<bool, NoMemory> {
-    Ok(
-        step_live(world, Event::Enter(2))?
-            || step_live(world, Event::Fetch(3))?
-            || step_live(world, Event::Answer(0))?
-            || step_live(world, Event::Leave(0))?,
-    )
-}
-
-/// Serves the first command over a bus to these bytes, at once, and then what the other indices became. Returns how many
-/// events changed something then, and in all.
-fn serve_over(alloc: Global, bytes: &mut GuestMem) -> Result<(u64, u64), Fail> {
+/// Serves the first command over a bus to these bytes, and then what the other indices became. Returns how many events
+/// changed something.
+fn settle_over(alloc: Global, bytes: &mut GuestMem) -> Result<u64, Fail> {
     let memory = LiveMem::new(alloc, RestlessBus { bytes }, SIZE as u64, 64, 4096)?;
     let mut live = open(alloc, NUMBERS, memory)?;
-    let first = serve_live(&mut live, 7)?;
-    let rest = settle_live(&mut live)?;
-    Ok((first.steps, rest))
+    Ok(settle_live(&mut live)?)
 }
 
 /// Returns true if a device refuses a configuration as bad.
@@ -163,55 +129,25 @@ fn is_refused<M: WritableMemory + Drop>(alloc: Global, numbers: Numbers, memory:
     }
 }
 
-/// Serves what is left on both memories, in so many steps. Returns true if both did the same.
-fn serve_alike(
-    live: &mut LiveWorld<GuestMem>,
-    world: &mut World,
-    most: u64,
-    wanted: Served,
-) -> Result<bool, NoMemory> {
-    let here = serve_live(live, most)?;
-    let there = serve_own(world, most)?;
-    Ok(
-        here.steps == wanted.steps
-            && here.more == wanted.more
-            && there.steps == wanted.steps
-            && there.more == wanted.more
-            && are_same(live.memory(), world.memory()),
-    )
-}
-
-/// Serves a command on both memories. Returns true if as many events changed something, and left the same bytes.
-fn serves_same(
-    alloc: Global,
-    live: &mut LiveWorld<GuestMem>,
-    world: &mut World,
-) -> Result<bool, NoMemory> {
+/// Serves two commands on a memory, one event by event and one in two portions. Returns true if each took its steps.
+fn serves_both(alloc: Global, live: &mut LiveWorld<GuestMem>) -> Result<bool, NoMemory> {
     let events = events(alloc, WAY)?;
-    let count = run_live(live, events.as_slice())?;
-    Ok(count == 7 && run(alloc, world, WAY)? == 7 && are_same(live.memory(), world.memory()))
+    if run_live(live, events.as_slice())? != 7 {
+        return Ok(false);
+    }
+    let part = serve_live(live, 3)?;
+    let rest = serve_live(live, 9)?;
+    Ok(part.steps == 3 && part.more && rest.steps == 4 && !rest.more)
 }
 
-/// Takes events that don't apply and serves two commands, one event by event and one in two portions. Returns true if both
-/// memories have the same bytes throughout.
-fn go_alike(
-    alloc: Global,
-    live: &mut LiveWorld<GuestMem>,
-    world: &mut World,
-) -> Result<bool, NoMemory> {
-    Ok(
-        !moves_early(live)?
-            && are_same(live.memory(), world.memory())
-            && serves_same(alloc, live, world)?
-            && serve_alike(live, world, 3, PART)?
-            && serve_alike(live, world, 9, REST)?,
-    )
-}
-
-/// Opens a device on a memory with the bytes of another's. Returns true if both go alike.
+/// Opens a device on a memory with the bytes of another's. Returns true if both leave the same bytes.
 fn follows(alloc: Global, world: &mut World) -> Result<bool, Fail> {
     let mut live = open(alloc, NUMBERS, copy(alloc, world.memory())?)?;
-    Ok(go_alike(alloc, &mut live, world)?)
+    Ok(
+        serves_both(alloc, &mut live)?
+            && settle(world)? == 14
+            && are_same(live.memory(), world.memory()),
+    )
 }
 
 /// Returns true if the available index, a descriptor and the request of the READ were loaded, and are others now.
@@ -243,8 +179,8 @@ fn serves_memory_that_stands_still(rt: HostRuntime) -> Result<(), Fail> {
 #[test]
 fn serves_memory_that_changes(rt: HostRuntime) -> Result<(), Fail> {
     let mut bytes = sent(rt.alloc())?;
-    let (first, rest) = serve_over(rt.alloc(), &mut bytes)?;
-    assert!(rt; first == 7 && rest == 3 && was_changed(&bytes) && was_served(&bytes));
+    let steps = settle_over(rt.alloc(), &mut bytes)?;
+    assert!(rt; steps == 10 && was_changed(&bytes) && was_served(&bytes));
     Ok(())
 }
 

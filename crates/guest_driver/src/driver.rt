@@ -8,6 +8,7 @@ use crate::packed_queue::PackedQueue;
 use crate::requests::{
     Buffers, Chain, FUNCTION_BYTES, Space, Table, Used, function_request, request_head,
 };
+use crate::rings::Rings;
 use crate::split_queue::SplitQueue;
 use ring_core::Form;
 use script_syntax::{Features, LineFault, Send, Stop, TaskManagement};
@@ -15,7 +16,6 @@ use scsi_codec::{CONTROL_QUEUE, EVENT_BYTES, EVENT_QUEUE, REQUEST_BYTES, RESPONS
 use slab::Slab;
 use std::alloc::{AllocError, Global};
 use std::collections::BTreeMap;
-use std::num::NonZeroU16;
 
 /// The bytes of the response to a task management function (VIRTIO 1.2, 5.6.6.2).
 const FUNCTION_RESPONSE_BYTES: u64 = 1;
@@ -29,11 +29,19 @@ enum Ring {
 
 impl Ring {
     /// Makes a queue with no chain.
-    fn new(alloc: Global, form: Form, queue: u16, size: NonZeroU16) -> Result<Ring, AllocError> {
-        Ok(match form {
-            Form::Split => Ring::Split(SplitQueue::new(alloc, queue, size)?),
-            Form::Packed => Ring::Packed(PackedQueue::new(alloc, queue, size)?),
+    fn new(alloc: Global, queue: u16, rings: Rings) -> Result<Ring, AllocError> {
+        Ok(match rings.form {
+            Form::Split => Ring::Split(SplitQueue::new(alloc, queue, rings)?),
+            Form::Packed => Ring::Packed(PackedQueue::new(alloc, queue, rings)?),
         })
+    }
+
+    /// Writes what stands in the queue's areas where its rings begin, in a memory of zeros.
+    fn begin<M: GuestMemory>(&self, memory: &mut M) -> Result<(), LineFault> {
+        match self {
+            Ring::Split(ring) => ring.begin(memory),
+            Ring::Packed(ring) => ring.begin(memory),
+        }
     }
 
     /// Returns true if there is no room for a chain of two descriptors, or of one alone.
@@ -141,19 +149,18 @@ pub struct Driver {
 }
 
 impl Driver {
-    /// Returns a driver of so many queues, each of so many descriptors, which sent nothing. Beside it stands a
-    /// device whose queues have this form and lie where `layout_of` says, and for which these features were agreed.
-    /// It fails where memory runs out.
+    /// Returns a driver of so many queues with these rings, which sent nothing. Beside it stands a device whose queues
+    /// have these rings and lie where `layout_of` says, and for which these features were agreed. It fails where memory
+    /// runs out.
     pub fn new(
         alloc: Global,
-        form: Form,
         features: Features,
         count: u16,
-        size: NonZeroU16,
+        rings: Rings,
     ) -> Result<Driver, AllocError> {
         let mut queues = Vec::new(alloc);
         for queue in 0..count {
-            let ring = Ring::new(alloc, form, queue, size)?;
+            let ring = Ring::new(alloc, queue, rings)?;
             queues.push(Queue {
                 ring,
                 offered: Vec::new(alloc),
@@ -169,6 +176,15 @@ impl Driver {
             sent: BTreeMap::new(alloc),
             events: Vec::new(alloc),
         })
+    }
+
+    /// Writes what stands in the areas of all queues where their rings begin, in a memory of zeros: each chain before was
+    /// used. `NoGuestMemory` where the memory refuses it. Called once, before anything is sent.
+    pub fn begin<M: GuestMemory>(&self, memory: &mut M) -> Result<(), LineFault> {
+        for queue in self.queues.iter() {
+            queue.ring.begin(memory)?;
+        }
+        Ok(())
     }
 
     /// Places a chain that goes to a queue under a name, in a memory of that size, with so many bytes to read, and so

@@ -13,9 +13,11 @@ mod guest;
 mod memory;
 mod packed_queue;
 mod requests;
+mod rings;
 mod split_queue;
 
 pub use areas::layout_of;
 pub use driver::{Asks, Driver, Sent};
 pub use guest::put_bytes;
 pub use memory::GuestMemory;
+pub use rings::Rings;

@@ -8,6 +8,8 @@ use crate::areas::layout_of;
 use crate::guest::{descriptor, put, u16_at, u32_at};
 use crate::memory::GuestMemory;
 use crate::requests::{Chain, Used};
+use crate::rings::Rings;
+use ring_core::RingIndex;
 use script_syntax::{LineFault, Stop};
 use std::alloc::{AllocError, Global};
 use std::collections::BTreeSet;
@@ -45,13 +47,16 @@ struct Position {
     wrap: bool,
 }
 
-impl Position {
-    /// The beginning of a ring.
-    const START: Position = Position {
-        slot: 0,
-        wrap: true,
-    };
+impl From<RingIndex> for Position {
+    fn from(index: RingIndex) -> Position {
+        Position {
+            slot: index.index,
+            wrap: index.wrap,
+        }
+    }
+}
 
+impl Position {
     /// Returns the next place in a ring of that size.
     fn next(self, size: NonZeroU16) -> Position
         ensures { (slots : ℕ) → HasPassed size.value slots self → HasPassed size.value (slots + 1) result }
@@ -106,7 +111,8 @@ pub struct PackedQueue {
 
 impl PackedQueue {
     /// Makes a queue with no chain.
-    pub fn new(alloc: Global, queue: u16, size: NonZeroU16) -> Result<PackedQueue, AllocError> {
+    pub fn new(alloc: Global, queue: u16, rings: Rings) -> Result<PackedQueue, AllocError> {
+        let size = rings.size;
         let mut free_ids = BTreeSet::new(alloc);
         for id in 0..size.get() {
             free_ids.insert(id)?;
@@ -117,9 +123,22 @@ impl PackedQueue {
             free_ids,
             free_slots: size.get(),
             open: vec![in alloc; None; size.get() as usize]?,
-            next: Position::START,
-            seen: Position::START,
+            next: Position::from(rings.available),
+            seen: Position::from(rings.used),
         })
+    }
+
+    /// Writes the flags of the slots that were used while the wrap counter was 1, in a memory of zeros: those before the
+    /// position of the next used descriptor, or, where the wrap counter is 0 there, those from it on.
+    pub fn begin<M: GuestMemory>(&self, memory: &mut M) -> Result<(), LineFault> {
+        let layout = layout_of(self.queue, self.size.get());
+        for slot in 0..self.size.get() {
+            if (slot < self.seen.slot) == self.seen.wrap {
+                let at = layout.desc + 16 * u64::from(slot);
+                put(memory, at + 14, &(AVAILABLE | USED).to_le_bytes())?;
+            }
+        }
+        Ok(())
     }
 
     /// Returns true if fewer slots are free than a chain takes that has two descriptors in the ring, or has one alone.

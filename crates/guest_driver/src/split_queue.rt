@@ -6,6 +6,7 @@ use crate::areas::layout_of;
 use crate::guest::{descriptor, put, u16_at, u32_at};
 use crate::memory::GuestMemory;
 use crate::requests::{Chain, Used};
+use crate::rings::Rings;
 use script_syntax::{LineFault, Stop};
 use std::alloc::{AllocError, Global};
 use std::collections::BTreeSet;
@@ -38,7 +39,8 @@ pub struct SplitQueue {
 
 impl SplitQueue {
     /// Makes a queue with no chain.
-    pub fn new(alloc: Global, queue: u16, size: NonZeroU16) -> Result<SplitQueue, AllocError> {
+    pub fn new(alloc: Global, queue: u16, rings: Rings) -> Result<SplitQueue, AllocError> {
+        let size = rings.size;
         let mut free = BTreeSet::new(alloc);
         for pair in 0..size.get() / 2 {
             free.insert(2 * pair)?;
@@ -48,9 +50,16 @@ impl SplitQueue {
             size,
             free,
             open: vec![in alloc; None; size.get() as usize]?,
-            available: 0,
-            seen: 0,
+            available: rings.available.index,
+            seen: rings.used.index,
         })
+    }
+
+    /// Writes both indices, in a memory of zeros.
+    pub fn begin<M: GuestMemory>(&self, memory: &mut M) -> Result<(), LineFault> {
+        let layout = layout_of(self.queue, self.size.get());
+        put(memory, layout.driver + 2, &self.available.to_le_bytes())?;
+        put(memory, layout.device + 2, &self.seen.to_le_bytes())
     }
 
     /// Returns true if no pair is free.

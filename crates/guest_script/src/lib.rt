@@ -10,7 +10,10 @@
 
 mod allowance;
 mod host_memory;
+mod live_machine;
 mod machine;
+mod own_machine;
+mod racing_bus;
 mod service;
 mod session;
 mod steps;

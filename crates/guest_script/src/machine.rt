@@ -1,63 +1,44 @@
-//! A device of one thread, as its guest's driver and printing lines have it.
+//! A device of one thread, as a session has it.
 
-ghost use Rattle.std.specs.Prelude.{◌≡◌, length};
-ghost use Rattle.guest_mem.specs.Memory.{bytes_at, with_bytes, LiesIn};
-
+use config::Config;
+use foundation::NoMemory;
 use guest_driver::GuestMemory;
-use guest_mem::{GuestMem, MemFault};
+use ring_core::QueueLog;
 use script_semantics::Device;
-use scsi_codec::Address;
-use unit_history::UnitState;
-use world::World;
+use script_syntax::{Race, Stop};
+use std::alloc::Global;
+use world::{Event, Notify, Served};
 
-/// A device of one thread, whose memory the guest's driver writes and reads between two of its steps.
-#[derive(Drop)]
-pub(crate) struct Machine {
-    pub(crate) world: World,
-}
+/// A device of one thread with its guest's memory, which the guest's driver writes and reads between two lines.
+pub(crate) trait Machine: GuestMemory + Device + Drop {
+    /// Opens the device of a configuration. `BadConfig` where it isn't taken.
+    fn open(alloc: Global, config: &Config) -> Result<Self, Stop>;
 
-impl GuestMemory for Machine {
-    ghost extent = { λ m. length m.world.memory };
+    /// Takes down a change of memory that the next line of the device brings. `OutOfPlace` where memory doesn't change
+    /// between two reads.
+    fn race(&mut self, alloc: Global, race: &Race) -> Result<(), Stop>;
 
-    ghost finds = { λ m at bytes. LiesIn (length m.world.memory) at (length bytes)
-        × (bytes ≡ bytes_at m.world.memory at (length bytes)) };
+    /// Begins a line of the device. `step`, `serve`, `settle` and `ask` are called within one.
+    fn begin(&mut self);
 
-    ghost refuses = { λ m at n. ¬ LiesIn (length m.world.memory) at n };
+    /// Ends the line.
+    fn end(&mut self);
 
-    ghost takes = { λ m at bytes n. LiesIn (length m.world.memory) at (length bytes)
-        × (n ≡ record m { world = record m.world { memory = with_bytes m.world.memory at bytes } }) };
+    /// Takes an event; false where it changes nothing.
+    fn step(&mut self, event: Event) -> Result<bool, NoMemory>;
 
-    fn size(&self) -> u64 {
-        self.world.memory().size()
-    }
+    /// Serves all queues, in so many steps at most.
+    fn serve(&mut self, most: u64) -> Result<Served, NoMemory>;
 
-    fn read(&self, at: u64, into: &mut [u8]) -> Result<(), MemFault> {
-        self.world.memory().read(at, into)
-    }
+    /// Runs the device until nothing is left to do.
+    fn settle(&mut self) -> Result<u64, NoMemory>;
 
-    fn write(&mut self, at: u64, bytes: &[u8]) -> Result<(), MemFault> {
-        if self.world.poke(at, bytes) {
-            Ok(())
-        } else {
-            Err(MemFault::Outside)
-        }
-    }
-}
+    /// Asks the driver of a queue for a notification, or for none; false where nothing is written.
+    fn ask(&mut self, queue: u16, notify: Notify) -> bool;
 
-impl Device for Machine {
-    fn memory(&self) -> &GuestMem {
-        self.world.memory()
-    }
+    /// Returns the log of a queue; `None` where there is no such queue.
+    fn log(&self, queue: u16) -> Option<&QueueLog>;
 
-    fn unit(&self, address: Address) -> Option<&UnitState> {
-        self.world.unit(address.target, address.lun)
-    }
-
-    fn status(&self) -> u8 {
-        self.world.status()
-    }
-
-    fn notices(&self, queue: u16) -> Option<u64> {
-        self.world.notices(queue)
-    }
+    /// Returns true if a fault broke the queue.
+    fn is_broken(&self, queue: u16) -> bool;
 }

@@ -142,11 +142,13 @@ impl<C: Ledger, D: Ledger> Service<C, D> {
         requires acts { Opens acts.name acts.parts C.name C.parts 64 }
         requires receipts { Opens receipts.name receipts.parts D.name D.parts 73 }
     {
+        if !wanted.suits_threads() {
+            return Err(Stop::Fault(LineFault::BadConfig));
+        }
         let Wanted {
             config,
             known,
-            form,
-            size,
+            rings,
             features,
         } = wanted;
         let pages = config.pages;
@@ -154,7 +156,7 @@ impl<C: Ledger, D: Ledger> Service<C, D> {
             Ok(host) => host,
             Err(fault) => return Err(stop_of(fault)),
         };
-        match Driver::new(alloc, form, features, known.queues, size) {
+        match Driver::new(alloc, features, known.queues, rings) {
             Ok(driver) => Ok(Service {
                 alloc,
                 host,
@@ -211,7 +213,8 @@ impl<C: Ledger, D: Ledger> Service<C, D> {
             Command::Hard(unit) => self.hard(rt, unit),
             Command::Resize(unit, blocks) => self.resize(rt, unit, blocks),
             Command::Wait(name) => self.wait(rt, name),
-            Command::Ask(_, _)
+            Command::Race(_)
+            | Command::Ask(_, _)
             | Command::Settle
             | Command::Step(_)
             | Command::Print(_)

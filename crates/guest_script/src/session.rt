@@ -1,21 +1,20 @@
 //! Plays a script on a device of one thread.
 
 use crate::allowance::Allowance;
+use crate::live_machine::LiveMachine;
 use crate::machine::Machine;
+use crate::own_machine::OwnMachine;
 use crate::steps::{event_of, order};
 use crate::trace::{Trace, print_ask};
 use guest_driver::Driver;
 use script_semantics::{
-    Known, Script, Wanted, command_of, line_number, print, read_whole, run_guest_line, stop_of,
+    Known, Script, Wanted, command_of, line_number, print, read_whole, run_guest_line,
 };
 use script_syntax::{Command, LineFault, ScriptFault, Step, Stop};
 use scsi_codec::Address;
 use std::alloc::{AllocError, Global};
 use std::io::{Read, Write};
-use world::{Event, Notify, World};
-
-/// Each queue's bit, as `World::serve` takes them.
-const EACH_QUEUE: u32 = u32::MAX;
+use world::{Event, Notify};
 
 /// The options with which a script is played.
 #[derive(Clone, Copy)]
@@ -41,7 +40,22 @@ pub fn play<S: Read, W: Write>(
 ) -> Result<(), ScriptFault> {
     let bytes = read_whole(alloc, script)?;
     let (script, wanted) = Script::read(alloc, bytes.as_slice())?;
-    let mut session = match Session::open(alloc, wanted, options) {
+    if wanted.known.is_live {
+        play_on::<LiveMachine, W>(alloc, &script, wanted, out, options)
+    } else {
+        play_on::<OwnMachine, W>(alloc, &script, wanted, out, options)
+    }
+}
+
+/// Plays a script that was read on a device of a kind.
+fn play_on<M: Machine, W: Write>(
+    alloc: Global,
+    script: &Script<'_>,
+    wanted: Wanted,
+    out: &mut W,
+    options: Options,
+) -> Result<(), ScriptFault> {
+    let mut session = match Session::<M>::open(alloc, wanted, options) {
         Ok(session) => session,
         Err(stop) => return Err(script.refused(stop)),
     };
@@ -55,9 +69,9 @@ pub fn play<S: Read, W: Write>(
 
 /// A script that runs: the device, and the guest's driver.
 #[derive(Drop)]
-struct Session {
+struct Session<M: Machine> {
     alloc: Global,
-    machine: Machine,
+    machine: M,
     driver: Driver,
     known: Known,
     allowance: Allowance,
@@ -82,21 +96,20 @@ impl Tracing {
     }
 }
 
-impl Session {
+impl<M: Machine> Session<M> {
     /// Opens the device that a header asks for, and the driver beside it. `BadConfig` where the device refuses.
-    fn open(alloc: Global, wanted: Wanted, options: Options) -> Result<Session, Stop> {
+    fn open(alloc: Global, wanted: Wanted, options: Options) -> Result<Session<M>, Stop> {
         let Wanted {
             config,
             known,
-            form,
-            size,
+            rings,
             features,
         } = wanted;
-        let world = match World::new(alloc, &config) {
-            Ok(world) => world,
-            Err(fault) => return Err(stop_of(fault)),
-        };
-        let driver = Driver::new(alloc, form, features, known.queues, size)?;
+        let mut machine = M::open(alloc, &config)?;
+        let driver = Driver::new(alloc, features, known.queues, rings)?;
+        if !rings.are_fresh() {
+            driver.begin(&mut machine)?;
+        }
         let tracing = if options.trace {
             let seats = config.workers.saturating_add(1);
             Some(Tracing::new(alloc, known.units.len(), known.queues, seats)?)
@@ -105,7 +118,7 @@ impl Session {
         };
         Ok(Session {
             alloc,
-            machine: Machine { world },
+            machine,
             driver,
             known,
             allowance: Allowance {
@@ -121,7 +134,7 @@ impl Session {
             self.known.check(&command)?;
             self.run_command(command, out)?;
         }
-        self.driver.look(self.machine.world.memory())?;
+        self.driver.look(&self.machine)?;
         Ok(())
     }
 
@@ -131,29 +144,45 @@ impl Session {
             Command::Guest(line) => {
                 run_guest_line(self.alloc, &mut self.driver, &mut self.machine, &line)
             }
-            Command::Hard(unit) => self.hard(unit, out),
-            Command::Resize(unit, blocks) => self.resize(unit, blocks, out),
-            Command::Ask(queue, notify) => self.ask(queue, notify, out),
+            Command::Race(race) => self.machine.race(self.alloc, &race),
+            Command::Print(line) => print(self.alloc, out, &self.machine, &self.driver, line),
+            command => {
+                self.machine.begin();
+                let done = self.run_device(&command, out);
+                self.machine.end();
+                done
+            }
+        }
+    }
+
+    /// Runs a line of the device or of its operator.
+    fn run_device<W: Write>(&mut self, command: &Command<'_>, out: &mut W) -> Result<(), Stop> {
+        match command {
+            Command::Hard(unit) => self.hard(*unit, out),
+            Command::Resize(unit, blocks) => self.resize(*unit, *blocks, out),
+            Command::Ask(queue, notify) => self.ask(*queue, *notify, out),
             Command::Settle if self.tracing.is_some() => self.settle_by_steps(out),
             Command::Settle => self.settle(),
             Command::Step(step) => {
-                let _applies = self.step(step, out)?;
+                let _applies = self.step(*step, out)?;
                 Ok(())
             }
-            Command::Print(line) => print(self.alloc, out, &self.machine, &self.driver, line),
-            Command::Wait(_) | Command::Close | Command::Abandon => {
-                Err(Stop::Fault(LineFault::OutOfPlace))
-            }
+            Command::Guest(_)
+            | Command::Race(_)
+            | Command::Print(_)
+            | Command::Wait(_)
+            | Command::Close
+            | Command::Abandon => Err(Stop::Fault(LineFault::OutOfPlace)),
         }
     }
 
     /// Runs the device until nothing is left to do. `TooManySteps` where it may not take as many steps.
     fn settle(&mut self) -> Result<(), Stop> {
         let Some(left) = self.allowance.left else {
-            let _steps = self.machine.world.settle()?;
+            let _steps = self.machine.settle()?;
             return Ok(());
         };
-        let served = self.machine.world.serve(EACH_QUEUE, left)?;
+        let served = self.machine.serve(left)?;
         if served.more {
             return Err(Stop::Fault(LineFault::TooManySteps));
         }
@@ -193,7 +222,7 @@ impl Session {
 
     /// Takes a step, where it applies; false where it doesn't. `TooManySteps` where it is one too many.
     fn step<W: Write>(&mut self, step: Step, out: &mut W) -> Result<bool, Stop> {
-        if !self.machine.world.step(event_of(step))? {
+        if !self.machine.step(event_of(step))? {
             return Ok(false);
         }
         self.allowance.spend(1)?;
@@ -207,7 +236,7 @@ impl Session {
             Some(tracing) => {
                 tracing
                     .trace
-                    .print(out, &self.machine.world, &self.driver, &self.known, event)
+                    .print(out, &self.machine, &self.driver, &self.known, event)
             }
             None => Ok(()),
         }
@@ -216,7 +245,7 @@ impl Session {
     /// Resets a unit for the operator; where it isn't there nothing happens.
     fn hard<W: Write>(&mut self, unit: Address, out: &mut W) -> Result<(), Stop> {
         if let Some(place) = self.known.place(unit) {
-            if self.machine.world.step(Event::Hard(place))? {
+            if self.machine.step(Event::Hard(place))? {
                 self.print_step(&Event::Hard(place), out)?;
             }
         }
@@ -226,7 +255,7 @@ impl Session {
     /// Asks the driver of a queue for a notification, or for none; where the queue isn't there, or is broken, nothing
     /// happens.
     fn ask<W: Write>(&mut self, queue: u16, notify: Notify, out: &mut W) -> Result<(), Stop> {
-        if self.machine.world.ask(queue, notify) && self.tracing.is_some() {
+        if self.machine.ask(queue, notify) && self.tracing.is_some() {
             return print_ask(out, queue, notify);
         }
         Ok(())
@@ -235,7 +264,7 @@ impl Session {
     /// Gives a unit so many blocks for the operator; where it isn't there nothing happens.
     fn resize<W: Write>(&mut self, unit: Address, blocks: u64, out: &mut W) -> Result<(), Stop> {
         if let Some(place) = self.known.place(unit) {
-            if self.machine.world.step(Event::Resize(place, blocks))? {
+            if self.machine.step(Event::Resize(place, blocks))? {
                 self.known.resize(place, blocks);
                 self.print_step(&Event::Resize(place, blocks), out)?;
             }

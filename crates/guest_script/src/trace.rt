@@ -1,5 +1,6 @@
 //! Prints what each step of the device did, as a line.
 
+use crate::machine::Machine;
 use guest_driver::Driver;
 use ring_core::Ticket;
 use script_semantics::{Known, written};
@@ -8,7 +9,7 @@ use scsi_codec::{Address, CONTROL_QUEUE, EVENT_QUEUE};
 use std::alloc::{AllocError, Global};
 use std::io::Write;
 use unit_history::StepKind;
-use world::{Event, Notify, World};
+use world::{Event, Notify};
 
 /// A device as it was seen last, so that the next step is known by what it changed.
 #[derive(Drop)]
@@ -43,15 +44,15 @@ impl Trace {
     }
 
     /// Prints the line of an event that just changed something.
-    pub(crate) fn print<W: Write>(
+    pub(crate) fn print<M: Machine, W: Write>(
         &mut self,
         out: &mut W,
-        world: &World,
+        machine: &M,
         driver: &Driver,
         known: &Known,
         event: &Event,
     ) -> Result<(), Stop> {
-        let told = self.told(world, known, event);
+        let told = self.told(machine, known, event);
         print_event(out, event)?;
         if let Some(Address { target, lun }) = told.unit {
             written(write!(out, " unit={target}:{lun}"))?;
@@ -66,18 +67,18 @@ impl Trace {
         if !outcome.is_empty() {
             written(write!(out, " {outcome}"))?;
         }
-        self.print_buffer(out, world, event)?;
+        self.print_buffer(out, machine, event)?;
         written(writeln!(out))
     }
 
     /// Prints what became of an event of the device: which event buffer tells of it, or that it was missed.
-    fn print_buffer<W: Write>(
+    fn print_buffer<M: Machine, W: Write>(
         &mut self,
         out: &mut W,
-        world: &World,
+        machine: &M,
         event: &Event,
     ) -> Result<(), Stop> {
-        let Some(log) = world.log(EVENT_QUEUE) else {
+        let Some(log) = machine.log(EVENT_QUEUE) else {
             return Ok(());
         };
         let used = log.used();
@@ -91,8 +92,8 @@ impl Trace {
     }
 
     /// Returns what an event was about that just changed something.
-    fn told(&mut self, world: &World, known: &Known, event: &Event) -> Told {
-        let (unit, step) = match self.grown(world, known) {
+    fn told<M: Machine>(&mut self, machine: &M, known: &Known, event: &Event) -> Told {
+        let (unit, step) = match self.grown(machine, known) {
             Some((unit, step)) => (Some(unit), Some(step)),
             None => (None, None),
         };
@@ -102,11 +103,11 @@ impl Trace {
             }
             Some(StepKind::Full(ticket)) => (Some(ticket), "full"),
             Some(StepKind::Busy(ticket)) => (Some(ticket), "busy"),
-            Some(StepKind::Abort(_)) => (newest(world, CONTROL_QUEUE), "abort"),
-            Some(StepKind::Reset) => (self.of_event(world, event), "reset"),
+            Some(StepKind::Abort(_)) => (newest(machine, CONTROL_QUEUE), "abort"),
+            Some(StepKind::Reset) => (self.of_event(machine, event), "reset"),
             Some(StepKind::Resize) => (None, ""),
-            None if is_broken(world, event) => (None, "broken"),
-            None => (self.of_event(world, event), ""),
+            None if is_broken(machine, event) => (None, "broken"),
+            None => (self.of_event(machine, event), ""),
         };
         self.hold(event, ticket);
         Told {
@@ -117,16 +118,16 @@ impl Trace {
     }
 
     /// Returns the unit that took a step since the last look, and that step.
-    fn grown(&mut self, world: &World, known: &Known) -> Option<(Address, StepKind)> {
+    fn grown<M: Machine>(&mut self, machine: &M, known: &Known) -> Option<(Address, StepKind)> {
         for (place, seen) in self.steps.iter_mut().enumerate() {
             let spec = known.units.get(place)?;
-            let unit = world.unit(spec.target, spec.lun)?;
+            let address = Address {
+                target: spec.target,
+                lun: spec.lun,
+            };
+            let unit = machine.unit(address)?;
             if unit.steps() > *seen {
                 *seen = unit.steps();
-                let address = Address {
-                    target: spec.target,
-                    lun: spec.lun,
-                };
                 return Some((address, unit.step(seen.saturating_sub(1))?));
             }
         }
@@ -134,12 +135,12 @@ impl Trace {
     }
 
     /// Makes the chain that an event is about which took no step of a unit, where that can be seen.
-    fn of_event(&self, world: &World, event: &Event) -> Option<Ticket> {
+    fn of_event<M: Machine>(&self, machine: &M, event: &Event) -> Option<Ticket> {
         match event {
             Event::Fetch(queue) | Event::Enter(queue) | Event::Direct(queue) => {
-                newest(world, *queue)
+                newest(machine, *queue)
             }
-            Event::Mark | Event::Check | Event::AnswerTmf => newest(world, CONTROL_QUEUE),
+            Event::Mark | Event::Check | Event::AnswerTmf => newest(machine, CONTROL_QUEUE),
             Event::Answer(seat) => *self.hands.get(*seat as usize)?,
             _ => None,
         }
@@ -159,15 +160,15 @@ impl Trace {
 }
 
 /// Returns the chain that a queue accepted last.
-fn newest(world: &World, queue: u16) -> Option<Ticket> {
-    let number = world.log(queue)?.accepted().checked_sub(1)?;
+fn newest<M: Machine>(machine: &M, queue: u16) -> Option<Ticket> {
+    let number = machine.log(queue)?.accepted().checked_sub(1)?;
     Some(Ticket { queue, number })
 }
 
 /// Returns true if an event was a fetch that broke its queue: of a broken one none changes anything.
-fn is_broken(world: &World, event: &Event) -> bool {
+fn is_broken<M: Machine>(machine: &M, event: &Event) -> bool {
     match event {
-        Event::Fetch(queue) => world.broken(*queue).is_some(),
+        Event::Fetch(queue) => machine.is_broken(*queue),
         _ => false,
     }
 }

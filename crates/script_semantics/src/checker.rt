@@ -27,8 +27,9 @@ pub fn check<S: Read>(alloc: Global, script: &mut S) -> Result<(), ScriptFault> 
     let Ok(kind) = Kind::of(alloc, &script) else {
         return Err(ScriptFault::NoMemory);
     };
+    let suits_threads = wanted.suits_threads();
     let Wanted { config, known, .. } = wanted;
-    if !is_taken(config, kind) {
+    if !is_taken(config, suits_threads, kind) {
         return Err(script.refused(Stop::Fault(LineFault::BadConfig)));
     }
     let mut checker = Checker::new(alloc, kind, known);
@@ -54,12 +55,16 @@ fn of_header(alloc: Global, bytes: &[u8], fault: ScriptFault) -> ScriptFault {
     }
 }
 
-/// Returns true if the device takes what a header asks for. `serve` has a number of workers of its own.
-fn is_taken(mut config: Config, kind: Kind) -> bool {
-    if let Kind::Serve = kind {
-        config.workers = 1;
+/// Returns true if the device takes what a header asks for, which may suit threads. `serve` has a number of workers of its
+/// own.
+fn is_taken(mut config: Config, suits_threads: bool, kind: Kind) -> bool {
+    match kind {
+        Kind::Play => config.is_valid(),
+        Kind::Serve => {
+            config.workers = 1;
+            suits_threads && config.is_valid()
+        }
     }
-    config.is_valid()
 }
 
 /// A script up to a line, as a check knows it.
@@ -122,9 +127,11 @@ impl Checker {
     fn may_stand(&self, command: &Command<'_>) -> bool {
         match (self.kind, command) {
             (Kind::Play, Command::Wait(_) | Command::Close | Command::Abandon) => false,
+            (Kind::Play, Command::Race(_)) => self.known.is_live,
             (Kind::Play, _) => true,
             (Kind::Serve, Command::Print(_)) => self.is_closed,
             (Kind::Serve, Command::Settle | Command::Step(_) | Command::Ask(_, _)) => false,
+            (Kind::Serve, Command::Race(_)) => false,
             (Kind::Serve, _) => !self.is_closed,
         }
     }

@@ -4,9 +4,13 @@ use crate::known::Known;
 use config::{
     CHANGE, Config, EVENT_IDX, INDIRECT_DESC, RING_PACKED, StartFault, UnitSpec, VERSION_1,
 };
-use guest_driver::layout_of;
-use ring_core::{Form, Layout};
-use script_syntax::{Disk, Features, HeaderLine, LineFault, LineText, Queues, Stop, text_of};
+use guest_driver::{Rings, layout_of};
+use guest_mem::PAGE_BYTES;
+use ring_core::{FIRST_INDEX, Form, Layout, RingIndex};
+use script_syntax::{
+    Disk, Features, HeaderLine, LineFault, LineText, Memory, Queues, RingPlace, Start, Stop,
+    text_of,
+};
 use std::alloc::{AllocError, Global};
 use std::num::NonZeroU16;
 
@@ -22,9 +26,10 @@ fn set_once<T: Drop>(place: &mut Option<T>, value: T) -> Result<(), LineFault> {
 /// The header, as far as it was read.
 #[derive(Drop)]
 pub(crate) struct Header {
-    pages: Option<u32>,
+    memory: Option<Memory>,
     form: Option<Form>,
     queues: Option<Queues>,
+    start: Option<Start>,
     workers: Option<u16>,
     handoff: Option<u16>,
     features: Option<Features>,
@@ -35,9 +40,10 @@ impl Header {
     /// Makes a header of no line.
     pub(crate) fn new(alloc: Global) -> Header {
         Header {
-            pages: None,
+            memory: None,
             form: None,
             queues: None,
+            start: None,
             workers: None,
             handoff: None,
             features: None,
@@ -68,9 +74,10 @@ impl Header {
     /// Keeps what a header line says. Each but `unit` stands once.
     fn keep(&mut self, line: HeaderLine) -> Result<(), Stop> {
         match line {
-            HeaderLine::Memory(pages) => set_once(&mut self.pages, pages)?,
+            HeaderLine::Memory(memory) => set_once(&mut self.memory, memory)?,
             HeaderLine::Ring(form) => set_once(&mut self.form, form)?,
             HeaderLine::Queues(queues) => set_once(&mut self.queues, queues)?,
+            HeaderLine::Start(start) => set_once(&mut self.start, start)?,
             HeaderLine::Workers(workers) => set_once(&mut self.workers, workers)?,
             HeaderLine::Handoff(handoff) => set_once(&mut self.handoff, handoff)?,
             HeaderLine::Features(features) => set_once(&mut self.features, features)?,
@@ -79,9 +86,9 @@ impl Header {
         Ok(())
     }
 
-    /// Returns the device that the header asks for. `BadConfig` where a line lacks.
+    /// Returns the device that the header asks for. `BadConfig` where a line lacks, or the rings can't begin where one says.
     pub(crate) fn wanted(self, alloc: Global) -> Result<Wanted, Stop> {
-        let (Some(pages), Some(form), Some(queues)) = (self.pages, self.form, self.queues) else {
+        let (Some(memory), Some(form), Some(queues)) = (self.memory, self.form, self.queues) else {
             return Err(Stop::Fault(LineFault::BadConfig));
         };
         let (Some(workers), Some(handoff)) = (self.workers, self.handoff) else {
@@ -91,14 +98,17 @@ impl Header {
             return Err(Stop::Fault(LineFault::BadConfig));
         };
         let features = self.features.unwrap_or(Features::NONE);
+        let rings = rings_of(form, size, self.start)?;
         let known = Known {
+            memory: u64::from(memory.pages) * PAGE_BYTES as u64,
+            is_live: memory.is_live,
             queues: queues.count,
             units: self.units.iter().copied().collect(alloc)?,
         };
         let config = Config {
-            pages,
+            pages: memory.pages,
             features: features_of(form, features),
-            queues: layouts(alloc, queues)?,
+            queues: layouts(alloc, queues.count, rings)?,
             workers,
             handoff,
             units: self.units,
@@ -106,8 +116,7 @@ impl Header {
         Ok(Wanted {
             config,
             known,
-            form,
-            size,
+            rings,
             features,
         })
     }
@@ -120,12 +129,18 @@ pub struct Wanted {
     pub config: Config,
     /// The names that lines may use.
     pub known: Known,
-    /// The form of the queues.
-    pub form: Form,
-    /// The number of descriptors of each queue.
-    pub size: NonZeroU16,
+    /// The rings that the driver begins with.
+    pub rings: Rings,
     /// The features that the driver agrees to, beside those that each driver of the form does.
     pub features: Features,
+}
+
+impl Wanted {
+    /// Returns true if threads may serve the device: its memory doesn't change between two reads of one step, and its
+    /// rings begin where memory of zeros has no chain.
+    pub fn suits_threads(&self) -> bool {
+        !self.known.is_live && self.rings.are_fresh()
+    }
 }
 
 /// Returns why a script ends whose device wasn't had. Called with what the device said as it was opened.
@@ -158,9 +173,46 @@ fn features_of(form: Form, features: Features) -> u64 {
     VERSION_1 | form | indirect | event_idx | change
 }
 
-/// Returns where the queues lie.
-fn layouts(alloc: Global, queues: Queues) -> Result<Vec<Layout>, AllocError> {
-    (0..queues.count)
-        .map(|queue| layout_of(queue, queues.size))
-        .collect(alloc)
+/// Returns where a ring of a form begins, by a place in it. `BadConfig` where a split ring is given a wrap counter, or a
+/// packed one none.
+fn index_of(form: Form, place: RingPlace) -> Result<RingIndex, LineFault> {
+    let wrap = match (form, place.wrap) {
+        (Form::Split, None) => true,
+        (Form::Packed, Some(wrap)) => wrap,
+        _ => return Err(LineFault::BadConfig),
+    };
+    Ok(RingIndex {
+        index: place.index,
+        wrap,
+    })
+}
+
+/// Returns the rings that a header asks for: where no line says where they begin, at their first place.
+fn rings_of(form: Form, size: NonZeroU16, start: Option<Start>) -> Result<Rings, LineFault> {
+    let (available, used) = match start {
+        Some(start) => (
+            index_of(form, start.available)?,
+            index_of(form, start.used)?,
+        ),
+        None => (FIRST_INDEX, FIRST_INDEX),
+    };
+    Ok(Rings {
+        form,
+        size,
+        available,
+        used,
+    })
+}
+
+/// Returns where so many queues lie, and begin.
+fn layouts(alloc: Global, count: u16, rings: Rings) -> Result<Vec<Layout>, AllocError> {
+    let mut layouts = Vec::new(alloc);
+    for queue in 0..count {
+        layouts.push(Layout {
+            first_available: rings.available,
+            first_used: rings.used,
+            ..layout_of(queue, rings.size.get())
+        })?;
+    }
+    Ok(layouts)
 }

@@ -40,7 +40,7 @@ impl Kind {
             "settle" | "fetch" | "enter" | "direct" | "put" | "take" | "prepare" | "commit" => {
                 Some(Kind::Play)
             }
-            "answer" | "leave" | "mark" | "check" | "answertmf" | "raise" | "ask" => {
+            "answer" | "leave" | "mark" | "check" | "answertmf" | "raise" | "ask" | "race" => {
                 Some(Kind::Play)
             }
             "show" | "order" | "blocks" | "history" | "events" | "status" | "notices" => {

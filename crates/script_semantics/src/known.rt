@@ -1,12 +1,16 @@
 //! The names that lines may use.
 
 use config::UnitSpec;
-use script_syntax::{Command, GuestLine, LineFault, PrintLine};
+use script_syntax::{Command, GuestLine, LineFault, PrintLine, Race};
 use scsi_codec::{Address, FIRST_REQUEST_QUEUE};
 
 /// The names that lines may use: so many queues, and the units of the header.
 #[derive(Drop)]
 pub struct Known {
+    /// The bytes of guest memory.
+    pub memory: u64,
+    /// True if lines may change bytes between two reads of the device.
+    pub is_live: bool,
     /// The number of queues, the control and the event queue among them.
     pub queues: u16,
     /// The units, in the order of the header.
@@ -14,14 +18,15 @@ pub struct Known {
 }
 
 impl Known {
-    /// Refuses a line by `BadValue` where it sends to what is no queue of requests, or prints of a queue, a unit or
-    /// blocks that aren't there. This is looked at before the line's place.
+    /// Refuses a line by `BadValue` where it sends to what is no queue of requests, races for bytes outside memory, or
+    /// prints of a queue, a unit or blocks that aren't there. This is looked at before the line's place.
     /// Called for each line behind the header.
     pub fn check(&self, command: &Command<'_>) -> Result<(), LineFault> {
         let is_known = match command {
             Command::Guest(GuestLine::Send(send)) => {
                 send.queue >= FIRST_REQUEST_QUEUE && send.queue < self.queues
             }
+            Command::Race(race) => self.lies_inside(race),
             Command::Print(line) => self.may_print(*line),
             _ => true,
         };
@@ -30,6 +35,11 @@ impl Known {
         } else {
             Err(LineFault::BadValue)
         }
+    }
+
+    /// Returns true if all bytes that a race changes lie in memory.
+    fn lies_inside(&self, race: &Race) -> bool {
+        race.addr <= self.memory && race.bytes.length() <= self.memory - race.addr
     }
 
     /// Returns true if what a line prints of is there.

@@ -1,7 +1,7 @@
 //! The lines behind the header.
 
 use crate::fault::{LineFault, Stop};
-use crate::guest_line::GuestLine;
+use crate::guest_line::{GuestLine, Race};
 use crate::header::{HeaderLine, only};
 use crate::print_line::PrintLine;
 use crate::step::Step;
@@ -15,6 +15,8 @@ use std::alloc::Global;
 pub enum Command<'a> {
     /// The guest writes into its memory.
     Guest(GuestLine<'a>),
+    /// The guest changes bytes while the device runs by the next line.
+    Race(Race),
     /// The operator resets a unit, which may be absent.
     Hard(Address),
     /// The operator gives a unit, which may be absent, so many blocks, 1 to 2^40 as a line is read.
@@ -50,6 +52,7 @@ impl<'a> Command<'a> {
             return Ok(Command::Step(step));
         }
         match keyword {
+            "race" => Ok(Command::Race(Race::read(alloc, values)?)),
             "hard" => Ok(Command::Hard(unit_pair(only(values)?)?)),
             "resize" => Ok(resize(values)?),
             "ask" => Ok(ask(values)?),

@@ -2,9 +2,38 @@
 
 use crate::fault::{LineFault, Stop};
 use crate::send::{Send, TaskManagement};
-use crate::values::{Bytes, name, number, unit_pair};
+use crate::values::{Bytes, name, number, ordinal, unit_pair};
 use scsi_codec::{CDB_BYTES, write_lun};
 use std::alloc::Global;
+
+/// A change of guest memory between two reads of the device.
+#[derive(Drop)]
+pub struct Race {
+    /// The address of its first byte.
+    pub addr: u64,
+    /// The bytes that stand there afterwards.
+    pub bytes: Bytes,
+    /// The number of the read before which they are written, from 1 on.
+    pub before: u64,
+}
+
+impl Race {
+    /// Reads the values of `race`.
+    pub(crate) fn read(alloc: Global, values: &[&str]) -> Result<Race, Stop> {
+        let (addr, bytes, read) = match values {
+            [addr, bytes, word, read] if *word == "before" => (*addr, *bytes, *read),
+            _ => return Err(Stop::Fault(LineFault::BadValue)),
+        };
+        let addr = number(addr)?;
+        let before = ordinal(read)?;
+        let bytes = Bytes::read(alloc, bytes)?;
+        Ok(Race {
+            addr,
+            bytes,
+            before,
+        })
+    }
+}
 
 /// A line of the guest, which writes into its memory.
 #[derive(Drop)]

@@ -3,12 +3,22 @@
 ghost use Rattle.std.specs.Prelude.{◌≡◌, ◌⊎◌, length, [], ◌∷◌, true, Ok, codes, IsOk, IfOk, IfErr, ◌↔◌};
 
 use crate::fault::LineFault;
+use crate::ring_place::{RingPlace, ring_place};
 use crate::values::{number, unit};
 use ring_core::Form;
 use scsi_codec::Address;
 
 /// The largest size of a queue that a script may name.
 pub(crate) const LARGEST_SIZE: u16 = 256;
+
+/// The guest memory that a header asks for.
+#[derive(Clone, Copy)]
+pub struct Memory {
+    /// Its pages, of 4,096 bytes.
+    pub pages: u32,
+    /// True if lines may change bytes between two reads of the device.
+    pub is_live: bool,
+}
 
 /// The queues that a header asks for.
 #[derive(Clone, Copy)]
@@ -17,6 +27,15 @@ pub struct Queues {
     pub count: u16,
     /// The number of descriptors of each, at most 256 as a line is read.
     pub size: u16,
+}
+
+/// The places where the rings of all queues begin.
+#[derive(Clone, Copy)]
+pub struct Start {
+    /// Where the driver makes its first chain available.
+    pub available: RingPlace,
+    /// Where the device uses its first chain.
+    pub used: RingPlace,
 }
 
 /// A disk that a header asks for.
@@ -79,12 +98,14 @@ impl Features {
 /// A header line. It isn't known here which of its numbers the device takes.
 #[derive(Clone, Copy)]
 pub enum HeaderLine {
-    /// The pages of guest memory, of 4,096 bytes.
-    Memory(u32),
+    /// Guest memory.
+    Memory(Memory),
     /// The form of the queues.
     Ring(Form),
     /// Their number and size.
     Queues(Queues),
+    /// The places where their rings begin.
+    Start(Start),
     /// The number of workers.
     Workers(u16),
     /// The number of jobs that the hand-off holds.
@@ -93,6 +114,27 @@ pub enum HeaderLine {
     Features(Features),
     /// A disk.
     Unit(Disk),
+}
+
+/// Reads the values of guest memory.
+fn read_memory(values: &[&str]) -> Result<Memory, LineFault> {
+    let (pages, is_live) = match values {
+        [pages] => (*pages, false),
+        [pages, word] if *word == "live" => (*pages, true),
+        _ => return Err(LineFault::BadValue),
+    };
+    let pages = number::<u32>(pages)?;
+    Ok(Memory { pages, is_live })
+}
+
+/// Reads the places where rings begin.
+fn read_start(values: &[&str]) -> Result<Start, LineFault> {
+    let [available, used] = values else {
+        return Err(LineFault::BadValue);
+    };
+    let available = ring_place(available)?;
+    let used = ring_place(used)?;
+    Ok(Start { available, used })
 }
 
 /// Reads the values of a unit.
@@ -149,13 +191,14 @@ impl HeaderLine {
     /// `BadValue` where the others aren't what it takes. It doesn't look at the line's place.
     pub fn read(keyword: &str, values: &[&str]) -> Result<Option<HeaderLine>, LineFault> {
         let line = match keyword {
-            "memory" => HeaderLine::Memory(number::<u32>(only(values)?)?),
+            "memory" => HeaderLine::Memory(read_memory(values)?),
             "ring" => match only(values)? {
                 "split" => HeaderLine::Ring(Form::Split),
                 "packed" => HeaderLine::Ring(Form::Packed),
                 _ => return Err(LineFault::BadValue),
             },
             "queues" => HeaderLine::Queues(read_queues(values)?),
+            "start" => HeaderLine::Start(read_start(values)?),
             "workers" => HeaderLine::Workers(number::<u16>(only(values)?)?),
             "handoff" => HeaderLine::Handoff(number::<u16>(only(values)?)?),
             "features" => HeaderLine::Features(read_features(values)?),

@@ -6,7 +6,8 @@ use crate::command::notify;
 use crate::fault::Stop;
 use crate::guest_line::{attribute, command_block};
 use crate::header::{Features, LARGEST_SIZE};
-use crate::values::{Bytes, LAST_LUN, capacity, name, number, unit_pair};
+use crate::ring_place::ring_place;
+use crate::values::{Bytes, LAST_LUN, capacity, name, number, ordinal, unit_pair};
 use std::alloc::{AllocError, Global};
 
 /// The kinds of words that a place behind the first word of a line may take.
@@ -20,8 +21,12 @@ enum Place {
     Number32,
     /// A number below 2^64.
     Number64,
+    /// A number below 2^64, from 1 on.
+    Ordinal,
     /// The number of descriptors of a queue.
     Size,
+    /// A place in a ring.
+    RingPlace,
     /// The number of blocks that a unit is given.
     Capacity,
     /// A LUN.
@@ -46,6 +51,10 @@ enum Place {
     Notify,
     /// `calm`, if anything.
     Calm,
+    /// `live`, if anything.
+    Live,
+    /// `before`.
+    Before,
     /// `out` or `in`, if anything.
     OutOrIn,
     /// `in`, if anything.
@@ -71,6 +80,8 @@ impl Place {
             Place::Number16 => number::<u16>(word).is_ok(),
             Place::Number32 => number::<u32>(word).is_ok(),
             Place::Number64 => number::<u64>(word).is_ok(),
+            Place::Ordinal => ordinal(word).is_ok(),
+            Place::RingPlace => ring_place(word).is_ok(),
             Place::Size => is_at_most(word, LARGEST_SIZE),
             Place::Capacity => capacity(word).is_ok(),
             Place::Lun => is_at_most(word, LAST_LUN),
@@ -81,6 +92,8 @@ impl Place {
             Place::Feature | Place::MoreFeatures => Features::NONE.with(word).is_ok(),
             Place::Notify => notify(word).is_ok(),
             Place::Calm => word == "calm",
+            Place::Live => word == "live",
+            Place::Before => word == "before",
             Place::OutOrIn => word == "out" || word == "in",
             Place::In => word == "in",
             Place::CommandBlock | Place::Bytes | Place::End => false,
@@ -90,7 +103,8 @@ impl Place {
     /// Returns true if a line may end before this place.
     fn may_lack(self) -> bool {
         match self {
-            Place::MoreFeatures | Place::Calm | Place::OutOrIn | Place::In | Place::End => true,
+            Place::MoreFeatures | Place::Calm | Place::Live | Place::OutOrIn | Place::In => true,
+            Place::End => true,
             _ => false,
         }
     }
@@ -117,6 +131,8 @@ fn was_read<T: Drop>(read: Result<T, Stop>) -> Result<bool, AllocError> {
 fn header_place(keyword: &str, index: usize) -> Place {
     match (keyword, index) {
         ("memory", 0) => Place::Number32,
+        ("memory", 1) => Place::Live,
+        ("start", 0 | 1) => Place::RingPlace,
         ("ring", 0) => Place::Form,
         ("queues" | "workers" | "handoff", 0) => Place::Number16,
         ("queues", 1) => Place::Size,
@@ -160,8 +176,10 @@ fn data_place(has_out: bool, index: usize) -> Place {
 fn other_place(keyword: &str, index: usize) -> Place {
     match (keyword, index) {
         ("hard" | "resize" | "history" | "blocks", 0) => Place::Unit,
-        ("poke", 0) => Place::Number64,
-        ("poke", 1) => Place::Bytes,
+        ("poke" | "race", 0) => Place::Number64,
+        ("poke" | "race", 1) => Place::Bytes,
+        ("race", 2) => Place::Before,
+        ("race", 3) => Place::Ordinal,
         ("resize", 1) => Place::Capacity,
         ("blocks", 1 | 2) => Place::Number64,
         ("wait" | "show", 0) => Place::Name,
@@ -178,7 +196,7 @@ const REQUEST_WORDS: usize = 6;
 /// Returns what a place behind the first word of a line takes, from 0 on.
 fn place_of(keyword: &str, values: &[&str], index: usize) -> Place {
     match keyword {
-        "memory" | "ring" | "queues" | "workers" | "handoff" | "features" | "unit" => {
+        "memory" | "ring" | "queues" | "start" | "workers" | "handoff" | "features" | "unit" => {
             header_place(keyword, index)
         }
         "send" if index >= REQUEST_WORDS => {

@@ -3,7 +3,7 @@
 ghost use Rattle.std.specs.Prelude.{ℕ, ◌≡◌, ◌<◌, ◌*◌, ◌-◌, ◌^◌, ◌++◌, min, length, [], true, false, ◌⊎◌, Ok, Err, IsOk, OnErr, IfOk, OnOk, IfErr, ◌↔◌};
 ghost use Rattle.std.specs.List.{repeat};
 ghost use Rattle.std.specs.Str.{all_ascii_digits};
-ghost use Rattle.script_syntax.specs.Inner.Values.{IsCapacity, IsName, IsUnit, IsUnitPair, length_of};
+ghost use Rattle.script_syntax.specs.Inner.Values.{IsCapacity, IsName, IsOrdinal, IsUnit, IsUnitPair, length_of};
 
 use crate::fault::{LineFault, Stop};
 use hex::FromHexError;
@@ -50,6 +50,19 @@ pub fn capacity(word: &str) -> Result<u64, LineFault>
         return Err(LineFault::BadValue);
     }
     Ok(blocks)
+}
+
+/// Reads the number of a thing in an order, from 1 on.
+pub(crate) fn ordinal(word: &str) -> Result<u64, LineFault>
+    ensures taken { IfOk result (λ number. IsOrdinal word.now number) }
+    ensures refused { OnErr result ((number : ℕ) → ¬ IsOrdinal word.now number) }
+    ensures fault { IfErr result (λ fault. fault ≡ LineFault.BadValue) }
+{
+    let number = number::<u64>(word)?;
+    if number == 0 {
+        return Err(LineFault::BadValue);
+    }
+    Ok(number)
 }
 
 /// Reads a name: 1 to 16 letters or digits.
