@@ -1,0 +1,6 @@
+pub mod Changes
+pub mod Others
+pub mod Own
+pub mod Transport
+pub mod Instance
+pub mod Pairs

@@ -1,0 +1,4 @@
+pub mod Events
+pub mod Adding
+pub mod Marks
+pub mod Wholes
