@@ -117,42 +117,38 @@ static void note(struct backlog *backlog, struct vscsi_range range) {
   ranges_of(backlog)[backlog->count++] = range;
 }
 
+// Notes that the guest unmapped blocks of a disk.
+static void note_unmapped(struct backlog *backlog, struct vscsi_range range) {
+  struct vscsi_range *last = backlog->unmapped + backlog->unmapped_count;
+  if (backlog->unmapped_count && last[-1].first + last[-1].count == range.first) last[-1].count += range.count;
+  else if (backlog->unmapped_count < MOST_UNMAPPED) backlog->unmapped[backlog->unmapped_count++] = range;
+}
+
+// Returns how many commands of a disk ran, by its counts.
+static uint64_t ran(const struct vscsi_counts *counts) { return counts->good + counts->check_conditions + counts->busy; }
+
+static void note_disk(struct device *device, struct disk *disk, struct noted *noted) {
+  struct vscsi_range ranges[VSCSI_MOST_RANGES];
+  struct vscsi_counts counts = noted->counts, before = counts;
+  size_t count = 0;
+  bool all = true, counted = device_counts(device, disk->target, disk->lun, &counts);
+  if (counted && ran(&counts) == ran(&before)) return;
+  bool told = device_changed(device, disk->target, disk->lun, &noted->place, ranges, &count, &all);
+  noted->counts = counts;
+  // A command that doesn't end with GOOD changes no block, whichever blocks it names.
+  if (told && counted && counts.good == before.good) return;
+  // Of the commands that change blocks UNMAP alone takes bytes that aren't whole blocks: 8, and 16 for each range.
+  bool unmaps = (counts.data_out - before.data_out) % DEVICE_BLOCK;
+  if (!told || all) note(&disk->backlog, (struct vscsi_range){0, disk->blocks});
+  for (size_t r = 0; told && !all && r < count; r++) {
+    note(&disk->backlog, ranges[r]);
+    if (unmaps) note_unmapped(&disk->backlog, ranges[r]);
+  }
+}
+
 void blocks_note(struct device *device, struct disks *disks, struct noted *noted) {
-  for (size_t i = 0; i < disks->count; i++) {
-    struct disk *disk = &disks->disks[i];
-    struct vscsi_range ranges[VSCSI_MOST_RANGES];
-    size_t count = 0;
-    bool all = true;
-    uint64_t good = noted[i].good;
-    if (!is_kept(disk)) continue;
-    bool told = device_changed(device, disk->target, disk->lun, &noted[i].place, ranges, &count, &all) &&
-                device_good(device, disk->target, disk->lun, &good);
-    // A command that doesn't end with GOOD changes no block, whichever blocks it names.
-    if (told && good == noted[i].good) continue;
-    noted[i].good = good;
-    if (!told || all) note(&disk->backlog, (struct vscsi_range){0, disk->blocks});
-    for (size_t r = 0; told && !all && r < count; r++) note(&disk->backlog, ranges[r]);
-  }
-}
-
-uint64_t blocks_named(const struct disks *disks, uint8_t target, uint16_t lun, bool whole_target) {
-  uint64_t named = 0;
-  for (size_t i = 0; i < disks->count; i++) {
-    const struct disk *disk = &disks->disks[i];
-    if (disk->target == target && (disk->lun == lun || whole_target)) named |= UINT64_C(1) << i;
-  }
-  return named;
-}
-
-void blocks_unmap(struct disks *disks, uint8_t target, uint16_t lun, struct vscsi_range range) {
-  for (size_t i = 0; i < disks->count; i++) {
-    struct disk *disk = &disks->disks[i];
-    struct backlog *backlog = &disk->backlog;
-    struct vscsi_range *last = backlog->unmapped + backlog->unmapped_count;
-    if (disk->target != target || disk->lun != lun || !is_kept(disk)) continue;
-    if (backlog->unmapped_count && last[-1].first + last[-1].count == range.first) last[-1].count += range.count;
-    else if (backlog->unmapped_count < MOST_UNMAPPED) backlog->unmapped[backlog->unmapped_count++] = range;
-  }
+  for (size_t i = 0; i < disks->count; i++)
+    if (is_kept(&disks->disks[i])) note_disk(device, &disks->disks[i], &noted[i]);
 }
 
 static bool is_unmapped(const struct backlog *backlog, uint64_t first, uint32_t count) {
@@ -232,11 +228,10 @@ enum kept blocks_keep(struct device *device, struct disks *disks, bool at_once) 
   return kept;
 }
 
-uint64_t blocks_behind(const struct disks *disks) {
-  uint64_t behind = 0;
+bool blocks_are_stuck(const struct disks *disks) {
   for (size_t i = 0; i < disks->count; i++)
-    if (disks->disks[i].backlog.count) behind |= UINT64_C(1) << i;
-  return behind;
+    if (disks->disks[i].error) return true;
+  return false;
 }
 
 uint64_t blocks_due(const struct disks *disks) {

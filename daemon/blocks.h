@@ -15,19 +15,15 @@ bool blocks_load(struct disks *disks, char *why, size_t room);
 // Returns whether a disk has a file that is written.
 bool blocks_are_kept(const struct disks *disks);
 
-// Of a disk: the place of its history up to which changes were noted, and how many commands had ended with GOOD there.
+// Of a disk: the place of its history up to which changes were noted, and what it had counted there.
 struct noted {
-  uint64_t place, good;
+  uint64_t place;
+  struct vscsi_counts counts;
 };
 
-// Notes the blocks that the device changed since the last call for it. `noted` has a place for each disk, zeros at first.
+// Notes the blocks that the device changed since the last call for it. `noted` has a place for each disk, zeros at first. Of blocks that an
+// UNMAP changed those that are zeros become holes of the file.
 void blocks_note(struct device *device, struct disks *disks, struct noted *noted);
-
-// Returns the disk at a target and a LUN, or all at the target: bit 0 is the first disk.
-uint64_t blocks_named(const struct disks *disks, uint8_t target, uint16_t lun, bool whole_target);
-
-// Notes that the guest wants blocks of a disk unmapped: where they are zeros when they are written, they become a hole of the file.
-void blocks_unmap(struct disks *disks, uint8_t target, uint16_t lun, struct vscsi_range range);
 
 // What came of blocks_keep: all that was noted stands on the files; or a file can't be written, as its disk's `error` says, and nothing
 // is left of the others; or more is to be written.
@@ -38,8 +34,8 @@ enum kept { KEPT, STUCK, KEEPING };
 // in between, also where fdatasync fails.
 enum kept blocks_keep(struct device *device, struct disks *disks, bool at_once);
 
-// Returns the disks whose files lack something that was noted: bit 0 is the first disk.
-uint64_t blocks_behind(const struct disks *disks);
+// Returns whether a file couldn't be written when that was last tried.
+bool blocks_are_stuck(const struct disks *disks);
 
 // Returns when the next of these is to be tried again.
 uint64_t blocks_due(const struct disks *disks);

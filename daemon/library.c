@@ -19,59 +19,64 @@ bool store_stands(const struct vscsi_disk *store) {
   return vscsi_disk_blocks(store, &blocks) == VSCSI_DONE;
 }
 
-bool device_create(struct device *device, const struct vscsi_config *config, struct vscsi_disk *stores, bool *starved, char *why, size_t room) {
+bool device_create(struct device *device, const struct vscsi_live_config *config, struct vscsi_disk *stores, bool *starved, char *why, size_t room) {
   struct vscsi_fault fault = {0};
-  enum vscsi_answer answer = vscsi_create_with(&device->vscsi, config, stores, &fault);
+  enum vscsi_answer answer = vscsi_live_create(&device->vscsi, config, stores, &fault);
   device->live = answer == VSCSI_DONE;
   *starved = answer == VSCSI_NO_MEMORY;
-  if (answer == VSCSI_BAD_CONFIG) snprintf(why, room, "no device: cause %u, detail %u, place %llu", fault.cause, fault.detail, (unsigned long long)fault.place);
-  else if (!device->live) snprintf(why, room, "no device: %s", *starved ? "no memory" : "the call was refused");
+  if (answer == VSCSI_BAD_CONFIG) snprintf(why, room, "no device: %s (%llu, %u)", vscsi_cause_text(fault.cause), (unsigned long long)fault.place, fault.detail);
+  else if (!device->live) snprintf(why, room, "no device: %s", vscsi_answer_text(answer));
   return device->live;
 }
 
 bool device_end(struct device *device, struct vscsi_disk *stores, size_t count) {
-  bool ended = !device->live || vscsi_close(&device->vscsi, stores, count) == VSCSI_DONE;
-  if (!ended) vscsi_destroy(&device->vscsi);
+  bool ended = !device->live || vscsi_live_close(&device->vscsi, stores, count) == VSCSI_DONE;
+  if (!ended) vscsi_live_destroy(&device->vscsi);
   device->live = false;
   return ended;
 }
 
-bool device_serve(struct device *device, uint32_t queues, uint64_t most, bool *more) {
+bool device_map(struct device *device, const struct vscsi_region *regions, size_t count) {
+  return vscsi_map(&device->vscsi, regions, count) == VSCSI_DONE;
+}
+
+void device_log(struct device *device, uint8_t *bitmap, size_t bytes) { vscsi_log(&device->vscsi, bitmap, bytes); }
+
+bool device_serve(struct device *device, uint32_t queues, uint64_t most, uint64_t *steps, bool *more) {
+  return vscsi_live_serve(&device->vscsi, queues, most, steps, more) == VSCSI_DONE;
+}
+
+uint32_t device_owed(struct device *device) {
   uint32_t owed = 0;
-  enum vscsi_answer answer = vscsi_serve(&device->vscsi, queues, most, NULL, more);
-  // The daemon decides by the guest's own flags whom it notifies; this only takes back what the device would have said.
-  vscsi_owed(&device->vscsi, &owed);
-  return answer == VSCSI_DONE;
+  vscsi_live_owed(&device->vscsi, &owed);
+  return owed;
 }
 
-bool device_poke(struct device *device, uint64_t addr, const void *bytes, size_t count) {
-  return vscsi_poke(&device->vscsi, addr, bytes, count) == VSCSI_DONE;
+bool device_position(struct device *device, unsigned queue, struct vscsi_position *position) {
+  return vscsi_live_position(&device->vscsi, (uint16_t)queue, position) == VSCSI_DONE;
 }
 
-bool device_peek(struct device *device, uint64_t addr, void *into, size_t count) {
-  return vscsi_peek(&device->vscsi, addr, into, count) == VSCSI_DONE;
+void device_ask(struct device *device, unsigned queue, bool notify) { vscsi_live_ask(&device->vscsi, (uint16_t)queue, notify); }
+
+bool device_is_broken(struct device *device) {
+  uint8_t status = 0;
+  return vscsi_live_status(&device->vscsi, &status) == VSCSI_DONE && status;
 }
 
-bool device_progress(struct device *device, unsigned queue, uint64_t *taken, uint64_t *used) {
-  return vscsi_progress(&device->vscsi, (uint16_t)queue, taken, used) == VSCSI_DONE;
-}
-
-bool device_broken(struct device *device, unsigned queue) {
-  uint32_t fault = 0;
-  return vscsi_broken(&device->vscsi, (uint16_t)queue, &fault) == VSCSI_DONE && fault != VSCSI_BROKEN_NOT;
+uint32_t device_fault(struct device *device, unsigned queue) {
+  uint32_t fault = VSCSI_BROKEN_NOT;
+  vscsi_live_broken(&device->vscsi, (uint16_t)queue, &fault);
+  return fault;
 }
 
 bool device_changed(struct device *device, uint8_t target, uint16_t lun, uint64_t *place, struct vscsi_range *ranges, size_t *count, bool *all) {
-  return vscsi_changed(&device->vscsi, target, lun, place, ranges, VSCSI_MOST_RANGES, count, all) == VSCSI_DONE;
+  return vscsi_live_changed(&device->vscsi, target, lun, place, ranges, VSCSI_MOST_RANGES, count, all) == VSCSI_DONE;
 }
 
-bool device_good(struct device *device, uint8_t target, uint16_t lun, uint64_t *good) {
-  struct vscsi_counts counts;
-  bool told = vscsi_counts(&device->vscsi, target, lun, &counts, sizeof counts) == VSCSI_DONE;
-  if (told) *good = counts.good;
-  return told;
+bool device_counts(struct device *device, uint8_t target, uint16_t lun, struct vscsi_counts *counts) {
+  return vscsi_live_counts(&device->vscsi, target, lun, counts, sizeof *counts) == VSCSI_DONE;
 }
 
 bool device_blocks(struct device *device, uint8_t target, uint16_t lun, uint64_t first, uint32_t count, void *into) {
-  return vscsi_blocks(&device->vscsi, target, lun, first, count, into, (size_t)count * DEVICE_BLOCK) == VSCSI_DONE;
+  return vscsi_live_blocks(&device->vscsi, target, lun, first, count, into, (size_t)count * DEVICE_BLOCK) == VSCSI_DONE;
 }

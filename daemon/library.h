@@ -8,10 +8,10 @@
 
 #include "vscsi.h"
 
-enum { DEVICE_BLOCK = 512, DEVICE_PAGE = 4096, DEVICE_MOST_PAGES = 65536, DEVICE_MOST_QUEUES = 18, DEVICE_MOST_UNITS = 64, DEVICE_MOST_SIZE = 1024 };
+enum { DEVICE_BLOCK = 512, DEVICE_MOST_QUEUES = 18, DEVICE_MOST_UNITS = 64, DEVICE_MOST_SIZE = 1024 };
 
 struct device {
-  struct vscsi vscsi;
+  struct vscsi_live vscsi;
   bool live;
 };
 
@@ -24,31 +24,41 @@ bool store_stands(const struct vscsi_disk *store);
 
 // Makes a device of a configuration over disks, which are the device's then. Returns false where it can't be, and says why in `why`. Where
 // memory was refused `starved` is true, and another try may go well.
-bool device_create(struct device *device, const struct vscsi_config *config, struct vscsi_disk *stores, bool *starved, char *why, size_t room);
+bool device_create(struct device *device, const struct vscsi_live_config *config, struct vscsi_disk *stores, bool *starved, char *why, size_t room);
 
 // Ends a device, if there is one, and takes its disks back. Returns false where memory was refused: they are lost.
 bool device_end(struct device *device, struct vscsi_disk *stores, size_t count);
 
-// Serves what is available on these queues (bit 0 is queue 0), and what was begun before, by at most so many steps. `more` tells
-// whether a step is left. Returns false where memory was refused: what was served before stands, and a later call goes on.
-bool device_serve(struct device *device, uint32_t queues, uint64_t most, bool *more);
+// Has the device work in these regions of memory. Returns false where it can't: then it works where it did.
+bool device_map(struct device *device, const struct vscsi_region *regions, size_t count);
 
-// Copies bytes into the device's memory, or out of it. Returns false where a byte lies outside.
-bool device_poke(struct device *device, uint64_t addr, const void *bytes, size_t count);
-bool device_peek(struct device *device, uint64_t addr, void *into, size_t count);
+// Has the device note each page that it writes in a bitmap of so many bytes, or in none where `bitmap` is NULL.
+void device_log(struct device *device, uint8_t *bitmap, size_t bytes);
 
-// Counts the chains that a queue took, and those that it gave back.
-bool device_progress(struct device *device, unsigned queue, uint64_t *taken, uint64_t *used);
+// Serves what is available on these queues (bit 0 is queue 0), and what was begun before, by at most so many steps. `steps` is how many
+// these were, and `more` tells whether one is left. Returns false where memory was refused: what was served before stands, and a later
+// call goes on.
+bool device_serve(struct device *device, uint32_t queues, uint64_t most, uint64_t *steps, bool *more);
 
-// Returns whether the guest broke this queue.
-bool device_broken(struct device *device, unsigned queue);
+// Returns the queues whose driver is to be notified.
+uint32_t device_owed(struct device *device);
+
+// Tells where the device goes on in a queue.
+bool device_position(struct device *device, unsigned queue, struct vscsi_position *position);
+
+// Asks the driver of a queue to notify of its next chain, or of none.
+void device_ask(struct device *device, unsigned queue, bool notify);
+
+// Returns whether a guest broke any queue, and by which fault it broke this one: VSCSI_BROKEN_NOT where it didn't.
+bool device_is_broken(struct device *device);
+uint32_t device_fault(struct device *device, unsigned queue);
 
 // Tells which blocks of a unit may have changed since a place of its history, and leaves the place that it has now. `ranges` has
 // room for VSCSI_MOST_RANGES. Where `all` is true any block may have changed.
 bool device_changed(struct device *device, uint8_t target, uint16_t lun, uint64_t *place, struct vscsi_range *ranges, size_t *count, bool *all);
 
-// Counts the commands of a unit that ran and ended with GOOD.
-bool device_good(struct device *device, uint8_t target, uint16_t lun, uint64_t *good);
+// Counts what a unit did.
+bool device_counts(struct device *device, uint8_t target, uint16_t lun, struct vscsi_counts *counts);
 
 // Copies blocks of a unit out. `into` has room for `count` blocks.
 bool device_blocks(struct device *device, uint8_t target, uint16_t lun, uint64_t first, uint32_t count, void *into);

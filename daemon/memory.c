@@ -41,11 +41,8 @@ static bool map(struct region *region, uint64_t offset, int descriptor) {
   return true;
 }
 
-// Returns the place of the first region that ends behind an address of the guest's. Looks first where the last one was.
+// Returns the place of the first region that ends behind an address of the guest's.
 static size_t place_of(const struct memory *memory, uint64_t guest) {
-  static size_t last;
-  const struct region *hint = memory->regions + last;
-  if (last < memory->count && guest >= hint->guest && guest - hint->guest < hint->size) return last;
   size_t low = 0, high = memory->count;
   while (low < high) {
     size_t middle = (low + high) / 2;
@@ -53,7 +50,6 @@ static size_t place_of(const struct memory *memory, uint64_t guest) {
     if (guest >= region->guest && guest - region->guest >= region->size) low = middle + 1;
     else high = middle;
   }
-  last = low;
   return low;
 }
 
@@ -62,7 +58,7 @@ bool memory_add(struct memory *memory, uint64_t guest, uint64_t size, uint64_t u
   uint64_t end;
   if (memory->count == MOST_REGIONS || size == 0 || size > PTRDIFF_MAX / 2 || descriptor < 0) return false;
   if (guest % PAGE || user % PAGE || offset % PAGE) return false;
-  if (guest > UINT64_MAX - size || user > UINT64_MAX - size || __builtin_add_overflow(offset, size, &end) || end > INT64_MAX) return false;
+  if (size > MEMORY_END || guest > MEMORY_END - size || user > UINT64_MAX - size || __builtin_add_overflow(offset, size, &end) || end > INT64_MAX) return false;
   seal(descriptor);
   if (!is_in_file(descriptor, end)) return false;
   for (size_t i = 0; i < memory->count; i++) {
@@ -92,26 +88,40 @@ void memory_clear(struct memory *memory) {
   memory->count = 0;
 }
 
-bool memory_is_same(const struct memory *memory, const struct memory *other) {
-  if (memory->count != other->count) return false;
-  for (size_t i = 0; i < memory->count; i++) {
-    const struct region *a = &memory->regions[i], *b = &other->regions[i];
-    if (a->guest != b->guest || a->size != b->size || a->user != b->user) return false;
+bool memory_set_log(struct memory *memory, uint64_t size, uint64_t offset, int descriptor) {
+  struct region log = {.size = size};
+  uint64_t end;
+  if (descriptor >= 0) {
+    if (size == 0 || size > PTRDIFF_MAX / 2 || offset % PAGE || __builtin_add_overflow(offset, size, &end) || end > INT64_MAX) return false;
+    seal(descriptor);
+    if (!is_in_file(descriptor, end) || !map(&log, offset, descriptor)) return false;
   }
+  if (memory->log.map) munmap(memory->log.map, memory->log.mapped);
+  memory->log = log;
   return true;
 }
 
-uint64_t memory_run(const struct memory *memory, uint64_t guest, uint64_t count, uint8_t **at) {
-  const struct region *region = memory->regions + place_of(memory, guest);
-  bool is_last = region == memory->regions + memory->count, is_in = !is_last && guest >= region->guest;
-  uint64_t run = is_last ? count : is_in ? region->size - (guest - region->guest) : region->guest - guest;
-  *at = is_in ? region->at + (guest - region->guest) : NULL;
-  return run < count ? run : count;
+void memory_note(const struct memory *memory, uint64_t guest) {
+  uint64_t page = guest / PAGE;
+  if (memory->log.map && page / 8 < memory->log.size) __atomic_fetch_or(memory->log.at + page / 8, (uint8_t)(1u << page % 8), __ATOMIC_SEQ_CST);
+}
+
+bool memory_blank(const struct memory *memory, const void *at) {
+  for (size_t i = 0; i <= memory->count; i++) {
+    const struct region *region = i < memory->count ? &memory->regions[i] : &memory->log;
+    uintptr_t first = (uintptr_t)region->map;
+    if ((uintptr_t)at < first || (uintptr_t)at - first >= region->mapped) continue;
+    int flags = MAP_PRIVATE | MAP_ANONYMOUS | MAP_NORESERVE | MAP_FIXED;
+    return mmap(region->map, region->mapped, PROT_READ | PROT_WRITE, flags, -1, 0) != MAP_FAILED;
+  }
+  return false;
 }
 
 uint8_t *memory_at(const struct memory *memory, uint64_t guest, uint64_t count) {
-  uint8_t *at;
-  return memory_run(memory, guest, count, &at) == count ? at : NULL;
+  const struct region *region = memory->regions + place_of(memory, guest);
+  if (region == memory->regions + memory->count || guest < region->guest) return NULL;
+  uint64_t before = guest - region->guest;
+  return count <= region->size - before ? region->at + before : NULL;
 }
 
 bool memory_guest(const struct memory *memory, uint64_t user, uint64_t *guest) {
@@ -122,34 +132,4 @@ bool memory_guest(const struct memory *memory, uint64_t user, uint64_t *guest) {
     return true;
   }
   return false;
-}
-
-bool memory_has(const struct memory *memory, uint64_t guest, uint64_t count) {
-  while (count) {
-    uint8_t *at;
-    uint64_t here = memory_run(memory, guest, count, &at);
-    if (!at) return false;
-    guest += here;
-    count -= here;
-  }
-  return true;
-}
-
-bool memory_load(const struct memory *memory, uint64_t guest, void *into, size_t count) {
-  for (uint8_t *to = into; count;) {
-    uint8_t *at;
-    size_t here = (size_t)memory_run(memory, guest, count, &at);
-    if (!at) return false;
-    memcpy(to, at, here);
-    to += here;
-    guest += here;
-    count -= here;
-  }
-  return true;
-}
-
-uint64_t memory_end(const struct memory *memory) {
-  if (!memory->count) return 0;
-  const struct region *last = &memory->regions[memory->count - 1];
-  return last->guest + last->size;
 }

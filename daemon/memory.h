@@ -6,8 +6,13 @@
 #include <stddef.h>
 #include <stdint.h>
 
+#include "library.h"
+
 // How many regions a front end may give.
 enum { MOST_REGIONS = 509 };
+
+// Where a guest's memory ends at the latest. Behind it lies a page of the daemon's own.
+#define MEMORY_END (VSCSI_MOST_ADDRESS - VSCSI_PAGE)
 
 struct region {
   uint64_t guest, size, user;  // by the guest's addresses, and by the front end's own
@@ -16,14 +21,15 @@ struct region {
   size_t mapped;
 };
 
-// The regions stand in the order of the guest's addresses.
+// The regions stand in the order of the guest's addresses. `log` has a bit for each page of 4 KiB, from address 0 on, that was written.
 struct memory {
   struct region regions[MOST_REGIONS];
   size_t count;
+  struct region log;
 };
 
 // Maps a region and adds it, and asks that its file isn't made shorter. Doesn't close the descriptor. Returns false where the region
-// isn't aligned to pages, overlaps another, overflows, is longer than its file, or can't be mapped.
+// isn't aligned to pages, overlaps another, ends behind MEMORY_END, is longer than its file, or can't be mapped.
 bool memory_add(struct memory *memory, uint64_t guest, uint64_t size, uint64_t user, uint64_t offset, int descriptor);
 
 // Takes a region away. Returns false where none has these addresses and this size.
@@ -31,26 +37,21 @@ bool memory_remove(struct memory *memory, uint64_t guest, uint64_t size, uint64_
 
 void memory_clear(struct memory *memory);
 
-// Returns whether both have regions with the same addresses and sizes.
-bool memory_is_same(const struct memory *memory, const struct memory *other);
+// Puts zeros in the place of the region, or the log, that has this address of the daemon's. Returns false where none has. It may be called by a signal's
+// handler.
+bool memory_blank(const struct memory *memory, const void *at);
 
-// Returns how many of these bytes, of which there is one at least, stand together: in a region (then `at` says where) or outside all
-// (then it is NULL).
-uint64_t memory_run(const struct memory *memory, uint64_t guest, uint64_t count, uint8_t **at);
+// Maps so many bytes of a descriptor's file as the log, in place of the one there was, or none where the descriptor is below 0. Returns
+// false where it can't be.
+bool memory_set_log(struct memory *memory, uint64_t size, uint64_t offset, int descriptor);
+
+// Notes in the log, if there is one, that the page of an address was written.
+void memory_note(const struct memory *memory, uint64_t guest);
 
 // Returns where so many bytes of the guest stand here, or NULL where they aren't in one region.
 uint8_t *memory_at(const struct memory *memory, uint64_t guest, uint64_t count);
 
 // Finds the guest's address of one of the front end's own.
 bool memory_guest(const struct memory *memory, uint64_t user, uint64_t *guest);
-
-// Copies bytes of the guest, over regions that stand side by side too. Returns false where a byte is in none.
-bool memory_load(const struct memory *memory, uint64_t guest, void *into, size_t count);
-
-// Returns whether all these bytes are in regions.
-bool memory_has(const struct memory *memory, uint64_t guest, uint64_t count);
-
-// Returns the first address behind all regions.
-uint64_t memory_end(const struct memory *memory);
 
 #endif

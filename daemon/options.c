@@ -32,7 +32,6 @@ static const char usage[] =
     "      snapshot         never write the file; what the guest writes is lost at the end\n"
     "      detect-zeroes=unmap  zeros that the guest writes become holes of the file\n"
     "  --queues N           at most N request queues, 1 to 16\n"
-    "  --shadow             take shadow mode for every guest\n"
     "  --user NAME          run as this user once all is open\n"
     "  --group NAME         run as this group\n"
     "  --seccomp on|off     limit what the process may do; on is the default\n"
@@ -88,7 +87,7 @@ static bool take(struct options *options, struct disks *disks, int word, char *b
     case USER: return options->user = behind, true;
     case GROUP: return options->group = behind, true;
     case LOG: return options->log = behind, true;
-    case SHADOW: return options->shadow = true;
+    case SHADOW: return true;  // of older command lines: there are no modes any more
     case QUIET: return options->quiet = true;
     case SECCOMP: return seccomp(options, behind);
     case QUEUES:

@@ -4,6 +4,7 @@
 #include <unistd.h>
 
 #include "bytes.h"
+#include "rings.h"
 #include "session.h"
 
 enum { NO_DESCRIPTOR = 0x100 };
@@ -22,7 +23,6 @@ static void unwatch(struct session *session, struct session_queue *queue) {
 static void begin(struct session *session, unsigned q) {
   session->queues[q] = (struct session_queue){.kick = -1, .call = -1, .err = -1};
   session->backend.queues[q] = (struct backend_queue){0};
-  ring_begin(&session->backend.queues[q].ring);
 }
 
 void queues_begin(struct session *session) {
@@ -41,7 +41,6 @@ void queues_reset(struct session *session) {
   for (unsigned q = 0; q < session->backend.count; q++) {
     int call = session->queues[q].call, err = session->queues[q].err;
     unwatch(session, &session->queues[q]);
-    ring_drop(&session->backend.queues[q].ring);
     begin(session, q);
     session->queues[q].call = call;
     session->queues[q].err = err;
@@ -56,50 +55,60 @@ static bool named(const struct session *session, const struct message *message, 
   return *q < session->backend.count;
 }
 
-// Makes a queue's ring what the front end said of it. A ring that stands elsewhere than the device has it wants another device.
+// Makes a queue what the front end said of it.
 static bool find(struct session *session, unsigned q) {
-  struct session_queue *queue = &session->queues[q];
+  const struct session_queue *queue = &session->queues[q];
   struct backend *backend = &session->backend;
-  struct ring *ring = &backend->queues[q].ring;
-  backend->queues[q].ready = false;
-  if (!queue->addressed || !queue->started) return false;
-  ring->packed = session->features & VSCSI_F_RING_PACKED;
-  ring->event_index = session->features & VSCSI_F_EVENT_IDX;
-  ring->indirect = session->features & VSCSI_F_INDIRECT_DESC;
+  struct vscsi_ring *ring = &backend->queues[q].ring;
   ring->size = queue->size;
-  if (!memory_guest(&backend->memory, queue->desc, &ring->desc) || !memory_guest(&backend->memory, queue->driver, &ring->driver) ||
-      !memory_guest(&backend->memory, queue->device, &ring->device))
-    return false;
-  backend->queues[q].ready = ring_find(ring, &backend->memory);
+  backend->queues[q].ready = queue->addressed && memory_guest(&backend->memory, queue->desc, &ring->desc) &&
+                             memory_guest(&backend->memory, queue->driver, &ring->driver) &&
+                             memory_guest(&backend->memory, queue->device, &ring->device) && ring_find(backend, q);
   return backend->queues[q].ready;
 }
 
+// Returns whether a queue's areas lie by the guest's addresses where they lay.
+static bool stays(struct session *session, unsigned q) {
+  const struct session_queue *queue = &session->queues[q];
+  const struct vscsi_ring *ring = &session->backend.queues[q].ring;
+  uint64_t desc, driver, device;
+  bool is_there = memory_guest(&session->backend.memory, queue->desc, &desc) && memory_guest(&session->backend.memory, queue->driver, &driver) &&
+                  memory_guest(&session->backend.memory, queue->device, &device);
+  return !is_there || (desc == ring->desc && driver == ring->driver && device == ring->device);
+}
+
 void queues_find(struct session *session, bool breaks) {
-  for (unsigned q = 0; q < session->backend.count; q++)
-    if (session->queues[q].started && !find(session, q) && breaks) session->backend.queues[q].ring.broken = true;
+  struct backend *backend = &session->backend;
+  // The device has its queues where they lay when it was made.
+  for (unsigned q = 0; q < backend->count; q++)
+    if (session->queues[q].started && backend->device.live && !stays(session, q)) backend_end(backend);
+  bool is_whole = true;
+  for (unsigned q = 0; q < backend->count; q++) {
+    struct backend_queue *queue = &backend->queues[q];
+    bool is_lost = session->queues[q].started && !queue->fault && !find(session, q);
+    if (is_lost && breaks) queue->fault = VSCSI_BROKEN_UNMAPPED;
+    is_whole = is_whole && (!is_lost || breaks);
+  }
+  session->is_torn = !is_whole;
+  if (backend->device.live && is_whole) backend_map(backend);
+  session->more = true;
 }
 
 // Begins a ring where its base says.
 static bool start(struct session *session, unsigned q) {
   struct backend *backend = &session->backend;
   struct session_queue *queue = &session->queues[q];
-  struct ring *ring = &backend->queues[q].ring;
-  // The device of direct mode knows the queues that were there when it was made.
+  // The device knows the queues that were there when it was made.
   if (backend->device.live) backend_end(backend);
-  ring_begin(ring);
-  queue->started = true;
+  backend->packed = session->features & VSCSI_F_RING_PACKED;
+  backend->event_index = session->features & VSCSI_F_EVENT_IDX;
+  backend->indirect = session->features & VSCSI_F_INDIRECT_DESC;
+  backend->queues[q].fault = VSCSI_BROKEN_NOT;
   queue->told = false;
-  if (!find(session, q)) return queue->started = false;
-  // Above 65,535 stand the wrap counters of a packed ring.
-  if (!ring->packed && queue->base > UINT16_MAX) return backend->queues[q].ready = queue->started = false;
-  ring_set_base(ring, queue->base);
-  if (ring->packed && (ring->next >= ring->size || ring->used >= ring->size)) return backend->queues[q].ready = queue->started = false;
-  if (!ring->packed) ring->used = ring->told = (uint16_t)little_get(ring->device_at + 2, 2);
-  backend->packed = ring->packed;
-  backend->event_index = ring->event_index;
-  backend->indirect = ring->indirect;
+  queue->started = find(session, q) && ring_set_base(backend, q, queue->base);
+  backend->queues[q].ready = queue->started;
   session->more = true;
-  return true;
+  return queue->started;
 }
 
 bool queue_set_size(struct session *session, const struct message *message) {
@@ -122,7 +131,7 @@ bool queue_set_addresses(struct session *session, const struct message *message)
   if (q >= session->backend.count) return false;
   struct session_queue *queue = &session->queues[q];
   uint64_t desc = little_get(message->payload + 8, 8), device = little_get(message->payload + 16, 8), driver = little_get(message->payload + 24, 8);
-  // While it runs only a log of writes may change, and the daemon keeps none.
+  // While it runs only a log of writes may change, and the daemon has one for all.
   if (queue->started) return desc == queue->desc && driver == queue->driver && device == queue->device;
   queue->desc = desc;
   queue->driver = driver;
@@ -203,7 +212,7 @@ bool queue_get_base(struct session *session, const struct message *message) {
   struct session_queue *queue = &session->queues[q];
   struct backend *backend = &session->backend;
   if (backend->device.live) backend_end(backend);
-  if (queue->started) queue->base = ring_base(&backend->queues[q].ring);
+  if (queue->started) queue->base = ring_base(backend, q);
   unwatch(session, queue);
   queue->started = queue->enabled = backend->queues[q].ready = false;
   little_put(payload, q, 4);

@@ -15,13 +15,13 @@
 #include "log.h"
 #include "space.h"
 
-#define OFFERED ((VSCSI_ACCEPTED_FEATURES & ~VSCSI_F_CHANGE) | F_PROTOCOL_FEATURES)
+#define OFFERED ((VSCSI_ACCEPTED_FEATURES & ~VSCSI_F_CHANGE) | F_LOG_ALL | F_PROTOCOL_FEATURES)
 // What QEMU has a driver agree to by itself: events of disks that come, go or change (VIRTIO 1.2, 5.6.3). The device tells none of these.
 #define IGNORED (UINT64_C(1) << 1 | UINT64_C(1) << 2)
-#define OFFERED_PROTOCOL (P_MQ | P_REPLY_ACK | P_CONFIG | P_RESET_DEVICE | P_CONFIGURE_MEM_SLOTS)
+#define OFFERED_PROTOCOL (P_MQ | P_LOG_SHMFD | P_REPLY_ACK | P_CONFIG | P_RESET_DEVICE | P_CONFIGURE_MEM_SLOTS)
 
 // How many messages of a session are taken before others of the daemon's descriptors are looked at.
-enum { MOST_MESSAGES = 64, WHY = 200, REGION_BYTES = 32, SPACE_HEAD = 12, MOST_SPACE = 256 };
+enum { MOST_MESSAGES = 64, WHY = 200, REGION_BYTES = 32, LOG_BYTES = 16, SPACE_HEAD = 12, MOST_SPACE = 256 };
 
 // Milliseconds: how often it is said that a file can't be written, and a ring is looked at that has no kick; how long a session is
 // served before others of the daemon's descriptors are looked at, but for one round; and how long a session that ends has for a round.
@@ -36,7 +36,7 @@ static bool watch(int epoll, int fd, uint32_t what) {
   return fd >= 0 && !epoll_ctl(epoll, EPOLL_CTL_ADD, fd, &event);
 }
 
-bool session_begin(struct session *session, int socket, int epoll, struct disks *disks, unsigned request_queues, bool only_shadow, bool quiet) {
+bool session_begin(struct session *session, int socket, int epoll, struct disks *disks, unsigned request_queues, bool quiet) {
   memset(session, 0, sizeof *session);
   session->socket = socket;
   session->epoll = epoll;
@@ -44,9 +44,9 @@ bool session_begin(struct session *session, int socket, int epoll, struct disks 
   session->quiet = quiet;
   session->backend.disks = disks;
   session->backend.count = FIXED_QUEUES + request_queues;
-  session->backend.only_shadow = only_shadow;
   reader_begin(&session->reader);
   queues_begin(session);
+  guard_begin(&session->backend.memory);
   session->timer = timerfd_create(CLOCK_MONOTONIC, TFD_CLOEXEC | TFD_NONBLOCK);
   if (watch(epoll, session->timer, EVENT_TIMER) && watch(epoll, socket, EVENT_SOCKET)) return true;
   if (session->timer >= 0) close(session->timer);
@@ -61,13 +61,33 @@ static bool reply_number(const struct session *session, const struct message *me
   return protocol_reply(session->socket, message, payload, sizeof payload);
 }
 
+// Has the device note what it writes, or no more.
+static void note_log(struct session *session) {
+  struct backend *backend = &session->backend;
+  backend->logs = session->features & F_LOG_ALL && backend->memory.log.map;
+  if (backend->device.live && backend->mapped) backend_map(backend);
+}
+
+// Takes the memory of a log of writes, or has none where no descriptor comes with the message.
+static bool set_log(struct session *session, const struct message *message) {
+  uint64_t size = little_get(message->payload, 8), offset = little_get(message->payload + 8, 8);
+  if (message->size != LOG_BYTES || message->fd_count > 1) return false;
+  // The device has the old one until it is told.
+  session->backend.logs = false;
+  if (session->backend.device.live && session->backend.mapped) backend_map(&session->backend);
+  bool taken = memory_set_log(&session->backend.memory, size, offset, message->fd_count ? message->fds[0] : -1);
+  note_log(session);
+  return taken && reply_number(session, message, 0);
+}
+
 static bool set_features(struct session *session, const struct message *message) {
   uint64_t features = little_get(message->payload, 8);
   if (message->size != 8 || features & ~(OFFERED | IGNORED)) return false;
   // QEMU says them again when a log of writes begins or ends: the rings stand.
   for (unsigned q = 0; q < session->backend.count; q++)
-    if (session->queues[q].started && features != session->features) return false;
+    if (session->queues[q].started && (features ^ session->features) & ~F_LOG_ALL) return false;
   session->features = features;
+  note_log(session);
   return true;
 }
 
@@ -83,15 +103,6 @@ static bool add_region(struct memory *memory, const uint8_t *at, int fd) {
   return memory_add(memory, little_get(at, 8), little_get(at + 8, 8), little_get(at + 16, 8), little_get(at + 24, 8), fd);
 }
 
-// Goes on with memory that changed. The device of direct mode has the guest's memory and rings as they were; and chains whose answers
-// aren't shown yet lie where they lay. Both become available once more.
-static void find_rings(struct session *session, bool is_same, bool breaks) {
-  struct backend *backend = &session->backend;
-  if (backend->device.live && ((!backend->shadow && !is_same) || backend->phase != FETCHING)) backend_end(backend);
-  queues_find(session, breaks);
-  session->more = true;
-}
-
 static bool set_memory(struct session *session, const struct message *message) {
   struct memory memory = {0};
   struct backend *backend = &session->backend;
@@ -103,10 +114,11 @@ static bool set_memory(struct session *session, const struct message *message) {
     memory_clear(&memory);
     return false;
   }
-  bool is_same = memory_is_same(&memory, &backend->memory);
+  memory.log = backend->memory.log;
+  backend->mapped = false;
   memory_clear(&backend->memory);
   backend->memory = memory;
-  find_rings(session, is_same, true);
+  queues_find(session, true);
   return true;
 }
 
@@ -114,13 +126,12 @@ static bool change_memory(struct session *session, const struct message *message
   const uint8_t *at = message->payload + 8;
   struct backend *backend = &session->backend;
   if (message->size != 8 + REGION_BYTES) return false;
-  if (message->request == ADD_MEM_REG) {
-    if (message->fd_count != 1 || !add_region(&backend->memory, at, message->fds[0])) return false;
-  } else if (!memory_remove(&backend->memory, little_get(at, 8), little_get(at + 8, 8), little_get(at + 16, 8))) {
-    return false;
-  }
+  bool changed = message->request == ADD_MEM_REG ? message->fd_count == 1 && add_region(&backend->memory, at, message->fds[0])
+                                                 : memory_remove(&backend->memory, little_get(at, 8), little_get(at + 8, 8), little_get(at + 16, 8));
+  if (!changed) return false;
+  backend->mapped = false;
   // A ring whose region is taken away may come with the next one.
-  find_rings(session, false, false);
+  queues_find(session, false);
   return true;
 }
 
@@ -144,7 +155,7 @@ static bool get_config(const struct session *session, const struct message *mess
 // Whether the daemon knows this message, and whether it answers it itself: then there is no acknowledgement.
 static bool is_answered(uint32_t request) {
   return request == GET_FEATURES || request == GET_PROTOCOL_FEATURES || request == GET_QUEUE_NUM || request == GET_VRING_BASE ||
-         request == GET_CONFIG || request == GET_MAX_MEM_SLOTS;
+         request == GET_CONFIG || request == GET_MAX_MEM_SLOTS || request == SET_LOG_BASE;
 }
 
 static bool take(struct session *session, struct message *message) {
@@ -155,6 +166,8 @@ static bool take(struct session *session, struct message *message) {
     case RESET_OWNER:
     case RESET_DEVICE: return reset(session);
     case SET_MEM_TABLE: return set_memory(session, message);
+    case SET_LOG_BASE: return set_log(session, message);
+    case SET_LOG_FD: return true;  // the front end looks by itself
     case GET_MAX_MEM_SLOTS: return reply_number(session, message, MOST_REGIONS);
     case ADD_MEM_REG:
     case REM_MEM_REG: return change_memory(session, message);
@@ -195,27 +208,15 @@ static bool names_started(const struct session *session, const struct message *m
   return q < session->backend.count && session->queues[q].started;
 }
 
-// Returns whether a message has to wait, since it may end the device, or take away what a round's chains lie in. Answers that are held
-// are in the driver's memory, and in the rings: in shadow mode they stay behind memory that changes. A reset forgets them.
+// Returns whether a message has to wait, since it ends the device: what that has begun is answered before. A reset forgets it.
 static bool must_wait(const struct session *session, const struct message *message) {
-  const struct backend *backend = &session->backend;
-  bool is_busy = backend_is_busy(backend), is_in_round = is_busy && backend->phase != FETCHING;
-  switch (message->request) {
-    case GET_VRING_BASE: return is_busy;
-    case SET_VRING_KICK: return is_busy && !names_started(session, message);
-    case SET_MEM_TABLE:
-    case ADD_MEM_REG:
-    case REM_MEM_REG: return backend->shadow ? is_in_round : is_busy;
-    case RESET_OWNER:
-    case RESET_DEVICE: return is_in_round;
-    default: return false;
-  }
+  bool is_start = message->request == SET_VRING_KICK && !names_started(session, message);
+  return (message->request == GET_VRING_BASE || is_start) && backend_is_busy(&session->backend);
 }
 
 bool session_is_owed(const struct session *session) { return !session->messages || session->reader.have; }
 
-static bool read_on(void *with) {
-  struct session *session = with;
+static bool read_on(struct session *session) {
   // A front end that sends on and on has its rings served in between.
   for (unsigned i = 0; i < MOST_MESSAGES && !session->is_waiting; i++) {
     struct message message = {0};
@@ -235,14 +236,13 @@ static bool read_on(void *with) {
   return true;
 }
 
-// Makes a call that may look at the guest's memory. Where a front end took some of it away, its session ends.
-static bool guarded(struct session *session, bool (*call)(void *session)) {
-  bool stands = false;
-  if (!guard_run(call, session, &stands)) log_say(LOG_ERROR, NULL, "the session ends: the guest's memory became shorter");
+// Returns whether a session stands behind a call that looked at the guest's memory. Where a front end took some of it away, it ends.
+static bool is_whole(bool stands) {
+  if (stands && guard_found()) return log_say(LOG_ERROR, NULL, "the session ends: the guest's memory became shorter"), false;
   return stands;
 }
 
-bool session_read(struct session *session) { return guarded(session, read_on); }
+bool session_read(struct session *session) { return is_whole(read_on(session)); }
 
 // Adds to an event's count. A front end may have made its descriptor one that waits, so a count that is full is left alone: it hasn't
 // looked yet. Between the two calls none but that front end could fill it.
@@ -270,19 +270,24 @@ void session_kicked(struct session *session, unsigned what) {
   session->more = true;
   if (what == EVENT_TIMER && read(session->timer, &count, sizeof count) < 0) return;  // it was set anew meanwhile
   if (what >= session->backend.count || session->queues[what].kick < 0) return;
+  session->backend.kicked |= UINT32_C(1) << what;
   int kick = session->queues[what].kick;
   // No eventfd, or at its end.
   if (!drain(kick)) epoll_ctl(session->epoll, EPOLL_CTL_DEL, kick, NULL);
 }
 
 static void notify(struct session *session, uint32_t owed) {
+  for (unsigned q = 0; owed >> q; q++)
+    if (owed >> q & 1) signal_fd(session->queues[q].call);
+}
+
+// Tells of rings that are broken.
+static void tell_broken(struct session *session) {
   for (unsigned q = 0; q < session->backend.count; q++) {
     struct session_queue *queue = &session->queues[q];
-    if (owed >> q & 1) signal_fd(queue->call);
-    if (!queue->started || !session->backend.queues[q].ring.broken || queue->told) continue;
-    char why[WHY];
-    snprintf(why, sizeof why, "queue %u", q);
-    say(session, "the guest broke a ring", why);
+    uint32_t fault = session->backend.queues[q].fault;
+    if (!queue->started || !fault || queue->told) continue;
+    if (!session->quiet) log_say(LOG_NOTE, NULL, "queue %u is broken: %s", q, vscsi_broken_text(fault));
     signal_fd(queue->err);
     queue->told = true;
   }
@@ -333,7 +338,7 @@ static enum served make_device(struct session *session, uint32_t queues, char *w
   struct backend *backend = &session->backend;
   if (!backend_has(backend, queues)) return SERVED;
   enum served begun = backend_begin(backend, why, room);
-  if (begun == MORE) say(session, "a device", backend->shadow ? "shadow mode" : "direct mode");
+  if (begun == MORE) say(session, "a device", backend->packed ? "packed rings" : "split rings");
   if (begun == LATER && *why) log_say(LOG_ERROR, NULL, "%s; it is tried again", why);
   return begun;
 }
@@ -341,6 +346,7 @@ static enum served make_device(struct session *session, uint32_t queues, char *w
 // Says how a session that was served goes on. Returns false where it has to end.
 static bool note_served(struct session *session, enum served served, const char *why) {
   tell_files(session);
+  tell_broken(session);
   if (served == FAILED) return log_say(LOG_ERROR, NULL, "the session ends: %s", why), false;
   session->more = served == MORE || served == BUSY;
   set_next(session, served);
@@ -361,46 +367,49 @@ static bool stop(struct session *session) {
   return finish(session, &session->waiting) && read_on(session);
 }
 
-static bool serve(void *with) {
-  struct session *session = with;
+static bool serve(struct session *session) {
   struct backend *backend = &session->backend;
   char why[WHY] = "";
-  uint32_t queues = 0, owed = 0;
+  uint32_t queues = 0;
   if (session->is_waiting) return stop(session);
-  for (unsigned q = 0; q < backend->count; q++)
-    if (session->queues[q].started && session->queues[q].enabled) queues |= UINT32_C(1) << q;
   session->more = false;
+  if (session->is_torn) return true;
+  for (unsigned q = 0; q < backend->count; q++) {
+    const struct session_queue *queue = &session->queues[q];
+    if (!queue->started || !queue->enabled) continue;
+    queues |= UINT32_C(1) << q;
+    if (queue->kick < 0) backend->kicked |= UINT32_C(1) << q;
+  }
   enum served served = backend->device.live ? MORE : make_device(session, queues, why, sizeof why);
-  uint64_t until = clock_now() + LONGEST;
-  for (unsigned i = 0; served == MORE && (!i || clock_now() < until); i++) {
-    owed = 0;
-    served = backend_serve(backend, queues, &owed, why, sizeof why);
+  for (uint64_t until = 0; served == MORE;) {
+    uint32_t owed = 0;
+    served = backend_serve(backend, queues, &owed);
     notify(session, owed);
+    if (served == MORE && !until) until = clock_now() + LONGEST;
+    else if (served == MORE && clock_now() >= until) break;
   }
   return note_served(session, served, why);
 }
 
-bool session_serve(struct session *session) { return guarded(session, serve); }
+bool session_serve(struct session *session) { return is_whole(serve(session)); }
 
 // Answers what the device has run: a front end that comes back goes on behind it.
-static bool leave(void *with) {
-  struct session *session = with;
+static void leave(struct session *session) {
   char why[WHY] = "";
   uint32_t owed = 0;
   uint64_t begun = clock_now();
   enum served served = BUSY;
   while (served == BUSY && clock_now() - begun < LEAVING) served = backend_stop(&session->backend, 0, &owed, why, sizeof why);
-  if (served == BUSY || served == LATER) served = backend_stop(&session->backend, UINT64_MAX, &owed, why, sizeof why);
   notify(session, owed);
-  return served == SERVED;
 }
 
 void session_end(struct session *session) {
-  bool left;
-  if (backend_is_busy(&session->backend)) guard_run(leave, session, &left);
+  if (backend_is_busy(&session->backend)) leave(session);
   backend_end(&session->backend);
   queues_end(session);
   memory_clear(&session->backend.memory);
+  memory_set_log(&session->backend.memory, 0, 0, -1);
+  guard_begin(NULL);
   reader_end(&session->reader);
   if (session->is_waiting) message_close(&session->waiting);
   session->is_waiting = false;

@@ -23,6 +23,7 @@ struct session {
   uint64_t features, protocol;
   uint64_t messages;  // that came
   bool more, quiet;
+  bool is_torn;            // a ring's memory is gone, and may come again
   int timer;               // by which a round that has to wait is tried again
   struct message waiting;  // a message that has to wait for the requests that the device has run to be answered, and since when
   bool is_waiting;
@@ -33,7 +34,7 @@ struct session {
 enum { EVENT_SOCKET = 1000, EVENT_TIMER = 1001 };
 
 // Begins over a connected socket, which is the session's from then on. Returns false, without it, where epoll doesn't take it.
-bool session_begin(struct session *session, int socket, int epoll, struct disks *disks, unsigned request_queues, bool only_shadow, bool quiet);
+bool session_begin(struct session *session, int socket, int epoll, struct disks *disks, unsigned request_queues, bool quiet);
 
 // Lets go of all that the front end gave. The disks stay.
 void session_end(struct session *session);
@@ -60,8 +61,8 @@ bool queue_set_call(struct session *session, struct message *message);
 bool queue_set_err(struct session *session, struct message *message);
 bool queue_get_base(struct session *session, const struct message *message);
 
-// Looks for the areas of all started rings in the guest's memory, after it changed. Where one isn't there the ring breaks, or, where
-// `breaks` is false, isn't served until it is there again.
+// Looks for the areas of all started rings in the guest's memory, after it changed, and has the device work in it. Where one isn't there
+// the ring breaks, or, where `breaks` is false, none is served until it is there again.
 void queues_find(struct session *session, bool breaks);
 void queues_begin(struct session *session);
 void queues_end(struct session *session);

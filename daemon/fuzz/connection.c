@@ -44,7 +44,6 @@ struct way way_take(struct input *input) {
   return (struct way){.packed = bits & 1,
                       .event_index = bits & 2,
                       .indirect = bits & 4,
-                      .shadow = bits & 8,
                       .far = bits & 16,
                       .file = bits & 32,
                       .size = bits & 1 ? packed[size] : split[size]};
@@ -117,7 +116,7 @@ void connection_begin(struct connection *connection, struct way way) {
     connection->err[q] = eventfd(0, EFD_NONBLOCK | EFD_CLOEXEC);
   }
   unsigned requests = QUEUES - FIXED_QUEUES;
-  connection->alive = session_begin(&connection->session, pair[1], connection->epoll, &connection->disks, requests, way.shadow, true);
+  connection->alive = session_begin(&connection->session, pair[1], connection->epoll, &connection->disks, requests, true);
   must(connection->alive, "no session");
 }
 
@@ -174,10 +173,10 @@ static void take_replies(struct connection *connection) {
 static uint64_t done(const struct session *session) {
   const struct backend *backend = &session->backend;
   const struct mark *written = &backend->disks->disks[0].backlog.written;
-  uint64_t count = session->messages + session->reader.have + backend->phase + backend->steps + written->range + written->done;
+  uint64_t count = session->messages + session->reader.have + backend->phase + backend->all_steps + written->range + written->done;
   for (unsigned q = 0; q < backend->count; q++) {
     const struct backend_queue *queue = &backend->queues[q];
-    count += queue->taken + queue->used + queue->ring.next + queue->ring.used + queue->ring.outstanding + queue->ring.broken + queue->ready;
+    count += queue->ring.first.available + queue->index + queue->fault + queue->ready;
   }
   return count;
 }

@@ -1,7 +1,6 @@
 #include "driver.h"
 
 #include "../bytes.h"
-#include "../chain.h"
 
 void driver_begin(struct driver *driver, struct way way) {
   *driver = (struct driver){.way = way};

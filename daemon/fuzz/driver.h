@@ -7,6 +7,9 @@
 // Places of the guest's memory, behind the rings: heads and responses of requests, tables, and data.
 enum { HEADS = 0x30000, TABLES = 0x40000, DATA = HALF, HEAD_ROOM = 0x100, RESPONSE_AT = 0x80, MOST_PARTS = 8 };
 
+// Flags of descriptors, their bytes, and those of a request's head and of its response.
+enum { FLAG_NEXT = 1, FLAG_WRITE = 2, FLAG_INDIRECT = 4, FLAG_AVAILABLE = 0x80, FLAG_USED = 0x8000, HEAD = 51, RESPONSE = 108 };
+
 struct part {
   uint64_t addr;
   uint32_t length;

@@ -5,7 +5,6 @@
 #include <unistd.h>
 
 #include "../bytes.h"
-#include "../chain.h"
 #include "race.h"
 #include "requests.h"
 #include "sent.h"

@@ -47,8 +47,8 @@ ssize_t __real_pwrite(int fd, const void *bytes, size_t count, off_t offset);
 int __real_fdatasync(int fd);
 int __real_fallocate(int fd, int mode, off_t offset, off_t size);
 int __real_clock_gettime(clockid_t clock, struct timespec *now);
-enum vscsi_answer __real_vscsi_serve(struct vscsi *device, uint32_t queues, uint64_t most, uint64_t *steps, bool *more);
-enum vscsi_answer __real_vscsi_create_with(struct vscsi *device, const struct vscsi_config *config, struct vscsi_disk *disks,
+enum vscsi_answer __real_vscsi_live_serve(struct vscsi_live *device, uint32_t queues, uint64_t most, uint64_t *steps, bool *more);
+enum vscsi_answer __real_vscsi_live_create(struct vscsi_live *device, const struct vscsi_live_config *config, struct vscsi_disk *disks,
                                            struct vscsi_fault *fault);
 void *__real_calloc(size_t count, size_t size);
 void *__real_realloc(void *at, size_t size);
@@ -64,8 +64,8 @@ ssize_t __wrap_pwrite(int fd, const void *bytes, size_t count, off_t offset);
 int __wrap_fdatasync(int fd);
 int __wrap_fallocate(int fd, int mode, off_t offset, off_t size);
 int __wrap_clock_gettime(clockid_t clock, struct timespec *now);
-enum vscsi_answer __wrap_vscsi_serve(struct vscsi *device, uint32_t queues, uint64_t most, uint64_t *steps, bool *more);
-enum vscsi_answer __wrap_vscsi_create_with(struct vscsi *device, const struct vscsi_config *config, struct vscsi_disk *disks,
+enum vscsi_answer __wrap_vscsi_live_serve(struct vscsi_live *device, uint32_t queues, uint64_t most, uint64_t *steps, bool *more);
+enum vscsi_answer __wrap_vscsi_live_create(struct vscsi_live *device, const struct vscsi_live_config *config, struct vscsi_disk *disks,
                                            struct vscsi_fault *fault);
 
 static size_t pages(size_t size) { return (size + PAGE - 1) / PAGE * PAGE; }
@@ -175,13 +175,13 @@ void __wrap_free(void *at) {
 void *__wrap_calloc(size_t count, size_t size) { return is_refused(&refusals.allocations, ENOMEM) ? NULL : __real_calloc(count, size); }
 void *__wrap_realloc(void *at, size_t size) { return is_refused(&refusals.allocations, ENOMEM) ? NULL : __real_realloc(at, size); }
 
-enum vscsi_answer __wrap_vscsi_serve(struct vscsi *device, uint32_t queues, uint64_t most, uint64_t *steps, bool *more) {
-  return is_refused(&refusals.serves, ENOMEM) ? VSCSI_NO_MEMORY : __real_vscsi_serve(device, queues, most, steps, more);
+enum vscsi_answer __wrap_vscsi_live_serve(struct vscsi_live *device, uint32_t queues, uint64_t most, uint64_t *steps, bool *more) {
+  return is_refused(&refusals.serves, ENOMEM) ? VSCSI_NO_MEMORY : __real_vscsi_live_serve(device, queues, most, steps, more);
 }
 
-enum vscsi_answer __wrap_vscsi_create_with(struct vscsi *device, const struct vscsi_config *config, struct vscsi_disk *disks,
+enum vscsi_answer __wrap_vscsi_live_create(struct vscsi_live *device, const struct vscsi_live_config *config, struct vscsi_disk *disks,
                                            struct vscsi_fault *fault) {
-  return is_refused(&refusals.serves, ENOMEM) ? VSCSI_NO_MEMORY : __real_vscsi_create_with(device, config, disks, fault);
+  return is_refused(&refusals.serves, ENOMEM) ? VSCSI_NO_MEMORY : __real_vscsi_live_create(device, config, disks, fault);
 }
 
 void system_begin(void) {

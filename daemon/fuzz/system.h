@@ -7,7 +7,7 @@
 
 struct refusals {
   unsigned taken, writes;  // so many writes of files are taken, and so many behind them refused; fdatasync counts as one
-  unsigned serves;         // so many calls of vscsi_serve or vscsi_create_with are refused memory
+  unsigned serves;         // so many calls of vscsi_live_serve or vscsi_live_create are refused memory
   unsigned allocations;    // and so many calls of calloc and realloc
 };
 

@@ -9,7 +9,7 @@
 static const uint8_t write_10[] = {0x2a, 0, 0, 0, 0, 3, 0, 0, 16, 0}, read_10[] = {0x28, 0, 0, 0, 0, 3, 0, 0, 16, 0}, ready[] = {0, 0, 0, 0, 0, 0};
 
 // Places of the guest's memory: of a request, of its response, and of data.
-enum { REQUEST = 0x202000, ANSWER = 0x202400, ROOM = 0x300000, BYTES = 16 * 512, WAYS = 32, Q = 2 };
+enum { REQUEST = 0x202000, ANSWER = 0x202400, ROOM = 0x300000, BYTES = 16 * 512, Q = 2 };
 enum { LONG_TABLE = 8250, SHARED_TABLE = 24000, TABLE_AT = 0x1a0000, QUERY_TASK_SET = 7 };
 
 static void begin(struct front *front, struct disks *disks, unsigned number) {
@@ -25,9 +25,7 @@ static void end(struct front *front, struct disks *disks) {
   disks_close(disks);
 }
 
-static bool is_direct(const struct front *front) { return !front->way.shadow && !front->way.far; }
-
-static bool is_broken(const struct front *front) { return front->alive && front->session.backend.queues[Q].ring.broken; }
+static bool is_broken(const struct front *front) { return front->alive && front->session.backend.queues[Q].fault; }
 
 // Runs a chain of a request whose head and response are parts of it. Returns the status, or -1 where there was no answer.
 static int run(struct front *front, const uint8_t *block, size_t length, const struct part *parts, unsigned count) {
@@ -59,7 +57,7 @@ void test_events(void) {
     // No task is in the set: the function is complete.
     MUST(driver_take(&front, 0, &length) && length == 1 && front.memory[ANSWER] == 0);
     MUST(!driver_take(&front, EVENT_QUEUE, &length));
-    MUST(!front.session.backend.queues[EVENT_QUEUE].ring.broken);
+    MUST(!front.session.backend.queues[EVENT_QUEUE].fault);
     end(&front, &disks);
   }
 }
@@ -90,30 +88,29 @@ void test_totals(void) {
     MUST(out || command(&front, Q, write_10, sizeof write_10, data, BYTES, NULL, 0) == 0);
     if (out) memcpy(front.memory + ROOM, data, BYTES);
     int status = run(&front, out ? write_10 : read_10, sizeof read_10, parts, fill(parts, UINT64_C(1) << 32, out));
-    // Shadow mode breaks the queue for far fewer bytes.
-    MUST(front.alive && status == (is_direct(&front) ? 0 : -1) && is_broken(&front) == !is_direct(&front));
-    if (is_direct(&front)) {
-      uint8_t found[BYTES];
-      if (!out) MUST(!memcmp(front.memory + ROOM, data, BYTES));
-      MUST(command(&front, 3, read_10, sizeof read_10, NULL, 0, found, BYTES) == 0 && !memcmp(found, data, BYTES));
-      MUST(run(&front, ready, sizeof ready, parts, fill(parts, (UINT64_C(1) << 32) + 1, out)) == -1 && is_broken(&front));
-    }
+    uint8_t found[BYTES];
+    MUST(front.alive && status == 0);
+    if (!out) MUST(!memcmp(front.memory + ROOM, data, BYTES));
+    MUST(command(&front, 3, read_10, sizeof read_10, NULL, 0, found, BYTES) == 0 && !memcmp(found, data, BYTES));
+    MUST(run(&front, ready, sizeof ready, parts, fill(parts, (UINT64_C(1) << 32) + 1, out)) == -1 && is_broken(&front));
     MUST(command(&front, 4, ready, sizeof ready, NULL, 0, NULL, 0) == 0);
     end(&front, &disks);
   }
 }
 
-void test_empty(void) {
+void test_holes(void) {
   for (unsigned number = 0; number < WAYS; number++) {
-    struct part parts[] = {{REQUEST, HEAD, false}, {ANSWER, RESPONSE, true}, {GUEST_BYTES + 0x100, 0, true}};
     struct disks disks;
     struct front front;
+    uint8_t found[BYTES], zeros[BYTES] = {0};
+    const uint64_t hole = number % 2 ? UINT64_C(1) << 45 : GUEST_BYTES + 0x100;
+    const struct part in[] = {{REQUEST, HEAD, false}, {ANSWER, RESPONSE, true}, {hole, BYTES, true}};
+    const struct part out[] = {{REQUEST, HEAD, false}, {hole, BYTES, false}, {ANSWER, RESPONSE, true}};
     begin(&front, &disks, number);
-    MUST(run(&front, ready, sizeof ready, parts, 3) == 0 && front.alive);
-    parts[2].length = 1;
-    MUST(run(&front, ready, sizeof ready, parts, 3) == -1);
-    // There direct mode has a page of its own, which no guest may write.
-    MUST(is_direct(&front) ? !front.alive : is_broken(&front));
+    memset(found, 0x5a, sizeof found);
+    MUST(command(&front, Q, write_10, sizeof write_10, found, BYTES, NULL, 0) == 0);
+    MUST(run(&front, read_10, sizeof read_10, in, 3) == 0 && run(&front, write_10, sizeof write_10, out, 3) == 0);
+    MUST(command(&front, Q, read_10, sizeof read_10, NULL, 0, found, BYTES) == 0 && !memcmp(found, zeros, BYTES));
     end(&front, &disks);
   }
 }
@@ -146,8 +143,7 @@ void test_tables(void) {
     // A part for each byte.
     for (unsigned i = 2; i < LONG_TABLE; i++) parts[i] = (struct part){ROOM + i - 2, 1, true};
     int status = run(&front, read_10, sizeof read_10, parts, LONG_TABLE);
-    MUST(front.alive && status == (is_direct(&front) ? 0 : -1) && is_broken(&front) == !is_direct(&front));
-    MUST(!is_direct(&front) || !memcmp(front.memory + ROOM, data, BYTES));
+    MUST(front.alive && status == 0 && !memcmp(front.memory + ROOM, data, BYTES));
     MUST(command(&front, 4, ready, sizeof ready, NULL, 0, NULL, 0) == 0);
     end(&front, &disks);
   }
@@ -165,22 +161,19 @@ void test_shared(void) {
   parts[0] = (struct part){REQUEST, HEAD, false};
   parts[1] = (struct part){ANSWER, RESPONSE, true};
   for (unsigned i = 2; i < SHARED_TABLE; i++) parts[i] = (struct part){ROOM, 1, true};
-  for (unsigned number = 4; number < 8; number++) {
+  for (unsigned number = 0; number < WAYS; number++) {
     struct disks disks;
     struct front front;
+    uint32_t length;
+    if (!way_of(number).indirect) continue;
     begin(&front, &disks, number);
     // This one writes the table.
     MUST(run(&front, ready, sizeof ready, parts, SHARED_TABLE) == 0);
-    // 21 times this table fits into 8 MiB, and 24 times doesn't. Tables of chains that were given back don't count.
-    for (unsigned turn = 1; turn <= 3; turn++) {
-      share(&front, 7);
-      for (unsigned q = Q; q < QUEUES; q++) {
-        const struct backend_queue *queue = &front.session.backend.queues[q];
-        MUST(front.alive && queue->used == 7 * turn + (q == Q) && queue->ring.outstanding == 0 && !queue->ring.broken);
-      }
+    for (unsigned turn = 0; turn < 3; turn++) {
+      share(&front, 8);
+      for (unsigned i = 0; i < 24; i++) MUST(driver_next(&front, Q + i % 3, 1, &length) && length >= RESPONSE);
     }
-    share(&front, 8);
-    MUST(!front.alive);
+    MUST(front.alive && !is_broken(&front));
     end(&front, &disks);
   }
 }

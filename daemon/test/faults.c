@@ -97,32 +97,25 @@ int __wrap_snprintf(char *into, size_t room, const char *format, ...) {
   return length;
 }
 
-enum vscsi_answer __real_vscsi_poke(struct vscsi *device, uint64_t addr, const void *bytes, size_t count);
-enum vscsi_answer __wrap_vscsi_poke(struct vscsi *device, uint64_t addr, const void *bytes, size_t count);
-
-enum vscsi_answer __wrap_vscsi_poke(struct vscsi *device, uint64_t addr, const void *bytes, size_t count) {
-  if (costs.counts) costs.poked += count;
-  return __real_vscsi_poke(device, addr, bytes, count);
-}
-
-enum vscsi_answer __real_vscsi_create_with(struct vscsi *device, const struct vscsi_config *config, struct vscsi_disk *disks,
+enum vscsi_answer __real_vscsi_live_create(struct vscsi_live *device, const struct vscsi_live_config *config, struct vscsi_disk *disks,
                                            struct vscsi_fault *fault);
-enum vscsi_answer __wrap_vscsi_create_with(struct vscsi *device, const struct vscsi_config *config, struct vscsi_disk *disks,
+enum vscsi_answer __wrap_vscsi_live_create(struct vscsi_live *device, const struct vscsi_live_config *config, struct vscsi_disk *disks,
                                            struct vscsi_fault *fault);
 
-enum vscsi_answer __wrap_vscsi_create_with(struct vscsi *device, const struct vscsi_config *config, struct vscsi_disk *disks,
+enum vscsi_answer __wrap_vscsi_live_create(struct vscsi_live *device, const struct vscsi_live_config *config, struct vscsi_disk *disks,
                                            struct vscsi_fault *fault) {
   if (faults.creations) return faults.creations--, VSCSI_NO_MEMORY;
-  return __real_vscsi_create_with(device, config, disks, fault);
+  return __real_vscsi_live_create(device, config, disks, fault);
 }
 
-enum vscsi_answer __real_vscsi_serve(struct vscsi *device, uint32_t queues, uint64_t most, uint64_t *steps, bool *more);
-enum vscsi_answer __wrap_vscsi_serve(struct vscsi *device, uint32_t queues, uint64_t most, uint64_t *steps, bool *more);
+enum vscsi_answer __real_vscsi_live_serve(struct vscsi_live *device, uint32_t queues, uint64_t most, uint64_t *steps, bool *more);
+enum vscsi_answer __wrap_vscsi_live_serve(struct vscsi_live *device, uint32_t queues, uint64_t most, uint64_t *steps, bool *more);
 
-enum vscsi_answer __wrap_vscsi_serve(struct vscsi *device, uint32_t queues, uint64_t most, uint64_t *steps, bool *more) {
+enum vscsi_answer __wrap_vscsi_live_serve(struct vscsi_live *device, uint32_t queues, uint64_t most, uint64_t *steps, bool *more) {
   if (faults.refusals) return faults.refusals--, VSCSI_NO_MEMORY;
+  costs.calls += costs.counts;
   is_serving = true;
-  enum vscsi_answer answer = __real_vscsi_serve(device, queues, most, steps, more);
+  enum vscsi_answer answer = __real_vscsi_live_serve(device, queues, most, steps, more);
   is_serving = false;
   *more = *more || faults.endless;
   if (faults.endless) usleep(100);

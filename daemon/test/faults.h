@@ -1,5 +1,5 @@
 // Files that can't be written, memory that is refused, and time that passes: the tests' own pwrite, fdatasync, clock_gettime,
-// vscsi_serve and vscsi_create_with, which fail where they are told to. And what serving costs. Calls of the library's, of malloc and the
+// vscsi_live_serve and vscsi_live_create, which fail where they are told to. And what serving costs. Calls of the library's, of malloc and the
 // like and of snprintf come here by the linker's word --wrap.
 #ifndef DAEMON_TEST_FAULTS_H
 #define DAEMON_TEST_FAULTS_H
@@ -14,10 +14,10 @@ struct faults {
   unsigned writes;      // that go well before that
   int sync_error;       // by which fdatasync fails, or 0; then what was written since it last went well is garbage
   unsigned bad_syncs;   // how many fail
-  unsigned refusals;    // how many calls of vscsi_serve are refused memory
-  unsigned creations;   // and how many of vscsi_create_with
+  unsigned refusals;    // how many calls of vscsi_live_serve are refused memory
+  unsigned creations;   // and how many of vscsi_live_create
   size_t most;          // the most bytes that realloc gives the daemon, or 0 where it gives any
-  bool endless;         // vscsi_serve says that something is left
+  bool endless;         // vscsi_live_serve says that something is left
   unsigned slow;        // microseconds that pwrite takes
   uint64_t bytes;       // that pwrite wrote
   unsigned passed;      // seconds that passed besides, which faults_clear leaves alone
@@ -25,11 +25,10 @@ struct faults {
 
 extern struct faults faults;
 
-// What was done outside of vscsi_serve, for as long as `counts` is true.
+// What was done outside of vscsi_live_serve, for as long as `counts` is true.
 struct costs {
   bool counts;
-  unsigned allocations, texts;
-  uint64_t poked;  // bytes that were copied into the device's memory
+  unsigned allocations, texts, calls;  // the last of the library's
 };
 
 extern struct costs costs;

@@ -10,7 +10,6 @@
 #include <unistd.h>
 
 #include "../bytes.h"
-#include "../chain.h"
 
 enum { AREA = 0x10000, DATA = 0x200000, TABLES = 0x180000, MOST_EVENTS = 32 };
 
@@ -20,7 +19,7 @@ void fail(const char *file, int line, const char *what) {
 }
 
 struct way way_of(unsigned number) {
-  return (struct way){.packed = number & 1, .event_index = number & 2, .indirect = number & 4, .shadow = number & 8, .far = number & 16};
+  return (struct way){.packed = number & 1, .event_index = number & 2, .indirect = number & 4, .far = number & 8};
 }
 
 uint64_t place_of(unsigned q, unsigned part) { return (uint64_t)AREA * (q + 1) + (uint64_t)0x4000 * part; }
@@ -51,7 +50,7 @@ void front_begin_sized(struct front *front, struct disks *disks, struct way way,
     front->err[q] = eventfd(0, EFD_NONBLOCK | EFD_CLOEXEC);
     front->queues[q] = (struct driver_queue){.next_wrap = true, .seen_wrap = true};
   }
-  front->alive = session_begin(&front->session, pair[1], front->epoll, disks, QUEUES - FIXED_QUEUES, way.shadow, true);
+  front->alive = session_begin(&front->session, pair[1], front->epoll, disks, QUEUES - FIXED_QUEUES, true);
   MUST(front->alive);
 }
 
@@ -230,7 +229,7 @@ void front_agree(struct front *front) {
     MUST(front->alive);
     size_t length = front_reply(front, payload, sizeof payload);
     uint32_t request = (uint32_t)little_get(sent[i].bytes, 4);
-    if (request == GET_FEATURES) MUST(little_get(payload, 8) == ((VSCSI_ACCEPTED_FEATURES & ~VSCSI_F_CHANGE) | F_PROTOCOL_FEATURES));
+    if (request == GET_FEATURES) MUST(little_get(payload, 8) == ((VSCSI_ACCEPTED_FEATURES & ~VSCSI_F_CHANGE) | F_LOG_ALL | F_PROTOCOL_FEATURES));
     else if (request == GET_QUEUE_NUM) MUST(little_get(payload, 8) == QUEUES);
     else if (request == GET_CONFIG) MUST(length == 48 && little_get(payload + 12, 4) == QUEUES - 2 && little_get(payload + 12 + 24, 4) == 32);
     else if (request != GET_PROTOCOL_FEATURES && i > 2) MUST(length == 8 && little_get(payload, 8) == 0);

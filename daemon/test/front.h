@@ -6,12 +6,16 @@
 
 enum { GUEST_BYTES = 8 << 20, HALF = GUEST_BYTES / 2, SIZE = 16, QUEUES = 5, USER = 0x7000000, FAR_USER = 0x70000000 };
 
+// Flags of descriptors, and the bytes of a request's head and of its response.
+enum { FLAG_NEXT = 1, FLAG_WRITE = 2, FLAG_INDIRECT = 4, FLAG_AVAILABLE = 0x80, FLAG_USED = 0x8000, HEAD = 51, RESPONSE = 108 };
+
 // How a session is: which form its rings have and which features, and how the guest's memory lies.
 struct way {
-  bool packed, event_index, indirect, shadow, far;
+  bool packed, event_index, indirect, far;
 };
 
-// Returns the way with this number, 0 to 31.
+// Returns the way with this number, 0 to 15.
+enum { WAYS = 16 };
 struct way way_of(unsigned number);
 
 struct driver_queue {

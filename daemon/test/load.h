@@ -5,8 +5,8 @@
 #include "front.h"
 
 // The bytes of a request's data; how many requests there are, and one more behind them; between the first blocks of two WRITEs; a queue;
-// how many ways of a session; and milliseconds that nothing takes.
-enum { BUFFER = 0x1000, MANY = 120, APART = 1000003, Q = 2, WAYS = 16, PATIENCE = 60000 };
+// and milliseconds that nothing takes.
+enum { BUFFER = 0x1000, MANY = 120, APART = 1000003, Q = 2, PATIENCE = 60000 };
 
 // Where the files are.
 extern char paths[2][40];

@@ -29,7 +29,7 @@ void test_turns(void);
 // Task management behind WRITEs that weren't fetched.
 void test_order_of_control(void);
 
-// What a request costs beside the device: no memory, no text, and far fewer bytes than its ring has.
+// What a request costs beside the device: no memory and no text.
 void test_costs(void);
 
 #endif

@@ -7,14 +7,13 @@
 #include <unistd.h>
 
 #include "../bytes.h"
-#include "../chain.h"
 #include "../clock.h"
 #include "faults.h"
 #include "front.h"
 
 static const uint8_t ready[6] = {0}, write_10[] = {0x2a, 0, 0, 0, 0, 3, 0, 0, 1, 0}, read_10[] = {0x28, 0, 0, 0, 0, 3, 0, 0, 1, 0};
 
-enum { WAYS = 32, PAGE = 4096, MOST_SENT = 64, PATIENCE = 10000, FIRST_OF_RINGS = 8 };
+enum { PAGE = 4096, MOST_SENT = 64, PATIENCE = 10000, FIRST_OF_RINGS = 8 };
 
 static void begin(struct front *front, struct disks *disks, unsigned number) {
   char why[200];
@@ -53,10 +52,10 @@ void test_moved(void) {
       continue;
     }
     front_agree(&front);
-    MUST(write_block(&front) && front.session.backend.shadow == front.way.shadow);
+    MUST(write_block(&front));
     // The same regions once more change nothing.
     front_table(&front, &sent, (struct area[]){front_half(&front, 1), front_half(&front, 0)}, 2);
-    MUST(front_ask(&front, &sent) && is_ready(&front, 2) && front.session.backend.shadow == front.way.shadow);
+    MUST(front_ask(&front, &sent) && is_ready(&front, 2));
     front.swapped = true;
     front_table(&front, &sent, (struct area[]){front_half(&front, 0), front_half(&front, 1)}, 2);
     MUST(front_ask(&front, &sent));
@@ -146,17 +145,18 @@ void test_regions(void) {
       front_region(&front, &sent, ADD_MEM_REG, it);
       MUST(front_ask(&front, &sent) == tries[i].taken);
     }
-    // No region ends behind the last address, of the guest's or of the front end's own.
+    // No region ends behind the last page that a guest may have, or behind the last of the front end's own addresses.
     for (uint64_t size = PAGE; size <= 2 * PAGE; size += PAGE) {
+      front_region(&front, &sent, ADD_MEM_REG, (struct area){MEMORY_END + PAGE - size, size, UINT64_C(1) << 62, 0});
+      MUST(!front_ask(&front, &sent));
       front_region(&front, &sent, ADD_MEM_REG, (struct area){UINT64_C(0) - PAGE, size, UINT64_C(1) << 62, 0});
       MUST(!front_ask(&front, &sent));
       front_region(&front, &sent, ADD_MEM_REG, (struct area){UINT64_C(1) << 62, size, UINT64_C(0) - PAGE, 0});
       MUST(!front_ask(&front, &sent));
     }
-    it = (struct area){UINT64_C(0) - 2 * PAGE, PAGE, UINT64_C(1) << 62, 0};
+    it = (struct area){MEMORY_END - PAGE, PAGE, UINT64_C(1) << 62, 0};
     front_region(&front, &sent, ADD_MEM_REG, it);
     MUST(front_ask(&front, &sent) && write_block(&front) && has_block(&front));
-    MUST(front.session.backend.shadow);
     end(&front, &disks);
   }
 }
@@ -389,20 +389,74 @@ void test_endless(void) {
     front_say(&front, GET_FEATURES, 0);
     front_say(&front, GET_VRING_BASE, 4);
     turn(&front);
-    MUST(front.alive && front.session.more && front_reply(&front, payload, sizeof payload) == 8 && !driver_next(&front, 3, 2, &length));
-    MUST(!front_reply(&front, payload, sizeof payload));
+    // Messages are answered meanwhile, but for those that end the device.
+    MUST(front.alive && front.session.more && front_reply(&front, payload, sizeof payload) == 8 && !front_reply(&front, payload, sizeof payload));
+    MUST(driver_next(&front, 3, 2, &length) && front.memory[0x201000 + 10] == 0);
     faults.passed++;
     turn(&front);
-    MUST(front.alive && !front_reply(&front, payload, sizeof payload) && !driver_next(&front, 3, 2, &length));
+    MUST(front.alive && !front_reply(&front, payload, sizeof payload));
     // For so long it had time, by itself or not.
     faults.endless = number % 2;
     faults.passed += number % 2 ? 4 : 0;
     turn(&front);
-    // The queue is stopped once the round's answers are shown.
-    MUST(driver_next(&front, 3, 2, &length) && front.memory[0x201000 + 10] == 0);
-    MUST(front_reply(&front, payload, sizeof payload) == 8 && little_get(payload, 4) == 4);
+    MUST(front.alive != number % 2);
+    if (front.alive) MUST(front_reply(&front, payload, sizeof payload) == 8 && little_get(payload, 4) == 4);
     faults.endless = false;
+    MUST(!front.alive || has_block(&front));
+    end(&front, &disks);
+  }
+}
+
+// Sends a log of so many bytes. Returns whether it was answered.
+static bool give_log(struct front *front, int file, uint64_t bytes) {
+  struct sent sent = {.length = HEADER + 16, .fds = {file}, .fd_count = 1};
+  uint8_t payload[8];
+  little_put(sent.bytes, SET_LOG_BASE, 4);
+  little_put(sent.bytes + 4, VERSION, 4);
+  little_put(sent.bytes + 8, 16, 4);
+  little_put(sent.bytes + HEADER, bytes, 8);
+  MUST(front_send(front, &sent, 0, sent.length));
+  pump(front);
+  return front->alive && front_reply(front, payload, sizeof payload) == 8;
+}
+
+static void say_features(struct front *front, bool logs) {
+  uint8_t payload[8];
+  front_say(front, SET_FEATURES, (front->session.features & ~F_LOG_ALL) | (logs ? F_LOG_ALL : 0));
+  pump(front);
+  MUST(front_reply(front, payload, sizeof payload) == 8 && little_get(payload, 8) == 0);
+}
+
+static bool is_logged(const uint8_t *log, uint64_t place) { return log[place / PAGE / 8] >> place / PAGE % 8 & 1; }
+
+void test_logs(void) {
+  enum { LOG_SIZE = GUEST_BYTES / PAGE / 8 };
+  for (unsigned number = 0; number < WAYS / 2; number++) {
+    struct disks disks;
+    struct front front;
+    begin(&front, &disks, number);
+    front_agree(&front);
+    MUST(write_block(&front));
+    int file = memfd_create("log", MFD_CLOEXEC);
+    MUST(file >= 0 && !ftruncate(file, LOG_SIZE));
+    uint8_t *log = mmap(NULL, LOG_SIZE, PROT_READ | PROT_WRITE, MAP_SHARED, file, 0);
+    MUST(log != MAP_FAILED && give_log(&front, file, LOG_SIZE) && is_ready(&front, 2));
+    for (unsigned i = 0; i < LOG_SIZE; i++) MUST(!log[i]);
+    say_features(&front, true);
     MUST(has_block(&front));
+    // The data, the response and the used ring, and nothing that the device reads.
+    MUST(is_logged(log, HALF - 0x1400) && is_logged(log, 0x203400) && is_logged(log, place_of(3, front.way.packed ? 0 : 2)));
+    MUST(!is_logged(log, place_of(3, 1)) && !is_logged(log, 0x100000));
+    say_features(&front, false);
+    memset(log, 0, LOG_SIZE);
+    MUST(has_block(&front));
+    for (unsigned i = 0; i < LOG_SIZE; i++) MUST(!log[i]);
+    // A log that becomes shorter ends the session, and not the daemon.
+    say_features(&front, true);
+    MUST(!ftruncate(file, 0));
+    MUST(!has_block(&front) || !front.alive);
+    munmap(log, LOG_SIZE);
+    close(file);
     end(&front, &disks);
   }
 }

@@ -33,4 +33,7 @@ void test_reset(void);
 void test_refused(void);
 void test_endless(void);
 
+// A log of the pages that the device writes.
+void test_logs(void);
+
 #endif

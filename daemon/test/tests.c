@@ -7,7 +7,6 @@
 #include <unistd.h>
 
 #include "../bytes.h"
-#include "../chain.h"
 #include "../images.h"
 #include "chains.h"
 #include "front.h"
@@ -79,9 +78,9 @@ static void crowd(struct front *front) {
   MUST(!driver_take(front, EVENT_QUEUE, &length));
 }
 
-// Every form, every feature, both modes, near and far memory: two sessions, and a restart of the rings in the second.
+// Every form, every feature, near and far memory: two sessions, and a restart of the rings in the second.
 static void test_ways(void) {
-  for (unsigned number = 0; number < 32; number++) {
+  for (unsigned number = 0; number < WAYS; number++) {
     struct disks disks = {0};
     struct front front;
     uint8_t kept[BYTES];
@@ -89,7 +88,6 @@ static void test_ways(void) {
     front_begin(&front, &disks, way_of(number));
     front_agree(&front);
     crowd(&front);
-    MUST(front.session.backend.shadow == (front.way.shadow || front.way.far));
     work(&front, kept);
     look(&front, kept);
     // The driver's reset: new rings of zeros.
@@ -98,7 +96,6 @@ static void test_ways(void) {
     for (unsigned q = 0; q < QUEUES; q++) front.queues[q] = (struct driver_queue){.next_wrap = true, .seen_wrap = true};
     front_agree(&front);
     look(&front, kept);
-    MUST(front.session.backend.shadow == (front.way.shadow || front.way.far));
     front_end(&front);
     front_begin(&front, &disks, way_of(number));
     front_agree(&front);
@@ -111,7 +108,7 @@ static void test_ways(void) {
 
 // A ring that begins where another session left it.
 static void test_bases(void) {
-  for (unsigned number = 0; number < 8; number++) {
+  for (unsigned number = 0; number < WAYS; number++) {
     struct disks disks = {0};
     struct front front;
     uint8_t kept[BYTES];
@@ -133,7 +130,6 @@ static void test_bases(void) {
       MUST(front_reply(&front, payload, sizeof payload) == 8 && little_get(payload, 8) == 0);
     }
     look(&front, kept);
-    MUST(front.session.backend.shadow);
     front_end(&front);
     disks_close(&disks);
   }
@@ -215,7 +211,7 @@ static void test_rings(void) {
   srand(7);
   for (unsigned number = 0; number < CHANGES; number++) {
     struct front front;
-    front_begin(&front, &disks, way_of(number % 32));
+    front_begin(&front, &disks, way_of(number % WAYS));
     front_agree(&front);
     MUST(command(&front, 2, ready, sizeof ready, NULL, 0, NULL, 0) == 0);
     const struct part parts[] = {{0x202000, 51, false}, {0x202400, 108, true}, {0x203000, 512, true}};
@@ -231,7 +227,7 @@ static void test_rings(void) {
     }
     for (unsigned q = 0; q < QUEUES; q++) MUST(write(front.kick[q], &(uint64_t){1}, 8) == 8);
     pump(&front);
-    bool is_broken = front.alive && (front.session.backend.queues[2].ring.broken || front.session.backend.queues[3].ring.broken);
+    bool is_broken = front.alive && (front.session.backend.queues[2].fault || front.session.backend.queues[3].fault);
     ended += !front.alive;
     broke += is_broken;
     stood += front.alive && !is_broken;
@@ -302,16 +298,16 @@ int main(int count, char **words) {
     const char *name;
     void (*run)(void);
   } tests[] = {{"words", test_words}, {"ways", test_ways}, {"bases", test_bases}, {"files", test_files}, {"events", test_events},
-               {"totals", test_totals}, {"empty", test_empty}, {"order", test_order}, {"tables", test_tables},
+               {"totals", test_totals}, {"holes", test_holes}, {"order", test_order}, {"tables", test_tables},
                {"shared", test_shared}, {"cuts", test_cuts}, {"fields", test_fields}, {"rings", test_rings},
                {"scattered", test_scattered}, {"slow", test_slow}, {"full", test_full}, {"crowded", test_crowded},
                {"forgetful", test_forgetful},
                {"abandoned", test_abandoned}, {"zeros", test_zeros}, {"turns", test_turns}, {"order of control", test_order_of_control},
                {"costs", test_costs},
-               {"apart", test_apart}, {"overtaken", test_overtaken}, {"stopped", test_stopped}, {"waiting", test_waiting},
+               {"held", test_held}, {"stopped", test_stopped}, {"waiting", test_waiting},
                {"moved", test_moved}, {"slots", test_slots}, {"regions", test_regions}, {"short", test_short},
                {"forms", test_forms}, {"stale", test_stale}, {"kicks", test_kicks}, {"waits", test_waits}, {"reset", test_reset},
-               {"refused", test_refused}, {"endless", test_endless}};
+               {"refused", test_refused}, {"endless", test_endless}, {"logs", test_logs}};
   unsigned files = open_files();
   for (size_t i = 0; i < sizeof tests / sizeof *tests; i++) {
     if (count > 1 && strcmp(words[1], tests[i].name)) continue;

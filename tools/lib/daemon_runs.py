@@ -682,21 +682,21 @@ def test_held(room):
         log.unlink()
 
 
-def test_apart(room):
-    """A disk whose file can't be written holds no other. What was answered for that one is on its file when the daemon is killed."""
-    for mode in ([], ["--shadow"]):
-        first, second = (room.folder / f"{name}{len(mode)}" for name in ("first", "second"))
-        words = [*mode, "--quiet", "--disk", f"0:0=16M,file={first}", "--disk", f"0:1=16M,file={second}"]
-        with room.runs(*words, ends=-signal.SIGKILL, by=signal.SIGKILL) as run, FrontEnd(connected(room.socket)) as front:
-            front.write(0, b"a" * 4096)
-            wait_for(lambda: front.answered() == 1, "the first WRITE")
-            limit_files(run, MIB)
-            front.write(8192, b"b" * 4096)
-            for i in range(10):
-                front.write(8 * i, bytes([i + 1]) * 4096, 1)
-                wait_for(lambda: front.answered() == 2 + i, "a WRITE to the other disk")  # noqa: B023
-        assert first.read_bytes()[:4096] == b"a" * 4096
-        assert second.read_bytes()[: 10 * 4096] == b"".join(bytes([i + 1]) * 4096 for i in range(10))
+def test_killed(room):
+    """What was answered is on the files when the daemon is killed, also where a file can't be written."""
+    first, second = room.folder / "first", room.folder / "second"
+    words = ["--quiet", "--disk", f"0:0=16M,file={first}", "--disk", f"0:1=16M,file={second}"]
+    with room.runs(*words, ends=-signal.SIGKILL, by=signal.SIGKILL) as run, FrontEnd(connected(room.socket)) as front:
+        for i in range(10):
+            front.write(8 * i, bytes([i + 1]) * 4096, i % 2)
+            wait_for(lambda: front.answered() == 1 + i, "a WRITE")  # noqa: B023
+        limit_files(run, MIB)
+        front.write(8192, b"b" * 4096)
+        front.write(0, b"c" * 4096, 1)
+        time.sleep(0.5)
+        assert front.answered() == 10 and front.asks()
+    for i in range(10):
+        assert (first, second)[i % 2].read_bytes()[4096 * i :][:4096] == bytes([i + 1]) * 4096
 
 
 def test_refused_unmap(room):
@@ -863,7 +863,7 @@ def set_up(front, memory):
 
 def test_serves_within_its_limits(room):
     """A guest's request is answered with all limits on; a guest whose memory goes away under the daemon ends its own session alone."""
-    for words in ([], ["--shadow"]):
+    for words in ([], ["--shadow"]):  # a word of older command lines
         memory = os.memfd_create("guest")
         os.ftruncate(memory, GUEST_BYTES)
         with room.runs("--disk", f"0:0=1M,file={room.folder / 'disk.img'}", *words):
