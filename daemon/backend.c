@@ -73,7 +73,7 @@ static bool make(struct backend *backend, char *why, size_t room) {
 enum served backend_begin(struct backend *backend, char *why, size_t room) {
   bool is_first = !backend->pause;
   if (backend->pause && clock_now() < backend->due) return LATER;
-  backend->starved = backend->crowded = false;
+  backend->starved = backend->crowded = backend->silent = false;
   backend->phase = IDLE;
   backend->steps = 0;
   backend->kicked = UINT32_MAX;
@@ -138,7 +138,7 @@ static enum ran run_requests(struct backend *backend, uint32_t queues, uint64_t 
 // guest whose requests make chains available would keep it waiting for ever, but for the bound.
 static enum ran run_all(struct backend *backend, uint32_t queues) {
   uint64_t until = clock_now() + PORTION;
-  bool has_control = queues & (backend->kicked | backend->asked) & CONTROL;
+  bool has_control = queues & (backend->kicked | backend->asked | (backend->silent ? CONTROL : 0)) & CONTROL;
   if (!has_control) backend->steps = 0;
   enum ran ran = run_requests(backend, queues & ~CONTROL, until);
   if (ran == REFUSED || !has_control || (ran == RUNS && backend->steps < MOST_STEPS_BEFORE)) return ran;
@@ -163,10 +163,24 @@ static bool ask(struct backend *backend, uint32_t queues) {
   uint32_t asked = (backend->kicked | (backend->took ? backend->asked : 0)) & queues;
   bool names = backend->event_index && !backend->packed;
   backend->kicked = 0;
-  backend->asked = names ? asked : 0;
+  // Each ring was said not to notify, and is to do so again.
+  if (backend->silent) asked = queues;
+  backend->asked = names || backend->silent ? asked : 0;
+  backend->silent = false;
   for (unsigned q = 0; backend->asked >> q; q++)
     if (backend->asked >> q & 1) device_ask(&backend->device, q, true);
   return backend->asked;
+}
+
+// Asks drivers not to notify, where that isn't said yet, and once in some thousand steps: those that name a chain would come to it.
+static bool hush(struct backend *backend, uint32_t queues) {
+  enum { EVERY = 1 << 14 };
+  if (backend->silent && backend->all_steps - backend->hushed < EVERY) return true;
+  for (unsigned q = 0; queues >> q; q++)
+    if (queues >> q & 1) device_ask(&backend->device, q, false);
+  backend->silent = true;
+  backend->hushed = backend->all_steps;
+  return true;
 }
 
 // Shows the answers of a round whose files have all that they promise. Returns SERVED, or LATER, where a file can't be written now, or BUSY.
@@ -230,7 +244,7 @@ enum served backend_serve(struct backend *backend, uint32_t queues, uint32_t *ow
   enum served served = backend->waits ? wait_round(backend, queues, owed) : serve_at_once(backend, queues, owed);
   if (served != SERVED) return served;
   note_faults(backend);
-  return backend->left || ask(backend, queues) ? MORE : SERVED;
+  return backend->left || (backend->polls ? hush(backend, queues) : ask(backend, queues)) ? MORE : SERVED;
 }
 
 bool backend_is_busy(const struct backend *backend) { return backend->device.live && backend->phase != IDLE; }

@@ -48,6 +48,9 @@ struct backend {
   uint32_t kicked;        // queues whose driver notified, and wasn't asked to do so again
   uint32_t asked;         // those that were asked behind the last call
   bool took;              // the device took steps in this call
+  bool polls;             // rings are looked at all the time, and drivers are asked not to notify
+  bool silent;            // they were asked that, after so many steps
+  uint64_t hushed;
   uint64_t steps;         // of request queues since the control queue was kicked
   uint64_t all_steps;     // that a device ever took
   bool crowded;           // request queues take turns, since one call didn't serve them all

@@ -32,6 +32,7 @@ static const char usage[] =
     "      snapshot         never write the file; what the guest writes is lost at the end\n"
     "      detect-zeroes=unmap  zeros that the guest writes become holes of the file\n"
     "  --queues N           at most N request queues, 1 to 16\n"
+    "  --poll               look at the rings of a busy guest all the time, which takes a processor\n"
     "  --user NAME          run as this user once all is open\n"
     "  --group NAME         run as this group\n"
     "  --seccomp on|off     limit what the process may do; on is the default\n"
@@ -39,7 +40,7 @@ static const char usage[] =
     "  --quiet              say errors alone\n"
     "  --help, --version, --print-capabilities\n";
 
-enum word { SOCKET = 256, FD, MODE, DISK, QUEUES, SHADOW, USER, GROUP, SECCOMP, LOG, QUIET, HELP, VERSION_WORD, CAPABILITIES };
+enum word { SOCKET = 256, FD, MODE, DISK, QUEUES, SHADOW, POLL, USER, GROUP, SECCOMP, LOG, QUIET, HELP, VERSION_WORD, CAPABILITIES };
 
 static const struct option known[] = {{"socket", required_argument, NULL, SOCKET},
                                       {"socket-path", required_argument, NULL, SOCKET},
@@ -48,6 +49,7 @@ static const struct option known[] = {{"socket", required_argument, NULL, SOCKET
                                       {"disk", required_argument, NULL, DISK},
                                       {"queues", required_argument, NULL, QUEUES},
                                       {"shadow", no_argument, NULL, SHADOW},
+                                      {"poll", no_argument, NULL, POLL},
                                       {"user", required_argument, NULL, USER},
                                       {"group", required_argument, NULL, GROUP},
                                       {"seccomp", required_argument, NULL, SECCOMP},
@@ -88,6 +90,7 @@ static bool take(struct options *options, struct disks *disks, int word, char *b
     case GROUP: return options->group = behind, true;
     case LOG: return options->log = behind, true;
     case SHADOW: return true;  // of older command lines: there are no modes any more
+    case POLL: return options->polls = true;
     case QUIET: return options->quiet = true;
     case SECCOMP: return seccomp(options, behind);
     case QUEUES:

@@ -10,7 +10,7 @@ struct options {
   int mode;          // of the socket at `path`, or below 0: as the umask leaves it
   const char *user, *group, *log;
   unsigned queues;
-  bool quiet;
+  bool quiet, polls;
   bool limits;  // what the process may do
 };
 

@@ -35,7 +35,9 @@ enum request {
   RESET_DEVICE = 34,
   GET_MAX_MEM_SLOTS = 36,
   ADD_MEM_REG = 37,
-  REM_MEM_REG = 38
+  REM_MEM_REG = 38,
+  SET_STATUS = 39,
+  GET_STATUS = 40
 };
 
 #define F_LOG_ALL (UINT64_C(1) << 26)
@@ -46,6 +48,7 @@ enum request {
 #define P_CONFIG (UINT64_C(1) << 9)
 #define P_RESET_DEVICE (UINT64_C(1) << 13)
 #define P_CONFIGURE_MEM_SLOTS (UINT64_C(1) << 15)
+#define P_STATUS (UINT64_C(1) << 16)
 
 struct message {
   uint32_t request, flags, size;

@@ -18,14 +18,15 @@
 #define OFFERED ((VSCSI_ACCEPTED_FEATURES & ~VSCSI_F_CHANGE) | F_LOG_ALL | F_PROTOCOL_FEATURES)
 // What QEMU has a driver agree to by itself: events of disks that come, go or change (VIRTIO 1.2, 5.6.3). The device tells none of these.
 #define IGNORED (UINT64_C(1) << 1 | UINT64_C(1) << 2)
-#define OFFERED_PROTOCOL (P_MQ | P_LOG_SHMFD | P_REPLY_ACK | P_CONFIG | P_RESET_DEVICE | P_CONFIGURE_MEM_SLOTS)
+#define OFFERED_PROTOCOL (P_MQ | P_LOG_SHMFD | P_REPLY_ACK | P_CONFIG | P_RESET_DEVICE | P_CONFIGURE_MEM_SLOTS | P_STATUS)
 
 // How many messages of a session are taken before others of the daemon's descriptors are looked at.
 enum { MOST_MESSAGES = 64, WHY = 200, REGION_BYTES = 32, LOG_BYTES = 16, SPACE_HEAD = 12, MOST_SPACE = 256 };
 
 // Milliseconds: how often it is said that a file can't be written, and a ring is looked at that has no kick; how long a session is
-// served before others of the daemon's descriptors are looked at, but for one round; and how long a session that ends has for a round.
-enum { COMPLAINT = 60000, POLL = 1, LONGEST = 20, LEAVING = 200 };
+// served before others of the daemon's descriptors are looked at, but for one round; how long a session that ends has for a round; and how
+// long a driver that is polled may make nothing available before it is asked to notify.
+enum { COMPLAINT = 60000, POLL = 1, LONGEST = 20, LEAVING = 200, LONGEST_POLL = 10 };
 
 static void say(const struct session *session, const char *what, const char *why) {
   if (!session->quiet) log_say(LOG_NOTE, NULL, "%s: %s", what, why);
@@ -36,12 +37,13 @@ static bool watch(int epoll, int fd, uint32_t what) {
   return fd >= 0 && !epoll_ctl(epoll, EPOLL_CTL_ADD, fd, &event);
 }
 
-bool session_begin(struct session *session, int socket, int epoll, struct disks *disks, unsigned request_queues, bool quiet) {
+bool session_begin(struct session *session, int socket, int epoll, struct disks *disks, unsigned request_queues, bool polls, bool quiet) {
   memset(session, 0, sizeof *session);
   session->socket = socket;
   session->epoll = epoll;
   session->request_queues = request_queues;
   session->quiet = quiet;
+  session->polls = polls;
   session->backend.disks = disks;
   session->backend.count = FIXED_QUEUES + request_queues;
   reader_begin(&session->reader);
@@ -138,7 +140,25 @@ static bool change_memory(struct session *session, const struct message *message
 static bool reset(struct session *session) {
   backend_end(&session->backend);
   queues_reset(session);
+  session->status = 0;
   return true;
+}
+
+// Takes the device's status. Zero is a reset.
+static bool set_status(struct session *session, const struct message *message) {
+  uint64_t status = little_get(message->payload, 8);
+  if (message->size != 8 || status > UINT8_MAX) return false;
+  session->status = (uint8_t)status;
+  return status || reset(session);
+}
+
+// Tells the device's status, and that the driver has to reset it where a ring is broken.
+static bool get_status(const struct session *session, const struct message *message) {
+  enum { NEEDS_RESET = 64 };
+  uint64_t status = session->status;
+  for (unsigned q = 0; q < session->backend.count; q++)
+    if (session->queues[q].started && session->backend.queues[q].fault) status |= NEEDS_RESET;
+  return reply_number(session, message, status);
 }
 
 static bool get_config(const struct session *session, const struct message *message) {
@@ -155,7 +175,7 @@ static bool get_config(const struct session *session, const struct message *mess
 // Whether the daemon knows this message, and whether it answers it itself: then there is no acknowledgement.
 static bool is_answered(uint32_t request) {
   return request == GET_FEATURES || request == GET_PROTOCOL_FEATURES || request == GET_QUEUE_NUM || request == GET_VRING_BASE ||
-         request == GET_CONFIG || request == GET_MAX_MEM_SLOTS || request == SET_LOG_BASE;
+         request == GET_CONFIG || request == GET_MAX_MEM_SLOTS || request == SET_LOG_BASE || request == GET_STATUS;
 }
 
 static bool take(struct session *session, struct message *message) {
@@ -183,6 +203,8 @@ static bool take(struct session *session, struct message *message) {
     case GET_QUEUE_NUM: return reply_number(session, message, session->backend.count);
     case SET_VRING_ENABLE: return queue_set_enable(session, message);
     case GET_CONFIG: return get_config(session, message);
+    case SET_STATUS: return set_status(session, message);
+    case GET_STATUS: return get_status(session, message);
     case SET_CONFIG: return message->size >= SPACE_HEAD;  // no field of a driver's is kept
     default: return false;
   }
@@ -367,6 +389,13 @@ static bool stop(struct session *session) {
   return finish(session, &session->waiting) && read_on(session);
 }
 
+// Returns whether a driver that is polled made something available a moment ago.
+static bool is_busy(struct session *session) {
+  uint64_t now = clock_now();
+  if (session->backend.took) session->busy = now;
+  return now - session->busy < LONGEST_POLL;
+}
+
 static bool serve(struct session *session) {
   struct backend *backend = &session->backend;
   char why[WHY] = "";
@@ -383,9 +412,11 @@ static bool serve(struct session *session) {
   enum served served = backend->device.live ? MORE : make_device(session, queues, why, sizeof why);
   for (uint64_t until = 0; served == MORE;) {
     uint32_t owed = 0;
+    backend->polls = session->polls && is_busy(session);
     served = backend_serve(backend, queues, &owed);
     notify(session, owed);
-    if (served == MORE && !until) until = clock_now() + LONGEST;
+    if (served == SERVED && session->polls && backend->took) served = MORE;
+    if (served == MORE && !until) until = clock_now() + (session->polls ? POLL : LONGEST);
     else if (served == MORE && clock_now() >= until) break;
   }
   return note_served(session, served, why);

@@ -21,8 +21,11 @@ struct session {
   struct backend backend;
   struct session_queue queues[MOST_QUEUES];
   uint64_t features, protocol;
+  uint8_t status;      // of the device, as the driver has it (VIRTIO 1.2, 2.1)
   uint64_t messages;  // that came
   bool more, quiet;
+  bool polls;              // rings are looked at while their driver is busy, and it isn't asked to notify meanwhile
+  uint64_t busy;           // when something was last found there
   bool is_torn;            // a ring's memory is gone, and may come again
   int timer;               // by which a round that has to wait is tried again
   struct message waiting;  // a message that has to wait for the requests that the device has run to be answered, and since when
@@ -34,7 +37,7 @@ struct session {
 enum { EVENT_SOCKET = 1000, EVENT_TIMER = 1001 };
 
 // Begins over a connected socket, which is the session's from then on. Returns false, without it, where epoll doesn't take it.
-bool session_begin(struct session *session, int socket, int epoll, struct disks *disks, unsigned request_queues, bool quiet);
+bool session_begin(struct session *session, int socket, int epoll, struct disks *disks, unsigned request_queues, bool polls, bool quiet);
 
 // Lets go of all that the front end gave. The disks stay.
 void session_end(struct session *session);

@@ -116,7 +116,7 @@ void connection_begin(struct connection *connection, struct way way) {
     connection->err[q] = eventfd(0, EFD_NONBLOCK | EFD_CLOEXEC);
   }
   unsigned requests = QUEUES - FIXED_QUEUES;
-  connection->alive = session_begin(&connection->session, pair[1], connection->epoll, &connection->disks, requests, true);
+  connection->alive = session_begin(&connection->session, pair[1], connection->epoll, &connection->disks, requests, false, true);
   must(connection->alive, "no session");
 }
 

@@ -50,7 +50,7 @@ void front_begin_sized(struct front *front, struct disks *disks, struct way way,
     front->err[q] = eventfd(0, EFD_NONBLOCK | EFD_CLOEXEC);
     front->queues[q] = (struct driver_queue){.next_wrap = true, .seen_wrap = true};
   }
-  front->alive = session_begin(&front->session, pair[1], front->epoll, disks, QUEUES - FIXED_QUEUES, true);
+  front->alive = session_begin(&front->session, pair[1], front->epoll, disks, QUEUES - FIXED_QUEUES, way.polls, true);
   MUST(front->alive);
 }
 

@@ -407,6 +407,73 @@ void test_endless(void) {
   }
 }
 
+// Makes a request of queue 3 available, with a kick or without one. Returns whether it is answered then.
+static bool is_seen(struct front *front, bool kicks) {
+  uint32_t length;
+  put_request(front, 0x200000, ready, sizeof ready);
+  const struct part parts[] = {{0x200000, 51, false}, {0x201000, 108, true}};
+  driver_put(front, 3, parts, 2);
+  if (kicks) driver_kick(front, 3);
+  turn(front);
+  return driver_next(front, 3, 2, &length) && front->memory[0x201000 + 10] == 0;
+}
+
+void test_polls(void) {
+  for (unsigned number = 0; number < WAYS; number++) {
+    struct way way = way_of(number);
+    struct disks disks;
+    struct front front;
+    char why[200];
+    memset(&disks, 0, sizeof disks);
+    MUST(disks_add(&disks, "0:0=1M", why, sizeof why));
+    way.polls = true;
+    front_begin(&front, &disks, way);
+    front_agree(&front);
+    for (unsigned turns = 0; turns < 3; turns++) {
+      uint32_t length;
+      MUST(is_seen(&front, true) && front.session.more);
+      for (unsigned i = 0; i < 20; i++) MUST(is_seen(&front, false));
+      // An idle one is asked for its kicks again.
+      faults.passed++;
+      pump(&front);
+      MUST(!front.session.more && !is_seen(&front, false));
+      driver_kick(&front, 3);
+      turn(&front);
+      MUST(driver_next(&front, 3, 2, &length));
+    }
+    faults.passed++;
+    pump(&front);
+    end(&front, &disks);
+  }
+}
+
+void test_status(void) {
+  static const struct part wrong[] = {{0x200000, 51, true}, {0x201000, 108, false}};
+  for (unsigned number = 0; number < WAYS; number++) {
+    struct disks disks;
+    struct front front;
+    uint8_t payload[8];
+    begin(&front, &disks, number);
+    front_agree(&front);
+    front_say(&front, SET_STATUS, 15);
+    MUST(write_block(&front) && front_reply(&front, payload, sizeof payload) == 8);
+    driver_put(&front, 4, wrong, 2);
+    driver_kick(&front, 4);
+    pump(&front);
+    front_say(&front, GET_STATUS, 0);
+    pump(&front);
+    MUST(front_reply(&front, payload, sizeof payload) == 8 && little_get(payload, 8) == (15 | 64));
+    front_say(&front, SET_STATUS, 0);
+    pump(&front);
+    MUST(front_reply(&front, payload, sizeof payload) == 8 && !front.session.queues[2].started);
+    memset(front.memory, 0, GUEST_BYTES);
+    for (unsigned q = 0; q < QUEUES; q++) front.queues[q] = (struct driver_queue){.next_wrap = true, .seen_wrap = true};
+    front_agree(&front);
+    MUST(has_block(&front) && is_ready(&front, 4));
+    end(&front, &disks);
+  }
+}
+
 // Sends a log of so many bytes. Returns whether it was answered.
 static bool give_log(struct front *front, int file, uint64_t bytes) {
   struct sent sent = {.length = HEADER + 16, .fds = {file}, .fd_count = 1};

@@ -33,6 +33,12 @@ void test_reset(void);
 void test_refused(void);
 void test_endless(void);
 
+// Rings that are looked at while their driver is busy, without its kicks.
+void test_polls(void);
+
+// The status of a device, whose reset it also is.
+void test_status(void);
+
 // A log of the pages that the device writes.
 void test_logs(void);
 

@@ -307,7 +307,8 @@ int main(int count, char **words) {
                {"held", test_held}, {"stopped", test_stopped}, {"waiting", test_waiting},
                {"moved", test_moved}, {"slots", test_slots}, {"regions", test_regions}, {"short", test_short},
                {"forms", test_forms}, {"stale", test_stale}, {"kicks", test_kicks}, {"waits", test_waits}, {"reset", test_reset},
-               {"refused", test_refused}, {"endless", test_endless}, {"logs", test_logs}};
+               {"refused", test_refused}, {"endless", test_endless}, {"polls", test_polls},
+               {"status", test_status}, {"logs", test_logs}};
   unsigned files = open_files();
   for (size_t i = 0; i < sizeof tests / sizeof *tests; i++) {
     if (count > 1 && strcmp(words[1], tests[i].name)) continue;
