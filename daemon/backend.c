@@ -78,7 +78,6 @@ enum served backend_begin(struct backend *backend, char *why, size_t room) {
   backend->steps = 0;
   backend->kicked = UINT32_MAX;
   backend->asked = 0;
-  backend->waits = blocks_are_kept(backend->disks);
   if (make(backend, why, room)) {
     backend_map(backend);
     backend->pause = 0;

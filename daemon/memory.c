@@ -88,16 +88,16 @@ void memory_clear(struct memory *memory) {
   memory->count = 0;
 }
 
-bool memory_set_log(struct memory *memory, uint64_t size, uint64_t offset, int descriptor) {
-  struct region log = {.size = size};
+bool memory_set(struct region *region, uint64_t size, uint64_t offset, int descriptor) {
+  struct region set = {.size = size};
   uint64_t end;
   if (descriptor >= 0) {
     if (size == 0 || size > PTRDIFF_MAX / 2 || offset % PAGE || __builtin_add_overflow(offset, size, &end) || end > INT64_MAX) return false;
     seal(descriptor);
-    if (!is_in_file(descriptor, end) || !map(&log, offset, descriptor)) return false;
+    if (!is_in_file(descriptor, end) || !map(&set, offset, descriptor)) return false;
   }
-  if (memory->log.map) munmap(memory->log.map, memory->log.mapped);
-  memory->log = log;
+  if (region->map) munmap(region->map, region->mapped);
+  *region = set;
   return true;
 }
 
@@ -107,8 +107,8 @@ void memory_note(const struct memory *memory, uint64_t guest) {
 }
 
 bool memory_blank(const struct memory *memory, const void *at) {
-  for (size_t i = 0; i <= memory->count; i++) {
-    const struct region *region = i < memory->count ? &memory->regions[i] : &memory->log;
+  for (size_t i = 0; i < memory->count + 2; i++) {
+    const struct region *region = i < memory->count ? &memory->regions[i] : i == memory->count ? &memory->log : &memory->places;
     uintptr_t first = (uintptr_t)region->map;
     if ((uintptr_t)at < first || (uintptr_t)at - first >= region->mapped) continue;
     int flags = MAP_PRIVATE | MAP_ANONYMOUS | MAP_NORESERVE | MAP_FIXED;

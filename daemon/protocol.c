@@ -74,14 +74,29 @@ enum read_answer reader_next(struct reader *reader, int socket, struct message *
 }
 
 bool protocol_reply(int socket, const struct message *message, const uint8_t *payload, size_t size) {
+  return protocol_give(socket, message, payload, size, -1);
+}
+
+bool protocol_give(int socket, const struct message *message, const uint8_t *payload, size_t size, int descriptor) {
   uint8_t bytes[HEADER + MOST_PAYLOAD];
+  union {
+    struct cmsghdr header;
+    char room[CMSG_SPACE(sizeof descriptor)];
+  } control = {.header = {.cmsg_len = CMSG_LEN(sizeof descriptor), .cmsg_level = SOL_SOCKET, .cmsg_type = SCM_RIGHTS}};
+  struct iovec part = {.iov_base = bytes, .iov_len = HEADER + size};
+  struct msghdr header = {.msg_iov = &part, .msg_iovlen = 1};
   if (size > MOST_PAYLOAD) return false;
   little_put(bytes, message->request, 4);
   little_put(bytes + 4, VERSION | IS_REPLY, 4);
   little_put(bytes + 8, size, 4);
   if (size) memcpy(bytes + HEADER, payload, size);
+  if (descriptor >= 0) {
+    memcpy(CMSG_DATA(&control.header), &descriptor, sizeof descriptor);
+    header.msg_control = &control;
+    header.msg_controllen = sizeof control;
+  }
   for (;;) {
-    ssize_t here = send(socket, bytes, HEADER + size, MSG_DONTWAIT | MSG_NOSIGNAL);
+    ssize_t here = sendmsg(socket, &header, MSG_DONTWAIT | MSG_NOSIGNAL);
     if (here < 0 && errno == EINTR) continue;
     return here == (ssize_t)(HEADER + size);
   }

@@ -32,6 +32,8 @@ enum request {
   SET_VRING_ENABLE = 18,
   GET_CONFIG = 24,
   SET_CONFIG = 25,
+  GET_INFLIGHT_FD = 31,
+  SET_INFLIGHT_FD = 32,
   RESET_DEVICE = 34,
   GET_MAX_MEM_SLOTS = 36,
   ADD_MEM_REG = 37,
@@ -46,6 +48,7 @@ enum request {
 #define P_LOG_SHMFD (UINT64_C(1) << 1)
 #define P_REPLY_ACK (UINT64_C(1) << 3)
 #define P_CONFIG (UINT64_C(1) << 9)
+#define P_INFLIGHT_SHMFD (UINT64_C(1) << 12)
 #define P_RESET_DEVICE (UINT64_C(1) << 13)
 #define P_CONFIGURE_MEM_SLOTS (UINT64_C(1) << 15)
 #define P_STATUS (UINT64_C(1) << 16)
@@ -74,8 +77,9 @@ void reader_end(struct reader *reader);
 // message.
 enum read_answer reader_next(struct reader *reader, int socket, struct message *message);
 
-// Answers a message. Returns false where the other end doesn't take it.
+// Answers a message, the second also with a descriptor, or none where it is below 0. Returns false where the other end doesn't take it.
 bool protocol_reply(int socket, const struct message *message, const uint8_t *payload, size_t size);
+bool protocol_give(int socket, const struct message *message, const uint8_t *payload, size_t size, int descriptor);
 
 // Takes a descriptor out of a message, or -1.
 int message_take(struct message *message, size_t which);

@@ -105,8 +105,12 @@ static bool start(struct session *session, unsigned q) {
   backend->indirect = session->features & VSCSI_F_INDIRECT_DESC;
   backend->queues[q].fault = VSCSI_BROKEN_NOT;
   queue->told = false;
-  queue->started = find(session, q) && ring_set_base(backend, q, queue->base);
+  bool is_found = find(session, q);
+  // What is noted is newer than what the front end knows of a daemon that died.
+  if (is_found) ring_recall(backend, q, &queue->base);
+  queue->started = is_found && ring_set_base(backend, q, queue->base);
   backend->queues[q].ready = queue->started;
+  if (queue->started) ring_note(backend, q);
   session->more = true;
   return queue->started;
 }
@@ -213,6 +217,7 @@ bool queue_get_base(struct session *session, const struct message *message) {
   struct backend *backend = &session->backend;
   if (backend->device.live) backend_end(backend);
   if (queue->started) queue->base = ring_base(backend, q);
+  ring_forget(backend, q);
   unwatch(session, queue);
   queue->started = queue->enabled = backend->queues[q].ready = false;
   little_put(payload, q, 4);

@@ -40,11 +40,12 @@ bool ring_has(const struct backend *backend, unsigned q) {
   return is_available(load(slot_at(queue, first->available) + FLAGS_AT), first->available_wrapped);
 }
 
-uint32_t ring_base(const struct backend *backend, unsigned q) {
-  const struct vscsi_position *first = &backend->queues[q].ring.first;
-  if (!backend->packed) return first->available;
-  return (uint32_t)first->available | (uint32_t)!first->available_wrapped << 15 | (uint32_t)first->used << 16 | (uint32_t)!first->used_wrapped << 31;
+static uint32_t base_of(const struct backend *backend, const struct vscsi_position *at) {
+  if (!backend->packed) return at->available;
+  return (uint32_t)at->available | (uint32_t)!at->available_wrapped << 15 | (uint32_t)at->used << 16 | (uint32_t)!at->used_wrapped << 31;
 }
+
+uint32_t ring_base(const struct backend *backend, unsigned q) { return base_of(backend, &backend->queues[q].ring.first); }
 
 bool ring_set_base(struct backend *backend, unsigned q, uint32_t base) {
   struct backend_queue *queue = &backend->queues[q];
@@ -109,20 +110,73 @@ static void go_on(struct backend *backend, unsigned q) {
 
 static void store(uint8_t *at, uint16_t number) { __atomic_store_n((uint16_t *)(void *)at, number, __ATOMIC_RELEASE); }
 
-// Stores what the device marked as used, up to where it stands.
-static void store_used(struct backend *backend, struct backend_queue *queue, const struct vscsi_position *now) {
-  uint16_t slot = queue->ring.first.used;
+// Where a ring stands, and where it stands once the descriptor is shown whose turn it is.
+struct place {
+  uint64_t now, next;
+};
+
+enum { QUEUE_BYTES = 64 };
+#define IS_NOTED (UINT64_C(1) << 63)
+
+// Returns where a ring's place is noted, or NULL.
+static struct place *place_of(const struct backend *backend, unsigned q) {
+  uint8_t *at = backend->memory.places.at;
+  return at && backend->waits ? (struct place *)(void *)(at + (size_t)q * QUEUE_BYTES) : NULL;
+}
+
+static void put(uint64_t *into, uint64_t number) { __atomic_store_n(into, number, __ATOMIC_SEQ_CST); }
+
+bool ring_recall(const struct backend *backend, unsigned q, uint32_t *base) {
+  const struct backend_queue *queue = &backend->queues[q];
+  const struct place *place = place_of(backend, q);
+  if (!place || !(place->now & IS_NOTED)) return false;
+  uint32_t now = (uint32_t)place->now;
+  uint16_t slot = now >> 16 & 0x7fff;
+  if (!backend->packed) *base = load(queue->device_at + 2);
+  // Whether the descriptor whose turn it was is still the driver's.
+  else *base = slot < queue->ring.size && is_available(load(slot_at(queue, slot) + FLAGS_AT), !(now >> 31)) ? now : (uint32_t)place->next;
+  return true;
+}
+
+void ring_note(struct backend *backend, unsigned q) {
+  struct place *place = place_of(backend, q);
+  uint64_t now = IS_NOTED | ring_base(backend, q);
+  if (!place) return;
+  put(&place->next, now);
+  put(&place->now, now);
+}
+
+void ring_forget(struct backend *backend, unsigned q) {
+  struct place *place = place_of(backend, q);
+  if (place) put(&place->now, 0);
+}
+
+// Shows the used descriptor of a slot, behind which the ring stands at `next`.
+static void show(struct backend *backend, unsigned q, uint16_t slot, const struct vscsi_position *next) {
+  struct backend_queue *queue = &backend->queues[q];
+  const uint8_t *its = queue->descriptors + (size_t)slot * DESCRIPTOR;
+  struct place *place = place_of(backend, q);
+  if (place) put(&place->next, IS_NOTED | base_of(backend, next));
+  memcpy(slot_at(queue, slot) + USED_AT, its + USED_AT, FLAGS_AT - USED_AT);
+  store(slot_at(queue, slot) + FLAGS_AT, load(its + FLAGS_AT));
+  memory_note(&backend->memory, queue->ring.desc + (uint64_t)slot * DESCRIPTOR);
+  if (place) put(&place->now, IS_NOTED | base_of(backend, next));
+}
+
+// Shows what the device marked as used, up to where it stands.
+static void show_used(struct backend *backend, unsigned q, const struct vscsi_position *now) {
+  struct backend_queue *queue = &backend->queues[q];
+  uint16_t slot = queue->ring.first.used, used = slot;
   bool wrapped = queue->ring.first.used_wrapped;
   for (unsigned i = 0; i < queue->ring.size && (slot != now->used || wrapped != now->used_wrapped); i++) {
-    const uint8_t *its = queue->descriptors + (size_t)slot * DESCRIPTOR;
-    uint16_t flags = load(its + FLAGS_AT);
-    if (is_used(flags, wrapped)) {
-      memcpy(slot_at(queue, slot) + USED_AT, its + USED_AT, FLAGS_AT - USED_AT);
-      store(slot_at(queue, slot) + FLAGS_AT, flags);
-      memory_note(&backend->memory, queue->ring.desc + (uint64_t)slot * DESCRIPTOR);
+    // The one before goes up to here.
+    if (i && is_used(load(queue->descriptors + (size_t)slot * DESCRIPTOR + FLAGS_AT), wrapped)) {
+      show(backend, q, used, &(struct vscsi_position){slot, slot, wrapped, wrapped});
+      used = slot;
     }
     step(queue, &slot, &wrapped);
   }
+  show(backend, q, used, now);
 }
 
 uint32_t rings_show(struct backend *backend) {
@@ -133,13 +187,19 @@ uint32_t rings_show(struct backend *backend) {
     struct vscsi_position now;
     if (!ring_waits(backend, q) || !device_position(&backend->device, q, &now)) continue;
     if (now.used == first->used && now.used_wrapped == first->used_wrapped) continue;
-    if (backend->packed) store_used(backend, queue, &now);
+    if (backend->packed) show_used(backend, q, &now);
     else {
       store(queue->device_at + 2, queue->index);
       memory_note(&backend->memory, queue->ring.device);
     }
     queue->ring.first = now;
+    ring_note(backend, q);
     shown |= UINT32_C(1) << q;
+  }
+  // Events were shown as the device gave them.
+  if (place_of(backend, EVENT_QUEUE) && backend->queues[EVENT_QUEUE].ready) {
+    go_on(backend, EVENT_QUEUE);
+    ring_note(backend, EVENT_QUEUE);
   }
   return shown;
 }

@@ -38,4 +38,12 @@ uint32_t rings_show(struct backend *backend);
 // Has each ring go on where the device does, but for those whose answers wait.
 void rings_end(struct backend *backend);
 
+// Where each ring of disks on files stands behind what was shown is noted in memory that the front end keeps when the daemon dies
+// (INFLIGHT_SHMFD), if it gave some: no request is in flight there, since those whose answers weren't shown run once more. ring_recall finds
+// where a ring stood. Returns false where that isn't noted. ring_note notes where it stands, and ring_forget that it was told otherwise.
+enum { PLACES_BYTES = 4096 };
+bool ring_recall(const struct backend *backend, unsigned q, uint32_t *base);
+void ring_note(struct backend *backend, unsigned q);
+void ring_forget(struct backend *backend, unsigned q);
+
 #endif

@@ -5,6 +5,7 @@
 #include <stdio.h>
 #include <string.h>
 #include <sys/epoll.h>
+#include <sys/mman.h>
 #include <sys/timerfd.h>
 #include <sys/uio.h>
 #include <unistd.h>
@@ -13,15 +14,16 @@
 #include "clock.h"
 #include "guard.h"
 #include "log.h"
+#include "rings.h"
 #include "space.h"
 
 #define OFFERED ((VSCSI_ACCEPTED_FEATURES & ~VSCSI_F_CHANGE) | F_LOG_ALL | F_PROTOCOL_FEATURES)
 // What QEMU has a driver agree to by itself: events of disks that come, go or change (VIRTIO 1.2, 5.6.3). The device tells none of these.
 #define IGNORED (UINT64_C(1) << 1 | UINT64_C(1) << 2)
-#define OFFERED_PROTOCOL (P_MQ | P_LOG_SHMFD | P_REPLY_ACK | P_CONFIG | P_RESET_DEVICE | P_CONFIGURE_MEM_SLOTS | P_STATUS)
+#define OFFERED_PROTOCOL (P_MQ | P_LOG_SHMFD | P_REPLY_ACK | P_CONFIG | P_RESET_DEVICE | P_INFLIGHT_SHMFD | P_CONFIGURE_MEM_SLOTS | P_STATUS)
 
 // How many messages of a session are taken before others of the daemon's descriptors are looked at.
-enum { MOST_MESSAGES = 64, WHY = 200, REGION_BYTES = 32, LOG_BYTES = 16, SPACE_HEAD = 12, MOST_SPACE = 256 };
+enum { MOST_MESSAGES = 64, WHY = 200, REGION_BYTES = 32, LOG_BYTES = 16, INFLIGHT_BYTES = 20, SPACE_HEAD = 12, MOST_SPACE = 256 };
 
 // Milliseconds: how often it is said that a file can't be written, and a ring is looked at that has no kick; how long a session is
 // served before others of the daemon's descriptors are looked at, but for one round; how long a session that ends has for a round; and how
@@ -45,6 +47,7 @@ bool session_begin(struct session *session, int socket, int epoll, struct disks 
   session->quiet = quiet;
   session->polls = polls;
   session->backend.disks = disks;
+  session->backend.waits = blocks_are_kept(disks);
   session->backend.count = FIXED_QUEUES + request_queues;
   reader_begin(&session->reader);
   queues_begin(session);
@@ -77,7 +80,7 @@ static bool set_log(struct session *session, const struct message *message) {
   // The device has the old one until it is told.
   session->backend.logs = false;
   if (session->backend.device.live && session->backend.mapped) backend_map(&session->backend);
-  bool taken = memory_set_log(&session->backend.memory, size, offset, message->fd_count ? message->fds[0] : -1);
+  bool taken = memory_set(&session->backend.memory.log, size, offset, message->fd_count ? message->fds[0] : -1);
   note_log(session);
   return taken && reply_number(session, message, 0);
 }
@@ -117,6 +120,7 @@ static bool set_memory(struct session *session, const struct message *message) {
     return false;
   }
   memory.log = backend->memory.log;
+  memory.places = backend->memory.places;
   backend->mapped = false;
   memory_clear(&backend->memory);
   backend->memory = memory;
@@ -137,8 +141,30 @@ static bool change_memory(struct session *session, const struct message *message
   return true;
 }
 
+// Takes the memory in which it is noted where rings stand: this daemon's, or one's before it.
+static bool set_places(struct session *session, const struct message *message) {
+  uint64_t size = little_get(message->payload, 8), offset = little_get(message->payload + 8, 8);
+  if (message->size != INFLIGHT_BYTES || message->fd_count != 1 || size != PLACES_BYTES) return false;
+  return memory_set(&session->backend.memory.places, size, offset, message->fds[0]);
+}
+
+// Makes such memory, and gives it to the front end, which keeps it when the daemon dies.
+static bool give_places(struct session *session, const struct message *message) {
+  uint8_t payload[INFLIGHT_BYTES] = {0};
+  int file = memfd_create("vscsi-places", MFD_CLOEXEC | MFD_ALLOW_SEALING);
+  bool made = message->size == INFLIGHT_BYTES && file >= 0 && !ftruncate(file, PLACES_BYTES) &&
+              memory_set(&session->backend.memory.places, PLACES_BYTES, 0, file);
+  memcpy(payload, message->payload, INFLIGHT_BYTES);
+  little_put(payload, made ? PLACES_BYTES : 0, 8);
+  little_put(payload + 8, 0, 8);
+  bool stands = protocol_give(session->socket, message, payload, INFLIGHT_BYTES, made ? file : -1);
+  if (file >= 0) close(file);
+  return stands;
+}
+
 static bool reset(struct session *session) {
   backend_end(&session->backend);
+  for (unsigned q = 0; q < session->backend.count; q++) ring_forget(&session->backend, q);
   queues_reset(session);
   session->status = 0;
   return true;
@@ -175,7 +201,8 @@ static bool get_config(const struct session *session, const struct message *mess
 // Whether the daemon knows this message, and whether it answers it itself: then there is no acknowledgement.
 static bool is_answered(uint32_t request) {
   return request == GET_FEATURES || request == GET_PROTOCOL_FEATURES || request == GET_QUEUE_NUM || request == GET_VRING_BASE ||
-         request == GET_CONFIG || request == GET_MAX_MEM_SLOTS || request == SET_LOG_BASE || request == GET_STATUS;
+         request == GET_CONFIG || request == GET_MAX_MEM_SLOTS || request == SET_LOG_BASE || request == GET_STATUS ||
+         request == GET_INFLIGHT_FD;
 }
 
 static bool take(struct session *session, struct message *message) {
@@ -203,6 +230,8 @@ static bool take(struct session *session, struct message *message) {
     case GET_QUEUE_NUM: return reply_number(session, message, session->backend.count);
     case SET_VRING_ENABLE: return queue_set_enable(session, message);
     case GET_CONFIG: return get_config(session, message);
+    case GET_INFLIGHT_FD: return give_places(session, message);
+    case SET_INFLIGHT_FD: return set_places(session, message);
     case SET_STATUS: return set_status(session, message);
     case GET_STATUS: return get_status(session, message);
     case SET_CONFIG: return message->size >= SPACE_HEAD;  // no field of a driver's is kept
@@ -439,7 +468,8 @@ void session_end(struct session *session) {
   backend_end(&session->backend);
   queues_end(session);
   memory_clear(&session->backend.memory);
-  memory_set_log(&session->backend.memory, 0, 0, -1);
+  memory_set(&session->backend.memory.log, 0, 0, -1);
+  memory_set(&session->backend.memory.places, 0, 0, -1);
   guard_begin(NULL);
   reader_end(&session->reader);
   if (session->is_waiting) message_close(&session->waiting);

@@ -68,6 +68,16 @@ void front_end(struct front *front) {
   close(front->epoll);
 }
 
+void front_again(struct front *front) {
+  int pair[2];
+  if (front->alive) session_end(&front->session);
+  close(front->socket);
+  MUST(!socketpair(AF_UNIX, SOCK_STREAM | SOCK_CLOEXEC, 0, pair));
+  front->socket = pair[0];
+  front->alive = session_begin(&front->session, pair[1], front->epoll, front->disks, QUEUES - FIXED_QUEUES, front->way.polls, true);
+  MUST(front->alive);
+}
+
 static int look(struct front *front, struct epoll_event *events) { return epoll_wait(front->epoll, events, MOST_EVENTS, 0); }
 
 static void take_events(struct front *front, const struct epoll_event *events, int count) {
@@ -217,6 +227,38 @@ size_t front_reply(struct front *front, uint8_t *payload, size_t room) {
   MUST(recv(front->socket, bytes, length, MSG_DONTWAIT) == (ssize_t)length || !length);
   memcpy(payload, bytes, length);
   return length;
+}
+
+static void places(struct sent *sent, uint32_t request, int file) {
+  little_put(message(sent, request, 20)->bytes + HEADER, file < 0 ? 0 : 4096, 8);
+  little_put(sent->bytes + HEADER + 16, QUEUES, 2);
+  sent->fds[0] = file;
+  sent->fd_count = file >= 0;
+}
+
+int front_places(struct front *front) {
+  union {
+    struct cmsghdr header;
+    char room[CMSG_SPACE(sizeof(int))];
+  } control = {0};
+  uint8_t bytes[HEADER + 20];
+  struct iovec part = {.iov_base = bytes, .iov_len = sizeof bytes};
+  struct msghdr header = {.msg_iov = &part, .msg_iovlen = 1, .msg_control = &control, .msg_controllen = sizeof control};
+  struct sent sent;
+  int file;
+  places(&sent, GET_INFLIGHT_FD, -1);
+  MUST(front_send(front, &sent, 0, sent.length));
+  pump(front);
+  MUST(recvmsg(front->socket, &header, MSG_DONTWAIT | MSG_CMSG_CLOEXEC) == (ssize_t)sizeof bytes && CMSG_FIRSTHDR(&header));
+  MUST(little_get(bytes + HEADER, 8) == 4096);
+  memcpy(&file, CMSG_DATA(CMSG_FIRSTHDR(&header)), sizeof file);
+  return file;
+}
+
+bool front_give_places(struct front *front, int file) {
+  struct sent sent;
+  places(&sent, SET_INFLIGHT_FD, file);
+  return front_ask(front, &sent);
 }
 
 void front_agree(struct front *front) {

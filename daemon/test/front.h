@@ -53,6 +53,13 @@ void front_begin(struct front *front, struct disks *disks, struct way way);
 void front_begin_sized(struct front *front, struct disks *disks, struct way way, uint16_t size);
 void front_end(struct front *front);
 
+// Ends the session, as where the daemon dies, and begins another one over the same memory.
+void front_again(struct front *front);
+
+// Has the daemon make memory in which it notes where rings stand. Returns its descriptor. front_give_places gives it.
+int front_places(struct front *front);
+bool front_give_places(struct front *front, int file);
+
 // Runs the daemon's session until it has nothing to do, or has its event loop turn once, without waiting.
 void pump(struct front *front);
 void turn(struct front *front);

@@ -2,6 +2,7 @@
 
 #include <errno.h>
 #include <string.h>
+#include <sys/mman.h>
 #include <unistd.h>
 
 #include "../bytes.h"
@@ -125,6 +126,57 @@ void test_stopped(void) {
     put_write(&front, Q, 1, 0);
     driver_kick(&front, Q);
     MUST(await(&front, Q, 1, PATIENCE) == 1 && is_good(&front, 1) && has(1, 0, false));
+    load_end(&front, &disks);
+  }
+}
+
+// Sets all rings up once more, from their beginning, with the memory in which it is noted where they stand.
+static void agree_again(struct front *front, int places) {
+  static struct sent sent[64];
+  front_again(front);
+  size_t count = front_set_up(front, sent, 0);
+  for (size_t i = 2; i < count; i++) {
+    if (i == 3 || i == 6) continue;  // these have replies of their own
+    MUST(front_ask(front, &sent[i]));
+    if (i == 2) MUST(front_give_places(front, places));
+  }
+}
+
+void test_killed(void) {
+  enum { QUEUE_BYTES = 64, BEFORE = 3, PAGE = 4096 };
+  for (unsigned number = 0; number < 2 * WAYS; number++) {
+    struct disks disks;
+    struct front front;
+    uint64_t first = 0;
+    load_make(&disks, "64G", "");
+    load_begin(&front, &disks, number % WAYS);
+    int file = front_places(&front);
+    uint64_t *place = mmap(NULL, PAGE, PROT_READ | PROT_WRITE, MAP_SHARED, file, 0);
+    MUST(place != MAP_FAILED);
+    place += Q * QUEUE_BYTES / sizeof *place;
+    for (unsigned i = 0; i < BEFORE; i++) {
+      put_write(&front, Q, i, i * APART);
+      driver_kick(&front, Q);
+      MUST(await(&front, Q, 1, PATIENCE) == 1);
+      if (i == BEFORE - 2) first = place[0];
+    }
+    faults.write_error = ENOSPC;
+    put_write(&front, Q, BEFORE, BEFORE * APART);
+    put_write(&front, Q, BEFORE + 1, (BEFORE + 1) * APART);
+    driver_kick(&front, Q);
+    MUST(await_error(&front, Q));
+    MUST(first && place[0] == place[1] && place[0] != first);
+    // It may die between what it shows and what it notes.
+    if (number >= WAYS) place[0] = first;
+    agree_again(&front, file);
+    faults_clear();
+    pass(&front, 5);
+    MUST(await(&front, Q, 2, PATIENCE) == 2 && has_all(&front, BEFORE + 2));
+    put_write(&front, Q, BEFORE + 2, (BEFORE + 2) * APART);
+    driver_kick(&front, Q);
+    MUST(await(&front, Q, 1, PATIENCE) == 1 && has_all(&front, BEFORE + 3));
+    munmap(place - Q * QUEUE_BYTES / sizeof *place, PAGE);
+    close(file);
     load_end(&front, &disks);
   }
 }

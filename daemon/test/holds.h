@@ -8,6 +8,9 @@ void test_held(void);
 // Queues that are stopped meanwhile: what was seen stays, and what wasn't runs once more.
 void test_stopped(void);
 
+// A daemon that dies while answers wait: the next one goes on behind what was shown, though the front end says another base.
+void test_killed(void);
+
 // Memory that is said anew while answers wait.
 void test_waiting(void);
 
