@@ -77,7 +77,7 @@ enum served backend_begin(struct backend *backend, char *why, size_t room) {
   backend->phase = IDLE;
   backend->steps = 0;
   backend->kicked = UINT32_MAX;
-  backend->asked = 0;
+  backend->seen = backend->asked = 0;
   if (make(backend, why, room)) {
     backend_map(backend);
     backend->pause = 0;
@@ -97,8 +97,15 @@ bool backend_has(const struct backend *backend, uint32_t queues) {
 // What came of having the device serve: nothing is left, something is, or memory was refused.
 enum ran { RAN, RUNS, REFUSED };
 
-// Has the device serve these queues until nothing is left, this time has come, or so many steps were taken.
-static enum ran run(struct backend *backend, uint32_t queues, uint64_t until, uint64_t most) {
+// Returns whether the device has to leave off. The clock is looked at only where something is left behind a call of the library's.
+static bool is_over(struct backend *backend) {
+  uint64_t now = clock_now();
+  if (!backend->until) backend->until = now + PORTION;
+  return now >= backend->until;
+}
+
+// Has the device serve these queues until nothing is left, it has to leave off, or so many steps were taken.
+static enum ran run(struct backend *backend, uint32_t queues, uint64_t most) {
   uint64_t each = backend->waits ? FEW_STEPS : MANY_STEPS;
   for (bool more = true; more;) {
     uint64_t steps = 0;
@@ -108,26 +115,26 @@ static enum ran run(struct backend *backend, uint32_t queues, uint64_t until, ui
     backend->took = backend->took || steps;
     if (backend->waits && (steps || !served)) blocks_note(&backend->device, backend->disks, backend->noted);
     if (!served) return REFUSED;
-    if (more && (backend->steps >= most || clock_now() >= until)) return RUNS;
+    if (more && (backend->steps >= most || is_over(backend))) return RUNS;
   }
   return RAN;
 }
 
 // Has the request queues served: all at once, or where one call leaves something, one after the other, each for some steps.
-static enum ran run_requests(struct backend *backend, uint32_t queues, uint64_t until) {
+static enum ran run_requests(struct backend *backend, uint32_t queues) {
   if (!backend->crowded) {
-    enum ran ran = run(backend, queues, until, backend->steps + MANY_STEPS);
+    enum ran ran = run(backend, queues, backend->steps + MANY_STEPS);
     backend->crowded = ran == RUNS;
     backend->quiet = 0;
     if (ran != RUNS) return ran;
   }
   while (backend->quiet < backend->count) {
     uint32_t one = queues & UINT32_C(1) << backend->turn;
-    enum ran ran = one ? run(backend, one, until, backend->steps + MANY_STEPS) : RAN;
+    enum ran ran = one ? run(backend, one, backend->steps + MANY_STEPS) : RAN;
     if (ran == REFUSED) return REFUSED;
     backend->quiet = ran == RAN ? backend->quiet + 1 : 0;
     backend->turn = (backend->turn + 1) % backend->count;
-    if (clock_now() >= until) return RUNS;
+    if (is_over(backend)) return RUNS;
   }
   backend->crowded = false;
   return RAN;
@@ -136,38 +143,44 @@ static enum ran run_requests(struct backend *backend, uint32_t queues, uint64_t 
 // Has the queues served. The control queue comes last: a driver made its functions available behind the requests that they are about. A
 // guest whose requests make chains available would keep it waiting for ever, but for the bound.
 static enum ran run_all(struct backend *backend, uint32_t queues) {
-  uint64_t until = clock_now() + PORTION;
-  bool has_control = queues & (backend->kicked | backend->asked | (backend->silent ? CONTROL : 0)) & CONTROL;
+  bool has_control = queues & (backend->seen | backend->asked | (backend->silent ? CONTROL : 0)) & CONTROL;
   if (!has_control) backend->steps = 0;
-  enum ran ran = run_requests(backend, queues & ~CONTROL, until);
+  backend->until = 0;
+  enum ran ran = run_requests(backend, queues & ~CONTROL);
   if (ran == REFUSED || !has_control || (ran == RUNS && backend->steps < MOST_STEPS_BEFORE)) return ran;
   backend->steps = 0;
-  enum ran control = run(backend, CONTROL, until, MOST_STEPS_BEFORE);
+  enum ran control = run(backend, CONTROL, MOST_STEPS_BEFORE);
   return control == RAN ? ran : control;
 }
 
 // Has the device end what it began.
-static enum ran settle(struct backend *backend) { return run(backend, NO_QUEUES, clock_now() + PORTION, UINT64_MAX); }
+static enum ran settle(struct backend *backend) {
+  backend->until = 0;
+  return run(backend, NO_QUEUES, UINT64_MAX);
+}
 
 // Learns which queues the guest broke.
 static void note_faults(struct backend *backend) {
   if (!device_is_broken(&backend->device)) return;
-  for (unsigned q = 0; q < backend->count; q++)
-    if (backend->queues[q].ready) backend->queues[q].fault = device_fault(&backend->device, q);
+  for (unsigned q = 0; q < backend->count; q++) {
+    struct backend_queue *queue = &backend->queues[q];
+    if (!queue->ready || queue->fault) continue;
+    queue->fault = device_fault(&backend->device, q);
+    backend->broken = backend->broken || queue->fault;
+  }
 }
 
 // Asks drivers that name the chain of which they notify for the next one. Returns whether another look is wanted, since one may have come
 // before the driver saw that. What is found then has them asked once more.
 static bool ask(struct backend *backend, uint32_t queues) {
-  uint32_t asked = (backend->kicked | (backend->took ? backend->asked : 0)) & queues;
+  uint32_t asked = (backend->seen | (backend->took ? backend->asked : 0)) & queues;
   bool names = backend->event_index && !backend->packed;
-  backend->kicked = 0;
+  backend->seen = 0;
   // Each ring was said not to notify, and is to do so again.
   if (backend->silent) asked = queues;
   backend->asked = names || backend->silent ? asked : 0;
   backend->silent = false;
-  for (unsigned q = 0; backend->asked >> q; q++)
-    if (backend->asked >> q & 1) device_ask(&backend->device, q, true);
+  for (uint32_t left = backend->asked; left; left &= left - 1) device_ask(&backend->device, (unsigned)__builtin_ctz(left), true);
   return backend->asked;
 }
 
@@ -175,8 +188,7 @@ static bool ask(struct backend *backend, uint32_t queues) {
 static bool hush(struct backend *backend, uint32_t queues) {
   enum { EVERY = 1 << 14 };
   if (backend->silent && backend->all_steps - backend->hushed < EVERY) return true;
-  for (unsigned q = 0; queues >> q; q++)
-    if (queues >> q & 1) device_ask(&backend->device, q, false);
+  for (uint32_t left = queues; left; left &= left - 1) device_ask(&backend->device, (unsigned)__builtin_ctz(left), false);
   backend->silent = true;
   backend->hushed = backend->all_steps;
   return true;
@@ -226,24 +238,20 @@ static enum served serve_at_once(struct backend *backend, uint32_t queues, uint3
   return SERVED;
 }
 
-// Returns the queues of these that may be served.
-static uint32_t served_ones(const struct backend *backend, uint32_t queues) {
-  uint32_t ones = 0;
-  for (unsigned q = 0; q < backend->count; q++)
-    if (queues >> q & 1 && backend->queues[q].ready && !backend->queues[q].fault) ones |= UINT32_C(1) << q;
-  return ones;
-}
-
 enum served backend_serve(struct backend *backend, uint32_t queues, uint32_t *owed) {
   if (backend->pause && clock_now() < backend->due) return LATER;
   if (!backend->mapped) backend_map(backend);
   if (!backend->mapped) return put_off(backend);
-  queues = served_ones(backend, queues);
-  if (backend->phase == IDLE) backend->took = false;
+  if (backend->phase == IDLE || !backend->waits) {
+    backend->seen |= backend->kicked;
+    backend->kicked = 0;
+    backend->took = false;
+  }
   enum served served = backend->waits ? wait_round(backend, queues, owed) : serve_at_once(backend, queues, owed);
   if (served != SERVED) return served;
   note_faults(backend);
-  return backend->left || (backend->polls ? hush(backend, queues) : ask(backend, queues)) ? MORE : SERVED;
+  bool again = !backend->left && (backend->polls ? hush(backend, queues) : ask(backend, queues));
+  return again || backend->left || backend->kicked & queues ? MORE : SERVED;
 }
 
 bool backend_is_busy(const struct backend *backend) { return backend->device.live && backend->phase != IDLE; }

@@ -45,12 +45,15 @@ struct backend {
   bool logs;              // pages that are written are noted
   bool left;              // something was left of the queues
   enum phase phase;
-  uint32_t kicked;        // queues whose driver notified, and wasn't asked to do so again
+  uint32_t kicked;        // queues whose driver notified, and that weren't looked at since
+  uint32_t seen;          // those that were, and whose driver wasn't asked to do so again
   uint32_t asked;         // those that were asked behind the last call
   bool took;              // the device took steps in this call
   bool polls;             // rings are looked at all the time, and drivers are asked not to notify
   bool silent;            // they were asked that, after so many steps
   uint64_t hushed;
+  bool broken;            // a queue's fault was found, and not told yet
+  uint64_t until;         // when the device has to leave off in this call, or 0 where that isn't known yet
   uint64_t steps;         // of request queues since the control queue was kicked
   uint64_t all_steps;     // that a device ever took
   bool crowded;           // request queues take turns, since one call didn't serve them all
@@ -87,7 +90,8 @@ enum served backend_stop(struct backend *backend, uint64_t passed, uint32_t *owe
 // Returns whether a driver made something available on one of these queues, which has no device yet.
 bool backend_has(const struct backend *backend, uint32_t queues);
 
-// Serves these queues, for some 20 milliseconds at the most. Sets the bits of those whose driver wants to be notified.
+// Serves these queues, which are ready and whole, for some 20 milliseconds at the most. Sets the bits of those whose driver wants to be
+// notified.
 enum served backend_serve(struct backend *backend, uint32_t queues, uint32_t *owed);
 
 #endif

@@ -87,6 +87,7 @@ void queues_find(struct session *session, bool breaks) {
     struct backend_queue *queue = &backend->queues[q];
     bool is_lost = session->queues[q].started && !queue->fault && !find(session, q);
     if (is_lost && breaks) queue->fault = VSCSI_BROKEN_UNMAPPED;
+    backend->broken = backend->broken || (is_lost && breaks);
     is_whole = is_whole && (!is_lost || breaks);
   }
   session->is_torn = !is_whole;

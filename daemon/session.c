@@ -51,6 +51,7 @@ bool session_begin(struct session *session, int socket, int epoll, struct disks 
   session->backend.count = FIXED_QUEUES + request_queues;
   reader_begin(&session->reader);
   queues_begin(session);
+  session->is_old = true;
   guard_begin(&session->backend.memory);
   session->timer = timerfd_create(CLOCK_MONOTONIC, TFD_CLOEXEC | TFD_NONBLOCK);
   if (watch(epoll, session->timer, EVENT_TIMER) && watch(epoll, socket, EVENT_SOCKET)) return true;
@@ -241,6 +242,7 @@ static bool take(struct session *session, struct message *message) {
 
 // Does what a message says, and acknowledges it. Returns false where the connection is over.
 static bool finish(struct session *session, struct message *message) {
+  session->is_old = true;
   bool taken = take(session, message), stands = taken;
   message_close(message);
   bool is_acknowledged = session->protocol & P_REPLY_ACK && message->flags & NEEDS_REPLY && !is_answered(message->request);
@@ -328,12 +330,13 @@ void session_kicked(struct session *session, unsigned what) {
 }
 
 static void notify(struct session *session, uint32_t owed) {
-  for (unsigned q = 0; owed >> q; q++)
-    if (owed >> q & 1) signal_fd(session->queues[q].call);
+  for (; owed; owed &= owed - 1) signal_fd(session->queues[__builtin_ctz(owed)].call);
 }
 
 // Tells of rings that are broken.
 static void tell_broken(struct session *session) {
+  session->backend.broken = false;
+  session->is_old = true;
   for (unsigned q = 0; q < session->backend.count; q++) {
     struct session_queue *queue = &session->queues[q];
     uint32_t fault = session->backend.queues[q].fault;
@@ -367,21 +370,11 @@ static void set_timer(const struct session *session, uint64_t left) {
   timerfd_settime(session->timer, 0, &when, NULL);
 }
 
-// Returns whether a queue that is to be served has no kick, so that its driver's ring has to be looked at.
-static bool is_polled(const struct session *session) {
-  for (unsigned q = 0; q < session->backend.count; q++) {
-    const struct session_queue *queue = &session->queues[q];
-    if (queue->started && queue->enabled && queue->kick < 0) return true;
-  }
-  return false;
-}
-
-// Sets the timer to when the session is to be served again with no other cause, if it is.
+// Sets the timer to when the session is to be served again with no other cause, if it is. A ring that has no kick is looked at.
 static void set_next(const struct session *session, enum served served) {
-  uint64_t now = clock_now(), due = session->backend.due, left = due > now ? due - now : 1;
-  if (session->more) return;
-  if (is_polled(session)) left = POLL;
-  if (served == LATER || is_polled(session)) set_timer(session, left);
+  if (session->more || (served != LATER && !session->kickless)) return;
+  uint64_t now = clock_now(), due = session->backend.due;
+  set_timer(session, session->kickless ? POLL : due > now ? due - now : 1);
 }
 
 // Makes the device where something is available for it. Returns MORE where there is one then.
@@ -396,8 +389,8 @@ static enum served make_device(struct session *session, uint32_t queues, char *w
 
 // Says how a session that was served goes on. Returns false where it has to end.
 static bool note_served(struct session *session, enum served served, const char *why) {
-  tell_files(session);
-  tell_broken(session);
+  if (session->backend.waits) tell_files(session);
+  if (session->backend.broken) tell_broken(session);
   if (served == FAILED) return log_say(LOG_ERROR, NULL, "the session ends: %s", why), false;
   session->more = served == MORE || served == BUSY;
   set_next(session, served);
@@ -418,6 +411,19 @@ static bool stop(struct session *session) {
   return finish(session, &session->waiting) && read_on(session);
 }
 
+// Finds the queues that are served, and those of them that have no kick.
+static void find_served(struct session *session) {
+  session->is_old = false;
+  session->served = session->kickless = 0;
+  for (unsigned q = 0; q < session->backend.count; q++) {
+    const struct session_queue *queue = &session->queues[q];
+    const struct backend_queue *ring = &session->backend.queues[q];
+    if (!queue->started || !queue->enabled || !ring->ready || ring->fault) continue;
+    session->served |= UINT32_C(1) << q;
+    if (queue->kick < 0) session->kickless |= UINT32_C(1) << q;
+  }
+}
+
 // Returns whether a driver that is polled made something available a moment ago.
 static bool is_busy(struct session *session) {
   uint64_t now = clock_now();
@@ -428,21 +434,16 @@ static bool is_busy(struct session *session) {
 static bool serve(struct session *session) {
   struct backend *backend = &session->backend;
   char why[WHY] = "";
-  uint32_t queues = 0;
   if (session->is_waiting) return stop(session);
   session->more = false;
   if (session->is_torn) return true;
-  for (unsigned q = 0; q < backend->count; q++) {
-    const struct session_queue *queue = &session->queues[q];
-    if (!queue->started || !queue->enabled) continue;
-    queues |= UINT32_C(1) << q;
-    if (queue->kick < 0) backend->kicked |= UINT32_C(1) << q;
-  }
-  enum served served = backend->device.live ? MORE : make_device(session, queues, why, sizeof why);
+  if (session->is_old) find_served(session);
+  backend->kicked |= session->kickless;
+  enum served served = backend->device.live ? MORE : make_device(session, session->served, why, sizeof why);
   for (uint64_t until = 0; served == MORE;) {
     uint32_t owed = 0;
     backend->polls = session->polls && is_busy(session);
-    served = backend_serve(backend, queues, &owed);
+    served = backend_serve(backend, session->served, &owed);
     notify(session, owed);
     if (served == SERVED && session->polls && backend->took) served = MORE;
     if (served == MORE && !until) until = clock_now() + (session->polls ? POLL : LONGEST);

@@ -27,6 +27,8 @@ struct session {
   bool polls;              // rings are looked at while their driver is busy, and it isn't asked to notify meanwhile
   uint64_t busy;           // when something was last found there
   bool is_torn;            // a ring's memory is gone, and may come again
+  bool is_old;             // something changed since these were found: the queues that are served, and those that have no kick
+  uint32_t served, kickless;
   int timer;               // by which a round that has to wait is tried again
   struct message waiting;  // a message that has to wait for the requests that the device has run to be answered, and since when
   bool is_waiting;

@@ -196,8 +196,8 @@ void test_zeros(void) {
 static void serve(struct front *front) {
   uint32_t owed = 0;
   enum served served = BUSY;
-  front->session.backend.kicked = UINT32_MAX;
-  while (served == BUSY) served = backend_serve(&front->session.backend, UINT32_MAX, &owed);
+  front->session.backend.kicked = (1u << QUEUES) - 1;
+  while (served == BUSY) served = backend_serve(&front->session.backend, (1u << QUEUES) - 1, &owed);
   MUST(served == SERVED || served == MORE);
 }
 
