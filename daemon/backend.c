@@ -22,8 +22,8 @@ static enum served put_off(struct backend *backend) {
 }
 
 // Where the queues lie that the driver didn't set up: rings of zeros behind the guest's memory, which nothing ever changes.
-static struct vscsi_ring idle_ring(void) {
-  return (struct vscsi_ring){.desc = MEMORY_END, .driver = MEMORY_END + 0x100, .device = MEMORY_END + 0x200, .size = 2};
+static struct ring idle_ring(void) {
+  return (struct ring){.desc = MEMORY_END, .driver = MEMORY_END + 0x100, .device = MEMORY_END + 0x200, .size = 2};
 }
 
 static size_t add(struct vscsi_region *regions, size_t count, uint64_t guest, uint64_t end, void *host) {
@@ -45,13 +45,16 @@ void backend_map(struct backend *backend) {
     count = add(regions, count, at, end, region->at + (at - region->guest));
   }
   backend->mapped = device_map(&backend->device, regions, count);
-  const struct region *log = &backend->memory.log;
-  device_log(&backend->device, backend->logs ? log->at : NULL, backend->logs ? (size_t)log->size : 0);
+}
+
+void backend_unmap(struct backend *backend) {
+  if (backend->device.live && backend->mapped) rings_end(backend);
+  backend->mapped = false;
 }
 
 static bool make(struct backend *backend, char *why, size_t room) {
   struct vscsi_unit units[DEVICE_MOST_UNITS];
-  struct vscsi_ring rings[DEVICE_MOST_QUEUES];
+  struct ring rings[DEVICE_MOST_QUEUES];
   for (size_t i = 0; i < backend->disks->count; i++) {
     const struct disk *disk = &backend->disks->disks[i];
     // Calm: the disks were on before the guest was, and nobody has to be told of that.
@@ -61,13 +64,12 @@ static bool make(struct backend *backend, char *why, size_t room) {
   const struct vscsi_live_config config = {.size = sizeof config,
                                            .features = VSCSI_F_VERSION_1 | (backend->packed ? VSCSI_F_RING_PACKED : 0) |
                                                        (backend->event_index ? VSCSI_F_EVENT_IDX : 0) | (backend->indirect ? VSCSI_F_INDIRECT_DESC : 0),
-                                           .rings = rings,
                                            .ring_count = backend->count,
                                            .units = units,
                                            .unit_count = backend->disks->count};
   memset(backend->noted, 0, sizeof backend->noted);
   memset(backend->idle, 0, sizeof backend->idle);
-  return blocks_load(backend->disks, why, room) && device_create(&backend->device, &config, backend->disks->stores, &backend->starved, why, room);
+  return blocks_load(backend->disks, why, room) && device_create(&backend->device, config, rings, backend->disks->stores, &backend->starved, why, room);
 }
 
 enum served backend_begin(struct backend *backend, char *why, size_t room) {
@@ -106,14 +108,14 @@ static bool is_over(struct backend *backend) {
 
 // Has the device serve these queues until nothing is left, it has to leave off, or so many steps were taken.
 static enum ran run(struct backend *backend, uint32_t queues, uint64_t most) {
-  uint64_t each = backend->waits ? FEW_STEPS : MANY_STEPS;
+  uint64_t each = backend->keeps ? FEW_STEPS : MANY_STEPS;
   for (bool more = true; more;) {
     uint64_t steps = 0;
     bool served = device_serve(&backend->device, queues, each, &steps, &more);
     backend->steps += steps;
     backend->all_steps += steps;
     backend->took = backend->took || steps;
-    if (backend->waits && (steps || !served)) blocks_note(&backend->device, backend->disks, backend->noted);
+    if (backend->keeps && (steps || !served)) blocks_note(&backend->device, backend->disks, backend->noted);
     if (!served) return REFUSED;
     if (more && (backend->steps >= most || is_over(backend))) return RUNS;
   }
@@ -180,7 +182,7 @@ static bool ask(struct backend *backend, uint32_t queues) {
   if (backend->silent) asked = queues;
   backend->asked = names || backend->silent ? asked : 0;
   backend->silent = false;
-  for (uint32_t left = backend->asked; left; left &= left - 1) device_ask(&backend->device, (unsigned)__builtin_ctz(left), true);
+  for (uint32_t left = backend->asked; left; left &= left - 1) ring_ask(backend, (unsigned)__builtin_ctz(left), true);
   return backend->asked;
 }
 
@@ -188,7 +190,7 @@ static bool ask(struct backend *backend, uint32_t queues) {
 static bool hush(struct backend *backend, uint32_t queues) {
   enum { EVERY = 1 << 14 };
   if (backend->silent && backend->all_steps - backend->hushed < EVERY) return true;
-  for (uint32_t left = queues; left; left &= left - 1) device_ask(&backend->device, (unsigned)__builtin_ctz(left), false);
+  for (uint32_t left = queues; left; left &= left - 1) ring_ask(backend, (unsigned)__builtin_ctz(left), false);
   backend->silent = true;
   backend->hushed = backend->all_steps;
   return true;
@@ -221,7 +223,7 @@ static enum served wait_round(struct backend *backend, uint32_t queues, uint32_t
     ran = settle(backend);
     if (ran == RAN) backend->phase = WRITING;
   }
-  *owed |= device_owed(&backend->device) & EVENTS;
+  *owed |= device_owed(&backend->device) & (ring_waits(backend, EVENT_QUEUE) ? 0 : EVENTS);
   if (ran == REFUSED) return put_off(backend);
   backend->pause = 0;
   return backend->phase == WRITING ? keep(backend, false, owed) : BUSY;
@@ -257,10 +259,9 @@ enum served backend_serve(struct backend *backend, uint32_t queues, uint32_t *ow
 bool backend_is_busy(const struct backend *backend) { return backend->device.live && backend->phase != IDLE; }
 
 void backend_end(struct backend *backend) {
-  if (backend->device.live) rings_end(backend);
+  backend_unmap(backend);
   backend->phase = IDLE;
   backend->pause = 0;
-  backend->mapped = false;
   if (!device_end(&backend->device, backend->disks->stores, backend->disks->count)) backend->disks->lost = true;
 }
 
@@ -278,7 +279,7 @@ enum served backend_stop(struct backend *backend, uint64_t passed, uint32_t *owe
   if (!is_late && backend->pause && clock_now() < backend->due) return wait_for(backend, passed);
   if (backend->phase != WRITING) {
     enum ran ran = backend->mapped ? settle(backend) : REFUSED;
-    *owed |= device_owed(&backend->device) & (backend->waits ? EVENTS : UINT32_MAX);
+    *owed |= device_owed(&backend->device) & (!backend->waits ? UINT32_MAX : ring_waits(backend, EVENT_QUEUE) ? 0 : EVENTS);
     if (ran != RAN && is_late) return snprintf(why, room, "the device doesn't end what it began"), FAILED;
     if (ran == REFUSED) return put_off(backend), wait_for(backend, passed);
     if (ran == RUNS) return BUSY;

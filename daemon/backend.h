@@ -18,15 +18,18 @@ enum { FIXED_QUEUES = 2, CONTROL_QUEUE = 0, EVENT_QUEUE = 1, MOST_QUEUES = DEVIC
 enum { DESCRIPTOR = 16 };
 
 struct backend_queue {
-  struct vscsi_ring ring;          // by the guest's addresses; `first` is where it goes on behind all that was shown to the guest
+  struct ring ring;                // by the guest's addresses; `first` is where it goes on behind all that was shown to the guest
   bool ready;                      // its areas are in the guest's memory
-  bool is_even;                    // it began with nothing that was taken and not given back
   uint32_t fault;                  // by which it is broken, or VSCSI_BROKEN_NOT
   uint8_t *desc_at, *device_at;    // where these areas stand here
   // Of a queue whose answers wait, what the device has in place of its used index, or of the descriptors of a packed ring.
   uint16_t index;
   _Alignas(16) uint8_t descriptors[DESCRIPTOR * DEVICE_MOST_SIZE];
+  uint16_t lengths[DEVICE_MOST_SIZE];  // of each chain there, by its first descriptor
 };
+
+// The fault of a queue whose memory is gone, beside those of the library.
+enum { FAULT_UNMAPPED = 11 };
 
 // A round of answers that wait: the device runs requests, and ends what it began; then what they changed is written to the files, and all
 // answers are shown. A backend whose answers don't wait is RUNNING while the device has begun requests.
@@ -40,9 +43,9 @@ struct backend {
   struct backend_queue queues[MOST_QUEUES];
   unsigned count;
   bool packed, event_index, indirect;
-  bool waits;             // answers wait for files
+  bool keeps;             // disks are kept on files
+  bool waits;             // answers wait: for files, or until it is known where packed rings stand
   bool mapped;            // the device has the guest's memory as it is
-  bool logs;              // pages that are written are noted
   bool left;              // something was left of the queues
   enum phase phase;
   uint32_t kicked;        // queues whose driver notified, and that weren't looked at since
@@ -77,7 +80,9 @@ enum served backend_begin(struct backend *backend, char *why, size_t room);
 void backend_end(struct backend *backend);
 
 // Has the device work in the guest's memory as it is now, or where that can't be, not at all until the next call of backend_serve.
+// backend_unmap comes before that memory changes.
 void backend_map(struct backend *backend);
+void backend_unmap(struct backend *backend);
 
 // Returns whether the device has begun requests, or has answers that wait, so that letting go of it would have some run once more.
 bool backend_is_busy(const struct backend *backend);

@@ -19,9 +19,22 @@ bool store_stands(const struct vscsi_disk *store) {
   return vscsi_disk_blocks(store, &blocks) == VSCSI_DONE;
 }
 
-bool device_create(struct device *device, const struct vscsi_live_config *config, struct vscsi_disk *stores, bool *starved, char *why, size_t room) {
+// A base as the library has it: the wrap counter of a packed ring in bit 15.
+static uint16_t base(uint16_t place, bool wrapped, bool packed) { return (uint16_t)(place | (packed && !wrapped ? 1 << 15 : 0)); }
+
+bool device_create(struct device *device, struct vscsi_live_config config, const struct ring *rings, struct vscsi_disk *stores, bool *starved,
+                   char *why, size_t room) {
   struct vscsi_fault fault = {0};
-  enum vscsi_answer answer = vscsi_live_create(&device->vscsi, config, stores, &fault);
+  struct vscsi_ring its[DEVICE_MOST_QUEUES];
+  bool packed = config.features & VSCSI_F_RING_PACKED;
+  for (size_t q = 0; q < config.ring_count; q++) {
+    const struct position *first = &rings[q].first;
+    its[q] = (struct vscsi_ring){.desc = rings[q].desc, .driver = rings[q].driver, .device = rings[q].device, .size = rings[q].size,
+                                 .available = base(first->available, first->available_wrapped, packed),
+                                 .used = base(first->used, first->used_wrapped, packed)};
+  }
+  config.rings = its;
+  enum vscsi_answer answer = vscsi_live_create(&device->vscsi, &config, stores, &fault);
   device->live = answer == VSCSI_DONE;
   *starved = answer == VSCSI_NO_MEMORY;
   if (answer == VSCSI_BAD_CONFIG) snprintf(why, room, "no device: %s (%llu, %u)", vscsi_cause_text(fault.cause), (unsigned long long)fault.place, fault.detail);
@@ -40,8 +53,6 @@ bool device_map(struct device *device, const struct vscsi_region *regions, size_
   return vscsi_map(&device->vscsi, regions, count) == VSCSI_DONE;
 }
 
-void device_log(struct device *device, uint8_t *bitmap, size_t bytes) { vscsi_log(&device->vscsi, bitmap, bytes); }
-
 bool device_serve(struct device *device, uint32_t queues, uint64_t most, uint64_t *steps, bool *more) {
   return vscsi_live_serve(&device->vscsi, queues, most, steps, more) == VSCSI_DONE;
 }
@@ -51,12 +62,6 @@ uint32_t device_owed(struct device *device) {
   vscsi_live_owed(&device->vscsi, &owed);
   return owed;
 }
-
-bool device_position(struct device *device, unsigned queue, struct vscsi_position *position) {
-  return vscsi_live_position(&device->vscsi, (uint16_t)queue, position) == VSCSI_DONE;
-}
-
-void device_ask(struct device *device, unsigned queue, bool notify) { vscsi_live_ask(&device->vscsi, (uint16_t)queue, notify); }
 
 bool device_is_broken(struct device *device) {
   uint8_t status = 0;

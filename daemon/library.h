@@ -15,6 +15,19 @@ struct device {
   bool live;
 };
 
+// Where a ring goes on: of a split one the next indices, of a packed one the next slots, and whether the wrap counter of each side is 0.
+struct position {
+  uint16_t available, used;
+  bool available_wrapped, used_wrapped;
+};
+
+// Where the driver put a queue, and where it goes on.
+struct ring {
+  uint64_t desc, driver, device;
+  uint16_t size;
+  struct position first;
+};
+
 // Makes a disk of zeros, puts blocks over some of its own, copies some out, lets go of it, and tells whether there is one.
 bool store_make(struct vscsi_disk *store, uint64_t blocks);
 bool store_load(struct vscsi_disk *store, uint64_t first, uint32_t count, const void *bytes);
@@ -22,18 +35,16 @@ bool store_save(struct vscsi_disk *store, uint64_t first, uint32_t count, void *
 void store_drop(struct vscsi_disk *store);
 bool store_stands(const struct vscsi_disk *store);
 
-// Makes a device of a configuration over disks, which are the device's then. Returns false where it can't be, and says why in `why`. Where
-// memory was refused `starved` is true, and another try may go well.
-bool device_create(struct device *device, const struct vscsi_live_config *config, struct vscsi_disk *stores, bool *starved, char *why, size_t room);
+// Makes a device of a configuration, whose rings are these, over disks, which are the device's then. Returns false where it can't be, and
+// says why in `why`. Where memory was refused `starved` is true, and another try may go well.
+bool device_create(struct device *device, struct vscsi_live_config config, const struct ring *rings, struct vscsi_disk *stores, bool *starved,
+                   char *why, size_t room);
 
 // Ends a device, if there is one, and takes its disks back. Returns false where memory was refused: they are lost.
 bool device_end(struct device *device, struct vscsi_disk *stores, size_t count);
 
 // Has the device work in these regions of memory. Returns false where it can't: then it works where it did.
 bool device_map(struct device *device, const struct vscsi_region *regions, size_t count);
-
-// Has the device note each page that it writes in a bitmap of so many bytes, or in none where `bitmap` is NULL.
-void device_log(struct device *device, uint8_t *bitmap, size_t bytes);
 
 // Serves what is available on these queues (bit 0 is queue 0), and what was begun before, by at most so many steps. `steps` is how many
 // these were, and `more` tells whether one is left. Returns false where memory was refused: what was served before stands, and a later
@@ -42,12 +53,6 @@ bool device_serve(struct device *device, uint32_t queues, uint64_t most, uint64_
 
 // Returns the queues whose driver is to be notified.
 uint32_t device_owed(struct device *device);
-
-// Tells where the device goes on in a queue.
-bool device_position(struct device *device, unsigned queue, struct vscsi_position *position);
-
-// Asks the driver of a queue to notify of its next chain, or of none.
-void device_ask(struct device *device, unsigned queue, bool notify);
 
 // Returns whether a guest broke any queue, and by which fault it broke this one: VSCSI_BROKEN_NOT where it didn't.
 bool device_is_broken(struct device *device);

@@ -101,14 +101,9 @@ bool memory_set(struct region *region, uint64_t size, uint64_t offset, int descr
   return true;
 }
 
-void memory_note(const struct memory *memory, uint64_t guest) {
-  uint64_t page = guest / PAGE;
-  if (memory->log.map && page / 8 < memory->log.size) __atomic_fetch_or(memory->log.at + page / 8, (uint8_t)(1u << page % 8), __ATOMIC_SEQ_CST);
-}
-
 bool memory_blank(const struct memory *memory, const void *at) {
-  for (size_t i = 0; i < memory->count + 2; i++) {
-    const struct region *region = i < memory->count ? &memory->regions[i] : i == memory->count ? &memory->log : &memory->places;
+  for (size_t i = 0; i <= memory->count; i++) {
+    const struct region *region = i < memory->count ? &memory->regions[i] : &memory->places;
     uintptr_t first = (uintptr_t)region->map;
     if ((uintptr_t)at < first || (uintptr_t)at - first >= region->mapped) continue;
     int flags = MAP_PRIVATE | MAP_ANONYMOUS | MAP_NORESERVE | MAP_FIXED;

@@ -21,12 +21,11 @@ struct region {
   size_t mapped;
 };
 
-// The regions stand in the order of the guest's addresses. Two more are the front end's own: `log` has a bit for each page of 4 KiB, from
-// address 0 on, that was written; and `places` says where rings stand (rings.h).
+// The regions stand in the order of the guest's addresses. `places` is the front end's own, and says where rings stand (rings.h).
 struct memory {
   struct region regions[MOST_REGIONS];
   size_t count;
-  struct region log, places;
+  struct region places;
 };
 
 // Maps a region and adds it, and asks that its file isn't made shorter. Doesn't close the descriptor. Returns false where the region
@@ -38,16 +37,13 @@ bool memory_remove(struct memory *memory, uint64_t guest, uint64_t size, uint64_
 
 void memory_clear(struct memory *memory);
 
-// Puts zeros in the place of the region, the log or the places that have this address of the daemon's. Returns false where none has. It may be called by a signal's
+// Puts zeros in the place of the region, or the places, that have this address of the daemon's. Returns false where none has. It may be called by a signal's
 // handler.
 bool memory_blank(const struct memory *memory, const void *at);
 
-// Maps so many bytes of a descriptor's file as the log or the places, instead of what was mapped, or none where the descriptor is below 0.
-// Returns false where it can't be.
+// Maps so many bytes of a descriptor's file as the places, instead of what was mapped, or none where the descriptor is below 0. Returns
+// false where it can't be.
 bool memory_set(struct region *region, uint64_t size, uint64_t offset, int descriptor);
-
-// Notes in the log, if there is one, that the page of an address was written.
-void memory_note(const struct memory *memory, uint64_t guest);
 
 // Returns where so many bytes of the guest stand here, or NULL where they aren't in one region.
 uint8_t *memory_at(const struct memory *memory, uint64_t guest, uint64_t count);

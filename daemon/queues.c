@@ -59,7 +59,7 @@ static bool named(const struct session *session, const struct message *message, 
 static bool find(struct session *session, unsigned q) {
   const struct session_queue *queue = &session->queues[q];
   struct backend *backend = &session->backend;
-  struct vscsi_ring *ring = &backend->queues[q].ring;
+  struct ring *ring = &backend->queues[q].ring;
   ring->size = queue->size;
   backend->queues[q].ready = queue->addressed && memory_guest(&backend->memory, queue->desc, &ring->desc) &&
                              memory_guest(&backend->memory, queue->driver, &ring->driver) &&
@@ -70,7 +70,7 @@ static bool find(struct session *session, unsigned q) {
 // Returns whether a queue's areas lie by the guest's addresses where they lay.
 static bool stays(struct session *session, unsigned q) {
   const struct session_queue *queue = &session->queues[q];
-  const struct vscsi_ring *ring = &session->backend.queues[q].ring;
+  const struct ring *ring = &session->backend.queues[q].ring;
   uint64_t desc, driver, device;
   bool is_there = memory_guest(&session->backend.memory, queue->desc, &desc) && memory_guest(&session->backend.memory, queue->driver, &driver) &&
                   memory_guest(&session->backend.memory, queue->device, &device);
@@ -86,7 +86,7 @@ void queues_find(struct session *session, bool breaks) {
   for (unsigned q = 0; q < backend->count; q++) {
     struct backend_queue *queue = &backend->queues[q];
     bool is_lost = session->queues[q].started && !queue->fault && !find(session, q);
-    if (is_lost && breaks) queue->fault = VSCSI_BROKEN_UNMAPPED;
+    if (is_lost && breaks) queue->fault = FAULT_UNMAPPED;
     backend->broken = backend->broken || (is_lost && breaks);
     is_whole = is_whole && (!is_lost || breaks);
   }
@@ -104,6 +104,7 @@ static bool start(struct session *session, unsigned q) {
   backend->packed = session->features & VSCSI_F_RING_PACKED;
   backend->event_index = session->features & VSCSI_F_EVENT_IDX;
   backend->indirect = session->features & VSCSI_F_INDIRECT_DESC;
+  backend->waits = backend->keeps || backend->packed;
   backend->queues[q].fault = VSCSI_BROKEN_NOT;
   queue->told = false;
   bool is_found = find(session, q);
@@ -136,7 +137,7 @@ bool queue_set_addresses(struct session *session, const struct message *message)
   if (q >= session->backend.count) return false;
   struct session_queue *queue = &session->queues[q];
   uint64_t desc = little_get(message->payload + 8, 8), device = little_get(message->payload + 16, 8), driver = little_get(message->payload + 24, 8);
-  // While it runs only a log of writes may change, and the daemon has one for all.
+  // While it runs only a log of writes may change, and the daemon keeps none.
   if (queue->started) return desc == queue->desc && driver == queue->driver && device == queue->device;
   queue->desc = desc;
   queue->driver = driver;

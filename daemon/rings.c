@@ -7,11 +7,13 @@
 // Descriptor flags of a packed ring (VIRTIO 1.2, 2.8.1), and where a used descriptor and its flags begin.
 enum { FLAG_NEXT = 1, FLAG_AVAILABLE = 0x80, FLAG_USED = 0x8000, USED_AT = 8, FLAGS_AT = 14 };
 
+static void store(uint8_t *at, uint16_t number) { __atomic_store_n((uint16_t *)(void *)at, number, __ATOMIC_RELEASE); }
+
 static uint16_t load(const uint8_t *at) { return __atomic_load_n((const uint16_t *)(const void *)at, __ATOMIC_ACQUIRE); }
 
 bool ring_find(struct backend *backend, unsigned q) {
   struct backend_queue *queue = &backend->queues[q];
-  const struct vscsi_ring *ring = &queue->ring;
+  const struct ring *ring = &queue->ring;
   uint64_t size = ring->size, event = backend->event_index ? 2 : 0;
   bool packed = backend->packed, is_sized = size >= 2 && size <= DEVICE_MOST_SIZE && (packed || !(size & (size - 1)));
   if (!is_sized || ring->desc % 16 || ring->driver % (packed ? 4 : 2) || ring->device % 4) return false;
@@ -34,13 +36,13 @@ static void step(const struct backend_queue *queue, uint16_t *slot, bool *wrappe
 
 bool ring_has(const struct backend *backend, unsigned q) {
   const struct backend_queue *queue = &backend->queues[q];
-  const struct vscsi_position *first = &queue->ring.first;
+  const struct position *first = &queue->ring.first;
   if (!queue->ready || queue->fault) return false;
   if (!backend->packed) return load(memory_at(&backend->memory, queue->ring.driver + 2, 2)) != first->available;
   return is_available(load(slot_at(queue, first->available) + FLAGS_AT), first->available_wrapped);
 }
 
-static uint32_t base_of(const struct backend *backend, const struct vscsi_position *at) {
+static uint32_t base_of(const struct backend *backend, const struct position *at) {
   if (!backend->packed) return at->available;
   return (uint32_t)at->available | (uint32_t)!at->available_wrapped << 15 | (uint32_t)at->used << 16 | (uint32_t)!at->used_wrapped << 31;
 }
@@ -49,12 +51,11 @@ uint32_t ring_base(const struct backend *backend, unsigned q) { return base_of(b
 
 bool ring_set_base(struct backend *backend, unsigned q, uint32_t base) {
   struct backend_queue *queue = &backend->queues[q];
-  struct vscsi_position *first = &queue->ring.first;
+  struct position *first = &queue->ring.first;
   // Above 65,535 stand the wrap counters of a packed ring.
   if (!backend->packed && base > UINT16_MAX) return false;
-  if (!backend->packed) *first = (struct vscsi_position){.available = (uint16_t)base, .used = load(queue->device_at + 2)};
-  else *first = (struct vscsi_position){.available = base & 0x7fff, .used = base >> 16 & 0x7fff, .available_wrapped = !(base >> 15 & 1), .used_wrapped = !(base >> 31)};
-  queue->is_even = first->available == first->used && first->available_wrapped == first->used_wrapped;
+  if (!backend->packed) *first = (struct position){.available = (uint16_t)base, .used = load(queue->device_at + 2)};
+  else *first = (struct position){.available = base & 0x7fff, .used = base >> 16 & 0x7fff, .available_wrapped = !(base >> 15 & 1), .used_wrapped = !(base >> 31)};
   queue->index = first->used;
   memset(queue->descriptors, 0, sizeof queue->descriptors);
   return !backend->packed || (first->available < queue->ring.size && first->used < queue->ring.size);
@@ -62,12 +63,13 @@ bool ring_set_base(struct backend *backend, unsigned q, uint32_t base) {
 
 bool ring_waits(const struct backend *backend, unsigned q) {
   const struct backend_queue *queue = &backend->queues[q];
-  return backend->waits && q != EVENT_QUEUE && queue->ready && !queue->fault;
+  return backend->waits && (q != EVENT_QUEUE || backend->packed) && queue->ready && !queue->fault;
 }
 
-// Copies descriptors from the next one on, up to one that isn't available and doesn't go on a chain, of each the flags first.
+// Copies descriptors from the next one on, up to one that isn't available and doesn't go on a chain, of each the flags first; and counts
+// those of each chain.
 static void copy(struct backend_queue *queue) {
-  uint16_t slot = queue->ring.first.available;
+  uint16_t slot = queue->ring.first.available, chain = slot;
   bool wrapped = queue->ring.first.available_wrapped, inside = false;
   for (unsigned i = 0; i < queue->ring.size; i++) {
     uint8_t *into = queue->descriptors + (size_t)slot * DESCRIPTOR;
@@ -75,6 +77,8 @@ static void copy(struct backend_queue *queue) {
     memcpy(into, slot_at(queue, slot), FLAGS_AT);
     memcpy(into + FLAGS_AT, &flags, sizeof flags);
     if (!inside && !is_available(flags, wrapped)) return;
+    if (!inside) queue->lengths[chain = slot] = 0;
+    queue->lengths[chain]++;
     inside = flags & FLAG_NEXT;
     step(queue, &slot, &wrapped);
   }
@@ -99,16 +103,23 @@ bool rings_next(struct backend *backend, uint64_t from, uint64_t end, struct vsc
   return found;
 }
 
-// Has a ring go on where the device does. Event buffers that it has and didn't use are available once more.
-static void go_on(struct backend *backend, unsigned q) {
-  struct backend_queue *queue = &backend->queues[q];
-  struct vscsi_position now;
-  if (!device_position(&backend->device, q, &now)) return;
-  if (q == EVENT_QUEUE && queue->is_even) now = (struct vscsi_position){now.used, now.used, now.used_wrapped, now.used_wrapped};
-  queue->ring.first = now;
+// Returns where a ring stands behind the used descriptor of a slot.
+static struct position behind(const struct backend_queue *queue, uint16_t slot, bool wrapped) {
+  for (unsigned i = queue->lengths[slot]; i; i--) step(queue, &slot, &wrapped);
+  return (struct position){slot, slot, wrapped, wrapped};
 }
 
-static void store(uint8_t *at, uint16_t number) { __atomic_store_n((uint16_t *)(void *)at, number, __ATOMIC_RELEASE); }
+static const uint8_t *used_at(const struct backend_queue *queue, const struct position *at) {
+  const uint8_t *its = queue->descriptors + (size_t)at->used * DESCRIPTOR;
+  return is_used(load(its + FLAGS_AT), at->used_wrapped) ? its : NULL;
+}
+
+// Has a split ring go on where the device does. What it has of events isn't used: these are available once more.
+static void go_on(struct backend_queue *queue, uint16_t used) {
+  struct position *first = &queue->ring.first;
+  first->available = (uint16_t)(first->available + used - first->used);
+  first->used = used;
+}
 
 // Where a ring stands, and where it stands once the descriptor is shown whose turn it is.
 struct place {
@@ -121,7 +132,7 @@ enum { QUEUE_BYTES = 64 };
 // Returns where a ring's place is noted, or NULL.
 static struct place *place_of(const struct backend *backend, unsigned q) {
   uint8_t *at = backend->memory.places.at;
-  return at && backend->waits ? (struct place *)(void *)(at + (size_t)q * QUEUE_BYTES) : NULL;
+  return at && backend->keeps ? (struct place *)(void *)(at + (size_t)q * QUEUE_BYTES) : NULL;
 }
 
 static void put(uint64_t *into, uint64_t number) { __atomic_store_n(into, number, __ATOMIC_SEQ_CST); }
@@ -151,60 +162,70 @@ void ring_forget(struct backend *backend, unsigned q) {
   if (place) put(&place->now, 0);
 }
 
-// Shows the used descriptor of a slot, behind which the ring stands at `next`.
-static void show(struct backend *backend, unsigned q, uint16_t slot, const struct vscsi_position *next) {
+// Shows the used descriptors of a packed ring. Returns whether there were any.
+static bool show_packed(struct backend *backend, unsigned q) {
   struct backend_queue *queue = &backend->queues[q];
-  const uint8_t *its = queue->descriptors + (size_t)slot * DESCRIPTOR;
+  struct position *first = &queue->ring.first;
   struct place *place = place_of(backend, q);
-  if (place) put(&place->next, IS_NOTED | base_of(backend, next));
-  memcpy(slot_at(queue, slot) + USED_AT, its + USED_AT, FLAGS_AT - USED_AT);
-  store(slot_at(queue, slot) + FLAGS_AT, load(its + FLAGS_AT));
-  memory_note(&backend->memory, queue->ring.desc + (uint64_t)slot * DESCRIPTOR);
-  if (place) put(&place->now, IS_NOTED | base_of(backend, next));
-}
-
-// Shows what the device marked as used, up to where it stands.
-static void show_used(struct backend *backend, unsigned q, const struct vscsi_position *now) {
-  struct backend_queue *queue = &backend->queues[q];
-  uint16_t slot = queue->ring.first.used, used = slot;
-  bool wrapped = queue->ring.first.used_wrapped;
-  for (unsigned i = 0; i < queue->ring.size && (slot != now->used || wrapped != now->used_wrapped); i++) {
-    // The one before goes up to here.
-    if (i && is_used(load(queue->descriptors + (size_t)slot * DESCRIPTOR + FLAGS_AT), wrapped)) {
-      show(backend, q, used, &(struct vscsi_position){slot, slot, wrapped, wrapped});
-      used = slot;
-    }
-    step(queue, &slot, &wrapped);
-  }
-  show(backend, q, used, now);
-}
-
-uint32_t rings_show(struct backend *backend) {
-  uint32_t shown = 0;
-  for (unsigned q = backend->count; q-- > 0;) {
-    struct backend_queue *queue = &backend->queues[q];
-    const struct vscsi_position *first = &queue->ring.first;
-    struct vscsi_position now;
-    if (!ring_waits(backend, q) || !device_position(&backend->device, q, &now)) continue;
-    if (now.used == first->used && now.used_wrapped == first->used_wrapped) continue;
-    if (backend->packed) show_used(backend, q, &now);
-    else {
-      store(queue->device_at + 2, queue->index);
-      memory_note(&backend->memory, queue->ring.device);
-    }
-    queue->ring.first = now;
-    ring_note(backend, q);
-    shown |= UINT32_C(1) << q;
-  }
-  // Events were shown as the device gave them.
-  if (place_of(backend, EVENT_QUEUE) && backend->queues[EVENT_QUEUE].ready) {
-    go_on(backend, EVENT_QUEUE);
-    ring_note(backend, EVENT_QUEUE);
+  unsigned shown = 0;
+  for (const uint8_t *its; shown < queue->ring.size && (its = used_at(queue, first)); shown++) {
+    struct position next = behind(queue, first->used, first->used_wrapped);
+    if (place) put(&place->next, IS_NOTED | base_of(backend, &next));
+    memcpy(slot_at(queue, first->used) + USED_AT, its + USED_AT, FLAGS_AT - USED_AT);
+    store(slot_at(queue, first->used) + FLAGS_AT, load(its + FLAGS_AT));
+    if (place) put(&place->now, IS_NOTED | base_of(backend, &next));
+    *first = next;
   }
   return shown;
 }
 
+static bool show_split(struct backend *backend, unsigned q) {
+  struct backend_queue *queue = &backend->queues[q];
+  if (queue->index == queue->ring.first.used) return false;
+  store(queue->device_at + 2, queue->index);
+  go_on(queue, queue->index);
+  ring_note(backend, q);
+  return true;
+}
+
+// Returns whether a driver wants to be notified of what was shown since its ring stood here (VIRTIO 1.2, 2.7.10 and 2.8.10). One of a packed
+// ring that names a descriptor is notified of each.
+static bool wants(const struct backend *backend, unsigned q, uint16_t before) {
+  const struct backend_queue *queue = &backend->queues[q];
+  uint16_t now = queue->ring.first.used;
+  uint64_t driver = queue->ring.driver;
+  __atomic_thread_fence(__ATOMIC_SEQ_CST);
+  if (backend->packed) return (load(memory_at(&backend->memory, driver + 2, 2)) & 3) != 1;
+  if (!backend->event_index) return !(load(memory_at(&backend->memory, driver, 2)) & 1);
+  uint16_t event = load(memory_at(&backend->memory, driver + 4 + 2 * (uint64_t)queue->ring.size, 2));
+  return (uint16_t)(now - event - 1) < (uint16_t)(now - before);
+}
+
+uint32_t rings_show(struct backend *backend) {
+  uint32_t owed = 0;
+  for (unsigned q = backend->count; q-- > 0;) {
+    uint16_t before = backend->queues[q].ring.first.used;
+    if (!ring_waits(backend, q) || !(backend->packed ? show_packed(backend, q) : show_split(backend, q))) continue;
+    if (wants(backend, q, before)) owed |= UINT32_C(1) << q;
+  }
+  return owed;
+}
+
 void rings_end(struct backend *backend) {
-  for (unsigned q = 0; q < backend->count; q++)
-    if (backend->queues[q].ready && !ring_waits(backend, q)) go_on(backend, q);
+  for (unsigned q = 0; q < backend->count; q++) {
+    struct backend_queue *queue = &backend->queues[q];
+    if (queue->ready && !ring_waits(backend, q) && !backend->packed) go_on(queue, load(queue->device_at + 2));
+  }
+}
+
+void ring_ask(struct backend *backend, unsigned q, bool notify) {
+  struct backend_queue *queue = &backend->queues[q];
+  bool is_whole = queue->ready && !queue->fault, names = backend->event_index && !backend->packed;
+  if (!is_whole) return;
+  // All that it took of a queue but the events' the device gave back.
+  uint16_t taken = q == EVENT_QUEUE ? load(memory_at(&backend->memory, queue->ring.driver + 2, 2))
+                                    : backend->waits ? queue->ring.first.available : load(queue->device_at + 2);
+  if (names) store(queue->device_at + 4 + 8 * (size_t)queue->ring.size, (uint16_t)(notify ? taken : taken + 0x8000));
+  else store(queue->device_at + (backend->packed ? 2 : 0), notify ? 0 : 1);
+  __atomic_thread_fence(__ATOMIC_SEQ_CST);
 }

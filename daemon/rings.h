@@ -2,7 +2,8 @@
 //
 // A driver sees of a split ring what lies below the used index (VIRTIO 1.2, 2.7.8). So while a round's answers wait the device has two bytes
 // of the daemon's in their place, and to show the answers is to store these. The device of a packed ring writes over descriptors (2.8.6). So
-// it has a copy of what is available when the round begins, and what it marked as used there is then stored in the guest's.
+// it has a copy of what is available when the round begins, and what it marked as used there is then stored in the guest's. By that copy the
+// daemon also counts where a packed ring stands.
 #ifndef DAEMON_RINGS_H
 #define DAEMON_RINGS_H
 
@@ -21,7 +22,7 @@ bool ring_has(const struct backend *backend, unsigned q);
 uint32_t ring_base(const struct backend *backend, unsigned q);
 bool ring_set_base(struct backend *backend, unsigned q, uint32_t base);
 
-// Returns whether this queue's answers wait: those of requests and functions, not events.
+// Returns whether this queue's answers wait: those of requests and functions, and of a packed ring events, too.
 bool ring_waits(const struct backend *backend, unsigned q);
 
 // Begins a round: copies what drivers of packed rings made available.
@@ -31,12 +32,15 @@ void rings_hold(struct backend *backend);
 // stands here. Returns false where there is none.
 bool rings_next(struct backend *backend, uint64_t from, uint64_t end, struct vscsi_region *part);
 
-// Shows the answers of a round. Returns the queues that had some. The control queue comes last: a driver that finds its function answered
-// finds the requests answered too.
+// Shows the answers of a round. Returns the queues whose driver wants to be notified of them. The control queue comes last: a driver that
+// finds its function answered finds the requests answered too.
 uint32_t rings_show(struct backend *backend);
 
 // Has each ring go on where the device does, but for those whose answers wait.
 void rings_end(struct backend *backend);
+
+// Asks the driver of a queue to notify of its next chain, or of none, once the device has taken what was available.
+void ring_ask(struct backend *backend, unsigned q, bool notify);
 
 // Where each ring of disks on files stands behind what was shown is noted in memory that the front end keeps when the daemon dies
 // (INFLIGHT_SHMFD), if it gave some: no request is in flight there, since those whose answers weren't shown run once more. ring_recall finds

@@ -17,13 +17,13 @@
 #include "rings.h"
 #include "space.h"
 
-#define OFFERED ((VSCSI_ACCEPTED_FEATURES & ~VSCSI_F_CHANGE) | F_LOG_ALL | F_PROTOCOL_FEATURES)
+#define OFFERED ((VSCSI_ACCEPTED_FEATURES & ~VSCSI_F_CHANGE) | F_PROTOCOL_FEATURES)
 // What QEMU has a driver agree to by itself: events of disks that come, go or change (VIRTIO 1.2, 5.6.3). The device tells none of these.
 #define IGNORED (UINT64_C(1) << 1 | UINT64_C(1) << 2)
-#define OFFERED_PROTOCOL (P_MQ | P_LOG_SHMFD | P_REPLY_ACK | P_CONFIG | P_RESET_DEVICE | P_INFLIGHT_SHMFD | P_CONFIGURE_MEM_SLOTS | P_STATUS)
+#define OFFERED_PROTOCOL (P_MQ | P_REPLY_ACK | P_CONFIG | P_RESET_DEVICE | P_INFLIGHT_SHMFD | P_CONFIGURE_MEM_SLOTS | P_STATUS)
 
 // How many messages of a session are taken before others of the daemon's descriptors are looked at.
-enum { MOST_MESSAGES = 64, WHY = 200, REGION_BYTES = 32, LOG_BYTES = 16, INFLIGHT_BYTES = 20, SPACE_HEAD = 12, MOST_SPACE = 256 };
+enum { MOST_MESSAGES = 64, WHY = 200, REGION_BYTES = 32, INFLIGHT_BYTES = 20, SPACE_HEAD = 12, MOST_SPACE = 256 };
 
 // Milliseconds: how often it is said that a file can't be written, and a ring is looked at that has no kick; how long a session is
 // served before others of the daemon's descriptors are looked at, but for one round; how long a session that ends has for a round; and how
@@ -47,7 +47,7 @@ bool session_begin(struct session *session, int socket, int epoll, struct disks 
   session->quiet = quiet;
   session->polls = polls;
   session->backend.disks = disks;
-  session->backend.waits = blocks_are_kept(disks);
+  session->backend.keeps = blocks_are_kept(disks);
   session->backend.count = FIXED_QUEUES + request_queues;
   reader_begin(&session->reader);
   queues_begin(session);
@@ -67,33 +67,13 @@ static bool reply_number(const struct session *session, const struct message *me
   return protocol_reply(session->socket, message, payload, sizeof payload);
 }
 
-// Has the device note what it writes, or no more.
-static void note_log(struct session *session) {
-  struct backend *backend = &session->backend;
-  backend->logs = session->features & F_LOG_ALL && backend->memory.log.map;
-  if (backend->device.live && backend->mapped) backend_map(backend);
-}
-
-// Takes the memory of a log of writes, or has none where no descriptor comes with the message.
-static bool set_log(struct session *session, const struct message *message) {
-  uint64_t size = little_get(message->payload, 8), offset = little_get(message->payload + 8, 8);
-  if (message->size != LOG_BYTES || message->fd_count > 1) return false;
-  // The device has the old one until it is told.
-  session->backend.logs = false;
-  if (session->backend.device.live && session->backend.mapped) backend_map(&session->backend);
-  bool taken = memory_set(&session->backend.memory.log, size, offset, message->fd_count ? message->fds[0] : -1);
-  note_log(session);
-  return taken && reply_number(session, message, 0);
-}
-
 static bool set_features(struct session *session, const struct message *message) {
   uint64_t features = little_get(message->payload, 8);
   if (message->size != 8 || features & ~(OFFERED | IGNORED)) return false;
   // QEMU says them again when a log of writes begins or ends: the rings stand.
   for (unsigned q = 0; q < session->backend.count; q++)
-    if (session->queues[q].started && (features ^ session->features) & ~F_LOG_ALL) return false;
+    if (session->queues[q].started && features != session->features) return false;
   session->features = features;
-  note_log(session);
   return true;
 }
 
@@ -120,9 +100,8 @@ static bool set_memory(struct session *session, const struct message *message) {
     memory_clear(&memory);
     return false;
   }
-  memory.log = backend->memory.log;
   memory.places = backend->memory.places;
-  backend->mapped = false;
+  backend_unmap(backend);
   memory_clear(&backend->memory);
   backend->memory = memory;
   queues_find(session, true);
@@ -133,10 +112,10 @@ static bool change_memory(struct session *session, const struct message *message
   const uint8_t *at = message->payload + 8;
   struct backend *backend = &session->backend;
   if (message->size != 8 + REGION_BYTES) return false;
+  backend_unmap(backend);
   bool changed = message->request == ADD_MEM_REG ? message->fd_count == 1 && add_region(&backend->memory, at, message->fds[0])
                                                  : memory_remove(&backend->memory, little_get(at, 8), little_get(at + 8, 8), little_get(at + 16, 8));
   if (!changed) return false;
-  backend->mapped = false;
   // A ring whose region is taken away may come with the next one.
   queues_find(session, false);
   return true;
@@ -202,7 +181,7 @@ static bool get_config(const struct session *session, const struct message *mess
 // Whether the daemon knows this message, and whether it answers it itself: then there is no acknowledgement.
 static bool is_answered(uint32_t request) {
   return request == GET_FEATURES || request == GET_PROTOCOL_FEATURES || request == GET_QUEUE_NUM || request == GET_VRING_BASE ||
-         request == GET_CONFIG || request == GET_MAX_MEM_SLOTS || request == SET_LOG_BASE || request == GET_STATUS ||
+         request == GET_CONFIG || request == GET_MAX_MEM_SLOTS || request == GET_STATUS ||
          request == GET_INFLIGHT_FD;
 }
 
@@ -214,8 +193,6 @@ static bool take(struct session *session, struct message *message) {
     case RESET_OWNER:
     case RESET_DEVICE: return reset(session);
     case SET_MEM_TABLE: return set_memory(session, message);
-    case SET_LOG_BASE: return set_log(session, message);
-    case SET_LOG_FD: return true;  // the front end looks by itself
     case GET_MAX_MEM_SLOTS: return reply_number(session, message, MOST_REGIONS);
     case ADD_MEM_REG:
     case REM_MEM_REG: return change_memory(session, message);
@@ -389,7 +366,7 @@ static enum served make_device(struct session *session, uint32_t queues, char *w
 
 // Says how a session that was served goes on. Returns false where it has to end.
 static bool note_served(struct session *session, enum served served, const char *why) {
-  if (session->backend.waits) tell_files(session);
+  if (session->backend.keeps) tell_files(session);
   if (session->backend.broken) tell_broken(session);
   if (served == FAILED) return log_say(LOG_ERROR, NULL, "the session ends: %s", why), false;
   session->more = served == MORE || served == BUSY;
@@ -469,7 +446,6 @@ void session_end(struct session *session) {
   backend_end(&session->backend);
   queues_end(session);
   memory_clear(&session->backend.memory);
-  memory_set(&session->backend.memory.log, 0, 0, -1);
   memory_set(&session->backend.memory.places, 0, 0, -1);
   guard_begin(NULL);
   reader_end(&session->reader);

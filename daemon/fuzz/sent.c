@@ -94,7 +94,7 @@ size_t sent_set_up(const struct connection *connection, struct sent *sent) {
   size_t n = 0;
   sent_begin(&sent[n++], GET_FEATURES, 0);
   sent_begin(&sent[n++], GET_PROTOCOL_FEATURES, 0);
-  sent_number(&sent[n++], SET_PROTOCOL_FEATURES, P_MQ | P_LOG_SHMFD | P_REPLY_ACK | P_CONFIG | P_RESET_DEVICE | P_CONFIGURE_MEM_SLOTS);
+  sent_number(&sent[n++], SET_PROTOCOL_FEATURES, P_MQ | P_REPLY_ACK | P_CONFIG | P_RESET_DEVICE | P_CONFIGURE_MEM_SLOTS);
   sent_begin(&sent[n++], GET_QUEUE_NUM, 0);
   sent_begin(&sent[n++], SET_OWNER, 0);
   uint64_t features = VSCSI_F_VERSION_1 | F_PROTOCOL_FEATURES | (way->packed ? VSCSI_F_RING_PACKED : 0);

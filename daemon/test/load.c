@@ -119,12 +119,17 @@ unsigned await_of(struct front *front, unsigned q, unsigned parts, unsigned coun
 
 unsigned await(struct front *front, unsigned q, unsigned count, uint64_t patience) { return await_of(front, q, 3, count, patience); }
 
-bool await_error(struct front *front, unsigned q) {
+unsigned await_failure(struct front *front, unsigned q) {
   uint64_t until = clock_now() + PATIENCE;
   uint32_t length;
+  unsigned seen = 0;
   for (; !front->disks->disks[0].error && clock_now() < until; usleep(200)) turn(front);
-  return front->alive && front->disks->disks[0].error && !driver_next(front, q, 3, &length);
+  MUST(front->alive && front->disks->disks[0].error);
+  while (driver_next(front, q, 3, &length)) seen++;
+  return seen;
 }
+
+bool await_error(struct front *front, unsigned q) { return !await_failure(front, q); }
 
 void pass(struct front *front, unsigned seconds) {
   faults.passed += seconds;

@@ -37,7 +37,9 @@ void put_reset(struct front *front, unsigned i);
 unsigned await_of(struct front *front, unsigned q, unsigned parts, unsigned count, uint64_t patience);
 unsigned await(struct front *front, unsigned q, unsigned count, uint64_t patience);
 
-// Has the session go on until a file was found not to be written. Returns whether no request of the queue was answered.
+// Has the session go on until a file was found not to be written. Returns how many requests of the queue were answered before, or whether
+// none was.
+unsigned await_failure(struct front *front, unsigned q);
 bool await_error(struct front *front, unsigned q);
 
 // Has so many seconds pass for the session.

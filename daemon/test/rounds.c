@@ -77,12 +77,14 @@ void test_full(void) {
     faults.write_error = number % 2 ? ENOSPC : EIO;
     faults.writes = 3 * number;
     put_writes(&front, MANY);
-    MUST(await_error(&front, Q));
+    // On a machine that is busy a round may have fewer. What was answered is on the file.
+    unsigned seen = await_failure(&front, Q);
+    MUST(has_all(&front, seen) && seen < MANY);
     front_say(&front, GET_FEATURES, 0);
     turn(&front);
     MUST(front_reply(&front, payload, sizeof payload) == 8 && front.alive && disks.disks[0].error == faults.write_error);
     faults_clear();
-    MUST(await(&front, Q, MANY, PATIENCE) == MANY && has_all(&front, MANY) && !disks.disks[0].error);
+    MUST(await(&front, Q, MANY - seen, PATIENCE) == MANY - seen && has_all(&front, MANY) && !disks.disks[0].error);
     load_end(&front, &disks);
   }
 }
@@ -102,10 +104,10 @@ void test_crowded(void) {
     faults.most = MOST;
     for (unsigned i = 0; i < MANY; i++) put_write(&front, Q, i * 7 % MANY, i * 7 % MANY * BETWEEN);
     driver_kick(&front, Q);
-    MUST(await_error(&front, Q));
+    unsigned seen = await_failure(&front, Q);
     MUST(await(&front, Q, 1, 40) == 0 && !disks.disks[0].backlog.ranges && disks.disks[0].backlog.count <= FEW_RANGES);
     faults_clear();
-    MUST(await(&front, Q, MANY, PATIENCE) == MANY);
+    MUST(await(&front, Q, MANY - seen, PATIENCE) == MANY - seen);
     for (unsigned i = 0; i < MANY; i++) MUST(is_good(&front, i) && has(i, (uint64_t)i * BETWEEN, false) && has(0, (uint64_t)i * BETWEEN + 16, true));
     load_end(&front, &disks);
   }

@@ -39,7 +39,4 @@ void test_polls(void);
 // The status of a device, whose reset it also is.
 void test_status(void);
 
-// A log of the pages that the device writes.
-void test_logs(void);
-
 #endif

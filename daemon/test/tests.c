@@ -308,7 +308,7 @@ int main(int count, char **words) {
                {"moved", test_moved}, {"slots", test_slots}, {"regions", test_regions}, {"short", test_short},
                {"forms", test_forms}, {"stale", test_stale}, {"kicks", test_kicks}, {"waits", test_waits}, {"reset", test_reset},
                {"refused", test_refused}, {"endless", test_endless}, {"polls", test_polls},
-               {"status", test_status}, {"logs", test_logs}};
+               {"status", test_status}};
   unsigned files = open_files();
   for (size_t i = 0; i < sizeof tests / sizeof *tests; i++) {
     if (count > 1 && strcmp(words[1], tests[i].name)) continue;
