@@ -6,11 +6,12 @@
 #include "clock.h"
 #include "rings.h"
 
-// The most steps of one call of the library's, where answers wait and where they don't: the ranges of so few are never more than the library
-// tells apart. And of request queues before the control queue is served, which is more than all that rings may have.
+// The most steps of one call of the library's, where answers wait and where they don't: the ranges of so few are never more
+// than the library tells apart. And of request queues before the control queue is served, which is more than all that rings may
+// have.
 enum { FEW_STEPS = 4, MANY_STEPS = 512, MOST_STEPS_BEFORE = 1 << 19 };
-// Milliseconds: how long the device runs before others of the daemon's descriptors are looked at, how long what can't go on waits, and of
-// backend_stop, how long all goes on, and how long the device has for what it began.
+// Milliseconds: how long the device runs before others of the daemon's descriptors are looked at, how long what can't go on
+// waits, and of backend_stop, how long all goes on, and how long the device has for what it began.
 enum { PORTION = 20, LEAST_PAUSE = 50, MOST_PAUSE = 5000, HASTE = 1000, FORCE = 5000 };
 static const uint32_t CONTROL = UINT32_C(1) << CONTROL_QUEUE, EVENTS = UINT32_C(1) << EVENT_QUEUE, NO_QUEUES = 0;
 
@@ -63,13 +64,15 @@ static bool make(struct backend *backend, char *why, size_t room) {
   for (unsigned q = 0; q < backend->count; q++) rings[q] = backend->queues[q].ready ? backend->queues[q].ring : idle_ring();
   const struct vscsi_live_config config = {.size = sizeof config,
                                            .features = VSCSI_F_VERSION_1 | (backend->packed ? VSCSI_F_RING_PACKED : 0) |
-                                                       (backend->event_index ? VSCSI_F_EVENT_IDX : 0) | (backend->indirect ? VSCSI_F_INDIRECT_DESC : 0),
+                                                       (backend->event_index ? VSCSI_F_EVENT_IDX : 0) |
+                                                       (backend->indirect ? VSCSI_F_INDIRECT_DESC : 0),
                                            .ring_count = backend->count,
                                            .units = units,
                                            .unit_count = backend->disks->count};
   memset(backend->noted, 0, sizeof backend->noted);
   memset(backend->idle, 0, sizeof backend->idle);
-  return blocks_load(backend->disks, why, room) && device_create(&backend->device, config, rings, backend->disks->stores, &backend->starved, why, room);
+  return blocks_load(backend->disks, why, room) &&
+         device_create(&backend->device, config, rings, backend->disks->stores, &backend->starved, why, room);
 }
 
 enum served backend_begin(struct backend *backend, char *why, size_t room) {
@@ -99,7 +102,8 @@ bool backend_has(const struct backend *backend, uint32_t queues) {
 // What came of having the device serve: nothing is left, something is, or memory was refused.
 enum ran { RAN, RUNS, REFUSED };
 
-// Returns whether the device has to leave off. The clock is looked at only where something is left behind a call of the library's.
+// Returns whether the device has to leave off. The clock is looked at only where something is left behind a call of the
+// library's.
 static bool is_over(struct backend *backend) {
   uint64_t now = clock_now();
   if (!backend->until) backend->until = now + PORTION;
@@ -142,8 +146,8 @@ static enum ran run_requests(struct backend *backend, uint32_t queues) {
   return RAN;
 }
 
-// Has the queues served. The control queue comes last: a driver made its functions available behind the requests that they are about. A
-// guest whose requests make chains available would keep it waiting for ever, but for the bound.
+// Has the queues served. The control queue comes last: a driver made its functions available behind the requests that they are
+// about. A guest whose requests make chains available would keep it waiting for ever, but for the bound.
 static enum ran run_all(struct backend *backend, uint32_t queues) {
   bool has_control = queues & (backend->seen | backend->asked | (backend->silent ? CONTROL : 0)) & CONTROL;
   if (!has_control) backend->steps = 0;
@@ -172,8 +176,8 @@ static void note_faults(struct backend *backend) {
   }
 }
 
-// Asks drivers that name the chain of which they notify for the next one. Returns whether another look is wanted, since one may have come
-// before the driver saw that. What is found then has them asked once more.
+// Asks drivers that name the chain of which they notify for the next one. Returns whether another look is wanted, since one may
+// have come before the driver saw that. What is found then has them asked once more.
 static bool ask(struct backend *backend, uint32_t queues) {
   uint32_t asked = (backend->seen | (backend->took ? backend->asked : 0)) & queues;
   bool names = backend->event_index && !backend->packed;
@@ -186,7 +190,8 @@ static bool ask(struct backend *backend, uint32_t queues) {
   return backend->asked;
 }
 
-// Asks drivers not to notify, where that isn't said yet, and once in some thousand steps: those that name a chain would come to it.
+// Asks drivers not to notify, where that isn't said yet, and once in some thousand steps: those that name a chain would come to
+// it.
 static bool hush(struct backend *backend, uint32_t queues) {
   enum { EVERY = 1 << 14 };
   if (backend->silent && backend->all_steps - backend->hushed < EVERY) return true;
@@ -196,7 +201,8 @@ static bool hush(struct backend *backend, uint32_t queues) {
   return true;
 }
 
-// Shows the answers of a round whose files have all that they promise. Returns SERVED, or LATER, where a file can't be written now, or BUSY.
+// Shows the answers of a round whose files have all that they promise. Returns SERVED, or LATER, where a file can't be written
+// now, or BUSY.
 static enum served keep(struct backend *backend, bool at_once, uint32_t *owed) {
   enum kept kept = blocks_keep(&backend->device, backend->disks, at_once);
   if (kept == KEEPING) return BUSY;
@@ -273,7 +279,8 @@ static enum served wait_for(struct backend *backend, uint64_t passed) {
 }
 
 enum served backend_stop(struct backend *backend, uint64_t passed, uint32_t *owed, char *why, size_t room) {
-  bool is_stuck = passed >= HASTE && backend->phase == WRITING && blocks_are_stuck(backend->disks), is_late = passed >= FORCE || is_stuck;
+  bool is_stuck = passed >= HASTE && backend->phase == WRITING && blocks_are_stuck(backend->disks),
+       is_late = passed >= FORCE || is_stuck;
   if (!backend_is_busy(backend)) return SERVED;
   if (backend->waits && is_late) return backend_end(backend), SERVED;
   if (!is_late && backend->pause && clock_now() < backend->due) return wait_for(backend, passed);

@@ -1,8 +1,8 @@
-// The device behind a front end's rings. It works in the guest's memory: rings, tables, requests and data are read and written there by
-// the library alone, and nothing is copied.
+// The device behind a front end's rings. It works in the guest's memory: rings, tables, requests and data are read and written
+// there by the library alone, and nothing is copied.
 //
-// Where a disk is kept on a file, no answer is shown to the guest before the file has what the answer promises. Meanwhile a part of each ring
-// is the daemon's own (rings.h), so that what the device gave back isn't seen.
+// Where a disk is kept on a file, no answer is shown to the guest before the file has what the answer promises. Meanwhile a
+// part of each ring is the daemon's own (rings.h), so that what the device gave back isn't seen.
 #ifndef DAEMON_BACKEND_H
 #define DAEMON_BACKEND_H
 
@@ -12,16 +12,22 @@
 #include "memory.h"
 
 // The guest's queues: control, event and requests.
-enum { FIXED_QUEUES = 2, CONTROL_QUEUE = 0, EVENT_QUEUE = 1, MOST_QUEUES = DEVICE_MOST_QUEUES, MOST_REQUEST_QUEUES = MOST_QUEUES - FIXED_QUEUES };
+enum {
+  FIXED_QUEUES = 2,
+  CONTROL_QUEUE = 0,
+  EVENT_QUEUE = 1,
+  MOST_QUEUES = DEVICE_MOST_QUEUES,
+  MOST_REQUEST_QUEUES = MOST_QUEUES - FIXED_QUEUES
+};
 
 // The bytes of a descriptor.
 enum { DESCRIPTOR = 16 };
 
 struct backend_queue {
-  struct ring ring;                // by the guest's addresses; `first` is where it goes on behind all that was shown to the guest
-  bool ready;                      // its areas are in the guest's memory
-  uint32_t fault;                  // by which it is broken, or VSCSI_BROKEN_NOT
-  uint8_t *desc_at, *device_at;    // where these areas stand here
+  struct ring ring;              // by the guest's addresses; `first` is where it goes on behind all that was shown to the guest
+  bool ready;                    // its areas are in the guest's memory
+  uint32_t fault;                // by which it is broken, or VSCSI_BROKEN_NOT
+  uint8_t *desc_at, *device_at;  // where these areas stand here
   // Of a queue whose answers wait, what the device has in place of its used index, or of the descriptors of a packed ring.
   uint16_t index;
   _Alignas(16) uint8_t descriptors[DESCRIPTOR * DEVICE_MOST_SIZE];
@@ -31,8 +37,8 @@ struct backend_queue {
 // The fault of a queue whose memory is gone, beside those of the library.
 enum { FAULT_UNMAPPED = 11 };
 
-// A round of answers that wait: the device runs requests, and ends what it began; then what they changed is written to the files, and all
-// answers are shown. A backend whose answers don't wait is RUNNING while the device has begun requests.
+// A round of answers that wait: the device runs requests, and ends what it began; then what they changed is written to the
+// files, and all answers are shown. A backend whose answers don't wait is RUNNING while the device has begun requests.
 enum phase { IDLE, RUNNING, SETTLING, WRITING };
 
 struct backend {
@@ -43,27 +49,27 @@ struct backend {
   struct backend_queue queues[MOST_QUEUES];
   unsigned count;
   bool packed, event_index, indirect;
-  bool keeps;             // disks are kept on files
-  bool waits;             // answers wait: for files, or until it is known where packed rings stand
-  bool mapped;            // the device has the guest's memory as it is
-  bool left;              // something was left of the queues
+  bool keeps;   // disks are kept on files
+  bool waits;   // answers wait: for files, or until it is known where packed rings stand
+  bool mapped;  // the device has the guest's memory as it is
+  bool left;    // something was left of the queues
   enum phase phase;
-  uint32_t kicked;        // queues whose driver notified, and that weren't looked at since
-  uint32_t seen;          // those that were, and whose driver wasn't asked to do so again
-  uint32_t asked;         // those that were asked behind the last call
-  bool took;              // the device took steps in this call
-  bool polls;             // rings are looked at all the time, and drivers are asked not to notify
-  bool silent;            // they were asked that, after so many steps
+  uint32_t kicked;  // queues whose driver notified, and that weren't looked at since
+  uint32_t seen;    // those that were, and whose driver wasn't asked to do so again
+  uint32_t asked;   // those that were asked behind the last call
+  bool took;        // the device took steps in this call
+  bool polls;       // rings are looked at all the time, and drivers are asked not to notify
+  bool silent;      // they were asked that, after so many steps
   uint64_t hushed;
-  bool broken;            // a queue's fault was found, and not told yet
-  uint64_t until;         // when the device has to leave off in this call, or 0 where that isn't known yet
-  uint64_t steps;         // of request queues since the control queue was kicked
-  uint64_t all_steps;     // that a device ever took
-  bool crowded;           // request queues take turns, since one call didn't serve them all
-  unsigned turn, quiet;   // which is next then, and how many in a row had nothing left
-  unsigned pause;         // milliseconds until what is refused memory is tried again, and the time of that
-  uint64_t due;           // of that, or of the next try of a file that can't be written
-  bool starved;           // the device wasn't made for want of memory
+  bool broken;                            // a queue's fault was found, and not told yet
+  uint64_t until;                         // when the device has to leave off in this call, or 0 where that isn't known yet
+  uint64_t steps;                         // of request queues since the control queue was kicked
+  uint64_t all_steps;                     // that a device ever took
+  bool crowded;                           // request queues take turns, since one call didn't serve them all
+  unsigned turn, quiet;                   // which is next then, and how many in a row had nothing left
+  unsigned pause;                         // milliseconds until what is refused memory is tried again, and the time of that
+  uint64_t due;                           // of that, or of the next try of a file that can't be written
+  bool starved;                           // the device wasn't made for want of memory
   _Alignas(16) uint8_t idle[VSCSI_PAGE];  // where queues lie that the driver didn't set up
 };
 
@@ -71,32 +77,33 @@ struct backend {
 // LATER: another call is wanted at `due`. FAILED: `why` says what ended this.
 enum served { SERVED, MORE, BUSY, LATER, FAILED };
 
-// Makes the device for the queues that are ready, and returns MORE; or LATER, where memory is refused, and the first time says why; or
-// FAILED, and says why.
+// Makes the device for the queues that are ready, and returns MORE; or LATER, where memory is refused, and the first time says
+// why; or FAILED, and says why.
 enum served backend_begin(struct backend *backend, char *why, size_t room);
 
-// Lets go of the device, and takes its disks back. Each ring goes on behind what was shown: requests whose answers weren't are available
-// once more. What they changed stays in the backlogs of the disks.
+// Lets go of the device, and takes its disks back. Each ring goes on behind what was shown: requests whose answers weren't are
+// available once more. What they changed stays in the backlogs of the disks.
 void backend_end(struct backend *backend);
 
-// Has the device work in the guest's memory as it is now, or where that can't be, not at all until the next call of backend_serve.
-// backend_unmap comes before that memory changes.
+// Has the device work in the guest's memory as it is now, or where that can't be, not at all until the next call of
+// backend_serve. backend_unmap comes before that memory changes.
 void backend_map(struct backend *backend);
 void backend_unmap(struct backend *backend);
 
-// Returns whether the device has begun requests, or has answers that wait, so that letting go of it would have some run once more.
+// Returns whether the device has begun requests, or has answers that wait, so that letting go of it would have some run once
+// more.
 bool backend_is_busy(const struct backend *backend);
 
-// Brings a device to where it isn't busy. It is called until it returns SERVED, and is told how many milliseconds have passed since the
-// first call. For a second files that can't be written are tried again, and for five seconds all else goes on. Then the device ends, as
-// backend_end says.
+// Brings a device to where it isn't busy. It is called until it returns SERVED, and is told how many milliseconds have passed
+// since the first call. For a second files that can't be written are tried again, and for five seconds all else goes on. Then
+// the device ends, as backend_end says.
 enum served backend_stop(struct backend *backend, uint64_t passed, uint32_t *owed, char *why, size_t room);
 
 // Returns whether a driver made something available on one of these queues, which has no device yet.
 bool backend_has(const struct backend *backend, uint32_t queues);
 
-// Serves these queues, which are ready and whole, for some 20 milliseconds at the most. Sets the bits of those whose driver wants to be
-// notified.
+// Serves these queues, which are ready and whole, for some 20 milliseconds at the most. Sets the bits of those whose driver
+// wants to be notified.
 enum served backend_serve(struct backend *backend, uint32_t queues, uint32_t *owed);
 
 #endif

@@ -20,16 +20,21 @@ bool store_stands(const struct vscsi_disk *store) {
 }
 
 // A base as the library has it: the wrap counter of a packed ring in bit 15.
-static uint16_t base(uint16_t place, bool wrapped, bool packed) { return (uint16_t)(place | (packed && !wrapped ? 1 << 15 : 0)); }
+static uint16_t base(uint16_t place, bool wrapped, bool packed) {
+  return (uint16_t)(place | (packed && !wrapped ? 1 << 15 : 0));
+}
 
-bool device_create(struct device *device, struct vscsi_live_config config, const struct ring *rings, struct vscsi_disk *stores, bool *starved,
-                   char *why, size_t room) {
+bool device_create(struct device *device, struct vscsi_live_config config, const struct ring *rings, struct vscsi_disk *stores,
+                   bool *starved, char *why, size_t room) {
   struct vscsi_fault fault = {0};
   struct vscsi_ring its[DEVICE_MOST_QUEUES];
   bool packed = config.features & VSCSI_F_RING_PACKED;
   for (size_t q = 0; q < config.ring_count; q++) {
     const struct position *first = &rings[q].first;
-    its[q] = (struct vscsi_ring){.desc = rings[q].desc, .driver = rings[q].driver, .device = rings[q].device, .size = rings[q].size,
+    its[q] = (struct vscsi_ring){.desc = rings[q].desc,
+                                 .driver = rings[q].driver,
+                                 .device = rings[q].device,
+                                 .size = rings[q].size,
                                  .available = base(first->available, first->available_wrapped, packed),
                                  .used = base(first->used, first->used_wrapped, packed)};
   }
@@ -37,7 +42,9 @@ bool device_create(struct device *device, struct vscsi_live_config config, const
   enum vscsi_answer answer = vscsi_live_create(&device->vscsi, &config, stores, &fault);
   device->live = answer == VSCSI_DONE;
   *starved = answer == VSCSI_NO_MEMORY;
-  if (answer == VSCSI_BAD_CONFIG) snprintf(why, room, "no device: %s (%llu, %u)", vscsi_cause_text(fault.cause), (unsigned long long)fault.place, fault.detail);
+  if (answer == VSCSI_BAD_CONFIG)
+    snprintf(why, room, "no device: %s (%llu, %u)", vscsi_cause_text(fault.cause), (unsigned long long)fault.place,
+             fault.detail);
   else if (!device->live) snprintf(why, room, "no device: %s", vscsi_answer_text(answer));
   return device->live;
 }
@@ -74,7 +81,8 @@ uint32_t device_fault(struct device *device, unsigned queue) {
   return fault;
 }
 
-bool device_changed(struct device *device, uint8_t target, uint16_t lun, uint64_t *place, struct vscsi_range *ranges, size_t *count, bool *all) {
+bool device_changed(struct device *device, uint8_t target, uint16_t lun, uint64_t *place, struct vscsi_range *ranges,
+                    size_t *count, bool *all) {
   return vscsi_live_changed(&device->vscsi, target, lun, place, ranges, VSCSI_MOST_RANGES, count, all) == VSCSI_DONE;
 }
 

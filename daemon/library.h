@@ -15,7 +15,8 @@ struct device {
   bool live;
 };
 
-// Where a ring goes on: of a split one the next indices, of a packed one the next slots, and whether the wrap counter of each side is 0.
+// Where a ring goes on: of a split one the next indices, of a packed one the next slots, and whether the wrap counter of each
+// side is 0.
 struct position {
   uint16_t available, used;
   bool available_wrapped, used_wrapped;
@@ -35,10 +36,10 @@ bool store_save(struct vscsi_disk *store, uint64_t first, uint32_t count, void *
 void store_drop(struct vscsi_disk *store);
 bool store_stands(const struct vscsi_disk *store);
 
-// Makes a device of a configuration, whose rings are these, over disks, which are the device's then. Returns false where it can't be, and
-// says why in `why`. Where memory was refused `starved` is true, and another try may go well.
-bool device_create(struct device *device, struct vscsi_live_config config, const struct ring *rings, struct vscsi_disk *stores, bool *starved,
-                   char *why, size_t room);
+// Makes a device of a configuration, whose rings are these, over disks, which are the device's then. Returns false where it
+// can't be, and says why in `why`. Where memory was refused `starved` is true, and another try may go well.
+bool device_create(struct device *device, struct vscsi_live_config config, const struct ring *rings, struct vscsi_disk *stores,
+                   bool *starved, char *why, size_t room);
 
 // Ends a device, if there is one, and takes its disks back. Returns false where memory was refused: they are lost.
 bool device_end(struct device *device, struct vscsi_disk *stores, size_t count);
@@ -46,9 +47,9 @@ bool device_end(struct device *device, struct vscsi_disk *stores, size_t count);
 // Has the device work in these regions of memory. Returns false where it can't: then it works where it did.
 bool device_map(struct device *device, const struct vscsi_region *regions, size_t count);
 
-// Serves what is available on these queues (bit 0 is queue 0), and what was begun before, by at most so many steps. `steps` is how many
-// these were, and `more` tells whether one is left. Returns false where memory was refused: what was served before stands, and a later
-// call goes on.
+// Serves what is available on these queues (bit 0 is queue 0), and what was begun before, by at most so many steps. `steps` is
+// how many these were, and `more` tells whether one is left. Returns false where memory was refused: what was served before
+// stands, and a later call goes on.
 bool device_serve(struct device *device, uint32_t queues, uint64_t most, uint64_t *steps, bool *more);
 
 // Returns the queues whose driver is to be notified.
@@ -58,9 +59,10 @@ uint32_t device_owed(struct device *device);
 bool device_is_broken(struct device *device);
 uint32_t device_fault(struct device *device, unsigned queue);
 
-// Tells which blocks of a unit may have changed since a place of its history, and leaves the place that it has now. `ranges` has
-// room for VSCSI_MOST_RANGES. Where `all` is true any block may have changed.
-bool device_changed(struct device *device, uint8_t target, uint16_t lun, uint64_t *place, struct vscsi_range *ranges, size_t *count, bool *all);
+// Tells which blocks of a unit may have changed since a place of its history, and leaves the place that it has now. `ranges`
+// has room for VSCSI_MOST_RANGES. Where `all` is true any block may have changed.
+bool device_changed(struct device *device, uint8_t target, uint16_t lun, uint64_t *place, struct vscsi_range *ranges,
+                    size_t *count, bool *all);
 
 // Counts what a unit did.
 bool device_counts(struct device *device, uint8_t target, uint16_t lun, struct vscsi_counts *counts);

@@ -11,7 +11,8 @@ enum { PAGE = 4096 };
 
 static bool overlap(uint64_t a, uint64_t b, uint64_t a_size, uint64_t b_size) { return a < b + b_size && b < a + a_size; }
 
-// Asks that a file isn't made shorter. Not every file can be asked; then a byte that is gone is found as it is looked at (guard.h).
+// Asks that a file isn't made shorter. Not every file can be asked; then a byte that is gone is found as it is looked at
+// (guard.h).
 static void seal(int descriptor) {
   int seals = fcntl(descriptor, F_GET_SEALS);
   if (seals >= 0 && !(seals & F_SEAL_SHRINK)) fcntl(descriptor, F_ADD_SEALS, F_SEAL_SHRINK);
@@ -33,7 +34,8 @@ static uint64_t page_of(int descriptor) {
 // Maps the whole pages that have a region.
 static bool map(struct region *region, uint64_t offset, int descriptor) {
   uint64_t page = page_of(descriptor), before = offset % page, length = (before + region->size + page - 1) / page * page;
-  void *at = mmap(NULL, (size_t)length, PROT_READ | PROT_WRITE, MAP_SHARED | MAP_NORESERVE, descriptor, (off_t)(offset - before));
+  void *at =
+      mmap(NULL, (size_t)length, PROT_READ | PROT_WRITE, MAP_SHARED | MAP_NORESERVE, descriptor, (off_t)(offset - before));
   if (at == MAP_FAILED) return false;
   region->map = at;
   region->mapped = (size_t)length;
@@ -58,7 +60,9 @@ bool memory_add(struct memory *memory, uint64_t guest, uint64_t size, uint64_t u
   uint64_t end;
   if (memory->count == MOST_REGIONS || size == 0 || size > PTRDIFF_MAX / 2 || descriptor < 0) return false;
   if (guest % PAGE || user % PAGE || offset % PAGE) return false;
-  if (size > MEMORY_END || guest > MEMORY_END - size || user > UINT64_MAX - size || __builtin_add_overflow(offset, size, &end) || end > INT64_MAX) return false;
+  if (size > MEMORY_END || guest > MEMORY_END - size || user > UINT64_MAX - size ||
+      __builtin_add_overflow(offset, size, &end) || end > INT64_MAX)
+    return false;
   seal(descriptor);
   if (!is_in_file(descriptor, end)) return false;
   for (size_t i = 0; i < memory->count; i++) {
@@ -92,7 +96,8 @@ bool memory_set(struct region *region, uint64_t size, uint64_t offset, int descr
   struct region set = {.size = size};
   uint64_t end;
   if (descriptor >= 0) {
-    if (size == 0 || size > PTRDIFF_MAX / 2 || offset % PAGE || __builtin_add_overflow(offset, size, &end) || end > INT64_MAX) return false;
+    if (size == 0 || size > PTRDIFF_MAX / 2 || offset % PAGE || __builtin_add_overflow(offset, size, &end) || end > INT64_MAX)
+      return false;
     seal(descriptor);
     if (!is_in_file(descriptor, end) || !map(&set, offset, descriptor)) return false;
   }

@@ -21,15 +21,16 @@ struct region {
   size_t mapped;
 };
 
-// The regions stand in the order of the guest's addresses. `places` is the front end's own, and says where rings stand (rings.h).
+// The regions stand in the order of the guest's addresses. `places` is the front end's own, and says where rings stand
+// (rings.h).
 struct memory {
   struct region regions[MOST_REGIONS];
   size_t count;
   struct region places;
 };
 
-// Maps a region and adds it, and asks that its file isn't made shorter. Doesn't close the descriptor. Returns false where the region
-// isn't aligned to pages, overlaps another, ends behind MEMORY_END, is longer than its file, or can't be mapped.
+// Maps a region and adds it, and asks that its file isn't made shorter. Doesn't close the descriptor. Returns false where the
+// region isn't aligned to pages, overlaps another, ends behind MEMORY_END, is longer than its file, or can't be mapped.
 bool memory_add(struct memory *memory, uint64_t guest, uint64_t size, uint64_t user, uint64_t offset, int descriptor);
 
 // Takes a region away. Returns false where none has these addresses and this size.
@@ -37,12 +38,12 @@ bool memory_remove(struct memory *memory, uint64_t guest, uint64_t size, uint64_
 
 void memory_clear(struct memory *memory);
 
-// Puts zeros in the place of the region, or the places, that have this address of the daemon's. Returns false where none has. It may be called by a signal's
-// handler.
+// Puts zeros in the place of the region, or the places, that have this address of the daemon's. Returns false where none has.
+// It may be called by a signal's handler.
 bool memory_blank(const struct memory *memory, const void *at);
 
-// Maps so many bytes of a descriptor's file as the places, instead of what was mapped, or none where the descriptor is below 0. Returns
-// false where it can't be.
+// Maps so many bytes of a descriptor's file as the places, instead of what was mapped, or none where the descriptor is below 0.
+// Returns false where it can't be.
 bool memory_set(struct region *region, uint64_t size, uint64_t offset, int descriptor);
 
 // Returns where so many bytes of the guest stand here, or NULL where they aren't in one region.

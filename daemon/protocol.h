@@ -69,11 +69,12 @@ enum read_answer { READ_MESSAGE, READ_WAITS, READ_ENDED };
 void reader_begin(struct reader *reader);
 void reader_end(struct reader *reader);
 
-// Reads on, and never waits. The descriptors of a message are the caller's. READ_ENDED: the other end is gone, or what came is no
-// message.
+// Reads on, and never waits. The descriptors of a message are the caller's. READ_ENDED: the other end is gone, or what came is
+// no message.
 enum read_answer reader_next(struct reader *reader, int socket, struct message *message);
 
-// Answers a message, the second also with a descriptor, or none where it is below 0. Returns false where the other end doesn't take it.
+// Answers a message, the second also with a descriptor, or none where it is below 0. Returns false where the other end doesn't
+// take it.
 bool protocol_reply(int socket, const struct message *message, const uint8_t *payload, size_t size);
 bool protocol_give(int socket, const struct message *message, const uint8_t *payload, size_t size, int descriptor);
 

@@ -72,7 +72,8 @@ static bool stays(struct session *session, unsigned q) {
   const struct session_queue *queue = &session->queues[q];
   const struct ring *ring = &session->backend.queues[q].ring;
   uint64_t desc, driver, device;
-  bool is_there = memory_guest(&session->backend.memory, queue->desc, &desc) && memory_guest(&session->backend.memory, queue->driver, &driver) &&
+  bool is_there = memory_guest(&session->backend.memory, queue->desc, &desc) &&
+                  memory_guest(&session->backend.memory, queue->driver, &driver) &&
                   memory_guest(&session->backend.memory, queue->device, &device);
   return !is_there || (desc == ring->desc && driver == ring->driver && device == ring->device);
 }
@@ -136,7 +137,8 @@ bool queue_set_addresses(struct session *session, const struct message *message)
   uint64_t q = little_get(message->payload, 4);
   if (q >= session->backend.count) return false;
   struct session_queue *queue = &session->queues[q];
-  uint64_t desc = little_get(message->payload + 8, 8), device = little_get(message->payload + 16, 8), driver = little_get(message->payload + 24, 8);
+  uint64_t desc = little_get(message->payload + 8, 8), device = little_get(message->payload + 16, 8),
+           driver = little_get(message->payload + 24, 8);
   // While it runs only a log of writes may change, and the daemon keeps none.
   if (queue->started) return desc == queue->desc && driver == queue->driver && device == queue->device;
   queue->desc = desc;
@@ -154,8 +156,8 @@ bool queue_set_enable(struct session *session, const struct message *message) {
   return true;
 }
 
-// Returns whether a descriptor is an eventfd or another that has no file, or a pipe. A file may be one of the front end's own file system,
-// which has the daemon wait; and its own end of the connection would keep that open when the front end is gone.
+// Returns whether a descriptor is an eventfd or another that has no file, or a pipe. A file may be one of the front end's own
+// file system, which has the daemon wait; and its own end of the connection would keep that open when the front end is gone.
 static bool is_event(int fd) {
   struct stat stat;
   return !fstat(fd, &stat) && (!(stat.st_mode & S_IFMT) || S_ISFIFO(stat.st_mode));

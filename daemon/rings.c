@@ -24,9 +24,14 @@ bool ring_find(struct backend *backend, unsigned q) {
 
 static uint8_t *slot_at(const struct backend_queue *queue, uint16_t slot) { return queue->desc_at + (size_t)slot * DESCRIPTOR; }
 
-// Returns whether a driver made a descriptor with these flags available, or a device marked it as used, on this side of the wrap.
-static bool is_available(uint16_t flags, bool wrapped) { return !(flags & FLAG_AVAILABLE) == wrapped && !(flags & FLAG_USED) != wrapped; }
-static bool is_used(uint16_t flags, bool wrapped) { return !(flags & FLAG_AVAILABLE) == wrapped && !(flags & FLAG_USED) == wrapped; }
+// Returns whether a driver made a descriptor with these flags available, or a device marked it as used, on this side of the
+// wrap.
+static bool is_available(uint16_t flags, bool wrapped) {
+  return !(flags & FLAG_AVAILABLE) == wrapped && !(flags & FLAG_USED) != wrapped;
+}
+static bool is_used(uint16_t flags, bool wrapped) {
+  return !(flags & FLAG_AVAILABLE) == wrapped && !(flags & FLAG_USED) == wrapped;
+}
 
 static void step(const struct backend_queue *queue, uint16_t *slot, bool *wrapped) {
   if (++*slot < queue->ring.size) return;
@@ -44,7 +49,8 @@ bool ring_has(const struct backend *backend, unsigned q) {
 
 static uint32_t base_of(const struct backend *backend, const struct position *at) {
   if (!backend->packed) return at->available;
-  return (uint32_t)at->available | (uint32_t)!at->available_wrapped << 15 | (uint32_t)at->used << 16 | (uint32_t)!at->used_wrapped << 31;
+  return (uint32_t)at->available | (uint32_t)!at->available_wrapped << 15 | (uint32_t)at->used << 16 |
+         (uint32_t)!at->used_wrapped << 31;
 }
 
 uint32_t ring_base(const struct backend *backend, unsigned q) { return base_of(backend, &backend->queues[q].ring.first); }
@@ -55,7 +61,11 @@ bool ring_set_base(struct backend *backend, unsigned q, uint32_t base) {
   // Above 65,535 stand the wrap counters of a packed ring.
   if (!backend->packed && base > UINT16_MAX) return false;
   if (!backend->packed) *first = (struct position){.available = (uint16_t)base, .used = load(queue->device_at + 2)};
-  else *first = (struct position){.available = base & 0x7fff, .used = base >> 16 & 0x7fff, .available_wrapped = !(base >> 15 & 1), .used_wrapped = !(base >> 31)};
+  else
+    *first = (struct position){.available = base & 0x7fff,
+                               .used = base >> 16 & 0x7fff,
+                               .available_wrapped = !(base >> 15 & 1),
+                               .used_wrapped = !(base >> 31)};
   queue->index = first->used;
   memset(queue->descriptors, 0, sizeof queue->descriptors);
   return !backend->packed || (first->available < queue->ring.size && first->used < queue->ring.size);
@@ -66,8 +76,8 @@ bool ring_waits(const struct backend *backend, unsigned q) {
   return backend->waits && (q != EVENT_QUEUE || backend->packed) && queue->ready && !queue->fault;
 }
 
-// Copies descriptors from the next one on, up to one that isn't available and doesn't go on a chain, of each the flags first; and counts
-// those of each chain.
+// Copies descriptors from the next one on, up to one that isn't available and doesn't go on a chain, of each the flags first;
+// and counts those of each chain.
 static void copy(struct backend_queue *queue) {
   uint16_t slot = queue->ring.first.available, chain = slot;
   bool wrapped = queue->ring.first.available_wrapped, inside = false;
@@ -93,8 +103,9 @@ bool rings_next(struct backend *backend, uint64_t from, uint64_t end, struct vsc
   bool found = false;
   for (unsigned q = 0; q < backend->count; q++) {
     struct backend_queue *queue = &backend->queues[q];
-    struct vscsi_region its = backend->packed ? (struct vscsi_region){queue->ring.desc, (uint64_t)DESCRIPTOR * queue->ring.size, queue->descriptors}
-                                              : (struct vscsi_region){queue->ring.device + 2, sizeof queue->index, &queue->index};
+    struct vscsi_region its =
+        backend->packed ? (struct vscsi_region){queue->ring.desc, (uint64_t)DESCRIPTOR * queue->ring.size, queue->descriptors}
+                        : (struct vscsi_region){queue->ring.device + 2, sizeof queue->index, &queue->index};
     if (!ring_waits(backend, q) || its.guest < from || its.guest >= end) continue;
     *part = its;
     found = true;
@@ -145,7 +156,10 @@ bool ring_recall(const struct backend *backend, unsigned q, uint32_t *base) {
   uint16_t slot = now >> 16 & 0x7fff;
   if (!backend->packed) *base = load(queue->device_at + 2);
   // Whether the descriptor whose turn it was is still the driver's.
-  else *base = slot < queue->ring.size && is_available(load(slot_at(queue, slot) + FLAGS_AT), !(now >> 31)) ? now : (uint32_t)place->next;
+  else
+    *base = slot < queue->ring.size && is_available(load(slot_at(queue, slot) + FLAGS_AT), !(now >> 31))
+                ? now
+                : (uint32_t)place->next;
   return true;
 }
 
@@ -188,8 +202,8 @@ static bool show_split(struct backend *backend, unsigned q) {
   return true;
 }
 
-// Returns whether a driver wants to be notified of what was shown since its ring stood here (VIRTIO 1.2, 2.7.10 and 2.8.10). One of a packed
-// ring that names a descriptor is notified of each.
+// Returns whether a driver wants to be notified of what was shown since its ring stood here (VIRTIO 1.2, 2.7.10 and 2.8.10).
+// One of a packed ring that names a descriptor is notified of each.
 static bool wants(const struct backend *backend, unsigned q, uint16_t before) {
   const struct backend_queue *queue = &backend->queues[q];
   uint16_t now = queue->ring.first.used;
@@ -224,7 +238,8 @@ void ring_ask(struct backend *backend, unsigned q, bool notify) {
   if (!is_whole) return;
   // All that it took of a queue but the events' the device gave back.
   uint16_t taken = q == EVENT_QUEUE ? load(memory_at(&backend->memory, queue->ring.driver + 2, 2))
-                                    : backend->waits ? queue->ring.first.available : load(queue->device_at + 2);
+                   : backend->waits ? queue->ring.first.available
+                                    : load(queue->device_at + 2);
   if (names) store(queue->device_at + 4 + 8 * (size_t)queue->ring.size, (uint16_t)(notify ? taken : taken + 0x8000));
   else store(queue->device_at + (backend->packed ? 2 : 0), notify ? 0 : 1);
   __atomic_thread_fence(__ATOMIC_SEQ_CST);

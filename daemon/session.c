@@ -18,16 +18,17 @@
 #include "space.h"
 
 #define OFFERED ((VSCSI_ACCEPTED_FEATURES & ~VSCSI_F_CHANGE) | F_PROTOCOL_FEATURES)
-// What QEMU has a driver agree to by itself: events of disks that come, go or change (VIRTIO 1.2, 5.6.3). The device tells none of these.
+// What QEMU has a driver agree to by itself: events of disks that come, go or change (VIRTIO 1.2, 5.6.3). The device tells none
+// of these.
 #define IGNORED (UINT64_C(1) << 1 | UINT64_C(1) << 2)
 #define OFFERED_PROTOCOL (P_MQ | P_REPLY_ACK | P_CONFIG | P_RESET_DEVICE | P_INFLIGHT_SHMFD | P_CONFIGURE_MEM_SLOTS | P_STATUS)
 
 // How many messages of a session are taken before others of the daemon's descriptors are looked at.
 enum { MOST_MESSAGES = 64, WHY = 200, REGION_BYTES = 32, INFLIGHT_BYTES = 20, SPACE_HEAD = 12, MOST_SPACE = 256 };
 
-// Milliseconds: how often it is said that a file can't be written, and a ring is looked at that has no kick; how long a session is
-// served before others of the daemon's descriptors are looked at, but for one round; how long a session that ends has for a round; and how
-// long a driver that is polled may make nothing available before it is asked to notify.
+// Milliseconds: how often it is said that a file can't be written, and a ring is looked at that has no kick; how long a session
+// is served before others of the daemon's descriptors are looked at, but for one round; how long a session that ends has for a
+// round; and how long a driver that is polled may make nothing available before it is asked to notify.
 enum { COMPLAINT = 60000, POLL = 1, LONGEST = 20, LEAVING = 200, LONGEST_POLL = 10 };
 
 static void say(const struct session *session, const char *what, const char *why) {
@@ -39,7 +40,8 @@ static bool watch(int epoll, int fd, uint32_t what) {
   return fd >= 0 && !epoll_ctl(epoll, EPOLL_CTL_ADD, fd, &event);
 }
 
-bool session_begin(struct session *session, int socket, int epoll, struct disks *disks, unsigned request_queues, bool polls, bool quiet) {
+bool session_begin(struct session *session, int socket, int epoll, struct disks *disks, unsigned request_queues, bool polls,
+                   bool quiet) {
   memset(session, 0, sizeof *session);
   session->socket = socket;
   session->epoll = epoll;
@@ -113,8 +115,9 @@ static bool change_memory(struct session *session, const struct message *message
   struct backend *backend = &session->backend;
   if (message->size != 8 + REGION_BYTES) return false;
   backend_unmap(backend);
-  bool changed = message->request == ADD_MEM_REG ? message->fd_count == 1 && add_region(&backend->memory, at, message->fds[0])
-                                                 : memory_remove(&backend->memory, little_get(at, 8), little_get(at + 8, 8), little_get(at + 16, 8));
+  bool changed = message->request == ADD_MEM_REG
+                     ? message->fd_count == 1 && add_region(&backend->memory, at, message->fds[0])
+                     : memory_remove(&backend->memory, little_get(at, 8), little_get(at + 8, 8), little_get(at + 16, 8));
   if (!changed) return false;
   // A ring whose region is taken away may come with the next one.
   queues_find(session, false);
@@ -181,8 +184,7 @@ static bool get_config(const struct session *session, const struct message *mess
 // Whether the daemon knows this message, and whether it answers it itself: then there is no acknowledgement.
 static bool is_answered(uint32_t request) {
   return request == GET_FEATURES || request == GET_PROTOCOL_FEATURES || request == GET_QUEUE_NUM || request == GET_VRING_BASE ||
-         request == GET_CONFIG || request == GET_MAX_MEM_SLOTS || request == GET_STATUS ||
-         request == GET_INFLIGHT_FD;
+         request == GET_CONFIG || request == GET_MAX_MEM_SLOTS || request == GET_STATUS || request == GET_INFLIGHT_FD;
 }
 
 static bool take(struct session *session, struct message *message) {
@@ -266,7 +268,8 @@ static bool read_on(struct session *session) {
   return true;
 }
 
-// Returns whether a session stands behind a call that looked at the guest's memory. Where a front end took some of it away, it ends.
+// Returns whether a session stands behind a call that looked at the guest's memory. Where a front end took some of it away, it
+// ends.
 static bool is_whole(bool stands) {
   if (stands && guard_found()) return log_say(LOG_ERROR, NULL, "the session ends: the guest's memory became shorter"), false;
   return stands;
@@ -274,8 +277,8 @@ static bool is_whole(bool stands) {
 
 bool session_read(struct session *session) { return is_whole(read_on(session)); }
 
-// Adds to an event's count. A front end may have made its descriptor one that waits, so a count that is full is left alone: it hasn't
-// looked yet. Between the two calls none but that front end could fill it.
+// Adds to an event's count. A front end may have made its descriptor one that waits, so a count that is full is left alone: it
+// hasn't looked yet. Between the two calls none but that front end could fill it.
 static void signal_fd(int fd) {
   const uint64_t one = 1;
   struct pollfd asked = {.fd = fd, .events = POLLOUT};
@@ -283,8 +286,8 @@ static void signal_fd(int fd) {
   if (write(fd, &one, sizeof one) < 0) return;
 }
 
-// Takes what a kick's descriptor has to say, without waiting, also where the front end made it one that waits. Returns false where it
-// can't be read.
+// Takes what a kick's descriptor has to say, without waiting, also where the front end made it one that waits. Returns false
+// where it can't be read.
 static bool drain(int fd) {
   uint64_t count;
   struct iovec part = {.iov_base = &count, .iov_len = sizeof count};

@@ -8,7 +8,7 @@
 struct session_queue {
   int kick, call, err;
   bool enabled, started, addressed;
-  bool told;  // of a broken ring, by its error descriptor
+  bool told;                      // of a broken ring, by its error descriptor
   uint64_t desc, driver, device;  // by the front end's own addresses
   uint32_t base;
   uint16_t size;
@@ -21,13 +21,13 @@ struct session {
   struct backend backend;
   struct session_queue queues[MOST_QUEUES];
   uint64_t features, protocol;
-  uint8_t status;      // of the device, as the driver has it (VIRTIO 1.2, 2.1)
+  uint8_t status;     // of the device, as the driver has it (VIRTIO 1.2, 2.1)
   uint64_t messages;  // that came
   bool more, quiet;
-  bool polls;              // rings are looked at while their driver is busy, and it isn't asked to notify meanwhile
-  uint64_t busy;           // when something was last found there
-  bool is_torn;            // a ring's memory is gone, and may come again
-  bool is_old;             // something changed since these were found: the queues that are served, and those that have no kick
+  bool polls;     // rings are looked at while their driver is busy, and it isn't asked to notify meanwhile
+  uint64_t busy;  // when something was last found there
+  bool is_torn;   // a ring's memory is gone, and may come again
+  bool is_old;    // something changed since these were found: the queues that are served, and those that have no kick
   uint32_t served, kickless;
   int timer;               // by which a round that has to wait is tried again
   struct message waiting;  // a message that has to wait for the requests that the device has run to be answered, and since when
@@ -39,7 +39,8 @@ struct session {
 enum { EVENT_SOCKET = 1000, EVENT_TIMER = 1001 };
 
 // Begins over a connected socket, which is the session's from then on. Returns false, without it, where epoll doesn't take it.
-bool session_begin(struct session *session, int socket, int epoll, struct disks *disks, unsigned request_queues, bool polls, bool quiet);
+bool session_begin(struct session *session, int socket, int epoll, struct disks *disks, unsigned request_queues, bool polls,
+                   bool quiet);
 
 // Lets go of all that the front end gave. The disks stay.
 void session_end(struct session *session);
@@ -53,7 +54,8 @@ bool session_is_owed(const struct session *session);
 // Takes a queue's kick, or the timer's.
 void session_kicked(struct session *session, unsigned what);
 
-// Serves what the driver made available. Returns false where the connection has to end. Sets `more` where another call is wanted.
+// Serves what the driver made available. Returns false where the connection has to end. Sets `more` where another call is
+// wanted.
 bool session_serve(struct session *session);
 
 // Of queues.c: what messages of one queue do. Each returns false where the message can't be taken.
@@ -66,13 +68,14 @@ bool queue_set_call(struct session *session, struct message *message);
 bool queue_set_err(struct session *session, struct message *message);
 bool queue_get_base(struct session *session, const struct message *message);
 
-// Looks for the areas of all started rings in the guest's memory, after it changed, and has the device work in it. Where one isn't there
-// the ring breaks, or, where `breaks` is false, none is served until it is there again.
+// Looks for the areas of all started rings in the guest's memory, after it changed, and has the device work in it. Where one
+// isn't there the ring breaks, or, where `breaks` is false, none is served until it is there again.
 void queues_find(struct session *session, bool breaks);
 void queues_begin(struct session *session);
 void queues_end(struct session *session);
 
-// Makes all queues what they were at first, but for the descriptors by which the front end is told of answers and of broken rings.
+// Makes all queues what they were at first, but for the descriptors by which the front end is told of answers and of broken
+// rings.
 void queues_reset(struct session *session);
 
 #endif

@@ -6,7 +6,8 @@
 #include "../bytes.h"
 #include "front.h"
 
-static const uint8_t write_10[] = {0x2a, 0, 0, 0, 0, 3, 0, 0, 16, 0}, read_10[] = {0x28, 0, 0, 0, 0, 3, 0, 0, 16, 0}, ready[] = {0, 0, 0, 0, 0, 0};
+static const uint8_t write_10[] = {0x2a, 0, 0, 0, 0, 3, 0, 0, 16, 0}, read_10[] = {0x28, 0, 0, 0, 0, 3, 0, 0, 16, 0},
+                     ready[] = {0, 0, 0, 0, 0, 0};
 
 // Places of the guest's memory: of a request, of its response, and of data.
 enum { REQUEST = 0x202000, ANSWER = 0x202400, ROOM = 0x300000, BYTES = 16 * 512, Q = 2 };
@@ -38,7 +39,8 @@ static int run(struct front *front, const uint8_t *block, size_t length, const s
 }
 
 void test_events(void) {
-  static const struct part control[] = {{REQUEST, 24, false}, {ANSWER, 1, true}}, event[] = {{HALF, 1 << 20, false}, {ROOM, 16, true}};
+  static const struct part control[] = {{REQUEST, 24, false}, {ANSWER, 1, true}},
+                           event[] = {{HALF, 1 << 20, false}, {ROOM, 16, true}};
   static const uint8_t unit[] = {1, 0, 0x40, 0, 0, 0, 0, 0};
   for (unsigned number = 0; number < WAYS; number++) {
     struct disks disks;
@@ -70,7 +72,8 @@ static unsigned fill(struct part *parts, uint64_t bytes, bool out) {
   parts[count++] = (struct part){REQUEST, HEAD, false};
   if (!out) parts[count++] = answer;
   parts[count++] = (struct part){ROOM, BYTES, !out};
-  for (; left; left -= parts[count++].length) parts[count] = (struct part){0, (uint32_t)(left < GUEST_BYTES ? left : GUEST_BYTES), !out};
+  for (; left; left -= parts[count++].length)
+    parts[count] = (struct part){0, (uint32_t)(left < GUEST_BYTES ? left : GUEST_BYTES), !out};
   if (out) parts[count++] = answer;
   return count;
 }
@@ -117,7 +120,8 @@ void test_holes(void) {
 
 void test_order(void) {
   // A readable part behind a writable one, which has no bytes.
-  static const struct part parts[] = {{REQUEST, HEAD, false}, {ANSWER, 0, true}, {ROOM, BYTES, false}, {ANSWER, RESPONSE, true}};
+  static const struct part parts[] = {
+      {REQUEST, HEAD, false}, {ANSWER, 0, true}, {ROOM, BYTES, false}, {ANSWER, RESPONSE, true}};
   for (unsigned number = 0; number < WAYS; number++) {
     struct disks disks;
     struct front front;

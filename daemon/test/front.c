@@ -74,7 +74,8 @@ void front_again(struct front *front) {
   close(front->socket);
   MUST(!socketpair(AF_UNIX, SOCK_STREAM | SOCK_CLOEXEC, 0, pair));
   front->socket = pair[0];
-  front->alive = session_begin(&front->session, pair[1], front->epoll, front->disks, QUEUES - FIXED_QUEUES, front->way.polls, true);
+  front->alive =
+      session_begin(&front->session, pair[1], front->epoll, front->disks, QUEUES - FIXED_QUEUES, front->way.polls, true);
   MUST(front->alive);
 }
 
@@ -132,7 +133,9 @@ static struct sent *message(struct sent *sent, uint32_t request, size_t length) 
   return sent;
 }
 
-static void one(struct sent *sent, uint32_t request, uint64_t number) { little_put(message(sent, request, 8)->bytes + HEADER, number, 8); }
+static void one(struct sent *sent, uint32_t request, uint64_t number) {
+  little_put(message(sent, request, 8)->bytes + HEADER, number, 8);
+}
 
 void front_say(const struct front *front, uint32_t request, uint64_t number) {
   struct sent sent;
@@ -153,7 +156,9 @@ bool front_ask(struct front *front, const struct sent *sent) {
   return front->alive && front_reply(front, payload, sizeof payload) == 8 && little_get(payload, 8) == 0;
 }
 
-static uint64_t user_of(const struct front *front, uint64_t place) { return front->way.far && place >= HALF ? place - HALF + FAR_USER : place + USER; }
+static uint64_t user_of(const struct front *front, uint64_t place) {
+  return front->way.far && place >= HALF ? place - HALF + FAR_USER : place + USER;
+}
 
 static void put_area(uint8_t *at, struct area area) {
   little_put(at, area.guest, 8);
@@ -197,8 +202,8 @@ size_t front_set_up(const struct front *front, struct sent *sent, uint32_t base)
   message(&sent[n++], GET_QUEUE_NUM, 0);
   message(&sent[n++], SET_OWNER, 0);
   one(&sent[n++], SET_FEATURES,
-      VSCSI_F_VERSION_1 | F_PROTOCOL_FEATURES | (way->packed ? VSCSI_F_RING_PACKED : 0) | (way->event_index ? VSCSI_F_EVENT_IDX : 0) |
-          (way->indirect ? VSCSI_F_INDIRECT_DESC : 0));
+      VSCSI_F_VERSION_1 | F_PROTOCOL_FEATURES | (way->packed ? VSCSI_F_RING_PACKED : 0) |
+          (way->event_index ? VSCSI_F_EVENT_IDX : 0) | (way->indirect ? VSCSI_F_INDIRECT_DESC : 0));
   little_put(message(&sent[n++], GET_CONFIG, 12 + 36)->bytes + HEADER + 4, 36, 4);
   memory_table(front, &sent[n++]);
   for (unsigned q = 0; q < QUEUES; q++) {
@@ -271,9 +276,11 @@ void front_agree(struct front *front) {
     MUST(front->alive);
     size_t length = front_reply(front, payload, sizeof payload);
     uint32_t request = (uint32_t)little_get(sent[i].bytes, 4);
-    if (request == GET_FEATURES) MUST(little_get(payload, 8) == ((VSCSI_ACCEPTED_FEATURES & ~VSCSI_F_CHANGE) | F_PROTOCOL_FEATURES));
+    if (request == GET_FEATURES)
+      MUST(little_get(payload, 8) == ((VSCSI_ACCEPTED_FEATURES & ~VSCSI_F_CHANGE) | F_PROTOCOL_FEATURES));
     else if (request == GET_QUEUE_NUM) MUST(little_get(payload, 8) == QUEUES);
-    else if (request == GET_CONFIG) MUST(length == 48 && little_get(payload + 12, 4) == QUEUES - 2 && little_get(payload + 12 + 24, 4) == 32);
+    else if (request == GET_CONFIG)
+      MUST(length == 48 && little_get(payload + 12, 4) == QUEUES - 2 && little_get(payload + 12 + 24, 4) == 32);
     else if (request != GET_PROTOCOL_FEATURES && i > 2) MUST(length == 8 && little_get(payload, 8) == 0);
   }
 }
@@ -298,9 +305,10 @@ static void descriptor(uint8_t *at, uint64_t addr, uint32_t length, uint16_t thi
 static void put_packed(struct front *front, unsigned q, const struct part *parts, unsigned count, bool table) {
   struct driver_queue *queue = &front->queues[q];
   for (unsigned i = 0; i < count; i++) {
-    uint16_t flags = (uint16_t)((queue->next_wrap ? FLAG_AVAILABLE : FLAG_USED) | (i + 1 < count ? FLAG_NEXT : 0) | (parts[i].writable ? FLAG_WRITE : 0) |
-                                (table ? FLAG_INDIRECT : 0));
-    descriptor(front->memory + place_of(q, 0) + 16 * queue->next, guest_of(front, parts[i].place), parts[i].length, (uint16_t)(queue->free & (front->size / 2 - 1)), flags);
+    uint16_t flags = (uint16_t)((queue->next_wrap ? FLAG_AVAILABLE : FLAG_USED) | (i + 1 < count ? FLAG_NEXT : 0) |
+                                (parts[i].writable ? FLAG_WRITE : 0) | (table ? FLAG_INDIRECT : 0));
+    descriptor(front->memory + place_of(q, 0) + 16 * queue->next, guest_of(front, parts[i].place), parts[i].length,
+               (uint16_t)(queue->free & (front->size / 2 - 1)), flags);
     if (++queue->next == front->size) {
       queue->next = 0;
       queue->next_wrap = !queue->next_wrap;
@@ -315,8 +323,10 @@ static void put_split(struct front *front, unsigned q, const struct part *parts,
   uint16_t head = (uint16_t)(queue->free % front->size);
   for (unsigned i = 0; i < count; i++) {
     uint16_t at = (uint16_t)(queue->free++ % front->size);
-    uint16_t flags = (uint16_t)((i + 1 < count ? FLAG_NEXT : 0) | (parts[i].writable ? FLAG_WRITE : 0) | (table ? FLAG_INDIRECT : 0));
-    descriptor(front->memory + place_of(q, 0) + 16 * at, guest_of(front, parts[i].place), parts[i].length, flags, (uint16_t)(queue->free % front->size));
+    uint16_t flags =
+        (uint16_t)((i + 1 < count ? FLAG_NEXT : 0) | (parts[i].writable ? FLAG_WRITE : 0) | (table ? FLAG_INDIRECT : 0));
+    descriptor(front->memory + place_of(q, 0) + 16 * at, guest_of(front, parts[i].place), parts[i].length, flags,
+               (uint16_t)(queue->free % front->size));
   }
   uint8_t *ring = front->memory + place_of(q, 1);
   little_put(ring + 4 + 2 * (queue->next % front->size), head, 2);
@@ -332,7 +342,8 @@ static void put(struct front *front, unsigned q, const struct part *parts, unsig
 void driver_put_table(struct front *front, unsigned q, struct part table) { put(front, q, &table, 1, true); }
 
 void driver_put(struct front *front, unsigned q, const struct part *parts, unsigned count) {
-  struct part whole = {.place = TABLES + 0x10000 * (uint64_t)q + 0x100 * (uint64_t)(front->queues[q].free % 256), .length = 16 * count};
+  struct part whole = {.place = TABLES + 0x10000 * (uint64_t)q + 0x100 * (uint64_t)(front->queues[q].free % 256),
+                       .length = 16 * count};
   for (unsigned i = 0; front->way.indirect && i < count; i++) {
     uint16_t flags = (uint16_t)((parts[i].writable ? FLAG_WRITE : 0) | (i + 1 < count && !front->way.packed ? FLAG_NEXT : 0));
     uint8_t *at = front->memory + whole.place + 16 * i;
@@ -396,9 +407,11 @@ void put_request(struct front *front, uint64_t place, const uint8_t *block, size
   memcpy(front->memory + place, head, HEAD);
 }
 
-int command(struct front *front, unsigned q, const uint8_t *block, size_t length, const void *out, uint32_t out_length, void *in, uint32_t in_length) {
+int command(struct front *front, unsigned q, const uint8_t *block, size_t length, const void *out, uint32_t out_length,
+            void *in, uint32_t in_length) {
   // Data reach over the border of the two halves where these touch.
-  uint64_t request = DATA + 0x1000 * (uint64_t)q, response = request + 0x400, data = front->way.far ? HALF + 0x1400 : HALF - 0x1400;
+  uint64_t request = DATA + 0x1000 * (uint64_t)q, response = request + 0x400,
+           data = front->way.far ? HALF + 0x1400 : HALF - 0x1400;
   struct part parts[4];
   unsigned count = 0;
   uint32_t used;

@@ -72,8 +72,8 @@ void front_say(const struct front *front, uint32_t request, uint64_t number);
 // Fills the messages that set all queues up, from `base` on, and returns how many there are.
 size_t front_set_up(const struct front *front, struct sent *sent, uint32_t base);
 
-// Fills a message that adds or removes a region, or a table of regions that get their descriptors one after the other. A region is
-// (guest's address, size, front end's address, place).
+// Fills a message that adds or removes a region, or a table of regions that get their descriptors one after the other. A region
+// is (guest's address, size, front end's address, place).
 struct area {
   uint64_t guest, size, user, place;
 };
@@ -114,8 +114,8 @@ void driver_kick(struct front *front, unsigned q);
 // Makes a chain available whose one descriptor names the table in this part.
 void driver_put_table(struct front *front, unsigned q, struct part table);
 
-// Looks at the next used element, if there is one; of a split ring it also goes on behind it. driver_next does so of either, for a
-// chain of so many parts.
+// Looks at the next used element, if there is one; of a split ring it also goes on behind it. driver_next does so of either,
+// for a chain of so many parts.
 bool driver_take(struct front *front, unsigned q, uint32_t *length);
 bool driver_next(struct front *front, unsigned q, unsigned count, uint32_t *length);
 
@@ -126,6 +126,7 @@ bool driver_run(struct front *front, unsigned q, const struct part *parts, unsig
 void put_request(struct front *front, uint64_t place, const uint8_t *block, size_t length);
 
 // Runs a command of disk 0:0, and returns its status, or -1 where there was no answer.
-int command(struct front *front, unsigned q, const uint8_t *block, size_t length, const void *out, uint32_t out_length, void *in, uint32_t in_length);
+int command(struct front *front, unsigned q, const uint8_t *block, size_t length, const void *out, uint32_t out_length,
+            void *in, uint32_t in_length);
 
 #endif

@@ -80,7 +80,8 @@ static uint32_t await_base(struct front *front) {
   return (uint32_t)little_get(payload + 4, 4);
 }
 
-// Stops queue Q while the file can't be written, which ends before the requests would be refused or behind that. Returns the base.
+// Stops queue Q while the file can't be written, which ends before the requests would be refused or behind that. Returns the
+// base.
 static uint32_t stop(struct front *front, bool ends) {
   uint8_t payload[8];
   uint32_t length;

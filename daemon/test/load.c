@@ -56,7 +56,8 @@ uint8_t *buffer_of(const struct front *front, unsigned i) { return front->memory
 
 void put_to(struct front *front, unsigned lun, unsigned q, unsigned i, const uint8_t *block, size_t length, uint32_t bytes) {
   uint64_t request = REQUESTS + EACH * (uint64_t)i;
-  const struct part parts[] = {{request, 51, false}, {BUFFERS + BUFFER * (uint64_t)i, bytes, false}, {request + ANSWER, 108, true}};
+  const struct part parts[] = {
+      {request, 51, false}, {BUFFERS + BUFFER * (uint64_t)i, bytes, false}, {request + ANSWER, 108, true}};
   put_request(front, request, block, length);
   front->memory[request + LUN_LOW] = (uint8_t)lun;
   memset(answer_of(front, i), 0xee, 108);
@@ -117,7 +118,9 @@ unsigned await_of(struct front *front, unsigned q, unsigned parts, unsigned coun
   return seen;
 }
 
-unsigned await(struct front *front, unsigned q, unsigned count, uint64_t patience) { return await_of(front, q, 3, count, patience); }
+unsigned await(struct front *front, unsigned q, unsigned count, uint64_t patience) {
+  return await_of(front, q, 3, count, patience);
+}
 
 unsigned await_failure(struct front *front, unsigned q) {
   uint64_t until = clock_now() + PATIENCE;

@@ -4,8 +4,8 @@
 
 #include "front.h"
 
-// The bytes of a request's data; how many requests there are, and one more behind them; between the first blocks of two WRITEs; a queue;
-// and milliseconds that nothing takes.
+// The bytes of a request's data; how many requests there are, and one more behind them; between the first blocks of two WRITEs;
+// a queue; and milliseconds that nothing takes.
 enum { BUFFER = 0x1000, MANY = 120, APART = 1000003, Q = 2, PATIENCE = 60000 };
 
 // Where the files are.
@@ -23,8 +23,9 @@ void load_end(struct front *front, struct disks *disks);
 uint8_t *answer_of(const struct front *front, unsigned i);
 uint8_t *buffer_of(const struct front *front, unsigned i);
 
-// Makes request i to a disk of target 0 available, with so many bytes from its buffer; or to disk 0:0 a WRITE of 4 KiB of bytes that
-// tell its number, or an UNMAP that has so many descriptors of 8 blocks each, whose first blocks are APART; or a LOGICAL UNIT RESET.
+// Makes request i to a disk of target 0 available, with so many bytes from its buffer; or to disk 0:0 a WRITE of 4 KiB of bytes
+// that tell its number, or an UNMAP that has so many descriptors of 8 blocks each, whose first blocks are APART; or a LOGICAL
+// UNIT RESET.
 void put(struct front *front, unsigned q, unsigned i, const uint8_t *block, size_t length, uint32_t bytes);
 void put_to(struct front *front, unsigned lun, unsigned q, unsigned i, const uint8_t *block, size_t length, uint32_t bytes);
 void put_write(struct front *front, unsigned q, unsigned i, uint32_t block);
@@ -37,8 +38,8 @@ void put_reset(struct front *front, unsigned i);
 unsigned await_of(struct front *front, unsigned q, unsigned parts, unsigned count, uint64_t patience);
 unsigned await(struct front *front, unsigned q, unsigned count, uint64_t patience);
 
-// Has the session go on until a file was found not to be written. Returns how many requests of the queue were answered before, or whether
-// none was.
+// Has the session go on until a file was found not to be written. Returns how many requests of the queue were answered before,
+// or whether none was.
 unsigned await_failure(struct front *front, unsigned q);
 bool await_error(struct front *front, unsigned q);
 
@@ -47,7 +48,8 @@ void pass(struct front *front, unsigned seconds);
 
 bool is_good(const struct front *front, unsigned i);
 
-// Returns whether a disk's file has what WRITE i wrote, or zeros; and whether it has each of so many WRITEs, which all were GOOD.
+// Returns whether a disk's file has what WRITE i wrote, or zeros; and whether it has each of so many WRITEs, which all were
+// GOOD.
 bool has_on(unsigned lun, unsigned i, uint64_t block, bool zeros);
 bool has(unsigned i, uint64_t block, bool zeros);
 bool has_all(const struct front *front, unsigned count);

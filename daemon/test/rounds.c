@@ -108,7 +108,8 @@ void test_crowded(void) {
     MUST(await(&front, Q, 1, 40) == 0 && !disks.disks[0].backlog.ranges && disks.disks[0].backlog.count <= FEW_RANGES);
     faults_clear();
     MUST(await(&front, Q, MANY - seen, PATIENCE) == MANY - seen);
-    for (unsigned i = 0; i < MANY; i++) MUST(is_good(&front, i) && has(i, (uint64_t)i * BETWEEN, false) && has(0, (uint64_t)i * BETWEEN + 16, true));
+    for (unsigned i = 0; i < MANY; i++)
+      MUST(is_good(&front, i) && has(i, (uint64_t)i * BETWEEN, false) && has(0, (uint64_t)i * BETWEEN + 16, true));
     load_end(&front, &disks);
   }
 }

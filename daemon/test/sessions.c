@@ -11,7 +11,8 @@
 #include "faults.h"
 #include "front.h"
 
-static const uint8_t ready[6] = {0}, write_10[] = {0x2a, 0, 0, 0, 0, 3, 0, 0, 1, 0}, read_10[] = {0x28, 0, 0, 0, 0, 3, 0, 0, 1, 0};
+static const uint8_t ready[6] = {0}, write_10[] = {0x2a, 0, 0, 0, 0, 3, 0, 0, 1, 0},
+                     read_10[] = {0x28, 0, 0, 0, 0, 3, 0, 0, 1, 0};
 
 enum { PAGE = 4096, MOST_SENT = 64, PATIENCE = 10000, FIRST_OF_RINGS = 8 };
 
@@ -129,8 +130,10 @@ void test_regions(void) {
   static const struct {
     struct area more;
     bool taken;
-  } tries[] = {{{0, 0, 0, 0}, true},          {{2048, 0, 0, 0}, false}, {{0, 0, 8, 0}, false},       {{0, 0, 0, 512}, false},
-               {{0, UINT64_MAX, 0, 0}, true}, {{0, 1, 0, 0}, true},     {{0, 0, 0, 1 << 23}, false}, {{0, 0 - (uint64_t)PAGE, 0, 0}, false}};
+  } tries[] = {{{0, 0, 0, 0}, true},          {{2048, 0, 0, 0}, false},
+               {{0, 0, 8, 0}, false},         {{0, 0, 0, 512}, false},
+               {{0, UINT64_MAX, 0, 0}, true}, {{0, 1, 0, 0}, true},
+               {{0, 0, 0, 1 << 23}, false},   {{0, 0 - (uint64_t)PAGE, 0, 0}, false}};
   for (unsigned number = 0; number < WAYS; number += 3) {
     struct disks disks;
     struct front front;
@@ -391,7 +394,8 @@ void test_endless(void) {
     front_say(&front, GET_VRING_BASE, 4);
     turn(&front);
     // Messages are answered meanwhile, but for those that end the device. Answers of packed rings wait for the round's end.
-    MUST(front.alive && front.session.more && front_reply(&front, payload, sizeof payload) == 8 && !front_reply(&front, payload, sizeof payload));
+    MUST(front.alive && front.session.more && front_reply(&front, payload, sizeof payload) == 8 &&
+         !front_reply(&front, payload, sizeof payload));
     MUST(driver_next(&front, 3, 2, &length) == !front.way.packed);
     faults.passed++;
     turn(&front);
