@@ -86,7 +86,7 @@ void queues_find(struct session *session, bool breaks) {
   bool is_whole = true;
   for (unsigned q = 0; q < backend->count; q++) {
     struct backend_queue *queue = &backend->queues[q];
-    bool is_lost = session->queues[q].started && !queue->fault && !find(session, q);
+    bool is_lost = session->queues[q].started && !find(session, q) && !queue->fault;
     if (is_lost && breaks) queue->fault = FAULT_UNMAPPED;
     backend->broken = backend->broken || (is_lost && breaks);
     is_whole = is_whole && (!is_lost || breaks);

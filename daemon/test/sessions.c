@@ -471,6 +471,11 @@ void test_status(void) {
     front_say(&front, GET_STATUS, 0);
     pump(&front);
     MUST(front_reply(&front, payload, sizeof payload) == 8 && little_get(payload, 8) == (15 | 64));
+    // Its memory may be another's then.
+    struct sent sent;
+    front_table(&front, &sent, (struct area[]){front_half(&front, 0), front_half(&front, 1)}, 2);
+    MUST(front_ask(&front, &sent) && is_ready(&front, 3));
+    front_stop(&front, 3);
     front_say(&front, SET_STATUS, 0);
     pump(&front);
     MUST(front_reply(&front, payload, sizeof payload) == 8 && !front.session.queues[2].started);
