@@ -1,8 +1,9 @@
-// The device behind a front end's rings. It works in the guest's memory: rings, tables, requests and data are read and written
-// there by the library alone, and nothing is copied.
+// The device behind a front end's rings. It works in the guest's memory: the library reads and writes tables, requests, data and
+// most of the rings there.
 //
 // Where a disk is kept on a file, no answer is shown to the guest before the file has what the answer promises. Meanwhile a
-// part of each ring is the daemon's own (rings.h), so that what the device gave back isn't seen.
+// part of each ring is the daemon's own (rings.h), so that what the device gave back isn't seen. Packed rings always have such a
+// part, by which it is counted where they stand.
 #ifndef DAEMON_BACKEND_H
 #define DAEMON_BACKEND_H
 
