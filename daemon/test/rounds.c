@@ -59,10 +59,11 @@ void test_slow(void) {
       turn(&front);
       MUST(clock_now() - begun < PATIENCE);
       while (driver_next(&front, Q, 3, &length)) seen++;
-      if (front_reply(&front, payload, sizeof payload) && answered++) MUST(seen == 60 && little_get(payload, 4) == 3);
-      MUST(!seen || answered);
+      if (front_reply(&front, payload, sizeof payload) && answered++) MUST(little_get(payload, 4) == 3);
+      MUST(seen < 60 || answered);
     }
-    MUST(turns > 3 && has_all(&front, 60));
+    // On a machine that is busy a round may have fewer. What it hadn't taken goes on.
+    MUST(turns > 3 && await(&front, Q, 60 - seen, PATIENCE) == 60 - seen && has_all(&front, 60));
     load_end(&front, &disks);
   }
 }
