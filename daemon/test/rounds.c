@@ -231,7 +231,7 @@ static void take_turns(unsigned number, unsigned many, unsigned one, uint32_t by
 }
 
 void test_turns(void) {
-  // A queue's share has its request answered at once, and where the requests of one queue take all room its turn does.
+  // Where one call of the library's serves no more than one queue, another one's turn comes.
   enum { ALL_ROOM = 1 << 20 };
   for (unsigned number = 0; number < WAYS; number++) {
     take_turns(number, Q, 3, 0);
