@@ -3,7 +3,7 @@
 ghost use Rattle.std.specs.Prelude.{◌≡◌, ◌+◌, ◌*◌, ◌≤◌, length, IfSome};
 
 use super::none_is;
-use block_store::{BLOCK_BYTES, FlatStore, PagedStore, Prepared, Store};
+use block_store::{BLOCK_BYTES, FlatStore, PagedStore, Prepared, Readiness, Store};
 use foundation::NoMemory;
 use std::alloc::Global;
 use std::test::Fail;
@@ -38,7 +38,13 @@ fn write<S: Store>(store: &mut S, first: u64, bytes: &[u8]) -> Result<bool, NoMe
     if bytes.len() % BLOCK_BYTES != 0 || first > capacity || count > capacity - first {
         return Ok(false);
     }
-    store.write_blocks(first, bytes)?;
+    if count > u64::from(u32::MAX) {
+        return Ok(false);
+    }
+    match store.ask_to_write(first, count as u32) {
+        Readiness::Ready => store.write_blocks(first, bytes)?,
+        Readiness::Asked | Readiness::Full => return Ok(false),
+    }
     Ok(true)
 }
 
@@ -48,7 +54,10 @@ fn fill<S: Store>(store: &mut S, first: u64, count: u32, byte: u8) -> Result<boo
     if first > capacity || u64::from(count) > capacity - first {
         return Ok(false);
     }
-    store.fill_blocks(first, count, &[byte; BLOCK_BYTES])?;
+    match store.ask_to_write(first, count) {
+        Readiness::Ready => store.fill_blocks(first, count, &[byte; BLOCK_BYTES])?,
+        Readiness::Asked | Readiness::Full => return Ok(false),
+    }
     Ok(true)
 }
 
@@ -58,18 +67,24 @@ fn zero<S: Store>(store: &mut S, first: u64, count: u32) -> bool {
     if first > capacity || u64::from(count) > capacity - first {
         return false;
     }
-    store.zero_blocks(first, count);
+    match store.ask_to_write(first, count) {
+        Readiness::Ready => store.zero_blocks(first, count),
+        Readiness::Asked | Readiness::Full => return false,
+    }
     true
 }
 
 /// Appends the bytes of blocks. Returns true if the blocks, and room for their bytes, are there.
-fn read<S: Store>(store: &S, first: u64, count: u32, into: &mut Vec<u8>) -> bool {
+fn read<S: Store>(store: &mut S, first: u64, count: u32, into: &mut Vec<u8>) -> bool {
     let capacity = store.capacity();
     let room = into.capacity().saturating_sub(into.len()) / BLOCK_BYTES;
     if first > capacity || u64::from(count) > capacity - first || count as usize > room {
         return false;
     }
-    store.read_blocks(first, count, into);
+    match store.ask_to_read(first, count) {
+        Readiness::Ready => store.read_blocks(first, count, into),
+        Readiness::Asked | Readiness::Full => return false,
+    }
     true
 }
 
@@ -89,7 +104,7 @@ fn are_made_of(bytes: &[u8], each: [u8; 5]) -> bool {
 
 /// Returns true if a store is five blocks, each of which consists of its byte. They are read in two parts, and an empty
 /// third.
-fn is_made_of<S: Store>(alloc: Global, store: &S, each: [u8; 5]) -> Result<bool, NoMemory> {
+fn is_made_of<S: Store>(alloc: Global, store: &mut S, each: [u8; 5]) -> Result<bool, NoMemory> {
     let Ok(mut bytes) = Vec::with_capacity(alloc, 5 * BLOCK_BYTES) else {
         return Err(NoMemory);
     };
@@ -166,7 +181,7 @@ fn paged_store(rt: HostRuntime) -> Result<(), Fail> {
 /// Returns true if so many blocks of a store consist of a byte, each.
 fn consist_of(
     alloc: Global,
-    store: &PagedStore,
+    store: &mut PagedStore,
     first: u64,
     count: u32,
     byte: u8,
@@ -222,7 +237,7 @@ fn prepare_first(store: &PagedStore, bytes: &[u8]) -> Result<Option<Prepared>, N
 /// Returns true if the bytes of a store's blocks from `first` on are 0xab, each, and those of all others zeros.
 fn are_written(
     alloc: Global,
-    store: &PagedStore,
+    store: &mut PagedStore,
     first: u64,
     count: u32,
 ) -> Result<bool, NoMemory> {
@@ -243,9 +258,9 @@ fn is_installed(alloc: Global, first: u64, bytes: &[u8], spare: &[u8]) -> Result
     };
     let prepared = store.edges(first, count)?.prepare(bytes, spare)?;
     let (installed, back) = store.install(prepared)?;
-    let is_there = are_written(alloc, &store, first, count)?;
+    let is_there = are_written(alloc, &mut store, first, count)?;
     let (returned, _) = store.install(back)?;
-    Ok(installed && is_there && returned && consist_of(alloc, &store, 0, 32, 0)?)
+    Ok(installed && is_there && returned && consist_of(alloc, &mut store, 0, 32, 0)?)
 }
 
 /// Returns the number of the first of these writes that isn't installed as it says, from 0.
@@ -293,7 +308,7 @@ fn fill_far(store: &mut PagedStore) -> Result<bool, NoMemory> {
 /// 0.
 fn first_wrong_far(
     alloc: Global,
-    store: &PagedStore,
+    store: &mut PagedStore,
     zeroed: usize,
 ) -> Result<Option<usize>, NoMemory> {
     for number in 0..FAR.len() {
