@@ -19,24 +19,20 @@ bool store_stands(const struct vscsi_disk *store) {
   return vscsi_disk_blocks(store, &blocks) == VSCSI_DONE;
 }
 
-// A base as the library has it: the wrap counter of a packed ring in bit 15.
-static uint16_t base(uint16_t place, bool wrapped, bool packed) {
-  return (uint16_t)(place | (packed && !wrapped ? 1 << 15 : 0));
-}
-
 bool device_create(struct device *device, struct vscsi_live_config config, const struct ring *rings, struct vscsi_disk *stores,
                    bool *starved, char *why, size_t room) {
   struct vscsi_fault fault = {0};
   struct vscsi_ring its[DEVICE_MOST_QUEUES];
-  bool packed = config.features & VSCSI_F_RING_PACKED;
   for (size_t q = 0; q < config.ring_count; q++) {
     const struct position *first = &rings[q].first;
     its[q] = (struct vscsi_ring){.desc = rings[q].desc,
                                  .driver = rings[q].driver,
                                  .device = rings[q].device,
                                  .size = rings[q].size,
-                                 .available = base(first->available, first->available_wrapped, packed),
-                                 .used = base(first->used, first->used_wrapped, packed)};
+                                 .first = {.available = first->available,
+                                           .used = first->used,
+                                           .available_wrapped = first->available_wrapped,
+                                           .used_wrapped = first->used_wrapped}};
   }
   config.rings = its;
   enum vscsi_answer answer = vscsi_live_create(&device->vscsi, &config, stores, &fault);

@@ -232,12 +232,11 @@ static void put(const struct work *work, unsigned number) {
 static void create(const struct vscsi_config *config) {
 #ifdef LIVE
   const struct vscsi_region regions[2] = {{0, sizeof memory, memory}, {UINT64_C(1) << 32, sizeof above, above}};
-  const uint16_t first = config->features & VSCSI_F_RING_PACKED ? 0x8000 : 0;
   struct vscsi_ring its[QUEUES];
   const struct vscsi_live_config live = {sizeof live, config->features, its, QUEUES, config->units, config->unit_count};
   for (unsigned q = 0; q < QUEUES; q++) {
     const struct vscsi_queue *queue = &config->queues[q];
-    its[q] = (struct vscsi_ring){queue->desc, queue->driver, queue->device, queue->size, first, first};
+    its[q] = (struct vscsi_ring){.desc = queue->desc, .driver = queue->driver, .device = queue->device, .size = queue->size};
   }
   memset(memory, 0, AREAS);
   must(vscsi_live_create(&device, &live, NULL, NULL));

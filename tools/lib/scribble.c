@@ -111,11 +111,10 @@ static void open_device(struct vscsi_live *device, struct vscsi_disk *disk) {
 
   for (unsigned q = 0; q < QUEUES; q++) {
     uint64_t at = BASE + AREA * (q + 1);
-    uint16_t base = form ? 0x8000 : 0;
 
     put(AREA * (q + 1) + 0x400, 0, 4);
     put(AREA * (q + 1) + 0x800, 0, 4);
-    rings[q] = (struct vscsi_ring){.desc = at, .driver = at + 0x400, .device = at + 0x800, .size = SIZE, .available = base, .used = base};
+    rings[q] = (struct vscsi_ring){.desc = at, .driver = at + 0x400, .device = at + 0x800, .size = SIZE};
   }
   const struct vscsi_live_config config = {
       .size = sizeof config, .features = features, .rings = rings, .ring_count = QUEUES, .units = &unit, .unit_count = 1};

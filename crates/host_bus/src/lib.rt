@@ -6,6 +6,9 @@
 //! It keeps `Bus`, of which no clause says which bytes a load gives, or what it does.
 #![tactic(auto)]
 
+ghost use Rattle.std.specs.Prelude.{◌≡◌};
+ghost use Rattle.host_bus.specs.Map.{map_of};
+
 use live_mem::Bus;
 
 /// The operation that says where the bytes of the next one stand: what was mapped, and an address.
@@ -44,7 +47,9 @@ fn place(map: u64, addr: u64) -> [u8; PLACE_BYTES] {
 
 impl HostBus {
     /// Makes the bus over what was mapped, by the number that C gave it. The library for C calls it once for each map.
-    pub fn new(map: u64) -> HostBus {
+    pub fn new(map: u64) -> HostBus
+        ensures { map_of result ≡ map }
+    {
         HostBus { map }
     }
 }

@@ -12,3 +12,7 @@ MayBeLive x m = MayBe x.size (heard x.bus) x.blind m
 -- all that its bus was asked to store, the first one first
 abbrev pub stored_live : {B : Type 0} → LiveMem B → List Store
 stored_live x = all_stores (heard x.bus)
+
+-- the bus behind it
+abbrev pub bus_of : {B : Type 0} → LiveMem B → B
+bus_of x = x.bus.bus

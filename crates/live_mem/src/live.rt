@@ -36,7 +36,7 @@ pub struct LiveMem<B> {
 impl<B: Bus> LiveMem<B> {
     ghost use Rattle.live_mem.specs.Room.{HasRoom};
     ghost use Rattle.live_mem.specs.Inner.Room.{Takes};
-    ghost use Rattle.live_mem.specs.Live.{MayBeLive};
+    ghost use Rattle.live_mem.specs.Live.{MayBeLive, bus_of};
 
     /// Opens the memory of `size` bytes behind a bus, with room to keep so many reads in a phase, of so many bytes in all. A phase
     /// that reads no more isn't blind. Returns an error where that memory is refused.
@@ -48,6 +48,7 @@ impl<B: Bus> LiveMem<B> {
         bytes: usize,
     ) -> Result<LiveMem<B>, AllocError>
         requires { size ≤ 2 ^ 52 }
+        ensures bus { IfOk result (λ memory. bus_of memory ≡ bus) }
         ensures size { IfOk result (λ memory. memory.size ≡ size) }
         ensures sees { IfOk result (λ memory. memory.blind ≡ false) }
         ensures room { IfOk result (λ memory. HasRoom memory reads bytes) }

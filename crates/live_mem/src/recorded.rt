@@ -42,7 +42,8 @@ impl<B: Bus> RecordedBus<B> {
 
     /// Wraps a bus, of which nothing was asked yet.
     pub fn new(bus: B) -> RecordedBus<B>
-        ensures { heard result ≡ [] }
+        ensures heard { heard result ≡ [] }
+        ensures over { result.bus ≡ bus }
     {
         RecordedBus {
             bus,

@@ -202,7 +202,8 @@ enum vscsi_broken {
   VSCSI_BROKEN_READABLE_AFTER_WRITABLE = 6, /* a readable buffer behind a writable one */
   VSCSI_BROKEN_ALREADY_OUTSTANDING = 7,     /* a head or id that the device still has */
   VSCSI_BROKEN_BAD_INDIRECT = 8,            /* an indirect table that is malformed, or wasn't agreed to */
-  VSCSI_BROKEN_RING_OVERRUN = 9             /* more descriptors than the ring has */
+  VSCSI_BROKEN_RING_OVERRUN = 9,            /* more descriptors than the ring has */
+  VSCSI_BROKEN_UNMAPPED = 11                /* no fault of the guest: the queue isn't mapped (vscsi_map). Since 1.4 */
 };
 
 /* A device on live memory, or none. Made of zeros: `struct vscsi_live device = {0};`. What is said of `struct vscsi` holds of it.
@@ -226,16 +227,23 @@ struct vscsi_region {
 /* The most regions that vscsi_map takes. Since 1.4. */
 #define VSCSI_MOST_REGIONS 65536u
 
-/* Where the driver put a queue, as `struct vscsi_queue`, and where the device begins there: the bases of vhost-user. Of a split
- * queue the index of the next available entry, and of the next used one; 0 for a ring that no device served before. Of a packed
- * queue the slots, with the wrap counter in bit 15; 0x8000 for such a ring. Since 1.4. */
+/* Where a device goes on in a queue: zeros, for one that no device served before. Of a split queue these are the indices of
+ * the next available entry and of the next used one, modulo 2^16. Of a packed queue they are slots. A side has wrapped where
+ * its wrap counter is 0 (VIRTIO 1.2, 2.8.1): it went round the ring an odd number of times. Since 1.4. */
+struct vscsi_position {
+  uint16_t available;
+  uint16_t used;
+  bool available_wrapped;
+  bool used_wrapped;
+};
+
+/* Where the driver put a queue, as `struct vscsi_queue`, and where the device begins there. Since 1.4. */
 struct vscsi_ring {
   uint64_t desc;
   uint64_t driver;
   uint64_t device;
   uint16_t size;
-  uint16_t available;
-  uint16_t used;
+  struct vscsi_position first;
 };
 
 /* The device that is wanted on live memory, as `struct vscsi_config`: the memory has no size, since any address below
@@ -400,30 +408,55 @@ enum vscsi_answer vscsi_disk_load(struct vscsi_disk *disk, uint64_t first, uint3
  * `count` is 0. */
 enum vscsi_answer vscsi_disk_save(struct vscsi_disk *disk, uint64_t first, uint32_t count, void *into, size_t length);
 
-/* Live memory: a device that serves a guest where the guest's memory is, while the guest runs. Nothing is copied in and nothing
- * out: the device reads rings, tables, requests and data at the places that the host mapped, each byte once for what it
- * decides by it, and writes data, responses and the used ring there, the used index last. A guest that writes meanwhile gives it
- * nonsense at worst, which it is proved to stand. The host's loop is: wait for a kick, vscsi_live_serve, vscsi_live_owed,
- * notify.
+/* Live memory: a device that serves a guest where the guest's memory is, while the guest runs. Nothing is copied in and
+ * nothing out: the device reads rings, tables, requests and data at the places that the host mapped, each byte once for what
+ * it decides by it, and writes data, responses and the used ring there, the used index last. A guest that writes meanwhile
+ * gives it nonsense at worst, which it is proved to stand. The host's loop is: wait for a kick, vscsi_live_serve,
+ * vscsi_live_owed, notify.
  *
- * Makes a device of which nothing has happened yet, with no memory mapped: before it is served, vscsi_map. `disks` is
- * optional: unit k has the blocks of disks[k], as vscsi_create_with says, or zeros where it is null. `fault` is optional, too.
- * The answers of vscsi_create_with, in their order, but for VSCSI_CAUSE_PAGES; VSCSI_LAYOUT_START is one more of its details.
- * Since 1.4. */
+ * Makes a device of which nothing has happened yet, with no memory mapped: none of its queues is served before vscsi_map.
+ * `disks` is optional: unit k has the blocks of disks[k], as vscsi_create_with says, or zeros where it is null. `fault` is
+ * optional, too.
+ * The answers of vscsi_create_with, in their order, but for VSCSI_CAUSE_PAGES; VSCSI_LAYOUT_START is one more of its
+ * details. Since 1.4. */
 enum vscsi_answer vscsi_live_create(struct vscsi_live *device, const struct vscsi_live_config *config, struct vscsi_disk *disks,
                                     struct vscsi_fault *fault);
 
 /* Maps regions, in any order, in place of all that was mapped: after vscsi_live_create, and again between two calls whenever
- * the guest's memory changes. The bytes stay the host's: they must be mapped for as long as the device may be served with them.
- * What isn't in a region is a hole, which reads as zeros and swallows what is written there. A queue that lies in a hole
- * has no new chains. Since 1.4.
+ * the guest's memory changes. The bytes stay the host's: they must be mapped for as long as the device may be served with
+ * them. What isn't in a region is a hole, which reads as zeros and swallows what is written there.
+ *
+ * A queue is mapped where each byte of its descriptors, its driver area and its device area lies in a region.
+ * vscsi_live_serve takes no chain of one that isn't, and vscsi_live_ask writes nothing there; vscsi_live_broken tells it by
+ * VSCSI_BROKEN_UNMAPPED. It is served on once it is mapped again. What was begun of it is answered wherever its areas are
+ * then, so unmap where vscsi_live_serve left nothing (`more`). A queue that the driver never set up may lie at any address
+ * that isn't mapped. Since 1.4.
  * VSCSI_NO_DEVICE; VSCSI_OUTSIDE where two regions overlap, one is empty or ends above VSCSI_MOST_ADDRESS, or there are more
  * than VSCSI_MOST_REGIONS; VSCSI_NO_MEMORY. Then what was mapped stays. */
 enum vscsi_answer vscsi_map(struct vscsi_live *device, const struct vscsi_region *regions, size_t count);
 
+/* Logs which pages the device writes, for a guest that is migrated (vhost-user: LOG_ALL). Page n is the 4 KiB from guest
+ * address 4,096 * n on, and has bit n % 8 of bitmap[n / 8]. The device sets the bit, by an atomic access, behind each store
+ * into the page: data, responses, used rings and what vscsi_live_ask writes. Another thread, or process, may take bits away
+ * by atomic accesses meanwhile: where it then copies the page, it copies what was stored. Pages beyond the bitmap have no
+ * bit. It stays the host's, and must be there until another call, or the end of the device. Where `bitmap` is null nothing
+ * is logged, as in the beginning. Since 1.4.
+ * VSCSI_NO_DEVICE. */
+enum vscsi_answer vscsi_log(struct vscsi_live *device, uint8_t *bitmap, size_t bytes);
+
+/* Asks the driver of a queue to notify the device of the next chain that it makes available, or, where `notify` is false, of
+ * none (VIRTIO 1.2, 2.7.10 and 2.8.10). A driver that agreed to VSCSI_F_EVENT_IDX notifies of that one chain alone, and one of a
+ * split queue that is never asked stops after its first request. So a host that waits for notifications does these three in
+ * turn: it serves until nothing is left; it asks for the next chain; and it serves once more, since a driver that made a chain
+ * available before it saw what was asked notifies nobody. If that took no step it sleeps, else it asks again. A host that polls
+ * asks for none, again after 65,535 chains, and for the next one before it sleeps. Nothing is written for a queue that is broken
+ * or isn't mapped. Since 1.4.
+ * VSCSI_NO_DEVICE; VSCSI_NO_QUEUE. */
+enum vscsi_answer vscsi_live_ask(struct vscsi_live *device, uint16_t queue, bool notify);
+
 /* Of a device on live memory what the call of the same name does; but vscsi_live_owed decides by the driver's flag, or its
- * event index, as it stood behind the full barrier behind the used index, so nothing needs to be looked at once more.
- * Since 1.4. */
+ * event index, as it stood behind the full barrier behind the used index, so nothing needs to be looked at once more. And
+ * vscsi_live_broken also tells a queue that isn't mapped. Since 1.4. */
 enum vscsi_answer vscsi_live_serve(struct vscsi_live *device, uint32_t queues, uint64_t most, uint64_t *steps, bool *more);
 enum vscsi_answer vscsi_live_owed(struct vscsi_live *device, uint32_t *queues);
 enum vscsi_answer vscsi_live_status(struct vscsi_live *device, uint8_t *status);

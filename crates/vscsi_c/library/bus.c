@@ -8,6 +8,9 @@
  * with the flags of a packed one comes first; the 2 bytes of an index, and of 8 bytes the last two, which are the flags of
  * a packed used descriptor, are stored by one store that releases, and behind it stands a full barrier, so that what the
  * device then reads of the driver's event suppression isn't older.
+ *
+ * Where the host has a log, the bit of a page is set behind each store into the page, by an access that releases: who takes the
+ * bit away, and copies the page then, sees what was stored. A bit that was set before could be taken away before the store.
  */
 #include "bus.h"
 
@@ -17,6 +20,8 @@
 
 /* The operations of host_bus: of a read LONG and SHORT, of a write the others. */
 enum { PLACE = 1 << 30, BYTES = PLACE + 1, LONG = PLACE + 2, PUT = PLACE + 3, SHORT = PLACE + 16 };
+
+enum { PAGE = 4096 };
 
 /* A region: the guest's addresses of it, and what is to be added to one of them for the host's. */
 struct span {
@@ -29,6 +34,8 @@ struct bus_map {
 	size_t count;
 	struct span *spans; /* by rising address, no two of which overlap */
 	const struct span *last; /* one of these, in which an access lay, or `none` */
+	uint8_t *log; /* NULL: none */
+	size_t log_bytes;
 };
 
 static const struct span none;
@@ -107,6 +114,12 @@ enum bus_answer bus_remap(struct bus_map *map, const struct bus_region *regions,
 	map->last = &none;
 	map->count = count;
 	return BUS_DONE;
+}
+
+void bus_log(struct bus_map *map, uint8_t *log, size_t bytes)
+{
+	map->log = log;
+	map->log_bytes = bytes;
 }
 
 void bus_unmap(struct bus_map *map)
@@ -222,6 +235,24 @@ static __attribute__((noinline)) ssize_t load_many(struct place at, unsigned cha
 	return load(at, out, len);
 }
 
+/* Sets the bit of each page in which bytes were stored, at least one of them. */
+static __attribute__((noinline)) void log_pages(const struct bus_map *map, uint64_t addr, size_t len)
+{
+	uint64_t last = (addr + len - 1) / PAGE;
+
+	for (uint64_t page = addr / PAGE; page <= last && page / 8 < map->log_bytes; page++)
+		__atomic_fetch_or(&map->log[page / 8], (uint8_t)(1 << page % 8), __ATOMIC_RELEASE);
+}
+
+/* Called behind each store. */
+static inline void stored(struct place at, size_t len)
+{
+	const struct bus_map *map = map_of(at);
+
+	if (map->log && len)
+		log_pages(map, at.addr, len);
+}
+
 static inline void store_2(unsigned char *bytes, const unsigned char *in, int order)
 {
 	uint16_t all;
@@ -230,8 +261,8 @@ static inline void store_2(unsigned char *bytes, const unsigned char *in, int or
 	__atomic_store_n((uint16_t *)bytes, all, order);
 }
 
-/* Stores bytes into one region. */
-static inline void store_into(unsigned char *bytes, const unsigned char *in, size_t len)
+/* Stores bytes into one region, in which they stand there. */
+static inline void store_into(struct place at, unsigned char *bytes, const unsigned char *in, size_t len)
 {
 	if (len == 2 && is_aligned(bytes, 2)) {
 		store_2(bytes, in, __ATOMIC_RELEASE);
@@ -245,6 +276,7 @@ static inline void store_into(unsigned char *bytes, const unsigned char *in, siz
 	} else {
 		memcpy(bytes, in, len);
 	}
+	stored(at, len);
 }
 
 /* Stores bytes that may lie in several regions and holes. */
@@ -255,7 +287,7 @@ static __attribute__((noinline)) ssize_t store_runs(struct place at, const unsig
 		unsigned char *bytes = run(at, len, &here);
 
 		if (bytes)
-			store_into(bytes, in, here);
+			store_into(at, bytes, in, here);
 		in += here;
 		at.addr += here;
 		len -= here;
@@ -269,7 +301,7 @@ static inline ssize_t store(struct place at, const unsigned char *in, size_t len
 
 	if (!is_whole(at, len, &bytes))
 		return store_runs(at, in, len);
-	store_into(bytes, in, len);
+	store_into(at, bytes, in, len);
 	return 0;
 }
 
@@ -279,7 +311,7 @@ static inline ssize_t publish(struct place at, const unsigned char *in, size_t l
 	unsigned char *bytes;
 
 	if (is_whole(at, len, &bytes))
-		store_into(bytes, in, len);
+		store_into(at, bytes, in, len);
 	else
 		store_runs(at, in, len);
 	__atomic_thread_fence(__ATOMIC_SEQ_CST);

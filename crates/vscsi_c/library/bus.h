@@ -37,6 +37,13 @@ struct bus_map *bus_map(void);
  */
 enum bus_answer bus_remap(struct bus_map *map, const struct bus_region *regions, size_t count);
 
+/*
+ * Logs what is stored into the regions from now on: page n, of 4 KiB from guest address 4,096 * n on, has bit n % 8 of log[n / 8],
+ * and pages beyond the log have none. It is the caller's, and must be there until another call, or bus_unmap. Another thread or
+ * process may take bits away by atomic accesses. NULL logs nothing, as in the beginning.
+ */
+void bus_log(struct bus_map *map, uint8_t *log, size_t bytes);
+
 /* Frees a map, with which no device is served any more. Nothing is done for NULL. */
 void bus_unmap(struct bus_map *map);
 

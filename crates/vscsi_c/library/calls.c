@@ -46,6 +46,8 @@ uint32_t vscsi_raw_live_create_with(struct vscsi_live *device, uint64_t map, uin
                                     size_t ring_count, const struct vscsi_unit *units, size_t unit_count, struct vscsi_disk *disks,
                                     size_t disk_count, struct vscsi_fault *fault);
 bool vscsi_raw_live_is_there(struct vscsi_live *device);
+uint32_t vscsi_raw_live_map(struct vscsi_live *device, const struct vscsi_region *regions, size_t count);
+uint32_t vscsi_raw_live_ask(struct vscsi_live *device, uint16_t queue, bool notify);
 uint32_t vscsi_raw_live_close(struct vscsi_live *device, struct vscsi_disk *disks, size_t count);
 uint32_t vscsi_raw_live_destroy(struct vscsi_live *device);
 uint32_t vscsi_raw_live_serve(struct vscsi_live *device, uint32_t queues, uint64_t most, uint64_t *steps, bool *more);
@@ -192,7 +194,8 @@ enum vscsi_answer vscsi_changed(struct vscsi *device, uint8_t target, uint16_t l
   return VSCSI_DONE;
 }
 
-static const struct vscsi_ring no_ring = {0, 0, 0, 0, 0, 0};
+static const struct vscsi_ring no_ring = {0, 0, 0, 0, {0, 0, false, false}};
+static const struct vscsi_region no_region = {0, 0, NULL};
 
 /* Returns why a configuration of live memory can't be handed on, or VSCSI_DONE. */
 static enum vscsi_answer live_unreadable(const struct vscsi_live_config *config) {
@@ -252,18 +255,33 @@ enum vscsi_answer vscsi_live_destroy(struct vscsi_live *device) {
   return device ? unmapped(device, (enum vscsi_answer)vscsi_raw_live_destroy(device)) : VSCSI_NULL;
 }
 
-_Static_assert(sizeof(struct vscsi_region) == sizeof(struct bus_region) && offsetof(struct vscsi_region, guest) == offsetof(struct bus_region, guest)
+_Static_assert(sizeof(struct vscsi_region) == 24 && sizeof(struct bus_region) == 24
+                   && offsetof(struct vscsi_region, guest) == offsetof(struct bus_region, guest)
                    && offsetof(struct vscsi_region, size) == offsetof(struct bus_region, size)
                    && offsetof(struct vscsi_region, host) == offsetof(struct bus_region, host) && VSCSI_MOST_ADDRESS == BUS_END
                    && VSCSI_MOST_REGIONS == BUS_MOST,
-               "a region of the bus is a region of the header");
+               "a region of the bus, and of the device, is a region of the header");
 
+/* The bus has the regions, and the device is told which of its queues lie there. */
 enum vscsi_answer vscsi_map(struct vscsi_live *device, const struct vscsi_region *regions, size_t count) {
   if (!device || (!regions && count)) return VSCSI_NULL;
   if (is_long(count, sizeof *regions)) return VSCSI_BAD_LENGTH;
   if (!vscsi_raw_live_is_there(device)) return VSCSI_NO_DEVICE;
   enum bus_answer answer = bus_remap(device->map, (const struct bus_region *)(const void *)regions, count);
-  return answer == BUS_DONE ? VSCSI_DONE : answer == BUS_NO_MEMORY ? VSCSI_NO_MEMORY : VSCSI_OUTSIDE;
+  if (answer != BUS_DONE) return answer == BUS_NO_MEMORY ? VSCSI_NO_MEMORY : VSCSI_OUTSIDE;
+  return (enum vscsi_answer)vscsi_raw_live_map(device, regions ? regions : &no_region, count);
+}
+
+enum vscsi_answer vscsi_log(struct vscsi_live *device, uint8_t *bitmap, size_t bytes) {
+  if (!device) return VSCSI_NULL;
+  if (is_long(bytes, 1)) return VSCSI_BAD_LENGTH;
+  if (!vscsi_raw_live_is_there(device)) return VSCSI_NO_DEVICE;
+  bus_log(device->map, bitmap, bytes);
+  return VSCSI_DONE;
+}
+
+enum vscsi_answer vscsi_live_ask(struct vscsi_live *device, uint16_t queue, bool notify) {
+  return device ? (enum vscsi_answer)vscsi_raw_live_ask(device, queue, notify) : VSCSI_NULL;
 }
 
 enum vscsi_answer vscsi_live_serve(struct vscsi_live *device, uint32_t queues, uint64_t most, uint64_t *steps, bool *more) {
@@ -409,6 +427,7 @@ const char *vscsi_broken_text(uint32_t fault) {
       [VSCSI_BROKEN_ALREADY_OUTSTANDING] = "a head or id that the device still has",
       [VSCSI_BROKEN_BAD_INDIRECT] = "an indirect table that is malformed, or wasn't agreed to",
       [VSCSI_BROKEN_RING_OVERRUN] = "more descriptors than the ring has",
+      [VSCSI_BROKEN_UNMAPPED] = "the queue isn't mapped",
   };
   return TEXT_OF(texts, fault, "an unknown fault");
 }

@@ -2,6 +2,9 @@ pub mod Handed
 pub mod Kept
 pub mod LiveHanded
 pub mod LiveServe
+pub mod Mapped
+pub mod Marked
+pub mod Queues
 pub mod Serve
 pub mod Taking
 pub mod Values

@@ -10,18 +10,18 @@ use Rattle.vscsi_c.specs.declared.wanted.Fault.{Fault}
 use Rattle.vscsi_c.specs.declared.wanted.WantedUnit.{WantedUnit}
 
 -- where there is no device, and where there is one
-pub created : (features : ℕ) (rings : List WantedRing) (units : List WantedUnit) (old told : Fault) (o : Option LiveServed)
-    (a : Answer) (after : Option LiveServed) → o ≡ None → CreatesLiveOf features rings units old a told after
-    → CreatesLive features rings units old told o a after
-created features rings units old told o a after none is =
-    subst (λ (x : Option LiveServed). CreatesLive features rings units old told x a after) (sym none) is
+pub created : (host_map features : ℕ) (rings : List WantedRing) (units : List WantedUnit) (old told : Fault) (o : Option LiveServed)
+    (a : Answer) (after : Option LiveServed) → o ≡ None → CreatesLiveOf host_map features rings units old a told after
+    → CreatesLive host_map features rings units old told o a after
+created host_map features rings units old told o a after none is =
+    subst (λ (x : Option LiveServed). CreatesLive host_map features rings units old told x a after) (sym none) is
 
-pub created_over : (features : ℕ) (rings : List WantedRing) (units : List WantedUnit) (old told : Fault) (o : Option LiveServed)
+pub created_over : (host_map features : ℕ) (rings : List WantedRing) (units : List WantedUnit) (old told : Fault) (o : Option LiveServed)
     (disks : List (Option PagedStore)) (a : Answer) (after : Option LiveServed) (disks' : List (Option PagedStore)) → o ≡ None
-    → CreatesLiveOverOf features rings units disks old a told after disks'
-    → CreatesLiveOver features rings units old told o disks a after disks'
-created_over features rings units old told o disks a after disks' none is =
-    subst (λ (x : Option LiveServed). CreatesLiveOver features rings units old told x disks a after disks') (sym none) is
+    → CreatesLiveOverOf host_map features rings units disks old a told after disks'
+    → CreatesLiveOver host_map features rings units old told o disks a after disks'
+created_over host_map features rings units old told o disks a after disks' none is =
+    subst (λ (x : Option LiveServed). CreatesLiveOver host_map features rings units old told x disks a after disks') (sym none) is
 
 pub closed : (o : Option LiveServed) (d : LiveServed) (disks : List (Option PagedStore)) (a : Answer)
     (after : Option LiveServed) (disks' : List (Option PagedStore)) → o ≡ Some d → ClosesLiveInto d disks a after disks'

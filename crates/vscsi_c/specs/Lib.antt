@@ -8,6 +8,7 @@ pub mod Disks
 pub mod Changes
 pub mod Counts
 pub mod LiveWanted
+pub mod Mapped
 pub mod Live
 pub mod LiveDisks
 pub mod Inner

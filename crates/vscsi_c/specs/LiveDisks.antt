@@ -2,6 +2,8 @@
 use Rattle.std.specs.Prelude.{ℕ, ◌≡◌, ◌≢◌, ◌⊎◌, true, false, List, length, map, replicate, Option, Some, None, is_some}
 use Rattle.std.specs.List.{list_any}
 use Rattle.block_store.specs.declared.paged.PagedStore.{PagedStore}
+use Rattle.host_bus.specs.Map.{map_of}
+use Rattle.live_mem.specs.Live.{bus_of}
 use Rattle.config.specs.Config.{is_config_for}
 use Rattle.config.specs.declared.config.Config.{Config}
 use Rattle.device_steps.specs.Opening.{AreDisksFor, AreDisksOf}
@@ -10,6 +12,7 @@ use Rattle.vscsi_c.specs.Calls.{plain_cause}
 use Rattle.vscsi_c.specs.Disks.{Lacks}
 use Rattle.vscsi_c.specs.Live.{all_bytes, RefusesLive}
 use Rattle.vscsi_c.specs.LiveWanted.{AsksLive}
+use Rattle.vscsi_c.specs.Mapped.{opening_rings}
 use Rattle.vscsi_c.specs.declared.answer.Answer.{Answer}
 use Rattle.vscsi_c.specs.declared.answer.Answer.TheVariants as answer
 use Rattle.vscsi_c.specs.declared.live_served.LiveServed.{LiveServed}
@@ -17,8 +20,10 @@ use Rattle.vscsi_c.specs.declared.live_wanted.WantedRing.{WantedRing}
 use Rattle.vscsi_c.specs.declared.wanted.Fault.{Fault}
 use Rattle.vscsi_c.specs.declared.wanted.WantedUnit.{WantedUnit}
 
--- the device of a configuration that is taken, over disks, of which nobody was told anything
-pub record MakesLiveOver (c : Config) (stores : List PagedStore) (d : LiveServed) : Type 0 where
+-- the device of a configuration that is taken, over disks and over what C mapped by this number. Nobody was told anything of
+-- it, and none of its queues is mapped
+pub record MakesLiveOver (host_map : ℕ) (c : Config) (stores : List PagedStore) (d : LiveServed) : Type 0 where
+  pub over : map_of (bus_of d.world.memory) ≡ host_map
   pub taken : is_config_for all_bytes c ≡ true
   pub size : d.world.memory.size ≡ all_bytes
   pub disks : AreDisksFor c.units.items stores
@@ -26,6 +31,7 @@ pub record MakesLiveOver (c : Config) (stores : List PagedStore) (d : LiveServed
   pub opens : OpensIn true all_bytes d.world.device
   pub reaches : BeginsIn true all_bytes d.world.device
   pub told : d.told ≡ replicate 18 0
+  pub rings : d.rings ≡ opening_rings c
 
 -- the first unit that has no disk, or one of another capacity, is told by the cause of number 13 and its place
 pub record LacksLiveDisk (c : Config) (disks : List (Option PagedStore)) (told : Fault) : Type 0 where
@@ -34,25 +40,25 @@ pub record LacksLiveDisk (c : Config) (disks : List (Option PagedStore)) (told :
   pub named : plain_cause told ≡ record { cause = 13; place = told.place; detail = 0 }
 
 -- as `LiveWorld::new_with`: the disks are the device's then; else all is as it was, but for why a configuration isn't taken
-abbrev pub CreatesLiveOverOf : ℕ → List WantedRing → List WantedUnit → List (Option PagedStore) → Fault → Answer → Fault
+abbrev pub CreatesLiveOverOf : ℕ → ℕ → List WantedRing → List WantedUnit → List (Option PagedStore) → Fault → Answer → Fault
     → Option LiveServed → List (Option PagedStore) → Type 0
-CreatesLiveOverOf features rings units disks old answer.Done told after disks' =
-    (c : Config) × (d : LiveServed) × (stores : List PagedStore) × AsksLive features rings units c × MakesLiveOver c stores d
+CreatesLiveOverOf host_map features rings units disks old answer.Done told after disks' =
+    (c : Config) × (d : LiveServed) × (stores : List PagedStore) × AsksLive features rings units c × MakesLiveOver host_map c stores d
     × (disks ≡ map (λ s. Some s) stores) × (after ≡ Some d) × (told ≡ old) × (disks' ≡ map (λ s. None) stores)
-CreatesLiveOverOf features rings units disks old answer.BadConfig told after disks' =
+CreatesLiveOverOf host_map features rings units disks old answer.BadConfig told after disks' =
     (c : Config) × AsksLive features rings units c × (RefusesLive c told ⊎ LacksLiveDisk c disks told) × (after ≡ None)
     × (disks' ≡ disks)
-CreatesLiveOverOf features rings units disks old answer.BadLength told after disks' =
+CreatesLiveOverOf host_map features rings units disks old answer.BadLength told after disks' =
     (length disks ≢ length units) × (after ≡ None) × (told ≡ old) × (disks' ≡ disks)
-CreatesLiveOverOf features rings units disks old answer.NoMemory told after disks' =
+CreatesLiveOverOf host_map features rings units disks old answer.NoMemory told after disks' =
     (after ≡ None) × (told ≡ old) × (disks' ≡ disks)
-CreatesLiveOverOf features rings units disks old a told after disks' = ⊥
+CreatesLiveOverOf host_map features rings units disks old a told after disks' = ⊥
 
-abbrev pub CreatesLiveOver : ℕ → List WantedRing → List WantedUnit → Fault → Fault → Option LiveServed
+abbrev pub CreatesLiveOver : ℕ → ℕ → List WantedRing → List WantedUnit → Fault → Fault → Option LiveServed
     → List (Option PagedStore) → Answer → Option LiveServed → List (Option PagedStore) → Type 0
-CreatesLiveOver features rings units old told None disks a after disks' =
-    CreatesLiveOverOf features rings units disks old a told after disks'
-CreatesLiveOver features rings units old told (Some d) disks a after disks' =
+CreatesLiveOver host_map features rings units old told None disks a after disks' =
+    CreatesLiveOverOf host_map features rings units disks old a told after disks'
+CreatesLiveOver host_map features rings units old told (Some d) disks a after disks' =
     (a ≡ answer.InUse) × (after ≡ Some d) × (told ≡ old) × (disks' ≡ disks)
 
 -- as `LiveWorld::close`: the device is gone then, and its disks stand where there was none; else all is as it was

@@ -25,11 +25,14 @@ mod live_calls;
 mod live_device;
 mod live_exports;
 mod live_handing;
+mod live_opening;
 mod live_served;
 mod live_wanted;
 mod loose;
 mod owner;
 mod ranges;
+mod region;
+mod rings;
 mod served;
 mod wanted;
 
@@ -45,11 +48,13 @@ pub use exports::{
 };
 pub use live_device::LiveDevice;
 pub use live_exports::{
-    vscsi_raw_live_blocks, vscsi_raw_live_broken, vscsi_raw_live_capacity, vscsi_raw_live_changed,
-    vscsi_raw_live_close, vscsi_raw_live_counts, vscsi_raw_live_create, vscsi_raw_live_create_with,
-    vscsi_raw_live_destroy, vscsi_raw_live_is_there, vscsi_raw_live_owed, vscsi_raw_live_reset,
-    vscsi_raw_live_resize, vscsi_raw_live_serve, vscsi_raw_live_status,
+    vscsi_raw_live_ask, vscsi_raw_live_blocks, vscsi_raw_live_broken, vscsi_raw_live_capacity,
+    vscsi_raw_live_changed, vscsi_raw_live_close, vscsi_raw_live_counts, vscsi_raw_live_create,
+    vscsi_raw_live_create_with, vscsi_raw_live_destroy, vscsi_raw_live_is_there,
+    vscsi_raw_live_map, vscsi_raw_live_owed, vscsi_raw_live_reset, vscsi_raw_live_resize,
+    vscsi_raw_live_serve, vscsi_raw_live_status,
 };
-pub use live_wanted::WantedRing;
+pub use live_wanted::{RingPosition, WantedRing};
 pub use ranges::{BlockRange, Told};
+pub use region::Region;
 pub use wanted::{Fault, WantedQueue, WantedUnit};

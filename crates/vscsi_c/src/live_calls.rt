@@ -3,29 +3,17 @@
 
 ghost use Rattle.std.specs.Prelude.{◌≡◌};
 ghost use Rattle.vscsi_c.specs.Kept.{live_at};
-ghost use Rattle.vscsi_c.specs.Live.{ServingLive, ServesPortion, Owes, IsStatus, Breaks, Resets, Resizes, Holds, Gives, TellsCounts, TellsChanges, CreatesLive, DestroysLive};
+ghost use Rattle.vscsi_c.specs.Live.{ServingLive, Maps, AsksDriver, ServesPortion, Owes, IsStatus, Breaks, Resets, Resizes, Holds, Gives, TellsCounts, TellsChanges, CreatesLive, DestroysLive};
 
 use crate::answer::Answer;
 use crate::counts::UnitCounts;
 use crate::live_device::LiveDevice;
-use crate::live_served::LiveServed;
+use crate::live_opening::{ALL_BYTES, open};
 use crate::live_wanted::{WantedRing, live_config_of};
 use crate::ranges::{BlockRange, Told};
+use crate::region::Region;
 use crate::wanted::{Fault, WantedUnit, fault_of};
-use host_bus::HostBus;
-use live_mem::LiveMem;
 use std::alloc::Global;
-use world::{LiveWorld, Notifications};
-
-/// The bytes that a guest can address.
-pub(crate) const ALL_BYTES: u64 = 1 << 52;
-
-/// The reads of a phase for which there is room from the opening, and their bytes: those of a chain of some 40,000 parts with
-/// 1 MiB of data. A page of that room that no phase used takes no memory of the host. A phase that reads more asks for more
-/// room; where that is refused, what it didn't read counts as zeros.
-pub(crate) const READS: usize = 1 << 17;
-
-pub(crate) const READ_BYTES: usize = 4 << 20;
 
 /// Makes a device on live memory where there is none, over what C mapped.
 pub(crate) fn create(
@@ -37,7 +25,7 @@ pub(crate) fn create(
     units: &[WantedUnit],
     fault: &mut Fault,
 ) -> Answer
-    ensures { CreatesLive features rings.now units.now fault.old fault.new (live_at device.old) result (live_at device.new) }
+    ensures { CreatesLive map features rings.now units.now fault.old fault.new (live_at device.old) result (live_at device.new) }
 {
     if device.is_there() {
         return Answer::InUse;
@@ -49,14 +37,7 @@ pub(crate) fn create(
         *fault = fault_of(cause);
         return Answer::BadConfig;
     }
-    let Ok(memory) = LiveMem::new(alloc, HostBus::new(map), ALL_BYTES, READS, READ_BYTES) else {
-        return Answer::NoMemory;
-    };
-    let Ok(world) = LiveWorld::new(alloc, &config, memory) else {
-        return Answer::NoMemory;
-    };
-    let told = Notifications::new();
-    let Ok(served) = Box::new(alloc, LiveServed { world, told }) else {
+    let Ok(served) = open(alloc, map, config) else {
         return Answer::NoMemory;
     };
     device.put(served);
@@ -74,6 +55,32 @@ pub(crate) fn destroy(device: &mut LiveDevice, alloc: Global) -> Answer
         }
         None => Answer::NoDevice,
     }
+}
+
+/// Notes which queues lie in the regions that C mapped.
+#[tactic(auto, using(crate::proofs::LiveServe::serving, crate::proofs::LiveServe::without))]
+pub(crate) fn map(device: &mut LiveDevice, alloc: Global, regions: &[Region]) -> Answer
+    ensures { ServingLive (Maps regions.now) (Unit {0}) (live_at device.old) result (live_at device.new) }
+{
+    let Some(mut served) = device.take(alloc) else {
+        return Answer::NoDevice;
+    };
+    let answer = served.map(regions);
+    device.put(served);
+    answer
+}
+
+/// Asks the driver of a queue to notify the device of the next chain, or of none.
+#[tactic(auto, using(crate::proofs::LiveServe::serving, crate::proofs::LiveServe::without))]
+pub(crate) fn ask(device: &mut LiveDevice, alloc: Global, queue: u16, notify: bool) -> Answer
+    ensures { ServingLive (AsksDriver queue notify) (Unit {0}) (live_at device.old) result (live_at device.new) }
+{
+    let Some(mut served) = device.take(alloc) else {
+        return Answer::NoDevice;
+    };
+    let answer = served.ask(queue, notify);
+    device.put(served);
+    answer
 }
 
 /// Serves some queues in at most so many steps, and says in how many, and whether more is left to do.
@@ -123,7 +130,7 @@ pub(crate) fn status(device: &mut LiveDevice, alloc: Global, status: &mut u8) ->
     answer
 }
 
-/// Tells what broke a queue.
+/// Tells what broke a queue, or that it isn't mapped.
 #[tactic(auto, using(crate::proofs::LiveServe::serving, crate::proofs::LiveServe::without))]
 pub(crate) fn broken(device: &mut LiveDevice, alloc: Global, queue: u16, fault: &mut u32) -> Answer
     ensures { ServingLive (Breaks queue fault.old fault.new) (fault.new ≡ fault.old) (live_at device.old) result

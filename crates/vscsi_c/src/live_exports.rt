@@ -3,7 +3,7 @@
 ghost use Rattle.std.specs.Prelude.{◌≡◌, is_some};
 ghost use Rattle.vscsi_c.specs.Answers.{Tells};
 ghost use Rattle.vscsi_c.specs.Kept.{live_at, disks_at};
-ghost use Rattle.vscsi_c.specs.Live.{ServingLive, ServesPortion, Owes, IsStatus, Breaks, Resets, Resizes, Holds, Gives, TellsCounts, TellsChanges, CreatesLive, DestroysLive};
+ghost use Rattle.vscsi_c.specs.Live.{ServingLive, Maps, AsksDriver, ServesPortion, Owes, IsStatus, Breaks, Resets, Resizes, Holds, Gives, TellsCounts, TellsChanges, CreatesLive, DestroysLive};
 ghost use Rattle.vscsi_c.specs.LiveDisks.{CreatesLiveOver, ClosesLive};
 
 use crate::counts::UnitCounts;
@@ -11,6 +11,7 @@ use crate::disk::Disk;
 use crate::live_device::LiveDevice;
 use crate::live_wanted::WantedRing;
 use crate::ranges::{BlockRange, Told};
+use crate::region::Region;
 use crate::wanted::{Fault, WantedUnit};
 use crate::{live_calls, live_handing};
 use std::alloc::Global;
@@ -35,7 +36,7 @@ pub extern "C" fn vscsi_raw_live_create(
     units: &[WantedUnit],
     fault: &mut Fault,
 ) -> u32
-    ensures { Tells result (λ a. CreatesLive features rings.now units.now fault.old fault.new (live_at device.old)
+    ensures { Tells result (λ a. CreatesLive map features rings.now units.now fault.old fault.new (live_at device.old)
         a (live_at device.new)) }
 {
     live_calls::create(device, alloc, map, features, rings, units, fault).code()
@@ -53,7 +54,7 @@ pub extern "C" fn vscsi_raw_live_create_with(
     disks: &mut [Disk],
     fault: &mut Fault,
 ) -> u32
-    ensures { Tells result (λ a. CreatesLiveOver features rings.now units.now fault.old fault.new (live_at device.old)
+    ensures { Tells result (λ a. CreatesLiveOver map features rings.now units.now fault.old fault.new (live_at device.old)
         (disks_at disks.old) a (live_at device.new) (disks_at disks.new)) }
 {
     live_handing::create_with(device, alloc, map, features, rings, units, disks, fault).code()
@@ -78,6 +79,32 @@ pub extern "C" fn vscsi_raw_live_destroy(device: &mut LiveDevice, alloc: Global)
     ensures { Tells result (λ a. DestroysLive (live_at device.old) a (live_at device.new)) }
 {
     live_calls::destroy(device, alloc).code()
+}
+
+/// Notes which queues lie in the regions that C mapped.
+#[unsafe(no_mangle)]
+pub extern "C" fn vscsi_raw_live_map(
+    device: &mut LiveDevice,
+    alloc: Global,
+    regions: &[Region],
+) -> u32
+    ensures { Tells result (λ a. ServingLive (Maps regions.now) (Unit {0}) (live_at device.old) a (live_at device.new)) }
+{
+    live_calls::map(device, alloc, regions).code()
+}
+
+/// Asks the driver of a queue to notify the device of the next chain, or of none.
+#[unsafe(no_mangle)]
+pub extern "C" fn vscsi_raw_live_ask(
+    device: &mut LiveDevice,
+    alloc: Global,
+    queue: u16,
+    notify: bool,
+) -> u32
+    ensures { Tells result (λ a. ServingLive (AsksDriver queue notify) (Unit {0})
+        (live_at device.old) a (live_at device.new)) }
+{
+    live_calls::ask(device, alloc, queue, notify).code()
 }
 
 /// Serves some queues in at most so many steps, and says in how many, and whether more is left to do.
@@ -122,7 +149,7 @@ pub extern "C" fn vscsi_raw_live_status(
     live_calls::status(device, alloc, status).code()
 }
 
-/// Tells what broke a queue.
+/// Tells what broke a queue, or that it isn't mapped.
 #[unsafe(no_mangle)]
 pub extern "C" fn vscsi_raw_live_broken(
     device: &mut LiveDevice,

@@ -7,15 +7,12 @@ ghost use Rattle.vscsi_c.specs.LiveDisks.{CreatesLiveOver, ClosesLive};
 use crate::answer::Answer;
 use crate::disk::Disk;
 use crate::handing::{Room, is_any_there, lacking, new_room, no_disk_at, put_back, take_out};
-use crate::live_calls::{ALL_BYTES, READ_BYTES, READS};
 use crate::live_device::LiveDevice;
+use crate::live_opening::{ALL_BYTES, open};
 use crate::live_served::LiveServed;
 use crate::live_wanted::{WantedRing, live_config_of};
 use crate::wanted::{Fault, WantedUnit, fault_of};
-use host_bus::HostBus;
-use live_mem::LiveMem;
 use std::alloc::Global;
-use world::{LiveWorld, Notifications};
 
 /// Makes a device on live memory over disks where there is none.
 pub(crate) fn create_with(
@@ -28,7 +25,7 @@ pub(crate) fn create_with(
     disks: &mut [Disk],
     fault: &mut Fault,
 ) -> Answer
-    ensures { CreatesLiveOver features rings.now units.now fault.old fault.new (live_at device.old) (disks_at disks.old)
+    ensures { CreatesLiveOver map features rings.now units.now fault.old fault.new (live_at device.old) (disks_at disks.old)
         result (live_at device.new) (disks_at disks.new) }
 {
     if device.is_there() {
@@ -51,14 +48,7 @@ pub(crate) fn create_with(
     let Ok(empty) = Vec::with_capacity(alloc, disks.len()) else {
         return Answer::NoMemory;
     };
-    let Ok(memory) = LiveMem::new(alloc, HostBus::new(map), ALL_BYTES, READS, READ_BYTES) else {
-        return Answer::NoMemory;
-    };
-    let Ok(world) = LiveWorld::new(alloc, &config, memory) else {
-        return Answer::NoMemory;
-    };
-    let told = Notifications::new();
-    let Ok(mut served) = Box::new(alloc, LiveServed { world, told }) else {
+    let Ok(mut served) = open(alloc, map, config) else {
         return Answer::NoMemory;
     };
     let mut stores = take_out(disks, alloc, empty);
@@ -87,7 +77,12 @@ pub(crate) fn close(device: &mut LiveDevice, alloc: Global, disks: &mut [Disk]) 
         return Answer::NoMemory;
     };
     let Room { stores, boxes } = room;
-    let LiveServed { world, told: _ } = Box::into_inner(served);
+    let LiveServed {
+        world,
+        told: _,
+        rings,
+    } = Box::into_inner(served);
+    drop(rings);
     let (_memory, stores) = world.into_disks(stores);
     put_back(disks, stores, boxes);
     Answer::Done

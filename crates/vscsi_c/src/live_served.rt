@@ -3,32 +3,79 @@
 ghost use Rattle.std.specs.Prelude.{◌≡◌, length};
 ghost use Rattle.std.specs.Option.{option_map};
 ghost use Rattle.device_steps.specs.Views.{unit_of};
-ghost use Rattle.vscsi_c.specs.Live.{ServesPortion, Owes, IsStatus, Breaks, Resets, Resizes, Holds, Gives, TellsCounts, TellsChanges};
+ghost use Rattle.vscsi_c.specs.Live.{Maps, AsksDriver, notify_of, ServesPortion, Owes, IsStatus, Breaks, number_or_unmapped, Resets, Resizes, Holds, Gives, TellsCounts, TellsChanges};
 
 use crate::answer::Answer;
 use crate::changes::put_ranges;
 use crate::counts::UnitCounts;
 use crate::ranges::{BlockRange, Told};
+use crate::region::Region;
+use crate::rings::Rings;
 use crate::served::number_of_fault;
 use device_model::Event;
 use host_bus::HostBus;
 use live_mem::LiveMem;
 use std::alloc::Global;
 use unit_history::is_capacity;
-use world::{LiveWorld, Notifications};
+use world::{LiveWorld, Notifications, Notify, RingFault};
 
 /// The most ranges that a unit keeps apart.
 const MOST_RANGES: usize = 64;
 
-/// A device in the memory that its host mapped, and what the host was told of it.
+/// The number of a queue that isn't mapped.
+const UNMAPPED: u32 = 11;
+
+/// A device in the memory that its host mapped, what the host was told of it, and which of its queues are mapped.
 #[derive(Drop)]
 pub(crate) struct LiveServed {
     pub(crate) world: LiveWorld<LiveMem<HostBus>>,
     pub(crate) told: Notifications,
+    pub(crate) rings: Rings,
+}
+
+/// Returns the number of what broke a queue, or of a queue that isn't mapped; 0 for neither.
+fn number_of_state(fault: Option<RingFault>, mapped: bool) -> u32
+    ensures { result ≡ number_or_unmapped fault mapped }
+{
+    match (fault, mapped) {
+        (Some(fault), _) => number_of_fault(Some(fault)),
+        (None, true) => 0,
+        (None, false) => UNMAPPED,
+    }
+}
+
+/// Returns what a driver is asked for.
+fn wish(notify: bool) -> Notify
+    ensures { result ≡ notify_of notify }
+{
+    if notify { Notify::Next } else { Notify::Never }
 }
 
 impl LiveServed {
-    /// Serves some queues in at most so many steps, and says in how many, and whether more is left to do.
+    /// Notes which queues lie in the regions that C mapped.
+    pub(crate) fn map(&mut self, regions: &[Region]) -> Answer
+        ensures { Maps regions.now self.old result self.new }
+    {
+        self.rings.map(regions);
+        Answer::Done
+    }
+
+    /// Asks the driver of a queue to notify the device of the next chain, or of none.
+    pub(crate) fn ask(&mut self, queue: u16, notify: bool) -> Answer
+        ensures { AsksDriver queue notify self.old result self.new }
+    {
+        if queue as usize >= self.world.queues() {
+            return Answer::NoQueue;
+        }
+        if !self.rings.has(queue) {
+            return Answer::Done;
+        }
+        let _asked = self.world.ask(queue, wish(notify));
+        Answer::Done
+    }
+
+    /// Serves some queues, of those that are mapped, in at most so many steps, and says in how many, and whether more is left
+    /// to do.
     pub(crate) fn serve(
         &mut self,
         queues: u32,
@@ -38,7 +85,7 @@ impl LiveServed {
     ) -> Answer
         ensures { ServesPortion queues most steps.old more.old steps.new more.new self.old result self.new }
     {
-        match self.world.serve(queues, most) {
+        match self.world.serve(self.rings.among(queues), most) {
             Ok(served) => {
                 *steps = served.steps;
                 *more = served.more;
@@ -64,14 +111,14 @@ impl LiveServed {
         Answer::Done
     }
 
-    /// Tells what broke a queue.
+    /// Tells what broke a queue, or that it isn't mapped.
     pub(crate) fn broken(&mut self, queue: u16, fault: &mut u32) -> Answer
         ensures { Breaks queue fault.old fault.new self.old result self.new }
     {
         if queue as usize >= self.world.queues() {
             return Answer::NoQueue;
         }
-        *fault = number_of_fault(self.world.broken(queue));
+        *fault = number_of_state(self.world.broken(queue), self.rings.has(queue));
         Answer::Done
     }
 

@@ -1,6 +1,8 @@
 use Rattle.std.proofs.Common.{◌≡◌, ◌^◌, true, length, refl, sym, ap, ◌∙◌, subst, arith, inl, inr}
 use Rattle.std.proofs.lemmas.List.{length-map}
 use Rattle.config.specs.Config.{is_config_for}
+use Rattle.host_bus.specs.Map.{map_of}
+use Rattle.live_mem.specs.Live.{bus_of}
 use Rattle.device_steps.specs.Opening.{IsOpeningApart}
 use Rattle.world.specs.LiveWorld.{IsOpeningOverApart, OpensForIn, OpensIn, BeginsIn}
 use Rattle.vscsi_c.specs.Calls.{Cause}
@@ -15,7 +17,7 @@ use Rattle.vscsi_c.proofs.live_handing.create_with.Goals as goal
 pub returns-in-Some : goal.returns-in-Some
 returns-in-Some c =
     let none = absent _ (sym c.is_there.ensures ∙ c.if-is_there.false) in
-    created_over _ _ _ _ _ _ _ _ _ _ none (
+    created_over _ _ _ _ _ _ _ _ _ _ _ none (
       c.in-Ok.config,
       c.in-Ok.ensures,
       inl (record { refused = sym c.in-Some.ensures.none; fault = c.in-Some.cause; is = c.in-Some.ensures.cause; named = c.fault_of.ensures }),
@@ -26,7 +28,7 @@ returns-in-Some c =
 pub returns-in-Some-lacking : goal.returns-in-Some-lacking
 returns-in-Some-lacking c =
     let none = absent _ (sym c.is_there.ensures ∙ c.if-is_there.false) in
-    created_over _ _ _ _ _ _ _ _ _ _ none (
+    created_over _ _ _ _ _ _ _ _ _ _ _ none (
       c.in-Ok.config,
       c.in-Ok.ensures,
       inr (record {
@@ -42,10 +44,10 @@ returns-in-Some-lacking c =
       refl,
     )
 
-pub returns-in_default-new-3 : goal.returns-in_default-new-3
-returns-in_default-new-3 c =
+pub returns-in_default-open : goal.returns-in_default-open
+returns-in_default-open c =
     let none = absent _ (sym c.is_there.ensures ∙ c.if-is_there.false) in
-    created_over _ _ _ _ _ _ _ _ _ _ none (none, refl, refl)
+    created_over _ _ _ _ _ _ _ _ _ _ _ none (none, refl, refl)
 
 pub take_out-stores-requires-clause-there : goal.take_out-stores-requires-clause-there
 take_out-stores-requires-clause-there c =
@@ -61,6 +63,9 @@ take_out-stores-requires-clause-there c =
     ) in
     all_there _ _ many fit
 
+pub open-requires : goal.open-requires
+open-requires c = sym c.in_default-fault_for.ensures.none
+
 pub hand_in-requires : goal.hand_in-requires
 hand_in-requires c =
     let fit : Fit c.in-Ok.config.units.items (disks_at c.args.disks.now) =
@@ -73,17 +78,17 @@ hand_in-requires c =
       ap (λ us. length us) c.in-Ok.ensures.units_are,
       length-map c.args.units.now spec_of,
     ) in
-    let w = c.in-Ok-new-2.world in
-    let opening = c.in-Ok-new-2.ensures.opening in
-    let size = ap (λ m. m.size) opening.1 in
+    let made = c.in-Ok-open.ensures in
+    let d = c.in-Ok-open.served.value in
+    let size = made.size in
     record {
       opening =
           subst (λ v. OpensForIn v.memory.size v.device c.take_out-stores.result.items)
-          (sym (ap (λ d. d.world) (c.deref_mut.ensures.value ∙ c.in-Ok-new-3.ensures.ok)))
+          (sym (ap (λ x. x.world) c.deref_mut.ensures.value))
           (record {
             config = c.in-Ok.config;
-            taken = subst (λ n. is_config_for n c.in-Ok.config ≡ true) (sym size) opening.0;
-            opening = subst (λ n. IsOpeningApart n c.in-Ok.config w.device) (sym size) opening.2;
+            taken = subst (λ n. is_config_for n c.in-Ok.config ≡ true) (sym size) made.taken;
+            opening = subst (λ n. IsOpeningApart n c.in-Ok.config d.world.device) (sym size) made.opening;
             are = are_for _ _ _ many fit c.take_out-stores.ensures.were;
           });
     }
@@ -101,31 +106,31 @@ returns c =
       ap (λ us. length us) c.in-Ok.ensures.units_are,
       length-map c.args.units.now spec_of,
     ) in
-    let made = c.deref_mut.ensures.value ∙ c.in-Ok-new-3.ensures.ok in
-    let w = c.in-Ok-new-2.world in
-    let opening = c.in-Ok-new-2.ensures.opening in
-    let size = ap (λ m. m.size) opening.1 in
+    let made = c.in-Ok-open.ensures in
+    let same = c.deref_mut.ensures.value in
     let old = c.deref_mut.result.now.world in
     let new = c.hand_in.new.self in
-    let was : old.memory.size ≡ 2 ^ 52 = ap (λ d. d.world.memory.size) made ∙ size ∙ c.in-Ok-new.ensures.size in
+    let was : old.memory.size ≡ 2 ^ 52 = ap (λ d. d.world.memory.size) same ∙ made.size in
     let is : new.memory.size ≡ 2 ^ 52 = ap (λ m. m.size) c.hand_in.ensures.memory ∙ was in
-    created_over _ _ _ _ _ _ _ _ _ _ none (
+    created_over _ _ _ _ _ _ _ _ _ _ _ none (
       c.in-Ok.config,
-      record { world = new; told = c.deref_mut.result.now.told },
+      record { world = new; told = c.deref_mut.result.now.told; rings = c.deref_mut.result.now.rings },
       c.take_out-stores.result.items,
       c.in-Ok.ensures,
       record {
-        taken = subst (λ n. is_config_for n c.in-Ok.config ≡ true) c.in-Ok-new.ensures.size opening.0;
+        over = ap (λ m. map_of (bus_of m)) c.hand_in.ensures.memory ∙ ap (λ d. map_of (bus_of d.world.memory)) same ∙ made.over;
+        taken = made.taken;
         size = is;
         disks = are_for _ _ _ many fit c.take_out-stores.ensures.were;
         opening =
             subst (λ n. IsOpeningOverApart n c.in-Ok.config c.take_out-stores.result.items new.device) was
             (c.hand_in.ensures.over c.in-Ok.config
-            (subst (λ v. IsOpeningApart v.memory.size c.in-Ok.config v.device) (sym (ap (λ d. d.world) made))
-            (subst (λ n. IsOpeningApart n c.in-Ok.config w.device) (sym size) opening.2)));
+            (subst (λ v. IsOpeningApart v.memory.size c.in-Ok.config v.device) (sym (ap (λ d. d.world) same))
+            (subst (λ n. IsOpeningApart n c.in-Ok.config c.in-Ok-open.served.value.world.device) (sym made.size) made.opening)));
         opens = subst (λ n. OpensIn true n new.device) is c.hand_in.ensures.opens;
         reaches = subst (λ n. BeginsIn true n new.device) is c.hand_in.ensures.reaches;
-        told = ap (λ d. d.told) made ∙ c.new-told.ensures;
+        told = ap (λ d. d.told) same ∙ made.told;
+        rings = ap (λ d. d.rings) same ∙ made.rings;
       },
       c.take_out-stores.ensures.were,
       c.put.ensures,
