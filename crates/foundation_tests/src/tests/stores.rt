@@ -178,10 +178,21 @@ fn paged_store(rt: HostRuntime) -> Result<(), Fail> {
     Ok(())
 }
 
+/// Appends the bytes of blocks of a store that holds all. Returns true if the blocks, and room for their bytes, are there.
+fn read_held(store: &PagedStore, first: u64, count: u32, into: &mut Vec<u8>) -> bool {
+    let capacity = store.capacity();
+    let room = into.capacity().saturating_sub(into.len()) / BLOCK_BYTES;
+    if first > capacity || u64::from(count) > capacity - first || count as usize > room {
+        return false;
+    }
+    store.read_blocks(first, count, into);
+    true
+}
+
 /// Returns true if so many blocks of a store consist of a byte, each.
 fn consist_of(
     alloc: Global,
-    store: &mut PagedStore,
+    store: &PagedStore,
     first: u64,
     count: u32,
     byte: u8,
@@ -190,7 +201,7 @@ fn consist_of(
         let Ok(mut bytes) = Vec::with_capacity(alloc, BLOCK_BYTES) else {
             return Err(NoMemory);
         };
-        if !read(
+        if !read_held(
             store,
             first.saturating_add(u64::from(number)),
             1,
@@ -237,7 +248,7 @@ fn prepare_first(store: &PagedStore, bytes: &[u8]) -> Result<Option<Prepared>, N
 /// Returns true if the bytes of a store's blocks from `first` on are 0xab, each, and those of all others zeros.
 fn are_written(
     alloc: Global,
-    store: &mut PagedStore,
+    store: &PagedStore,
     first: u64,
     count: u32,
 ) -> Result<bool, NoMemory> {
@@ -258,9 +269,9 @@ fn is_installed(alloc: Global, first: u64, bytes: &[u8], spare: &[u8]) -> Result
     };
     let prepared = store.edges(first, count)?.prepare(bytes, spare)?;
     let (installed, back) = store.install(prepared)?;
-    let is_there = are_written(alloc, &mut store, first, count)?;
+    let is_there = are_written(alloc, &store, first, count)?;
     let (returned, _) = store.install(back)?;
-    Ok(installed && is_there && returned && consist_of(alloc, &mut store, 0, 32, 0)?)
+    Ok(installed && is_there && returned && consist_of(alloc, &store, 0, 32, 0)?)
 }
 
 /// Returns the number of the first of these writes that isn't installed as it says, from 0.
@@ -308,7 +319,7 @@ fn fill_far(store: &mut PagedStore) -> Result<bool, NoMemory> {
 /// 0.
 fn first_wrong_far(
     alloc: Global,
-    store: &mut PagedStore,
+    store: &PagedStore,
     zeroed: usize,
 ) -> Result<Option<usize>, NoMemory> {
     for number in 0..FAR.len() {
