@@ -1,6 +1,6 @@
 //! What the device asks of a guest's memory, whether it stands still or changes while the guest runs.
 
-ghost use Rattle.std.specs.Prelude.{◌≡◌, ◌+◌, ◌≤◌, ◌^◌, Bool, false, [], List, ℕ, length, OnOk, ◌++◌};
+ghost use Rattle.std.specs.Prelude.{◌≡◌, ◌+◌, ◌≤◌, ◌^◌, Bool, false, [], List, ℕ, length, IsOk, OnOk, ◌++◌};
 ghost use Rattle.guest_mem.specs.Memory.{bytes_at, with_bytes, LiesIn};
 ghost use Rattle.guest_mem.specs.Stores.{Store, stores_at};
 
@@ -22,6 +22,9 @@ pub trait Memory {
     /// Says what a new phase has of the one before it.
     ghost begins: { Self → Self → Type 0 };
 
+    /// Says that so many more short reads can be kept with no memory taken.
+    ghost has_room: { Self → ℕ → Type 0 };
+
     /// Says that others may write the memory too: between two phases, and within one.
     ghost shared: { Bool };
 
@@ -35,10 +38,11 @@ pub trait Memory {
     /// Gives what is known of it once these bytes were stored besides, in this order.
     ghost storing: { Stores → List Store → Stores };
 
-    /// Begins a phase: forgets what was read before, which may have changed.
+    /// Begins a phase: forgets what was read before, which may have changed. It has room for 64 short reads.
     fn begin(&mut self)
         ensures size { extent self.new ≡ extent self.old }
         ensures reading { is_open self.new }
+        ensures room { has_room self.new 64 }
         ensures begun { begins self.old self.new }
         ensures stores { stored self.new ≡ stored self.old };
 
@@ -48,17 +52,35 @@ pub trait Memory {
         ensures bounded { result ≤ 2 ^ 52 }
         ensures some { (m : List ℕ) × may_be self.now m };
 
-    /// Reads the bytes from `addr` on, as many as `out` holds. Called before the phase writes, for bytes that lie inside.
+    /// Reads the bytes from `addr` on, at most 16 of them, as many as `out` holds. It takes no memory. Called before the
+    /// phase writes, for bytes that lie inside, while there is room for a short read.
     fn read(&mut self, addr: u64, out: &mut [u8])
+        requires reading { is_open self.old }
+        requires inside { LiesIn (extent self.old) addr (length out.old) }
+        requires short { length out.old ≤ 16 }
+        requires room { has_room self.old 1 }
+        ensures reading { is_open self.new }
+        ensures size { extent self.new ≡ extent self.old }
+        ensures stays { (m : List ℕ) → may_be self.new m → may_be self.old m }
+        ensures stores { stored self.new ≡ stored self.old }
+        ensures room { (n : ℕ) → has_room self.old (n + 1) → has_room self.new n }
+        ensures read { (m : List ℕ) → may_be self.new m → out.new ≡ bytes_at m addr (length out.old) };
+
+    /// Reads the bytes from `addr` on, any number of them, as many as `out` holds. Called before the phase writes, for
+    /// bytes that lie inside. An error where memory to keep them is refused; then nothing was asked of the guest's memory.
+    /// While there is room for a short read, a read of at most 16 bytes is Ok.
+    fn try_read(&mut self, addr: u64, out: &mut [u8]) -> Result<(), AllocError>
         requires reading { is_open self.old }
         requires inside { LiesIn (extent self.old) addr (length out.old) }
         ensures reading { is_open self.new }
         ensures size { extent self.new ≡ extent self.old }
         ensures stays { (m : List ℕ) → may_be self.new m → may_be self.old m }
         ensures stores { stored self.new ≡ stored self.old }
-        ensures read { (m : List ℕ) → may_be self.new m → out.new ≡ bytes_at m addr (length out.old) };
+        ensures read { OnOk result ((m : List ℕ) → may_be self.new m → out.new ≡ bytes_at m addr (length out.old)) }
+        ensures succeeds { has_room self.old 1 → length out.old ≤ 16 → IsOk result };
 
-    /// Reads `len` bytes from `addr` on, and appends them to `out`. Called as `read` is. An error where memory for them is refused.
+    /// Reads `len` bytes from `addr` on, and appends them to `out`. Called as `try_read` is. An error where memory for them is
+    /// refused; then nothing was asked of the guest's memory.
     fn append(&mut self, addr: u64, len: usize, out: &mut Vec<u8>) -> Result<(), AllocError>
         requires reading { is_open self.old }
         requires inside { LiesIn (extent self.old) addr len }
@@ -69,6 +91,9 @@ pub trait Memory {
         ensures len { OnOk result (length out.new.items ≡ length out.old.items + len) }
         ensures read { OnOk result ((m : List ℕ) → may_be self.new m
             → out.new.items ≡ out.old.items ++ bytes_at m addr len) };
+
+    /// Proves that room for some short reads is room for fewer.
+    ghost fewer: { (x : Self) (m n : ℕ) → n ≤ m → has_room x m → has_room x n };
 
     /// Proves that what the memory may be has its size.
     ghost sized: { (x : Self) (m : List ℕ) → may_be x m → length m ≡ extent x };

@@ -162,6 +162,8 @@ impl Memory for GuestMem {
 
     ghost begins = { λ x y. y ≡ x };
 
+    ghost has_room = { λ _ _. ⊤ };
+
     ghost shared = { false };
 
     ghost Stores = { List ℕ };
@@ -184,9 +186,18 @@ impl Memory for GuestMem {
     }
 
     #[inline(always)]
+    fn try_read(&mut self, addr: u64, out: &mut [u8]) -> Result<(), AllocError> {
+        let bytes = self.range(addr, out.len());
+        copy(bytes, out);
+        Ok(())
+    }
+
+    #[inline(always)]
     fn append(&mut self, addr: u64, len: usize, out: &mut Vec<u8>) -> Result<(), AllocError> {
         out.extend_from_slice(self.range(addr, len))
     }
+
+    ghost fewer = { λ x m n le room. room };
 
     ghost sized = { λ x m e. ap length e };
 
@@ -232,6 +243,8 @@ impl<'a> Memory for StillMem<'a> {
 
     ghost begins = { λ x y. y ≡ x };
 
+    ghost has_room = { λ _ _. ⊤ };
+
     ghost shared = { false };
 
     ghost Stores = { List ℕ };
@@ -254,9 +267,18 @@ impl<'a> Memory for StillMem<'a> {
     }
 
     #[inline(always)]
+    fn try_read(&mut self, addr: u64, out: &mut [u8]) -> Result<(), AllocError> {
+        let bytes = self.memory.range(addr, out.len());
+        copy(bytes, out);
+        Ok(())
+    }
+
+    #[inline(always)]
     fn append(&mut self, addr: u64, len: usize, out: &mut Vec<u8>) -> Result<(), AllocError> {
         out.extend_from_slice(self.memory.range(addr, len))
     }
+
+    ghost fewer = { λ x m n le room. room };
 
     ghost sized = { λ x m e. ap length e };
 
