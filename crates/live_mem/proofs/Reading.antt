@@ -33,58 +33,43 @@ same_bytes m out addr size sized inside are =
     let t : get_or (take (length out) (drop addr m)) i 0 ≡ get_or m (addr + i) 0 = get_or-take (length out) (drop addr m) i 0 lt ∙ get_or-drop addr m i 0 in
     sym (t ∙ are i lt))
 
-module _ (size size' : ℕ) (log log' : List Access) (blind blind' : Bool) (addr : ℕ) (out m : List ℕ) (is_size : size' ≡ size) (inside : addr + length out ≤ size) (reading : StoredNothing log) where
-  -- a read that asked the bus
-  module _ (loads : LoadsThere log log' addr out) (off : blind ≡ false) (off' : blind' ≡ false) where
-    pub loads_reading : StoredNothing log'
-    loads_reading = rw loads.asked reading
+-- a read that asked the bus
+module _ (size size' : ℕ) (log log' : List Access) (addr : ℕ) (out m : List ℕ) (is_size : size' ≡ size) (inside : addr + length out ≤ size) (reading : StoredNothing log) (loads : LoadsThere log log' addr out) where
+  pub loads_reading : StoredNothing log'
+  loads_reading = rw loads.asked reading
 
-    module _ (may : MayBe size' log' blind' m) where
-      now : MayBe size (Loads addr loads.fresh ∷ log) false m
-      now = rw (is_size, off', loads.asked) at may
+  module _ (may : MayBe size' log' m) where
+    now : MayBe size (Loads addr loads.fresh ∷ log) m
+    now = rw (is_size, loads.asked) at may
 
-      -- at an address of the read memory has what the read gave
-      here : (i : ℕ) → i < length out → get_or now.0 (addr + i) 0 ≡ get_or out i 0
-      here i lt =
-          let there = now.1.there (addr + i) (omega (arith, lt, inside)) in
-          let in_it : spans addr (length loads.fresh) (addr + i) ≡ true = within addr (length loads.fresh) (addr + i) (omega arith) (omega (arith, lt, loads.long)) in
-          let n : addr + i - addr ≡ i = omega arith in
-          sym (rw (in_it, n) at there) ∙ sym (loads.are i lt)
+    -- at an address of the read memory has what the read gave
+    here : (i : ℕ) → i < length out → get_or now.0 (addr + i) 0 ≡ get_or out i 0
+    here i lt =
+        let there = now.1.there (addr + i) (omega (arith, lt, inside)) in
+        let in_it : spans addr (length loads.fresh) (addr + i) ≡ true = within addr (length loads.fresh) (addr + i) (omega arith) (omega (arith, lt, loads.long)) in
+        let n : addr + i - addr ≡ i = omega arith in
+        sym (rw (in_it, n) at there) ∙ sym (loads.are i lt)
 
-      pub loads_gives : out ≡ bytes_at m addr (length out)
-      loads_gives =
-          let e : m ≡ now.0 = now.2 ∙ reading now.0 in
-          same_bytes now.0 out addr size now.1.sized inside here ∙ ap (λ (l : List ℕ). bytes_at l addr (length out)) (sym e)
+    pub loads_gives : out ≡ bytes_at m addr (length out)
+    loads_gives =
+        let e : m ≡ now.0 = now.2 ∙ reading now.0 in
+        same_bytes now.0 out addr size now.1.sized inside here ∙ ap (λ (l : List ℕ). bytes_at l addr (length out)) (sym e)
 
-      agrees : Agrees size log false now.0
-      agrees =
-          record {
-            sized = now.1.sized;
-            bytes = now.1.bytes;
-            there = λ p lt.
-                let there = now.1.there p lt in
-                let w : loaded log p (loaded log p (cond (spans addr (length loads.fresh) p) (get_or loads.fresh (p - addr) 0) (get_or now.0 p 0))) ≡ loaded log p (cond (spans addr (length loads.fresh) p) (get_or loads.fresh (p - addr) 0) (get_or now.0 p 0)) =
-                again log p (cond (spans addr (length loads.fresh) p) (get_or loads.fresh (p - addr) 0) (get_or now.0 p 0)) in
-                rw there at w;
-          }
+    agrees : Agrees size log now.0
+    agrees =
+        record {
+          sized = now.1.sized;
+          bytes = now.1.bytes;
+          there = λ p lt.
+              let there = now.1.there p lt in
+              let w : loaded log p (loaded log p (cond (spans addr (length loads.fresh) p) (get_or loads.fresh (p - addr) 0) (get_or now.0 p 0))) ≡ loaded log p (cond (spans addr (length loads.fresh) p) (get_or loads.fresh (p - addr) 0) (get_or now.0 p 0)) =
+              again log p (cond (spans addr (length loads.fresh) p) (get_or loads.fresh (p - addr) 0) (get_or now.0 p 0)) in
+              rw there at w;
+        }
 
-      pub loads_stays : MayBe size log blind m
-      loads_stays = rw off (now.0, agrees, now.2, now.3, now.4)
+    pub loads_stays : MayBe size log m
+    loads_stays = (now.0, agrees, now.2, now.3, now.4)
 
-  -- a read that asked for nothing
-  module _ (same : log' ≡ log) (on : blind' ≡ true) (may : MayBe size' log' blind' m) where
-    dark : MayBe size log true m
-    dark = rw (is_size, on, same) at may
-
-    there_by : (b : Bool) (p : ℕ) → p < size → loaded log p (cond b 0 (get_or dark.0 p 0)) ≡ get_or dark.0 p 0
-    there_by true p lt = dark.1.there p lt
-    there_by false p lt = ap (loaded log p) (sym (dark.1.there p lt)) ∙ again log p 0 ∙ dark.1.there p lt
-
-    pub nothing_stays : MayBe size log blind m
-    nothing_stays = (dark.0, record { sized = dark.1.sized; bytes = dark.1.bytes; there = there_by blind }, dark.2, dark.3, dark.4)
-
-    pub nothing_gives : ((i : ℕ) → i < length out → get_or out i 0 ≡ loaded log (addr + i) 0) → out ≡ bytes_at m addr (length out)
-    nothing_gives are =
-        let e : m ≡ dark.0 = dark.2 ∙ reading dark.0 in
-        same_bytes dark.0 out addr size dark.1.sized inside (λ i lt. sym (dark.1.there (addr + i) (omega (arith, lt, inside))) ∙ sym (are i lt))
-        ∙ ap (λ (l : List ℕ). bytes_at l addr (length out)) (sym e)
+-- a read that asked for nothing
+pub nothing_stays : (size size' : ℕ) (log log' : List Access) (m : List ℕ) → size' ≡ size → log' ≡ log → MayBe size' log' m → MayBe size log m
+nothing_stays size size' log log' m is_size same may = rw (is_size, same) at may

@@ -1,6 +1,6 @@
 -- What was asked of a bus, the latest first, and what the latest phase knows by it: the bytes that it loaded, and the bytes
 -- that it stored. A phase begins at the latest Begins.
-use Rattle.std.specs.Prelude.{ℕ, ◌≡◌, ◌+◌, ◌-◌, ◌<◌, ◌&&◌, nat_le, nat_lt, Bool, true, false, cond, List, [], ◌∷◌, ◌++◌, length, get_or}
+use Rattle.std.specs.Prelude.{ℕ, ◌≡◌, ◌+◌, ◌-◌, ◌<◌, ◌&&◌, nat_le, nat_lt, Bool, cond, List, [], ◌∷◌, ◌++◌, length, get_or}
 use Rattle.guest_mem.specs.Memory.{with_bytes}
 use Rattle.guest_mem.specs.Stores.{Store, stores_at}
 
@@ -39,27 +39,23 @@ all_stores (Stores a bs ∷ past) = all_stores past ++ stores_at a bs
 abbrev pub AreBytes : List ℕ → Type 0
 AreBytes m = (k : ℕ) → get_or m k 0 < 256
 
--- Memory agrees with the loads of the phase. Once there was no room to keep what is loaded (blind), nothing is loaded any more,
--- and each byte that wasn't loaded is 0.
-pub record Agrees (size : ℕ) (log : List Access) (blind : Bool) (m : List ℕ) : Type 0 where
+-- memory agrees with the loads of the phase: each byte that was loaded is the first that a load gave
+pub record Agrees (size : ℕ) (log : List Access) (m : List ℕ) : Type 0 where
   pub sized : length m ≡ size
   pub bytes : AreBytes m
-  pub there : (p : ℕ) → p < size → loaded log p (cond blind 0 (get_or m p 0)) ≡ get_or m p 0
+  pub there : (p : ℕ) → p < size → loaded log p (get_or m p 0) ≡ get_or m p 0
 
 -- Memory may be m: it agreed with what the phase loaded, and then had what the phase stored.
-abbrev pub MayBe : ℕ → List Access → Bool → List ℕ → Type 0
-MayBe size log blind m =
-    (m₀ : List ℕ) × Agrees size log blind m₀ × (m ≡ stored log m₀) × (length m ≡ size) × AreBytes m
+abbrev pub MayBe : ℕ → List Access → List ℕ → Type 0
+MayBe size log m = (m₀ : List ℕ) × Agrees size log m₀ × (m ≡ stored log m₀) × (length m ≡ size) × AreBytes m
 
 -- the phase stored nothing that changes memory
 abbrev pub StoredNothing : List Access → Type 0
 StoredNothing log = (m : List ℕ) → stored log m ≡ m
 
--- a read of n bytes from addr on asks the bus for them, once, and for nothing else; once blind it asks for nothing
-abbrev pub Asks : List Access → List Access → ℕ → ℕ → Bool → Type 0
-Asks log new_log addr n blind =
-    (blind ≡ true → new_log ≡ log)
-    × (blind ≡ false → (fresh : List ℕ) × (length fresh ≡ n) × (new_log ≡ Loads addr fresh ∷ log))
+-- a read of n bytes from addr on asks the bus for them, once, and for nothing else
+abbrev pub Asks : List Access → List Access → ℕ → ℕ → Type 0
+Asks log new_log addr n = (fresh : List ℕ) × (length fresh ≡ n) × (new_log ≡ Loads addr fresh ∷ log)
 
 -- no load of the phase has the address
 abbrev pub WasNotRead : List Access → ℕ → Type 0

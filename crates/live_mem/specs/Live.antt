@@ -7,7 +7,7 @@ use Rattle.live_mem.specs.declared.live.LiveMem.{LiveMem}
 
 -- it may be m
 abbrev pub MayBeLive : {B : Type 0} → LiveMem B → List ℕ → Type 0
-MayBeLive x m = MayBe x.size (heard x.bus) x.blind m
+MayBeLive x m = MayBe x.size (heard x.bus) m
 
 -- all that its bus was asked to store, the first one first
 abbrev pub stored_live : {B : Type 0} → LiveMem B → List Store

@@ -5,6 +5,7 @@ ghost use Rattle.guest_mem.specs.Memory.{bytes_at, with_bytes};
 ghost use Rattle.live_mem.specs.Access.{spans};
 ghost use Rattle.live_mem.specs.Kept.{source, covers, byte_of, valued, AreKept, IsFree};
 ghost use Rattle.live_mem.specs.Inner.Kept.{Keeps};
+ghost use Rattle.std.specs.Vec.{vec_capacity};
 
 use crate::span::{SHORT, Span};
 use std::alloc::{AllocError, Global};
@@ -24,7 +25,11 @@ pub(crate) struct Kept {
     ghost above: { IsFree spans.items bytes.items high (2 ^ 64) },
     ghost free: { IsFree spans.items bytes.items free_from free_to },
     ghost inside: { free_to ≤ high },
+    ghost roomy: { 64 ≤ vec_capacity spans },
 }
+
+/// The number of spans for which there always is room.
+const LEAST_ROOM: usize = 64;
 
 /// The least range between two reads that is worth to be noted: a walk along a ring leaves smaller ones.
 const GAP: u64 = 256;
@@ -117,17 +122,16 @@ impl Kept {
     ghost use Rattle.live_mem.specs.Room.{Holds};
     ghost use Rattle.live_mem.specs.Inner.Room.{Takes};
 
-    /// Keeps nothing, with room for so many reads of so many bytes in all. An error where that memory is refused.
-    pub(crate) fn new(alloc: Global, reads: usize, bytes: usize) -> Result<Kept, AllocError>
+    /// Keeps nothing, with room for 64 short reads. An error where that memory is refused.
+    pub(crate) fn new(alloc: Global) -> Result<Kept, AllocError>
         ensures spans { IfOk result (λ kept. kept.spans.items ≡ []) }
         ensures bytes { IfOk result (λ kept. kept.bytes.items ≡ []) }
-        ensures room { IfOk result (λ kept. Holds kept reads bytes) }
+        ensures room { IfOk result (λ kept. Holds kept 64) }
     {
-        let spans = Vec::with_capacity(alloc, reads)?;
-        let bytes = Vec::with_capacity(alloc, bytes)?;
+        let spans = Vec::with_capacity(alloc, LEAST_ROOM)?;
         Ok(Kept {
             spans,
-            bytes,
+            bytes: Vec::new(alloc),
             low: u64::MAX,
             high: 0,
             free_from: 0,
@@ -139,7 +143,7 @@ impl Kept {
     pub(crate) fn clear(&mut self)
         ensures spans { self.new.spans.items ≡ [] }
         ensures bytes { self.new.bytes.items ≡ [] }
-        ensures room { (reads bytes : ℕ) → Holds self.old reads bytes → Holds self.new reads bytes }
+        ensures room { Holds self.new 64 }
     {
         self.spans.clear();
         self.bytes.clear();
@@ -149,13 +153,13 @@ impl Kept {
         self.free_to = 0;
     }
 
-    /// Makes room for one more read of `len` bytes. It takes no memory where there is room, and changes nothing else.
+    /// Makes room for one more read of `len` bytes. It takes no memory for a short one where there is room, and changes
+    /// nothing else.
     pub(crate) fn make_room(&mut self, len: usize) -> Result<(), AllocError>
         ensures spans { self.new.spans.items ≡ self.old.spans.items }
         ensures bytes { self.new.bytes.items ≡ self.old.bytes.items }
         ensures made { OnOk result (Takes self.new len) }
-        ensures room { (reads bytes : ℕ) → Holds self.old reads bytes → Holds self.new reads bytes }
-        ensures succeeds { Holds self.old 1 len → IsOk result }
+        ensures succeeds { Holds self.old 1 → len ≤ 16 → IsOk result }
     {
         self.spans.reserve(1)?;
         if len <= SHORT {
@@ -252,12 +256,12 @@ impl Kept {
 
     /// Keeps a short run that was read from `addr` on, for which there is room.
     #[inline(always)]
-    fn keep_short(&mut self, addr: u64, out: &[u8])
+    pub(crate) fn keep_short(&mut self, addr: u64, out: &[u8])
         requires small { addr + length out.now ≤ 2 ^ 52 }
         requires short { length out.now ≤ 16 }
-        requires room { Takes self.old (length out.now) }
+        requires room { Holds self.old 1 }
         ensures kept { Keeps self.old.spans.items self.old.bytes.items addr out.now self.new.spans.items self.new.bytes.items }
-        ensures room { (reads bytes : ℕ) → Holds self.old (reads + 1) (bytes + length out.now) → Holds self.new reads bytes }
+        ensures room { (n : ℕ) → Holds self.old (n + 1) → Holds self.new n }
     {
         let span = Span {
             addr,
@@ -275,8 +279,7 @@ impl Kept {
         requires small { addr + length out.now ≤ 2 ^ 52 }
         requires long { 16 < length out.now }
         requires room { Takes self.old (length out.now) }
-        ensures kept { Keeps self.old.spans.items self.old.bytes.items addr out.now self.new.spans.items self.new.bytes.items }
-        ensures room { (reads bytes : ℕ) → Holds self.old (reads + 1) (bytes + length out.now) → Holds self.new reads bytes }
+        ensures { Keeps self.old.spans.items self.old.bytes.items addr out.now self.new.spans.items self.new.bytes.items }
     {
         let span = Span {
             addr,
@@ -294,8 +297,7 @@ impl Kept {
     pub(crate) fn keep(&mut self, addr: u64, out: &[u8])
         requires small { addr + length out.now ≤ 2 ^ 52 }
         requires room { Takes self.old (length out.now) }
-        ensures kept { Keeps self.old.spans.items self.old.bytes.items addr out.now self.new.spans.items self.new.bytes.items }
-        ensures room { (reads bytes : ℕ) → Holds self.old (reads + 1) (bytes + length out.now) → Holds self.new reads bytes }
+        ensures { Keeps self.old.spans.items self.old.bytes.items addr out.now self.new.spans.items self.new.bytes.items }
     {
         if out.len() <= SHORT {
             self.keep_short(addr, out);

@@ -4,9 +4,8 @@
 //!
 //! The same of memory that its guest changes at any moment: no byte of a decision is fetched twice. Each byte is
 //! the first that the bus gave for its address in this phase, and a read asks once (`reads_what_the_bus_gave`). A
-//! write is stored at once, whole, behind all stores before; a phase begins with a barrier. A phase that is refused
-//! memory to keep a read is *blind*: it loads nothing more, and the rest counts as 0. Within the room that `new`
-//! made none is (`is_blind`).
+//! write is stored at once, whole, behind all stores before; a phase begins with a barrier. A read that is refused
+//! memory asks the bus for nothing, and is an error. The first 64 short reads of a phase are never refused.
 #![tactic(auto)]
 
 mod bus;

@@ -1,13 +1,13 @@
 //! The memory of a guest that runs.
 
-ghost use Rattle.std.specs.Prelude.{ℕ, ◌≡◌, ◌+◌, ◌<◌, ◌≤◌, ◌^◌, ◌++◌, ◌∷◌, [], List, length, get_or, true, false, IfOk, OnOk};
+ghost use Rattle.std.specs.Prelude.{ℕ, ◌≡◌, ◌+◌, ◌<◌, ◌≤◌, ◌^◌, ◌++◌, ◌∷◌, [], List, length, true, false, IsOk, IfOk, OnOk, OnErr};
 ghost use Rattle.guest_mem.specs.Memory.{bytes_at, with_bytes, LiesIn};
 ghost use Rattle.guest_mem.specs.Stores.{Store, stores_at};
 ghost use Rattle.live_mem.specs.Access.{Access, loaded, stored, all_stores, AreBytes, Asks, MayBe, StoredNothing};
 ghost use Rattle.live_mem.specs.Inner.Access.{LoadsThere};
 ghost use Rattle.live_mem.specs.Heard.{heard};
 ghost use Rattle.live_mem.specs.Kept.{valued};
-ghost use Rattle.std.proofs.Common.{append-nil, append_assoc};
+ghost use Rattle.std.proofs.Common.{append-nil, append_assoc, arith};
 ghost use Rattle.std.proofs.lemmas.Bool.{true≢false};
 
 use crate::bus::Bus;
@@ -18,14 +18,13 @@ use std::alloc::{AllocError, Global};
 
 /// A memory that is read and written where it stands, while the guest runs. A phase reads no byte twice: it keeps what it
 /// read. So all that it reads is of one list of bytes, whatever the guest writes meanwhile, and each byte of the list that was
-/// read is the first that the bus gave of it. What a phase writes it stores at once. Where memory to keep a read is
-/// refused, the phase is blind from then on: it asks the bus for nothing more, and all else reads as 0.
+/// read is the first that the bus gave of it. What a phase writes it stores at once. There always is memory to keep the
+/// first 64 short reads of a phase. Where memory to keep another is refused, the bus isn't asked, and the read is an error.
 #[derive(Drop)]
 pub struct LiveMem<B> {
     bus: RecordedBus<B>,
     size: u64,
     kept: Kept,
-    blind: bool,
     ghost small: { size ≤ 2 ^ 52 },
     ghost faithful: { (p d : ℕ) → valued kept.spans.items kept.bytes.items p d ≡ loaded (heard bus) p d },
     ghost bytes_loaded: { (p d : ℕ) → d < 256 → loaded (heard bus) p d < 256 },
@@ -38,52 +37,37 @@ impl<B: Bus> LiveMem<B> {
     ghost use Rattle.live_mem.specs.Inner.Room.{Takes};
     ghost use Rattle.live_mem.specs.Live.{MayBeLive, bus_of};
 
-    /// Opens the memory of `size` bytes behind a bus, with room to keep so many reads in a phase, of so many bytes in all. A phase
-    /// that reads no more isn't blind. Returns an error where that memory is refused.
-    pub fn new(
-        alloc: Global,
-        bus: B,
-        size: u64,
-        reads: usize,
-        bytes: usize,
-    ) -> Result<LiveMem<B>, AllocError>
+    /// Opens the memory of `size` bytes behind a bus, with room for 64 short reads. Returns an error where the memory for
+    /// that room is refused.
+    pub fn new(alloc: Global, bus: B, size: u64) -> Result<LiveMem<B>, AllocError>
         requires { size ≤ 2 ^ 52 }
         ensures bus { IfOk result (λ memory. bus_of memory ≡ bus) }
         ensures size { IfOk result (λ memory. memory.size ≡ size) }
-        ensures sees { IfOk result (λ memory. memory.blind ≡ false) }
-        ensures room { IfOk result (λ memory. HasRoom memory reads bytes) }
+        ensures room { IfOk result (λ memory. HasRoom memory 64) }
     {
-        let kept = Kept::new(alloc, reads, bytes)?;
+        let kept = Kept::new(alloc)?;
         Ok(LiveMem {
             bus: RecordedBus::new(bus),
             size,
             kept,
-            blind: false,
         })
     }
 
-    /// Returns true if memory to keep a read was refused in this phase: what it read from then on may be 0 in place of what stands
-    /// there. Asked at the end of a phase that may have read more than there is room for.
-    pub fn is_blind(&self) -> bool
-        ensures { result ≡ self.now.blind }
-    {
-        self.blind
-    }
-
-    /// Reads what is kept, and zeros where nothing is kept.
-    #[cold]
-    #[inline(never)]
-    fn read_nothing(&mut self, addr: u64, out: &mut [u8])
+    /// Reads what is kept, and loads where nothing is kept. It keeps the read, which is short.
+    #[inline(always)]
+    fn read_short(&mut self, addr: u64, out: &mut [u8])
         requires inside { addr + length out.old ≤ self.old.size }
+        requires short { length out.old ≤ 16 }
+        requires room { HasRoom self.old 1 }
         ensures len { length out.new ≡ length out.old }
-        ensures over { (i : ℕ) → i < length out.old → get_or out.new i 0 ≡ loaded (heard self.old.bus) (addr + i) 0 }
+        ensures loads { LoadsThere (heard self.old.bus) (heard self.new.bus) addr out.new }
+        ensures stores { all_stores (heard self.new.bus) ≡ all_stores (heard self.old.bus) }
         ensures size { self.new.size ≡ self.old.size }
-        ensures bus { heard self.new.bus ≡ heard self.old.bus }
-        ensures blind { self.new.blind ≡ self.old.blind }
-        ensures room { (reads bytes : ℕ) → HasRoom self.old reads bytes → HasRoom self.new reads bytes }
+        ensures room { (n : ℕ) → HasRoom self.old (n + 1) → HasRoom self.new n }
     {
-        out.fill(0);
+        self.bus.load(addr, out);
         self.kept.put_over(addr, out);
+        self.kept.keep_short(addr, out);
     }
 
     /// Reads what is kept, and loads where nothing is kept. It keeps the read, for which there is room.
@@ -95,37 +79,21 @@ impl<B: Bus> LiveMem<B> {
         ensures loads { LoadsThere (heard self.old.bus) (heard self.new.bus) addr out.new }
         ensures stores { all_stores (heard self.new.bus) ≡ all_stores (heard self.old.bus) }
         ensures size { self.new.size ≡ self.old.size }
-        ensures room { (reads bytes : ℕ) → HasRoom self.old (reads + 1) (bytes + length out.old) → HasRoom self.new reads bytes }
-        ensures blind { self.new.blind ≡ self.old.blind }
     {
         self.bus.load(addr, out);
         self.kept.put_over(addr, out);
         self.kept.keep(addr, out);
     }
 
-    /// Reads the bytes from `addr` on: what is kept of them, and else what the bus gives, which it keeps.
+    /// Makes room to keep a read of so many bytes. It asks the bus for nothing.
     #[inline(always)]
-    fn read_now(&mut self, addr: u64, out: &mut [u8])
-        requires inside { addr + length out.old ≤ self.old.size }
-        requires reading { StoredNothing (heard self.old.bus) }
-        ensures len { length out.new ≡ length out.old }
+    fn make_room(&mut self, len: usize) -> Result<(), AllocError>
         ensures size { self.new.size ≡ self.old.size }
-        ensures reading { StoredNothing (heard self.new.bus) }
-        ensures stays { (m : List ℕ) → MayBeLive self.new m → MayBeLive self.old m }
-        ensures stores { all_stores (heard self.new.bus) ≡ all_stores (heard self.old.bus) }
-        ensures read { (m : List ℕ) → MayBeLive self.new m → out.new ≡ bytes_at m addr (length out.old) }
-        ensures asks { Asks (heard self.old.bus) (heard self.new.bus) addr (length out.old) self.new.blind }
-        ensures sees { HasRoom self.old 1 (length out.old) → self.new.blind ≡ self.old.blind }
-        ensures room { (reads bytes : ℕ) → HasRoom self.old (reads + 1) (bytes + length out.old) → HasRoom self.new reads bytes }
+        ensures bus { heard self.new.bus ≡ heard self.old.bus }
+        ensures made { OnOk result (Takes self.new.kept len) }
+        ensures succeeds { HasRoom self.old 1 → len ≤ 16 → IsOk result }
     {
-        if self.blind {
-            self.read_nothing(addr, out);
-        } else if self.kept.make_room(out.len()).is_ok() {
-            self.read_there(addr, out);
-        } else {
-            self.blind = true;
-            self.read_nothing(addr, out);
-        }
+        self.kept.make_room(len)
     }
 }
 
@@ -133,13 +101,15 @@ impl<B: Bus> Memory for LiveMem<B> {
     ghost use Rattle.live_mem.specs.Live.{MayBeLive, stored_live};
     ghost use Rattle.live_mem.specs.Room.{HasRoom};
 
-    ghost may_be = { λ x m. MayBe x.size (heard x.bus) x.blind m };
+    ghost may_be = { λ x m. MayBe x.size (heard x.bus) m };
 
     ghost extent = { λ x. x.size };
 
     ghost is_open = { λ x. StoredNothing (heard x.bus) };
 
     ghost begins = { λ x y. heard y.bus ≡ Access.Begins ∷ heard x.bus };
+
+    ghost has_room = { HasRoom };
 
     ghost shared = { true };
 
@@ -154,12 +124,10 @@ impl<B: Bus> Memory for LiveMem<B> {
         ensures reading { StoredNothing (heard self.new.bus) }
         ensures stores { stored_live self.new ≡ stored_live self.old }
         ensures begun { heard self.new.bus ≡ Access.Begins ∷ heard self.old.bus }
-        ensures sees { self.new.blind ≡ false }
-        ensures room { (reads bytes : ℕ) → HasRoom self.old reads bytes → HasRoom self.new reads bytes }
+        ensures room { HasRoom self.new 64 }
     {
         self.bus.begin();
         self.kept.clear();
-        self.blind = false;
     }
 
     #[inline(always)]
@@ -171,19 +139,37 @@ impl<B: Bus> Memory for LiveMem<B> {
     fn read(&mut self, addr: u64, out: &mut [u8])
         requires reading { StoredNothing (heard self.old.bus) }
         requires inside { LiesIn self.old.size addr (length out.old) }
+        requires short { length out.old ≤ 16 }
+        requires room { HasRoom self.old 1 }
         ensures reading { StoredNothing (heard self.new.bus) }
         ensures size { self.new.size ≡ self.old.size }
         ensures stays { (m : List ℕ) → MayBeLive self.new m → MayBeLive self.old m }
         ensures stores { stored_live self.new ≡ stored_live self.old }
+        ensures room { (n : ℕ) → HasRoom self.old (n + 1) → HasRoom self.new n }
         ensures read { (m : List ℕ) → MayBeLive self.new m → out.new ≡ bytes_at m addr (length out.old) }
-        ensures asks { Asks (heard self.old.bus) (heard self.new.bus) addr (length out.old) self.new.blind }
-        ensures sees { HasRoom self.old 1 (length out.old) → self.new.blind ≡ self.old.blind }
-        ensures room { (reads bytes : ℕ) → HasRoom self.old (reads + 1) (bytes + length out.old) → HasRoom self.new reads bytes }
+        ensures asks { Asks (heard self.old.bus) (heard self.new.bus) addr (length out.old) }
     {
-        self.read_now(addr, out);
+        self.read_short(addr, out);
     }
 
-    #[tactic(auto, using(crate::proofs::Spare::fewer))]
+    #[inline(always)]
+    fn try_read(&mut self, addr: u64, out: &mut [u8]) -> Result<(), AllocError>
+        requires reading { StoredNothing (heard self.old.bus) }
+        requires inside { LiesIn self.old.size addr (length out.old) }
+        ensures reading { StoredNothing (heard self.new.bus) }
+        ensures size { self.new.size ≡ self.old.size }
+        ensures stays { (m : List ℕ) → MayBeLive self.new m → MayBeLive self.old m }
+        ensures stores { stored_live self.new ≡ stored_live self.old }
+        ensures read { OnOk result ((m : List ℕ) → MayBeLive self.new m → out.new ≡ bytes_at m addr (length out.old)) }
+        ensures asks { OnOk result (Asks (heard self.old.bus) (heard self.new.bus) addr (length out.old)) }
+        ensures asks_nothing { OnErr result (heard self.new.bus ≡ heard self.old.bus) }
+        ensures succeeds { HasRoom self.old 1 → length out.old ≤ 16 → IsOk result }
+    {
+        self.make_room(out.len())?;
+        self.read_there(addr, out);
+        Ok(())
+    }
+
     fn append(&mut self, addr: u64, len: usize, out: &mut Vec<u8>) -> Result<(), AllocError>
         requires reading { StoredNothing (heard self.old.bus) }
         requires inside { LiesIn self.old.size addr len }
@@ -193,15 +179,16 @@ impl<B: Bus> Memory for LiveMem<B> {
         ensures stores { stored_live self.new ≡ stored_live self.old }
         ensures len { OnOk result (length out.new.items ≡ length out.old.items + len) }
         ensures read { OnOk result ((m : List ℕ) → MayBeLive self.new m → out.new.items ≡ out.old.items ++ bytes_at m addr len) }
-        ensures asks { OnOk result (Asks (heard self.old.bus) (heard self.new.bus) addr len self.new.blind) }
-        ensures sees { HasRoom self.old 1 len → self.new.blind ≡ self.old.blind }
-        ensures room { (reads bytes : ℕ) → HasRoom self.old (reads + 1) (bytes + len) → HasRoom self.new reads bytes }
+        ensures asks { OnOk result (Asks (heard self.old.bus) (heard self.new.bus) addr len) }
+        ensures asks_nothing { OnErr result (heard self.new.bus ≡ heard self.old.bus) }
     {
         let from = out.len();
         out.resize(from + len, 0)?;
-        self.read_now(addr, &mut out[from..]);
+        self.try_read(addr, &mut out[from..])?;
         Ok(())
     }
+
+    ghost fewer = { λ x m n le room. Prim.omega (arith, le, room) };
 
     ghost sized = { λ x m b. b.3 };
 

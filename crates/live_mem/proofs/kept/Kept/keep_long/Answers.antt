@@ -4,8 +4,8 @@ use Rattle.live_mem.proofs.Spans.{before, behind}
 use Rattle.live_mem.proofs.Keeping.{all_stay, free_stays, keeps_long}
 use Rattle.live_mem.proofs.kept.Kept.keep_long.Goals as goal
 
-pub returns-clause-kept : goal.returns-clause-kept
-returns-clause-kept c =
+pub returns : goal.returns
+returns c =
     let t = c.leave_out.new.self in
     let l : c.push_reserved.new.self.items ≡ t.spans.items ++ record { addr = c.args.addr; start = length t.bytes.items; len = length c.args.out.now; short = c.short_of.result } ∷ [] = search rules in
     let b : c.extend_from_slice.new.self.items ≡ t.bytes.items ++ c.args.out.now = search rules in
@@ -30,4 +30,5 @@ invariant_of-self c =
       above = free_stays t.spans.items ss t.bytes.items kept addr out t.all k t.high (2 ^ 64) t.high (2 ^ 64) t.above (omega arith) (omega arith) (λ p l h. behind addr n p (omega (arith, l, e.above)));
       free = free_stays t.spans.items ss t.bytes.items kept addr out t.all k t.free_from t.free_to t.free_from t.free_to t.free (omega arith) (omega arith) (λ p l h. e.apart p n l h refl);
       inside = t.inside;
+      roomy = omega (arith, t.roomy, c.push_reserved.ensures.capacity);
     }

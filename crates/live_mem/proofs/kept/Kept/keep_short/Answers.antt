@@ -28,4 +28,5 @@ invariant_of-self c =
       above = free_stays t.spans.items ss t.bytes.items kept addr out t.all k t.high (2 ^ 64) t.high (2 ^ 64) t.above (omega arith) (omega arith) (λ p l h. behind addr n p (omega (arith, l, e.above)));
       free = free_stays t.spans.items ss t.bytes.items kept addr out t.all k t.free_from t.free_to t.free_from t.free_to t.free (omega arith) (omega arith) (λ p l h. e.apart p n l h refl);
       inside = t.inside;
+      roomy = omega (arith, t.roomy, c.push_reserved.ensures.capacity);
     }

@@ -26,4 +26,4 @@ invariant_of-self-clause-bytes_stored g c = λ m e are.
 pub returns-clause-written : goal.returns-clause-written
 returns-clause-written g c = λ m may.
     let s = c.args.self.now in
-    before_store s.size (heard s.bus) (heard c.store.new.self) s.blind c.args.addr c.args.bytes.now m c.store.ensures s.stays_sized s.bytes_stored may
+    before_store s.size (heard s.bus) (heard c.store.new.self) c.args.addr c.args.bytes.now m c.store.ensures s.stays_sized s.bytes_stored may

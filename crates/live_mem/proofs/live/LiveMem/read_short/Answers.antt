@@ -1,0 +1,34 @@
+use Rattle.std.proofs.Common.{◌+◌, ◌-◌, arith, sym, cond, length, get_or}
+use Rattle.live_mem.specs.Access.{spans}
+use Rattle.live_mem.specs.Heard.{heard}
+use Rattle.live_mem.proofs.Keeping.{kept_loaded}
+use Rattle.live_mem.proofs.Reading.{byte_in}
+use Rattle.live_mem.proofs.Spare.{same_room}
+use Rattle.live_mem.proofs.live.LiveMem.read_short.Goals as goal
+
+pub invariant_of-self-clause-faithful : goal.invariant_of-self-clause-faithful
+invariant_of-self-clause-faithful g c =
+    let s = c.args.self.now in
+    let out = c.put_over.new.out in
+    let k = rw (c.put_over.ensures.spans, c.put_over.ensures.bytes) at c.keep_short.ensures.kept in
+    λ p d. rw c.load.ensures.heard
+    (kept_loaded s.kept.spans.items c.keep_short.new.self.spans.items s.kept.bytes.items c.keep_short.new.self.bytes.items c.args.addr out s.kept.all k (heard s.bus) c.load.new.out (sym c.put_over.ensures.len)
+    (λ i lt. c.put_over.ensures.over i (omega (arith, lt, c.put_over.ensures.len))) s.faithful p d)
+
+pub invariant_of-self-clause-bytes_loaded : goal.invariant_of-self-clause-bytes_loaded
+invariant_of-self-clause-bytes_loaded g c = λ p d lt.
+    rw c.load.ensures.heard (c.args.self.now.bytes_loaded p (cond (spans c.args.addr (length c.load.new.out) p) (get_or c.load.new.out (p - c.args.addr) 0) d) (byte_in (spans c.args.addr (length c.load.new.out) p) c.load.new.out (p - c.args.addr) d c.load.ensures.bytes lt))
+
+pub invariant_of-self-clause-stays_sized : goal.invariant_of-self-clause-stays_sized
+invariant_of-self-clause-stays_sized g c = λ m e. rw c.load.ensures.heard (c.args.self.now.stays_sized m e)
+
+pub invariant_of-self-clause-bytes_stored : goal.invariant_of-self-clause-bytes_stored
+invariant_of-self-clause-bytes_stored g c = λ m e are. rw c.load.ensures.heard (c.args.self.now.bytes_stored m e are)
+
+pub keep_short-requires-clause-room : goal.keep_short-requires-clause-room
+keep_short-requires-clause-room g c =
+    same_room c.args.self.now.kept c.put_over.new.self 1 c.put_over.ensures.spans c.requires.room
+
+pub returns-clause-room : goal.returns-clause-room
+returns-clause-room g c = λ n h.
+    c.keep_short.ensures.room n (same_room c.args.self.now.kept c.put_over.new.self (n + 1) c.put_over.ensures.spans h)

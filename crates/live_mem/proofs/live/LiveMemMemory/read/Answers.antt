@@ -1,0 +1,20 @@
+use Rattle.std.proofs.Common.{◌∙◌, ap}
+use Rattle.guest_mem.specs.Memory.{bytes_at}
+use Rattle.live_mem.specs.Heard.{heard}
+use Rattle.live_mem.proofs.Reading.{loads_gives, loads_stays}
+use Rattle.live_mem.proofs.live.LiveMemMemory.read.Goals as goal
+
+pub returns-clause-stays : goal.returns-clause-stays
+returns-clause-stays g c = λ m may.
+    let s = c.args.self.now in
+    let t = c.read_short.new.self in
+    loads_stays s.size t.size (heard s.bus) (heard t.bus) c.args.addr c.read_short.new.out m c.read_short.ensures.size (rw c.read_short.ensures.len c.requires.inside) c.requires.reading
+    c.read_short.ensures.loads may
+
+pub returns-clause-read : goal.returns-clause-read
+returns-clause-read g c = λ m may.
+    let s = c.args.self.now in
+    let t = c.read_short.new.self in
+    loads_gives s.size t.size (heard s.bus) (heard t.bus) c.args.addr c.read_short.new.out m c.read_short.ensures.size (rw c.read_short.ensures.len c.requires.inside) c.requires.reading
+    c.read_short.ensures.loads may
+    ∙ ap (bytes_at m c.args.addr) c.read_short.ensures.len
