@@ -1,6 +1,6 @@
 //! The contract of every virtqueue, in whatever form it lies in memory.
 
-ghost use Rattle.std.specs.Prelude.{◌≡◌, ◌↔◌, ◌+◌, ◌<◌, ◌≤◌, List, ℕ, IsTrue, length};
+ghost use Rattle.std.specs.Prelude.{◌≡◌, ◌↔◌, ◌+◌, ◌<◌, ◌≤◌, List, ℕ, IsTrue, length, None, Ok};
 ghost use Rattle.std.specs.Option.{IfSome};
 ghost use Rattle.ring_core.specs.State.{RingState, Owns, using};
 ghost use Rattle.ring_core.specs.Sound.{IsSound, IsLeastOutstanding, outstanding_count};
@@ -24,28 +24,32 @@ pub trait Ring {
     ghost state: { Self → RingState };
 
     /// Takes the next available chain, if there is one, and reads its first 1,048,627 readable
-    /// bytes at once. Called with a memory that `fits`, in a phase that wrote nothing yet. A fault of the guest breaks the queue
-    /// for good: later fetches answer the same fault, and chains accepted before can still be
-    /// completed. `NoMemory`, where a growth is refused or the queue has accepted 2^64 - 1 chains,
-    /// leaves the queue as it was.
+    /// bytes at once. Called with a memory that `fits`, in a phase that wrote nothing yet and has room for 4 short reads.
+    /// A fault of the guest breaks the queue for good: later fetches answer the same fault, and chains accepted before can
+    /// still be completed. `NoMemory`, where a growth is refused or the queue has accepted 2^64 - 1 chains, leaves the queue
+    /// as it was. A fetch that finds nothing is one short read.
     fn fetch<M: Memory>(&mut self, memory: &mut M) -> Result<Option<Fetched>, RingFault>
         requires reading { M.is_open memory.old }
         requires fits { M.extent memory.old ≡ (state self.old).memory }
+        requires room { M.has_room memory.old 4 }
         ensures size { M.extent memory.new ≡ M.extent memory.old }
         ensures stays { (m : List ℕ) → M.may_be memory.new m → M.may_be memory.old m }
         ensures stores { M.stored memory.new ≡ M.stored memory.old }
         ensures reading { M.is_open memory.new }
+        ensures room { (n : ℕ) → result ≡ Ok None → M.has_room memory.old (n + 1) → M.has_room memory.new n }
         ensures fetches { (m : List ℕ) → M.may_be memory.new m → Fetches (state self.old) m result (state self.new) };
 
-    /// Returns true if a fetch would find nothing: the cheap test before one. A broken queue isn't idle. Called with a
-    /// memory that `fits`, in a phase that wrote nothing yet.
+    /// Returns true if a fetch would find nothing: the cheap test before one, by one short read. A broken queue isn't idle.
+    /// Called with a memory that `fits`, in a phase that wrote nothing yet and has room for it.
     fn is_idle<M: Memory>(&self, memory: &mut M) -> bool
         requires reading { M.is_open memory.old }
         requires fits { M.extent memory.old ≡ (state self.now).memory }
+        requires room { M.has_room memory.old 1 }
         ensures size { M.extent memory.new ≡ M.extent memory.old }
         ensures stays { (m : List ℕ) → M.may_be memory.new m → M.may_be memory.old m }
         ensures stores { M.stored memory.new ≡ M.stored memory.old }
         ensures reading { M.is_open memory.new }
+        ensures room { (n : ℕ) → M.has_room memory.old (n + 1) → M.has_room memory.new n }
         ensures idle { (m : List ℕ) → M.may_be memory.new m → IsTrue result ↔ Offers (state self.now) m Nothing };
 
     /// Does the part of `complete` that is the queue's own; `complete` alone can call it.
@@ -87,14 +91,16 @@ pub trait Ring {
     }
 
     /// Returns true if the driver asks for a notice of used chains. Called with a memory that `fits`, in a phase that
-    /// began behind the used entry's writes.
+    /// began behind the used entry's writes. It takes two short reads at most, for which the phase has room.
     fn wants_notice<M: Memory>(&self, memory: &mut M) -> bool
         requires reading { M.is_open memory.old }
         requires fits { M.extent memory.old ≡ (state self.now).memory }
+        requires room { M.has_room memory.old 2 }
         ensures size { M.extent memory.new ≡ M.extent memory.old }
         ensures stays { (m : List ℕ) → M.may_be memory.new m → M.may_be memory.old m }
         ensures stores { M.stored memory.new ≡ M.stored memory.old }
         ensures reading { M.is_open memory.new }
+        ensures room { (n : ℕ) → M.has_room memory.old (n + 2) → M.has_room memory.new n }
         ensures wants { (m : List ℕ) → M.may_be memory.new m → result ≡ wants_notice (state self.now) m };
 
     /// Returns what the device writes to ask the driver for a notification of the next chain, or for none. It reads no

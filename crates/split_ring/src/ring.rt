@@ -76,7 +76,7 @@ impl SplitRing {
 }
 
 impl SplitRing {
-    ghost use Rattle.std.specs.Prelude.{◌≡◌, ◌≢◌, ◌<◌, List, ℕ, MatchResult, IfOk, None, Some};
+    ghost use Rattle.std.specs.Prelude.{◌≡◌, ◌≢◌, ◌+◌, ◌<◌, List, ℕ, MatchResult, IsOk, IfOk, None, Some};
     ghost use Rattle.ring_core.specs.Split.{available_index, ahead as ahead_of, entry_wrong, next_head, used_index_after};
     ghost use Rattle.ring_core.specs.Asking.{wanted_index};
     ghost use Rattle.split_ring.specs.Inner.Answers.{SplitFinds};
@@ -113,10 +113,12 @@ impl SplitRing {
     fn ahead<M: Memory>(&self, memory: &mut M) -> u16
         requires reading { M.is_open memory.old }
         requires fits { M.extent memory.old ≡ self.now.memory }
+        requires room { M.has_room memory.old 1 }
         ensures size { M.extent memory.new ≡ M.extent memory.old }
         ensures stays { (m : List ℕ) → M.may_be memory.new m → M.may_be memory.old m }
         ensures stores { M.stored memory.new ≡ M.stored memory.old }
         ensures reading { M.is_open memory.new }
+        ensures room { (n : ℕ) → M.has_room memory.old (n + 1) → M.has_room memory.new n }
         ensures ahead { (m : List ℕ) → M.may_be memory.new m → result ≡ ahead_of self.now m }
     {
         let index = self.available_index();
@@ -128,10 +130,12 @@ impl SplitRing {
         requires reading { M.is_open memory.old }
         requires fits { M.extent memory.old ≡ self.now.memory }
         requires some { (m : List ℕ) → M.may_be memory.old m → ahead ≡ ahead_of self.now m }
+        requires room { M.has_room memory.old 1 }
         ensures size { M.extent memory.new ≡ M.extent memory.old }
         ensures stays { (m : List ℕ) → M.may_be memory.new m → M.may_be memory.old m }
         ensures stores { M.stored memory.new ≡ M.stored memory.old }
         ensures reading { M.is_open memory.new }
+        ensures room { (n : ℕ) → IsOk result → M.has_room memory.old (n + 1) → M.has_room memory.new n }
         ensures entry { (m : List ℕ) → M.may_be memory.new m → MatchResult result
             (λ head. (entry_wrong self.now m ≡ None) × (head ≡ next_head self.now m))
             (λ fault. entry_wrong self.now m ≡ Some fault) }
@@ -159,6 +163,7 @@ impl SplitRing {
         requires fits { M.extent memory.old ≡ self.old.memory }
         requires is { (m : List ℕ) → M.may_be memory.old m → ahead ≡ ahead_of self.old m }
         requires some { ahead ≢ 0 }
+        requires room { M.has_room memory.old 2 }
         ensures size { M.extent memory.new ≡ M.extent memory.old }
         ensures stays { (m : List ℕ) → M.may_be memory.new m → M.may_be memory.old m }
         ensures stores { M.stored memory.new ≡ M.stored memory.old }
@@ -180,8 +185,7 @@ impl SplitRing {
 }
 
 impl SplitRing {
-    ghost use Rattle.std.specs.Prelude.{◌≡◌, List, ℕ, None};
-    ghost use Rattle.std.specs.Prelude.{◌≢◌};
+    ghost use Rattle.std.specs.Prelude.{◌≡◌, ◌≢◌, List, ℕ, None, Ok};
     ghost use Rattle.ring_core.specs.Split.{ahead as ahead_of};
     ghost use Rattle.ring_core.specs.Offer.{SplitOffers, Found};
     ghost use Rattle.ring_core.specs.Fetch.{Fetches};
@@ -198,10 +202,12 @@ impl SplitRing {
         requires unbroken { self.old.broken ≡ None }
         requires is { (m : List ℕ) → M.may_be memory.old m → ahead ≡ ahead_of self.old m }
         requires some { ahead ≢ 0 }
+        requires room { M.has_room memory.old 2 }
         ensures size { M.extent memory.new ≡ M.extent memory.old }
         ensures stays { (m : List ℕ) → M.may_be memory.new m → M.may_be memory.old m }
         ensures stores { M.stored memory.new ≡ M.stored memory.old }
         ensures reading { M.is_open memory.new }
+        ensures some { result ≢ Ok None }
         ensures fetches { (m : List ℕ) → M.may_be memory.new m → Fetches self.old m result self.new }
     {
         match self.next(memory, ahead) {
@@ -228,6 +234,7 @@ impl SplitRing {
         ensures stays { (m : List ℕ) → M.may_be memory.new m → M.may_be memory.old m }
         ensures stores { M.stored memory.new ≡ M.stored memory.old }
         ensures reading { M.is_open memory.new }
+        ensures some { result ≢ Ok None }
         ensures fetches { (m : List ℕ) → M.may_be memory.new m → Fetches self.old m result self.new }
     {
         let _ = &self.base;

@@ -3,10 +3,10 @@
 ghost use Rattle.std.specs.Prelude.{◌≡◌, ◌+◌, ◌*◌, ◌/◌, ◌<◌, ◌≤◌, ◌^◌, List, ℕ, [], MatchResult, None, Some};
 ghost use Rattle.ring_core.specs.State.{no_features};
 ghost use Rattle.ring_core.specs.Inner.Walking.{Walks, RunFailsOrLacks};
-ghost use Rattle.ring_core.specs.Split.{split_wrong, SplitChain};
+ghost use Rattle.ring_core.specs.Split.{in_table, split_wrong, SplitChain};
 ghost use Rattle.split_ring.specs.Inner.Answers.{path_of, SplitFailsOrLacks};
 
-use crate::areas::descriptor_at;
+use crate::areas::{descriptor_at, try_descriptor_at};
 use guest_mem::Memory;
 use ring_core::{Before, Descriptor, Draft, Features, Layout, RingFault, Run};
 
@@ -80,6 +80,7 @@ pub(crate) fn fault_without_room<M: Memory>(
     requires inside { layout.now.desc + 16 * layout.now.size ≤ M.extent memory.old }
     requires small { M.extent memory.old ≤ 2 ^ 52 }
     requires head { head < layout.now.size }
+    requires room { M.has_room memory.old 1 }
     ensures size { M.extent memory.new ≡ M.extent memory.old }
     ensures stays { (m : List ℕ) → M.may_be memory.new m → M.may_be memory.old m }
     ensures stores { M.stored memory.new ≡ M.stored memory.old }
@@ -96,14 +97,15 @@ pub(crate) fn fault_without_room<M: Memory>(
     }
 }
 
-/// Returns the run from a head of a table, behind what stands before it, or the first thing wrong along it. Its parts
-/// are put behind those in the draft.
+/// Returns the run from a head of a table, behind what stands before it, or the first thing wrong along it. The
+/// descriptor at the head was read before. Its parts are put behind those in the draft.
 #[inline(always)]
 fn walk_run<M: Memory>(
     mut draft: Draft,
     memory: &mut M,
     table: &Table,
     head: u16,
+    at_head: Descriptor,
     first: Before,
 ) -> Result<Run, RingFault>
     requires reading { M.is_open memory.old }
@@ -111,6 +113,7 @@ fn walk_run<M: Memory>(
     requires small { M.extent memory.old ≤ 2 ^ 52 }
     requires head { head < table.now.entries }
     requires total { first.total ≤ 2 ^ 32 }
+    requires is { (m : List ℕ) → M.may_be memory.old m → at_head ≡ in_table m table.now.addr head }
     ensures size { M.extent memory.new ≡ M.extent memory.old }
     ensures stays { (m : List ℕ) → M.may_be memory.new m → M.may_be memory.old m }
     ensures stores { M.stored memory.new ≡ M.stored memory.old }
@@ -120,10 +123,9 @@ fn walk_run<M: Memory>(
         (λ fault. RunFailsOrLacks (path_of m table.now head) first fault) }
 {
     let mut before = first.anew();
-    let mut number = head;
+    let mut d = at_head;
     'along: for _step in 0..table.entries {
         let bytes = memory.size();
-        let d = descriptor_at(memory, table.addr, number);
         if let Err(fault) = check(&before, &d, bytes, table) {
             return Err(fault);
         }
@@ -138,7 +140,10 @@ fn walk_run<M: Memory>(
             return Err(RingFault::NoMemory);
         }
         before = before.with(&d);
-        number = d.next_or_id;
+        let Ok(next) = try_descriptor_at(memory, table.addr, d.next_or_id) else {
+            return Err(RingFault::NoMemory);
+        };
+        d = next;
     }
     let _bytes = memory.size();
     unreachable!()
@@ -158,6 +163,7 @@ pub(crate) fn walk<M: Memory>(
     requires small { M.extent memory.old ≤ 2 ^ 52 }
     requires head { head < layout.now.size }
     requires empty { draft ≡ [] }
+    requires room { M.has_room memory.old 1 }
     ensures size { M.extent memory.new ≡ M.extent memory.old }
     ensures stays { (m : List ℕ) → M.may_be memory.new m → M.may_be memory.old m }
     ensures stores { M.stored memory.new ≡ M.stored memory.old }
@@ -167,7 +173,8 @@ pub(crate) fn walk<M: Memory>(
         (λ fault. SplitFailsOrLacks features m layout.now head fault) }
 {
     let table = Table::of_queue(layout, features);
-    let run = match walk_run(draft, memory, &table, head, Before::nothing()) {
+    let first = descriptor_at(memory, table.addr, head);
+    let run = match walk_run(draft, memory, &table, head, first, Before::nothing()) {
         Ok(run) => run,
         Err(fault) => return Err(fault),
     };
@@ -181,7 +188,10 @@ pub(crate) fn walk<M: Memory>(
     } = run;
     let named = Table::named_by(&last);
     let _bytes = memory.size();
-    match walk_run(draft, memory, &named, 0, before) {
+    let Ok(entry) = try_descriptor_at(memory, named.addr, 0) else {
+        return Err(RingFault::NoMemory);
+    };
+    match walk_run(draft, memory, &named, 0, entry, before) {
         Ok(further) => further.into_parts(),
         Err(fault) => Err(fault),
     }

@@ -14,9 +14,8 @@ returns-in-Ok-clause-fails g c = λ m s.
     let table : Table = record { addr = c.args.layout.now.desc; entries = c.args.layout.now.size; features = c.args.features } in
     let sized = g.met.M.Memory.sized c.args.memory.now m (c.descriptor_at-first.ensures.stays m s) in
     let is = c.descriptor_at-first.ensures.descriptor m s in
-    as_split c.args.features m c.args.layout.now c.args.head NoMemory (path_first m table c.args.head nothing_before [] 0 nothing_before c.args.head [] c.descriptor_at-first.result
-    (path_start m table c.args.head nothing_before [] c.requires.head (omega arith))
-    (rw c.of_queue-table.ensures at is)
+    as_split c.args.features m c.args.layout.now c.args.head NoMemory (path_first m table c.args.head nothing_before [] 0 nothing_before c.descriptor_at-first.result []
+    (path_start m table c.args.head nothing_before [] c.descriptor_at-first.result (rw c.of_queue-table.ensures at is) c.requires.head (omega arith))
     (rw (c.size-bytes.ensures.size, ← sized, c.nothing-before.ensures, c.of_queue-table.ensures) at c.in-Ok.ensures))
 
 pub returns-in-Err-clause-fails : goal.returns-in-Err-clause-fails
@@ -25,7 +24,6 @@ returns-in-Err-clause-fails g c = λ m s.
     let sized = g.met.M.Memory.sized c.args.memory.now m (c.descriptor_at-first.ensures.stays m s) in
     let is = c.descriptor_at-first.ensures.descriptor m s in
     as_split c.args.features m c.args.layout.now c.args.head c.in-Err.fault (ring_fails (queue_path c.args.features m c.args.layout.now c.args.head) (split_table m) c.in-Err.fault
-    (path_wrong m table c.args.head nothing_before [] 0 nothing_before c.args.head [] c.descriptor_at-first.result
-    (path_start m table c.args.head nothing_before [] c.requires.head (omega arith))
-    (rw c.of_queue-table.ensures at is) c.in-Err.fault
+    (path_wrong m table c.args.head nothing_before [] 0 nothing_before c.descriptor_at-first.result []
+    (path_start m table c.args.head nothing_before [] c.descriptor_at-first.result (rw c.of_queue-table.ensures at is) c.requires.head (omega arith)) c.in-Err.fault
     (rw (c.size-bytes.ensures.size, ← sized, c.nothing-before.ensures, c.of_queue-table.ensures) at c.in-Err.ensures)))

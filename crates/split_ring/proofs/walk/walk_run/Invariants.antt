@@ -9,5 +9,5 @@ invariant-along g l =
       stays : (m : List ℕ) → g.M.Memory.may_be l.memory m → g.M.Memory.may_be l.fn.memory m;
       stores : g.M.Memory.stored l.memory ≡ g.M.Memory.stored l.fn.memory;
       reading : g.M.Memory.is_open l.memory;
-      on : (m : List ℕ) → g.M.Memory.may_be l.memory m → OnPath m l.table l.head l.fn.first l.fn.draft l._step l.before l.number l.draft;
+      on : (m : List ℕ) → g.M.Memory.may_be l.memory m → OnPath m l.table l.head l.fn.first l.fn.draft l._step l.before l.d l.draft;
     }
