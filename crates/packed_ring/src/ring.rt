@@ -82,7 +82,7 @@ impl PackedRing {
 }
 
 impl PackedRing {
-    ghost use Rattle.std.specs.Prelude.{◌≡◌, ◌≤◌, [], List, ℕ, None, true};
+    ghost use Rattle.std.specs.Prelude.{◌≡◌, ◌≢◌, ◌+◌, ◌≤◌, [], List, ℕ, None, Ok, true};
     ghost use Rattle.ring_core.specs.Packed.{available_place, used_place, is_available as is_available_in};
     ghost use Rattle.ring_core.specs.Asking.{wanted_slot, suppression_flags};
     ghost use Rattle.packed_ring.specs.Inner.Answers.{PackedFinds};
@@ -139,10 +139,12 @@ impl PackedRing {
     fn has_next<M: Memory>(&self, memory: &mut M) -> bool
         requires reading { M.is_open memory.old }
         requires fits { M.extent memory.old ≡ self.now.memory }
+        requires room { M.has_room memory.old 1 }
         ensures size { M.extent memory.new ≡ M.extent memory.old }
         ensures stays { (m : List ℕ) → M.may_be memory.new m → M.may_be memory.old m }
         ensures stores { M.stored memory.new ≡ M.stored memory.old }
         ensures reading { M.is_open memory.new }
+        ensures room { (n : ℕ) → M.has_room memory.old (n + 1) → M.has_room memory.new n }
         ensures next { (m : List ℕ) → M.may_be memory.new m → result ≡ is_available_in self.now m }
     {
         let layout = self.base.layout();
@@ -156,6 +158,7 @@ impl PackedRing {
         requires reading { M.is_open memory.old }
         requires fits { M.extent memory.old ≡ self.old.memory }
         requires some { (m : List ℕ) → M.may_be memory.old m → is_available_in self.old m ≡ true }
+        requires room { M.has_room memory.old 1 }
         ensures size { M.extent memory.new ≡ M.extent memory.old }
         ensures stays { (m : List ℕ) → M.may_be memory.new m → M.may_be memory.old m }
         ensures stores { M.stored memory.new ≡ M.stored memory.old }
@@ -177,6 +180,7 @@ impl PackedRing {
         requires fits { M.extent memory.old ≡ self.now.memory }
         requires some { (m : List ℕ) → M.may_be memory.old m → is_available_in self.now m ≡ true }
         requires empty { draft ≡ [] }
+        requires room { M.has_room memory.old 1 }
         ensures size { M.extent memory.new ≡ M.extent memory.old }
         ensures stays { (m : List ℕ) → M.may_be memory.new m → M.may_be memory.old m }
         ensures stores { M.stored memory.new ≡ M.stored memory.old }
@@ -206,10 +210,12 @@ impl PackedRing {
         requires fits { M.extent memory.old ≡ self.old.memory }
         requires unbroken { self.old.broken ≡ None }
         requires some { (m : List ℕ) → M.may_be memory.old m → is_available_in self.old m ≡ true }
+        requires room { M.has_room memory.old 1 }
         ensures size { M.extent memory.new ≡ M.extent memory.old }
         ensures stays { (m : List ℕ) → M.may_be memory.new m → M.may_be memory.old m }
         ensures stores { M.stored memory.new ≡ M.stored memory.old }
         ensures reading { M.is_open memory.new }
+        ensures some { result ≢ Ok None }
         ensures fetches { (m : List ℕ) → M.may_be memory.new m → Fetches self.old m result self.new }
     {
         match self.next(memory) {
@@ -236,6 +242,7 @@ impl PackedRing {
         ensures stays { (m : List ℕ) → M.may_be memory.new m → M.may_be memory.old m }
         ensures stores { M.stored memory.new ≡ M.stored memory.old }
         ensures reading { M.is_open memory.new }
+        ensures some { result ≢ Ok None }
         ensures fetches { (m : List ℕ) → M.may_be memory.new m → Fetches self.old m result self.new }
     {
         let _ = &self.base;

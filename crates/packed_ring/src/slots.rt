@@ -1,6 +1,6 @@
 //! Reading and writing the slots of a packed queue.
 
-ghost use Rattle.std.specs.Prelude.{◌≡◌, ◌+◌, ◌*◌, ◌%◌, ◌<◌, ◌≤◌, ◌^◌, ◌++◌, ◌&&◌, not, cond, List, ℕ};
+ghost use Rattle.std.specs.Prelude.{◌≡◌, ◌+◌, ◌*◌, ◌%◌, ◌<◌, ◌≤◌, ◌^◌, ◌++◌, ◌&&◌, not, cond, List, ℕ, IfOk};
 ghost use Rattle.guest_mem.specs.Memory.{bytes_at, with_bytes};
 ghost use Rattle.guest_mem.specs.Stores.{stores_at};
 ghost use Rattle.byteorder.specs.Endian.{little_number, little_bytes};
@@ -9,6 +9,7 @@ ghost use Rattle.ring_core.specs.Packed.{slot_at, packed_descriptor, passed_at a
 use byteorder::{ByteOrder, LittleEndian};
 use guest_mem::{Memory, WritableMemory};
 use ring_core::{Descriptor, Layout, RingIndex};
+use std::alloc::AllocError;
 
 /// VIRTQ_DESC_F_WRITE in a used descriptor: something was written (VIRTIO 1.2, 2.8.3).
 const WRITE: u16 = 2;
@@ -24,10 +25,12 @@ const USED: u16 = 32768;
 pub(crate) fn number_at<M: Memory>(memory: &mut M, addr: u64) -> u16
     requires reading { M.is_open memory.old }
     requires fits { addr + 2 ≤ M.extent memory.old }
+    requires room { M.has_room memory.old 1 }
     ensures size { M.extent memory.new ≡ M.extent memory.old }
     ensures stays { (m : List ℕ) → M.may_be memory.new m → M.may_be memory.old m }
     ensures stores { M.stored memory.new ≡ M.stored memory.old }
     ensures reading { M.is_open memory.new }
+    ensures room { (n : ℕ) → M.has_room memory.old (n + 1) → M.has_room memory.new n }
     ensures number { (m : List ℕ) → M.may_be memory.new m → result ≡ little_number 2 (bytes_at m addr 2) }
 {
     let mut bytes = [0; 2];
@@ -102,30 +105,78 @@ pub(crate) fn index_at(size: u16, passed: u128) -> RingIndex
     }
 }
 
-/// Returns the descriptor at an address.
+/// Returns the descriptor that these bytes are.
 #[inline(always)]
-fn read_descriptor<M: Memory>(memory: &mut M, addr: u64) -> Descriptor
-    requires reading { M.is_open memory.old }
-    requires fits { addr + 16 ≤ M.extent memory.old }
-    ensures size { M.extent memory.new ≡ M.extent memory.old }
-    ensures stays { (m : List ℕ) → M.may_be memory.new m → M.may_be memory.old m }
-    ensures stores { M.stored memory.new ≡ M.stored memory.old }
-    ensures reading { M.is_open memory.new }
-    ensures descriptor { (m : List ℕ) → M.may_be memory.new m → result ≡ packed_descriptor (bytes_at m addr 16) }
+fn descriptor_of(bytes: &[u8; 16]) -> Descriptor
+    ensures { result ≡ packed_descriptor bytes.now }
 {
-    let mut bytes = [0; 16];
-    memory.read(addr, &mut bytes);
     Descriptor {
-        addr: LittleEndian::read_u64(&bytes),
+        addr: LittleEndian::read_u64(bytes),
         len: LittleEndian::read_u32(&bytes[8..]),
         flags: LittleEndian::read_u16(&bytes[14..]),
         next_or_id: LittleEndian::read_u16(&bytes[12..]),
     }
 }
 
-/// Returns the descriptor in a slot.
+/// Returns the descriptor at an address, by one short read.
+#[inline(always)]
+fn read_descriptor<M: Memory>(memory: &mut M, addr: u64) -> Descriptor
+    requires reading { M.is_open memory.old }
+    requires fits { addr + 16 ≤ M.extent memory.old }
+    requires room { M.has_room memory.old 1 }
+    ensures size { M.extent memory.new ≡ M.extent memory.old }
+    ensures stays { (m : List ℕ) → M.may_be memory.new m → M.may_be memory.old m }
+    ensures stores { M.stored memory.new ≡ M.stored memory.old }
+    ensures reading { M.is_open memory.new }
+    ensures room { (n : ℕ) → M.has_room memory.old (n + 1) → M.has_room memory.new n }
+    ensures descriptor { (m : List ℕ) → M.may_be memory.new m → result ≡ packed_descriptor (bytes_at m addr 16) }
+{
+    let mut bytes = [0; 16];
+    memory.read(addr, &mut bytes);
+    descriptor_of(&bytes)
+}
+
+/// Returns the descriptor at an address. An error where memory to keep it is refused.
+#[inline(always)]
+fn try_descriptor<M: Memory>(memory: &mut M, addr: u64) -> Result<Descriptor, AllocError>
+    requires reading { M.is_open memory.old }
+    requires fits { addr + 16 ≤ M.extent memory.old }
+    ensures size { M.extent memory.new ≡ M.extent memory.old }
+    ensures stays { (m : List ℕ) → M.may_be memory.new m → M.may_be memory.old m }
+    ensures stores { M.stored memory.new ≡ M.stored memory.old }
+    ensures reading { M.is_open memory.new }
+    ensures descriptor { IfOk result (λ d. (m : List ℕ) → M.may_be memory.new m → d ≡ packed_descriptor (bytes_at m addr 16)) }
+{
+    let mut bytes = [0; 16];
+    memory.try_read(addr, &mut bytes)?;
+    Ok(descriptor_of(&bytes))
+}
+
+/// Returns the descriptor in a slot, by one short read.
 #[inline(always)]
 pub(crate) fn in_slot<M: Memory>(memory: &mut M, layout: &Layout, slot: u16) -> Descriptor
+    requires reading { M.is_open memory.old }
+    requires there { slot < layout.now.size }
+    requires inside { layout.now.desc + 16 * layout.now.size ≤ M.extent memory.old }
+    requires small { M.extent memory.old ≤ 2 ^ 52 }
+    requires room { M.has_room memory.old 1 }
+    ensures size { M.extent memory.new ≡ M.extent memory.old }
+    ensures stays { (m : List ℕ) → M.may_be memory.new m → M.may_be memory.old m }
+    ensures stores { M.stored memory.new ≡ M.stored memory.old }
+    ensures reading { M.is_open memory.new }
+    ensures room { (n : ℕ) → M.has_room memory.old (n + 1) → M.has_room memory.new n }
+    ensures descriptor { (m : List ℕ) → M.may_be memory.new m → result ≡ packed_descriptor (bytes_at m (layout.now.desc + 16 * slot) 16) }
+{
+    read_descriptor(memory, layout.desc + 16 * slot as u64)
+}
+
+/// Returns the descriptor in a slot. An error where memory to keep it is refused.
+#[inline(always)]
+pub(crate) fn try_in_slot<M: Memory>(
+    memory: &mut M,
+    layout: &Layout,
+    slot: u16,
+) -> Result<Descriptor, AllocError>
     requires reading { M.is_open memory.old }
     requires there { slot < layout.now.size }
     requires inside { layout.now.desc + 16 * layout.now.size ≤ M.extent memory.old }
@@ -134,28 +185,36 @@ pub(crate) fn in_slot<M: Memory>(memory: &mut M, layout: &Layout, slot: u16) -> 
     ensures stays { (m : List ℕ) → M.may_be memory.new m → M.may_be memory.old m }
     ensures stores { M.stored memory.new ≡ M.stored memory.old }
     ensures reading { M.is_open memory.new }
-    ensures descriptor { (m : List ℕ) → M.may_be memory.new m → result ≡ packed_descriptor (bytes_at m (layout.now.desc + 16 * slot) 16) }
+    ensures descriptor { IfOk result (λ d. (m : List ℕ) → M.may_be memory.new m
+        → d ≡ packed_descriptor (bytes_at m (layout.now.desc + 16 * slot) 16)) }
 {
-    read_descriptor(memory, layout.desc + 16 * slot as u64)
+    try_descriptor(memory, layout.desc + 16 * slot as u64)
 }
 
-/// Returns the descriptor in the slot that is reached once so many slots were passed.
+/// Returns the descriptor in the slot that is reached once so many slots were passed, by one short read.
 pub(crate) fn descriptor_at<M: Memory>(memory: &mut M, layout: &Layout, passed: u128) -> Descriptor
     requires reading { M.is_open memory.old }
     requires some { 0 < layout.now.size }
     requires inside { layout.now.desc + 16 * layout.now.size ≤ M.extent memory.old }
     requires small { M.extent memory.old ≤ 2 ^ 52 }
+    requires room { M.has_room memory.old 1 }
     ensures size { M.extent memory.new ≡ M.extent memory.old }
     ensures stays { (m : List ℕ) → M.may_be memory.new m → M.may_be memory.old m }
     ensures stores { M.stored memory.new ≡ M.stored memory.old }
     ensures reading { M.is_open memory.new }
+    ensures room { (n : ℕ) → M.has_room memory.old (n + 1) → M.has_room memory.new n }
     ensures descriptor { (m : List ℕ) → M.may_be memory.new m → result ≡ slot_at layout.now m passed }
 {
     read_descriptor(memory, place_of(layout, passed))
 }
 
-/// Returns the entry at a place of the table at an address.
-pub(crate) fn entry_at<M: Memory>(memory: &mut M, addr: u64, place: u32) -> Descriptor
+/// Returns the entry at a place of the table at an address. An error where memory to keep it is refused.
+#[inline(always)]
+pub(crate) fn try_entry_at<M: Memory>(
+    memory: &mut M,
+    addr: u64,
+    place: u32,
+) -> Result<Descriptor, AllocError>
     requires reading { M.is_open memory.old }
     requires inside { addr + 16 * place + 16 ≤ M.extent memory.old }
     requires small { M.extent memory.old ≤ 2 ^ 52 }
@@ -163,9 +222,9 @@ pub(crate) fn entry_at<M: Memory>(memory: &mut M, addr: u64, place: u32) -> Desc
     ensures stays { (m : List ℕ) → M.may_be memory.new m → M.may_be memory.old m }
     ensures stores { M.stored memory.new ≡ M.stored memory.old }
     ensures reading { M.is_open memory.new }
-    ensures descriptor { (m : List ℕ) → M.may_be memory.new m → result ≡ packed_descriptor (bytes_at m (addr + 16 * place) 16) }
+    ensures descriptor { IfOk result (λ d. (m : List ℕ) → M.may_be memory.new m → d ≡ packed_descriptor (bytes_at m (addr + 16 * place) 16)) }
 {
-    read_descriptor(memory, addr + 16 * place as u64)
+    try_descriptor(memory, addr + 16 * place as u64)
 }
 
 /// Returns true if one of so many slots, from where so many were passed, is the one that an offset and wrap names.

@@ -3,10 +3,10 @@
 
 ghost use Rattle.std.specs.Prelude.{◌≡◌, ◌+◌, ◌*◌, ◌/◌, ◌<◌, ◌≤◌, ◌^◌, List, ℕ, [], MatchResult, None, Some};
 ghost use Rattle.ring_core.specs.Inner.Walking.{RunFailsOrLacks};
-ghost use Rattle.ring_core.specs.Packed.{packed_wrong, packed_table};
+ghost use Rattle.ring_core.specs.Packed.{entry_of, packed_wrong, packed_table};
 ghost use Rattle.packed_ring.specs.Inner.Answers.{EndsInTable, IsFound, PackedFailsOrLacks};
 
-use crate::slots::{descriptor_at, entry_at, in_slot, slot_after, slot_behind};
+use crate::slots::{descriptor_at, in_slot, slot_after, slot_behind, try_entry_at, try_in_slot};
 use guest_mem::Memory;
 use ring_core::{Before, Descriptor, Draft, Features, Layout, RingFault};
 
@@ -57,6 +57,7 @@ pub(crate) fn fault_without_room<M: Memory>(
     requires some { 0 < layout.now.size }
     requires inside { layout.now.desc + 16 * layout.now.size ≤ M.extent memory.old }
     requires small { M.extent memory.old ≤ 2 ^ 52 }
+    requires room { M.has_room memory.old 1 }
     ensures size { M.extent memory.new ≡ M.extent memory.old }
     ensures stays { (m : List ℕ) → M.may_be memory.new m → M.may_be memory.old m }
     ensures stores { M.stored memory.new ≡ M.stored memory.old }
@@ -73,13 +74,14 @@ pub(crate) fn fault_without_room<M: Memory>(
 }
 
 /// Puts the buffers of the table that a descriptor names behind those in the draft, or returns the first thing wrong
-/// with one of them, behind what stands before the table. It stands apart, so that a chain without a table doesn't pay
-/// for it.
+/// with one of them, behind what stands before the table. Its first entry was read before. It stands apart, so that a
+/// chain without a table doesn't pay for it.
 #[inline(never)]
 fn walk_table<M: Memory>(
     mut draft: Draft,
     memory: &mut M,
     named: Descriptor,
+    entry: Descriptor,
     first: Before,
 ) -> Result<Draft, RingFault>
     requires reading { M.is_open memory.old }
@@ -87,6 +89,7 @@ fn walk_table<M: Memory>(
     requires lies { named.addr + 16 * (named.len / 16) ≤ M.extent memory.old }
     requires small { M.extent memory.old ≤ 2 ^ 52 }
     requires total { first.total ≤ 2 ^ 32 }
+    requires is { (m : List ℕ) → M.may_be memory.old m → entry ≡ entry_of m named 0 }
     ensures size { M.extent memory.new ≡ M.extent memory.old }
     ensures stays { (m : List ℕ) → M.may_be memory.new m → M.may_be memory.old m }
     ensures stores { M.stored memory.new ≡ M.stored memory.old }
@@ -97,9 +100,9 @@ fn walk_table<M: Memory>(
 {
     let entries = named.len / 16;
     let mut before = first.anew();
+    let mut d = entry;
     'along: for place in 0..entries {
         let bytes = memory.size();
-        let d = entry_at(memory, named.addr, place);
         if let Err(fault) = before.check_buffer(&d, bytes) {
             return Err(fault);
         }
@@ -110,6 +113,10 @@ fn walk_table<M: Memory>(
             return Ok(draft);
         }
         before = before.with(&d);
+        let Ok(next) = try_entry_at(memory, named.addr, place + 1) else {
+            return Err(RingFault::NoMemory);
+        };
+        d = next;
     }
     let _bytes = memory.size();
     unreachable!()
@@ -128,6 +135,7 @@ pub(crate) fn walk<M: Memory>(
     requires inside { layout.now.desc + 16 * layout.now.size ≤ M.extent memory.old }
     requires small { M.extent memory.old ≤ 2 ^ 52 }
     requires empty { draft ≡ [] }
+    requires room { M.has_room memory.old 1 }
     ensures size { M.extent memory.new ≡ M.extent memory.old }
     ensures stays { (m : List ℕ) → M.may_be memory.new m → M.may_be memory.old m }
     ensures stores { M.stored memory.new ≡ M.stored memory.old }
@@ -138,9 +146,9 @@ pub(crate) fn walk<M: Memory>(
 {
     let mut before = Before::nothing();
     let mut slot = slot_after(passed, layout.size);
+    let mut d = in_slot(memory, layout, slot);
     'along: for step in 0..layout.size {
         let bytes = memory.size();
-        let d = in_slot(memory, layout, slot);
         if let Err(fault) = check_slot(&before, &d, bytes, layout.size, &features) {
             return Err(fault);
         }
@@ -148,7 +156,10 @@ pub(crate) fn walk<M: Memory>(
         let slots = step + 1;
         if d.is_indirect() {
             let _bytes = memory.size();
-            return match walk_table(draft, memory, d, before) {
+            let Ok(entry) = try_entry_at(memory, d.addr, 0) else {
+                return Err(RingFault::NoMemory);
+            };
+            return match walk_table(draft, memory, d, entry, before) {
                 Ok(draft) => Ok(Candidate { id, slots, draft }),
                 Err(fault) => Err(fault),
             };
@@ -161,6 +172,10 @@ pub(crate) fn walk<M: Memory>(
         }
         before = before.with(&d);
         slot = slot_behind(slot, layout.size);
+        let Ok(next) = try_in_slot(memory, layout, slot) else {
+            return Err(RingFault::NoMemory);
+        };
+        d = next;
     }
     let _bytes = memory.size();
     unreachable!()

@@ -1,6 +1,6 @@
 //! The step that answers a job.
 
-ghost use Rattle.std.specs.Prelude.{◌≡◌, ◌<◌, List, ℕ, length, true, is_some, MatchOption, IfSome, Some};
+ghost use Rattle.std.specs.Prelude.{◌≡◌, ◌<◌, ◌≤◌, List, ℕ, length, true, is_some, MatchOption, IfSome, Some};
 ghost use Rattle.ring_core.specs.State.{Owns};
 ghost use Rattle.ring_core.specs.Writes.{stores_of};
 ghost use Rattle.virtqueue.specs.Queue.{MayComplete};
@@ -105,6 +105,7 @@ pub fn phase_answer_in<M: WritableMemory>(
     ensures gives { IfSome result (λ given. given_in hand.old ≡ Some given) }
     ensures size { M.extent memory.new ≡ M.extent memory.old }
     ensures reading { M.is_open memory.old → M.is_open memory.new }
+    ensures room { (n : ℕ) → n ≤ 60 → M.has_room memory.old n → M.has_room memory.new n }
 {
     let written = match hand {
         Hand::Job(held) => {

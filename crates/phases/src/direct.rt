@@ -41,6 +41,7 @@ fn answer_chain<M: WritableMemory>(
         ≡ M.storing (M.stored memory.old) (stores_of (answer_writes queue.old.ring chain answer.now)) }
     ensures size { M.extent memory.new ≡ M.extent memory.old }
     ensures reading { M.is_open memory.new }
+    ensures room { M.has_room memory.new 60 }
     ensures queue { (m : List ℕ) → M.may_be memory.new m → queue.new ≡ completing m chain queue.old }
 {
     let len = write_direct(memory, &chain, answer);
@@ -75,6 +76,7 @@ pub fn phase_direct_in<M: WritableMemory>(
     ensures note { IfSome result (λ note. note_in (slot_of slot.old) ≡ Some note) }
     ensures size { M.extent memory.new ≡ M.extent memory.old }
     ensures reading { M.is_open memory.old → M.is_open memory.new }
+    ensures room { (n : ℕ) → n ≤ 60 → M.has_room memory.old n → M.has_room memory.new n }
 {
     if !slot.is_direct() {
         return None;
@@ -120,6 +122,7 @@ pub fn phase_answer_tmf_in<M: WritableMemory>(
         ≡ M.storing (M.stored memory.old) (stores_of (responded_writes function.old queue.old.ring result)) }
     ensures size { M.extent memory.new ≡ M.extent memory.old }
     ensures reading { M.is_open memory.old → M.is_open memory.new }
+    ensures room { (n : ℕ) → n ≤ 60 → M.has_room memory.old n → M.has_room memory.new n }
 {
     match function.take() {
         Some(open) => {

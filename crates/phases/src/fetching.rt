@@ -1,6 +1,6 @@
 //! The steps that take a chain from a queue.
 
-ghost use Rattle.std.specs.Prelude.{◌≡◌, ◌+◌, ◌≤◌, ◌^◌, List, ℕ, length};
+ghost use Rattle.std.specs.Prelude.{◌≡◌, ◌+◌, ◌≤◌, ◌^◌, List, ℕ, length, false, Ok};
 ghost use Rattle.ring_core.specs.Parts.{PartsFit, writable_total};
 ghost use Rattle.task_mgmt.specs.Inner.Control.{Suits};
 ghost use Rattle.device_model.specs.Event.Fetch.{DecidesControl};
@@ -53,7 +53,7 @@ pub fn phase_fetch(
 }
 
 /// Takes the next chain of a request queue from any memory, as [`phase_fetch`] does. Called in a phase of the
-/// memory that wrote nothing yet.
+/// memory that wrote nothing yet and has room for 4 short reads. Where nothing changed, it took one at most.
 #[inline(always)]
 pub fn phase_fetch_in<M: Memory>(
     queue: &mut Queue,
@@ -62,10 +62,12 @@ pub fn phase_fetch_in<M: Memory>(
     inventory: &Inventory,
 ) -> Result<bool, NoMemory>
     requires reading { M.is_open memory.old }
+    requires room { M.has_room memory.old 4 }
     ensures size { M.extent memory.new ≡ M.extent memory.old }
     ensures stays { (m : List ℕ) → M.may_be memory.new m → M.may_be memory.old m }
     ensures stores { M.stored memory.new ≡ M.stored memory.old }
     ensures reading { M.is_open memory.new }
+    ensures room { (n : ℕ) → result ≡ Ok false → M.has_room memory.old (n + 1) → M.has_room memory.new n }
     ensures fetches { (m : List ℕ) → M.may_be memory.new m → FetchesRequest inventory.now m
         (with_slot (slot_of slot.old) queue.old) result (with_slot (slot_of slot.new) queue.new) }
 {
@@ -131,7 +133,7 @@ pub fn phase_fetch_control(
 }
 
 /// Takes the next chain of the control queue from any memory, as [`phase_fetch_control`] does. Called in a phase
-/// of the memory that wrote nothing yet.
+/// of the memory that wrote nothing yet and has room for 4 short reads. Where nothing changed, it took one at most.
 #[inline(always)]
 pub fn phase_fetch_control_in<M: Memory>(
     queue: &mut Queue,
@@ -141,10 +143,12 @@ pub fn phase_fetch_control_in<M: Memory>(
     inventory: &Inventory,
 ) -> Result<bool, NoMemory>
     requires reading { M.is_open memory.old }
+    requires room { M.has_room memory.old 4 }
     ensures size { M.extent memory.new ≡ M.extent memory.old }
     ensures stays { (m : List ℕ) → M.may_be memory.new m → M.may_be memory.old m }
     ensures stores { M.stored memory.new ≡ M.stored memory.old }
     ensures reading { M.is_open memory.new }
+    ensures room { (n : ℕ) → result ≡ Ok false → M.has_room memory.old (n + 1) → M.has_room memory.new n }
     ensures fetches { (m : List ℕ) → M.may_be memory.new m
         → FetchesControl inventory.now m (with_slot (slot_of slot.old) queue.old) function.old
         result (with_slot (slot_of slot.new) queue.new) function.new }

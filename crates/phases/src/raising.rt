@@ -1,6 +1,6 @@
 //! The steps on the event queue: a buffer comes, and an event is raised.
 
-ghost use Rattle.std.specs.Prelude.{◌≡◌, ◌≤◌, ◌<◌, ◌↔◌, ◌^◌, ◌||◌, List, ℕ, length, IsTrue};
+ghost use Rattle.std.specs.Prelude.{◌≡◌, ◌+◌, ◌≤◌, ◌<◌, ◌↔◌, ◌^◌, ◌||◌, List, ℕ, length, IsTrue, false, Ok};
 ghost use Rattle.ring_core.specs.Parts.{writable_total};
 ghost use Rattle.ring_core.specs.State.{Owns};
 ghost use Rattle.ring_core.specs.Writes.{stores_of};
@@ -33,6 +33,7 @@ fn use_with<M: WritableMemory>(queue: &mut Queue, memory: &mut M, chain: Chain, 
         ≡ M.storing (M.stored memory.old) (stores_of (answer_writes queue.old.ring chain bytes.now)) }
     ensures size { M.extent memory.new ≡ M.extent memory.old }
     ensures reading { M.is_open memory.new }
+    ensures room { M.has_room memory.new 60 }
 {
     let len = scatter(memory, &chain, 0, bytes);
     let _answered = queue.complete_in(memory, chain, len);
@@ -53,6 +54,7 @@ fn use_held<M: WritableMemory>(
         ≡ M.storing (M.stored memory.old) (stores_of (answer_writes queue.old.ring buffer event.now)) }
     ensures size { M.extent memory.new ≡ M.extent memory.old }
     ensures reading { M.is_open memory.new }
+    ensures room { M.has_room memory.new 60 }
 {
     use_with(queue, memory, buffer.into_chain(), event);
 }
@@ -99,10 +101,12 @@ fn fetch_at_port<M: Memory>(
     memory: &mut M,
 ) -> Result<Fetch, NoMemory>
     requires reading { M.is_open memory.old }
+    requires room { M.has_room memory.old 4 }
     ensures size { M.extent memory.new ≡ M.extent memory.old }
     ensures stays { (m : List ℕ) → M.may_be memory.new m → M.may_be memory.old m }
     ensures stores { M.stored memory.new ≡ M.stored memory.old }
     ensures reading { M.is_open memory.new }
+    ensures room { (n : ℕ) → result ≡ Ok Fetch.Idle → M.has_room memory.old (n + 1) → M.has_room memory.new n }
     ensures looks { (m : List ℕ) → M.may_be memory.new m
         → LooksAtPort (slot_of slot.now) queue.old m port.now result queue.new }
     ensures owned { IsHeldBy (M.extent memory.new) port.now result queue.new }
@@ -137,7 +141,8 @@ pub fn phase_fetch_event(
 }
 
 /// Takes the next chain of the event queue from any memory, as [`phase_fetch_event`] does. Called in a phase of the
-/// memory that wrote nothing yet. Where it uses a chain, it begins a new one behind that.
+/// memory that wrote nothing yet and has room for 4 short reads. Where nothing changed, it took one at most. Where it
+/// uses a chain, it begins a new phase behind that.
 #[inline(always)]
 pub fn phase_fetch_event_in<M: WritableMemory>(
     queue: &mut Queue,
@@ -146,6 +151,8 @@ pub fn phase_fetch_event_in<M: WritableMemory>(
     memory: &mut M,
 ) -> Result<bool, NoMemory>
     requires reading { M.is_open memory.old }
+    requires room { M.has_room memory.old 4 }
+    ensures room { (n : ℕ) → result ≡ Ok false → M.has_room memory.old (n + 1) → M.has_room memory.new n }
     ensures fetches { EachSeen M.shared (M.may_be memory.old) (M.may_be memory.new)
         (λ found left seen. FetchesEventIn M.shared
         (λ ws. M.stored memory.new ≡ M.storing (M.stored memory.old) (stores_of ws))
@@ -208,6 +215,7 @@ pub fn phase_raise_in<M: WritableMemory>(
         ≡ M.storing (M.stored memory.old) (stores_of (raised_writes waiting.old port.old.buffers queue.old.ring result)) }
     ensures size { M.extent memory.new ≡ M.extent memory.old }
     ensures reading { M.is_open memory.old → M.is_open memory.new }
+    ensures room { (n : ℕ) → n ≤ 60 → M.has_room memory.old n → M.has_room memory.new n }
 {
     let Some(event) = waiting.oldest() else {
         return false;

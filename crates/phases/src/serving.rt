@@ -1,6 +1,6 @@
 //! A request served at once: what the phases do of it one after another, with nothing put down between them.
 
-ghost use Rattle.std.specs.Prelude.{◌≡◌, List, ℕ, length, true, IfSome, IfNone};
+ghost use Rattle.std.specs.Prelude.{◌≡◌, ◌≤◌, List, ℕ, length, true, IfSome, IfNone};
 ghost use Rattle.ring_core.specs.State.{Owns};
 ghost use Rattle.device_model.specs.Parts as plain;
 ghost use Rattle.phases.specs.DoingUnit.{HasPlaces};
@@ -55,6 +55,7 @@ fn answer_job<M: WritableMemory>(
         queue.old found true queue.new left seen (plain.Hand.Answered job.unit job.chain.ticket)) }
     ensures size { M.extent memory.new ≡ M.extent memory.old }
     ensures reading { M.is_open memory.new }
+    ensures room { M.has_room memory.new 60 }
 {
     let len = write_job(memory, &job, outcome);
     queue.complete_in(memory, job.into_chain(), len)
@@ -141,6 +142,7 @@ fn serve_by_steps<M: WritableMemory>(
         unit.new queue.new left seen (slot_of slot.new) out.new) }
     ensures size { M.extent memory.new ≡ M.extent memory.old }
     ensures reading { M.is_open memory.old → M.is_open memory.new }
+    ensures room { (n : ℕ) → n ≤ 60 → M.has_room memory.old n → M.has_room memory.new n }
 {
     match unit.enter(arrival) {
         Entered::Run(job) => {
@@ -211,6 +213,7 @@ pub fn serve_request_in<M: WritableMemory>(
         unit.new queue.new left seen (slot_of slot.new) out.new) }
     ensures size { M.extent memory.new ≡ M.extent memory.old }
     ensures reading { M.is_open memory.old → M.is_open memory.new }
+    ensures room { (n : ℕ) → n ≤ 60 → M.has_room memory.old n → M.has_room memory.new n }
 {
     match serve_alone(unit, memory, &arrival) {
         Some(len) => {

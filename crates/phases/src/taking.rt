@@ -1,6 +1,6 @@
 //! The step that takes a request from its queue.
 
-ghost use Rattle.std.specs.Prelude.{◌≡◌, List, ℕ, length, min};
+ghost use Rattle.std.specs.Prelude.{◌≡◌, ◌+◌, List, ℕ, length, min, Ok};
 ghost use Rattle.ring_core.specs.Parts.{readable_total};
 ghost use Rattle.phases.specs.Slots.{slot_of};
 ghost use Rattle.phases.specs.Inner.Taking.{IsTakenAs, TakesRequest, IsOutstanding, IsOutstandingIn};
@@ -70,7 +70,7 @@ pub fn take_request(
 }
 
 /// Takes the next chain of a request queue from any memory, as [`take_request`] does. Called in a phase of the
-/// memory that wrote nothing yet.
+/// memory that wrote nothing yet and has room for 4 short reads. Where it took nothing, it took one of these at most.
 #[inline(always)]
 pub fn take_request_in<M: Memory>(
     queue: &mut Queue,
@@ -79,10 +79,12 @@ pub fn take_request_in<M: Memory>(
     inventory: &Inventory,
 ) -> Result<Taken, NoMemory>
     requires reading { M.is_open memory.old }
+    requires room { M.has_room memory.old 4 }
     ensures size { M.extent memory.new ≡ M.extent memory.old }
     ensures stays { (m : List ℕ) → M.may_be memory.new m → M.may_be memory.old m }
     ensures stores { M.stored memory.new ≡ M.stored memory.old }
     ensures reading { M.is_open memory.new }
+    ensures room { (n : ℕ) → result ≡ Ok Taken.Nothing → M.has_room memory.old (n + 1) → M.has_room memory.new n }
     ensures takes { (m : List ℕ) → M.may_be memory.new m
         → TakesRequest inventory.now m (slot_of slot.old) queue.old result (slot_of slot.new) queue.new }
     ensures owned { IsOutstandingIn (M.extent memory.new) result queue.new }

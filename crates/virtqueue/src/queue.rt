@@ -129,7 +129,7 @@ impl Model for Queue {
 impl Queue {
     ghost use Rattle.std.specs.Prelude.{◌≡◌, ◌≤◌, ◌+◌, ◌↔◌, List, ℕ, length, is_some, IfOk, IsTrue};
     ghost use Rattle.std.specs.Option.{IfSome};
-    ghost use Rattle.std.specs.Prelude.{None};
+    ghost use Rattle.std.specs.Prelude.{None, Ok};
     ghost use Rattle.virtqueue.specs.Queue.{opening_queue, placement_of, completing, MayComplete};
     ghost use Rattle.ring_core.specs.State.{Owns, features_of};
     ghost use Rattle.ring_core.specs.Sound.{IsSound, IsLeastOutstanding, outstanding_count};
@@ -207,14 +207,16 @@ impl Queue {
     }
 
     /// Returns true if a fetch from any memory would find nothing to do, as `is_idle` does. Called in a phase that wrote
-    /// nothing yet.
+    /// nothing yet and has room for a short read, which it may take.
     pub fn is_idle_in<M: Memory>(&self, memory: &mut M) -> bool
         requires reading { M.is_open memory.old }
         requires fits { M.extent memory.old ≡ self.now.ring.memory }
+        requires room { M.has_room memory.old 1 }
         ensures size { M.extent memory.new ≡ M.extent memory.old }
         ensures stays { (m : List ℕ) → M.may_be memory.new m → M.may_be memory.old m }
         ensures stores { M.stored memory.new ≡ M.stored memory.old }
         ensures reading { M.is_open memory.new }
+        ensures room { (n : ℕ) → M.has_room memory.old (n + 1) → M.has_room memory.new n }
         ensures idle { (m : List ℕ) → M.may_be memory.new m → (IsTrue result ↔ IsIdle self.now.ring m) }
     {
         self.broken || self.ring.is_idle(memory)
@@ -233,15 +235,18 @@ impl Queue {
         self.fetch_in(&mut still)
     }
 
-    /// Fetches the next chain from any memory, as `fetch` does. Called in a phase that wrote nothing yet.
+    /// Fetches the next chain from any memory, as `fetch` does. Called in a phase that wrote nothing yet and has room for 4
+    /// short reads. Where it is idle, it took one at most.
     #[inline(always)]
     pub fn fetch_in<M: Memory>(&mut self, memory: &mut M) -> Result<Fetch, NoMemory>
         requires reading { M.is_open memory.old }
         requires fits { M.extent memory.old ≡ self.old.ring.memory }
+        requires room { M.has_room memory.old 4 }
         ensures size { M.extent memory.new ≡ M.extent memory.old }
         ensures stays { (m : List ℕ) → M.may_be memory.new m → M.may_be memory.old m }
         ensures stores { M.stored memory.new ≡ M.stored memory.old }
         ensures reading { M.is_open memory.new }
+        ensures room { (n : ℕ) → result ≡ Ok Fetch.Idle → M.has_room memory.old (n + 1) → M.has_room memory.new n }
         ensures looks { (m : List ℕ) → M.may_be memory.new m → Looks self.old m result self.new }
     {
         if self.broken {
@@ -275,7 +280,7 @@ impl Queue {
     }
 
     /// Completes a chain in any memory, as `complete` does. It begins a phase behind its own writes, and by what it reads
-    /// there it decides whether the driver wants a notice.
+    /// there it decides whether the driver wants a notice. It leaves room for 60 short reads.
     #[inline(always)]
     pub fn complete_in<M: WritableMemory>(
         &mut self,
@@ -290,6 +295,7 @@ impl Queue {
             × ((after : M) × M.begins written after × ((m : List ℕ) → M.may_be memory.new m → M.may_be after m)) }
         ensures size { M.extent memory.new ≡ M.extent memory.old }
         ensures reading { M.is_open memory.new }
+        ensures room { M.has_room memory.new 60 }
         ensures queue { (m : List ℕ) → M.may_be memory.new m → self.new ≡ completing m chain self.old }
         ensures seen { SeenBehind M.shared (M.may_be memory.old) (M.may_be memory.new) (used_writes self.old.ring chain.id len) }
         ensures stores { M.stored memory.new
