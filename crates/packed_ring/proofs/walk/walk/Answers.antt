@@ -1,4 +1,4 @@
-use Rattle.std.proofs.Common.{refl, ◌≡◌, ◌+◌, ◌++◌, ◌∷◌, ◌∙◌, [], arith, rules, mod-lt}
+use Rattle.std.proofs.Common.{◌≡◌, ◌+◌, ◌++◌, ◌∷◌, ◌∙◌, [], arith, rules, mod-lt}
 use Rattle.ring_core.specs.Walk.{nothing_before, part_of}
 use Rattle.ring_core.specs.Packed.{packed_slots, packed_table}
 use Rattle.ring_core.specs.declared.fault.RingFault.TheVariants.{NoMemory}
@@ -42,14 +42,20 @@ try_entry_at-requires-clause-inside g c =
     let lies = named_lies c.args.features m c.args.layout.now c.args.passed c.along.step c.along.before c.along.draft c.along.d on is (rw (c.size-bytes.ensures.size, ← sized) at c.in_default.ensures) (rw c.is_indirect.ensures at c.if-is_indirect.true) in
     omega (arith, lies.0, lies.1, sized)
 
-pub returns-in_default-clause-walked : goal.returns-in_default-clause-walked
-returns-in_default-clause-walked g c = λ m s₂.
+pub returns-in_default-try_entry_at-clause-walked : goal.returns-in_default-try_entry_at-clause-walked
+returns-in_default-try_entry_at-clause-walked g c = λ m s₂.
     let s = c.try_entry_at.ensures.stays m s₂ in
     let sized = g.met.M.Memory.sized c.along.memory m s in
     let on = c.along.invariant.on m s in
     let is = at_slot c.args.layout.now m c.args.passed c.along.step c.along.slot c.along.d c.along.invariant.slot (c.along.invariant.is m s) in
     as_packed c.args.features m c.args.layout.now c.args.passed NoMemory (ring_fails (packed_slots c.args.features m c.args.layout.now c.args.passed) (packed_table m) NoMemory
     (walked_first (packed_slots c.args.features m c.args.layout.now c.args.passed) c.args.layout.now.size (packed_walk c.args.features m c.args.layout.now c.args.passed) nothing_before [] c.along.step c.along.before c.along.draft c.along.d on is (rw (c.size-bytes.ensures.size, ← sized) at c.in_default.ensures)))
+
+pub walk_table-requires-clause-total : goal.walk_table-requires-clause-total
+walk_table-requires-clause-total g c =
+    let m = c.size-bytes-then-is_indirect.ensures.some.0 in
+    let s = c.size-bytes-then-is_indirect.ensures.some.1 in
+    (c.along.invariant.on m s).bounded
 
 pub walk_table-requires-clause-some : goal.walk_table-requires-clause-some
 walk_table-requires-clause-some g c =
@@ -77,13 +83,13 @@ returns-in-Err-walk_table-clause-walked g c = λ m s₂.
     let is = at_slot c.args.layout.now m c.args.passed c.along.step c.along.slot c.along.d c.along.invariant.slot (c.along.invariant.is m s) in
     named_fails c.args.features m c.args.layout.now c.args.passed c.along.step c.along.before c.along.draft c.along.d on is (rw (c.size-bytes.ensures.size, ← sized) at c.in_default.ensures) (rw c.is_indirect.ensures at c.if-is_indirect.true) c.in-Err-walk_table.fault (c.in-Err-walk_table.ensures.walked m s₂)
 
-pub returns-in-Ok-clause-walked : goal.returns-in-Ok-clause-walked
-returns-in-Ok-clause-walked g c = λ m s₂.
+pub returns-in-Ok-walk_table-clause-walked : goal.returns-in-Ok-walk_table-clause-walked
+returns-in-Ok-walk_table-clause-walked g c = λ m s₂.
     let s = c.try_entry_at.ensures.stays m (c.walk_table.ensures.stays m s₂) in
     let sized = g.met.M.Memory.sized c.along.memory m s in
     let on = c.along.invariant.on m s in
     let is = at_slot c.args.layout.now m c.args.passed c.along.step c.along.slot c.along.d c.along.invariant.slot (c.along.invariant.is m s) in
-    named_ends c.args.features m c.args.layout.now c.args.passed c.along.step c.along.before c.along.draft c.along.d on is (rw (c.size-bytes.ensures.size, ← sized) at c.in_default.ensures) (rw c.is_indirect.ensures at c.if-is_indirect.true) c.in-Ok.draft (c.in-Ok.ensures.walked m s₂)
+    named_ends c.args.features m c.args.layout.now c.args.passed c.along.step c.along.before c.along.draft c.along.d on is (rw (c.size-bytes.ensures.size, ← sized) at c.in_default.ensures) (rw c.is_indirect.ensures at c.if-is_indirect.true) c.in-Ok-walk_table.draft (c.in-Ok-walk_table.ensures.walked m s₂)
 
 pub returns-then-is_err-clause-walked : goal.returns-then-is_err-clause-walked
 returns-then-is_err-clause-walked g c = λ m s.
@@ -121,3 +127,18 @@ along-preserved g c =
       is = λ m s. c.in-Ok-try_in_slot.ensures.descriptor m s;
       slot = c.slot_behind-slot.ensures ∙ slot_moves c.args.layout.now.size c.args.passed c.along.step c.along.slot c.along.invariant.slot;
     }
+
+pub returns-in-Ok-walk_table-clause-stays : goal.returns-in-Ok-walk_table-clause-stays
+returns-in-Ok-walk_table-clause-stays g c = λ m s. c.along.invariant.stays m (c.try_entry_at.ensures.stays m (c.walk_table.ensures.stays m s))
+
+pub returns-in-Err-walk_table-clause-stays : goal.returns-in-Err-walk_table-clause-stays
+returns-in-Err-walk_table-clause-stays g c = λ m s. c.along.invariant.stays m (c.try_entry_at.ensures.stays m (c.walk_table.ensures.stays m s))
+
+pub returns-in_default-try_in_slot-clause-walked : goal.returns-in_default-try_in_slot-clause-walked
+returns-in_default-try_in_slot-clause-walked g c = λ m s₂.
+    let s = c.try_in_slot.ensures.stays m s₂ in
+    let sized = g.met.M.Memory.sized c.along.memory m s in
+    let on = c.along.invariant.on m s in
+    let is = at_slot c.args.layout.now m c.args.passed c.along.step c.along.slot c.along.d c.along.invariant.slot (c.along.invariant.is m s) in
+    as_packed c.args.features m c.args.layout.now c.args.passed NoMemory (ring_fails (packed_slots c.args.features m c.args.layout.now c.args.passed) (packed_table m) NoMemory
+    (walked_first (packed_slots c.args.features m c.args.layout.now c.args.passed) c.args.layout.now.size (packed_walk c.args.features m c.args.layout.now c.args.passed) nothing_before [] c.along.step c.along.before c.along.draft c.along.d on is (rw (c.size-bytes.ensures.size, ← sized) at c.in_default.ensures)))

@@ -46,8 +46,8 @@ try_entry_at-requires-clause-inside g c =
     let on = c.along.invariant.on c.size-bytes.ensures.some.0 c.size-bytes.ensures.some.1 in
     omega (arith, on.counted, c.if-before-entries.false, c.requires.lies, c.along.invariant.size)
 
-pub returns-in_default-clause-walked : goal.returns-in_default-clause-walked
-returns-in_default-clause-walked g c = λ m s.
+pub returns-in_default-try_entry_at-clause-walked : goal.returns-in_default-try_entry_at-clause-walked
+returns-in_default-try_entry_at-clause-walked g c = λ m s.
     let s₀ = c.try_entry_at.ensures.stays m s in
     let sized = g.met.M.Memory.sized c.along.memory m s₀ in
     walked_first (packed_table m c.args.named) (c.args.named.len / 16) (entries_walk m c.args.named) c.args.first c.args.draft c.along.place c.along.before c.along.draft c.along.d
