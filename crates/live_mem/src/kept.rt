@@ -256,7 +256,7 @@ impl Kept {
 
     /// Keeps a short run that was read from `addr` on, for which there is room.
     #[inline(always)]
-    pub(crate) fn keep_short(&mut self, addr: u64, out: &[u8])
+    fn keep_short(&mut self, addr: u64, out: &[u8])
         requires small { addr + length out.now ≤ 2 ^ 52 }
         requires short { length out.now ≤ 16 }
         requires room { Holds self.old 1 }
@@ -279,7 +279,8 @@ impl Kept {
         requires small { addr + length out.now ≤ 2 ^ 52 }
         requires long { 16 < length out.now }
         requires room { Takes self.old (length out.now) }
-        ensures { Keeps self.old.spans.items self.old.bytes.items addr out.now self.new.spans.items self.new.bytes.items }
+        ensures kept { Keeps self.old.spans.items self.old.bytes.items addr out.now self.new.spans.items self.new.bytes.items }
+        ensures room { (n : ℕ) → Holds self.old (n + 1) → Holds self.new n }
     {
         let span = Span {
             addr,
@@ -297,7 +298,8 @@ impl Kept {
     pub(crate) fn keep(&mut self, addr: u64, out: &[u8])
         requires small { addr + length out.now ≤ 2 ^ 52 }
         requires room { Takes self.old (length out.now) }
-        ensures { Keeps self.old.spans.items self.old.bytes.items addr out.now self.new.spans.items self.new.bytes.items }
+        ensures kept { Keeps self.old.spans.items self.old.bytes.items addr out.now self.new.spans.items self.new.bytes.items }
+        ensures room { (n : ℕ) → Holds self.old (n + 1) → Holds self.new n }
     {
         if out.len() <= SHORT {
             self.keep_short(addr, out);

@@ -53,23 +53,6 @@ impl<B: Bus> LiveMem<B> {
         })
     }
 
-    /// Reads what is kept, and loads where nothing is kept. It keeps the read, which is short.
-    #[inline(always)]
-    fn read_short(&mut self, addr: u64, out: &mut [u8])
-        requires inside { addr + length out.old ≤ self.old.size }
-        requires short { length out.old ≤ 16 }
-        requires room { HasRoom self.old 1 }
-        ensures len { length out.new ≡ length out.old }
-        ensures loads { LoadsThere (heard self.old.bus) (heard self.new.bus) addr out.new }
-        ensures stores { all_stores (heard self.new.bus) ≡ all_stores (heard self.old.bus) }
-        ensures size { self.new.size ≡ self.old.size }
-        ensures room { (n : ℕ) → HasRoom self.old (n + 1) → HasRoom self.new n }
-    {
-        self.bus.load(addr, out);
-        self.kept.put_over(addr, out);
-        self.kept.keep_short(addr, out);
-    }
-
     /// Reads what is kept, and loads where nothing is kept. It keeps the read, for which there is room.
     #[inline(always)]
     fn read_there(&mut self, addr: u64, out: &mut [u8])
@@ -79,6 +62,7 @@ impl<B: Bus> LiveMem<B> {
         ensures loads { LoadsThere (heard self.old.bus) (heard self.new.bus) addr out.new }
         ensures stores { all_stores (heard self.new.bus) ≡ all_stores (heard self.old.bus) }
         ensures size { self.new.size ≡ self.old.size }
+        ensures room { (n : ℕ) → HasRoom self.old (n + 1) → HasRoom self.new n }
     {
         self.bus.load(addr, out);
         self.kept.put_over(addr, out);
@@ -149,7 +133,7 @@ impl<B: Bus> Memory for LiveMem<B> {
         ensures read { (m : List ℕ) → MayBeLive self.new m → out.new ≡ bytes_at m addr (length out.old) }
         ensures asks { Asks (heard self.old.bus) (heard self.new.bus) addr (length out.old) }
     {
-        self.read_short(addr, out);
+        self.read_there(addr, out);
     }
 
     #[inline(always)]

@@ -4,8 +4,8 @@ use Rattle.live_mem.proofs.Spans.{before, behind}
 use Rattle.live_mem.proofs.Keeping.{all_stay, free_stays, keeps_long}
 use Rattle.live_mem.proofs.kept.Kept.keep_long.Goals as goal
 
-pub returns : goal.returns
-returns c =
+pub returns-clause-kept : goal.returns-clause-kept
+returns-clause-kept c =
     let t = c.leave_out.new.self in
     let l : c.push_reserved.new.self.items ≡ t.spans.items ++ record { addr = c.args.addr; start = length t.bytes.items; len = length c.args.out.now; short = c.short_of.result } ∷ [] = search rules in
     let b : c.extend_from_slice.new.self.items ≡ t.bytes.items ++ c.args.out.now = search rules in

@@ -1,15 +1,16 @@
-use Rattle.std.proofs.Common.{◌-◌, arith, sym, cond, length, get_or}
+use Rattle.std.proofs.Common.{◌+◌, ◌-◌, arith, sym, cond, length, get_or}
 use Rattle.live_mem.specs.Access.{spans}
 use Rattle.live_mem.specs.Heard.{heard}
 use Rattle.live_mem.proofs.Keeping.{kept_loaded}
 use Rattle.live_mem.proofs.Reading.{byte_in}
+use Rattle.live_mem.proofs.Spare.{same_room}
 use Rattle.live_mem.proofs.live.LiveMem.read_there.Goals as goal
 
 pub invariant_of-self-clause-faithful : goal.invariant_of-self-clause-faithful
 invariant_of-self-clause-faithful g c =
     let s = c.args.self.now in
     let out = c.put_over.new.out in
-    let k = rw (c.put_over.ensures.spans, c.put_over.ensures.bytes) at c.keep.ensures in
+    let k = rw (c.put_over.ensures.spans, c.put_over.ensures.bytes) at c.keep.ensures.kept in
     λ p d. rw c.load.ensures.heard
     (kept_loaded s.kept.spans.items c.keep.new.self.spans.items s.kept.bytes.items c.keep.new.self.bytes.items c.args.addr out s.kept.all k (heard s.bus) c.load.new.out (sym c.put_over.ensures.len)
     (λ i lt. c.put_over.ensures.over i (omega (arith, lt, c.put_over.ensures.len))) s.faithful p d)
@@ -23,3 +24,7 @@ invariant_of-self-clause-stays_sized g c = λ m e. rw c.load.ensures.heard (c.ar
 
 pub invariant_of-self-clause-bytes_stored : goal.invariant_of-self-clause-bytes_stored
 invariant_of-self-clause-bytes_stored g c = λ m e are. rw c.load.ensures.heard (c.args.self.now.bytes_stored m e are)
+
+pub returns-clause-room : goal.returns-clause-room
+returns-clause-room g c = λ n h.
+    c.keep.ensures.room n (same_room c.args.self.now.kept c.put_over.new.self (n + 1) c.put_over.ensures.spans h)

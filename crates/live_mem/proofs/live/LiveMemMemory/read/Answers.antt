@@ -7,14 +7,14 @@ use Rattle.live_mem.proofs.live.LiveMemMemory.read.Goals as goal
 pub returns-clause-stays : goal.returns-clause-stays
 returns-clause-stays g c = λ m may.
     let s = c.args.self.now in
-    let t = c.read_short.new.self in
-    loads_stays s.size t.size (heard s.bus) (heard t.bus) c.args.addr c.read_short.new.out m c.read_short.ensures.size (rw c.read_short.ensures.len c.requires.inside) c.requires.reading
-    c.read_short.ensures.loads may
+    let t = c.read_there.new.self in
+    loads_stays s.size t.size (heard s.bus) (heard t.bus) c.args.addr c.read_there.new.out m c.read_there.ensures.size (rw c.read_there.ensures.len c.requires.inside) c.requires.reading
+    c.read_there.ensures.loads may
 
 pub returns-clause-read : goal.returns-clause-read
 returns-clause-read g c = λ m may.
     let s = c.args.self.now in
-    let t = c.read_short.new.self in
-    loads_gives s.size t.size (heard s.bus) (heard t.bus) c.args.addr c.read_short.new.out m c.read_short.ensures.size (rw c.read_short.ensures.len c.requires.inside) c.requires.reading
-    c.read_short.ensures.loads may
-    ∙ ap (bytes_at m c.args.addr) c.read_short.ensures.len
+    let t = c.read_there.new.self in
+    loads_gives s.size t.size (heard s.bus) (heard t.bus) c.args.addr c.read_there.new.out m c.read_there.ensures.size (rw c.read_there.ensures.len c.requires.inside) c.requires.reading
+    c.read_there.ensures.loads may
+    ∙ ap (bytes_at m c.args.addr) c.read_there.ensures.len
