@@ -173,8 +173,8 @@ pub(crate) fn walk<M: Memory>(
         (λ fault. SplitFailsOrLacks features m layout.now head fault) }
 {
     let table = Table::of_queue(layout, features);
-    let first = descriptor_at(memory, table.addr, head);
-    let run = match walk_run(draft, memory, &table, head, first, Before::nothing()) {
+    let at_head = descriptor_at(memory, table.addr, head);
+    let run = match walk_run(draft, memory, &table, head, at_head, Before::nothing()) {
         Ok(run) => run,
         Err(fault) => return Err(fault),
     };
