@@ -53,7 +53,7 @@ pub extern "C" fn bus_echo(
     looks: u64,
     echoed: &mut Echoed,
 ) {
-    let Ok(mut memory) = LiveMem::new(alloc, HostBus::new(map), SIZE, 1024, 1 << 20) else {
+    let Ok(mut memory) = LiveMem::new(alloc, HostBus::new(map), SIZE) else {
         return;
     };
     let mut seen = Echoed {

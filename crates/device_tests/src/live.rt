@@ -116,7 +116,7 @@ fn settle_live<M: WritableMemory>(world: &mut LiveWorld<M>) -> Result<u64, NoMem
 /// Serves the first command over a bus to these bytes, and then what the other indices became. Returns how many events
 /// changed something.
 fn settle_over(alloc: Global, bytes: &mut GuestMem) -> Result<u64, Fail> {
-    let memory = LiveMem::new(alloc, RestlessBus { bytes }, SIZE as u64, 64, 4096)?;
+    let memory = LiveMem::new(alloc, RestlessBus { bytes }, SIZE as u64)?;
     let mut live = open(alloc, NUMBERS, memory)?;
     Ok(settle_live(&mut live)?)
 }
@@ -192,13 +192,7 @@ fn takes_memory_of_any_size(rt: HostRuntime) -> Result<(), Fail> {
     };
     let mut bytes = GuestMem::new(rt.alloc(), 1)?;
     let bus = RestlessBus { bytes: &mut bytes };
-    assert!(rt;
-        !is_refused(
-            rt.alloc(),
-            unnamed,
-            LiveMem::new(rt.alloc(), bus, 1 << 52, 0, 0)?
-        )
-    );
+    assert!(rt; !is_refused(rt.alloc(), unnamed, LiveMem::new(rt.alloc(), bus, 1 << 52)?));
     assert!(rt; is_refused(rt.alloc(), NUMBERS, GuestMem::new(rt.alloc(), 1)?));
     Ok(())
 }

@@ -21,11 +21,6 @@ use std::rc::Rc;
 use unit_history::UnitState;
 use world::{Event, LiveWorld, Notify, Served};
 
-/// The number of reads of a phase, and of their bytes, for which room is kept.
-const READS: usize = 4096;
-
-const READ_BYTES: usize = 1 << 20;
-
 /// A device on a memory that its guest changes between two reads of a line, as the script says.
 #[derive(Drop)]
 pub(crate) struct LiveMachine {
@@ -36,17 +31,6 @@ pub(crate) struct LiveMachine {
     changes: Vec<Change>,
     /// The memory during such a line.
     guest: Rc<RefCell<RacingMemory>>,
-}
-
-impl LiveMachine {
-    /// Returns what a call of the device gave. `NoMemory` where its memory ran out while it read.
-    fn seen<T: Drop>(&self, given: Result<T, NoMemory>) -> Result<T, NoMemory> {
-        if self.world.memory().is_blind() {
-            Err(NoMemory)
-        } else {
-            given
-        }
-    }
 }
 
 impl GuestMemory for LiveMachine {
@@ -107,7 +91,7 @@ impl Machine for LiveMachine {
         let bus = RacingBus {
             guest: guest.clone()?,
         };
-        let live = LiveMem::new(alloc, bus, memory.size(), READS, READ_BYTES)?;
+        let live = LiveMem::new(alloc, bus, memory.size())?;
         match LiveWorld::new(alloc, config, live) {
             Ok(world) => Ok(LiveMachine {
                 world,
@@ -145,18 +129,15 @@ impl Machine for LiveMachine {
     }
 
     fn step(&mut self, event: Event) -> Result<bool, NoMemory> {
-        let stepped = self.world.step(event);
-        self.seen(stepped)
+        self.world.step(event)
     }
 
     fn serve(&mut self, most: u64) -> Result<Served, NoMemory> {
-        let served = self.world.serve(EACH_QUEUE, most);
-        self.seen(served)
+        self.world.serve(EACH_QUEUE, most)
     }
 
     fn settle(&mut self) -> Result<u64, NoMemory> {
-        let settled = self.world.settle();
-        self.seen(settled)
+        self.world.settle()
     }
 
     fn ask(&mut self, queue: u16, notify: Notify) -> bool {
