@@ -1,5 +1,5 @@
 -- What a request that is served at once is, by what the calls of its unit answer.
-use Rattle.std.proofs.Common.{◌≡◌, ℕ, ◌+◌, Bool, true, false, List, [], Option, Some, None, length, refl, ap, sym, ◌∙◌, subst, arith}
+use Rattle.std.proofs.Common.{◌≡◌, ◌++◌, ℕ, ◌+◌, Bool, true, false, List, [], Option, Some, None, length, refl, ap, sym, ◌∙◌, subst, arith}
 use Rattle.cdb.specs.declared.commands.Command.{Command}
 use Rattle.cdb.specs.Need.{need_of}
 use Rattle.command_model.specs.Statuses.{good}
@@ -8,8 +8,9 @@ use Rattle.command_model.specs.Inner.PlainReply.{good_data}
 use Rattle.request_intake.specs.declared.answer.ChainLengths.{ChainLengths}
 use Rattle.ring_core.specs.Parts.{readable_total, writable_total}
 use Rattle.ring_core.specs.declared.log.Ticket.{Ticket}
+use Rattle.guest_mem.specs.Stores.{Store}
 use Rattle.ring_core.specs.State.{PlainChain}
-use Rattle.ring_core.specs.Writes.{Wrote, scatter_writes}
+use Rattle.ring_core.specs.Writes.{Write, Wrote, scatter_writes, stores_of}
 use Rattle.ring_core.specs.Offer.{used_writes}
 use Rattle.unit_model.specs.Endings.{Ending, answer_of}
 use Rattle.unit_model.specs.Steps.{Step}
@@ -28,12 +29,15 @@ use Rattle.phases.specs.Units.{EntersAs, Commits, Leaves}
 use Rattle.phases.specs.DoingUnit.{with_more}
 use Rattle.phases.specs.Inner.Serving.{Serves}
 use Rattle.phases.specs.InMemory.{EachSeen}
+use Rattle.phases.specs.Direct.{decided_writes}
 use Rattle.phases.specs.Inner.Outcomes.{WritesWholeIn}
+use Rattle.phases.specs.Inner.Stored.{ending_writes}
 use Rattle.phases.specs.Inner.ServingInMemory.{ServesAtOnceIn, ServesIn}
 use Rattle.phases.proofs.Answered.{AnswersJob, answers_job, answers_own, both_lengths}
 use Rattle.phases.proofs.Behind.{each_read, each_maps}
 use Rattle.phases.proofs.Commits.{committed}
 use Rattle.phases.proofs.Enters.{runs, with_none}
+use Rattle.phases.proofs.Stored.{answer_stored}
 
 -- what came of the commit
 abbrev came : answers.Outcome → Outcome
@@ -48,12 +52,12 @@ commits x u v what c =
     (d, of, does, ap (λ (e : Ending). Hand.Done x (Outcome.Ended e)) ends)
 
 -- all of it
-all : (shared : Bool) (x : PlainJob) (u v z u' : PlainUnit) (q q' : BareQueue) (found left seen : List ℕ) (out out' : Jobs)
+all : (shared : Bool) (stored : List Write → Type 0) (x : PlainJob) (u v z u' : PlainUnit) (q q' : BareQueue) (found left seen : List ℕ) (out out' : Jobs)
     (gone : Bool) (what : answers.Outcome) → calls.Enters u x (entered.Run x) v → calls.Commits v x what z
-    → AnswersJob shared x (ending_of what) q q' found left seen
+    → AnswersJob shared x (ending_of what) q q' found left seen → stored (decided_writes q.ring x.chain (came what))
     → Leaves (Hand.Answered x.unit x.chain.ticket) z out gone u' Hand.Empty out'
-    → ServesAtOnceIn shared x u q found out gone u' q' left seen out'
-all shared x u v z u' q q' found left seen out out' gone what enters ran answered leaves =
+    → ServesAtOnceIn shared stored x u q found out gone u' q' left seen out'
+all shared stored x u v z u' q q' found left seen out out' gone what enters ran answered made leaves =
     record {
       entered = v;
       committed = z;
@@ -61,44 +65,49 @@ all shared x u v z u' q q' found left seen out out' gone what enters ran answere
       enters = λ list. runs x u v list x enters;
       commits = commits x v z what ran;
       answers = answered;
+      stores = made;
       leaves = leaves;
     }
 
 -- the same of the job that the unit handed out, which is the request's, and of the ticket that was used
-served_so : (shared : Bool) (x y : PlainJob) (t : Ticket) (u v z u' : PlainUnit) (q q' : BareQueue) (found left seen : List ℕ)
+served_so : (shared : Bool) (stored : List Write → Type 0) (x y : PlainJob) (t : Ticket) (u v z u' : PlainUnit) (q q' : BareQueue) (found left seen : List ℕ)
     (out out' : Jobs) (gone : Bool) (what : answers.Outcome) → calls.Enters u x (entered.Run y) v → calls.Commits v y what z
     → t ≡ y.chain.ticket → AnswersJob shared y (ending_of what) q q' found left seen
+    → stored (decided_writes q.ring y.chain (came what))
     → ((place : ℕ) → Leaves (Hand.Answered place t) z out gone u' Hand.Empty out')
-    → ServesAtOnceIn shared x u q found out gone u' q' left seen out'
-served_so shared x y t u v z u' q q' found left seen out out' gone what enters ran used answered leaves =
+    → ServesAtOnceIn shared stored x u q found out gone u' q' left seen out'
+served_so shared stored x y t u v z u' q q' found left seen out out' gone what enters ran used answered made leaves =
     let is : y ≡ x = enters.0 in
     let enters_y = subst (λ j. calls.Enters u j (entered.Run y) v) (sym is) enters in
     let leaves_y = subst (λ k. Leaves (Hand.Answered y.unit k) z out gone u' Hand.Empty out') used (leaves y.unit) in
-    subst (λ j. ServesAtOnceIn shared j u q found out gone u' q' left seen out') is
-    (all shared y u v z u' q q' found left seen out out' gone what enters_y ran answered leaves_y)
+    subst (λ j. ServesAtOnceIn shared stored j u q found out gone u' q' left seen out') is
+    (all shared stored y u v z u' q q' found left seen out out' gone what enters_y ran answered made leaves_y)
 
-pub served : (shared : Bool) (x y : PlainJob) (t : Ticket) (u v z u' : PlainUnit) (q q' : BareQueue)
+pub served : (shared : Bool) (stored : List Write → Type 0) (x y : PlainJob) (t : Ticket) (u v z u' : PlainUnit) (q q' : BareQueue)
     (before after : List ℕ → Type 0) (s : Slot) (out out' : Jobs) (gone : Bool) (what : answers.Outcome)
     → calls.Enters u x (entered.Run y) v → calls.Commits v y what z → t ≡ y.chain.ticket
     → EachSeen shared before after (AnswersJob shared y (ending_of what) q q')
+    → stored (decided_writes q.ring y.chain (came what))
     → ((place : ℕ) → Leaves (Hand.Answered place t) z out gone u' Hand.Empty out')
-    → EachSeen shared before after (λ found left seen. ServesIn shared x u q found s out (Some gone) u' q' left seen s out')
-served shared x y t u v z u' q q' before after s out out' gone what enters ran used answered leaves =
+    → EachSeen shared before after
+    (λ found left seen. ServesIn shared stored x u q found s out (Some gone) u' q' left seen s out')
+served shared stored x y t u v z u' q q' before after s out out' gone what enters ran used answered made leaves =
     each_maps shared before after (AnswersJob shared y (ending_of what) q q')
-    (λ found left seen. ServesIn shared x u q found s out (Some gone) u' q' left seen s out')
+    (λ found left seen. ServesIn shared stored x u q found s out (Some gone) u' q' left seen s out')
     (λ found left seen is told. (
-      served_so shared x y t u v z u' q q' found left seen out out' gone what enters ran used told leaves,
+      served_so shared stored x y t u v z u' q q' found left seen out out' gone what enters ran used told made leaves,
       refl,
     )) answered
 
 -- the request only entered, or was refused
-pub only_entered : (shared : Bool) (x : PlainJob) (u u' : PlainUnit) (q : BareQueue) (may : List ℕ → Type 0) (s s' : Slot)
-    (out : Jobs) → ((list : Jobs) → EntersAs x u list u' s' list)
-    → EachSeen shared may may (λ found left seen. ServesIn shared x u q found s out None u' q left seen s' out)
-only_entered shared x u u' q may s s' out enters =
-    each_read shared may may (λ found left seen. ServesIn shared x u q found s out None u' q left seen s' out)
+pub only_entered : (shared : Bool) (stored : List Write → Type 0) (x : PlainJob) (u u' : PlainUnit) (q : BareQueue)
+    (may : List ℕ → Type 0) (s s' : Slot) (out : Jobs) → stored [] → ((list : Jobs) → EntersAs x u list u' s' list)
+    → EachSeen shared may may (λ found left seen. ServesIn shared stored x u q found s out None u' q left seen s' out)
+only_entered shared stored x u u' q may s s' out none enters =
+    each_read shared may may (λ found left seen. ServesIn shared stored x u q found s out None u' q left seen s' out)
     (λ m stood. stood)
-    (λ m stood. record { enters = enters; at_queue = record { queue = refl; memory = refl; seen = refl }; jobs = refl })
+    (λ m stood.
+    record { enters = enters; at_queue = record { queue = refl; memory = refl; seen = refl }; stores = none; jobs = refl })
 
 -- a job leaves its unit, where no other waits
 left_alone : (u u' : PlainUnit) (place : ℕ) (t : Ticket) (out : Jobs) → u.parked ≡ [] → Steps u (Step.Leave t) u'
@@ -111,25 +120,34 @@ left_alone u u' place t out none step =
     )
 
 -- all of it in one call of the unit but for the use of the chain, which follows
-pub served_alone : (shared : Bool) (x : PlainJob) (u u' : PlainUnit) (q q' : BareQueue) (before middle after : List ℕ → Type 0)
-    (len : ℕ) (c : PlainChain) (s : Slot) (out : Jobs) → ServesAlone (λ e. WritesWholeIn x e before len middle) u x u'
+pub served_alone : {S : Type 0} (storing : S → List Store → S)
+    (both : (s : S) (a b : List Store) → storing (storing s a) b ≡ storing s (a ++ b)) (s₁ s₂ s₃ : S)
+    (shared : Bool) (x : PlainJob) (u u' : PlainUnit) (q q' : BareQueue) (before middle after : List ℕ → Type 0)
+    (len : ℕ) (c : PlainChain) (s : Slot) (out : Jobs)
+    → ServesAlone (λ e. WritesWholeIn x e before len middle × (s₂ ≡ storing s₁ (stores_of (ending_writes x e)))) u x u'
     → c ≡ x.chain → SeenBehind shared middle after (used_writes q.ring c.id len)
-    → ((m : List ℕ) → after m → q' ≡ completing m c q)
-    → EachSeen shared before after (λ found left seen. ServesIn shared x u q found s out (Some true) u' q' left seen s out)
-served_alone shared x u u' q q' before middle after len c s out alone chain used queue =
-    each_maps shared before after (AnswersJob shared x (ending_of alone.outcome) q q')
-    (λ found left seen. ServesIn shared x u q found s out (Some true) u' q' left seen s out)
+    → ((m : List ℕ) → after m → q' ≡ completing m c q) → s₃ ≡ storing s₂ (stores_of (used_writes q.ring c.id len))
+    → EachSeen shared before after
+    (λ found left seen. ServesIn shared (λ ws. s₃ ≡ storing s₁ (stores_of ws)) x u q found s out (Some true) u' q' left seen s out)
+served_alone {S} storing both s₁ s₂ s₃ shared x u u' q q' before middle after len c s out alone chain used queue more =
+    let stored : List Write → Type 0 = λ ws. s₃ ≡ storing s₁ (stores_of ws) in
+    let e = ending_of alone.outcome in
+    let made : stored (decided_writes q.ring x.chain (came alone.outcome)) =
+    answer_stored storing both s₁ s₂ s₃ q.ring x.chain c (answer_of (lengths_of x.chain) e) len alone.answered.1 chain
+    alone.answered.0.written more in
+    each_maps shared before after (AnswersJob shared x e q q')
+    (λ found left seen. ServesIn shared stored x u q found s out (Some true) u' q' left seen s out)
     (λ found left seen is answered. (
-      all shared x u alone.once_entered alone.once_run u' q q' found left seen out out true alone.outcome alone.enters
-          alone.commits answered (left_alone alone.once_run u' x.unit x.chain.ticket out alone.alone alone.leaves),
+      all shared stored x u alone.once_entered alone.once_run u' q q' found left seen out out true alone.outcome alone.enters
+          alone.commits answered made (left_alone alone.once_run u' x.unit x.chain.ticket out alone.alone alone.leaves),
       refl,
     ))
-    (answers_job shared x (ending_of alone.outcome) q q' before middle after len c alone.answered chain used queue)
+    (answers_job shared x e q q' before middle after len c alone.answered.0 chain used queue)
 
 -- a request that is served in such a memory
-pub serves_own : (x : PlainJob) (u u' : PlainUnit) (q q' : BareQueue) (m m' n : List ℕ) (s s' : Slot) (out out' : Jobs)
-    (r : Option Bool) → ServesIn false x u q m s out r u' q' m' n s' out' → Serves x u q m s out r u' q' m' s' out'
-serves_own x u u' q q' m m' n s s' out out' (Some gone) (at_once, slot) = (
+pub serves_own : (stored : List Write → Type 0) (x : PlainJob) (u u' : PlainUnit) (q q' : BareQueue) (m m' n : List ℕ) (s s' : Slot) (out out' : Jobs)
+    (r : Option Bool) → ServesIn false stored x u q m s out r u' q' m' n s' out' → Serves x u q m s out r u' q' m' s' out'
+serves_own stored x u u' q q' m m' n s s' out out' (Some gone) (at_once, slot) = (
   record {
     entered = at_once.entered;
     committed = at_once.committed;
@@ -141,7 +159,7 @@ serves_own x u u' q q' m m' n s s' out out' (Some gone) (at_once, slot) = (
   },
   slot,
 )
-serves_own x u u' q q' m m' n s s' out out' None enters =
+serves_own stored x u u' q q' m m' n s s' out out' None enters =
     record {
       enters = enters.enters;
       queue = enters.at_queue.queue;
@@ -169,3 +187,14 @@ pub read_as : (command : Command) (bytes : List ℕ) → (need_of command).out �
 read_as command bytes none =
     let moved : length bytes ≡ (need_of command).out + length bytes = omega (arith, none) in
     ap (λ (k : ℕ). record { status = good; sense = None; payload = bytes; moved = k }) moved
+
+-- and they were stored
+pub stores_whole : {S : Type 0} (storing : S → List Store → S) (s₁ s₂ : S) (x : PlainJob) (e : Ending) (n : ChainLengths)
+    (c : PlainChain) → n.readable ≡ readable_total x.chain.parts → n.writable ≡ writable_total x.chain.parts → c ≡ x.chain
+    → s₂ ≡ storing s₁ (stores_of (scatter_writes c.parts 0 (answer_of n e)))
+    → s₂ ≡ storing s₁ (stores_of (ending_writes x e))
+stores_whole {S} storing s₁ s₂ x e n c readable writable chain made =
+    let whole : n ≡ lengths_of x.chain = both_lengths n (readable_total x.chain.parts) (writable_total x.chain.parts)
+    readable writable in
+    made ∙ ap (λ (d : PlainChain). storing s₁ (stores_of (scatter_writes d.parts 0 (answer_of n e)))) chain
+    ∙ ap (λ (k : ChainLengths). storing s₁ (stores_of (scatter_writes x.chain.parts 0 (answer_of k e)))) whole

@@ -2,6 +2,7 @@
 
 ghost use Rattle.std.specs.Prelude.{◌≡◌, ◌≤◌, List, ℕ, length, true, IfSome, IfNone};
 ghost use Rattle.ring_core.specs.State.{Owns};
+ghost use Rattle.ring_core.specs.Writes.{stores_of};
 ghost use Rattle.device_model.specs.Parts as plain;
 ghost use Rattle.phases.specs.DoingUnit.{HasPlaces};
 ghost use Rattle.phases.specs.Slots.{slot_of};
@@ -11,6 +12,8 @@ ghost use Rattle.phases.specs.Inner.InMemory.{AnswersIn};
 ghost use Rattle.phases.specs.Inner.Serving.{Serves};
 ghost use Rattle.phases.specs.Inner.ServingInMemory.{ServesIn};
 ghost use Rattle.phases.specs.Inner.Outcomes.{WritesWholeIn};
+ghost use Rattle.phases.specs.Inner.Stored.{ending_writes};
+ghost use Rattle.phases.specs.Direct.{decided_writes};
 ghost use Rattle.unit_history.specs.Endings.{ending_of, FitsNeed};
 ghost use Rattle.unit_history.specs.Serving.{ServesAlone};
 ghost use Rattle.cdb.specs.Need.{need_of};
@@ -33,6 +36,8 @@ fn write_job<M: WritableMemory>(memory: &mut M, job: &Job, outcome: &Outcome) ->
     requires fits { M.extent memory.old ≡ job.now.chain.memory }
     requires payload { FitsNeed (need_of job.now.entry.command).into outcome.now }
     ensures written { WritesWholeIn job.now (ending_of outcome.now) (M.may_be memory.old) result (M.may_be memory.new) }
+    ensures stores { M.stored memory.new
+        ≡ M.storing (M.stored memory.old) (stores_of (ending_writes job.now (ending_of outcome.now))) }
     ensures size { M.extent memory.new ≡ M.extent memory.old }
 {
     write_outcome(memory, job.chain(), &job.lengths(), outcome)
@@ -53,6 +58,8 @@ fn answer_job<M: WritableMemory>(
     ensures answers { EachSeen M.shared (M.may_be memory.old) (M.may_be memory.new)
         (λ found left seen. AnswersIn M.shared (plain.Hand.Done job (plain.Outcome.Ended (ending_of outcome.now)))
         queue.old found true queue.new left seen (plain.Hand.Answered job.unit job.chain.ticket)) }
+    ensures stores { M.stored memory.new ≡ M.storing (M.stored memory.old)
+        (stores_of (decided_writes queue.old.ring job.chain (plain.Outcome.Ended (ending_of outcome.now)))) }
     ensures size { M.extent memory.new ≡ M.extent memory.old }
     ensures reading { M.is_open memory.new }
     ensures room { M.has_room memory.new 60 }
@@ -74,7 +81,8 @@ impl<'a, M: WritableMemory> Answering for Answer<'a, M> {
     // It has the same memory afterwards.
     ghost answers = { λ s x e t. (t.memory.ghost_name ≡ s.memory.ghost_name)
         × (M.extent t.memory.now ≡ M.extent s.memory.now)
-        × WritesWholeIn x e (M.may_be s.memory.now) t.len (M.may_be t.memory.now) };
+        × WritesWholeIn x e (M.may_be s.memory.now) t.len (M.may_be t.memory.now)
+        × (M.stored t.memory.now ≡ M.storing (M.stored s.memory.now) (stores_of (ending_writes x e))) };
 
     #[inline(always)]
     fn answer(&mut self, arrival: &Arrival, ran: &Result<Reply, NoMemory>) {
@@ -110,7 +118,8 @@ fn serve_alone<M: WritableMemory>(
 ) -> Option<u32>
     requires fits { M.extent memory.old ≡ arrival.now.chain.memory }
     ensures serves { IfSome result (λ len.
-        ServesAlone (λ e. WritesWholeIn arrival.now e (M.may_be memory.old) len (M.may_be memory.new))
+        ServesAlone (λ e. WritesWholeIn arrival.now e (M.may_be memory.old) len (M.may_be memory.new)
+        × (M.stored memory.new ≡ M.storing (M.stored memory.old) (stores_of (ending_writes arrival.now e))))
         unit.old arrival.now unit.new) }
     ensures size { M.extent memory.new ≡ M.extent memory.old }
     ensures same { IfNone result ((unit.new ≡ unit.old) × (memory.new ≡ memory.old)) }
@@ -138,7 +147,9 @@ fn serve_by_steps<M: WritableMemory>(
     requires places { HasPlaces out.old }
     requires empty { slot_of slot.old ≡ plain.Slot.Empty }
     ensures serves { EachSeen M.shared (M.may_be memory.old) (M.may_be memory.new)
-        (λ found left seen. ServesIn M.shared arrival unit.old queue.old found (slot_of slot.old) out.old result
+        (λ found left seen. ServesIn M.shared
+        (λ ws. M.stored memory.new ≡ M.storing (M.stored memory.old) (stores_of ws))
+        arrival unit.old queue.old found (slot_of slot.old) out.old result
         unit.new queue.new left seen (slot_of slot.new) out.new) }
     ensures size { M.extent memory.new ≡ M.extent memory.old }
     ensures reading { M.is_open memory.old → M.is_open memory.new }
@@ -194,7 +205,8 @@ pub fn serve_request(
 }
 
 /// Brings a request to its unit in any memory, as [`serve_request`] does. Where it uses the chain, it begins a new phase
-/// of the memory behind that.
+/// of the memory behind that. What was stored are the bytes that answer the request, and then its used entry. Where
+/// it isn't answered, nothing was stored.
 #[inline(always)]
 pub fn serve_request_in<M: WritableMemory>(
     unit: &mut UnitState,
@@ -209,7 +221,9 @@ pub fn serve_request_in<M: WritableMemory>(
     requires places { HasPlaces out.old }
     requires empty { slot_of slot.old ≡ plain.Slot.Empty }
     ensures serves { EachSeen M.shared (M.may_be memory.old) (M.may_be memory.new)
-        (λ found left seen. ServesIn M.shared arrival unit.old queue.old found (slot_of slot.old) out.old result
+        (λ found left seen. ServesIn M.shared
+        (λ ws. M.stored memory.new ≡ M.storing (M.stored memory.old) (stores_of ws))
+        arrival unit.old queue.old found (slot_of slot.old) out.old result
         unit.new queue.new left seen (slot_of slot.new) out.new) }
     ensures size { M.extent memory.new ≡ M.extent memory.old }
     ensures reading { M.is_open memory.old → M.is_open memory.new }

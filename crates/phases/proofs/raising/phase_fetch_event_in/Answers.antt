@@ -1,7 +1,8 @@
-use Rattle.std.proofs.Common.{◌≡◌, ◌||◌, ◌∙◌, true, Ok, List, [], ap, refl}
+use Rattle.std.proofs.Common.{◌≡◌, ◌||◌, ◌∙◌, true, Ok, Err, List, [], ap, refl}
 use Rattle.device_model.specs.Parts.{is_short}
 use Rattle.device_model.specs.Transitions.{Transition}
 use Rattle.ring_core.specs.Writes.{Write, stores_of}
+use Rattle.virtqueue.specs.declared.queue.Fetch.TheVariants as look
 use Rattle.phases.specs.Queue.{with_slot}
 use Rattle.phases.specs.Slots.{slot_of}
 use Rattle.phases.specs.Inner.EventsInMemory.{FetchesEventIn}
@@ -64,3 +65,47 @@ returns-in-Ok-Got-clause-fetches g c = λ seen may.
         ),
       ),
     )
+
+pub returns-in-Ok-Got-clause-once : goal.returns-in-Ok-Got-clause-once
+returns-in-Ok-Got-clause-once g c =
+    record {
+      read = c.fetch_at_port.new.memory;
+      looked = Ok (look.Got c.in-Ok-Got.fetched);
+      fetched = c.fetch_at_port.new.queue;
+      stays = c.fetch_at_port.ensures.stays;
+      looks = rw c.in-Ok-Got.field-0-is at c.in-Ok-Got.ensures.looks;
+      follows = (refl, c.take_buffer.ensures.takes);
+    }
+
+pub returns-in-Ok-Broke-clause-once : goal.returns-in-Ok-Broke-clause-once
+returns-in-Ok-Broke-clause-once g c =
+    record {
+      read = c.fetch_at_port.new.memory;
+      looked = Ok look.Broke;
+      fetched = c.fetch_at_port.new.queue;
+      stays = c.fetch_at_port.ensures.stays;
+      looks = rw c.in-Ok-Broke.field-0-is at c.in-Ok-Broke.ensures.looks;
+      follows = (refl, refl, refl, λ m may. may);
+    }
+
+pub returns-in-Ok-Idle-clause-once : goal.returns-in-Ok-Idle-clause-once
+returns-in-Ok-Idle-clause-once g c =
+    record {
+      read = c.fetch_at_port.new.memory;
+      looked = Ok look.Idle;
+      fetched = c.fetch_at_port.new.queue;
+      stays = c.fetch_at_port.ensures.stays;
+      looks = rw c.in-Ok-Idle.field-0-is at c.in-Ok-Idle.ensures.looks;
+      follows = (refl, refl, refl, λ m may. may);
+    }
+
+pub returns-in-Err-clause-once : goal.returns-in-Err-clause-once
+returns-in-Err-clause-once g c =
+    record {
+      read = c.fetch_at_port.new.memory;
+      looked = Err c.in-Err.field-0;
+      fetched = c.fetch_at_port.new.queue;
+      stays = c.fetch_at_port.ensures.stays;
+      looks = c.in-Err.ensures.looks;
+      follows = (refl, refl, refl, λ m may. may);
+    }

@@ -1,16 +1,20 @@
-use Rattle.std.proofs.Common.{refl, subst}
+use Rattle.std.proofs.Common.{◌≡◌, refl, subst}
+use Rattle.ring_core.specs.Writes.{stores_of}
 use Rattle.command_model.specs.PlainReply.{PlainReply}
 use Rattle.command_model.specs.Inner.PlainReply.{good_data}
 use Rattle.unit_model.specs.Endings.{Ending}
 use Rattle.phases.specs.Inner.Outcomes.{WritesWholeIn}
-use Rattle.phases.proofs.AtOnce.{writes_whole, read_as}
+use Rattle.phases.specs.Inner.Stored.{ending_writes}
+use Rattle.phases.proofs.AtOnce.{writes_whole, stores_whole, read_as}
 use Rattle.phases.proofs.serving.AnswerAnswering.answer_read.Goals as goal
 
 pub returns : goal.returns
 returns g c =
     let data_in = c.args.data.now in
     let before = g.M.Memory.may_be c.args.self.now.memory.now in
-    let after = g.M.Memory.may_be c.write_read-self.new.memory in (
+    let after = g.M.Memory.may_be c.write_read-self.new.memory in
+    let earlier = g.M.Memory.stored c.args.self.now.memory.now in
+    let later = g.M.Memory.stored c.write_read-self.new.memory in (
       refl,
       c.write_read-self.ensures.size,
       subst (λ (r : PlainReply). WritesWholeIn c.args.arrival.now (Ending.Replied r) before c.write_read-self.result after)
@@ -18,4 +22,10 @@ returns g c =
           (writes_whole c.args.arrival.now (Ending.Replied (good_data data_in)) c.lengths.result c.chain.result.now before after
           c.write_read-self.result c.lengths.ensures.readable c.lengths.ensures.writable c.chain.ensures
           c.write_read-self.ensures.written c.write_read-self.ensures.memory),
+      subst (λ (r : PlainReply).
+          later ≡ g.M.Memory.storing earlier (stores_of (ending_writes c.args.arrival.now (Ending.Replied r))))
+          (read_as c.args.arrival.now.entry.command data_in c.requires.sends)
+          (stores_whole g.M.Memory.storing earlier later c.args.arrival.now (Ending.Replied (good_data data_in)) c.lengths.result
+          c.chain.result.now c.lengths.ensures.readable c.lengths.ensures.writable c.chain.ensures
+          c.write_read-self.ensures.stores),
     )
