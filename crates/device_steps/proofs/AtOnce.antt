@@ -1,14 +1,15 @@
 -- A request that is served at once: seven events, each the first that applies, one after another.
-use Rattle.std.proofs.Common.{◌≡◌, ◌≤◌, ◌<◌, ◌+◌, ◌*◌, ℕ, zero, suc, Bool, true, false, List, [], ◌∷◌, length, Option, Some, None, Ok, refl, sym, ap, ◌∙◌, subst, inl, inr, arith}
+use Rattle.std.proofs.Common.{◌≡◌, ◌≤◌, ◌<◌, ◌+◌, ◌*◌, ℕ, zero, suc, Bool, true, false, List, [], ◌∷◌, length, Option, Some, None, Ok, refl, sym, ap, ◌∙◌, ◌++◌, subst, inl, inr, append-nil, arith}
 use Rattle.std.specs.Prelude.{slice_get, slice_set, map, drop, ⊤}
 use Rattle.std.specs.List.{AllByRecursion}
 use Rattle.std.proofs.lemmas.Option.{slice_get_within}
+use Rattle.ring_core.specs.Writes.{Write}
 use Rattle.unit_model.specs.Jobs.{PlainJob, Jobs}
 use Rattle.unit_model.specs.Unit.{PlainUnit}
 use Rattle.device_model.specs.Parts.{Slot, Hand}
 use Rattle.device_model.specs.World.{PlainQueue, PlainWorld, Seat, Everywhere, IsBefore, change}
 use Rattle.device_model.specs.Events.{Event}
-use Rattle.device_model.specs.Transitions.{Transition, event_of, completion_of}
+use Rattle.device_model.specs.Transitions.{Transition, event_of, action_of, completion_of}
 use Rattle.device_model.specs.Waking.{IsFetch}
 use Rattle.device_model.specs.Changing.{slotted, with_job}
 use Rattle.device_model.specs.Applies.{Applies}
@@ -29,8 +30,8 @@ use Rattle.device_steps.specs.Kept.{KeptSeat, seat_of}
 use Rattle.device_steps.specs.Sound.{IsWhole}
 use Rattle.device_steps.specs.Inner.Sound.{AreSound, IsSound}
 use Rattle.device_steps.specs.Settling.{ServesBy}
-use Rattle.device_steps.specs.Serving.{IsNoticedBy, TakesNoChain, FollowsSeen}
-use Rattle.device_steps.specs.Inner.Cursors.{MayServe, served_of, StepsNext, Sees, TurnsBy, TurnsFirst, NoneBefore, NoneBeforeFetch, NoFetchBelow, NoSeat, NoEnter, NoSeatBelow}
+use Rattle.device_steps.specs.Serving.{IsNoticedBy, TakesNoChain, FollowsSeen, writes_by}
+use Rattle.device_steps.specs.Inner.Cursors.{MayServe, served_of, StepsNext, Sees, IsNone, TurnsBy, TurnsFirst, NoneBefore, NoneBeforeFetch, NoFetchBelow, NoSeat, NoEnter, NoSeatBelow}
 use Rattle.device_steps.specs.declared.cursor.Cursor.{Cursor}
 use Rattle.device_steps.specs.declared.cursor.Cursor.TheVariants as cursor
 use Rattle.device_steps.proofs.Placing.{everywhere_set}
@@ -99,9 +100,11 @@ set_all w m i q p u kept s =
 
 -- What follows a chain that was taken
 
--- a transition that takes no chain; by this memory the notice of what it completes is decided
-abbrev Follows : List ℕ → Transition → Type 0
-Follows seen t = IsNoticedBy seen (completion_of t) × TakesNoChain t
+-- a transition that takes no chain and writes nothing; by this memory the notice of what it completes is decided
+record Follows (seen : List ℕ) (t : Transition) : Type 0 where
+  notice : IsNoticedBy seen (completion_of t)
+  no_chain : TakesNoChain t
+  unwritten : IsNone (action_of t).writes
 
 -- events that need no memory complete nothing
 quiet : (t : Transition) → NeedsNone (event_of t) → completion_of t ≡ None
@@ -111,6 +114,15 @@ quiet (Transition.Answer k x o xs) none = absurd none
 quiet (Transition.Respond c r xs) none = absurd none
 quiet (Transition.Give r c xs) none = absurd none
 quiet t none = refl
+
+unwritten : (t : Transition) → NeedsNone (event_of t) → IsNone (action_of t).writes
+unwritten (Transition.UseBuffer f xs) none = absurd none
+unwritten (Transition.Direct c o xs) none = absurd none
+unwritten (Transition.Answer k x o xs) none = absurd none
+unwritten (Transition.Respond c r xs) none = absurd none
+unwritten (Transition.Give r c xs) none = absurd none
+unwritten (Transition.Poke x) none = absurd none
+unwritten t none = refl
 
 no_fetch : (e : Event) → NeedsNone e → IsFetch e → ⊥
 no_fetch (Event.Fetch i) none is = absurd none
@@ -124,7 +136,11 @@ by_quiet seen w e w' none t =
       t.1,
       t.2,
       t.3,
-      (subst (λ o. IsNoticedBy seen o) (sym (quiet t.0 needs)) tt, λ is. no_fetch (event_of t.0) needs is),
+      record {
+        notice = subst (λ o. IsNoticedBy seen o) (sym (quiet t.0 needs)) tt;
+        no_chain = λ is. no_fetch (event_of t.0) needs is;
+        unwritten = unwritten t.0 needs;
+      },
     )
 
 no_answer : (k : ℕ) → IsFetch (Event.Answer k) → ⊥
@@ -135,50 +151,70 @@ record Followed (asked : ℕ → Bool) (seen : List ℕ) (w : PlainWorld) (n : �
   serves : ServesBy asked w n v
   each : AllByRecursion (λ t. IsNoticedBy seen (completion_of t)) serves.transitions
   no_chain : AllByRecursion TakesNoChain serves.transitions
+  unwritten : IsNone (writes_by serves.transitions)
 
 followed_none : (asked : ℕ → Bool) (seen : List ℕ) (w : PlainWorld) → Followed asked seen w 0 w
-followed_none asked seen w = record { serves = serves_none asked w; each = tt; no_chain = tt }
+followed_none asked seen w = record { serves = serves_none asked w; each = tt; no_chain = tt; unwritten = refl }
+
+none_more : (us ws : List Write) → IsNone us → IsNone ws → IsNone (us ++ ws)
+none_more us ws none none' = ap (λ (xs : List Write). xs ++ ws) none ∙ none'
 
 followed_next : (asked : ℕ → Bool) (seen : List ℕ) (w v : PlainWorld) (n : ℕ) (c : Cursor) (u : PlainWorld)
     → Followed asked seen w n v → StepsNext asked (Follows seen) v c u → Followed asked seen w (n + 1) u
 followed_next asked seen w v n c u h t =
+    let q = t.5 in
     record {
       serves = serves_next asked (Follows seen) w v n c u h.serves t;
-      each = (t.5.0, h.each);
-      no_chain = (t.5.1, h.no_chain);
+      each = (q.notice, h.each);
+      no_chain = (q.no_chain, h.no_chain);
+      unwritten = none_more (writes_by h.serves.transitions) (action_of t.0).writes h.unwritten q.unwritten;
     }
 
 -- one that is seen besides
-abbrev SeenToo : List ℕ → List ℕ → Transition → Type 0
-SeenToo left seen t = Sees left seen t × TakesNoChain t
+record SeenToo (stored : List Write → Type 0) (left seen : List ℕ) (t : Transition) : Type 0 where
+  sees : Sees stored left seen t
+  no_chain : TakesNoChain t
 
-followed_seen : (asked : ℕ → Bool) (seen : List ℕ) (w v : PlainWorld) (n : ℕ) (c : Cursor) (u : PlainWorld)
-    → Followed asked seen w n v → StepsNext asked (SeenToo u.memory seen) v c u → FollowsSeen asked seen w (n + 1) u
-followed_seen asked seen w v n c u h t =
+-- behind what wrote nothing, its writes are all
+all_writes : (stored : List Write → Type 0) (us ws : List Write) → IsNone us → stored ws → stored (us ++ ws)
+all_writes stored us ws none made = subst stored (sym (ap (λ (xs : List Write). xs ++ ws) none)) made
+
+followed_seen : (asked : ℕ → Bool) (stored : List Write → Type 0) (seen : List ℕ) (w v : PlainWorld) (n : ℕ) (c : Cursor)
+    (u : PlainWorld) → Followed asked seen w n v → StepsNext asked (SeenToo stored u.memory seen) v c u
+    → FollowsSeen asked stored seen w (n + 1) u
+followed_seen asked stored seen w v n c u h t =
+    let q = t.5 in
     record {
-      serves = serves_next asked (SeenToo u.memory seen) w v n c u h.serves t;
+      serves = serves_next asked (SeenToo stored u.memory seen) w v n c u h.serves t;
       notices = record {
-        each = (noticed u.memory seen (completion_of t.0) t.5.0, h.each);
-        none = λ all. seen_left u.memory seen (completion_of t.0) t.5.0 all.0;
+        each = (noticed u.memory seen (completion_of t.0) q.sees.sees, h.each);
+        none = λ all. seen_left u.memory seen (completion_of t.0) q.sees.sees all.0;
       };
-      no_chain = (t.5.1, h.no_chain);
+      stores = all_writes stored (writes_by h.serves.transitions) (action_of t.0).writes h.unwritten q.sees.stores;
+      no_chain = (q.no_chain, h.no_chain);
     }
 
+-- and where none follows, the writes are those of before
+no_more : (stored : List Write → Type 0) (us ws : List Write) → IsNone ws → stored us → stored (us ++ ws)
+no_more stored us ws none made = subst stored (sym (ap (λ (xs : List Write). us ++ xs) none ∙ append-nil us)) made
+
 -- and one behind it that leaves memory as it was
-followed_behind : (asked : ℕ → Bool) (seen : List ℕ) (w v : PlainWorld) (n : ℕ) (c : Cursor) (u : PlainWorld)
-    → FollowsSeen asked seen w n v → u.memory ≡ v.memory → StepsNext asked (Follows seen) v c u
-    → FollowsSeen asked seen w (n + 1) u
-followed_behind asked seen w v n c u h kept t =
+followed_behind : (asked : ℕ → Bool) (stored : List Write → Type 0) (seen : List ℕ) (w v : PlainWorld) (n : ℕ) (c : Cursor)
+    (u : PlainWorld) → FollowsSeen asked stored seen w n v → u.memory ≡ v.memory → StepsNext asked (Follows seen) v c u
+    → FollowsSeen asked stored seen w (n + 1) u
+followed_behind asked stored seen w v n c u h kept t =
+    let q = t.5 in
     record {
       serves = serves_next asked (Follows seen) w v n c u h.serves t;
-      notices = record { each = (t.5.0, h.notices.each); none = λ all. h.notices.none all.1 ∙ sym kept };
-      no_chain = (t.5.1, h.no_chain);
+      notices = record { each = (q.notice, h.notices.each); none = λ all. h.notices.none all.1 ∙ sym kept };
+      stores = no_more stored (writes_by h.serves.transitions) (action_of t.0).writes q.unwritten h.stores;
+      no_chain = (q.no_chain, h.no_chain);
     }
 
 -- the same device, by another name
-follows_at : (asked : ℕ → Bool) (seen : List ℕ) (w : PlainWorld) (n : ℕ) (v u : PlainWorld) → v ≡ u
-    → FollowsSeen asked seen w n v → FollowsSeen asked seen w n u
-follows_at asked seen w n v u is h = subst (λ z. FollowsSeen asked seen w n z) is h
+follows_at : (asked : ℕ → Bool) (stored : List Write → Type 0) (seen : List ℕ) (w : PlainWorld) (n : ℕ) (v u : PlainWorld) → v ≡ u
+    → FollowsSeen asked stored seen w n v → FollowsSeen asked stored seen w n u
+follows_at asked stored seen w n v u is h = subst (λ z. FollowsSeen asked stored seen w n z) is h
 
 -- the first seat's first event, where its hand is empty
 first_put : (Q : Transition → Type 0) (w w' : PlainWorld) → HasHand w 0 Hand.Empty → TurnsBy Q w (Event.Put 0) w'
@@ -199,32 +235,37 @@ first_take Q w w' there t =
     (λ a. inr (idle.leave, inr (idle.answer, inr (idle.commit, inr (no_put, inl (a, refl)))))) t
 
 -- a fetch alone is one event, whatever comes behind it
-pub fetches_only : (asked : ℕ → Bool) (w : PlainWorld) (i : ℕ) (q q' : PlainQueue) → IsSound w → MayServe i w
+pub fetches_only : (stored : List Write → Type 0) → stored [] → (asked : ℕ → Bool) (w : PlainWorld) (i : ℕ) (q q' : PlainQueue)
+    → IsSound w → MayServe i w
     → slice_get w.queues i ≡ Some q → q.ring.memory ≡ length w.memory → NoneBeforeFetch w → NoFetchBelow asked i w
     → asked i ≡ true → FetchesRequest w.inventory w.memory q (Ok true) q'
-    → StepsNext asked (Sees w.memory w.memory) w cursor.Start (record w { queues = slice_set w.queues i q' })
-fetches_only asked w i q q' sound may at fits before below is_asked fetched =
+    → StepsNext asked (Sees stored w.memory w.memory) w cursor.Start (record w { queues = slice_set w.queues i q' })
+fetches_only stored nothing asked w i q q' sound may at fits before below is_asked fetched =
     let w' = record w { queues = slice_set w.queues i q' } in
-    let turn = fetch_seen (λ ws. ⊤) w i (Ok true) w' tt (λ one. omega (arith, one, may.request))
+    let turn = fetch_seen stored w i (Ok true) w' nothing (λ one. omega (arith, one, may.request))
     (request_turns w i q q' (Ok true) sound may.request at fits fetched) in
-    fetch_next asked (Sees w.memory w.memory) w w' i cursor.Start before below may.there is_asked
-    (turn.0, turn.1, turn.2, turn.3, turn.4) (inl refl)
+    fetch_next asked (Sees stored w.memory w.memory) w w' i cursor.Start before below may.there is_asked
+    (turn.0, turn.1, turn.2, turn.3, record { sees = turn.4; stores = turn.5 }) (inl refl)
 
 -- and where a request arrives, it comes to its unit next
-pub takes_next : (sound : AreSound) (asked : ℕ → Bool) (w : PlainWorld) → IsWhole w → (i : ℕ) (q : PlainQueue)
+pub takes_next : (stored : List Write → Type 0) → stored [] → (sound : AreSound) (asked : ℕ → Bool) (w : PlainWorld) → IsWhole w → (i : ℕ) (q : PlainQueue)
     → Everywhere (λ j (z : PlainQueue). z.ring.memory ≡ length w.memory) w.queues → MayServe i w → slice_get w.queues i ≡ Some q
     → NoneBeforeFetch w → NoFetchBelow asked i w → asked i ≡ true → (x : PlainJob) (lent : BareQueue)
     → FetchesRequest w.inventory w.memory q (Ok true) (with_slot (Slot.Arrived x) lent)
-    → StepsNext asked (Sees w.memory w.memory) w (cursor.Enter i)
+    → StepsNext asked (Sees stored w.memory w.memory) w (cursor.Enter i)
     (record w { queues = slice_set w.queues i (with_slot (Slot.Arrived x) lent) })
-takes_next sound asked w whole i q fits may at before below on x lent fetched =
+takes_next stored nothing sound asked w whole i q fits may at before below on x lent fetched =
     let q1 = with_slot (Slot.Arrived x) lent in
     let w1 = record w { queues = slice_set w.queues i q1 } in
-    let turn = fetch_seen (λ ws. ⊤) w i (Ok true) w1 tt (λ one. omega (arith, one, may.request))
+    let turn = fetch_seen stored w i (Ok true) w1 nothing (λ one. omega (arith, one, may.request))
     (request_turns w i q q1 (Ok true) (sound w whole.reached) may.request at (fits i q at) fetched) in
-    fetch_next asked (Sees w.memory w.memory) w w1 i (cursor.Enter i) before below may.there on
-    (turn.0, turn.1, turn.2, turn.3, turn.4)
+    fetch_next asked (Sees stored w.memory w.memory) w w1 i (cursor.Enter i) before below may.there on
+    (turn.0, turn.1, turn.2, turn.3, record { sees = turn.4; stores = turn.5 })
     (inr (refl, may.closed, (x, (q1, get_set w.queues i q1 may.there, refl))))
+
+-- whatever was stored
+abbrev Any : List Write → Type 0
+Any ws = ⊤
 
 module _ (sound : AreSound) (asked : ℕ → Bool) (w : PlainWorld) (whole : IsWhole w) (i : ℕ) (q : PlainQueue) (limit : ℕ)
     (rest : List KeptSeat)
@@ -244,11 +285,11 @@ module _ (sound : AreSound) (asked : ℕ → Bool) (w : PlainWorld) (whole : IsW
   at1 : slice_get w1.queues i ≡ Some q1
   at1 = get_set w.queues i q1 may.there
 
-  next1 : StepsNext asked (Sees w.memory w.memory) w (cursor.Enter i) w1
-  next1 = takes_next sound asked w whole i q fits may q_at before below is_asked x lent fetched
+  next1 : StepsNext asked (Sees Any w.memory w.memory) w (cursor.Enter i) w1
+  next1 = takes_next Any tt sound asked w whole i q fits may q_at before below is_asked x lent fetched
 
   whole1 : IsWhole w1
-  whole1 = whole_by_step asked (Sees w.memory w.memory) w (cursor.Enter i) w1 whole next1
+  whole1 = whole_by_step asked (Sees Any w.memory w.memory) w (cursor.Enter i) w1 whole next1
 
   lt1 : i < length w1.queues
   lt1 = omega (arith, set_length i w.queues q1, may.there)
@@ -261,7 +302,7 @@ module _ (sound : AreSound) (asked : ℕ → Bool) (w : PlainWorld) (whole : IsW
   own : x.chain.ticket.queue ≡ i
   own = let owns : SlotOwns w1 i (Slot.Arrived x) = (sound w1 whole1.reached).owned.slots i q1 at1 in owns.0
 
-  module _ (u u' : PlainUnit) (u_at : slice_get w.units x.unit ≡ Some u) (s' : Slot) (q' : BareQueue) (m' seen : List ℕ)
+  module _ (stored : List Write → Type 0) (u u' : PlainUnit) (u_at : slice_get w.units x.unit ≡ Some u) (s' : Slot) (q' : BareQueue) (m' seen : List ℕ)
       (out' : Jobs) where
     enter_turn : (v : PlainUnit) (slot : Slot) (out : Jobs) → phases.EntersAs x u (none limit) v slot out
         → Turns w1 (Event.Enter i) true
@@ -270,19 +311,28 @@ module _ (sound : AreSound) (asked : ℕ → Bool) (w : PlainWorld) (whole : IsW
         enters w1 (bare Hand.Empty limit ∷ rest) are (sound w1 whole1.reached) limits i x.unit 0 q1 u
         (bare Hand.Empty limit) (sym may.own) at1 u_at refl slot v out (Slot.Arrived x) refl refl true e
 
-    module _ (s : OnlyEntersIn x u lent w.memory (none limit) u' q' m' seen s' out') where
+    module _ (s : OnlyEntersIn stored x u lent w.memory (none limit) u' q' m' seen s' out') where
       abbrev e2 : PlainWorld
       e2 = entered_in w1 (bare Hand.Empty limit ∷ rest) i (slotted s' q1) x.unit u' 0 (bare Hand.Empty limit)
 
-      only_next : StepsNext asked (SeenToo w.memory seen) w1 cursor.Start e2
+      only_next : StepsNext asked (SeenToo stored w.memory seen) w1 cursor.Start e2
       only_next =
           let t = enter_turn u' s' (none limit) (s.enters (none limit)) in
           let q = by_quiet seen w1 (Event.Enter i) e2 tt t in
           let needs : NeedsNone (event_of q.0) = subst NeedsNone (sym q.1) tt in
-          let sees : Sees w.memory seen q.0 =
+          let sees : SeesBy (completion_of q.0) w.memory seen =
           subst (λ o. SeesBy o w.memory seen) (sym (quiet q.0 needs)) s.at_queue.seen in
-          enter_next asked (SeenToo w.memory seen) w1 e2 i cursor.Start next1.4.0 next1.4.1 next1.4.2 next1.4.3 lt1
-          (q.0, q.1, q.2, q.3, (sees, q.4.1)) (inl refl)
+          let follows = q.4 in
+          enter_next asked (SeenToo stored w.memory seen) w1 e2 i cursor.Start next1.4.0 next1.4.1 next1.4.2 next1.4.3 lt1 (
+            q.0,
+            q.1,
+            q.2,
+            q.3,
+            record {
+              sees = record { sees = sees; stores = subst stored (sym follows.unwritten) s.stores };
+              no_chain = follows.no_chain;
+            },
+          ) (inl refl)
 
       pub only_is : e2 ≡ set_all w m' i (with_slot s' q') x.unit u' (bare Hand.Empty limit ∷ rest) (seat_with Hand.Empty out')
       only_is =
@@ -301,14 +351,14 @@ module _ (sound : AreSound) (asked : ℕ → Bool) (w : PlainWorld) (whole : IsW
           ∙ ap (λ (o : Jobs). set_all w m' i (with_slot s' q') x.unit u' (bare Hand.Empty limit ∷ rest) (seat_with Hand.Empty o))
           (sym s.jobs)
 
-      pub only_follows : FollowsSeen asked seen w1 1
+      pub only_follows : FollowsSeen asked stored seen w1 1
           (set_all w m' i (with_slot s' q') x.unit u' (bare Hand.Empty limit ∷ rest) (seat_with Hand.Empty out'))
       only_follows =
-          follows_at asked seen w1 1 e2
+          follows_at asked stored seen w1 1 e2
           (set_all w m' i (with_slot s' q') x.unit u' (bare Hand.Empty limit ∷ rest) (seat_with Hand.Empty out')) only_is
-          (followed_seen asked seen w1 w1 0 cursor.Start e2 (followed_none asked seen w1) only_next)
+          (followed_seen asked stored seen w1 w1 0 cursor.Start e2 (followed_none asked seen w1) only_next)
 
-    module _ (gone : Bool) (s : ServesAtOnceIn w.shared x u lent w.memory (none limit) gone u' q' m' seen out') where
+    module _ (gone : Bool) (s : ServesAtOnceIn w.shared stored x u lent w.memory (none limit) gone u' q' m' seen out') where
       abbrev w2 : PlainWorld
       w2 =
           entered_in w1 (bare Hand.Empty limit ∷ rest) i (slotted Slot.Empty q1) x.unit s.entered 0
@@ -398,20 +448,28 @@ module _ (sound : AreSound) (asked : ℕ → Bool) (w : PlainWorld) (whole : IsW
           with_queue_and_seat w5 m' i (with_slot Slot.Empty q') (bare (Hand.Done x s.outcome) limit ∷ rest) 0
           (bare (Hand.Answered x.unit x.chain.ticket) limit)
 
-      next6 : StepsNext asked (SeenToo m' seen) w5 cursor.Seats w6
+      next6 : StepsNext asked (SeenToo stored m' seen) w5 cursor.Seats w6
       next6 =
-          let answer = answering.answers (λ ws. ⊤) w5 (bare (Hand.Done x s.outcome) limit ∷ rest) 0 i (Hand.Done x s.outcome) [] limit
+          let answer = answering.answers stored w5 (bare (Hand.Done x s.outcome) limit ∷ rest) 0 i (Hand.Done x s.outcome) [] limit
           Slot.Empty lent q' m' seen (Hand.Answered x.unit x.chain.ticket) true (sound w5 whole5.reached)
           (everywhere_set (λ j (z : PlainQueue). z.ring.memory ≡ length w.memory) i w1.queues (slotted Slot.Empty q1) fits1
-          (fits1 i q1 at1)) refl refl (ap (λ (k : ℕ). Some k) own) at2 tt s.answers in
-          let by : TurnsBy (SeenToo m' seen) w5 (Event.Answer 0) w6 =
-          (answer.0, answer.1, answer.2, answer.3, (answer.4, λ is. no_answer 0 (subst IsFetch answer.1 is))) in
-          seat_next asked (SeenToo m' seen) w5 w6 0 cursor.Seats next5.4.0 next5.4.1 (none_below w5) (omega arith)
-          (taken (SeenToo m' seen) (of_seat 0) (Event.Answer 0) w5 w6
+          (fits1 i q1 at1)) refl refl (ap (λ (k : ℕ). Some k) own) at2 s.stores s.answers in
+          let by : TurnsBy (SeenToo stored m' seen) w5 (Event.Answer 0) w6 = (
+            answer.0,
+            answer.1,
+            answer.2,
+            answer.3,
+            record {
+              sees = record { sees = answer.4; stores = answer.5 };
+              no_chain = λ is. no_answer 0 (subst IsFetch answer.1 is);
+            },
+          ) in
+          seat_next asked (SeenToo stored m' seen) w5 w6 0 cursor.Seats next5.4.0 next5.4.1 (none_below w5) (omega arith)
+          (taken (SeenToo stored m' seen) (of_seat 0) (Event.Answer 0) w5 w6
           (λ a. stages.answers_first w5 0 (Hand.Done x s.outcome) ([], refl) refl) by) (inr (refl, may.closed))
 
       whole6 : IsWhole w6
-      whole6 = whole_by_step asked (SeenToo m' seen) w5 cursor.Seats w6 whole5 next6
+      whole6 = whole_by_step asked (SeenToo stored m' seen) w5 cursor.Seats w6 whole5 next6
 
       limits6 : Everywhere (λ k (z : KeptSeat). z.limit ≡ 64 * length w6.units + 64)
           (bare (Hand.Answered x.unit x.chain.ticket) limit ∷ rest)
@@ -462,15 +520,15 @@ module _ (sound : AreSound) (asked : ℕ → Bool) (w : PlainWorld) (whole : IsW
           ∙ set_twice w.units x.unit s.entered u')
           ∙ ap (λ (l : List (List PlainJob)). record last { handed_off = l }) (put_taken x w.handed_off may.handed_off)
 
-      pub follows : FollowsSeen asked seen w1 6 last
+      pub follows : FollowsSeen asked stored seen w1 6 last
       follows =
           let f5 = followed_next asked seen w1 w4 3 cursor.Seats w5
           (followed_next asked seen w1 w3 2 cursor.Seats w4
           (followed_next asked seen w1 w2 1 cursor.Seats w3
           (followed_next asked seen w1 w1 0 cursor.Seats w2 (followed_none asked seen w1) next2) next3) next4) next5 in
-          follows_at asked seen w1 6 w7 last last_is
-          (followed_behind asked seen w1 w6 5 cursor.Seats w7
-          (followed_seen asked seen w1 w5 4 cursor.Seats w6 f5 next6) refl next7)
+          follows_at asked stored seen w1 6 w7 last last_is
+          (followed_behind asked stored seen w1 w6 5 cursor.Seats w7
+          (followed_seen asked stored seen w1 w5 4 cursor.Seats w6 f5 next6) refl next7)
 
       pub before_seats : NoneBefore cursor.Seats last
       before_seats = subst (NoneBefore cursor.Seats) last_is next7.4
@@ -536,11 +594,11 @@ has_room s n is many =
     omega (arith, none, many)
 
 -- what is served keeps the room of the list
-pub serves_keeps : (shared : Bool) (x : PlainJob) (u u' : PlainUnit) (q q' : BareQueue) (m m' seen : List ℕ) (s s' : Slot)
-    (out out' : Jobs) (done : Option Bool) → ServesIn shared x u q m s out done u' q' m' seen s' out'
+pub serves_keeps : (shared : Bool) (stored : List Write → Type 0) (x : PlainJob) (u u' : PlainUnit) (q q' : BareQueue) (m m' seen : List ℕ) (s s' : Slot)
+    (out out' : Jobs) (done : Option Bool) → ServesIn shared stored x u q m s out done u' q' m' seen s' out'
     → out'.limit ≡ out.limit
-serves_keeps shared x u u' q q' m m' seen s s' out out' None h = ap (λ (z : Jobs). z.limit) h.jobs
-serves_keeps shared x u u' q q' m m' seen s s' out out' (Some gone) h =
+serves_keeps shared stored x u u' q q' m m' seen s s' out out' None h = ap (λ (z : Jobs). z.limit) h.jobs
+serves_keeps shared stored x u u' q q' m m' seen s s' out out' (Some gone) h =
     keeps_limit (Hand.Answered x.unit x.chain.ticket) h.0.committed u' out out' gone Hand.Empty h.0.leaves
 
 -- how many events follow its chain
@@ -569,11 +627,12 @@ looks_so v zero gone (j ∷ jobs) is seats fetch = absurd (omega (arith, is))
 looks_so v (suc n) gone jobs is seats fetch = seats
 
 -- what follows of a request that was taken: so many events, each the first that applies; and where to look then
-pub record ServedKept (asked : ℕ → Bool) (seen : List ℕ) (w v : PlainWorld) (done : Option Bool) (n : ℕ) : Type 0 where
-  pub follows : FollowsSeen asked seen w (later_of done) v
+pub record ServedKept (asked : ℕ → Bool) (stored : List Write → Type 0) (seen : List ℕ) (w v : PlainWorld) (done : Option Bool)
+    (n : ℕ) : Type 0 where
+  pub follows : FollowsSeen asked stored seen w (later_of done) v
   pub before : NoneBefore (served_of done n).next v
 
-pub serves_kept : (sound : AreSound) (asked : ℕ → Bool) (w : PlainWorld) → IsWhole w → (i : ℕ) (q : PlainQueue) (limit : ℕ)
+pub serves_kept : (stored : List Write → Type 0) (sound : AreSound) (asked : ℕ → Bool) (w : PlainWorld) → IsWhole w → (i : ℕ) (q : PlainQueue) (limit : ℕ)
     (kept rest : List KeptSeat) → kept ≡ bare Hand.Empty limit ∷ rest → w.seats ≡ map seat_of kept
     → Everywhere (λ j (z : PlainQueue). z.ring.memory ≡ length w.memory) w.queues
     → Everywhere (λ k (s : KeptSeat). s.limit ≡ 64 * length w.units + 64) kept
@@ -581,22 +640,22 @@ pub serves_kept : (sound : AreSound) (asked : ℕ → Bool) (w : PlainWorld) →
     → (x : PlainJob) (lent : BareQueue) → FetchesRequest w.inventory w.memory q (Ok true) (with_slot (Slot.Arrived x) lent)
     → (u u' : PlainUnit) → slice_get w.units x.unit ≡ Some u → (s s' : Slot) (q' : BareQueue) (m' seen : List ℕ) (out' : Jobs)
     → s ≡ Slot.Empty → (done : Option Bool)
-    → ServesIn w.shared x u lent w.memory s (record { jobs = []; limit = limit }) done u' q' m' seen s' out' → (n : ℕ)
+    → ServesIn w.shared stored x u lent w.memory s (record { jobs = []; limit = limit }) done u' q' m' seen s' out' → (n : ℕ)
     → n ≡ length out'.jobs
-    → ServedKept asked seen (record w { queues = slice_set w.queues i (with_slot (Slot.Arrived x) lent) })
+    → ServedKept asked stored seen (record w { queues = slice_set w.queues i (with_slot (Slot.Arrived x) lent) })
     (set_all w m' i (with_slot s' q') x.unit u' kept (seat_with Hand.Empty out')) done n
-serves_kept a asked w b i q l kept rest ka are f g may at bf bl on x t ft u u' ut s s' q' m' seen out' e None h n is =
+serves_kept stored a asked w b i q l kept rest ka are f g may at bf bl on x t ft u u' ut s s' q' m' seen out' e None h n is =
     let are' = are ∙ ap (λ (ks : List KeptSeat). map seat_of ks) ka in
     let limits' = subst (λ (ks : List KeptSeat). Everywhere (λ k (z : KeptSeat). z.limit ≡ 64 * length w.units + 64) ks) ka
     g in
     let w1 = record w { queues = slice_set w.queues i (with_slot (Slot.Arrived x) t) } in
     subst (λ (ks : List KeptSeat).
-    ServedKept asked seen w1 (set_all w m' i (with_slot s' q') x.unit u' ks (seat_with Hand.Empty out')) None n) (sym ka)
+    ServedKept asked stored seen w1 (set_all w m' i (with_slot s' q') x.unit u' ks (seat_with Hand.Empty out')) None n) (sym ka)
     (record {
-      follows = only_follows a asked w b i q l rest are' f limits' may at bf bl on x t ft u u' ut s' q' m' seen out' h;
+      follows = only_follows a asked w b i q l rest are' f limits' may at bf bl on x t ft stored u u' ut s' q' m' seen out' h;
       before = tt;
     })
-serves_kept a asked w b i q l kept rest ka are f g may at bf bl on x t ft u u' ut s s' q' m' seen out' e (Some gone) h n is =
+serves_kept stored a asked w b i q l kept rest ka are f g may at bf bl on x t ft u u' ut s s' q' m' seen out' e (Some gone) h n is =
     let are' = are ∙ ap (λ (ks : List KeptSeat). map seat_of ks) ka in
     let limits' = subst (λ (ks : List KeptSeat). Everywhere (λ k (z : KeptSeat). z.limit ≡ 64 * length w.units + 64) ks) ka
     g in
@@ -604,16 +663,16 @@ serves_kept a asked w b i q l kept rest ka are f g may at bf bl on x t ft u u' u
     let w1 = record w { queues = slice_set w.queues i (with_slot (Slot.Arrived x) t) } in
     let v = set_all w m' i (with_slot Slot.Empty q') x.unit u' (bare Hand.Empty l ∷ rest) (seat_with Hand.Empty out') in
     let seats : NoneBefore cursor.Seats v =
-    before_seats a asked w b i q l rest are' f limits' may at bf bl on x t ft u u' ut s' q' m' seen out' gone h.0 in
+    before_seats a asked w b i q l rest are' f limits' may at bf bl on x t ft stored u u' ut s' q' m' seen out' gone h.0 in
     let fetch : out'.jobs ≡ [] → NoneBefore cursor.Fetch v =
-    before_fetch a asked w b i q l rest are' f limits' may at bf bl on x t ft u u' ut s' q' m' seen out' gone h.0 in
-    let base : ServedKept asked seen w1 v (Some gone) n =
+    before_fetch a asked w b i q l rest are' f limits' may at bf bl on x t ft stored u u' ut s' q' m' seen out' gone h.0 in
+    let base : ServedKept asked stored seen w1 v (Some gone) n =
     record {
-      follows = follows a asked w b i q l rest are' f limits' may at bf bl on x t ft u u' ut s' q' m' seen out' gone h.0;
+      follows = follows a asked w b i q l rest are' f limits' may at bf bl on x t ft stored u u' ut s' q' m' seen out' gone h.0;
       before = looks_so v n gone out'.jobs is seats fetch;
     } in
     subst (λ (ks : List KeptSeat).
-    ServedKept asked seen w1 (set_all w m' i (with_slot s' q') x.unit u' ks (seat_with Hand.Empty out')) (Some gone) n) (sym ka)
+    ServedKept asked stored seen w1 (set_all w m' i (with_slot s' q') x.unit u' ks (seat_with Hand.Empty out')) (Some gone) n) (sym ka)
     (subst (λ (z : Slot).
-    ServedKept asked seen w1 (set_all w m' i (with_slot z q') x.unit u' (bare Hand.Empty l ∷ rest) (seat_with Hand.Empty out'))
+    ServedKept asked stored seen w1 (set_all w m' i (with_slot z q') x.unit u' (bare Hand.Empty l ∷ rest) (seat_with Hand.Empty out'))
     (Some gone) n) slot base)

@@ -232,6 +232,23 @@ pub turns_begun : {X S : Type 0} (known : X → S) (storing : S → List Store �
 turns_begun {X} {S} known storing x z y shared before after d e r d' same t =
     subst (λ (s : S). TurnsInOrWants shared before after (λ ws. known y ≡ storing s (stores_of ws)) d e r d') same t
 
+-- what is known then is what was known
+pub still_known : {X S : Type 0} (known : X → S) (storing : S → List Store → S) → ((s : S) → storing s [] ≡ s) → (x y : X)
+    → Stored known storing x y [] → known y ≡ known x
+still_known known storing none x y h = h ∙ none (known x)
+
+-- and what was stored behind it was stored
+pub on_known : {X S : Type 0} (known : X → S) (storing : S → List Store → S) (x z : X) → known z ≡ known x → (y : X)
+    (ws : List Write) → Stored known storing z y ws → Stored known storing x y ws
+on_known {X} {S} known storing x z same y ws h = h ∙ ap (λ (s : S). storing s (stores_of ws)) same
+
+pub turn_known : {X S : Type 0} (known : X → S) (storing : S → List Store → S) (x z y : X) (shared : Bool)
+    (before after : List ℕ → Type 0) (d : PlainDevice) (e : Event) (b : Bool) (d' : PlainDevice)
+    → known z ≡ known x → TurnsIn shared before after (Stored known storing z y) d e b d'
+    → TurnsIn shared before after (Stored known storing x y) d e b d'
+turn_known {X} {S} known storing x z y shared before after d e b d' same t =
+    subst (λ (s : S). TurnsIn shared before after (λ ws. known y ≡ storing s (stores_of ws)) d e b d') same t
+
 -- Writes behind others were stored as all of them in order
 
 stores_both : (a b : List Write) → stores_of a ++ stores_of b ≡ stores_of (a ++ b)

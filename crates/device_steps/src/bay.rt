@@ -69,6 +69,7 @@ impl Bay {
         ensures chain { (m : List ℕ) → M.may_be memory.new m
             → (IsTrue result ↔ ((self.now.slot ≡ plain.Slot.Empty) × (IsIdle self.now.ring m → ⊥))) }
         ensures stays { (m : List ℕ) → M.may_be memory.new m → M.may_be memory.old m }
+        ensures stores { M.stored memory.new ≡ M.stored memory.old }
         ensures reading { M.is_open memory.new }
         ensures size { M.extent memory.new ≡ M.extent memory.old }
     {

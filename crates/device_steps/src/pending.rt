@@ -23,6 +23,7 @@ impl Device {
         requires fits { FitsIn (M.extent memory.old) self.now }
         ensures denies { FindsIn M.shared (M.may_be memory.old) (M.may_be memory.new)
             (λ w. Denies (IsQuietOf (asks queues) w) result) self.now }
+        ensures stores { M.stored memory.new ≡ M.stored memory.old }
         ensures size { M.extent memory.new ≡ M.extent memory.old }
     {
         if self.function_goes_on() {
@@ -124,6 +125,7 @@ impl Device {
         requires fits { FitsIn (M.extent memory.old) self.now }
         ensures denies { FindsIn M.shared (M.may_be memory.old) (M.may_be memory.new)
             (λ w. Denies (NoFetch (asks queues) w) result) self.now }
+        ensures stores { M.stored memory.new ≡ M.stored memory.old }
         ensures size { M.extent memory.new ≡ M.extent memory.old }
     {
         for number in 0..self.bays.len() {
@@ -152,6 +154,7 @@ impl Device {
         requires there { number < length self.now.queues }
         ensures denies { FindsIn M.shared (M.may_be memory.old) (M.may_be memory.new)
             (λ w. Denies (asks queues number ≡ true → Applies w (AnEvent.Fetch number) → ⊥) result) self.now }
+        ensures stores { M.stored memory.new ≡ M.stored memory.old }
         ensures reading { M.is_open memory.new }
         ensures size { M.extent memory.new ≡ M.extent memory.old }
     {

@@ -9,7 +9,7 @@ ghost use Rattle.device_steps.specs.Inner.Cursors.{TurnsFirstIn, TurnsFirstAlone
 ghost use Rattle.device_steps.specs.Inner.Cursors.{AtEach, FindsIn, NoStart, NoDirect, NoSeat, NoneBefore, NoneBeforeFetch, NoFetchBelow};
 ghost use Rattle.device_steps.specs.Inner.Cursors.{EntersNext, FetchesNext, LeavesNext};
 ghost use Rattle.device_steps.specs.Settling.{asks, asks_all};
-ghost use Rattle.device_steps.specs.Apart.{standing, FitsIn};
+ghost use Rattle.device_steps.specs.Apart.{standing, FitsIn, Stored};
 ghost use Rattle.device_steps.specs.Inner.Sound.{IsSound};
 
 use crate::cursor::{
@@ -38,7 +38,8 @@ impl Device {
     /// Takes a step of the open function.
     fn turn_function<M: WritableMemory>(&mut self, memory: &mut M) -> bool
         requires ready { IsReadyIn (M.is_open memory.old) M.shared (M.may_be memory.old) (M.extent memory.old) self.old }
-        ensures turns { TurnsFirstIn M.shared (M.may_be memory.old) (M.may_be memory.new) of_function self.old result self.new }
+        ensures turns { TurnsFirstIn M.shared (M.may_be memory.old) (M.may_be memory.new)
+            (Stored M.stored M.storing memory.old memory.new) of_function self.old result self.new }
         ensures reading { M.is_open memory.new }
         ensures size { M.extent memory.new ≡ M.extent memory.old }
     {
@@ -59,8 +60,8 @@ impl Device {
     /// Takes a step of a seat: which one is seen by its hand alone, unless that is empty.
     fn turn_seat<M: WritableMemory>(&mut self, memory: &mut M, number: u16) -> bool
         requires ready { IsReadyIn (M.is_open memory.old) M.shared (M.may_be memory.old) (M.extent memory.old) self.old }
-        ensures turns { TurnsFirstIn M.shared (M.may_be memory.old) (M.may_be memory.new) (of_seat number) self.old result
-            self.new }
+        ensures turns { TurnsFirstIn M.shared (M.may_be memory.old) (M.may_be memory.new)
+            (Stored M.stored M.storing memory.old memory.new) (of_seat number) self.old result self.new }
         ensures reading { M.is_open memory.new }
         ensures size { M.extent memory.new ≡ M.extent memory.old }
     {
@@ -94,7 +95,7 @@ impl Device {
 
     /// Takes the first event of the order that applies, from a place on. A host calls it in a phase that wrote nothing yet,
     /// with a place before which nothing applies. Returns from where on to look then; `None` where none applies. `NoMemory`
-    /// where the first that applies was refused memory.
+    /// where the first that applies was refused memory. What was stored are the writes of what was done.
     #[inline(always)]
     pub fn turn<M: WritableMemory>(
         &mut self,
@@ -106,7 +107,8 @@ impl Device {
         requires most { 1 ≤ most }
         requires ready { IsReadyIn (M.is_open memory.old) M.shared (M.may_be memory.old) (M.extent memory.old) self.old }
         requires before { AtEach M.shared (M.may_be memory.old) (NoneBefore cursor) self.old }
-        ensures turns { TurnsNextIn M.shared M.may_be (asks queues) most memory.old self.old result memory.new self.new }
+        ensures turns { TurnsNextIn M.shared M.may_be (Stored M.stored M.storing) (asks queues) most memory.old self.old
+            result memory.new self.new }
         ensures reading { M.is_open memory.new }
         ensures size { M.extent memory.new ≡ M.extent memory.old }
     {
@@ -128,7 +130,8 @@ impl Device {
         requires most { 1 ≤ most }
         requires ready { IsReadyIn (M.is_open memory.old) M.shared (M.may_be memory.old) (M.extent memory.old) self.old }
         requires before { AtEach M.shared (M.may_be memory.old) (NoneBefore cursor) self.old }
-        ensures turns { TurnsNextIn M.shared M.may_be (asks queues) most memory.old self.old result memory.new self.new }
+        ensures turns { TurnsNextIn M.shared M.may_be (Stored M.stored M.storing) (asks queues) most memory.old self.old
+            result memory.new self.new }
         ensures reading { M.is_open memory.new }
         ensures size { M.extent memory.new ≡ M.extent memory.old }
     {
@@ -148,7 +151,8 @@ impl Device {
     ) -> Result<Option<Progress>, NoMemory>
         requires most { 1 ≤ most }
         requires ready { IsReadyIn (M.is_open memory.old) M.shared (M.may_be memory.old) (M.extent memory.old) self.old }
-        ensures turns { TurnsNextIn M.shared M.may_be (asks queues) most memory.old self.old result memory.new self.new }
+        ensures turns { TurnsNextIn M.shared M.may_be (Stored M.stored M.storing) (asks queues) most memory.old self.old
+            result memory.new self.new }
         ensures reading { M.is_open memory.new }
         ensures size { M.extent memory.new ≡ M.extent memory.old }
     {
@@ -178,7 +182,8 @@ impl Device {
         requires ready { IsReadyIn (M.is_open memory.old) M.shared (M.may_be memory.old) (M.extent memory.old) self.old }
         requires start { AtEach M.shared (M.may_be memory.old) NoStart self.old }
         requires before { AtEach M.shared (M.may_be memory.old) (NoneBefore cursor) self.old }
-        ensures turns { TurnsNextIn M.shared M.may_be (asks queues) most memory.old self.old result memory.new self.new }
+        ensures turns { TurnsNextIn M.shared M.may_be (Stored M.stored M.storing) (asks queues) most memory.old self.old
+            result memory.new self.new }
         ensures reading { M.is_open memory.new }
         ensures size { M.extent memory.new ≡ M.extent memory.old }
     {
@@ -206,7 +211,8 @@ impl Device {
         requires start { AtEach M.shared (M.may_be memory.old) NoStart self.old }
         requires direct { AtEach M.shared (M.may_be memory.old) NoDirect self.old }
         requires before { AtEach M.shared (M.may_be memory.old) (NoneBefore cursor) self.old }
-        ensures turns { TurnsNextIn M.shared M.may_be (asks queues) most memory.old self.old result memory.new self.new }
+        ensures turns { TurnsNextIn M.shared M.may_be (Stored M.stored M.storing) (asks queues) most memory.old self.old
+            result memory.new self.new }
         ensures reading { M.is_open memory.new }
         ensures size { M.extent memory.new ≡ M.extent memory.old }
     {
@@ -235,7 +241,8 @@ impl Device {
         requires direct { AtEach M.shared (M.may_be memory.old) NoDirect self.old }
         requires seat { AtEach M.shared (M.may_be memory.old) NoSeat self.old }
         requires before { AtEach M.shared (M.may_be memory.old) (NoneBefore cursor) self.old }
-        ensures turns { TurnsNextIn M.shared M.may_be (asks queues) most memory.old self.old result memory.new self.new }
+        ensures turns { TurnsNextIn M.shared M.may_be (Stored M.stored M.storing) (asks queues) most memory.old self.old
+            result memory.new self.new }
         ensures reading { M.is_open memory.new }
         ensures size { M.extent memory.new ≡ M.extent memory.old }
     {
@@ -258,7 +265,8 @@ impl Device {
         requires most { 1 ≤ most }
         requires ready { IsReadyIn (M.is_open memory.old) M.shared (M.may_be memory.old) (M.extent memory.old) self.old }
         requires before { AtEach M.shared (M.may_be memory.old) NoneBeforeFetch self.old }
-        ensures turns { TurnsNextIn M.shared M.may_be (asks queues) most memory.old self.old result memory.new self.new }
+        ensures turns { TurnsNextIn M.shared M.may_be (Stored M.stored M.storing) (asks queues) most memory.old self.old
+            result memory.new self.new }
         ensures reading { M.is_open memory.new }
         ensures size { M.extent memory.new ≡ M.extent memory.old }
     {
@@ -282,6 +290,7 @@ impl Device {
         requires reading { M.is_open memory.old }
         requires fits { FitsIn (M.extent memory.old) self.now }
         ensures below { FindsIn M.shared (M.may_be memory.old) (M.may_be memory.new) (NoFetchBelow asks_all result) self.now }
+        ensures stores { M.stored memory.new ≡ M.stored memory.old }
         ensures reading { M.is_open memory.new }
         ensures size { M.extent memory.new ≡ M.extent memory.old }
     {
@@ -310,7 +319,8 @@ impl Device {
         requires before { AtEach M.shared (M.may_be memory.old) NoneBeforeFetch self.old }
         requires below { AtEach M.shared (M.may_be memory.old) (NoFetchBelow (asks queues) number) self.old }
         requires there { number < length self.old.queues }
-        ensures turns { FetchesOn M.shared M.may_be (asks queues) most number memory.old self.old result memory.new self.new }
+        ensures turns { FetchesOn M.shared M.may_be (Stored M.stored M.storing) (asks queues) most number memory.old
+            self.old result memory.new self.new }
         ensures reading { M.is_open memory.new }
         ensures size { M.extent memory.new ≡ M.extent memory.old }
     {
@@ -341,7 +351,8 @@ impl Device {
         requires below { AtEach M.shared (M.may_be memory.old) (NoFetchBelow (asks queues) number) self.old }
         requires there { number < length self.old.queues }
         requires asked { asks queues number ≡ true }
-        ensures turns { FetchesOn M.shared M.may_be (asks queues) most number memory.old self.old result memory.new self.new }
+        ensures turns { FetchesOn M.shared M.may_be (Stored M.stored M.storing) (asks queues) most number memory.old
+            self.old result memory.new self.new }
         ensures reading { M.is_open memory.new }
         ensures size { M.extent memory.new ≡ M.extent memory.old }
     {
@@ -388,7 +399,8 @@ impl Device {
         requires below { AtEach M.shared (M.may_be memory.old) (NoFetchBelow (asks queues) number) self.old }
         requires asked { asks queues number ≡ true }
         requires at_once { AtEach M.shared (M.may_be memory.old) (MayServe number) self.old }
-        ensures turns { FetchesOn M.shared M.may_be (asks queues) most number memory.old self.old result memory.new self.new }
+        ensures turns { FetchesOn M.shared M.may_be (Stored M.stored M.storing) (asks queues) most number memory.old
+            self.old result memory.new self.new }
         ensures reading { M.is_open memory.new }
         ensures size { M.extent memory.new ≡ M.extent memory.old }
     {

@@ -1,11 +1,12 @@
 -- How far along the order nothing applies.
 use Rattle.std.specs.Prelude.{ℕ, zero, suc, ◌≡◌, ◌<◌, ◌≤◌, ◌⊎◌, Bool, true, false, List, [], ◌∷◌, length, Option, Some, None, Result, Ok, Err, ⊤}
 use Rattle.foundation.specs.declared.NoMemory.{NoMemory}
+use Rattle.ring_core.specs.Writes.{Write}
 use Rattle.unit_model.specs.Jobs.{PlainJob}
 use Rattle.device_model.specs.Parts.{Slot, Hand}
 use Rattle.device_model.specs.World.{PlainWorld, owner}
 use Rattle.device_model.specs.Events.{Event}
-use Rattle.device_model.specs.Transitions.{Transition, event_of, completion_of}
+use Rattle.device_model.specs.Transitions.{Transition, event_of, action_of, completion_of}
 use Rattle.device_model.specs.After.{after}
 use Rattle.device_model.specs.Happens.{Happens, MayWant}
 use Rattle.device_model.specs.Found.{SeatIs, OffIs}
@@ -156,9 +157,15 @@ served_of (Some left) (suc jobs) = record { next = cursor.Seats; steps = 7 }
 
 -- In a memory that others may write too
 
--- by this memory the notice of what it completed was decided; where it completed nothing, memory is seen as it was left
-abbrev pub Sees : List ℕ → List ℕ → Transition → Type 0
-Sees left seen t = SeesBy (completion_of t) left seen
+-- by this memory the notice of what it completed was decided; where it completed nothing, memory is seen as it was left; and
+-- its writes were stored
+pub record Sees (stored : List Write → Type 0) (left seen : List ℕ) (t : Transition) : Type 0 where
+  pub sees : SeesBy (completion_of t) left seen
+  pub stores : stored (action_of t).writes
+
+-- nothing was stored
+abbrev pub IsNone : List Write → Type 0
+IsNone ws = ws ≡ []
 
 -- what a turn of the device rests on: memory may be read, and is one of the lists of bytes that it may be; and whichever it
 -- is, the device is whole
@@ -178,46 +185,47 @@ AtEach shared may_be P d = (m : List ℕ) → may_be m → P (standing shared m 
 abbrev pub FindsIn : Bool → (List ℕ → Type 0) → (List ℕ → Type 0) → (PlainWorld → Type 0) → PlainDevice → Type 0
 FindsIn shared before after P d = (m : List ℕ) → after m → before m × P (standing shared m d)
 
--- the first of these events that applies was done, or none of them applies
-abbrev pub TurnsFirstIn : Bool → (List ℕ → Type 0) → (List ℕ → Type 0) → List Event → PlainDevice → Bool → PlainDevice
-    → Type 0
-TurnsFirstIn shared before after xs d true d' =
+-- the first of these events that applies was done, and its writes were stored; or none of them applies, and nothing was
+abbrev pub TurnsFirstIn : Bool → (List ℕ → Type 0) → (List ℕ → Type 0) → (List Write → Type 0) → List Event → PlainDevice → Bool
+    → PlainDevice → Type 0
+TurnsFirstIn shared before after stored xs d true d' =
     EachSeen shared before after
-    (λ found left seen. TurnsFirst (Sees left seen) xs (standing shared found d) (standing shared left d'))
-TurnsFirstIn shared before after xs d false d' = (d' ≡ d) × FindsIn shared before after (λ w. NoneApplies w xs) d
+    (λ found left seen. TurnsFirst (Sees stored left seen) xs (standing shared found d) (standing shared left d'))
+TurnsFirstIn shared before after stored xs d false d' =
+    (d' ≡ d) × FindsIn shared before after (λ w. NoneApplies w xs) d × stored []
 
 -- the same of events that need no memory, whatever stands there
 abbrev pub TurnsFirstAlone : List Event → PlainDevice → Bool → PlainDevice → Type 0
 TurnsFirstAlone xs d true d' =
     (shared : Bool) (m : List ℕ) → IsSound (standing shared m d)
-    → TurnsFirst (Sees m m) xs (standing shared m d) (standing shared m d')
+    → TurnsFirst (Sees IsNone m m) xs (standing shared m d) (standing shared m d')
 TurnsFirstAlone xs d false d' =
     (shared : Bool) (m : List ℕ) → IsSound (standing shared m d)
     → (standing shared m d' ≡ standing shared m d) × NoneApplies (standing shared m d) xs
 
 -- so many events were done in one phase, each the first that applied, and before a place none applies then, whatever stands
 -- in memory
-pub record ServesNextIn {X : Type 0} (shared : Bool) (may_be : X → List ℕ → Type 0) (asked : ℕ → Bool) (most : ℕ) (x : X)
-    (d : PlainDevice) (s : Progress) (y : X) (d' : PlainDevice) : Type 0 where
+pub record ServesNextIn {X : Type 0} (shared : Bool) (may_be : X → List ℕ → Type 0) (stored : X → X → List Write → Type 0)
+    (asked : ℕ → Bool) (most : ℕ) (x : X) (d : PlainDevice) (s : Progress) (y : X) (d' : PlainDevice) : Type 0 where
   pub some : 1 ≤ s.steps
   pub few : s.steps ≤ most
-  pub serves : ServesInPhase shared may_be asked x d s.steps y d'
+  pub serves : ServesInPhase shared may_be stored asked x d s.steps y d'
   pub before : (m : List ℕ) → NoneBefore s.next (standing shared m d')
 
--- at least one was done; or none applies at all; or memory was refused for what is first
-abbrev pub TurnsNextIn : {X : Type 0} → Bool → (X → List ℕ → Type 0) → (ℕ → Bool) → ℕ → X → PlainDevice
+-- at least one was done; or none applies at all, or memory was refused for what is first, and nothing was stored
+abbrev pub TurnsNextIn : {X : Type 0} → Bool → (X → List ℕ → Type 0) → (X → X → List Write → Type 0) → (ℕ → Bool) → ℕ → X → PlainDevice
     → Result (Option Progress) NoMemory → X → PlainDevice → Type 0
-TurnsNextIn {X} shared may_be asked most x d (Ok (Some s)) y d' = ServesNextIn shared may_be asked most x d s y d'
-TurnsNextIn {X} shared may_be asked most x d (Ok None) y d' =
-    (d' ≡ d) × FindsIn shared (may_be x) (may_be y) (λ w. IsQuietOf asked w) d
-TurnsNextIn {X} shared may_be asked most x d (Err fault) y d' =
-    (d' ≡ d) × FindsIn shared (may_be x) (may_be y) (λ w. MayWantFirst w (order_for asked w)) d
+TurnsNextIn {X} shared may_be stored asked most x d (Ok (Some s)) y d' = ServesNextIn shared may_be stored asked most x d s y d'
+TurnsNextIn {X} shared may_be stored asked most x d (Ok None) y d' =
+    (d' ≡ d) × FindsIn shared (may_be x) (may_be y) (λ w. IsQuietOf asked w) d × stored x y []
+TurnsNextIn {X} shared may_be stored asked most x d (Err fault) y d' =
+    (d' ≡ d) × FindsIn shared (may_be x) (may_be y) (λ w. MayWantFirst w (order_for asked w)) d × stored x y []
 
 -- the same of a queue's next chain, and what follows it; or there is none, or the queue isn't asked
-abbrev pub FetchesOn : {X : Type 0} → Bool → (X → List ℕ → Type 0) → (ℕ → Bool) → ℕ → ℕ → X → PlainDevice
+abbrev pub FetchesOn : {X : Type 0} → Bool → (X → List ℕ → Type 0) → (X → X → List Write → Type 0) → (ℕ → Bool) → ℕ → ℕ → X → PlainDevice
     → Result (Option Progress) NoMemory → X → PlainDevice → Type 0
-FetchesOn {X} shared may_be asked most i x d (Ok (Some s)) y d' = ServesNextIn shared may_be asked most x d s y d'
-FetchesOn {X} shared may_be asked most i x d (Ok None) y d' =
-    (d' ≡ d) × FindsIn shared (may_be x) (may_be y) (λ w. asked i ≡ true → Applies w (Event.Fetch i) → ⊥) d
-FetchesOn {X} shared may_be asked most i x d (Err fault) y d' =
-    (d' ≡ d) × FindsIn shared (may_be x) (may_be y) (λ w. (asked i ≡ true) × MayWant (Event.Fetch i) w) d
+FetchesOn {X} shared may_be stored asked most i x d (Ok (Some s)) y d' = ServesNextIn shared may_be stored asked most x d s y d'
+FetchesOn {X} shared may_be stored asked most i x d (Ok None) y d' =
+    (d' ≡ d) × FindsIn shared (may_be x) (may_be y) (λ w. asked i ≡ true → Applies w (Event.Fetch i) → ⊥) d × stored x y []
+FetchesOn {X} shared may_be stored asked most i x d (Err fault) y d' =
+    (d' ≡ d) × FindsIn shared (may_be x) (may_be y) (λ w. (asked i ≡ true) × MayWant (Event.Fetch i) w) d × stored x y []

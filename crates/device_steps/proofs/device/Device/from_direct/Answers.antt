@@ -7,7 +7,7 @@ use Rattle.device_steps.specs.Inner.Cursors.{NoStart, NoneBefore, NoDirect, NoDi
 use Rattle.device_steps.proofs.Choosing.{and_next}
 use Rattle.device_steps.specs.declared.cursor.Cursor.TheVariants as cursor
 use Rattle.device_steps.specs.Settling.{asks}
-use Rattle.device_steps.proofs.InMemory.{each_before, each_from}
+use Rattle.device_steps.proofs.InMemory.{each_before, each_from, still_known, on_known, turn_known}
 use Rattle.device_steps.proofs.EachTurn.{did_in, idle_in, one_in, still_ready, turns_before}
 use Rattle.device_steps.proofs.Woken.{directs_from, directs_past, direct_next}
 use Rattle.device_steps.proofs.device.Device.from_direct.Goals as goal
@@ -24,6 +24,7 @@ loop-number-init g c =
       same = refl;
       some = c.requires.ready.some;
       stays = λ m may. may;
+      known = refl;
       reading = c.requires.ready.reading;
       size = refl;
       below = λ m may.
@@ -47,21 +48,24 @@ returns-then-answered-clause-turns g c =
     let middle = g.M.Memory.may_be z in
     let after = g.M.Memory.may_be y in
     let inv = c.loop-number.invariant in
-    let turn = subst (λ k. TurnsIn shared middle after (Stored g.M.Memory.stored g.M.Memory.storing z y) k (Event.Direct n) call.result d') inv.same call.ensures.turns in
-    one_in shared g.M.Memory.may_be asked c.args.most x d (cursor.Direct n) c.one.result y d' c.requires.most c.one.ensures
+    let stored = Stored g.M.Memory.stored g.M.Memory.storing in
+    let turn = subst (λ k. TurnsIn shared middle after (stored x y) k (Event.Direct n) call.result d') inv.same
+    (turn_known g.M.Memory.stored g.M.Memory.storing x z y shared middle after c.loop-number.self (Event.Direct n) call.result d'
+    inv.known call.ensures.turns) in
+    one_in shared g.M.Memory.may_be stored asked c.args.most x d (cursor.Direct n) c.one.result y d' c.requires.most c.one.ensures
     c.size-bytes.ensures.some
     (each_before shared before middle after
     (λ found left seen.
-    StepsNext asked (Sees left seen) (standing shared found d) (cursor.Direct n) (standing shared left d')) inv.stays
+    StepsNext asked (Sees (stored x y) left seen) (standing shared found d) (cursor.Direct n) (standing shared left d')) inv.stays
     (each_from shared middle after
-    (λ found left seen. TurnsBy (Sees left seen) (standing shared found d) (Event.Direct n) (standing shared left d'))
+    (λ found left seen. TurnsBy (Sees (stored x y) left seen) (standing shared found d) (Event.Direct n) (standing shared left d'))
     (λ found left seen.
-    StepsNext asked (Sees left seen) (standing shared found d) (cursor.Direct n) (standing shared left d'))
+    StepsNext asked (Sees (stored x y) left seen) (standing shared found d) (cursor.Direct n) (standing shared left d'))
     (λ found left seen was t.
-    direct_next asked (Sees left seen) (standing shared found d) (standing shared left d') n
+    direct_next asked (Sees (stored x y) left seen) (standing shared found d) (standing shared left d') n
     (c.requires.start found (inv.stays found was)) (inv.below found was)
     (omega (arith, c.loop-number-test.true, inv.all)) t)
-    (did_in shared middle after (Stored g.M.Memory.stored g.M.Memory.storing z y) d (Event.Direct n) call.result d' c.if-answered.true turn)))
+    (did_in shared middle after (stored x y) d (Event.Direct n) call.result d' c.if-answered.true turn)))
 
 pub loop-number-preserved : goal.loop-number-preserved
 loop-number-preserved g c =
@@ -80,6 +84,8 @@ loop-number-preserved g c =
       same = here.0;
       some = c.size-bytes.ensures.some;
       stays = λ m may. inv.stays m (here.1 m may).0;
+      known = still_known g.M.Memory.stored g.M.Memory.storing g.met.M.Memory.none c.loop-number.memory call.new.memory here.2
+          ∙ inv.known;
       reading = call.ensures.reading inv.reading;
       size = call.ensures.size ∙ inv.size;
       below = λ m may.
@@ -121,6 +127,8 @@ from_seats-requires g c =
 
 pub returns-clause-turns : goal.returns-clause-turns
 returns-clause-turns g c =
-    turns_before g.M.Memory.shared g.M.Memory.may_be (asks c.args.queues) c.args.most c.args.memory.now c.loop-number.memory
+    turns_before g.M.Memory.shared g.M.Memory.may_be (Stored g.M.Memory.stored g.M.Memory.storing) (asks c.args.queues) c.args.most c.args.memory.now c.loop-number.memory
     c.args.self.now c.loop-number.self c.from_seats.result c.from_seats.new.memory c.from_seats.new.self
-    c.loop-number.invariant.same c.loop-number.invariant.stays c.from_seats.ensures.turns
+    c.loop-number.invariant.same c.loop-number.invariant.stays
+    (on_known g.M.Memory.stored g.M.Memory.storing c.args.memory.now c.loop-number.memory c.loop-number.invariant.known)
+    c.from_seats.ensures.turns

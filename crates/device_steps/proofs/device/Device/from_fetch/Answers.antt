@@ -1,12 +1,13 @@
-use Rattle.std.proofs.Common.{◌≡◌, ◌∙◌, true, refl, sym, subst, ap, length, arith}
+use Rattle.std.proofs.Common.{◌≡◌, ◌∙◌, true, [], refl, sym, subst, ap, length, arith}
 use Rattle.device_model.specs.Events.{Event}
 use Rattle.device_model.specs.Happens.{MayWant}
 use Rattle.device_model.specs.Applies.{Applies}
 use Rattle.device_steps.specs.Inner.Cursors.{NoneBeforeFetch, NoFetchBelow}
-use Rattle.device_steps.specs.Apart.{PlainDevice, standing}
+use Rattle.device_steps.specs.Apart.{PlainDevice, standing, Stored}
 use Rattle.device_steps.specs.Settling.{asks}
 use Rattle.device_steps.proofs.Choosing.{and_next}
 use Rattle.device_steps.proofs.Ordering.{none_left}
+use Rattle.device_steps.proofs.InMemory.{none_known, still_known, on_known}
 use Rattle.device_steps.proofs.EachTurn.{still_ready, serves_before}
 use Rattle.device_steps.proofs.Woken.{queue_wants}
 use Rattle.device_steps.proofs.device.Device.from_fetch.Goals as goal
@@ -20,6 +21,7 @@ loop-number-init g c =
       same = refl;
       some = c.size-looked.ensures.some;
       stays = λ m may. (look.ensures.below m may).0;
+      known = look.ensures.stores;
       reading = look.ensures.reading;
       size = look.ensures.size;
       below = λ m may. λ i lt asked. (look.ensures.below m may).1 i lt refl;
@@ -45,9 +47,10 @@ serve_queue-requires g c =
 
 pub returns-in-Ok-Some-clause-turns : goal.returns-in-Ok-Some-clause-turns
 returns-in-Ok-Some-clause-turns g c =
-    serves_before g.M.Memory.shared g.M.Memory.may_be (asks c.args.queues) c.args.most c.args.memory.now c.loop-number.memory
+    serves_before g.M.Memory.shared g.M.Memory.may_be (Stored g.M.Memory.stored g.M.Memory.storing) (asks c.args.queues) c.args.most c.args.memory.now c.loop-number.memory
     c.args.self.now c.loop-number.self c.in-Ok-Some.served c.serve_queue.new.memory c.serve_queue.new.self
-    c.loop-number.invariant.same c.loop-number.invariant.stays (rw c.in-Ok-Some.field-0-is at c.in-Ok-Some.ensures.turns)
+    c.loop-number.invariant.same c.loop-number.invariant.stays
+    (on_known g.M.Memory.stored g.M.Memory.storing c.args.memory.now c.loop-number.memory c.loop-number.invariant.known) (rw c.in-Ok-Some.field-0-is at c.in-Ok-Some.ensures.turns)
 
 pub returns-in-Err-clause-turns : goal.returns-in-Err-clause-turns
 returns-in-Err-clause-turns g c =
@@ -66,6 +69,8 @@ returns-in-Err-clause-turns g c =
             queue_wants asked (standing shared m d) n (c.requires.before m stood) (inv.below m f.0)
                 (omega (arith, c.loop-number-test.true, inv.all)) wants,
           ),
+      on_known g.M.Memory.stored g.M.Memory.storing c.args.memory.now c.loop-number.memory inv.known c.serve_queue.new.memory []
+          t.2,
     )
 
 pub loop-number-preserved : goal.loop-number-preserved
@@ -80,6 +85,8 @@ loop-number-preserved g c =
       same = t.0 ∙ inv.same;
       some = c.size-bytes.ensures.some;
       stays = λ m may. inv.stays m (t.1 m may).0;
+      known = still_known g.M.Memory.stored g.M.Memory.storing g.met.M.Memory.none c.loop-number.memory c.serve_queue.new.memory
+          t.2 ∙ inv.known;
       reading = c.in-Ok-None.ensures.reading;
       size = c.in-Ok-None.ensures.size ∙ inv.size;
       below = λ m may.
@@ -100,4 +107,5 @@ returns-clause-turns g c =
             none_left (asks c.args.queues) (standing shared m d) (c.requires.before m stood)
                 (λ i lt. inv.below m may i (omega (arith, lt, c.loop-number-test.false, inv.all))),
           ),
+      none_known g.M.Memory.stored g.M.Memory.storing g.met.M.Memory.none c.args.memory.now c.loop-number.memory inv.known,
     )

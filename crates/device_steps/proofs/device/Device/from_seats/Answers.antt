@@ -2,12 +2,12 @@ use Rattle.std.proofs.Common.{◌≡◌, ◌∙◌, refl, sym, ap, subst, length
 use Rattle.std.proofs.lemmas.List.{length-map}
 use Rattle.device_model.specs.Order.{of_seat, NoneApplies}
 use Rattle.device_steps.specs.Kept.{seat_of}
-use Rattle.device_steps.specs.Apart.{PlainDevice, standing}
+use Rattle.device_steps.specs.Apart.{PlainDevice, standing, Stored}
 use Rattle.device_steps.specs.Inner.Cursors.{NoStart, NoneBefore, NoDirect, NoSeat, NoSeatBelow, seat_from, StepsNext, Sees, TurnsFirst, TurnsFirstIn}
 use Rattle.device_steps.proofs.Choosing.{and_next}
 use Rattle.device_steps.specs.Settling.{asks}
-use Rattle.device_steps.proofs.InMemory.{each_before, each_from}
-use Rattle.device_steps.proofs.EachTurn.{firsts_in, none_in, one_in, still_ready, turns_before}
+use Rattle.device_steps.proofs.InMemory.{each_before, each_from, still_known, on_known}
+use Rattle.device_steps.proofs.EachTurn.{firsts_in, first_known, none_in, one_in, still_ready, turns_before}
 use Rattle.device_steps.proofs.Woken.{seats_from, seats_past, seat_next}
 use Rattle.device_steps.proofs.device.Device.from_seats.Goals as goal
 
@@ -24,6 +24,7 @@ loop-number-init g c =
       same = refl;
       some = c.requires.ready.some;
       stays = λ m may. may;
+      known = refl;
       reading = c.requires.ready.reading;
       size = refl;
       below = λ m may.
@@ -48,19 +49,22 @@ returns-then-turned-clause-turns g c =
     let middle = g.M.Memory.may_be z in
     let after = g.M.Memory.may_be y in
     let inv = c.loop-number.invariant in
-    let turn = subst (λ k. TurnsFirstIn shared middle after (of_seat n) k call.result d') inv.same call.ensures.turns in
-    one_in shared g.M.Memory.may_be asked c.args.most x d next c.one.result y d' c.requires.most c.one.ensures
+    let stored = Stored g.M.Memory.stored g.M.Memory.storing in
+    let turn = subst (λ k. TurnsFirstIn shared middle after (stored x y) (of_seat n) k call.result d') inv.same
+    (first_known g.M.Memory.stored g.M.Memory.storing x z y shared middle after (of_seat n) c.loop-number.self call.result d'
+    inv.known call.ensures.turns) in
+    one_in shared g.M.Memory.may_be stored asked c.args.most x d next c.one.result y d' c.requires.most c.one.ensures
     c.size-bytes.ensures.some
     (each_before shared before middle after
-    (λ found left seen. StepsNext asked (Sees left seen) (standing shared found d) next (standing shared left d')) inv.stays
+    (λ found left seen. StepsNext asked (Sees (stored x y) left seen) (standing shared found d) next (standing shared left d')) inv.stays
     (each_from shared middle after
-    (λ found left seen. TurnsFirst (Sees left seen) (of_seat n) (standing shared found d) (standing shared left d'))
-    (λ found left seen. StepsNext asked (Sees left seen) (standing shared found d) next (standing shared left d'))
+    (λ found left seen. TurnsFirst (Sees (stored x y) left seen) (of_seat n) (standing shared found d) (standing shared left d'))
+    (λ found left seen. StepsNext asked (Sees (stored x y) left seen) (standing shared found d) next (standing shared left d'))
     (λ found left seen was t.
-    seat_next asked (Sees left seen) (standing shared found d) (standing shared left d') n next
+    seat_next asked (Sees (stored x y) left seen) (standing shared found d) (standing shared left d') n next
     (c.requires.start found (inv.stays found was)) (c.requires.direct found (inv.stays found was)) (inv.below found was)
     (omega (arith, c.loop-number-test.true, inv.all)) t (c.after_seat.ensures shared left))
-    (firsts_in shared middle after (of_seat n) d call.result d' c.if-turned.true turn)))
+    (firsts_in shared middle after (stored x y) (of_seat n) d call.result d' c.if-turned.true turn)))
 
 pub loop-number-preserved : goal.loop-number-preserved
 loop-number-preserved g c =
@@ -71,13 +75,16 @@ loop-number-preserved g c =
     let d = c.args.self.now in
     let middle = g.M.Memory.may_be c.loop-number.memory in
     let after = g.M.Memory.may_be call.new.memory in
-    let turn = subst (λ k. TurnsFirstIn shared middle after (of_seat n) k call.result call.new.self) inv.same
+    let stored = Stored g.M.Memory.stored g.M.Memory.storing c.loop-number.memory call.new.memory in
+    let turn = subst (λ k. TurnsFirstIn shared middle after stored (of_seat n) k call.result call.new.self) inv.same
     call.ensures.turns in
-    let here = none_in shared middle after (of_seat n) d call.result call.new.self c.if-turned.false turn in
+    let here = none_in shared middle after stored (of_seat n) d call.result call.new.self c.if-turned.false turn in
     record {
       same = here.0;
       some = c.size-bytes.ensures.some;
       stays = λ m may. inv.stays m (here.1 m may).0;
+      known = still_known g.M.Memory.stored g.M.Memory.storing g.met.M.Memory.none c.loop-number.memory call.new.memory here.2
+          ∙ inv.known;
       reading = call.ensures.reading;
       size = call.ensures.size ∙ inv.size;
       below = λ m may.
@@ -120,6 +127,8 @@ from_enter-requires g c =
 
 pub returns-clause-turns : goal.returns-clause-turns
 returns-clause-turns g c =
-    turns_before g.M.Memory.shared g.M.Memory.may_be (asks c.args.queues) c.args.most c.args.memory.now c.loop-number.memory
+    turns_before g.M.Memory.shared g.M.Memory.may_be (Stored g.M.Memory.stored g.M.Memory.storing) (asks c.args.queues) c.args.most c.args.memory.now c.loop-number.memory
     c.args.self.now c.loop-number.self c.from_enter.result c.from_enter.new.memory c.from_enter.new.self
-    c.loop-number.invariant.same c.loop-number.invariant.stays c.from_enter.ensures.turns
+    c.loop-number.invariant.same c.loop-number.invariant.stays
+    (on_known g.M.Memory.stored g.M.Memory.storing c.args.memory.now c.loop-number.memory c.loop-number.invariant.known)
+    c.from_enter.ensures.turns

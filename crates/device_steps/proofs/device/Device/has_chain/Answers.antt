@@ -13,6 +13,7 @@ loop-number-init g c =
     let end : c.len-number-end.result ≡ length d.bays.items = omega (arith, d.bays.ok.0, c.len-number-end.ensures) in
     record {
       stays = λ m may. may;
+      known = refl;
       reading = c.requires.reading;
       size = refl;
       below = λ m may. λ i lt. absurd (omega (arith, lt));
@@ -51,6 +52,7 @@ loop-number-preserved g c =
     let look = c.queue_goes_on.ensures in
     record {
       stays = λ m may. inv.stays m (look.denies m may).0;
+      known = look.stores ∙ inv.known;
       reading = look.reading;
       size = look.size ∙ inv.size;
       below = λ m may.
@@ -67,3 +69,9 @@ returns-clause-denies g c =
     let inv = c.loop-number.invariant in
     λ m may.
     (inv.stays m may, λ i lt on. inv.below m may i (omega (arith, lt, c.loop-number-test.false, inv.all)) on)
+
+pub returns-then-queue_goes_on-clause-stores : goal.returns-then-queue_goes_on-clause-stores
+returns-then-queue_goes_on-clause-stores g c = c.queue_goes_on.ensures.stores ∙ c.loop-number.invariant.known
+
+pub returns-clause-stores : goal.returns-clause-stores
+returns-clause-stores g c = c.loop-number.invariant.known

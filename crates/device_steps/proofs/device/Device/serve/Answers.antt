@@ -1,4 +1,4 @@
-use Rattle.std.proofs.Common.{ℕ, List, false, ◌∷◌, ◌≡◌, ◌∙◌, ◌<◌, ◌≤◌, length, Some, Ok, Err, refl, sym, ap, subst, inr, arith}
+use Rattle.std.proofs.Common.{ℕ, List, [], false, ◌∷◌, ◌≡◌, ◌∙◌, ◌<◌, ◌≤◌, length, Some, Ok, Err, refl, sym, ap, subst, inr, arith}
 use Rattle.std.specs.Prelude.{slice_get, slice_set, map, drop}
 use Rattle.std.proofs.lemmas.Option.{slice_get_read, slice_get_within}
 use Rattle.std.proofs.lemmas.List.{length-map}
@@ -14,7 +14,7 @@ use Rattle.device_steps.specs.declared.cursor.Progress.{Progress}
 use Rattle.device_steps.specs.declared.cursor.Cursor.TheVariants as cursor
 use Rattle.device_model.specs.Events.{Event}
 use Rattle.device_steps.specs.Inner.Steps.{TurnsOrWants}
-use Rattle.device_steps.specs.Apart.{PlainDevice, standing, FitsIn}
+use Rattle.device_steps.specs.Apart.{PlainDevice, standing, FitsIn, Stored}
 use Rattle.device_steps.specs.Sound.{IsWhole}
 use Rattle.device_steps.specs.Serving.{ServesSeen, FollowsSeen}
 use Rattle.device_steps.specs.Inner.Cursors.{MayServe, StepsNext, Sees, ServesNextIn, NoneBeforeFetch, NoFetchBelow, served_of}
@@ -26,7 +26,7 @@ use Rattle.device_steps.proofs.Seats.{keeps_unit, found, length_set, one_there}
 use Rattle.device_steps.proofs.Fetches.{request_turns}
 use Rattle.device_steps.proofs.Handing.{begins}
 use Rattle.device_steps.proofs.Leave.{seat_with}
-use Rattle.device_steps.proofs.InMemory.{each_from, fits_at}
+use Rattle.device_steps.proofs.InMemory.{each_from, fits_at, none_known}
 use Rattle.device_steps.proofs.AnyMemory.{before_any}
 use Rattle.device_steps.proofs.EachTurn.{device_of, one_in, one_seen}
 use Rattle.device_steps.proofs.AtOnce.{bare, get_set, set_all, fetches_only, takes_next, seat_bare, has_room, serves_keeps, later_of, steps_are, some_steps, few_steps, ServedKept, serves_kept}
@@ -64,7 +64,8 @@ returns-in-Err-clause-turns g c =
     let seen = c.size-read.ensures.some in
     rw (← c.self.view_is) (
       ap device_of (turn seen.0 seen.1).1,
-      λ m may. (take.ensures.stays m may, (c.requires.asked, (turn m may).0)),
+      (λ m may. (take.ensures.stays m may, (c.requires.asked, (turn m may).0))),
+      none_known g.M.Memory.stored g.M.Memory.storing g.met.M.Memory.none c.args.memory.now take.new.memory take.ensures.stores,
     )
 
 pub returns-in-Ok-Nothing-clause-turns : goal.returns-in-Ok-Nothing-clause-turns
@@ -98,8 +99,11 @@ returns-in-Ok-Nothing-clause-turns g c =
     request_turns w k q (with_slot (slot_of take.new.slot) take.new.queue) (Ok false) (c.all_are_sound.ensures w whole.reached)
     serves.request at (fits k q at) (takes m may) in
     let seen = c.size-read.ensures.some in
-    rw (← c.self.view_is)
-    (ap device_of (turn seen.0 seen.1).0, λ m may. (take.ensures.stays m may, λ on. (turn m may).1))
+    rw (← c.self.view_is) (
+      ap device_of (turn seen.0 seen.1).0,
+      (λ m may. (take.ensures.stays m may, λ on. (turn m may).1)),
+      none_known g.M.Memory.stored g.M.Memory.storing g.met.M.Memory.none c.args.memory.now take.new.memory take.ensures.stores,
+    )
 
 pub returns-in-Ok-Other-clause-turns : goal.returns-in-Ok-Other-clause-turns
 returns-in-Ok-Other-clause-turns g c =
@@ -120,11 +124,15 @@ returns-in-Ok-Other-clause-turns g c =
     slice_get_read d.bays.items d.bays.len k c.index_mut-bay.result.now d.bays.ok.0 within c.index_mut-bay.ensures.value
     ∙ ap (λ (z : PlainQueue). Some z) (sym c.bay.view_is) in
     let takes = rw c.in-Ok-Other.field-0-is at c.in-Ok-Other.ensures.takes in
+    let stored = Stored g.M.Memory.stored g.M.Memory.storing in
+    let made = stored c.args.memory.now take.new.memory in
+    let nothing : made [] = none_known g.M.Memory.stored g.M.Memory.storing g.met.M.Memory.none c.args.memory.now take.new.memory
+    take.ensures.stores in
     rw (← c.self.view_is)
-    (one_in shared g.M.Memory.may_be asked c.args.most c.args.memory.now v cursor.Start c.one.result take.new.memory v'
+    (one_in shared g.M.Memory.may_be stored asked c.args.most c.args.memory.now v cursor.Start c.one.result take.new.memory v'
     (omega (arith, c.requires.most)) c.one.ensures c.size-read.ensures.some
     (each_read shared (g.M.Memory.may_be c.args.memory.now) (g.M.Memory.may_be take.new.memory)
-    (λ found left seen. StepsNext asked (Sees left seen) (standing shared found v) cursor.Start (standing shared left v'))
+    (λ found left seen. StepsNext asked (Sees made left seen) (standing shared found v) cursor.Start (standing shared left v'))
     take.ensures.stays
     (λ m may.
     let was = take.ensures.stays m may in
@@ -138,7 +146,7 @@ returns-in-Ok-Other-clause-turns g c =
     (c.requires.before m was) in
     let below = subst (λ (z : PlainDevice). NoFetchBelow asked k (standing shared m z)) (sym c.self.view_is)
     (c.requires.below m was) in
-    fetches_only asked w k q q' (c.all_are_sound.ensures w whole.reached) serves at (fits k q at) before below c.requires.asked
+    fetches_only made nothing asked w k q q' (c.all_are_sound.ensures w whole.reached) serves at (fits k q at) before below c.requires.asked
     (takes m may))))
 
 pub returns-then-place-len-clause-turns : goal.returns-then-place-len-clause-turns
@@ -160,11 +168,15 @@ returns-then-place-len-clause-turns g c =
     slice_get_read d.bays.items d.bays.len k c.index_mut-bay.result.now d.bays.ok.0 within c.index_mut-bay.ensures.value
     ∙ ap (λ (z : PlainQueue). Some z) (sym c.bay.view_is) in
     let takes = rw c.in-Ok-Arrived.field-0-is at c.in-Ok-Arrived.ensures.takes in
+    let stored = Stored g.M.Memory.stored g.M.Memory.storing in
+    let made = stored c.args.memory.now take.new.memory in
+    let nothing : made [] = none_known g.M.Memory.stored g.M.Memory.storing g.met.M.Memory.none c.args.memory.now take.new.memory
+    take.ensures.stores in
     rw (← c.self.view_is)
-    (one_in shared g.M.Memory.may_be asked c.args.most c.args.memory.now v cursor.Start c.one-then-place-len.result
+    (one_in shared g.M.Memory.may_be stored asked c.args.most c.args.memory.now v cursor.Start c.one-then-place-len.result
     take.new.memory v' (omega (arith, c.requires.most)) c.one-then-place-len.ensures c.size-read.ensures.some
     (each_read shared (g.M.Memory.may_be c.args.memory.now) (g.M.Memory.may_be take.new.memory)
-    (λ found left seen. StepsNext asked (Sees left seen) (standing shared found v) cursor.Start (standing shared left v'))
+    (λ found left seen. StepsNext asked (Sees made left seen) (standing shared found v) cursor.Start (standing shared left v'))
     take.ensures.stays
     (λ m may.
     let was = take.ensures.stays m may in
@@ -178,7 +190,7 @@ returns-then-place-len-clause-turns g c =
     (c.requires.before m was) in
     let below = subst (λ (z : PlainDevice). NoFetchBelow asked k (standing shared m z)) (sym c.self.view_is)
     (c.requires.below m was) in
-    fetches_only asked w k q q' (c.all_are_sound.ensures w whole.reached) serves at (fits k q at) before below c.requires.asked
+    fetches_only made nothing asked w k q q' (c.all_are_sound.ensures w whole.reached) serves at (fits k q at) before below c.requires.asked
     (takes m may).0)))
 
 pub serve_request_in-done-requires-clause-places : goal.serve_request_in-done-requires-clause-places
@@ -220,7 +232,8 @@ invariant_of-self-in-Ok-Arrived g c =
     let behind = c.size-bytes.ensures.some in
     let each = done.ensures.serves behind.0 behind.1 in
     let left = each.2 in
-    let keeps = serves_keeps shared c.in-Ok-Arrived.arrival c.index_mut.result.now done.new.unit
+    let keeps = serves_keeps shared (Stored g.M.Memory.stored g.M.Memory.storing c.take_request_in-taken.new.memory done.new.memory)
+    c.in-Ok-Arrived.arrival c.index_mut.result.now done.new.unit
     c.take_request_in-taken.new.queue done.new.queue each.0 left.0 behind.0 (slot_of c.take_request_in-taken.new.slot)
     (slot_of done.new.slot) c.behind-self.inside.out done.new.out done.result left.2 in
     let t : KeptSeat = seat.the_view (record { hand = c.behind-self.inside.hand; out = done.new.out }) in
@@ -282,6 +295,10 @@ returns-else-place-len-clause-turns g c =
     let mid = take.new.memory in
     let y = done.new.memory in
     let may_be = g.M.Memory.may_be in
+    let stored = Stored g.M.Memory.stored g.M.Memory.storing in
+    let first = stored x0 mid in
+    let nothing : first [] = none_known g.M.Memory.stored g.M.Memory.storing g.met.M.Memory.none x0 mid take.ensures.stores in
+    let later = stored mid y in
     let s_of : KeptSeat → Jobs = λ z. record { jobs = z.jobs; limit = z.limit } in
     let v' : PlainDevice =
     record v {
@@ -310,28 +327,28 @@ returns-else-place-len-clause-turns g c =
     subst (λ (z : PlainDevice). NoFetchBelow asked k (standing shared m z)) (sym c.self.view_is)
     (c.requires.below m (take.ensures.stays m may)) in
     let taken_at : (m : List ℕ) → may_be mid m
-    → StepsNext asked (Sees m m) (standing shared m v) (cursor.Enter k) (standing shared m v1) =
+    → StepsNext asked (Sees first m m) (standing shared m v) (cursor.Enter k) (standing shared m v1) =
     λ m may.
-    takes_next c.all_are_sound.ensures asked (standing shared m v) (whole_at m may) k q (fits_there m may) (served_at m may) at
+    takes_next first nothing c.all_are_sound.ensures asked (standing shared m v) (whole_at m may) k q (fits_there m may) (served_at m may) at
     (before_at m may) (below_at m may) c.requires.asked x lent (takes m may).0 in
     let kept_at : (found left seen : List ℕ) → may_be mid found
-    → ServesIn shared x u lent found s1 c.behind-self.inside.out done.result u' done.new.queue left seen s' out'
-    → ServedKept asked seen (standing shared found v1) (standing shared left v') done.result n =
+    → ServesIn shared later x u lent found s1 c.behind-self.inside.out done.result u' done.new.queue left seen s' out'
+    → ServedKept asked later seen (standing shared found v1) (standing shared left v') done.result n =
     λ found left seen was h.
     let w = standing shared found v in
     let w1 = standing shared found v1 in
     let fetched = (takes found was).0 in
     let empty : s1 ≡ Slot.Empty = (takes found was).1 ∙ fetched.1.empty in
-    let h' = subst (λ (o : Jobs). ServesIn shared x u lent found s1 o done.result u' done.new.queue left seen s' out')
+    let h' = subst (λ (o : Jobs). ServesIn shared later x u lent found s1 o done.result u' done.new.queue left seen s' out')
     (ap s_of bare_is) h in
-    let base = serves_kept c.all_are_sound.ensures asked w (whole_at found was) k q s.limit d.seats.items
+    let base = serves_kept later c.all_are_sound.ensures asked w (whole_at found was) k q s.limit d.seats.items
     (drop 1 d.seats.items) kept refl (fits_there found was) c.self.invariant.limits (served_at found was) at
     (before_at found was) (below_at found was) c.requires.asked x lent fetched u u' u_at s1 s' done.new.queue left seen out'
     empty done.result h' n jobs in
     let with_hand = subst (λ (e : Hand).
-    ServedKept asked seen w1 (set_all w left k q' x.unit u' d.seats.items (seat_with e out')) done.result n)
+    ServedKept asked later seen w1 (set_all w left k q' x.unit u' d.seats.items (seat_with e out')) done.result n)
     (sym (ap (λ (z : KeptSeat). z.hand) bare_is)) base in
-    subst (λ (p : ℕ). ServedKept asked seen w1 (set_all w left k q' p u' d.seats.items (seat_with s.hand out')) done.result n)
+    subst (λ (p : ℕ). ServedKept asked later seen w1 (set_all w left k q' p u' d.seats.items (seat_with s.hand out')) done.result n)
     (sym c.unit-place.ensures) with_hand in
     let behind = c.size-bytes.ensures.some in
     let each = done.ensures.serves behind.0 behind.1 in
@@ -340,7 +357,7 @@ returns-else-place-len-clause-turns g c =
     let next = (served_of done.result n).next in
     let steps = steps_are done.result n in
     rw (← c.self.view_is)
-    (subst (λ (r : Progress). ServesNextIn shared may_be asked c.args.most x0 v r y v') (sym c.progress_of.ensures)
+    (subst (λ (r : Progress). ServesNextIn shared may_be stored asked c.args.most x0 v r y v') (sym c.progress_of.ensures)
     (record {
       some = subst (λ (j : ℕ). 1 ≤ j) (sym steps) (some_steps done.result);
       few = subst (λ (j : ℕ). j ≤ c.args.most) (sym steps) (few_steps done.result c.args.most c.requires.most);
@@ -351,14 +368,14 @@ returns-else-place-len-clause-turns g c =
         counted = steps;
         stays = take.ensures.stays;
         takes = each_read shared (may_be x0) (may_be mid)
-            (λ found left seen. ServesSeen asked seen (standing shared found v) 1 (standing shared left v1))
+            (λ found left seen. ServesSeen asked first seen (standing shared found v) 1 (standing shared left v1))
             take.ensures.stays
-            (λ m may. one_seen asked (standing shared m v) (cursor.Enter k) (standing shared m v1) m (taken_at m may));
+            (λ m may. one_seen asked first (standing shared m v) (cursor.Enter k) (standing shared m v1) m (taken_at m may));
         follows = each_from shared (may_be mid) (may_be y)
             (λ found left seen.
-            ServesIn shared x u lent found s1 c.behind-self.inside.out done.result u' done.new.queue left seen s' out')
+            ServesIn shared later x u lent found s1 c.behind-self.inside.out done.result u' done.new.queue left seen s' out')
             (λ found left seen.
-            FollowsSeen asked seen (standing shared found v1) (later_of done.result) (standing shared left v'))
+            FollowsSeen asked later seen (standing shared found v1) (later_of done.result) (standing shared left v'))
             (λ found left seen was h. (kept_at found left seen was h).follows) done.ensures.serves;
       });
       before = λ m. before_any shared left.0 m v' next last_kept.before;

@@ -18,13 +18,15 @@ returns-in-Ok-true-clause-turns g c =
     let next = c.after_fetch.result in
     let before = g.M.Memory.may_be c.args.memory.now in
     let after = g.M.Memory.may_be call.new.memory in
-    one_in shared g.M.Memory.may_be asked c.args.most c.args.memory.now d next c.one.result call.new.memory d' c.requires.most
+    let stored = Stored g.M.Memory.stored g.M.Memory.storing in
+    let sees = Sees (stored c.args.memory.now call.new.memory) in
+    one_in shared g.M.Memory.may_be stored asked c.args.most c.args.memory.now d next c.one.result call.new.memory d' c.requires.most
     c.one.ensures c.size-bytes.ensures.some
     (each_from shared before after
-    (λ found left seen. TurnsBy (Sees left seen) (standing shared found d) (Event.Fetch i) (standing shared left d'))
-    (λ found left seen. StepsNext asked (Sees left seen) (standing shared found d) next (standing shared left d'))
+    (λ found left seen. TurnsBy (sees left seen) (standing shared found d) (Event.Fetch i) (standing shared left d'))
+    (λ found left seen. StepsNext asked (sees left seen) (standing shared found d) next (standing shared left d'))
     (λ found left seen was t.
-    fetch_next asked (Sees left seen) (standing shared found d) (standing shared left d') i next (c.requires.before found was)
+    fetch_next asked (sees left seen) (standing shared found d) (standing shared left d') i next (c.requires.before found was)
     (c.requires.below found was) c.requires.there c.requires.asked t (c.after_fetch.ensures shared left))
     (did_in shared before after (Stored g.M.Memory.stored g.M.Memory.storing c.args.memory.now call.new.memory) d (Event.Fetch i) c.in-Ok-true.field-0 d' c.in-Ok-true.field-0-test c.in-Ok-true.ensures.turns))
 
@@ -34,7 +36,7 @@ returns-in-Ok-false-clause-turns g c =
     let idle = idle_in g.M.Memory.shared (g.M.Memory.may_be c.args.memory.now) (g.M.Memory.may_be call.new.memory)
     (Stored g.M.Memory.stored g.M.Memory.storing c.args.memory.now call.new.memory) c.args.self.now (Event.Fetch c.args.number) c.in-Ok-false.field-0 call.new.self c.in-Ok-false.field-0-test
     c.size-bytes.ensures.some c.in-Ok-false.ensures.turns in
-    (idle.0, λ m may. ((idle.1 m may).0, λ on. (idle.1 m may).1))
+    (idle.0, (λ m may. ((idle.1 m may).0, λ on. (idle.1 m may).1)), idle.2)
 
 pub returns-in-Err-clause-turns : goal.returns-in-Err-clause-turns
 returns-in-Err-clause-turns g c =
@@ -42,4 +44,4 @@ returns-in-Err-clause-turns g c =
     let wants = wants_in g.M.Memory.shared (g.M.Memory.may_be c.args.memory.now) (g.M.Memory.may_be call.new.memory)
     (Stored g.M.Memory.stored g.M.Memory.storing c.args.memory.now call.new.memory) c.args.self.now (Event.Fetch c.args.number) c.in-Err.field-0 call.new.self c.size-bytes.ensures.some
     c.in-Err.ensures.turns in
-    (wants.0, λ m may. ((wants.1 m may).0, (c.requires.asked, (wants.1 m may).1)))
+    (wants.0, (λ m may. ((wants.1 m may).0, (c.requires.asked, (wants.1 m may).1))), wants.2)
